@@ -1,0 +1,31 @@
+-- What a key must be to name a block of a pool: the checks that OpenZFS makes of a block pointer before it reads it
+-- (zio.c, zfs_blkptr_verify), for blocks that are stored uncompressed at one place.
+use Rattle.std.specs.Prelude.{◌≡◌, ℕ, ◌+◌, ◌%◌, ◌<◌, ◌≤◌}
+use Rattle.blk_ptr.specs.Size.{sector, IsBlockSize}
+use Rattle.blk_ptr.specs.declared.key.Key.{Key}
+use Rattle.blk_ptr.specs.declared.key.KeyFault.{KeyFault}
+use Rattle.blk_ptr.specs.declared.key.KeyFault.TheVariants.{Unaligned, Size, OutOfPool, BirthZero}
+
+-- a key whose numbers are in their ranges, whatever the pool's length
+pub record IsWellFormed (key : Key) : Type 0 where
+  pub aligned : key.offset % sector ≡ 0
+  pub sized : IsBlockSize key.size
+  pub born : 0 < key.birth
+
+-- the first byte past the key's range
+abbrev pub end_of : Key → ℕ
+end_of key = key.offset + key.size
+
+-- a key that names a block of a pool of this length
+pub record IsValid (pool_len : ℕ) (key : Key) : Type 0 where
+  pub formed : IsWellFormed key
+  pub inside : end_of key ≤ pool_len
+
+-- this fault is the first of the four tests that the key fails: alignment, size, range, birth
+abbrev pub IsFirstFault : ℕ → Key → KeyFault → Type 0
+IsFirstFault pool_len key Unaligned = ¬ (key.offset % sector ≡ 0)
+IsFirstFault pool_len key Size = (key.offset % sector ≡ 0) × ¬ IsBlockSize key.size
+IsFirstFault pool_len key (OutOfPool end len) =
+    (key.offset % sector ≡ 0) × IsBlockSize key.size × (end ≡ end_of key) × (len ≡ pool_len) × (pool_len < end_of key)
+IsFirstFault pool_len key BirthZero =
+    (key.offset % sector ≡ 0) × IsBlockSize key.size × (end_of key ≤ pool_len) × (key.birth ≡ 0)

@@ -1,0 +1,14 @@
+-- The sizes that a block may have.
+use Rattle.std.specs.Prelude.{◌≡◌, ℕ, ◌%◌, ◌≤◌}
+
+-- the bytes of a sector: every place and every size is a multiple of it (SPA_MINBLOCKSIZE)
+abbrev pub sector : ℕ
+sector = 512
+
+-- the most bytes that a block has
+abbrev pub largest_block : ℕ
+largest_block = 1048576
+
+-- a size that a block may have
+abbrev pub IsBlockSize : ℕ → Type 0
+IsBlockSize size = (size % sector ≡ 0) × (sector ≤ size) × (size ≤ largest_block)

@@ -1,0 +1,15 @@
+ghost use Rattle.std.specs.Prelude.{◌≡◌};
+ghost use Rattle.blk_ptr.specs.Ptr.{sha256_of};
+
+use sha2::{Digest as _, Sha256};
+
+/// A SHA-256 digest (FIPS 180-4), as 32 bytes in the order in which they are printed.
+#[derive(Clone, Copy, Debug, PartialEq, Eq, PartialOrd, Ord)]
+pub struct Digest(pub [u8; 32]);
+
+/// The SHA-256 of `bytes`.
+pub fn digest_of(bytes: &[u8]) -> Digest
+    ensures { result ≡ sha256_of bytes.now }
+{
+    Digest(Sha256::digest(bytes))
+}
