@@ -1,0 +1,20 @@
+-- When a count of faults or of calls has risen. A count that stands at the last value of its type stands still.
+use Rattle.std.specs.Prelude.{◌≡◌, ℕ, ◌+◌, ◌-◌, ◌^◌, ◌<◌, ◌≤◌, min, Result, OnErr}
+
+-- where a count kept in 64 bits stands still
+abbrev pub last_count : ℕ
+last_count = 2 ^ 64 - 1
+
+-- the count is greater now than before, or stands at its last value
+abbrev pub Rose : ℕ → ℕ → Type 0
+Rose before now = min (before + 1) last_count ≤ now
+
+-- the count didn't fall, and an error was answered only where it rose
+pub record HasCause {T E : Type 0} (before now : ℕ) (result : Result T E) : Type 0 where
+  pub kept : before ≤ now
+  pub rose : OnErr result (Rose before now)
+
+-- one more was counted, where there was room for it
+pub record CountsOne (before now : ℕ) : Type 0 where
+  pub more : before < last_count → now ≡ before + 1
+  pub full : last_count ≤ before → now ≡ before

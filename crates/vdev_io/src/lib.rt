@@ -1,0 +1,26 @@
+//! The outside as traits: where a trace comes from, where a report goes, and the disks between.
+//!
+//! Each trait has a count of faults that never falls. A call answers [`Failed`] only where that count rose in
+//! the very call, so code that is generic over a trait cannot make a fault up. What an object holds is told where
+//! it is known, as by the objects in memory, and the clauses on content speak of that.
+#![tactic(auto)]
+
+mod device;
+mod fault;
+mod file;
+mod gate;
+mod memory;
+mod pool;
+mod sink;
+mod source;
+mod stream;
+
+pub use device::{CacheDev, NoCache};
+pub use fault::Failed;
+pub use file::{FilePool, LONGEST_POOL, OpenFault};
+pub use gate::{FreeGate, Gate};
+pub use memory::{MemPool, MemSink, MemSource};
+pub use pool::Pool;
+pub use sink::Sink;
+pub use source::Source;
+pub use stream::{StdSink, StdSource};

@@ -1,0 +1,10 @@
+//! Objects in memory, which tell what they hold and fail just the calls that they are told to fail.
+
+mod calls;
+mod pool;
+mod sink;
+mod source;
+
+pub use pool::MemPool;
+pub use sink::MemSink;
+pub use source::MemSource;

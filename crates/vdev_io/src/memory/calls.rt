@@ -1,0 +1,56 @@
+ghost use Rattle.std.specs.Prelude.{◌≡◌, ◌+◌, ◌≤◌, is_err};
+ghost use Rattle.vdev_io.specs.Faults.{Rose, HasCause, CountsOne};
+ghost use Rattle.vdev_io.specs.Memory.{CallLog, is_to_fail};
+
+use crate::fault::Failed;
+use std::marker::Model;
+
+/// Which calls of an object are to fail, and how many have. A call is named by its number, from 0.
+#[derive(Debug, Drop)]
+pub(crate) struct Calls {
+    fail: Vec<u64>,
+    made: u64,
+    faults: u64,
+}
+
+impl Model for Calls {
+    ghost Value = { CallLog };
+
+    ghost view = { λ calls. record { fail = calls.fail.items; made = calls.made; faults = calls.faults } };
+}
+
+impl Calls {
+    /// No call was made yet.
+    pub(crate) fn new(fail: Vec<u64>) -> Calls
+        ensures { result ≡ record { fail = fail.items; made = 0; faults = 0 } }
+    {
+        Calls {
+            fail,
+            made: 0,
+            faults: 0,
+        }
+    }
+
+    /// Counts a call, and fails it where it is one of those that are to fail.
+    pub(crate) fn begin(&mut self) -> Result<(), Failed>
+        ensures listed { is_err result ≡ is_to_fail self.old }
+        ensures fail { self.new.fail ≡ self.old.fail }
+        ensures made { CountsOne self.old.made self.new.made }
+        ensures cause { HasCause self.old.faults self.new.faults result }
+    {
+        let fails = self.fail.contains(&self.made);
+        self.made = self.made.saturating_add(1);
+        if fails { Err(self.fault()) } else { Ok(()) }
+    }
+
+    /// Counts a fault.
+    pub(crate) fn fault(&mut self) -> Failed
+        ensures rose { Rose self.old.faults self.new.faults }
+        ensures kept { self.old.faults ≤ self.new.faults }
+        ensures fail { self.new.fail ≡ self.old.fail }
+        ensures made { self.new.made ≡ self.old.made }
+    {
+        self.faults = self.faults.saturating_add(1);
+        Failed
+    }
+}
