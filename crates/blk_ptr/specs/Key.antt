@@ -1,6 +1,6 @@
 -- What a key must be to name a block of a pool: the checks that OpenZFS makes of a block pointer before it reads it
 -- (zio.c, zfs_blkptr_verify), for blocks that are stored uncompressed at one place.
-use Rattle.std.specs.Prelude.{◌≡◌, ℕ, ◌+◌, ◌%◌, ◌<◌, ◌≤◌}
+use Rattle.std.specs.Prelude.{◌≡◌, ℕ, ◌+◌, ◌%◌, ◌<◌, ◌≤◌, List, ◌++◌, codes, decimal}
 use Rattle.blk_ptr.specs.Size.{sector, IsBlockSize}
 use Rattle.blk_ptr.specs.declared.key.Key.{Key}
 use Rattle.blk_ptr.specs.declared.key.KeyFault.{KeyFault}
@@ -29,3 +29,10 @@ IsFirstFault pool_len key (OutOfPool end len) =
     (key.offset % sector ≡ 0) × IsBlockSize key.size × (end ≡ end_of key) × (len ≡ pool_len) × (pool_len < end_of key)
 IsFirstFault pool_len key BirthZero =
     (key.offset % sector ≡ 0) × IsBlockSize key.size × (end_of key ≤ pool_len) × (key.birth ≡ 0)
+
+-- how a fault is printed
+abbrev pub fault_text : KeyFault → List ℕ
+fault_text Unaligned = codes "unaligned"
+fault_text Size = codes "size"
+fault_text (OutOfPool end len) = codes "range " ++ decimal end ++ codes " " ++ decimal len
+fault_text BirthZero = codes "birth"

@@ -1,5 +1,7 @@
-ghost use Rattle.std.specs.Prelude.{◌≡◌, ◌↔◌, IsTrue, MatchResult};
+ghost use Rattle.std.specs.Prelude.{◌≡◌, ◌↔◌, IsTrue, MatchResult, Some};
 ghost use Rattle.blk_ptr.specs.Size.{IsBlockSize};
+
+use std::fmt;
 
 /// The bytes of a sector. Every place and every size on a pool or a cache device is a multiple of it.
 pub const SECTOR: u64 = 512;
@@ -61,5 +63,20 @@ impl Key {
             return Err(KeyFault::BirthZero);
         }
         Ok(self)
+    }
+}
+
+impl fmt::Display for KeyFault {
+    ghost use Rattle.blk_ptr.specs.Key.{fault_text};
+
+    ghost output = { λ fault. Some (fault_text fault) };
+
+    fn fmt<W: fmt::Write>(&self, f: &mut fmt::Formatter<W>) -> fmt::Result {
+        match self {
+            KeyFault::Unaligned => write!(f, "unaligned"),
+            KeyFault::Size => write!(f, "size"),
+            KeyFault::OutOfPool { end, len } => write!(f, "range {end} {len}"),
+            KeyFault::BirthZero => write!(f, "birth"),
+        }
     }
 }

@@ -7,12 +7,14 @@
 
 mod block;
 mod digest;
+mod hex_text;
 mod key;
 mod memory;
 mod ptr;
 
 pub use block::Block;
 pub use digest::{Digest, digest_of};
+pub use hex_text::Hex;
 pub use key::{Key, KeyFault, LARGEST_BLOCK, SECTOR, is_block_size};
 pub use memory::NoMemory;
 pub use ptr::Ptr;
