@@ -1,0 +1,31 @@
+-- The text of a report: its first line, a line for each reply, and the status at which it was made.
+use Rattle.std.specs.Prelude.{ℕ, ◌+◌, List, [], ◌∷◌, ◌++◌, codes, decimal, if◌then◌else◌}
+use Rattle.hex.specs.Hex.{encode_lower}
+use Rattle.trace_text.specs.Words.{served_word, refusal_text}
+use Rattle.trace_text.specs.declared.reply.Reply.{Reply}
+use Rattle.trace_text.specs.declared.reply.Reply.TheVariants.{Read, Kept, Dropped, Refused}
+use Rattle.trace_text.specs.declared.report.Report.{Report}
+
+-- shown bytes in hexadecimal, or a dash for none
+abbrev pub shown_text : List ℕ → List ℕ
+shown_text [] = codes "-"
+shown_text (byte ∷ bytes) = encode_lower (byte ∷ bytes)
+
+-- what a reply's line says behind the operation's number
+abbrev pub reply_text : Reply → List ℕ
+reply_text (Read served digest shown) =
+    codes "ok " ++ served_word served ++ codes " " ++ encode_lower digest.0 ++ codes " " ++ shown_text shown
+reply_text (Kept served) = codes "held " ++ served_word served
+reply_text Dropped = codes "dropped"
+reply_text (Refused refusal) = codes "refused " ++ refusal_text refusal
+
+-- the lines of the replies, the first of which has this number
+abbrev pub reply_lines : ℕ → List Reply → List ℕ
+reply_lines number [] = []
+reply_lines number (reply ∷ replies) =
+    decimal number ++ codes " " ++ reply_text reply ++ codes "\n" ++ reply_lines (number + 1) replies
+
+-- the whole text
+abbrev pub text_of : Report → List ℕ
+text_of report =
+    codes "arc 1\n" ++ (if report.short then [] else reply_lines 0 report.replies) ++ codes "end " ++ decimal report.status ++ codes "\n"

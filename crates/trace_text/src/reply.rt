@@ -1,0 +1,110 @@
+ghost use Rattle.std.specs.Prelude.{◌≡◌, Some};
+
+use crate::served::Served;
+use crate::shown::Shown;
+use blk_ptr::{Digest, KeyFault};
+use std::fmt;
+use std::marker::Model;
+
+/// Why an operation was refused.
+#[derive(Clone, Copy, Debug, PartialEq, Eq)]
+pub enum Refusal {
+    /// The caller's pool failed in this operation.
+    PoolFault,
+    /// The bytes that the pool gave have another digest than the pointer's.
+    Mismatch { found: Digest },
+    /// The block's key names no block of the pool.
+    Key(KeyFault),
+    /// Memory was refused.
+    NoMemory,
+    /// The window ends at `end`, past the block's `size`.
+    Range { end: u64, size: u64 },
+    /// The caller keeps no read of this block.
+    NoHold { block: u32 },
+}
+
+impl fmt::Display for Refusal {
+    ghost use Rattle.trace_text.specs.Words.{refusal_text};
+
+    ghost output = { λ refusal. Some (refusal_text refusal) };
+
+    fn fmt<W: fmt::Write>(&self, f: &mut fmt::Formatter<W>) -> fmt::Result {
+        match self {
+            Refusal::PoolFault => write!(f, "pool"),
+            Refusal::Mismatch { found } => write!(f, "digest {found}"),
+            Refusal::Key(fault) => write!(f, "key {fault}"),
+            Refusal::NoMemory => write!(f, "memory"),
+            Refusal::Range { end, size } => write!(f, "window {end} {size}"),
+            Refusal::NoHold { block } => write!(f, "hold {block}"),
+        }
+    }
+}
+
+/// What an operation of the trace was answered.
+#[derive(Debug, Drop)]
+pub enum Reply {
+    /// A read: where its bytes came from, their digest, and those of its window.
+    Read {
+        served: Served,
+        digest: Digest,
+        shown: Shown,
+    },
+    /// A read that is kept.
+    Kept {
+        served: Served,
+    },
+    /// The oldest kept read of the block was dropped.
+    Dropped,
+    /// A refusal, which changed nothing.
+    Refused(Refusal),
+}
+
+impl fmt::Display for Reply {
+    ghost use Rattle.trace_text.specs.ReportText.{reply_text};
+
+    ghost output = { λ reply. Some (reply_text reply) };
+
+    fn fmt<W: fmt::Write>(&self, f: &mut fmt::Formatter<W>) -> fmt::Result {
+        match self {
+            Reply::Read {
+                served,
+                digest,
+                shown,
+            } => write!(f, "ok {served} {digest} {shown}"),
+            Reply::Kept { served } => write!(f, "held {served}"),
+            Reply::Dropped => write!(f, "dropped"),
+            Reply::Refused(refusal) => write!(f, "refused {refusal}"),
+        }
+    }
+}
+
+/// The replies of a run, in the order of the operations. Contracts see the list.
+#[derive(Debug, Drop)]
+pub struct Replies {
+    replies: Vec<Reply>,
+}
+
+impl Model for Replies {
+    ghost use Rattle.std.specs.Prelude.{List};
+    ghost use Rattle.trace_text.specs.declared.reply.Reply.{Reply};
+
+    ghost Value = { List Reply };
+
+    ghost view = { λ replies. replies.replies.items };
+}
+
+impl Replies {
+    /// These replies.
+    pub fn from_vec(replies: Vec<Reply>) -> Replies
+        ensures { result ≡ replies.items }
+    {
+        Replies { replies }
+    }
+
+    /// The replies.
+    pub fn as_slice(&self) -> &[Reply]
+        ensures { result.now ≡ self.now }
+    {
+        &self.replies
+    }
+}
