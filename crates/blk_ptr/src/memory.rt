@@ -1,4 +1,4 @@
-use std::alloc::AllocError;
+use std::alloc::{AllocError, AllocFailed};
 
 /// Memory was refused. It is the one answer that has no cause in any contract.
 #[derive(Clone, Copy, Debug, PartialEq, Eq, Drop)]
@@ -6,6 +6,12 @@ pub struct NoMemory;
 
 impl From<AllocError> for NoMemory {
     fn from(_refused: AllocError) -> Self {
+        NoMemory
+    }
+}
+
+impl<T: Drop> From<AllocFailed<T>> for NoMemory {
+    fn from(_refused: AllocFailed<T>) -> Self {
         NoMemory
     }
 }

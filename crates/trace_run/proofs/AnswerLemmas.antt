@@ -1,0 +1,250 @@
+-- What one more operation and its reply add to those before.
+use Rattle.std.proofs.Common.{◌≡◌, ℕ, zero, suc, ◌+◌, ◌-◌, ◌<◌, ◌≤◌, ◌==◌, ◌&&◌, cond, Bool, true, false, List, [], ◌∷◌, ◌++◌, length, take, Option, Some, refl, sym, ap, ◌∙◌, arith, inl, inr, add-one, length-append}
+use Rattle.std.proofs.lemmas.Bool.Decides.{nat_tests}
+use Rattle.std.specs.Prelude.{◌≢◌, ◌^◌, MatchBool, if◌then◌else◌, count_by, slice_get, slice_index, slice_set}
+use Rattle.std.proofs.lemmas.Bool.{cases_lt, cases_eq}
+use Rattle.std.proofs.lemmas.List.{take-append-le, length-take-le, get_or-set_same, get_or-set_other}
+use Rattle.std.proofs.lemmas.Option.{slice_get_within, get_or_from_slice_get}
+use Rattle.std.proofs.Math.Seq.{take-append_seam, take-suc}
+use Rattle.std.proofs.Math.ListN.{length-set}
+use Rattle.blk_ptr.specs.declared.ptr.Ptr.{Ptr}
+use Rattle.trace_text.specs.declared.op.Op.{Op}
+use Rattle.trace_text.specs.declared.reply.Reply.{Reply}
+use Rattle.trace_text.specs.declared.op.Op.TheVariants as ops
+use Rattle.trace_text.specs.declared.reply.Reply.TheVariants.{Read, Kept, Dropped, Refused}
+use Rattle.trace_text.specs.declared.reply.Refusal.TheVariants.{PoolFault, Mismatch, Key, NoMemory, Range, NoHold}
+use Rattle.trace_run.specs.Answers.{Answers, keeps, drops, kept_reads, dropped_reads, is_pool_read, is_pool_fault}
+use Rattle.vdev_io.specs.Faults.{CountsOne, Rose}
+use Rattle.trace_run.specs.Calls.{CountsReads, CountsFaults}
+use Rattle.std.proofs.lemmas.List.Sums.{sum_by-append, count_by-le-length}
+use Rattle.trace_run.specs.Tally.{AnswersNow, IsTally, block_of, caller_of, kept_after}
+
+-- one more element at the end changes none before it
+slice_get_below : {X : Type 0} (xs : List X) (y : X) (k : ℕ) → k < length xs → slice_get (xs ++ y ∷ []) k ≡ slice_get xs k
+slice_get_below [] y k h = absurd (omega arith)
+slice_get_below (x ∷ xs) y zero h = refl
+slice_get_below (x ∷ xs) y (suc k) h = slice_get_below xs y k (omega arith)
+
+slice_get_last : {X : Type 0} (xs : List X) (y : X) → slice_get (xs ++ y ∷ []) (length xs) ≡ Some y
+slice_get_last [] y = refl
+slice_get_last (x ∷ xs) y = slice_get_last xs y
+
+-- each operation so far has its answer
+abbrev pub EachAnswers : ℕ → Option (List ℕ) → List Ptr → List Op → List Reply → Type 0
+EachAnswers pool_len image blocks ops replies = (k : ℕ) (op : Op) (reply : Reply) → slice_get ops k ≡ Some op → slice_get replies k ≡ Some reply →
+    Answers pool_len image blocks (take k ops) (take k replies) op reply
+
+some_same : {X : Type 0} (a b : X) → Some a ≡ Some b → a ≡ b
+some_same a b e = cc
+
+pub more_answers : (pool_len : ℕ) (image : Option (List ℕ)) (blocks : List Ptr) (ops : List Op) (replies : List Reply) (o : Op) (r : Reply)
+    → slice_get ops (length replies) ≡ Some o → EachAnswers pool_len image blocks ops replies
+    → Answers pool_len image blocks (take (length replies) ops) replies o r
+    → EachAnswers pool_len image blocks ops (replies ++ r ∷ [])
+more_answers pool_len image blocks ops replies o r here each answer k op reply at told =
+    let bound : k < length (replies ++ r ∷ []) = slice_get_within (replies ++ r ∷ []) k reply told in
+    let size = length-append replies (r ∷ []) in
+    elim (cases_lt k (length replies)) [
+      | inl below ↦
+          let front : take k (replies ++ r ∷ []) ≡ take k replies = take-append-le k replies (r ∷ []) (omega arith) in
+          rw front (each k op reply at (sym (slice_get_below replies r k below) ∙ told))
+      | inr above ↦
+          let last : k ≡ length replies = omega arith in
+          let same_op : op ≡ o = some_same op o (sym (rw last at at) ∙ here) in
+          let same_reply : reply ≡ r = some_same reply r (sym (rw last at told) ∙ slice_get_last replies r) in
+          rw (last, take-append_seam replies (r ∷ []), same_op, same_reply) answer
+    ]
+
+-- one more element of a list
+take_one : {X : Type 0} (xs : List X) (i : ℕ) (x : X) → slice_get xs i ≡ Some x → take (i + 1) xs ≡ take i xs ++ x ∷ []
+take_one xs i x h =
+    rw add-one (take-suc xs i x (slice_get_within xs i x h) ∙ ap (λ (v : _). take i xs ++ v ∷ []) (get_or_from_slice_get xs i x x h))
+
+pub kept_reads-snoc : (caller block : ℕ) (ops : List Op) (replies : List Reply) (op : Op) (reply : Reply) → length replies ≡ length ops
+    → kept_reads caller block (ops ++ op ∷ []) (replies ++ reply ∷ []) ≡ kept_reads caller block ops replies + keeps caller block op reply
+kept_reads-snoc caller block [] [] op reply same = omega arith
+kept_reads-snoc caller block [] (r ∷ rs) op reply same = absurd (omega arith)
+kept_reads-snoc caller block (o ∷ os) [] op reply same = absurd (omega arith)
+kept_reads-snoc caller block (o ∷ os) (r ∷ rs) op reply same =
+    let rest = kept_reads-snoc caller block os rs op reply (omega arith) in omega (arith, rest)
+
+pub dropped_reads-snoc : (caller block : ℕ) (ops : List Op) (replies : List Reply) (op : Op) (reply : Reply) → length replies ≡ length ops
+    → dropped_reads caller block (ops ++ op ∷ []) (replies ++ reply ∷ []) ≡ dropped_reads caller block ops replies + drops caller block op reply
+dropped_reads-snoc caller block [] [] op reply same = omega arith
+dropped_reads-snoc caller block [] (r ∷ rs) op reply same = absurd (omega arith)
+dropped_reads-snoc caller block (o ∷ os) [] op reply same = absurd (omega arith)
+dropped_reads-snoc caller block (o ∷ os) (r ∷ rs) op reply same =
+    let rest = dropped_reads-snoc caller block os rs op reply (omega arith) in omega (arith, rest)
+
+test : ℕ → ℕ → ℕ
+test x block = if x == block then 1 else 0
+
+test_same : (n : ℕ) → test n n ≡ 1
+unfolding test
+test_same n = grind (arith, nat_tests)
+
+test_other : (m n : ℕ) → m ≢ n → test m n ≡ 0
+unfolding test
+test_other m n ne = grind (arith, nat_tests)
+
+-- one more kept read of a block
+raised : (kept : List ℕ) (block x : ℕ) → block < length kept
+    → slice_index (slice_set kept block (slice_index kept block + 1)) x ≡ slice_index kept x + test block x
+raised kept block x h =
+    elim (cases_eq x block) [
+      | inl e ↦
+          let same = get_or-set_same kept block (slice_index kept block + 1) 0 h in
+          let one = test_same block in
+          rw e (omega (arith, same, one))
+      | inr ne ↦
+          let other = get_or-set_other kept block x (slice_index kept block + 1) 0 ne in
+          let none = test_other block x (λ e. ne (sym e)) in
+          omega (arith, other, none)
+    ]
+
+-- one kept read less
+lowered : (kept : List ℕ) (block x : ℕ) → block < length kept → 0 < slice_index kept block
+    → slice_index (slice_set kept block (slice_index kept block - 1)) x + test block x ≡ slice_index kept x
+lowered kept block x h some =
+    elim (cases_eq x block) [
+      | inl e ↦
+          let same = get_or-set_same kept block (slice_index kept block - 1) 0 h in
+          let one = test_same block in
+          rw e (omega (arith, same, one))
+      | inr ne ↦
+          let other = get_or-set_other kept block x (slice_index kept block - 1) 0 ne in
+          let none = test_other block x (λ e. ne (sym e)) in
+          omega (arith, other, none)
+    ]
+
+-- the caller's own operation counts
+own : (n caller block x : ℕ) → n ≡ caller → (if n == caller && block == x then 1 else 0) ≡ test block x
+unfolding test
+own n caller block x e = grind (arith, nat_tests)
+
+-- an operation and its reply change the counts by what they keep and drop
+one_step : (pool_len : ℕ) (image : Option (List ℕ)) (blocks : List Ptr) (caller : ℕ) (kept : List ℕ) (o : Op) (r : Reply) (x : ℕ)
+    → caller_of o ≡ caller → block_of o < length kept → AnswersNow pool_len image blocks kept o r
+    → slice_index (kept_after o r kept) x + drops caller x o r ≡ slice_index kept x + keeps caller x o r
+one_step pool_len image blocks caller kept (ops.Read n t y w) r x same within answer = refl
+one_step pool_len image blocks caller kept (ops.Hold n t y) (Kept served) x same within answer =
+    let more = raised kept y x within in
+    let mine = own n caller y x same in
+    omega (arith, more, mine)
+one_step pool_len image blocks caller kept (ops.Hold n t y) Dropped x same within answer = refl
+one_step pool_len image blocks caller kept (ops.Hold n t y) (Refused refusal) x same within answer = refl
+one_step pool_len image blocks caller kept (ops.Hold n t y) (Read served digest shown) x same within answer = refl
+one_step pool_len image blocks caller kept (ops.Drop n y) Dropped x same within answer =
+    let less = lowered kept y x within answer in
+    let mine = own n caller y x same in
+    omega (arith, less, mine)
+one_step pool_len image blocks caller kept (ops.Drop n y) (Kept served) x same within answer = refl
+one_step pool_len image blocks caller kept (ops.Drop n y) (Refused refusal) x same within answer = refl
+one_step pool_len image blocks caller kept (ops.Drop n y) (Read served digest shown) x same within answer = refl
+
+-- there are as many counts as before
+pub length-kept_after : (o : Op) (r : Reply) (kept : List ℕ) → length (kept_after o r kept) ≡ length kept
+length-kept_after (ops.Read n t y w) r kept = refl
+length-kept_after (ops.Hold n t y) (Kept served) kept = length-set kept y _
+length-kept_after (ops.Hold n t y) Dropped kept = refl
+length-kept_after (ops.Hold n t y) (Refused refusal) kept = refl
+length-kept_after (ops.Hold n t y) (Read served digest shown) kept = refl
+length-kept_after (ops.Drop n y) Dropped kept = length-set kept y _
+length-kept_after (ops.Drop n y) (Kept served) kept = refl
+length-kept_after (ops.Drop n y) (Refused refusal) kept = refl
+length-kept_after (ops.Drop n y) (Read served digest shown) kept = refl
+
+-- at most one read is kept
+keeps-le : (caller x : ℕ) (o : Op) (r : Reply) → keeps caller x o r ≤ 1
+keeps-le caller x (ops.Read n t y w) r = omega arith
+keeps-le caller x (ops.Hold n t y) (Kept served) = grind (arith, nat_tests)
+keeps-le caller x (ops.Hold n t y) Dropped = omega arith
+keeps-le caller x (ops.Hold n t y) (Refused refusal) = omega arith
+keeps-le caller x (ops.Hold n t y) (Read served digest shown) = omega arith
+keeps-le caller x (ops.Drop n y) r = omega arith
+
+pub more_tally : (pool_len : ℕ) (image : Option (List ℕ)) (blocks : List Ptr) (caller : ℕ) (ops : List Op) (replies : List Reply) (kept : List ℕ) (o : Op) (r : Reply)
+    → slice_get ops (length replies) ≡ Some o → IsTally caller (take (length replies) ops) replies kept
+    → caller_of o ≡ caller → block_of o < length kept → AnswersNow pool_len image blocks kept o r
+    → IsTally caller (take (length replies + 1) ops) (replies ++ r ∷ []) (kept_after o r kept)
+more_tally pool_len image blocks caller ops replies kept o r here tally same within answer = record {
+  each = λ x bound.
+      let below : x < length kept = rw length-kept_after at bound in
+      let inside : length replies < length ops = slice_get_within ops (length replies) o here in
+      let front : take (length replies + 1) ops ≡ take (length replies) ops ++ o ∷ [] = take_one ops (length replies) o here in
+      let size : length replies ≡ length (take (length replies) ops) = sym (length-take-le (length replies) ops (omega arith)) in
+      let was = tally.each x below in
+      let step = one_step pool_len image blocks caller kept o r x same within answer in
+      let more_kept = kept_reads-snoc caller x (take (length replies) ops) replies o r size in
+      let more_dropped = dropped_reads-snoc caller x (take (length replies) ops) replies o r size in
+      rw front (omega (arith, was, step, more_kept, more_dropped));
+}
+
+pub more_few : (pool_len : ℕ) (image : Option (List ℕ)) (blocks : List Ptr) (caller : ℕ) (kept : List ℕ) (i : ℕ) (o : Op) (r : Reply)
+    → ((x : ℕ) → slice_index kept x ≤ i) → caller_of o ≡ caller → block_of o < length kept → AnswersNow pool_len image blocks kept o r
+    → (x : ℕ) → slice_index (kept_after o r kept) x ≤ i + 1
+more_few pool_len image blocks caller kept i o r few same within answer x =
+    let step = one_step pool_len image blocks caller kept o r x same within answer in
+    let one = keeps-le caller x o r in
+    let was = few x in
+    omega (arith, step, one, was)
+
+-- an answer by the counts is one by the operations and replies before it
+pub to_answer : (pool_len : ℕ) (image : Option (List ℕ)) (blocks : List Ptr) (caller : ℕ) (earlier : List Op) (replies : List Reply) (kept : List ℕ) (o : Op) (r : Reply)
+    → IsTally caller earlier replies kept → caller_of o ≡ caller → block_of o < length kept → AnswersNow pool_len image blocks kept o r
+    → Answers pool_len image blocks earlier replies o r
+to_answer pool_len image blocks caller earlier replies kept (ops.Read n t y w) r tally same within answer = answer
+to_answer pool_len image blocks caller earlier replies kept (ops.Hold n t y) r tally same within answer = answer
+to_answer pool_len image blocks caller earlier replies kept (ops.Drop n y) Dropped tally same within answer =
+    let here = tally.each y within in rw same (omega (arith, here, answer))
+to_answer pool_len image blocks caller earlier replies kept (ops.Drop n y) (Refused (NoHold missing)) tally same within answer =
+    let here = tally.each y within in rw same (answer.0, omega (arith, here, answer.1))
+to_answer pool_len image blocks caller earlier replies kept (ops.Drop n y) (Refused PoolFault) tally same within answer = answer
+to_answer pool_len image blocks caller earlier replies kept (ops.Drop n y) (Refused (Mismatch found)) tally same within answer = answer
+to_answer pool_len image blocks caller earlier replies kept (ops.Drop n y) (Refused (Key fault)) tally same within answer = answer
+to_answer pool_len image blocks caller earlier replies kept (ops.Drop n y) (Refused NoMemory) tally same within answer = answer
+to_answer pool_len image blocks caller earlier replies kept (ops.Drop n y) (Refused (Range end size)) tally same within answer = answer
+to_answer pool_len image blocks caller earlier replies kept (ops.Drop n y) (Kept served) tally same within answer = answer
+to_answer pool_len image blocks caller earlier replies kept (ops.Drop n y) (Read served digest shown) tally same within answer = answer
+
+cond_le_one : (b : Bool) → cond b 1 0 ≤ 1
+cond_le_one true = omega arith
+cond_le_one false = omega arith
+
+-- one more reply counts where it passes the test
+count_by-snoc : {X : Type 0} (p : X → Bool) (xs : List X) (y : X) → count_by p (xs ++ y ∷ []) ≡ count_by p xs + cond (p y) 1 0
+count_by-snoc p xs y =
+    let parts : count_by p (xs ++ y ∷ []) ≡ count_by p xs + (0 + cond (p y) 1 0) = sum_by-append (λ x. cond (p x) 1 0) xs (y ∷ []) in
+    omega (arith, parts)
+
+reads_by : (b : Bool) (before now : ℕ) → MatchBool b (CountsOne before now) (now ≡ before) → before < 2 ^ 63 + 2 ^ 32 → now ≡ before + cond b 1 0
+reads_by true before now h low = let one = h.more (omega arith) in omega (arith, one)
+reads_by false before now h low = omega (arith, h)
+
+faults_by : (b : Bool) (before now : ℕ) → MatchBool b (Rose before now) (before ≤ now) → before < 2 ^ 64 - 1 → before + cond b 1 0 ≤ now
+faults_by true before now h low = omega (arith, h)
+faults_by false before now h low = omega (arith, h)
+
+pub more_reads : (start before now : ℕ) (replies : List Reply) (reply : Reply) → length replies < 2 ^ 32
+    → (start < 2 ^ 63 → before ≡ start + count_by is_pool_read replies) → CountsReads reply before now
+    → start < 2 ^ 63 → now ≡ start + count_by is_pool_read (replies ++ reply ∷ [])
+more_reads start before now replies reply few was step low =
+    let here = was low in
+    let most = count_by-le-length is_pool_read replies in
+    let more = reads_by (is_pool_read reply) before now step (omega arith) in
+    let counted = count_by-snoc is_pool_read replies reply in
+    omega (arith, here, more, counted)
+
+-- a count that has come to its last value has risen by more than there are replies
+pub more_faults : (start before now : ℕ) (replies : List Reply) (reply : Reply) → length replies < 2 ^ 32
+    → (start < 2 ^ 63 → start + count_by is_pool_fault replies ≤ before) → CountsFaults reply before now → before ≤ now
+    → start < 2 ^ 63 → start + count_by is_pool_fault (replies ++ reply ∷ []) ≤ now
+more_faults start before now replies reply few was step kept low =
+    let here = was low in
+    let most = count_by-le-length is_pool_fault replies in
+    let counted = count_by-snoc is_pool_fault replies reply in
+    let one : cond (is_pool_fault reply) 1 0 ≤ 1 = cond_le_one (is_pool_fault reply) in
+    elim (cases_lt before (2 ^ 64 - 1)) [
+      | inl below ↦ let more = faults_by (is_pool_fault reply) before now step below in omega (arith, here, more, counted)
+      | inr above ↦ omega (arith, most, counted, one)
+    ]

@@ -1,0 +1,110 @@
+-- What the operations of a trace may be answered, for a pool of some length that may tell its bytes.
+use Rattle.std.specs.Prelude.{◌==◌, ◌≡◌, ℕ, ◌+◌, ◌<◌, ◌≤◌, ◌&&◌, Bool, true, false, List, [], ◌∷◌, length, take, drop, Option, Some, slice_get, if◌then◌else◌}
+use Rattle.blk_ptr.specs.declared.ptr.Ptr.{Ptr}
+use Rattle.blk_ptr.specs.Key.{IsValid, IsFirstFault}
+use Rattle.trace_text.specs.declared.op.Op.{Op}
+use Rattle.trace_text.specs.declared.op.Op.TheVariants as ops
+use Rattle.trace_text.specs.declared.reply.Reply.{Reply}
+use Rattle.trace_text.specs.declared.reply.Reply.TheVariants.{Read, Kept, Dropped, Refused}
+use Rattle.trace_text.specs.declared.reply.Refusal.{Refusal}
+use Rattle.trace_text.specs.declared.reply.Refusal.TheVariants.{PoolFault, Mismatch, Key, NoMemory, Range, NoHold}
+use Rattle.trace_text.specs.declared.window.Window.{Window}
+use Rattle.trace_run.specs.Read.{IsServed, IsMismatch}
+
+-- the bytes of a block that a window shows
+abbrev pub window_of : Window → List ℕ → List ℕ
+window_of window bytes = take window.len (drop window.at bytes)
+
+-- the window ends inside a block of this size
+abbrev pub IsInside : Window → ℕ → Type 0
+IsInside window size = window.at + window.len ≤ size
+
+-- the block's key was accepted, and then its bytes were refused
+abbrev pub IsReadRefusal : ℕ → Option (List ℕ) → Ptr → Refusal → Type 0
+IsReadRefusal pool_len image ptr PoolFault = IsValid pool_len ptr.key
+IsReadRefusal pool_len image ptr (Mismatch found) = IsValid pool_len ptr.key × IsMismatch image ptr found
+IsReadRefusal pool_len image ptr (Key fault) = IsFirstFault pool_len ptr.key fault
+IsReadRefusal pool_len image ptr NoMemory = ⊥
+IsReadRefusal pool_len image ptr (Range end size) = ⊥
+IsReadRefusal pool_len image ptr (NoHold block) = ⊥
+
+-- the answers to a read that shows a window: a window past the block's size is refused before the key is looked at
+abbrev pub AnswersRead : ℕ → Option (List ℕ) → Ptr → Window → Reply → Type 0
+AnswersRead pool_len image ptr window (Read served digest shown) =
+    IsInside window ptr.key.size × IsValid pool_len ptr.key × (digest ≡ ptr.digest)
+    × ((bytes : List ℕ) × IsServed image ptr bytes × (shown ≡ window_of window bytes))
+AnswersRead pool_len image ptr window (Refused (Range end size)) =
+    (end ≡ window.at + window.len) × (size ≡ ptr.key.size) × (size < end)
+AnswersRead pool_len image ptr window (Refused refusal) = IsInside window ptr.key.size × IsReadRefusal pool_len image ptr refusal
+AnswersRead pool_len image ptr window reply = ⊥
+
+-- the answers to a read that is kept
+abbrev pub AnswersHold : ℕ → Option (List ℕ) → Ptr → Reply → Type 0
+AnswersHold pool_len image ptr (Kept served) = IsValid pool_len ptr.key
+AnswersHold pool_len image ptr (Refused refusal) = IsReadRefusal pool_len image ptr refusal
+AnswersHold pool_len image ptr reply = ⊥
+
+-- 1 where this reply to this operation keeps a read of the block by the caller
+abbrev pub keeps : ℕ → ℕ → Op → Reply → ℕ
+keeps caller block (ops.Hold n t x) (Kept served) = if n == caller && x == block then 1 else 0
+keeps caller block op reply = 0
+
+-- 1 where this reply to this operation drops a read of the block by the caller
+abbrev pub drops : ℕ → ℕ → Op → Reply → ℕ
+drops caller block (ops.Drop n x) Dropped = if n == caller && x == block then 1 else 0
+drops caller block op reply = 0
+
+-- how many reads of a block a caller kept, by the operations and their replies
+abbrev pub kept_reads : ℕ → ℕ → List Op → List Reply → ℕ
+kept_reads caller block [] replies = 0
+kept_reads caller block (op ∷ ops) [] = 0
+kept_reads caller block (op ∷ ops) (reply ∷ replies) = keeps caller block op reply + kept_reads caller block ops replies
+
+-- how many of them the caller dropped again
+abbrev pub dropped_reads : ℕ → ℕ → List Op → List Reply → ℕ
+dropped_reads caller block [] replies = 0
+dropped_reads caller block (op ∷ ops) [] = 0
+dropped_reads caller block (op ∷ ops) (reply ∷ replies) = drops caller block op reply + dropped_reads caller block ops replies
+
+-- the answers to a drop, where so many reads were kept and so many dropped
+abbrev pub AnswersDrop : ℕ → ℕ → ℕ → Reply → Type 0
+AnswersDrop kept dropped block Dropped = dropped < kept
+AnswersDrop kept dropped block (Refused (NoHold missing)) = (missing ≡ block) × (kept ≤ dropped)
+AnswersDrop kept dropped block reply = ⊥
+
+-- the answer to an operation, behind these operations and replies
+abbrev pub Answers : ℕ → Option (List ℕ) → List Ptr → List Op → List Reply → Op → Reply → Type 0
+Answers pool_len image blocks earlier replied (ops.Read n t x window) reply =
+    (ptr : Ptr) × (slice_get blocks x ≡ Some ptr) × AnswersRead pool_len image ptr window reply
+Answers pool_len image blocks earlier replied (ops.Hold n t x) reply =
+    (ptr : Ptr) × (slice_get blocks x ≡ Some ptr) × AnswersHold pool_len image ptr reply
+Answers pool_len image blocks earlier replied (ops.Drop n x) reply =
+    AnswersDrop (kept_reads n x earlier replied) (dropped_reads n x earlier replied) x reply
+
+-- each operation has its answer, in their order
+pub record AnswersAll (pool_len : ℕ) (image : Option (List ℕ)) (blocks : List Ptr) (ops : List Op) (replies : List Reply) : Type 0 where
+  pub all : length replies ≡ length ops
+  pub each : (k : ℕ) (op : Op) (reply : Reply) → slice_get ops k ≡ Some op → slice_get replies k ≡ Some reply →
+      Answers pool_len image blocks (take k ops) (take k replies) op reply
+
+-- a reply that says that the pool failed
+abbrev pub is_pool_fault : Reply → Bool
+is_pool_fault (Refused PoolFault) = true
+is_pool_fault reply = false
+
+-- a reply that says that a key was refused, or a window, or a drop: the pool was not read
+abbrev pub is_unread : Reply → Bool
+is_unread Dropped = true
+is_unread (Refused (Key fault)) = true
+is_unread (Refused (Range end size)) = true
+is_unread (Refused (NoHold block)) = true
+is_unread reply = false
+
+-- a reply for which the pool was read
+abbrev pub is_pool_read : Reply → Bool
+is_pool_read reply = if is_unread reply then false else true
+
+-- a reply that is a refusal
+abbrev pub is_refusal : Reply → Bool
+is_refusal (Refused refusal) = true
+is_refusal reply = false

@@ -1,0 +1,5 @@
+pub mod Answers
+pub mod Calls
+pub mod Read
+pub mod ReadFault
+pub mod Tally

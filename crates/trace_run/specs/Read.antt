@@ -1,0 +1,20 @@
+-- What a read of one block may be answered.
+use Rattle.std.specs.Prelude.{◌≡◌, ◌≢◌, ℕ, List, length, Option, Ok, Err, IfSome}
+use Rattle.blk_ptr.specs.declared.digest.Digest.{Digest}
+use Rattle.blk_ptr.specs.declared.ptr.Ptr.{Ptr}
+use Rattle.blk_ptr.specs.Ptr.{sha256_of, IsOf, IsPlainRead, IsSameOrCollides}
+
+-- The bytes that a read gives are of the pointer. Over a pool that tells its bytes they are those of a plain read, where
+-- that succeeds, unless two contents share a digest.
+pub record IsServed (image : Option (List ℕ)) (ptr : Ptr) (bytes : List ℕ) : Type 0 where
+  pub of : IsOf bytes ptr
+  pub plain : IfSome image (λ told. (others : List ℕ) → IsPlainRead told ptr (Ok others) → IsSameOrCollides bytes others)
+
+-- The digest that was found is that of the bytes that were read, and it isn't the pointer's. Over a pool that tells its
+-- bytes a plain read finds it too.
+pub record IsMismatch (image : Option (List ℕ)) (ptr : Ptr) (found : Digest) : Type 0 where
+  pub bytes : List ℕ
+  pub size : length bytes ≡ ptr.key.size
+  pub digest : found ≡ sha256_of bytes
+  pub other : found ≢ ptr.digest
+  pub plain : IfSome image (λ told. IsPlainRead told ptr (Err found))

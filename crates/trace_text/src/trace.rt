@@ -1,0 +1,14 @@
+use crate::blocks::Blocks;
+use crate::config::Config;
+use crate::ops::Ops;
+
+/// What a trace's text says.
+#[derive(Debug, Drop)]
+pub struct Trace {
+    /// The sizes of the cache.
+    pub config: Config,
+    /// The block pointers, which operations name by their number from 0.
+    pub blocks: Blocks,
+    /// The operations.
+    pub ops: Ops,
+}
