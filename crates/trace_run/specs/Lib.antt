@@ -3,3 +3,4 @@ pub mod Calls
 pub mod Read
 pub mod ReadFault
 pub mod Tally
+pub mod Words

@@ -3,3 +3,4 @@
 
 mod answer;
 mod read;
+mod words;
