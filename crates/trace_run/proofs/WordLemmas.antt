@@ -1,10 +1,10 @@
 -- Which word of a command line is the first that is wrong.
-use Rattle.std.proofs.Common.{◌≡◌, ◌≢◌, ℕ, ◌<◌, ◌≤◌, List, [], ◌∷◌, ◌++◌, length, take, codes, refl, arith, inl, inr, cond}
+use Rattle.std.proofs.Common.{◌≡◌, ℕ, ◌<◌, ◌≤◌, List, [], ◌∷◌, ◌++◌, length, codes, refl, arith, inl, inr}
 use Rattle.std.specs.Prelude.{String, slice_index_or, string_bytes}
 use Rattle.std.specs.Global.{Global}
 use Rattle.trace_run.specs.declared.words.Command.{Command}
 use Rattle.trace_run.specs.declared.words.Command.TheVariants.{Run}
-use Rattle.trace_run.specs.Words.{IsCommand, Begins, IsFirstWrong, texts, words_of}
+use Rattle.trace_run.specs.Words.{IsCommand, Begins, IsFirstWrong, texts}
 
 same_head : (a b : List ℕ) (rest others : List (List ℕ)) → a ∷ rest ≡ b ∷ others → a ≡ b
 same_head a b rest others e = cc

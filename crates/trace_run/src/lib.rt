@@ -3,4 +3,5 @@
 
 mod answer;
 mod read;
+mod stream;
 mod words;

@@ -1,5 +1,5 @@
 use Rattle.std.proofs.Common.{rules}
-use Rattle.trace_run.proofs.WordLemmas.{wrong_none, wrong_first, right, wrong_second}
+use Rattle.trace_run.proofs.WordLemmas.{wrong_none, wrong_first, wrong_second}
 use Rattle.trace_run.proofs.words.Command.parse.Goals as goal
 
 pub returns-in-len1-up : goal.returns-in-len1-up
