@@ -1,7 +1,7 @@
 -- The text of a report: its first line, a line for each reply, and the status at which it was made.
 use Rattle.std.specs.Prelude.{ℕ, ◌+◌, List, [], ◌∷◌, ◌++◌, codes, decimal, if◌then◌else◌}
 use Rattle.hex.specs.Hex.{encode_lower}
-use Rattle.trace_text.specs.Words.{served_word, refusal_text}
+use Rattle.trace_text.specs.ReportWords.{served_word, refusal_text}
 use Rattle.trace_text.specs.declared.reply.Reply.{Reply}
 use Rattle.trace_text.specs.declared.reply.Reply.TheVariants.{Read, Kept, Dropped, Refused}
 use Rattle.trace_text.specs.declared.report.Report.{Report}

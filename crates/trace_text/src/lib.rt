@@ -1,25 +1,40 @@
 //! The texts of the program: the trace that it reads, and the report that it writes.
+//!
+//! A trace is a list of lines: the sizes of a cache, the block pointers that it may read, and the operations
+//! of its callers. What text is a trace stands in `specs/Grammar.antt`, apart from the reader; where a text
+//! is none, the reader names the first line at fault and what is wrong with it. What a report's text is stands in
+//! `specs/ReportText.antt`.
 #![tactic(auto)]
 
 mod blocks;
 mod config;
+mod draft;
 mod fault;
+mod fields;
+mod forms;
+mod laws;
+mod line;
 mod op;
 mod ops;
+mod parts;
 mod print;
+mod reader;
 mod reply;
 mod report;
 mod served;
 mod shown;
 mod trace;
 mod window;
+mod words;
 
 pub use blocks::Blocks;
 pub use config::{Bounds, Config};
 pub use fault::{Kind, TraceFault};
+pub use laws::{one_fault, one_trace, written_lines};
 pub use op::Op;
 pub use ops::Ops;
 pub use print::report_text;
+pub use reader::read_trace;
 pub use reply::{Refusal, Replies, Reply};
 pub use report::Report;
 pub use served::Served;

@@ -24,7 +24,7 @@ pub enum Refusal {
 }
 
 impl fmt::Display for Refusal {
-    ghost use Rattle.trace_text.specs.Words.{refusal_text};
+    ghost use Rattle.trace_text.specs.ReportWords.{refusal_text};
 
     ghost output = { λ refusal. Some (refusal_text refusal) };
 

@@ -16,7 +16,7 @@ pub enum Served {
 }
 
 impl fmt::Display for Served {
-    ghost use Rattle.trace_text.specs.Words.{served_word};
+    ghost use Rattle.trace_text.specs.ReportWords.{served_word};
 
     ghost output = { λ served. Some (served_word served) };
 

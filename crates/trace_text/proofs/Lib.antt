@@ -1,0 +1,9 @@
+pub mod SplitLemmas
+pub mod NumberLemmas
+pub mod FormLemmas
+pub mod DigestLemmas
+pub mod DraftLemmas
+pub mod LinesLemmas
+pub mod SameLemmas
+pub mod LawLemmas
+pub mod FormedLemmas

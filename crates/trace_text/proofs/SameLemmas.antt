@@ -1,0 +1,82 @@
+-- One spelling is that of one line.
+use Rattle.std.proofs.Common.{◌≡◌, ℕ, ◌<◌, ◌≤◌, ◌^◌, [], refl, ap, ◌∙◌, sym, subst, arith, get_or}
+use Rattle.std.proofs.Math.Bridge.{le_prop}
+use Rattle.std.proofs.lemmas.Fmt.{decimal_injective}
+use Rattle.blk_ptr.specs.declared.ptr.Ptr.{Ptr}
+use Rattle.trace_text.specs.declared.config.Config.{Config}
+use Rattle.trace_text.specs.declared.op.Op.TheVariants as ops
+use Rattle.trace_text.specs.declared.window.Window.{Window}
+use Rattle.trace_text.specs.declared.words.Line.{Line}
+use Rattle.trace_text.specs.declared.words.Line.TheVariants.{Sizes, Declared, Operation}
+use Rattle.trace_text.proofs.DigestLemmas.{digest-injective}
+use Rattle.trace_text.proofs.FormLemmas.{letter}
+use Rattle.trace_text.specs.Grammar.{IsInRange, spelling}
+
+abbrev window : (at len : ℕ) → len ≤ 64 → Window
+window at len short = record { at = at; len = len; short = short }
+
+pub window-same : (a b : Window) → a.at ≡ b.at → a.len ≡ b.len → a ≡ b
+window-same a b e f =
+    let P : ℕ → Type 0 = λ at. a ≡ window at a.len a.short in
+    let Q : ℕ → Type 0 = λ len. (short : len ≤ 64) → a ≡ window b.at len short in
+    subst Q f (λ short. subst P e refl ∙ ap (window b.at a.len) (le_prop a.short short)) b.short
+
+pub config-same : (a b : Config) → a.callers ≡ b.callers → a.shards ≡ b.shards → a.buckets ≡ b.buckets → a.cells ≡ b.cells → a.c ≡ b.c
+    → a.mintime ≡ b.mintime → a.dbuf_bytes ≡ b.dbuf_bytes → a.bounds.write_max ≡ b.bounds.write_max → a.bounds.headroom ≡ b.bounds.headroom → a ≡ b
+config-same a b e1 e2 e3 e4 e5 e6 e7 e8 e9 =
+    λ i. record { callers = e1 i; shards = e2 i; buckets = e3 i; cells = e4 i; c = e5 i; mintime = e6 i; dbuf_bytes = e7 i; bounds = record { write_max = e8 i; headroom = e9 i } }
+
+pub ptr-same : (a b : Ptr) → a.key.offset ≡ b.key.offset → a.key.size ≡ b.key.size → a.key.birth ≡ b.key.birth → a.digest ≡ b.digest → a ≡ b
+ptr-same a b e1 e2 e3 e4 = λ i. record { key = record { offset = e1 i; size = e2 i; birth = e3 i }; digest = e4 i }
+
+-- two lines in range with one spelling are one line
+pub spelling-injective : (callers : ℕ) → callers < 2 ^ 64 → (l m : Line) → IsInRange callers l → IsInRange callers m → spelling l ≡ spelling m → l ≡ m
+spelling-injective callers few (Sizes a) (Sizes b) p q e = ap Sizes (config-same a b
+    (decimal_injective a.callers b.callers (omega (arith, p.callers.1)) (omega (arith, q.callers.1)) (ap (λ f. get_or f 1 []) e))
+    (decimal_injective a.shards b.shards (omega (arith, p.shards.1)) (omega (arith, q.shards.1)) (ap (λ f. get_or f 2 []) e))
+    (decimal_injective a.buckets b.buckets (omega (arith, p.buckets.1)) (omega (arith, q.buckets.1)) (ap (λ f. get_or f 3 []) e))
+    (decimal_injective a.cells b.cells (omega (arith, p.cells.1)) (omega (arith, q.cells.1)) (ap (λ f. get_or f 4 []) e))
+    (decimal_injective a.c b.c (omega (arith, p.c.1)) (omega (arith, q.c.1)) (ap (λ f. get_or f 5 []) e))
+    (decimal_injective a.mintime b.mintime (omega (arith, p.mintime)) (omega (arith, q.mintime)) (ap (λ f. get_or f 6 []) e))
+    (decimal_injective a.dbuf_bytes b.dbuf_bytes (omega (arith, p.dbuf_bytes)) (omega (arith, q.dbuf_bytes)) (ap (λ f. get_or f 7 []) e))
+    (p.write_max ∙ sym q.write_max) (p.headroom ∙ sym q.headroom))
+spelling-injective callers few (Declared a) (Declared b) p q e = ap Declared (ptr-same a b
+    (decimal_injective a.key.offset b.key.offset (omega (arith, p.offset)) (omega (arith, q.offset)) (ap (λ f. get_or f 1 []) e))
+    (decimal_injective a.key.size b.key.size (omega (arith, p.size)) (omega (arith, q.size)) (ap (λ f. get_or f 2 []) e))
+    (decimal_injective a.key.birth b.key.birth (omega (arith, p.birth)) (omega (arith, q.birth)) (ap (λ f. get_or f 3 []) e))
+    (digest-injective a.digest b.digest p.digest q.digest (ap (λ f. get_or f 4 []) e)))
+spelling-injective callers few (Operation (ops.Read n t x w)) (Operation (ops.Read n' t' x' w')) p q e =
+    let e1 = (decimal_injective n n' (omega (arith, p.0)) (omega (arith, q.0)) (ap (λ f. get_or f 1 []) e)) in
+    let e2 = (decimal_injective t t' (omega (arith, p.1)) (omega (arith, q.1)) (ap (λ f. get_or f 2 []) e)) in
+    let e3 = (decimal_injective x x' (omega (arith, p.2)) (omega (arith, q.2)) (ap (λ f. get_or f 3 []) e)) in
+    let e4 = window-same w w' (decimal_injective w.at w'.at (omega (arith, p.3)) (omega (arith, q.3)) (ap (λ f. get_or f 4 []) e)) (decimal_injective w.len w'.len (omega (arith, w.short)) (omega (arith, w'.short)) (ap (λ f. get_or f 5 []) e)) in
+    λ i. Operation (ops.Read (e1 i) (e2 i) (e3 i) (e4 i))
+spelling-injective callers few (Operation (ops.Hold n t x)) (Operation (ops.Hold n' t' x')) p q e =
+    let e1 = (decimal_injective n n' (omega (arith, p.0)) (omega (arith, q.0)) (ap (λ f. get_or f 1 []) e)) in
+    let e2 = (decimal_injective t t' (omega (arith, p.1)) (omega (arith, q.1)) (ap (λ f. get_or f 2 []) e)) in
+    let e3 = (decimal_injective x x' (omega (arith, p.2)) (omega (arith, q.2)) (ap (λ f. get_or f 3 []) e)) in
+    λ i. Operation (ops.Hold (e1 i) (e2 i) (e3 i))
+spelling-injective callers few (Operation (ops.Drop n x)) (Operation (ops.Drop n' x')) p q e =
+    let e1 = (decimal_injective n n' (omega (arith, p.0)) (omega (arith, q.0)) (ap (λ f. get_or f 1 []) e)) in
+    let e2 = (decimal_injective x x' (omega (arith, p.1)) (omega (arith, q.1)) (ap (λ f. get_or f 2 []) e)) in
+    λ i. Operation (ops.Drop (e1 i) (e2 i))
+spelling-injective callers few (Sizes a) (Declared b) p q e = absurd (omega (arith, ap letter e))
+spelling-injective callers few (Sizes a) (Operation (ops.Read n' t' x' w')) p q e = absurd (omega (arith, ap letter e))
+spelling-injective callers few (Sizes a) (Operation (ops.Hold n' t' x')) p q e = absurd (omega (arith, ap letter e))
+spelling-injective callers few (Sizes a) (Operation (ops.Drop n' x')) p q e = absurd (omega (arith, ap letter e))
+spelling-injective callers few (Declared a) (Sizes b) p q e = absurd (omega (arith, ap letter e))
+spelling-injective callers few (Declared a) (Operation (ops.Read n' t' x' w')) p q e = absurd (omega (arith, ap letter e))
+spelling-injective callers few (Declared a) (Operation (ops.Hold n' t' x')) p q e = absurd (omega (arith, ap letter e))
+spelling-injective callers few (Declared a) (Operation (ops.Drop n' x')) p q e = absurd (omega (arith, ap letter e))
+spelling-injective callers few (Operation (ops.Read n t x w)) (Sizes b) p q e = absurd (omega (arith, ap letter e))
+spelling-injective callers few (Operation (ops.Read n t x w)) (Declared b) p q e = absurd (omega (arith, ap letter e))
+spelling-injective callers few (Operation (ops.Read n t x w)) (Operation (ops.Hold n' t' x')) p q e = absurd (omega (arith, ap letter e))
+spelling-injective callers few (Operation (ops.Read n t x w)) (Operation (ops.Drop n' x')) p q e = absurd (omega (arith, ap letter e))
+spelling-injective callers few (Operation (ops.Hold n t x)) (Sizes b) p q e = absurd (omega (arith, ap letter e))
+spelling-injective callers few (Operation (ops.Hold n t x)) (Declared b) p q e = absurd (omega (arith, ap letter e))
+spelling-injective callers few (Operation (ops.Hold n t x)) (Operation (ops.Read n' t' x' w')) p q e = absurd (omega (arith, ap letter e))
+spelling-injective callers few (Operation (ops.Hold n t x)) (Operation (ops.Drop n' x')) p q e = absurd (omega (arith, ap letter e))
+spelling-injective callers few (Operation (ops.Drop n x)) (Sizes b) p q e = absurd (omega (arith, ap letter e))
+spelling-injective callers few (Operation (ops.Drop n x)) (Declared b) p q e = absurd (omega (arith, ap letter e))
+spelling-injective callers few (Operation (ops.Drop n x)) (Operation (ops.Read n' t' x' w')) p q e = absurd (omega (arith, ap letter e))
+spelling-injective callers few (Operation (ops.Drop n x)) (Operation (ops.Hold n' t' x')) p q e = absurd (omega (arith, ap letter e))

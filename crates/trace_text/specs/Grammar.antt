@@ -1,0 +1,295 @@
+-- What text is a trace, line by line, and for a text that is none the first line at fault.
+use Rattle.std.specs.Prelude.{All, filter, map, not, ◌≡◌, ℕ, ◌+◌, ◌*◌, ◌^◌, ◌<◌, ◌≤◌, ◌==◌, ◌↔◌, ◌⊎◌, Bool, true, false, List, [], ◌∷◌, ◌++◌, length, take, codes, decimal, count_by, Option, Some, None, IsSome, IsNone, MatchBool}
+use Rattle.std.specs.List.{slice_split, AllByRecursion}
+use Rattle.hex.specs.Hex.{IsBytes, encode_lower}
+use Rattle.blk_ptr.specs.declared.digest.Digest.{Digest}
+use Rattle.blk_ptr.specs.declared.ptr.Ptr.{Ptr}
+use Rattle.trace_text.specs.declared.config.Config.{Config}
+use Rattle.trace_text.specs.declared.op.Op.{Op}
+use Rattle.trace_text.specs.declared.op.Op.TheVariants as ops
+use Rattle.trace_text.specs.declared.words.Word.{Word}
+use Rattle.trace_text.specs.declared.words.Word.TheVariants as words
+use Rattle.trace_text.specs.declared.words.Line.{Line}
+use Rattle.trace_text.specs.declared.words.Line.TheVariants.{Sizes, Declared, Operation}
+use Rattle.trace_text.specs.declared.fault.Kind.{Kind}
+use Rattle.trace_text.specs.declared.fault.Kind.TheVariants as kinds
+use Rattle.trace_text.specs.declared.fault.TraceFault.{TraceFault}
+use Rattle.trace_text.specs.declared.fault.TraceFault.TheVariants.{Bad, NoMemory}
+use Rattle.trace_text.specs.declared.trace.Trace.{Trace}
+
+-- ---- lines and fields
+
+-- the lines of a text: what stands between its newlines
+abbrev pub lines_of : List ℕ → List (List ℕ)
+lines_of text = slice_split (λ b. b == 10) text
+
+-- the fields of a line: what stands between its spaces
+abbrev pub fields_of : List ℕ → List (List ℕ)
+fields_of line = slice_split (λ b. b == 32) line
+
+-- an empty line, and one that begins with `#`, are passed over
+abbrev pub is_passed_over : List ℕ → Bool
+is_passed_over [] = true
+is_passed_over (b ∷ line) = b == 35
+
+-- ---- how each line is spelled
+
+-- the spelling of a word
+abbrev pub text_of : Word → List ℕ
+text_of words.Arc = codes "arc"
+text_of words.Block = codes "block"
+text_of words.Read = codes "read"
+text_of words.Hold = codes "hold"
+text_of words.Drop = codes "drop"
+
+-- how many fields come after a word
+abbrev pub field_count : Word → ℕ
+field_count words.Arc = 7
+field_count words.Block = 4
+field_count words.Read = 5
+field_count words.Hold = 3
+field_count words.Drop = 2
+
+-- the fields of an operation's line
+abbrev pub operation_fields : Op → List (List ℕ)
+operation_fields (ops.Read n t x w) = codes "read" ∷ decimal n ∷ decimal t ∷ decimal x ∷ decimal w.at ∷ decimal w.len ∷ []
+operation_fields (ops.Hold n t x) = codes "hold" ∷ decimal n ∷ decimal t ∷ decimal x ∷ []
+operation_fields (ops.Drop n x) = codes "drop" ∷ decimal n ∷ decimal x ∷ []
+
+-- the fields of a line: its word, and then decimal numbers with no leading zero, and a digest as lower-case hex
+abbrev pub spelling : Line → List (List ℕ)
+spelling (Sizes z) =
+    codes "arc" ∷ decimal z.callers ∷ decimal z.shards ∷ decimal z.buckets ∷ decimal z.cells ∷ decimal z.c ∷ decimal z.mintime ∷ decimal z.dbuf_bytes ∷ []
+spelling (Declared p) =
+    codes "block" ∷ decimal p.key.offset ∷ decimal p.key.size ∷ decimal p.key.birth ∷ encode_lower p.digest.0 ∷ []
+spelling (Operation op) = operation_fields op
+
+-- ---- the ranges
+
+-- a number of a trace that has no narrower range
+abbrev pub IsPlain : ℕ → Type 0
+IsPlain n = n ≤ 2 ^ 62
+
+abbrev pub IsBetween : ℕ → ℕ → ℕ → Type 0
+IsBetween low high n = (low ≤ n) × (n ≤ high)
+
+-- 32 bytes
+pub record IsDigest (digest : Digest) : Type 0 where
+  pub sized : length digest.0 ≡ 32
+  pub bytes : IsBytes digest.0
+
+-- the ranges of a cache's sizes
+pub record IsConfig (sizes : Config) : Type 0 where
+  pub callers : IsBetween 1 1 sizes.callers
+  pub shards : IsBetween 1 1 sizes.shards
+  pub buckets : IsBetween 1 256 sizes.buckets
+  pub cells : IsBetween 1 16 sizes.cells
+  pub c : IsBetween 4096 (2 ^ 32) sizes.c
+  pub all_shards : sizes.shards * sizes.c ≤ 2 ^ 32
+  pub mintime : sizes.mintime ≤ 2 ^ 32
+  pub dbuf_bytes : sizes.dbuf_bytes ≤ 2 ^ 32
+  pub write_max : sizes.bounds.write_max ≡ 8388608
+  pub headroom : sizes.bounds.headroom ≡ 2
+
+-- the ranges of a block pointer's numbers; whether its key names a block is told when it is read
+pub record IsDeclarable (ptr : Ptr) : Type 0 where
+  pub offset : IsPlain ptr.key.offset
+  pub size : ptr.key.size ≤ 2 ^ 32
+  pub birth : IsPlain ptr.key.birth
+  pub digest : IsDigest ptr.digest
+
+-- the ranges of an operation's numbers, where there are so many callers
+abbrev pub IsOperation : ℕ → Op → Type 0
+IsOperation callers (ops.Read n t x w) = (n < callers) × IsPlain t × IsPlain x × (w.at < 2 ^ 32)
+IsOperation callers (ops.Hold n t x) = (n < callers) × IsPlain t × IsPlain x
+IsOperation callers (ops.Drop n x) = (n < callers) × IsPlain x
+
+-- the numbers of a line are in their ranges, where there are so many callers
+abbrev pub IsInRange : ℕ → Line → Type 0
+IsInRange callers (Sizes z) = IsConfig z
+IsInRange callers (Declared p) = IsDeclarable p
+IsInRange callers (Operation op) = IsOperation callers op
+
+-- ---- what the lines say together
+
+-- what the lines so far say
+pub record Content : Type 0 where
+  pub config : Option Config
+  pub blocks : List Ptr
+  pub ops : List Op
+
+-- what no line says
+abbrev pub nothing : Content
+nothing = record { config = None; blocks = []; ops = [] }
+
+-- what is said once this line is read too
+abbrev pub with_line : Content → Line → Content
+with_line before (Sizes z) = record before { config = Some z }
+with_line before (Declared p) = record before { blocks = before.blocks ++ p ∷ [] }
+with_line before (Operation op) = record before { ops = before.ops ++ op ∷ [] }
+
+-- how many callers there are, once the `arc` line is read
+abbrev pub callers_of : Option Config → ℕ
+callers_of None = 0
+callers_of (Some z) = z.callers
+
+-- the number of the block that an operation names
+abbrev pub block_of : Op → ℕ
+block_of (ops.Read n t x w) = x
+block_of (ops.Hold n t x) = x
+block_of (ops.Drop n x) = x
+
+-- the line may stand after so many blocks and operations: blocks before all operations, and operations on blocks that are declared
+abbrev pub IsInOrder : ℕ → ℕ → Line → Type 0
+IsInOrder blocks ops (Sizes z) = Unit {0}
+IsInOrder blocks ops (Declared p) = ops ≡ 0
+IsInOrder blocks ops (Operation op) = block_of op < blocks
+
+-- after so many blocks and operations a trace may have one more line of this sort
+abbrev pub HasRoom : ℕ → ℕ → Line → Type 0
+HasRoom blocks ops (Sizes z) = Unit {0}
+HasRoom blocks ops (Declared p) = blocks < 100000
+HasRoom blocks ops (Operation op) = ops < 1000000
+
+-- the first line that counts begins with `arc`, and no other does
+abbrev pub MayBegin : Option Config → Word → Type 0
+MayBegin config word = (word ≡ words.Arc) ↔ IsNone config
+
+-- the fields begin with this word, which may stand here
+abbrev pub BeginsWith : Option Config → List (List ℕ) → Word → Type 0
+BeginsWith config [] word = ⊥
+BeginsWith config (first ∷ fields) word = (first ≡ text_of word) × MayBegin config word
+
+-- there are as many fields as the word wants, and none is empty
+abbrev pub HasShape : Word → List (List ℕ) → Type 0
+HasShape word [] = ⊥
+HasShape word (first ∷ fields) = (length fields ≡ field_count word) × AllByRecursion (λ field. 0 < length field) fields
+
+-- the fields spell this line, whose numbers are in their ranges
+pub record Spell (callers : ℕ) (fields : List (List ℕ)) (line : Line) : Type 0 where
+  pub spelled : fields ≡ spelling line
+  pub ranged : IsInRange callers line
+
+-- the fields are this line, and its word may stand here
+pub record Say (config : Option Config) (fields : List (List ℕ)) (line : Line) : Type 0 where
+  pub word : Word
+  pub begins : BeginsWith config fields word
+  pub spelled : Spell (callers_of config) fields line
+
+-- these fields are a line that may stand here
+pub record Add (before : Content) (fields : List (List ℕ)) (after : Content) : Type 0 where
+  pub line : Line
+  pub said : Say before.config fields line
+  pub ordered : IsInOrder (length before.blocks) (length before.ops) line
+  pub room : HasRoom (length before.blocks) (length before.ops) line
+  pub added : after ≡ with_line before line
+
+-- what is said before and after a line
+abbrev pub Adds : Content → List ℕ → Content → Type 0
+Adds before line after = MatchBool (is_passed_over line) (after ≡ before) (Add before (fields_of line) after)
+
+-- what is said before and after these lines
+abbrev pub AddAll : Content → List (List ℕ) → Content → Type 0
+AddAll before [] after = after ≡ before
+AddAll before (line ∷ lines) after = (mid : Content) × Adds before line mid × AddAll mid lines after
+
+-- ---- what is wrong with a line
+
+-- the fields are no line; the kinds are tried in the order in which they stand here
+abbrev pub IsMisspelled : Option Config → List (List ℕ) → Kind → Type 0
+IsMisspelled config fields kinds.First = IsNone config × ((word : Word) → BeginsWith config fields word → ⊥)
+IsMisspelled config fields kinds.Word = IsSome config × ((word : Word) → BeginsWith config fields word → ⊥)
+IsMisspelled config fields kinds.Shape = (word : Word) × BeginsWith config fields word × (HasShape word fields → ⊥)
+IsMisspelled config fields kinds.Number =
+    (word : Word) × BeginsWith config fields word × HasShape word fields × ((line : Line) → Say config fields line → ⊥)
+IsMisspelled config fields kinds.Order = ⊥
+IsMisspelled config fields kinds.Count = ⊥
+IsMisspelled config fields kinds.Length = ⊥
+
+-- the line may not stand after so many blocks and operations
+abbrev pub IsMisplaced : ℕ → ℕ → Line → Kind → Type 0
+IsMisplaced blocks ops line kinds.Order = IsInOrder blocks ops line → ⊥
+IsMisplaced blocks ops line kinds.Count = IsInOrder blocks ops line × (HasRoom blocks ops line → ⊥)
+IsMisplaced blocks ops line kinds.First = ⊥
+IsMisplaced blocks ops line kinds.Word = ⊥
+IsMisplaced blocks ops line kinds.Shape = ⊥
+IsMisplaced blocks ops line kinds.Number = ⊥
+IsMisplaced blocks ops line kinds.Length = ⊥
+
+-- what is wrong with fields that come after what is said before
+abbrev pub HasFault : Content → List (List ℕ) → Kind → Type 0
+HasFault before fields kind =
+    IsMisspelled before.config fields kind
+    ⊎ ((line : Line) × Say before.config fields line × IsMisplaced (length before.blocks) (length before.ops) line kind)
+
+-- the first line at fault, counted from 1, and what is wrong with it
+pub record IsFaulty (lines : List (List ℕ)) (number : ℕ) (kind : Kind) : Type 0 where
+  pub front : List (List ℕ)
+  pub line : List ℕ
+  pub back : List (List ℕ)
+  pub before : Content
+  pub parts : lines ≡ front ++ line ∷ back
+  pub counted : number ≡ length front + 1
+  pub leads : AddAll nothing front before
+  pub counts : is_passed_over line ≡ false
+  pub fault : HasFault before (fields_of line) kind
+
+-- each line is passed over, which is told of the first
+pub record SaysNothing (lines : List (List ℕ)) (number : ℕ) (kind : Kind) : Type 0 where
+  pub said : Content
+  pub leads : AddAll nothing lines said
+  pub unsized : IsNone said.config
+  pub first : number ≡ 1
+  pub missing : kind ≡ kinds.First
+
+-- ---- a trace
+
+-- the most bytes that a text has
+abbrev pub longest_text : ℕ
+longest_text = 67108864
+
+-- the text is too long, which is told of the line that holds the first byte too many
+pub record IsTooLong (text : List ℕ) (number : ℕ) (kind : Kind) : Type 0 where
+  pub long : longest_text < length text
+  pub holds : number ≡ count_by (λ b. b == 10) (take longest_text text) + 1
+  pub too_long : kind ≡ kinds.Length
+
+-- what a trace says
+abbrev pub content_of : Trace → Content
+content_of trace = record { config = Some trace.config; blocks = trace.blocks; ops = trace.ops }
+
+-- the text is this trace: its lines say, one after the other, what the trace says and no more
+pub record IsTraceText (text : List ℕ) (trace : Trace) : Type 0 where
+  pub short : length text ≤ longest_text
+  pub said : AddAll nothing (lines_of text) (content_of trace)
+
+-- an operation of a trace: its numbers are in their ranges, and its block is declared
+abbrev pub IsPossible : Config → List Ptr → Op → Type 0
+IsPossible sizes blocks op = IsOperation sizes.callers op × (block_of op < length blocks)
+
+-- what every trace that is read has
+pub record IsFormed (trace : Trace) : Type 0 where
+  pub config : IsConfig trace.config
+  pub blocks : All IsDeclarable trace.blocks
+  pub few_blocks : length trace.blocks ≤ 100000
+  pub ops : All (IsPossible trace.config trace.blocks) trace.ops
+  pub few_ops : length trace.ops ≤ 1000000
+
+-- the lines that aren't passed over, as fields
+abbrev pub counted_fields : List (List ℕ) → List (List (List ℕ))
+counted_fields lines = map fields_of (filter (λ line. not (is_passed_over line)) lines)
+
+-- the lines of a trace: its sizes, its blocks and its operations
+abbrev pub lines_in : Trace → List Line
+lines_in trace = Sizes trace.config ∷ (map Declared trace.blocks ++ map Operation trace.ops)
+
+-- the first fault of a text
+abbrev pub IsFirstFault : List ℕ → ℕ → Kind → Type 0
+IsFirstFault text number kind =
+    IsTooLong text number kind
+    ⊎ ((length text ≤ longest_text) × (IsFaulty (lines_of text) number kind ⊎ SaysNothing (lines_of text) number kind))
+
+-- why a text is not read; want of memory has no cause
+abbrev pub IsCause : List ℕ → TraceFault → Type 0
+IsCause text (Bad line kind) = IsFirstFault text line kind
+IsCause text NoMemory = Unit {0}

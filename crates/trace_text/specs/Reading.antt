@@ -1,0 +1,107 @@
+-- What the reader's own functions answer, in the words of the grammar.
+use Rattle.std.specs.Prelude.{◌≡◌, ◌≢◌, ℕ, ◌<◌, ◌≤◌, List, ◌∷◌, Option, Some, None, Result, Ok, Err, decimal, false, length, slice_index}
+use Rattle.hex.specs.Hex.{encode_lower}
+use Rattle.blk_ptr.specs.declared.digest.Digest.{Digest}
+use Rattle.trace_text.specs.declared.config.Config.{Config}
+use Rattle.trace_text.specs.declared.fault.Kind.{Kind}
+use Rattle.trace_text.specs.declared.fault.Kind.TheVariants as kinds
+use Rattle.trace_text.specs.declared.fault.TraceFault.{TraceFault}
+use Rattle.trace_text.specs.declared.fault.TraceFault.TheVariants as faults
+use Rattle.trace_text.specs.declared.fault.TraceFault.TheVariants.{Bad}
+use Rattle.trace_text.specs.declared.words.Line.{Line}
+use Rattle.trace_text.specs.declared.words.LineFault.{LineFault}
+use Rattle.trace_text.specs.declared.words.LineFault.TheVariants.{Wrong, NoMemory}
+use Rattle.trace_text.specs.declared.words.Seen.{Seen}
+use Rattle.trace_text.specs.declared.words.Word.{Word}
+use Rattle.trace_text.specs.Grammar.{Content, HasFault, HasRoom, IsDigest, IsFaulty, IsInOrder, IsMisspelled, MayBegin, Say, Spell, callers_of, fields_of, is_passed_over, text_of, with_line}
+
+-- a text that begins with no plus sign, and with no zero before another byte
+abbrev pub BeginsAsNumber : List ℕ → Type 0
+BeginsAsNumber field = (0 < length field) × (slice_index field 0 ≢ 43) × (slice_index field 0 ≡ 48 → length field ≡ 1)
+
+-- the field is a number from low to high, or it is none
+abbrev pub IsNumberRead : ℕ → ℕ → List ℕ → Option ℕ → Type 0
+IsNumberRead low high field (Some n) = (field ≡ decimal n) × (low ≤ n) × (n ≤ high)
+IsNumberRead low high field None = (n : ℕ) → low ≤ n → n ≤ high → field ≡ decimal n → ⊥
+
+-- the field is a digest, or it is none
+abbrev pub IsDigestRead : List ℕ → Option Digest → Type 0
+IsDigestRead field (Some digest) = (field ≡ encode_lower digest.0) × IsDigest digest
+IsDigestRead field None = (digest : Digest) → IsDigest digest → field ≡ encode_lower digest.0 → ⊥
+
+-- the field is the lower-case hex of these bytes, which are a digest, or it is not
+abbrev pub IsSpelledBy : List ℕ → List ℕ → Option Digest → Type 0
+IsSpelledBy bytes field (Some digest) = (digest.0 ≡ bytes) × (field ≡ encode_lower bytes) × IsDigest digest
+IsSpelledBy bytes field None = field ≢ encode_lower bytes
+
+-- the field is a word, or it is none
+abbrev pub IsWordRead : List ℕ → Option Word → Type 0
+IsWordRead field (Some word) = field ≡ text_of word
+IsWordRead field None = (word : Word) → field ≡ text_of word → ⊥
+
+-- the first field is a number from low to high and the others are left, or it is none
+abbrev pub TakesNumber : ℕ → ℕ → List (List ℕ) → List (List ℕ) → Result ℕ Kind → Type 0
+TakesNumber low high old new (Ok n) = (old ≡ decimal n ∷ new) × (low ≤ n) × (n ≤ high)
+TakesNumber low high old new (Err kind) =
+    (kind ≡ kinds.Number) × ((n : ℕ) (rest : List (List ℕ)) → low ≤ n → n ≤ high → old ≡ decimal n ∷ rest → ⊥)
+
+-- the first field is a number below this limit and the others are left, or it is none
+abbrev pub TakesBelow : ℕ → List (List ℕ) → List (List ℕ) → Result ℕ Kind → Type 0
+TakesBelow limit old new (Ok n) = (old ≡ decimal n ∷ new) × (n < limit)
+TakesBelow limit old new (Err kind) =
+    (kind ≡ kinds.Number) × ((n : ℕ) (rest : List (List ℕ)) → n < limit → old ≡ decimal n ∷ rest → ⊥)
+
+-- the first field is a digest and the others are left, or it is none
+abbrev pub TakesDigest : List (List ℕ) → List (List ℕ) → Result Digest Kind → Type 0
+TakesDigest old new (Ok digest) = (old ≡ encode_lower digest.0 ∷ new) × IsDigest digest
+TakesDigest old new (Err kind) =
+    (kind ≡ kinds.Number) × ((digest : Digest) (rest : List (List ℕ)) → IsDigest digest → old ≡ encode_lower digest.0 ∷ rest → ⊥)
+
+-- the fields after this word are a line that may stand here, or why they are none
+abbrev pub IsFormRead : Seen → Word → List (List ℕ) → Result Line Kind → Type 0
+IsFormRead seen word fields (Ok line) = Spell seen.callers (text_of word ∷ fields) line × IsInOrder seen.blocks seen.operations line
+IsFormRead seen word fields (Err kinds.Number) = (line : Line) → Spell seen.callers (text_of word ∷ fields) line → ⊥
+IsFormRead seen word fields (Err kinds.Order) =
+    (line : Line) × Spell seen.callers (text_of word ∷ fields) line × (IsInOrder seen.blocks seen.operations line → ⊥)
+IsFormRead seen word fields (Err kinds.First) = ⊥
+IsFormRead seen word fields (Err kinds.Word) = ⊥
+IsFormRead seen word fields (Err kinds.Shape) = ⊥
+IsFormRead seen word fields (Err kinds.Count) = ⊥
+IsFormRead seen word fields (Err kinds.Length) = ⊥
+
+-- the first field is a word that may stand here, or why it is none
+abbrev pub IsBegun : Option Config → List ℕ → Result Word Kind → Type 0
+IsBegun config first (Ok word) = (first ≡ text_of word) × MayBegin config word
+IsBegun config first (Err kind) = (fields : List (List ℕ)) → IsMisspelled config (first ∷ fields) kind
+
+-- what the lines so far say has so many callers, blocks and operations
+pub record Counts (before : Content) (seen : Seen) : Type 0 where
+  pub callers : seen.callers ≡ callers_of before.config
+  pub blocks : seen.blocks ≡ length before.blocks
+  pub operations : seen.operations ≡ length before.ops
+
+-- the fields are a line that may stand here, or why they are none
+abbrev pub IsLineRead : Content → List (List ℕ) → Result Line Kind → Type 0
+IsLineRead before fields (Ok line) = Say before.config fields line × IsInOrder (length before.blocks) (length before.ops) line
+IsLineRead before fields (Err kind) = HasFault before fields kind
+
+-- why a line that counts is not added
+abbrev pub IsLineCause : Content → List ℕ → LineFault → Type 0
+IsLineCause before line (Wrong kind) = (is_passed_over line ≡ false) × HasFault before (fields_of line) kind
+IsLineCause before line NoMemory = Unit {0}
+
+-- the line is added, or there is no room for it or no memory
+abbrev pub IsPlaced : Content → Line → Content → Result (Unit {0}) LineFault → Type 0
+IsPlaced before line after (Ok done) = HasRoom (length before.blocks) (length before.ops) line × (after ≡ with_line before line)
+IsPlaced before line after (Err (Wrong kind)) = (kind ≡ kinds.Count) × (HasRoom (length before.blocks) (length before.ops) line → ⊥)
+IsPlaced before line after (Err NoMemory) = Unit {0}
+
+-- the same fault, with the number of its line
+abbrev pub IsFaultAt : ℕ → LineFault → TraceFault → Type 0
+IsFaultAt number (Wrong kind) fault = fault ≡ Bad number kind
+IsFaultAt number NoMemory fault = fault ≡ faults.NoMemory
+
+-- why lines are not read
+abbrev pub IsLinesCause : List (List ℕ) → TraceFault → Type 0
+IsLinesCause lines (Bad number kind) = IsFaulty lines number kind
+IsLinesCause lines faults.NoMemory = Unit {0}

@@ -1,0 +1,137 @@
+ghost use Rattle.std.specs.Prelude.{◌≡◌, ◌≤◌, IfErr, MatchOption, None, OnOk, vec_len};
+ghost use Rattle.trace_text.specs.Grammar.{Adds, Content, content_of, fields_of, nothing};
+ghost use Rattle.trace_text.specs.Reading.{Counts, IsBegun, IsLineCause, IsLineRead, IsPlaced};
+
+use crate::blocks::Blocks;
+use crate::config::Config;
+use crate::fault::Kind;
+use crate::fields::word_of;
+use crate::line::{has_shape, line_after};
+use crate::op::Op;
+use crate::ops::Ops;
+use crate::parts::Parts;
+use crate::trace::Trace;
+use crate::words::{Line, LineFault, Seen, Word};
+use blk_ptr::Ptr;
+use std::alloc::Global;
+use std::marker::Model;
+
+/// The most block lines of a trace.
+const MOST_BLOCKS: usize = 100_000;
+
+/// The most operations of a trace.
+const MOST_OPERATIONS: usize = 1_000_000;
+
+/// What the lines so far say.
+#[derive(Drop)]
+pub(crate) struct Draft {
+    config: Option<Config>,
+    blocks: Vec<Ptr>,
+    operations: Vec<Op>,
+}
+
+impl Model for Draft {
+    ghost Value = { Content };
+
+    ghost view = { λ draft. record { config = draft.config; blocks = draft.blocks.items; ops = draft.operations.items } };
+
+    ghost invariant = { λ draft. (vec_len draft.blocks ≤ 100000) × (vec_len draft.operations ≤ 1000000) };
+}
+
+/// The word that a line begins with, where it may stand here: `arc` first, and the others after it.
+fn begun(config: Option<Config>, first: &[u8]) -> Result<Word, Kind>
+    ensures { IsBegun config first.now result }
+{
+    match word_of(first) {
+        Some(word) if (word == Word::Arc) == config.is_none() => Ok(word),
+        _ if config.is_none() => Err(Kind::First),
+        _ => Err(Kind::Word),
+    }
+}
+
+impl Draft {
+    /// What no line says.
+    pub(crate) fn new(alloc: Global) -> Draft
+        ensures { result ≡ nothing }
+    {
+        Draft {
+            config: None,
+            blocks: Vec::new(alloc),
+            operations: Vec::new(alloc),
+        }
+    }
+
+    /// How much the lines so far say.
+    fn seen(&self) -> Seen
+        ensures { Counts self.now result }
+    {
+        Seen {
+            callers: self.config.map_or(0, |sizes| sizes.callers),
+            blocks: self.blocks.len() as u32,
+            operations: self.operations.len() as u32,
+        }
+    }
+
+    /// What a line that counts says.
+    fn line_of(&self, line: &[u8]) -> Result<Line, Kind>
+        ensures { IsLineRead self.now (fields_of line.now) result }
+    {
+        let mut fields = Parts::new(line, b' ');
+        let first = fields.next().unwrap_or(b"");
+        let word = begun(self.config, first)?;
+        if !has_shape(word, line) {
+            return Err(Kind::Shape);
+        }
+        line_after(word, self.seen(), &mut fields)
+    }
+
+    /// Adds what the line says. Of an `Err` no line follows.
+    pub(crate) fn add(&mut self, line: &[u8]) -> Result<(), LineFault>
+        ensures added { OnOk result (Adds self.old line.now self.new) }
+        ensures fault { IfErr result (IsLineCause self.old line.now) }
+    {
+        if line.is_empty() || line[0] == b'#' {
+            return Ok(());
+        }
+        let said = self.line_of(line).map_err(LineFault::Wrong)?;
+        self.push(said)
+    }
+
+    /// Adds a line that may stand here, where there is room.
+    fn push(&mut self, said: Line) -> Result<(), LineFault>
+        ensures { IsPlaced self.old said self.new result }
+    {
+        match said {
+            Line::Sizes(config) => self.config = Some(config),
+            Line::Declared(ptr) => {
+                if self.blocks.len() == MOST_BLOCKS {
+                    return Err(LineFault::Wrong(Kind::Count));
+                }
+                self.blocks.push(ptr)?;
+            }
+            Line::Operation(operation) => {
+                if self.operations.len() == MOST_OPERATIONS {
+                    return Err(LineFault::Wrong(Kind::Count));
+                }
+                self.operations.push(operation)?;
+            }
+        }
+        Ok(())
+    }
+
+    /// The trace that the lines say, or None where they have no sizes.
+    pub(crate) fn into_trace(self) -> Option<Trace>
+        ensures { MatchOption result (self.config ≡ None) (λ trace. self ≡ content_of trace) }
+    {
+        let Draft {
+            config,
+            blocks,
+            operations,
+        } = self;
+        Some(Trace {
+            config: config?,
+            blocks: Blocks::from_vec(blocks),
+            ops: Ops::from_vec(operations),
+        })
+    }
+}

@@ -1,0 +1,101 @@
+ghost use Rattle.std.specs.Prelude.{◌↔◌, IsTrue};
+ghost use Rattle.trace_text.specs.Reading.{BeginsAsNumber, IsDigestRead, IsNumberRead, IsSpelledBy, IsWordRead, TakesBelow, TakesDigest, TakesNumber};
+
+use crate::fault::Kind;
+use crate::parts::Parts;
+use crate::words::Word;
+use blk_ptr::Digest;
+use hex::FromHex;
+
+/// The word that a field spells.
+pub(crate) fn word_of(field: &[u8]) -> Option<Word>
+    ensures { IsWordRead field.now result }
+{
+    match field {
+        b"arc" => Some(Word::Arc),
+        b"block" => Some(Word::Block),
+        b"read" => Some(Word::Read),
+        b"hold" => Some(Word::Hold),
+        b"drop" => Some(Word::Drop),
+        _ => None,
+    }
+}
+
+/// Whether the field begins as a number may: with no plus sign, and with no zero before another digit.
+fn begins_as_number(field: &[u8]) -> bool
+    ensures { IsTrue result ↔ BeginsAsNumber field.now }
+{
+    match field.len() {
+        0 => false,
+        1 => field[0] != b'+',
+        _ => field[0] != b'+' && field[0] != b'0',
+    }
+}
+
+/// The number that a field spells in decimal, with no sign and no leading zero, where it is from `low` to `high`.
+fn number(field: &[u8], low: u64, high: u64) -> Option<u64>
+    ensures { IsNumberRead low high field.now result }
+{
+    if !begins_as_number(field) {
+        return None;
+    }
+    let Ok(text) = str::from_utf8(field) else {
+        return None;
+    };
+    match text.parse::<u64>() {
+        Ok(value) if low <= value && value <= high => Some(value),
+        _ => None,
+    }
+}
+
+/// The digest of these bytes, where its lower-case hex digits are the field.
+fn digest_spelled(bytes: [u8; 32], field: &[u8]) -> Option<Digest>
+    ensures { IsSpelledBy bytes field.now result }
+{
+    let mut spelling = [0u8; 64];
+    let written = hex::encode_to_slice(bytes.as_slice(), &mut spelling);
+    if written.is_ok() && spelling.as_slice() == field {
+        Some(Digest(bytes))
+    } else {
+        None
+    }
+}
+
+/// The digest that a field spells by 64 lower-case hex digits.
+fn digest(field: &[u8]) -> Option<Digest>
+    ensures { IsDigestRead field.now result }
+{
+    // `from_hex` takes upper case too, and only the lower-case digits are the digest's own spelling.
+    match <[u8; 32] as FromHex>::from_hex(field) {
+        Ok(bytes) => digest_spelled(bytes, field),
+        Err(_) => None,
+    }
+}
+
+/// Takes the next field, where it is a number from `low` to `high`.
+pub(crate) fn next_number(fields: &mut Parts<'_>, low: u64, high: u64) -> Result<u64, Kind>
+    ensures { TakesNumber low high fields.old fields.new result }
+{
+    let field = fields.next().ok_or(Kind::Number)?;
+    number(field, low, high).ok_or(Kind::Number)
+}
+
+/// Takes the next field, where it is a digest.
+pub(crate) fn next_digest(fields: &mut Parts<'_>) -> Result<Digest, Kind>
+    ensures { TakesDigest fields.old fields.new result }
+{
+    let field = fields.next().ok_or(Kind::Number)?;
+    digest(field).ok_or(Kind::Number)
+}
+
+/// Takes the next field, where it is a number below `limit`.
+pub(crate) fn next_below(fields: &mut Parts<'_>, limit: u32) -> Result<u32, Kind>
+    ensures { TakesBelow limit fields.old fields.new result }
+{
+    let value = next_number(fields, 0, u64::from(u32::MAX))?;
+    if value < u64::from(limit) {
+        Ok(value as u32)
+    } else {
+        Err(Kind::Number)
+    }
+}

@@ -1,0 +1,123 @@
+ghost use Rattle.std.specs.Prelude.{◌≡◌, ◌<◌, ◌≤◌, MatchResult, length};
+ghost use Rattle.trace_text.specs.Grammar.{field_count};
+ghost use Rattle.trace_text.specs.Reading.{IsFormRead};
+ghost use Rattle.trace_text.specs.declared.words.Word.TheVariants as words;
+
+use crate::config::{Bounds, Config};
+use crate::fault::Kind;
+use crate::fields::{next_below, next_digest, next_number};
+use crate::op::Op;
+use crate::parts::Parts;
+use crate::window::Window;
+use crate::words::{Line, Seen};
+use blk_ptr::{Key, Ptr};
+
+/// The largest number of a trace that has no narrower range.
+const LARGEST_PLAIN: u64 = 1 << 62;
+
+/// The largest number of bytes of a cache or a block, and of ticks of MINTIME.
+const LARGEST_SIZE: u64 = 1 << 32;
+
+/// The bounds of a feed where no line gives them (OpenZFS `L2ARC_WRITE_SIZE` and `L2ARC_HEADROOM`).
+const DEFAULT_BOUNDS: Bounds = Bounds {
+    write_max: 8_388_608,
+    headroom: 2,
+};
+
+/// The sizes of the cache: callers, shards, buckets, cells, `c`, MINTIME and the bytes of dbufs.
+pub(crate) fn sizes(seen: Seen, fields: &mut Parts<'_>) -> Result<Line, Kind>
+    requires { length fields.old ≡ field_count words.Arc }
+    ensures { IsFormRead seen words.Arc fields.old result }
+{
+    let callers = next_number(fields, 1, 1)? as u32;
+    let shards = next_number(fields, 1, 1)?;
+    let buckets = next_number(fields, 1, 256)? as u32;
+    let cells = next_number(fields, 1, 16)? as u32;
+    let c = next_number(fields, 4096, LARGEST_SIZE)?;
+    let mintime = next_number(fields, 0, LARGEST_SIZE)?;
+    let dbuf_bytes = next_number(fields, 0, LARGEST_SIZE)?;
+    if shards * c > LARGEST_SIZE {
+        return Err(Kind::Number);
+    }
+    Ok(Line::Sizes(Config {
+        callers,
+        shards: shards as u32,
+        buckets,
+        cells,
+        c,
+        mintime,
+        dbuf_bytes,
+        bounds: DEFAULT_BOUNDS,
+    }))
+}
+
+/// A block pointer: offset, size, birth and digest.
+pub(crate) fn declared(seen: Seen, fields: &mut Parts<'_>) -> Result<Line, Kind>
+    requires { length fields.old ≡ field_count words.Block }
+    ensures { IsFormRead seen words.Block fields.old result }
+{
+    let offset = next_number(fields, 0, LARGEST_PLAIN)?;
+    let size = next_number(fields, 0, LARGEST_SIZE)?;
+    let birth = next_number(fields, 0, LARGEST_PLAIN)?;
+    let digest = next_digest(fields)?;
+    if seen.operations != 0 {
+        return Err(Kind::Order);
+    }
+    let key = Key {
+        offset,
+        size,
+        birth,
+    };
+    Ok(Line::Declared(Ptr { key, digest }))
+}
+
+/// A read: caller, tick, block, and the window's start and length.
+pub(crate) fn read(seen: Seen, fields: &mut Parts<'_>) -> Result<Line, Kind>
+    requires { length fields.old ≡ field_count words.Read }
+    ensures { IsFormRead seen words.Read fields.old result }
+{
+    let n = next_below(fields, seen.callers)?;
+    let t = next_number(fields, 0, LARGEST_PLAIN)?;
+    let named = next_number(fields, 0, LARGEST_PLAIN)?;
+    let at = next_number(fields, 0, u64::from(u32::MAX))? as u32;
+    let len = next_number(fields, 0, 64)? as u32;
+    let x = declared_block(seen, named)?;
+    let w = Window { at, len };
+    Ok(Line::Operation(Op::Read { n, t, x, w }))
+}
+
+/// A read that keeps the block: caller, tick and block.
+pub(crate) fn held(seen: Seen, fields: &mut Parts<'_>) -> Result<Line, Kind>
+    requires { length fields.old ≡ field_count words.Hold }
+    ensures { IsFormRead seen words.Hold fields.old result }
+{
+    let n = next_below(fields, seen.callers)?;
+    let t = next_number(fields, 0, LARGEST_PLAIN)?;
+    let named = next_number(fields, 0, LARGEST_PLAIN)?;
+    let x = declared_block(seen, named)?;
+    Ok(Line::Operation(Op::Hold { n, t, x }))
+}
+
+/// The end of such a read: caller and block.
+pub(crate) fn dropped(seen: Seen, fields: &mut Parts<'_>) -> Result<Line, Kind>
+    requires { length fields.old ≡ field_count words.Drop }
+    ensures { IsFormRead seen words.Drop fields.old result }
+{
+    let n = next_below(fields, seen.callers)?;
+    let named = next_number(fields, 0, LARGEST_PLAIN)?;
+    let x = declared_block(seen, named)?;
+    Ok(Line::Operation(Op::Drop { n, x }))
+}
+
+/// The number of a block that an earlier line declares.
+fn declared_block(seen: Seen, named: u64) -> Result<u32, Kind>
+    ensures { MatchResult result
+        (λ x. (x ≡ named) × (named < seen.blocks))
+        (λ kind. (kind ≡ Kind.Order) × (seen.blocks ≤ named)) }
+{
+    if named < u64::from(seen.blocks) {
+        Ok(named as u32)
+    } else {
+        Err(Kind::Order)
+    }
+}

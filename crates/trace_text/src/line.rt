@@ -1,0 +1,53 @@
+ghost use Rattle.std.specs.Prelude.{◌≡◌, ◌↔◌, IsTrue, length};
+ghost use Rattle.trace_text.specs.Grammar.{HasShape, fields_of, field_count};
+ghost use Rattle.trace_text.specs.Reading.{IsFormRead};
+
+use crate::fault::Kind;
+use crate::forms::{declared, dropped, held, read, sizes};
+use crate::parts::Parts;
+use crate::words::{Line, Seen, Word};
+
+/// How many fields come after a word.
+fn fields_after(word: Word) -> usize
+    ensures { result ≡ field_count word }
+{
+    match word {
+        Word::Arc => 7,
+        Word::Block => 4,
+        Word::Read => 5,
+        Word::Hold => 3,
+        Word::Drop => 2,
+    }
+}
+
+/// Whether the line has as many fields as the word wants, and none of them is empty.
+pub(crate) fn has_shape(word: Word, line: &[u8]) -> bool
+    ensures { IsTrue result ↔ HasShape word (fields_of line.now) }
+{
+    let mut fields = Parts::new(line, b' ');
+    let Some(_first) = fields.next() else {
+        return false;
+    };
+    let mut wanted = fields_after(word);
+    while let Some(field) = fields.next() {
+        if field.is_empty() || wanted == 0 {
+            return false;
+        }
+        wanted -= 1;
+    }
+    wanted == 0
+}
+
+/// What the fields after a word say.
+pub(crate) fn line_after(word: Word, seen: Seen, fields: &mut Parts<'_>) -> Result<Line, Kind>
+    requires { length fields.old ≡ field_count word }
+    ensures { IsFormRead seen word fields.old result }
+{
+    match word {
+        Word::Arc => sizes(seen, fields),
+        Word::Block => declared(seen, fields),
+        Word::Read => read(seen, fields),
+        Word::Hold => held(seen, fields),
+        Word::Drop => dropped(seen, fields),
+    }
+}

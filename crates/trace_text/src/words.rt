@@ -1,0 +1,57 @@
+ghost use Rattle.std.specs.Prelude.{◌≡◌};
+ghost use Rattle.trace_text.specs.declared.words.LineFault.TheVariants.{NoMemory};
+
+use crate::config::Config;
+use crate::fault::Kind;
+use crate::op::Op;
+use blk_ptr::Ptr;
+use std::alloc::AllocFailed;
+
+/// The words that a line may begin with.
+#[derive(Clone, Copy, Debug, PartialEq, Eq)]
+pub(crate) enum Word {
+    Arc,
+    Block,
+    Read,
+    Hold,
+    Drop,
+}
+
+/// What one line says.
+#[derive(Clone, Copy, Debug, PartialEq, Eq)]
+pub(crate) enum Line {
+    /// The sizes of the cache.
+    Sizes(Config),
+    /// A block is declared.
+    Declared(Ptr),
+    /// An operation.
+    Operation(Op),
+}
+
+/// Why a line is not added to what the lines before it say.
+#[derive(Clone, Copy, Debug, PartialEq, Eq)]
+pub(crate) enum LineFault {
+    /// What is wrong with the line.
+    Wrong(Kind),
+    /// Memory was refused.
+    NoMemory,
+}
+
+/// How much the lines so far say.
+#[derive(Clone, Copy, Debug, PartialEq, Eq)]
+pub(crate) struct Seen {
+    /// The number of callers.
+    pub(crate) callers: u32,
+    /// How many blocks are declared.
+    pub(crate) blocks: u32,
+    /// How many operations there are.
+    pub(crate) operations: u32,
+}
+
+impl<T: Drop> From<AllocFailed<T>> for LineFault {
+    ghost from_gives = { λ _ fault. fault ≡ NoMemory };
+
+    fn from(_refused: AllocFailed<T>) -> Self {
+        LineFault::NoMemory
+    }
+}
