@@ -1,3 +1,4 @@
 pub mod AnswerLemmas
+pub mod OutcomeLemmas
 pub mod StreamLemmas
 pub mod WordLemmas

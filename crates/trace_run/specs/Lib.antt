@@ -1,7 +1,9 @@
 pub mod Answers
 pub mod Calls
+pub mod Outcome
 pub mod Read
 pub mod ReadFault
+pub mod Status
 pub mod Stream
 pub mod Tally
 pub mod Words

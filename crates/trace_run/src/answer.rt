@@ -9,15 +9,16 @@ use crate::read::{ReadFault, read_block};
 use blk_ptr::{Block, NoMemory, Ptr};
 use std::alloc::Global;
 use trace_text::{Op, Refusal, Reply, Served, Shown, Window};
-use vdev_io::Pool;
+use vdev_io::{Gate, Pool};
 
 /// Answers the operations of one caller, in their order.
-pub(crate) fn answer_all<P: Pool>(
+pub(crate) fn answer_all<P: Pool, G: Gate>(
     alloc: Global,
     pool: &mut P,
     blocks: &[Ptr],
     caller: u32,
     ops: &[Op],
+    gate: &G,
 ) -> Result<Vec<Reply>, NoMemory>
     requires own { IsOfCaller caller (length blocks.now) ops.now }
     requires few { length ops.now < 2 ^ 32 }
@@ -34,8 +35,10 @@ pub(crate) fn answer_all<P: Pool>(
     let mut replies = Vec::new(alloc);
     let mut counts = vec![in alloc; 0; blocks.len()]?;
     let kept = counts.as_mut_slice();
-    for op in ops {
+    for (number, op) in ops.iter().enumerate() {
+        gate.before(caller, number as u32);
         let reply = answer(alloc, pool, blocks, kept, *op)?;
+        gate.after(caller, number as u32);
         replies.push(reply)?;
     }
     Ok(replies)

@@ -3,5 +3,10 @@
 
 mod answer;
 mod read;
+mod status;
 mod stream;
+mod top;
 mod words;
+
+pub use status::{Outcome, Status};
+pub use top::run;

@@ -1,0 +1,7 @@
+use Rattle.trace_run.specs.Words.{texts}
+use Rattle.trace_run.proofs.OutcomeLemmas.{is_run, words_accepted}
+use Rattle.trace_run.proofs.top.run.Goals as goal
+
+pub returns-in-Ok-Run-clause-words : goal.returns-in-Ok-Run-clause-words
+returns-in-Ok-Run-clause-words g c =
+    words_accepted (texts c.args.words.now) _ c.run_source.ensures.past_words (is_run (texts c.args.words.now) c.in-Ok-Run.field-0 c.in-Ok-Run.ensures)

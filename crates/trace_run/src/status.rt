@@ -1,0 +1,51 @@
+//! How a run ended.
+ghost use Rattle.std.specs.Prelude.{◌≡◌};
+
+use trace_text::{Kind, Report};
+
+/// The status of a run.
+#[derive(Clone, Copy, Debug, PartialEq, Eq)]
+pub enum Status {
+    /// Everything was done, and no reply is a refusal.
+    Ok,
+    /// The trace was run to its end, and some reply is a refusal.
+    ReadsFailed,
+    /// No command goes on with the word of this index, counted from 0.
+    Usage { index: u32 },
+    /// The source holds no trace. `line` is the first line at fault, counted from 1.
+    BadTrace { line: u32, kind: Kind },
+    /// The source failed.
+    SourceFault,
+    /// The sink failed while the report was written.
+    SinkFault,
+    /// Memory was refused.
+    NoMemory,
+}
+
+impl Status {
+    ghost use Rattle.trace_run.specs.Status.{code_of};
+
+    /// The status as a number, which the program ends with.
+    pub fn code(self) -> u8
+        ensures { result ≡ code_of self }
+    {
+        match self {
+            Status::Ok => 0,
+            Status::ReadsFailed => 1,
+            Status::Usage { .. } => 2,
+            Status::BadTrace { .. } => 3,
+            Status::SourceFault => 4,
+            Status::SinkFault => 5,
+            Status::NoMemory => 7,
+        }
+    }
+}
+
+/// What a run answers.
+#[derive(Debug, Drop)]
+pub struct Outcome {
+    /// How it ended.
+    pub status: Status,
+    /// The report, where the trace was run.
+    pub report: Option<Report>,
+}
