@@ -1,0 +1,45 @@
+//! What the program tells on the standard error, behind its name.
+use thiserror::Error;
+use trace_run::Status;
+
+/// Why the program didn't do what it was asked.
+#[derive(Clone, Copy, Debug, Error)]
+pub enum Fault {
+    /// There are fewer than two words, or one of them is no text.
+    #[error("usage: arc_tool POOL CACHE WORD..., where a file name may be -")]
+    Names,
+    /// The pool's file can't be opened, is a directory, or is too long.
+    #[error("the pool's file can't be had")]
+    Pool,
+    /// There is no cache device that could be used.
+    #[error("the cache device's file can't be had")]
+    Cache,
+    /// No command goes on with this word, counted from 0 behind the file names.
+    #[error("word {0}")]
+    Word(u32),
+    /// The run ended with this status.
+    #[error("status {0}")]
+    Ended(u8),
+}
+
+impl Fault {
+    /// What is told of a run that ended with this status, if anything is: a report speaks for itself.
+    pub fn of(status: Status) -> Option<Fault> {
+        match status {
+            Status::Ok | Status::ReadsFailed => None,
+            Status::Usage { index } => Some(Fault::Word(index)),
+            _ => Some(Fault::Ended(status.code())),
+        }
+    }
+
+    /// The program's exit status.
+    pub fn code(self) -> u8 {
+        match self {
+            Fault::Word(_) => 2,
+            Fault::Ended(code) => code,
+            Fault::Names => 9,
+            Fault::Pool => 11,
+            Fault::Cache => 12,
+        }
+    }
+}
