@@ -5,6 +5,8 @@ mod answer;
 mod read;
 mod status;
 mod stream;
+#[cfg(test)]
+mod tests;
 mod top;
 mod words;
 
