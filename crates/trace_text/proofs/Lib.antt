@@ -7,3 +7,4 @@ pub mod LinesLemmas
 pub mod SameLemmas
 pub mod LawLemmas
 pub mod FormedLemmas
+pub mod GeneratorLemmas

@@ -1,3 +1,4 @@
+pub mod Generator
 pub mod Grammar
 pub mod Reading
 pub mod ReportText

@@ -3,7 +3,7 @@ ghost use Rattle.trace_text.specs.Grammar.{field_count};
 ghost use Rattle.trace_text.specs.Reading.{IsFormRead};
 ghost use Rattle.trace_text.specs.declared.words.Word.TheVariants as words;
 
-use crate::config::{Bounds, Config};
+use crate::config::{Config, DEFAULT_BOUNDS};
 use crate::fault::Kind;
 use crate::fields::{next_below, next_digest, next_number};
 use crate::op::Op;
@@ -17,12 +17,6 @@ const LARGEST_PLAIN: u64 = 1 << 62;
 
 /// The largest number of bytes of a cache or a block, and of ticks of MINTIME.
 const LARGEST_SIZE: u64 = 1 << 32;
-
-/// The bounds of a feed where no line gives them (OpenZFS `L2ARC_WRITE_SIZE` and `L2ARC_HEADROOM`).
-const DEFAULT_BOUNDS: Bounds = Bounds {
-    write_max: 8_388_608,
-    headroom: 2,
-};
 
 /// The sizes of the cache: callers, shards, buckets, cells, `c`, MINTIME and the bytes of dbufs.
 pub(crate) fn sizes(seen: Seen, fields: &mut Parts<'_>) -> Result<Line, Kind>

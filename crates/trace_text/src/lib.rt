@@ -12,6 +12,7 @@ mod draft;
 mod fault;
 mod fields;
 mod forms;
+mod generator;
 mod laws;
 mod line;
 mod op;
@@ -30,6 +31,7 @@ mod words;
 pub use blocks::Blocks;
 pub use config::{Bounds, Config};
 pub use fault::{Kind, TraceFault};
+pub use generator::{MOST_GENERATED_BLOCKS, MOST_GENERATED_READS, gen_trace};
 pub use laws::{one_fault, one_trace, written_lines};
 pub use op::Op;
 pub use ops::Ops;
@@ -41,3 +43,6 @@ pub use served::Served;
 pub use shown::{MOST_SHOWN, Shown};
 pub use trace::Trace;
 pub use window::Window;
+
+#[cfg(test)]
+mod tests;

@@ -1,5 +1,7 @@
 -- When a count of faults or of calls has risen. A count that stands at the last value of its type stands still.
-use Rattle.std.specs.Prelude.{◌≡◌, ℕ, ◌+◌, ◌-◌, ◌^◌, ◌<◌, ◌≤◌, min, Result, OnErr}
+use Rattle.std.specs.Prelude.{◌≡◌, ℕ, ◌+◌, ◌-◌, ◌^◌, ◌<◌, ◌≤◌, min, Result, OnErr, IsErrOf}
+use Rattle.vdev_io.specs.declared.fault.IoFault.{IoFault}
+use Rattle.vdev_io.specs.declared.fault.IoFault.TheVariants.{Failed}
 
 -- where a count kept in 64 bits stands still
 abbrev pub last_count : ℕ
@@ -13,6 +15,15 @@ Rose before now = min (before + 1) last_count ≤ now
 pub record HasCause {T E : Type 0} (before now : ℕ) (result : Result T E) : Type 0 where
   pub kept : before ≤ now
   pub rose : OnErr result (Rose before now)
+
+-- the count didn't fall, and the outside's failure was answered only where it rose
+pub record HasIoCause {T : Type 0} (before now : ℕ) (result : Result T IoFault) : Type 0 where
+  pub kept : before ≤ now
+  pub rose : IsErrOf result Failed → Rose before now
+
+-- the sum of two counts, where there is room for it
+abbrev pub sum_of_counts : ℕ → ℕ → ℕ
+sum_of_counts a b = min (a + b) last_count
 
 -- one more was counted, where there was room for it
 pub record CountsOne (before now : ℕ) : Type 0 where

@@ -1,2 +1,7 @@
+pub mod Device
 pub mod Faults
 pub mod Memory
+pub mod MemoryLaws
+pub mod SectorDisk
+pub mod SectorLaws
+pub mod Untold

@@ -1,9 +1,33 @@
-ghost use Rattle.std.specs.Prelude.{◌≡◌, ℕ};
+ghost use Rattle.std.specs.Prelude.{◌≡◌, ℕ, ◌+◌, ◌≤◌, List, Option, None, Some, Bool, false, length, take, drop, IsTrue, IfOk, OnOk, OnErr, IfSome};
+ghost use Rattle.vdev_io.specs.Device.{IsWritten, LeavesOnly, LeavesNoMore, LeavesSame, FollowsBySector, Elapses, ElapsesTo, Stands};
+ghost use Rattle.vdev_io.specs.Untold.{untold};
+ghost use Rattle.vdev_io.specs.Faults.{HasCause, HasIoCause, sum_of_counts};
+
+use crate::fault::{Failed, IoFault};
+use std::alloc::Global;
 
 /// The disk of the second level. Nothing that is read from it is trusted.
+///
+/// What it holds is its image. Until a flush, a crash may leave another one. A disk of sectors says more of that: each
+/// sector that a write touches is old or new until a flush, each by itself, and everything else is what a read gives.
 pub trait CacheDev: Sized + Send + Drop {
     /// Its length in bytes, which no call changes.
     ghost size: { Self → ℕ };
+
+    /// The image that a read gives, where it is told.
+    ghost told: { Self → Option (List ℕ) };
+
+    /// The images that a crash now may leave.
+    ghost may_leave: { Self → List ℕ → Type 0 };
+
+    /// The moment, by a clock that never falls.
+    ghost moment: { Self → ℕ };
+
+    /// The images that a crash at that moment or a later one may have left.
+    ghost left_since: { Self → ℕ → List ℕ → Type 0 };
+
+    /// Whether it is a disk of sectors, which no call changes.
+    ghost has_sectors: { Self → Bool };
 
     /// How many calls failed. It never falls.
     ghost faults: { Self → ℕ };
@@ -11,6 +35,77 @@ pub trait CacheDev: Sized + Send + Drop {
     /// The length in bytes.
     fn len(&self) -> u64
         ensures { result ≡ size self.now };
+
+    /// Fills `buf` with the bytes from `offset` on.
+    fn read(&mut self, offset: u64, buf: &mut [u8]) -> Result<(), Failed>
+        requires inside { offset + length buf.old ≤ size self.old }
+        ensures bytes { OnOk result (IfSome (told self.old) (λ image. buf.new ≡ take (length buf.old) (drop offset image))) }
+        ensures size { size self.new ≡ size self.old }
+        ensures kind { has_sectors self.new ≡ has_sectors self.old }
+        ensures told { told self.new ≡ told self.old }
+        ensures crash { LeavesSame (may_leave self.old) (may_leave self.new) }
+        ensures time { Stands (moment self.old) (moment self.new) (left_since self.old) (left_since self.new) }
+        ensures cause { HasCause (faults self.old) (faults self.new) result };
+
+    /// Writes `bytes` from `offset` on. After [`Failed`] that range may hold any bytes.
+    fn write(&mut self, offset: u64, bytes: &[u8]) -> Result<(), Failed>
+        requires inside { offset + length bytes.now ≤ size self.old }
+        ensures told { IsWritten offset bytes.now (told self.old) (told self.new) result }
+        ensures size { size self.new ≡ size self.old }
+        ensures kind { has_sectors self.new ≡ has_sectors self.old }
+        ensures crash { IsTrue (has_sectors self.old) → FollowsBySector offset bytes.now (may_leave self.old) (may_leave self.new) }
+        ensures time { Elapses (moment self.old) (moment self.new) (left_since self.old) (left_since self.new) }
+        ensures since { IsTrue (has_sectors self.old) → ElapsesTo (moment self.old) (left_since self.old) (left_since self.new) (may_leave self.new) }
+        ensures cause { HasCause (faults self.old) (faults self.new) result };
+
+    /// Makes what was written last: after it a crash leaves what a read gives.
+    fn flush(&mut self) -> Result<(), Failed>
+        ensures durable { OnOk result (IfSome (told self.old) (λ image. LeavesOnly image (may_leave self.new))) }
+        ensures failed { OnErr result (LeavesSame (may_leave self.old) (may_leave self.new)) }
+        ensures size { size self.new ≡ size self.old }
+        ensures kind { has_sectors self.new ≡ has_sectors self.old }
+        ensures told { told self.new ≡ told self.old }
+        ensures crash { LeavesNoMore (may_leave self.old) (may_leave self.new) }
+        ensures time { Elapses (moment self.old) (moment self.new) (left_since self.old) (left_since self.new) }
+        ensures since { IsTrue (has_sectors self.old) → ElapsesTo (moment self.old) (left_since self.old) (left_since self.new) (may_leave self.new) }
+        ensures cause { HasCause (faults self.old) (faults self.new) result };
+
+    /// Another handle on the device for a reader of its own: of the same length, and without a fault. It tells nothing.
+    fn fork(&mut self, alloc: Global) -> Result<Self, IoFault>
+        ensures fork { IfOk result (λ fork. (size fork ≡ size self.old) × (told fork ≡ None) × (faults fork ≡ 0)) }
+        ensures size { size self.new ≡ size self.old }
+        ensures kind { has_sectors self.new ≡ has_sectors self.old }
+        ensures told { told self.new ≡ told self.old }
+        ensures crash { LeavesSame (may_leave self.old) (may_leave self.new) }
+        ensures time { Stands (moment self.old) (moment self.new) (left_since self.old) (left_since self.new) }
+        ensures cause { HasIoCause (faults self.old) (faults self.new) result };
+
+    /// Takes a fork back, and adds its count of faults. It takes no memory.
+    fn absorb(&mut self, other: Self)
+        ensures faults { faults self.new ≡ sum_of_counts (faults self.old) (faults other) }
+        ensures size { size self.new ≡ size self.old }
+        ensures kind { has_sectors self.new ≡ has_sectors self.old }
+        ensures told { told self.new ≡ told self.old }
+        ensures crash { LeavesSame (may_leave self.old) (may_leave self.new) }
+        ensures time { Stands (moment self.old) (moment self.new) (left_since self.old) (left_since self.new) };
+
+    /// An image that is told has the device's length.
+    ghost told_len: { (dev : Self) (image : List ℕ) → told dev ≡ Some image → length image ≡ size dev };
+
+    /// What a read gives is one of the images that a crash now may leave.
+    ghost leaves_told: { (dev : Self) (image : List ℕ) → told dev ≡ Some image → may_leave dev image };
+
+    /// A crash leaves an image of the device's length.
+    ghost leaves_len: { (dev : Self) (c : List ℕ) → may_leave dev c → length c ≡ size dev };
+
+    /// This moment is one of those since an earlier one.
+    ghost counts_now: { (dev : Self) (t : ℕ) (c : List ℕ) → t ≤ moment dev → may_leave dev c → left_since dev t c };
+
+    /// Of a disk of sectors there is no other moment since this one.
+    ghost only_now: { (dev : Self) (c : List ℕ) → IsTrue (has_sectors dev) → left_since dev (moment dev) c → may_leave dev c };
+
+    /// What a crash since a moment may have left, one since an earlier moment may have left.
+    ghost since_earlier: { (dev : Self) (s t : ℕ) (c : List ℕ) → s ≤ t → left_since dev t c → left_since dev s c };
 }
 
 /// No device at all: one of length 0, which never fails.
@@ -20,9 +115,49 @@ pub struct NoCache;
 impl CacheDev for NoCache {
     ghost size = { λ _. 0 };
 
+    ghost told = { λ _. None };
+
+    ghost may_leave = { λ _ c. length c ≡ 0 };
+
+    ghost moment = { λ _. 0 };
+
+    ghost left_since = { λ _ _ c. length c ≡ 0 };
+
+    ghost has_sectors = { λ _. false };
+
     ghost faults = { λ _. 0 };
 
     fn len(&self) -> u64 {
         0
     }
+
+    fn read(&mut self, _offset: u64, _buf: &mut [u8]) -> Result<(), Failed> {
+        Ok(())
+    }
+
+    fn write(&mut self, _offset: u64, _bytes: &[u8]) -> Result<(), Failed> {
+        Ok(())
+    }
+
+    fn flush(&mut self) -> Result<(), Failed> {
+        Ok(())
+    }
+
+    fn fork(&mut self, _alloc: Global) -> Result<NoCache, IoFault> {
+        Ok(NoCache)
+    }
+
+    fn absorb(&mut self, _other: NoCache) {}
+
+    ghost told_len = { λ dev image e. untold image e };
+
+    ghost leaves_told = { λ dev image e. untold image e };
+
+    ghost leaves_len = { λ dev c e. e };
+
+    ghost counts_now = { λ dev t c le e. e };
+
+    ghost only_now = { λ dev c yes e. e };
+
+    ghost since_earlier = { λ dev s t c le e. e };
 }

@@ -3,6 +3,7 @@ ghost use Rattle.std.specs.Prelude.{◌≡◌, ◌≤◌, ℕ, List, None, IfOk}
 
 use crate::fault::Failed;
 use crate::pool::Pool;
+use std::alloc::AllocError;
 use std::fs;
 use std::io::{ErrorKind, Read, Seek, SeekFrom};
 use std::rt::Files;
@@ -25,6 +26,12 @@ impl From<std::io::Error> for OpenFault {
             ErrorKind::OutOfMemory => OpenFault::NoMemory,
             _ => OpenFault::File,
         }
+    }
+}
+
+impl From<AllocError> for OpenFault {
+    fn from(_refused: AllocError) -> Self {
+        OpenFault::NoMemory
     }
 }
 

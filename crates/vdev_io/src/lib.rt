@@ -8,6 +8,7 @@
 mod device;
 mod fault;
 mod file;
+mod file_cache;
 mod gate;
 mod memory;
 mod pool;
@@ -16,11 +17,15 @@ mod source;
 mod stream;
 
 pub use device::{CacheDev, NoCache};
-pub use fault::Failed;
+pub use fault::{Failed, IoFault};
 pub use file::{FilePool, LONGEST_POOL, OpenFault};
+pub use file_cache::{FileCache, LONGEST_CACHE};
 pub use gate::{FreeGate, Gate};
-pub use memory::{MemPool, MemSink, MemSource};
+pub use memory::{MemCache, MemPool, MemSink, MemSource};
 pub use pool::Pool;
 pub use sink::Sink;
 pub use source::Source;
 pub use stream::{StdSink, StdSource};
+
+#[cfg(test)]
+mod tests;

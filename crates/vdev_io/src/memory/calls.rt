@@ -1,5 +1,5 @@
 ghost use Rattle.std.specs.Prelude.{◌≡◌, ◌+◌, ◌≤◌, is_err};
-ghost use Rattle.vdev_io.specs.Faults.{Rose, HasCause, CountsOne};
+ghost use Rattle.vdev_io.specs.Faults.{Rose, HasCause, CountsOne, sum_of_counts};
 ghost use Rattle.vdev_io.specs.Memory.{CallLog, is_to_fail};
 
 use crate::fault::Failed;
@@ -41,6 +41,20 @@ impl Calls {
         let fails = self.fail.contains(&self.made);
         self.made = self.made.saturating_add(1);
         if fails { Err(self.fault()) } else { Ok(()) }
+    }
+
+    /// How many calls failed.
+    pub(crate) fn faults(&self) -> u64
+        ensures { result ≡ self.now.faults }
+    {
+        self.faults
+    }
+
+    /// Adds a count of faults.
+    pub(crate) fn absorb(&mut self, faults: u64)
+        ensures { self.new ≡ record self.old { faults = sum_of_counts self.old.faults faults } }
+    {
+        self.faults = self.faults.saturating_add(faults);
     }
 
     /// Counts a fault.

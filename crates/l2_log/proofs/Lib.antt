@@ -1,0 +1,5 @@
+pub mod Numbers
+pub mod Pointers
+pub mod Headers
+pub mod EntryRules
+pub mod Logs

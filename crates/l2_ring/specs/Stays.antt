@@ -1,0 +1,25 @@
+-- Which live entries a plan keeps.
+use Rattle.std.specs.Prelude.{◌==◌, ◌&&◌, ◌||◌, ℕ, ◌+◌, Bool, not, nat_le}
+use Rattle.l2_log.specs.Rules.{ring_start}
+use Rattle.l2_ring.specs.declared.live.Written.{Written}
+use Rattle.l2_ring.specs.declared.live.Live.{Live}
+use Rattle.l2_ring.specs.declared.plan.Plan.{Plan}
+
+-- the range lies wholly between the two places
+abbrev pub lies_within : ℕ → ℕ → ℕ → ℕ → Bool
+lies_within from to place size = nat_le from place && nat_le (place + size) to
+
+-- the entry's range lies in the part of the plan that its own lap asks for: the lower part for the plan's lap, and the
+-- upper part for the lap before
+abbrev pub stays : Plan → Written → Bool
+stays plan written =
+    (lies_within ring_start plan.hand written.live.place written.live.key.size && (written.lap == plan.lap))
+    || (lies_within plan.evict plan.top written.live.place written.live.key.size && (written.lap + 1 == plan.lap))
+
+-- it does not
+abbrev pub falls : Plan → Written → Bool
+falls plan written = not (stays plan written)
+
+-- the entry without its lap
+abbrev pub live_of : Written → Live
+live_of written = written.live

@@ -1,0 +1,20 @@
+//! The ring of the second level's device: where the next bytes go, which ranges are live, and what a plan drops.
+//!
+//! The ring is the range from [`RING_START`](l2_log::RING_START) to its end. It is written from the hand on. What was
+//! written in this lap lies below the hand, in the lower part. What is left of the lap before lies between the evict
+//! mark and the top, in the upper part. Everything else is dead.
+#![tactic(auto)]
+
+mod live;
+mod part;
+mod plan;
+mod ring;
+mod sift;
+
+pub use live::{Live, Written};
+pub use part::Part;
+pub use plan::Plan;
+pub use ring::Ring;
+
+#[cfg(test)]
+mod tests;
