@@ -1,0 +1,5 @@
+pub mod Twins
+pub mod TwinLaws
+pub mod Histories
+pub mod HistoryLaws
+pub mod Made

@@ -1,0 +1,134 @@
+-- The steps of the two copies keep their rule.
+use Rattle.std.proofs.Common.{◌≡◌, ◌≢◌, ◌⊎◌, ◌==◌, if◌then◌else◌, ℕ, zero, suc, ◌+◌, ◌<◌, List, [], ◌∷◌, length, set, eqb, Bool, true, false, Option, Some, None, refl, sym, ap, ◌∙◌, subst, inl, inr, ⊎_elim, eq-eqb, ne_eqb, arith, length-set}
+use mathlib.Core.Option.{some, some-injective}
+use mathlib.Core.Logic.{dite}
+use native.Mathlib.Decide.{ℕ_discrete}
+use lib.ListN.{get_elem?}
+use Rattle.atomic_table.proofs.Lists.{at_set, set_here, set_else}
+use Rattle.turn_table.specs.Board.{Turn, free, taken, Board, KeepsWon, KeepsLost, KeepsLearned, MayGive, Loses}
+use Rattle.turn_examples.specs.declared.twins.Copies.{Copies}
+use Rattle.turn_examples.specs.Twins.{copy_of, renewed, copies, NowIs, Agrees}
+
+within : {A : Type 0} (l : List A) (i : ℕ) (a : A) → get_elem? l i ≡ some a → i < length l
+within [] i a e = absurd (mathlib.Core.Option.some-ne-none a (sym e))
+within (x ∷ xs) zero a e = omega arith
+within (x ∷ xs) (suc i) a e = let h = within xs i a e in omega arith
+
+-- a list of copies at the turn i
+copy_here : (i x : ℕ) (l : List (ℕ × ℕ)) → copy_of i ((i, x) ∷ l) ≡ Some x
+copy_here i x l = subst (λ b. (if b then Some x else copy_of i l) ≡ Some x) (sym (eq-eqb i i refl)) refl
+
+copy_else : (i j x : ℕ) (l : List (ℕ × ℕ)) → j ≢ i → copy_of i ((j, x) ∷ l) ≡ copy_of i l
+copy_else i j x l n = subst (λ b. (if b then Some x else copy_of i l) ≡ copy_of i l) (sym (ne_eqb j i n)) refl
+
+-- all copies but that of i become x
+renewed_at : (i j x y : ℕ) (l : List (ℕ × ℕ)) → j ≢ i → copy_of j l ≡ Some y → copy_of j (renewed i x l) ≡ Some x
+renewed_at i j x y [] n e = let f : None ≡ Some y = e in absurd (cc)
+renewed_at i j x y (c ∷ l) n e = dite (ℕ_discrete c.0 i)
+    (λ q. let far : c.0 ≢ j = λ f. n (sym f ∙ q) in
+        subst (λ b. copy_of j (if b then renewed i x l else (c.0, x) ∷ renewed i x l) ≡ Some x) (sym (eq-eqb c.0 i q)) (renewed_at i j x y l n (sym (copy_else j c.0 c.1 l far) ∙ e)))
+    (λ q. subst (λ b. copy_of j (if b then renewed i x l else (c.0, x) ∷ renewed i x l) ≡ Some x) (sym (ne_eqb c.0 i q))
+        (dite (ℕ_discrete c.0 j)
+            (λ f. subst (λ b. (if b then Some x else copy_of j (renewed i x l)) ≡ Some x) (sym (eq-eqb c.0 j f)) refl)
+            (λ f. copy_else j c.0 x (renewed i x l) f ∙ renewed_at i j x y l n (sym (copy_else j c.0 c.1 l f) ∙ e))))
+
+renewed_from : (i j x z : ℕ) (l : List (ℕ × ℕ)) → copy_of j (renewed i x l) ≡ Some z → (j ≢ i) × ((y : ℕ) × (copy_of j l ≡ Some y))
+renewed_from i j x z [] e = let f : None ≡ Some z = e in absurd (cc)
+renewed_from i j x z (c ∷ l) e = dite (ℕ_discrete c.0 i)
+    (λ q. let r = renewed_from i j x z l (subst (λ b. copy_of j (if b then renewed i x l else (c.0, x) ∷ renewed i x l) ≡ Some z) (eq-eqb c.0 i q) e) in
+        (r.0, (r.1.0, copy_else j c.0 c.1 l (λ f. r.0 (sym f ∙ q)) ∙ r.1.1)))
+    (λ q. let e' = subst (λ b. copy_of j (if b then renewed i x l else (c.0, x) ∷ renewed i x l) ≡ Some z) (ne_eqb c.0 i q) e in
+        dite (ℕ_discrete c.0 j)
+            (λ f. ((λ g. q (f ∙ g)), (c.1, subst (λ b. (if b then Some c.1 else copy_of j l) ≡ Some c.1) (sym (eq-eqb c.0 j f)) refl)))
+            (λ f. let r = renewed_from i j x z l (sym (copy_else j c.0 x (renewed i x l) f) ∙ e') in (r.0, (r.1.0, copy_else j c.0 c.1 l f ∙ r.1.1))))
+
+abbrev won : ℕ → ℕ → ℕ → Copies → Copies
+won n i v w = copies ((i, v) ∷ w.held)
+
+free_taken : (v m : ℕ) → free v ≢ taken m
+free_taken v m q = cc
+
+taken_same : (n m : ℕ) → ◌≡◌ {A = Turn ℕ} (taken n) (taken m) → n ≡ m
+taken_same n m q = cc
+
+same_at : {A : Type 0} (l : List A) (i : ℕ) (a b : A) → get_elem? l i ≡ some a → get_elem? l i ≡ some b → a ≡ b
+same_at l i a b e f = some-injective a b (sym e ∙ f)
+
+-- what a turn's copy is stays so, where the party n still knows it
+now_stays : (b : Board ℕ Copies) (n j x : ℕ) (w u : Copies) (t : Turn ℕ) → get_elem? b.views n ≡ some w → (copy_of j w.held ≡ Some x → copy_of j u.held ≡ Some x) → NowIs b.views j t x → NowIs (set b.views n u) j t x
+now_stays b n j x w u (free v) at keeps h = h
+now_stays b n j x w u (taken m) at keeps h = dite (ℕ_discrete m n)
+    (λ q. let one : h.0 ≡ w = same_at b.views n h.0 w (subst (λ (z : ℕ). get_elem? b.views z ≡ some h.0) q h.1) at in
+        (u, subst (λ (z : ℕ). get_elem? (set b.views n u) z ≡ some u) (sym q) (set_here b.views n u (within b.views n w at)), keeps (subst (λ (z : Copies). copy_of j z.held ≡ Some x) one h.2)))
+    (λ q. (h.0, set_else b.views n m u q ∙ h.1, h.2))
+
+pub keeps_won : KeepsWon Agrees won
+keeps_won b n i v w h e at =
+    let near = within b.turns i (free v) e in
+    let u : Copies = won n i v w in record {
+      number = h.number;
+      two = length-set b.turns i (taken n) ∙ h.two;
+      now = λ j t f. ⊎_elim
+          (λ p. let P : ℕ → Turn ℕ → Type 0 = λ k s. NowIs (set b.views n u) k s h.number in
+              subst (λ (z : ℕ × Turn ℕ). P z.0 z.1) (λ k. (sym p.0 k, p.1 k)) (u, set_here b.views n u (within b.views n w at), copy_here i v w.held ∙ ap Some (h.now i (free v) e)))
+          (λ p. now_stays b n j h.number w u t at (λ c. copy_else j i v w.held (λ q. p.0 (sym q)) ∙ c) (h.now j t p.1))
+          (at_set b.turns i j (taken n) t f);
+      known = λ m j x z f c. ⊎_elim
+          (λ p. let c' : copy_of j ((i, v) ∷ w.held) ≡ Some x = subst (λ (y : Copies). copy_of j y.held ≡ Some x) (sym p.1) c in
+              subst (λ (k : ℕ). get_elem? (set b.turns i (taken n)) j ≡ some (taken k)) (sym p.0)
+              (dite (ℕ_discrete i j)
+                  (λ q. subst (λ (k : ℕ). get_elem? (set b.turns i (taken n)) k ≡ some (taken n)) q (set_here b.turns i (taken n) near))
+                  (λ q. set_else b.turns i j (taken n) (λ r. q (sym r)) ∙ h.known n j x w at (sym (copy_else j i v w.held q) ∙ c'))))
+          (λ p. let g = h.known m j x z p.1 c in
+              set_else b.turns i j (taken n) (λ r. free_taken v m (same_at b.turns i (free v) (taken m) e (subst (λ (k : ℕ). get_elem? b.turns k ≡ some (taken m)) r g))) ∙ g)
+          (at_set b.views n m u z f);
+    }
+
+-- a step that only looks changes no view
+view_again : (b : Board ℕ Copies) (n : ℕ) (w : Copies) → Agrees b → get_elem? b.views n ≡ some w → Agrees record { turns = b.turns; views = set b.views n w }
+view_again b n w h at = subst (λ (l : List Copies). Agrees record { turns = b.turns; views = l }) (sym (Rattle.atomic_table.proofs.Lists.set_again b.views n w at)) h
+
+pub keeps_lost : KeepsLost Agrees (λ n i m w. w)
+keeps_lost b n i m w h e ne at = view_again b n w h at
+
+pub keeps_learned : KeepsLearned Agrees (λ w u. w)
+keeps_learned b n m w u h ne at at' = view_again b n w h at
+
+-- A party gives the turn i back with x, where it has the other turn too, or where x is the copy that it took
+gives_any : (n i x : ℕ) (w : Copies)
+    → ((b : Board ℕ Copies) (h : Agrees b) → get_elem? b.turns i ≡ some (taken n) → get_elem? b.views n ≡ some w → (j : ℕ) (t : Turn ℕ) → j ≢ i → get_elem? b.turns j ≡ some t → NowIs (set b.views n (copies (renewed i x w.held))) j t x)
+    → MayGive Agrees n i x w (copies (renewed i x w.held))
+gives_any n i x w others b h e at =
+    let u : Copies = copies (renewed i x w.held) in
+    let near = within b.turns i (taken n) e in record {
+      number = x;
+      two = length-set b.turns i (free x) ∙ h.two;
+      now = λ j t f. ⊎_elim
+          (λ p. let P : ℕ → Turn ℕ → Type 0 = λ k s. NowIs (set b.views n u) k s x in subst (λ (z : ℕ × Turn ℕ). P z.0 z.1) (λ k. (sym p.0 k, p.1 k)) refl)
+          (λ p. others b h e at j t p.0 p.1)
+          (at_set b.turns i j (free x) t f);
+      known = λ m j y z f c. ⊎_elim
+          (λ p. let r = renewed_from i j x y w.held (subst (λ (q : Copies). copy_of j q.held ≡ Some y) (sym p.1) c) in
+              subst (λ (k : ℕ). get_elem? (set b.turns i (free x)) j ≡ some (taken k)) (sym p.0) (set_else b.turns i j (free x) r.0 ∙ h.known n j r.1.0 w at r.1.1))
+          (λ p. let g = h.known m j y z p.1 c in
+              set_else b.turns i j (free x) (λ r. p.0 (sym (taken_same n m (same_at b.turns i (taken n) (taken m) e (subst (λ (k : ℕ). get_elem? b.turns k ≡ some (taken m)) r g))))) ∙ g)
+          (at_set b.views n m u z f);
+    }
+
+pub gives_both : (n i k x y : ℕ) (w : Copies) → k ≢ i → i < 2 → k < 2 → copy_of k w.held ≡ Some y → MayGive Agrees n i x w (copies (renewed i x w.held))
+gives_both n i k x y w ne ib kb c = gives_any n i x w (λ b h e at j t far f.
+    let one : j ≡ k = let a : j < length b.turns = within b.turns j t f in let d : length b.turns ≡ 2 = h.two in omega arith in
+    let held : get_elem? b.turns j ≡ some (taken n) = subst (λ (z : ℕ). get_elem? b.turns z ≡ some (taken n)) (sym one) (h.known n k y w at c) in
+    let is : taken n ≡ t = same_at b.turns j (taken n) t held f in
+    subst (λ s. NowIs (set b.views n (copies (renewed i x w.held))) j s x) is
+        (copies (renewed i x w.held), set_here b.views n (copies (renewed i x w.held)) (within b.views n w at), renewed_at i j x y w.held far (subst (λ (z : ℕ). copy_of z w.held ≡ Some y) (sym one) c)))
+
+pub gives_same : (n i x : ℕ) (w : Copies) → copy_of i w.held ≡ Some x → MayGive Agrees n i x w (copies (renewed i x w.held))
+gives_same n i x w c = gives_any n i x w (λ b h e at j t far f.
+    let mine : NowIs b.views i (taken n) h.number = h.now i (taken n) e in
+    let one : mine.0 ≡ w = same_at b.views n mine.0 w mine.1 at in
+    let is : h.number ≡ x = some_same h.number x (sym (subst (λ (z : Copies). copy_of i z.held ≡ Some h.number) one mine.2) ∙ c) in
+    now_stays b n j x w (copies (renewed i x w.held)) t at (λ d. renewed_at i j x x w.held far d) (subst (NowIs b.views j t) is (h.now j t f)))
+  where
+    some_same : (a b : ℕ) → ◌≡◌ {A = Option ℕ} (Some a) (Some b) → a ≡ b
+    some_same a b q = cc

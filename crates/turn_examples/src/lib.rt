@@ -1,0 +1,8 @@
+//! Two small rules over turns, as a pattern for larger ones.
+#![tactic(auto)]
+
+pub mod histories;
+pub mod twins;
+
+#[cfg(test)]
+mod tests;

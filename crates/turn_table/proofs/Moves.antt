@@ -1,0 +1,245 @@
+-- Each step of a row of turns keeps its rule.
+use Rattle.std.proofs.Common.{◌≡◌, ◌≢◌, ◌⊎◌, ◌==◌, if◌then◌else◌, ℕ, zero, suc, ◌+◌, ◌-◌, ◌<◌, List, [], ◌∷◌, ◌++◌, map, length, get_or, set, eqb, Bool, true, false, Option, Some, None, refl, sym, ap, ◌∙◌, subst, inl, inr, ⊎_elim, arith, length-set, ne_eqb}
+use mathlib.Core.Option.{some, none, some-injective, some-ne-none}
+use mathlib.Core.Option as maybe
+use mathlib.Core.Logic.{dite}
+use native.Mathlib.Decide.{ℕ_discrete}
+use lib.ListN.{get_elem?}
+use prog.Atomic.{either}
+use Rattle.atomic_table.specs.Table.{State, Me, Act, keeps, takes, gives, chain, stepped, Allows, step, Valid, carried_after, homes_after, rest}
+use Rattle.atomic_table.proofs.Lists.{at_set, set_here, set_else, set_again, exchanged}
+use Rattle.turn_table.specs.Board.{Turn, free, taken, Board, IsAmong, without, WasFree, WasTaken, KeepsWon, KeepsLost, MayGive}
+use Rattle.turn_table.specs.declared.standing.Kept.{Kept}
+use Rattle.turn_table.specs.declared.standing.Standing.{Standing}
+use Rattle.turn_table.specs.Standings.{kept, Apart, AllApart, AllKept, AllOnce, StandsAt, AllStand, AllHeld, empties, Sits, HasSeat, IsKept, taking, giving, seeing, tried, brought, gave}
+use Rattle.turn_table.proofs.Rows.{some_at, within, read_at, same_at, stands_set, Slots, among_without, once_without, held_at, held_without, all_out, front, fronted}
+
+module _ {W : Type 0} where
+  -- the parties that a seat keeps know the same, where only the view of a number changes that another seat has, or that the seat itself has as its own
+  kept_else : (views : List W) (seat : ℕ → ℕ) (id n : ℕ) (u : W) (ks : List (Kept W)) → seat n ≢ id → AllKept views seat id ks → AllKept (set views n u) seat id ks
+  kept_else views seat id n u [] far all = tt
+  kept_else views seat id n u (k ∷ ks) far all =
+      ((all.0.0, set_else views n k.number u (λ e. far (ap seat (sym e) ∙ all.0.0)) ∙ all.0.1), kept_else views seat id n u ks far all.1)
+
+  kept_own : (views : List W) (seat : ℕ → ℕ) (id n : ℕ) (u : W) (ks : List (Kept W)) → Apart n ks → AllKept views seat id ks → AllKept (set views n u) seat id ks
+  kept_own views seat id n u [] far all = tt
+  kept_own views seat id n u (k ∷ ks) far all = ((all.0.0, set_else views n k.number u far.0 ∙ all.0.1), kept_own views seat id n u ks far.1 all.1)
+
+  -- a number that another seat has is none of those that this seat keeps
+  apart_from : (views : List W) (seat : ℕ → ℕ) (id m : ℕ) (ks : List (Kept W)) → seat m ≢ id → AllKept views seat id ks → Apart m ks
+  apart_from views seat id m [] far all = tt
+  apart_from views seat id m (k ∷ ks) far all = ((λ e. far (ap seat (sym e) ∙ all.0.0)), apart_from views seat id m ks far all.1)
+
+module _ {V : Type 0} where
+  -- another party's turns stay its own
+  held_else : (ts us : List (Turn V)) (m : ℕ) (is : List ℕ) → ((j : ℕ) → get_elem? ts j ≡ some (taken m) → get_elem? us j ≡ some (taken m)) → AllHeld ts m is → AllHeld us m is
+  held_else ts us m [] stay all = tt
+  held_else ts us m (i ∷ is) stay all = (stay i all.0, held_else ts us m is stay all.1)
+
+module _ {V W : Type 0} (holds : Board V W → Type 0) (parties : ℕ) where
+  -- A step of the seat id, whose standing is x, from the turns r.turns to the turns us. What other parties have stays theirs
+  moved : (s : State (Option V) (Standing W)) (r : IsKept holds parties s) (id : ℕ) (x : Standing W) → get_elem? s.views id ≡ some x → x.live ≡ true
+      → (us : List (Turn V)) (ws : List ℕ) (hs : Slots V) (w : W) (is : List ℕ) → AllStand ws hs us → holds record { turns = us; views = set r.views x.number w }
+      → ((j m : ℕ) → m ≢ x.number → get_elem? r.turns j ≡ some (taken m) → get_elem? us j ≡ some (taken m))
+      → ((j m : ℕ) → get_elem? us j ≡ some (taken m) → ((m ≢ x.number) × (get_elem? r.turns j ≡ some (taken m))) ⊎ ((m ≡ x.number) × IsAmong j is))
+      → AllHeld us x.number is → AllOnce is
+      → IsKept holds parties record { words = ws; homes = hs; views = set s.views id record { live = x.live; parties = x.parties; number = x.number; own = w; joined = x.joined; held = is } }
+  moved s r id x at live us ws hs w is stands rule theirs whose mine once = record {
+      turns = us;
+      views = set r.views x.number w;
+      seat = r.seat;
+      stands = stands;
+      rule = rule;
+      count = length-set r.views x.number w ∙ r.count;
+      seats = λ j y e alive. ⊎_elim
+          (λ p. let P : ℕ → Standing W → Type 0 = Sits parties us (set r.views x.number w) r.seat in subst (λ (z : ℕ × Standing W). P z.0 z.1) (λ k. (sym p.0 k, p.1 k)) here)
+          (λ p. there j y p.0 p.1 alive)
+          (at_set s.views id j x' y e);
+      owners = λ j m e. ⊎_elim (λ p. other j m p.0 (r.owners j m p.1)) (λ p. record { id = id; standing = x'; at = set_here s.views id x' (within s.views id x at); live = live; number = sym p.0; among = p.1 }) (whose j m e);
+    }
+    where
+      x' : Standing W
+      x' = record { live = x.live; parties = x.parties; number = x.number; own = w; joined = x.joined; held = is }
+
+      own : Sits parties r.turns r.views r.seat id x
+      own = r.seats id x at live
+
+      here : Sits parties us (set r.views x.number w) r.seat id x'
+      here = record {
+        all = own.all;
+        own_at = own.own_at;
+        own_is = set_here r.views x.number w (within r.views x.number x.own own.own_is);
+        joined = kept_own r.views r.seat id x.number w x.joined own.own_apart own.joined;
+        own_apart = own.own_apart;
+        joined_apart = own.joined_apart;
+        held = mine;
+        once = once;
+      }
+
+      there : (j : ℕ) (y : Standing W) → j ≢ id → get_elem? s.views j ≡ some y → y.live ≡ true → Sits parties us (set r.views x.number w) r.seat j y
+      there j y n e alive = let p = r.seats j y e alive in let far : r.seat x.number ≢ j = λ q. n (sym q ∙ own.own_at) in let m : y.number ≢ x.number = λ q. n (sym p.own_at ∙ (ap r.seat q ∙ own.own_at)) in record {
+        all = p.all;
+        own_at = p.own_at;
+        own_is = set_else r.views x.number y.number w m ∙ p.own_is;
+        joined = kept_else r.views r.seat j x.number w y.joined far p.joined;
+        own_apart = p.own_apart;
+        joined_apart = p.joined_apart;
+        held = held_else r.turns us y.number y.held (λ i. theirs i y.number m) p.held;
+        once = p.once;
+      }
+
+      other : (j m : ℕ) → m ≢ x.number → HasSeat s.views m j → HasSeat (set s.views id x') m j
+      other j m n h = record {
+        id = h.id;
+        standing = h.standing;
+        at = set_else s.views id h.id x' (λ e. n (sym h.number ∙ ap (λ (y : Standing W). y.number) (same_at s.views id h.standing x (subst (λ (z : ℕ). get_elem? s.views z ≡ some h.standing) e h.at) at))) ∙ h.at;
+        live = h.live;
+        number = h.number;
+        among = h.among;
+      }
+
+  -- the turns that a seat's own number has are those that the seat holds
+  mine_among : (s : State (Option V) (Standing W)) (r : IsKept holds parties s) (id : ℕ) (x : Standing W) → get_elem? s.views id ≡ some x → x.live ≡ true
+      → (i : ℕ) → get_elem? r.turns i ≡ some (taken x.number) → IsAmong i x.held
+  mine_among s r id x at live i e = let h = r.owners i x.number e in let there = r.seats h.id h.standing h.at h.live in let here = r.seats id x at live in
+      let one : h.id ≡ id = sym there.own_at ∙ (ap r.seat h.number ∙ here.own_at) in
+      subst (λ (y : Standing W). IsAmong i y.held) (same_at s.views id h.standing x (subst (λ (z : ℕ). get_elem? s.views z ≡ some h.standing) one h.at) at) h.among
+
+  -- of the taken turns, all but the seat's own are as before
+  whose_else : (s : State (Option V) (Standing W)) (r : IsKept holds parties s) (id : ℕ) (x : Standing W) → get_elem? s.views id ≡ some x → x.live ≡ true
+      → (j m : ℕ) (is : List ℕ) → (IsAmong j x.held → IsAmong j is) → get_elem? r.turns j ≡ some (taken m) → ((m ≢ x.number) × (get_elem? r.turns j ≡ some (taken m))) ⊎ ((m ≡ x.number) × IsAmong j is)
+  whose_else s r id x at live j m is stay e =
+      dite (ℕ_discrete m x.number) (λ same. inr (same, stay (mine_among s r id x at live j (subst (λ (z : ℕ). get_elem? r.turns j ≡ some (taken z)) same e)))) (λ other. inl (other, e))
+
+  free_taken : (v : V) (m : ℕ) → free v ≢ taken m
+  free_taken v m q = cc
+
+  taken_injective : (n m : ℕ) → ◌≡◌ {A = Turn V} (taken n) (taken m) → n ≡ m
+  taken_injective n m q = cc
+
+  some_same : (u v : W) → ◌≡◌ {A = Option W} (Some u) (Some v) → u ≡ v
+  some_same u v q = cc
+
+  module _ (won : ℕ → ℕ → V → W → W) (lost : ℕ → ℕ → ℕ → W → W) (keeps_won : KeepsWon holds won) (keeps_lost : KeepsLost holds lost) where
+    module _ (slots i id new : ℕ) (me : Me (Option V) (Standing W)) (live : me.0.live ≡ true) (not_held : ¬ IsAmong i me.0.held) (new_is : new ≡ suc me.0.number) where
+      abbrev Found : State (Option V) (Standing W) → ℕ → ℕ → Type 0
+      Found s n k = (w : Standing W) × (a : Act (Option V)) × Valid s.homes me.1 a × IsKept holds parties (stepped s i k id me.1 w a)
+          × tried holds won lost (step slots i 0 new none) me n (w, carried_after me.1 a)
+
+      wins : (s : State (Option V) (Standing W)) (r : IsKept holds parties s) → get_elem? s.views id ≡ some me.0 → (v : V) → get_elem? r.turns i ≡ some (free v) → Found s 0 new
+      wins s r at v e =
+          let own = r.seats id me.0 at live in
+          let n : ℕ = me.0.number in
+          let u : W = won n i v me.0.own in
+          let b : Board V W = record { turns = r.turns; views = r.views } in
+          let near : i < length r.turns = within r.turns i (free v) e in
+          let near_words : i < length s.words = let a : length s.words ≡ length r.turns = r.stands.words in omega arith in
+          let near_homes : i < length s.homes = let a : length s.homes ≡ length r.turns = r.stands.homes in omega arith in
+          let away : (j m : ℕ) → get_elem? r.turns j ≡ some (taken m) → j ≢ i = λ j m f q. free_taken v m (same_at r.turns i (free v) (taken m) e (subst (λ (z : ℕ). get_elem? r.turns z ≡ some (taken m)) q f)) in
+          let stay : (j m : ℕ) → get_elem? r.turns j ≡ some (taken m) → get_elem? (set r.turns i (taken n)) j ≡ some (taken m) = λ j m f. set_else r.turns i j (taken n) (away j m f) ∙ f in (
+            taking me.0 i u,
+            takes i (Some v),
+            (r.stands.each i (free v) e).1,
+            moved s r id me.0 at live (set r.turns i (taken n)) (set s.words i new) (set s.homes i none) u (i ∷ me.0.held)
+                (stands_set s.words s.homes r.turns i new none (taken n) r.stands near (set_here s.words i new near_words ∙ ap some new_is, set_here s.homes i none near_homes))
+                (keeps_won b n i v me.0.own r.rule e own.own_is)
+                (λ j m _. stay j m)
+                (λ j m f. ⊎_elim
+                    (λ p. inr (sym (taken_injective n m p.1), inl (sym p.0)))
+                    (λ p. whose_else s r id me.0 at live j m (i ∷ me.0.held) inr p.1)
+                    (at_set r.turns i j (taken n) (taken m) f))
+                (set_here r.turns i (taken n) near, held_else r.turns (set r.turns i (taken n)) n me.0.held (λ j. stay j n) own.held)
+                (not_held, own.once),
+            ((λ _. (v, record { board = b; held = r.rule; turn = e; view = own.own_is }, refl)), λ m f. absurd (cc)),
+          )
+
+      loses : (s : State (Option V) (Standing W)) (r : IsKept holds parties s) → get_elem? s.views id ≡ some me.0 → (m : ℕ) → get_elem? r.turns i ≡ some (taken m) → Found s (suc m) (suc m)
+      loses s r at m e =
+          let own = r.seats id me.0 at live in
+          let n : ℕ = me.0.number in
+          let u : W = lost n i m me.0.own in
+          let b : Board V W = record { turns = r.turns; views = r.views } in
+          let other : m ≢ n = λ q. not_held (mine_among s r id me.0 at live i (subst (λ (z : ℕ). get_elem? r.turns i ≡ some (taken z)) q e)) in
+          let h = r.owners i m e in
+          let there = r.seats h.id h.standing h.at h.live in
+          let below : m < me.0.parties = let a : h.standing.number < length r.views = within r.views h.standing.number h.standing.own there.own_is in let c : length r.views ≡ me.0.parties = r.count ∙ sym own.all in let d : h.standing.number ≡ m = h.number in omega arith in
+          let far : r.seat m ≢ id = λ q. let one : h.id ≡ id = sym there.own_at ∙ (ap r.seat h.number ∙ q) in
+              other (sym h.number ∙ ap (λ (y : Standing W). y.number) (same_at s.views id h.standing me.0 (subst (λ (z : ℕ). get_elem? s.views z ≡ some h.standing) one h.at) at)) in
+          let same : set s.words i (suc m) ≡ s.words = set_again s.words i (suc m) (r.stands.each i (taken m) e).0 in (
+            seeing me.0 u,
+            keeps,
+            tt,
+            moved s r id me.0 at live r.turns (set s.words i (suc m)) s.homes u me.0.held
+                (subst (λ (ws : List ℕ). AllStand ws s.homes r.turns) (sym same) r.stands)
+                (keeps_lost b n i m me.0.own r.rule e other own.own_is)
+                (λ j k _ f. f)
+                (λ j k f. whose_else s r id me.0 at live j k me.0.held (λ h. h) f)
+                own.held
+                own.once,
+            (
+              (λ z. absurd (cc)),
+              λ k f. let same_owner : m ≡ k = cc in
+                  subst (λ (z : ℕ). WasTaken holds n i z me.0.own × (z < me.0.parties) × (z ≢ n) × Apart z me.0.joined × (◌≡◌ {A = Me (Option V) (Standing W)} (seeing me.0 u, me.1) (seeing me.0 (lost n i z me.0.own), me.1))) same_owner
+                  (record { board = b; held = r.rule; turn = e; view = own.own_is }, below, other, apart_from r.views r.seat id m me.0.joined far own.joined, refl),
+            ),
+          )
+
+      by_turn : (s : State (Option V) (Standing W)) (r : IsKept holds parties s) → get_elem? s.views id ≡ some me.0 → (t : Turn V) → get_elem? r.turns i ≡ some t
+          → (let n : ℕ = get_or s.words i 0 in Found s n (either (eqb n 0) new n))
+      by_turn s r at (free v) e = subst (λ (n : ℕ). Found s n (either (eqb n 0) new n)) (sym (read_at s.words i 0 0 (r.stands.each i (free v) e).0)) (wins s r at v e)
+      by_turn s r at (taken m) e = subst (λ (n : ℕ). Found s n (either (eqb n 0) new n)) (sym (read_at s.words i (suc m) 0 (r.stands.each i (taken m) e).0))
+          (subst (λ (b : Bool). Found s (suc m) (either b new (suc m))) (sym (ne_eqb (suc m) 0 (λ q. absurd (omega arith)))) (loses s r at m e))
+
+      pub tries : i < slots → Allows (IsKept holds parties) slots id me i (λ n. either (eqb n 0) new n) (tried holds won lost (step slots i 0 new none) me)
+      tries near s r wide at big = let near' : i < length r.turns = let a : length s.homes ≡ length r.turns = r.stands.homes in omega arith in let t = some_at r.turns i near' in by_turn s r at t.0 t.1
+
+  -- the slot of a turn that a party holds comes to the front of those that are out with it, and nothing else changes
+  brings_at : (slots i id : ℕ) (x : Standing W) → x.live ≡ true → IsAmong i x.held → i < slots
+      → Allows (IsKept holds parties) slots id (x, empties x.held) i (λ n. n) (brought (step slots i 0 0 none) (x, empties x.held))
+  brings_at slots i id x live among near s r wide at big =
+      let own = r.seats id x at live in
+      let f = fronted i x.held s.homes (all_out s.words s.homes r.turns x.number x.held r.stands own.held) own.once among in
+      let act : Act (Option V) = front i x.held in
+      let n : ℕ = get_or s.words i 0 in
+      let near_words : i < length s.words = let a : length s.words ≡ length r.turns = r.stands.words in let b : length s.homes ≡ length r.turns = r.stands.homes in omega arith in
+      let word = some_at s.words i near_words in
+      let same : set s.words i n ≡ s.words = set_again s.words i n (word.1 ∙ ap some (sym (read_at s.words i word.0 0 word.1))) in
+      let whole : s ≡ stepped s i n id (empties x.held) x act = λ k. record { words = sym same k; homes = sym f.1 k; views = sym (set_again s.views id x at) k } in
+      (x, act, f.0, subst (IsKept holds parties) whole r, ap (λ (c : List (ℕ × Option V)). (x, c)) f.2)
+
+  pub brings : (slots i id : ℕ) (me : Me (Option V) (Standing W)) → me.1 ≡ empties me.0.held → me.0.live ≡ true → IsAmong i me.0.held → i < slots
+      → Allows (IsKept holds parties) slots id me i (λ n. n) (brought (step slots i 0 0 none) me)
+  brings slots i id me is live among near =
+      subst (λ (c : List (ℕ × Option V)). Allows (IsKept holds parties) slots id (me.0, c) i (λ n. n) (brought (step slots i 0 0 none) (me.0, c))) (sym is) (brings_at slots i id me.0 live among near)
+
+  -- a party gives back a turn, whose slot it took last
+  gives_at : (slots i id : ℕ) (x : Standing W) (es : List (ℕ × Option V)) (v : V) (w : W) (next : Option W) → next ≡ Some w → x.live ≡ true → IsAmong i x.held → MayGive holds x.number i v x.own w
+      → Allows (IsKept holds parties) slots id (x, (i, Some v) ∷ es) i (λ _. 0) (λ _. gave next (step slots i 0 0 none) (x, (i, Some v) ∷ es) 0)
+  gives_at slots i id x es v w next is live among may s r wide at big =
+      let own = r.seats id x at live in
+      let n : ℕ = x.number in
+      let e : get_elem? r.turns i ≡ some (taken n) = held_at r.turns n i x.held own.held among in
+      let b : Board V W = record { turns = r.turns; views = r.views } in
+      let near : i < length r.turns = within r.turns i (taken n) e in
+      let near_words : i < length s.words = let a : length s.words ≡ length r.turns = r.stands.words in omega arith in
+      let near_homes : i < length s.homes = let a : length s.homes ≡ length r.turns = r.stands.homes in omega arith in (
+        giving x i w,
+        gives,
+        tt,
+        moved s r id x at live (set r.turns i (free v)) (set s.words i 0) (set s.homes i (some (Some v))) w (without i x.held)
+            (stands_set s.words s.homes r.turns i 0 (some (Some v)) (free v) r.stands near (set_here s.words i 0 near_words, set_here s.homes i (some (Some v)) near_homes))
+            (may b r.rule e own.own_is)
+            (λ j m other f. set_else r.turns i j (free v) (λ q. other (sym (taken_injective n m (same_at r.turns i (taken n) (taken m) e (subst (λ (z : ℕ). get_elem? r.turns z ≡ some (taken m)) q f))))) ∙ f)
+            (λ j m f. ⊎_elim
+                (λ p. absurd (free_taken v m p.1))
+                (λ p. whose_else s r id x at live j m (without i x.held) (among_without i j x.held p.0) p.1)
+                (at_set r.turns i j (free v) (taken m) f))
+            (held_without r.turns n i (free v) x.held own.once own.held)
+            (once_without i x.held own.once),
+        λ u f. ap (λ (z : W). (giving x i z, es)) (some_same w u (sym is ∙ f)),
+      )
+
+  pub gives_back : (slots i id : ℕ) (me : Me (Option V) (Standing W)) (v : V) (w : W) (next : Option W) → me.1 ≡ (i, Some v) ∷ rest me.1 → next ≡ Some w → me.0.live ≡ true → IsAmong i me.0.held
+      → MayGive holds me.0.number i v me.0.own w → Allows (IsKept holds parties) slots id me i (λ _. 0) (λ _. gave next (step slots i 0 0 none) me 0)
+  gives_back slots i id me v w next out is live among may =
+      subst (λ (c : List (ℕ × Option V)). Allows (IsKept holds parties) slots id (me.0, c) i (λ _. 0) (λ _. gave next (step slots i 0 0 none) (me.0, c) 0)) (sym out) (gives_at slots i id me.0 (rest me.1) v w next is live among may)

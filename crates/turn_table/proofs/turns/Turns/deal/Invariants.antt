@@ -1,0 +1,8 @@
+use Rattle.std.proofs.Common.{◌≡◌, ◌-◌, ℕ, List}
+use Rattle.turn_table.specs.Standings.{newcomers, whole_place}
+use Rattle.turn_table.proofs.turns.Turns.deal.Given as goal
+
+abbrev pub invariant-loop-number : goal.invariant-loop-number
+invariant-loop-number g l =
+    (l.first ≡ whole_place l.fn.self.table l.fn.parties (g.R.TurnRule.first l.fn.about) l.number (l.fn.parties - l.number))
+    × (l.all.items ≡ newcomers l.fn.self.table l.fn.parties (g.R.TurnRule.first l.fn.about) 1 (l.number - 1))

@@ -1,0 +1,52 @@
+use Rattle.std.proofs.Common.{rules, ◌≡◌, ◌≢◌, ◌<◌, ◌+◌, ◌-◌, ◌∷◌, ℕ, suc, arith, Some, None, refl, sym, ap, ◌∙◌, subst}
+use Rattle.atomic_table.specs.Table.{rest, Me}
+use Rattle.turn_table.specs.Board.{IsAmong, WasTaken}
+use Rattle.turn_table.specs.Standings.{Row, Place, IsParty, Apart}
+use Rattle.turn_table.specs.declared.standing.Standing.{Standing}
+use Rattle.turn_table.proofs.Moves.{tries}
+use Rattle.turn_table.proofs.Parties.{is_seeing, is_taking}
+use Rattle.turn_table.proofs.turns.Turns.try_take.Goals as goal
+
+pub compare_exchange-found-requires : goal.compare_exchange-found-requires
+compare_exchange-found-requires g c =
+    let p = c.party.invariant in
+    let t : c.party.inside.seat.table_id ≡ c.self.inside.table.shared.table_id = search rules in
+    let not_held : ¬ IsAmong c.args.i c.party.inside.seat.me.0.held = subst (λ (v : Place g.row.R-View.Denot). ¬ IsAmong c.args.i v.held) (sym c.party.view_is) c.requires.not_held in
+    let near : c.args.i < c.self.inside.turns = subst (λ (v : Row). c.args.i < v.turns) (sym c.self.view_is) c.requires.range in
+    let same = c.self.invariant in
+    let mine : c.from-mine.result + 1 ≡ suc c.party.inside.seat.me.0.number = let a = c.from-mine.ensures in let b = p.numbered in omega arith in
+    (
+      t,
+      subst (λ z. c.args.i < z) (sym same.words) near,
+      tries _ _ g.R.TurnRule.won g.R.TurnRule.lost g.R.TurnRule.keeps_won g.R.TurnRule.keeps_lost _ c.args.i c.party.inside.seat.id (c.from-mine.result + 1) c.party.inside.seat.me p.live not_held mine
+          (subst (λ z. c.args.i < z) (sym same.slots) near),
+    )
+
+-- the number found is one more than the owner's
+before_suc : (n : ℕ) → n ≢ 0 → n ≡ suc (n - 1)
+before_suc n h = omega arith
+
+pub overflow_cast-result : goal.overflow_cast-result
+overflow_cast-result g c =
+    let h = c.compare_exchange-found.ensures.2.1 (c.compare_exchange-found.result - 1) (before_suc c.compare_exchange-found.result c.if-found-ne0.true) in
+    let below = h.1 in
+    let few = c.party.invariant.parties in
+    omega arith
+
+pub invariant_of-party : goal.invariant_of-party
+invariant_of-party g c =
+    let h = c.compare_exchange-found.ensures.2.1 (c.compare_exchange-found.result - 1) (before_suc c.compare_exchange-found.result c.if-found-ne0.true) in
+    subst (λ z. IsParty c.party.inside.number z.words c.compare_exchange-found.new.seat.me) (sym c.compare_exchange-found.ensures.0)
+        (is_seeing c.party.inside.number c.party.inside.seat.table_id.words c.party.inside.seat.me c.compare_exchange-found.new.seat.me _ c.party.invariant h.4)
+
+pub returns-then-found-ne0-clause-owner : goal.returns-then-found-ne0-clause-owner
+returns-then-found-ne0-clause-owner g c =
+    let m : ℕ = c.compare_exchange-found.result - 1 in
+    let h = c.compare_exchange-found.ensures.2.1 m (before_suc c.compare_exchange-found.result c.if-found-ne0.true) in
+    subst (λ (v : Place g.row.R-View.Denot). (m < v.parties) × (m ≢ v.number) × Apart m v.joined) c.party.view_is (h.1, h.2, h.3)
+
+pub exchange-requires : goal.exchange-requires
+exchange-requires g c =
+    let h = c.compare_exchange-found.ensures.2.0 (c.if-found-ne0.false) in
+    let t : c.party.inside.seat.table_id ≡ c.self.inside.table.shared.table_id = search rules in
+    (c.compare_exchange-found.ensures.0 ∙ t, (Some h.0, ap (λ m. m.1) h.2 ∙ ap (λ m. (c.args.i, Some h.0) ∷ rest m.1) (sym h.2)))

@@ -1,0 +1,259 @@
+-- What the row of turns keeps besides its user's rule: who has which number, and who holds which turn.
+use Rattle.std.specs.Prelude.{◌≡◌, ◌≢◌, ◌⊎◌, ◌==◌, ◌||◌, ℕ, zero, suc, ◌+◌, ◌-◌, ◌<◌, List, [], ◌∷◌, ◌++◌, map, length, take, drop, Bool, true, false, Option, Some, None}
+use mathlib.Core.Option.{some, none}
+use mathlib.Core.Option as maybe
+use lib.ListN.{get_elem?}
+use Rattle.atomic_table.specs.Table.{State, Step, Me, rest}
+use Rattle.atomic_table.specs.Seated.{TableId}
+use Rattle.turn_table.specs.Board.{Turn, free, taken, Board, IsAmong, without, WasFree, WasTaken}
+use Rattle.turn_table.specs.declared.standing.Kept.{Kept}
+use Rattle.turn_table.specs.declared.standing.Standing.{Standing}
+
+-- What a party is to its user: which row of turns it belongs to, how many parties there are, its number, what it knows, the parties that it keeps by a join and the turns that it holds, each the last first
+pub record Place (W : Type 0) : Type 0 where
+  pub table : TableId
+  pub parties : ℕ
+  pub number : ℕ
+  pub own : W
+  pub joined : List (Kept W)
+  pub held : List ℕ
+
+-- What a row of turns is to its user: which it is, and how many turns and parties it has
+pub record Row : Type 0 where
+  pub table : TableId
+  pub turns : ℕ
+  pub parties : ℕ
+
+-- what is always true of a row of turns: a word and a slot for each turn, of which there are some, and some party
+pub record IsRow (id : TableId) (turns parties : ℕ) : Type 0 where
+  pub words : id.words ≡ turns
+  pub slots : id.slots ≡ turns
+  pub some_turn : 0 < turns
+  pub some_party : 0 < parties
+
+module _ {W : Type 0} where
+  abbrev pub place_of : TableId → Standing W → Place W
+  place_of z x = record { table = z; parties = x.parties; number = x.number; own = x.own; joined = x.joined; held = x.held }
+
+  -- a party that has taken the turn i, given it back, or seen something, and knows w
+  abbrev pub took : Place W → ℕ → W → Place W
+  took p i w = record { table = p.table; parties = p.parties; number = p.number; own = w; joined = p.joined; held = i ∷ p.held }
+
+  abbrev pub gave_back : Place W → ℕ → W → Place W
+  gave_back p i w = record { table = p.table; parties = p.parties; number = p.number; own = w; joined = p.joined; held = without i p.held }
+
+  abbrev pub saw : Place W → W → Place W
+  saw p w = record { table = p.table; parties = p.parties; number = p.number; own = w; joined = p.joined; held = p.held }
+
+  abbrev pub kept : ℕ → W → ℕ → Kept W
+  kept n w k = record { number = n; view = w; count = k }
+
+  -- the number n is that of one of these
+  abbrev pub IsIn : ℕ → List (Kept W) → Type 0
+  IsIn n [] = ⊥
+  IsIn n (k ∷ ks) = (k.number ≡ n) ⊎ IsIn n ks
+
+  -- the party has the number n, as its own or by a join
+  abbrev pub HasNumber : ℕ → Place W → Type 0
+  HasNumber n p = (p.number ≡ n) ⊎ IsIn n p.joined
+
+  abbrev pub SomeHas : ℕ → List (Place W) → Type 0
+  SomeHas n [] = ⊥
+  SomeHas n (p ∷ ps) = HasNumber n p ⊎ SomeHas n ps
+
+  -- these are parties of one row, and hold no turn
+  abbrev pub AreFree : TableId → List (Place W) → Type 0
+  AreFree id [] = Unit {0}
+  AreFree id (p ∷ ps) = (p.table ≡ id) × (p.held ≡ []) × AreFree id ps
+
+  -- these are what the parties of these numbers know
+  abbrev pub AllShow : List W → List (Kept W) → Type 0
+  AllShow views [] = Unit {0}
+  AllShow views (k ∷ ks) = (get_elem? views k.number ≡ some k.view) × AllShow views ks
+
+  -- what a party knows under its own number, and under those that it keeps by a join
+  abbrev pub Shows : List W → Place W → Type 0
+  Shows views p = (get_elem? views p.number ≡ some p.own) × AllShow views p.joined
+
+  abbrev pub ShowAll : List W → List (Place W) → Type 0
+  ShowAll views [] = Unit {0}
+  ShowAll views (p ∷ ps) = Shows views p × ShowAll views ps
+
+  -- a party at the start, and k of them, from the number n on, of p parties in all
+  abbrev pub newcomer : TableId → ℕ → ℕ → W → Place W
+  newcomer id p n w = record { table = id; parties = p; number = n; own = w; joined = []; held = [] }
+
+  abbrev pub newcomers : TableId → ℕ → (ℕ → W) → ℕ → ℕ → List (Place W)
+  newcomers id p f n zero = []
+  newcomers id p f n (suc k) = newcomer id p n (f n) ∷ newcomers id p f (suc n) k
+
+  -- f n, f (n + 1) and so on, k of them, each by its number
+  abbrev pub kept_from : (ℕ → W) → ℕ → ℕ → List (Kept W)
+  kept_from f n zero = []
+  kept_from f n (suc k) = kept n (f n) 0 ∷ kept_from f (suc n) k
+
+  -- the first party of p, while it keeps k of them, from the number n on
+  abbrev pub whole_place : TableId → ℕ → (ℕ → W) → ℕ → ℕ → Place W
+  whole_place id p f n k = record { table = id; parties = p; number = 0; own = f 0; joined = kept_from f n k; held = [] }
+
+  -- the first seat of a row has all parties
+  abbrev pub whole : ℕ → (ℕ → W) → Standing W
+  whole k f = record { live = true; parties = k; number = 0; own = f 0; joined = kept_from f 1 (k - 1); held = [] }
+
+  abbrev pub leaves : (W → W) → Standing W → List (Kept W) → Standing W
+  leaves f x [] = record { live = false; parties = 0; number = 0; own = x.own; joined = []; held = [] }
+  leaves f x (k ∷ ks) = record { live = true; parties = x.parties; number = k.number; own = f k.view; joined = take k.count ks; held = [] }
+
+  -- none of these parties has the number n
+  abbrev pub Apart : ℕ → List (Kept W) → Type 0
+  Apart n [] = Unit {0}
+  Apart n (k ∷ ks) = (k.number ≢ n) × Apart n ks
+
+  -- no two of these parties have one number
+  abbrev pub AllApart : List (Kept W) → Type 0
+  AllApart [] = Unit {0}
+  AllApart (k ∷ ks) = Apart k.number ks × AllApart ks
+
+  -- what another party keeps of this one: it, and then its own by a join
+  abbrev pub entries : ℕ → W → List (Kept W) → List (Kept W)
+  entries n w ks = kept n w (length ks) ∷ ks
+
+  -- of the parties that one keeps, those that stay once the last has parted
+  abbrev pub rest_of : List (Kept W) → List (Kept W)
+  rest_of [] = []
+  rest_of (k ∷ ks) = drop k.count ks
+
+  -- a party that another has joined, and that knows w
+  abbrev pub met : Place W → Place W → W → Place W
+  met p q w = record { table = p.table; parties = p.parties; number = p.number; own = w; joined = entries q.number q.own q.joined ++ p.joined; held = p.held }
+
+  -- the party of this number joined last
+  abbrev pub IsLast : ℕ → List (Kept W) → Type 0
+  IsLast n [] = ⊥
+  IsLast n (k ∷ ks) = k.number ≡ n
+
+  -- a party once the party that joined it last has parted, and that party, which knows what f makes of its view
+  abbrev pub stayed : Place W → Place W
+  stayed p = record { table = p.table; parties = p.parties; number = p.number; own = p.own; joined = rest_of p.joined; held = p.held }
+
+  abbrev pub parted : (W → W) → Place W → List (Kept W) → Place W
+  parted f p [] = p
+  parted f p (k ∷ ks) = record { table = p.table; parties = p.parties; number = k.number; own = f k.view; joined = take k.count ks; held = [] }
+
+  -- a standing after its party has taken the turn i, given it back, or seen something, and knows w
+  abbrev pub taking : Standing W → ℕ → W → Standing W
+  taking x i w = record { live = x.live; parties = x.parties; number = x.number; own = w; joined = x.joined; held = i ∷ x.held }
+
+  abbrev pub giving : Standing W → ℕ → W → Standing W
+  giving x i w = record { live = x.live; parties = x.parties; number = x.number; own = w; joined = x.joined; held = without i x.held }
+
+  abbrev pub seeing : Standing W → W → Standing W
+  seeing x w = record { live = x.live; parties = x.parties; number = x.number; own = w; joined = x.joined; held = x.held }
+
+  -- a standing that another has joined, and that knows w
+  abbrev pub meeting : Standing W → Standing W → W → Standing W
+  meeting x y w = record { live = x.live; parties = x.parties; number = x.number; own = w; joined = entries y.number y.own y.joined ++ x.joined; held = x.held }
+
+  -- a standing that nobody has any more
+  abbrev pub spent : W → Standing W
+  spent w = record { live = false; parties = 0; number = 0; own = w; joined = []; held = [] }
+
+  -- the standing x without the party that joined it last
+  abbrev pub left_with : Standing W → Standing W
+  left_with x = record { live = x.live; parties = x.parties; number = x.number; own = x.own; joined = rest_of x.joined; held = x.held }
+
+  -- the standing of that party, which knows what f makes of its view
+  abbrev pub leaving : (W → W) → Standing W → Standing W
+  leaving f x = leaves f x x.joined
+
+  -- each of these parties is kept by the seat id, and knows what the board says
+  abbrev pub AllKept : List W → (ℕ → ℕ) → ℕ → List (Kept W) → Type 0
+  AllKept views seat id [] = Unit {0}
+  AllKept views seat id (k ∷ ks) = ((seat k.number ≡ id) × (get_elem? views k.number ≡ some k.view)) × AllKept views seat id ks
+
+  -- a seat with the number n, that is not spent, holds the turn i
+  pub record HasSeat (seats : List (Standing W)) (n i : ℕ) : Type 0 where
+    pub id : ℕ
+    pub standing : Standing W
+    pub at : get_elem? seats id ≡ some standing
+    pub live : standing.live ≡ true
+    pub number : standing.number ≡ n
+    pub among : IsAmong i standing.held
+
+-- each of these numbers, once
+abbrev pub AllOnce : List ℕ → Type 0
+AllOnce [] = Unit {0}
+AllOnce (k ∷ ks) = (¬ IsAmong k ks) × AllOnce ks
+
+-- each of these numbers is below n
+abbrev pub AllBelow : ℕ → List ℕ → Type 0
+AllBelow n [] = Unit {0}
+AllBelow n (k ∷ ks) = (k < n) × AllBelow n ks
+
+module _ {V : Type 0} where
+  -- The word of a turn is 0 while the turn is free, and else one more than the number of its holder. The value is in its slot exactly while the turn is free
+  abbrev pub StandsAt : List ℕ → List (maybe.Option (Option V)) → ℕ → Turn V → Type 0
+  StandsAt ws hs i (free v) = (get_elem? ws i ≡ some 0) × (get_elem? hs i ≡ some (some (Some v)))
+  StandsAt ws hs i (taken n) = (get_elem? ws i ≡ some (suc n)) × (get_elem? hs i ≡ some none)
+
+  -- the words and the slots show these turns
+  pub record AllStand (ws : List ℕ) (hs : List (maybe.Option (Option V))) (ts : List (Turn V)) : Type 0 where
+    pub words : length ws ≡ length ts
+    pub homes : length hs ≡ length ts
+    pub each : (i : ℕ) (t : Turn V) → get_elem? ts i ≡ some t → StandsAt ws hs i t
+
+  -- the party n has each of these turns
+  abbrev pub AllHeld : List (Turn V) → ℕ → List ℕ → Type 0
+  AllHeld ts n [] = Unit {0}
+  AllHeld ts n (i ∷ is) = (get_elem? ts i ≡ some (taken n)) × AllHeld ts n is
+
+  -- the slots that are out with a seat, each empty
+  abbrev pub empties : List ℕ → List (ℕ × Option V)
+  empties held = map (λ i. (i, None)) held
+
+module _ {V W : Type 0} where
+  -- what a seat that is not spent knows is true of the board
+  pub record Sits (parties : ℕ) (turns : List (Turn V)) (views : List W) (seat : ℕ → ℕ) (id : ℕ) (x : Standing W) : Type 0 where
+    pub all : x.parties ≡ parties
+    pub own_at : seat x.number ≡ id
+    pub own_is : get_elem? views x.number ≡ some x.own
+    pub joined : AllKept views seat id x.joined
+    pub own_apart : Apart x.number x.joined
+    pub joined_apart : AllApart x.joined
+    pub held : AllHeld turns x.number x.held
+    pub once : AllOnce x.held
+
+  -- The table stands for a board that meets the user's rule. Each number is one seat's, as its own or by a join, and each taken turn is held by the seat whose own number its word names
+  pub record IsKept (holds : Board V W → Type 0) (parties : ℕ) (s : State (Option V) (Standing W)) : Type 0 where
+    pub turns : List (Turn V)
+    pub views : List W
+    pub seat : ℕ → ℕ
+    pub stands : AllStand s.words s.homes turns
+    pub rule : holds record { turns = turns; views = views }
+    pub count : length views ≡ parties
+    pub seats : (id : ℕ) (x : Standing W) → get_elem? s.views id ≡ some x → x.live ≡ true → Sits parties turns views seat id x
+    pub owners : (i n : ℕ) → get_elem? turns i ≡ some (taken n) → HasSeat s.views n i
+
+-- what is always true of a party: its token holds the slots of just the turns that it has, each empty
+pub record IsParty {V W : Type 0} (number words : ℕ) (me : Me (Option V) (Standing W)) : Type 0 where
+  pub live : me.0.live ≡ true
+  pub numbered : me.0.number ≡ number
+  pub parties : me.0.parties < 4294967296
+  pub out : me.1 ≡ empties me.0.held
+  pub below : AllBelow words me.0.held
+
+-- What each step tells: of the step, the seat before, the number found and the seat after
+module _ {V W : Type 0} where
+  -- a try took a free turn with its value, or found it with another party
+  abbrev pub tried : (Board V W → Type 0) → (ℕ → ℕ → V → W → W) → (ℕ → ℕ → ℕ → W → W) → Step (Option V) → Me (Option V) (Standing W) → ℕ → Me (Option V) (Standing W) → Type 0
+  tried holds won lost p me found after =
+      (found ≡ 0 → (v : V) × WasFree holds me.0.number p.word v me.0.own × (after ≡ (taking me.0 p.word (won me.0.number p.word v me.0.own), (p.word, Some v) ∷ me.1)))
+      × ((m : ℕ) → found ≡ suc m → WasTaken holds me.0.number p.word m me.0.own × (m < me.0.parties) × (m ≢ me.0.number) × Apart m me.0.joined × (after ≡ (seeing me.0 (lost me.0.number p.word m me.0.own), me.1)))
+
+  -- the slot of this word is now the one taken last
+  abbrev pub brought : Step (Option V) → Me (Option V) (Standing W) → ℕ → Me (Option V) (Standing W) → Type 0
+  brought p me found after = after ≡ (me.0, (p.word, None) ∷ empties (without p.word me.0.held))
+
+  -- the turn was given back
+  abbrev pub gave : Option W → Step (Option V) → Me (Option V) (Standing W) → ℕ → Me (Option V) (Standing W) → Type 0
+  gave next p me new after = (w : W) → next ≡ Some w → after ≡ (giving me.0 p.word w, rest me.1)

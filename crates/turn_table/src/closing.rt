@@ -1,0 +1,74 @@
+//! How a row of turns ends.
+ghost use Rattle.std.specs.Prelude.{◌≡◌, ◌⊎◌, ℕ, ◌<◌, ◌≤◌, List, [], false, map, length, Some, IfOk, vec_len, vec_capacity};
+ghost use Rattle.std.specs.Slots.{slots_items, slots_filled, slots_len, IsFull};
+ghost use Rattle.std.specs.List.{slice_index_or};
+ghost use Rattle.turn_table.specs.Board.{opening};
+ghost use Rattle.turn_table.specs.Standings.{met, HasNumber, SomeHas, AreFree, Shows, ShowAll};
+
+use crate::opening::NoMemory;
+use crate::party::Party;
+use crate::plays::Gather;
+use crate::rule::TurnRule;
+use crate::turns::Turns;
+use atomic_table::Closed;
+use std::alloc::Global;
+
+impl<V, R: TurnRule<V>> Turns<V, R> {
+    // `other` joins `party`, which learns nothing.
+    fn take_in(&self, party: &mut Party<V, R>, other: Party<V, R>)
+        requires row { (party.old.table ≡ self.now.table) × (other.table ≡ self.now.table) }
+        requires free { (party.old.held ≡ []) × (other.held ≡ []) }
+        ensures { party.new ≡ met party.old other party.old.own }
+    {
+        self.table
+            .shared
+            .join_seat::<Gather<V, R>>(&mut party.seat, other.into_seat());
+    }
+
+    // All these parties join `party`.
+    fn gather(&self, party: &mut Party<V, R>, mut others: Vec<Party<V, R>>)
+        requires row { (party.old.table ≡ self.now.table) × (party.old.held ≡ []) }
+        requires others { AreFree self.now.table others.items }
+        ensures row { (party.new.table ≡ self.now.table) × (party.new.held ≡ []) }
+        ensures numbers { (n : ℕ) → HasNumber n party.old ⊎ SomeHas n others.items → HasNumber n party.new }
+        ensures views { (views : List R.View) → Shows views party.new → Shows views party.old × ShowAll views others.items }
+    {
+        while let Some(other) = others.pop() {
+            self.take_in(party, other);
+        }
+    }
+}
+
+// The values, from slots that all have one.
+fn take_values<V: Drop>(closed: &mut Closed<Option<V>, Global>, values: &mut Vec<V>)
+    requires full { IsFull closed.old.slots × ((vs : List V) × (slots_items closed.old.slots ≡ map Some vs)) }
+    requires room { (vec_len values.old ≡ 0) × (slots_len closed.old.slots ≤ vec_capacity values.old) }
+    ensures values { slots_items closed.old.slots ≡ map Some values.new.items }
+    ensures taken { (k : ℕ) → k < slots_len closed.new.slots → slice_index_or (slots_filled closed.new.slots) k false ≡ false }
+{
+    for i in 0..closed.slot_count() {
+        let Some(value) = closed.take(i) else {
+            unreachable!()
+        };
+        values.push_reserved(value);
+    }
+}
+
+impl<V: Drop, R: TurnRule<V>> Turns<V, R> {
+    /// The values, once all parties are there and none holds a turn. They meet the rule, with what the parties know.
+    pub fn close(self, mut parties: Vec<Party<V, R>>) -> Result<Vec<V>, NoMemory>
+        requires free { AreFree self.table parties.items }
+        requires all { (n : ℕ) → n < self.parties → SomeHas n parties.items }
+        ensures { IfOk result (λ vs. (vec_len vs ≡ self.turns) × ((views : List R.View) × (length views ≡ self.parties) × ShowAll views parties.items × R.holds (opening vs.items views))) }
+    {
+        let mut values = Vec::with_capacity(self.alloc, self.turns as usize)?;
+        let Some(mut party) = parties.pop() else {
+            unreachable!()
+        };
+        self.gather(&mut party, parties);
+        let mut closed = self.into_table().close_with(party.into_seat());
+        take_values(&mut closed, &mut values);
+        closed.free();
+        Ok(values)
+    }
+}

@@ -1,0 +1,179 @@
+//! The row of turns, and the steps on it.
+ghost use Rattle.std.specs.Prelude.{◌≡◌, ◌≢◌, ℕ, ◌<◌, List, [], Some, IfSome};
+ghost use Rattle.turn_table.specs.Board.{IsAmong, WasFree, WasTaken, Loses, MayGive};
+ghost use Rattle.turn_table.specs.Standings.{Apart, took, saw, gave_back, met, IsLast, stayed, parted};
+ghost use Rattle.turn_table.specs.Taken.{IfTaken, IfBusy};
+
+use crate::party::Party;
+use crate::plays::{Bring, Give, Meet, Next, Part, Ruled, Setup, Try};
+use crate::rule::{GivenView, TurnRule};
+use crate::standing::Standing;
+use crate::take::Take;
+use atomic_table::Table;
+use std::alloc::Global;
+use std::marker::{Brand, Model, PhantomData};
+use std::sync::Wait;
+use std::thread;
+
+/// A row of values, each behind a turn.
+pub struct Turns<V, R: TurnRule<V>> {
+    pub(crate) table: RowTable<V, R>,
+    pub(crate) turns: u32,
+    pub(crate) alloc: Global,
+}
+
+impl<V, R: TurnRule<V>> Model for Turns<V, R> {
+    ghost use Rattle.turn_table.specs.Standings.{Row, IsRow};
+
+    ghost Value = { Row };
+
+    ghost view = { λ t. record { table = t.table.shared.table_id; turns = t.turns; parties = t.table.shared.key.parties } };
+
+    ghost invariant = { λ t. IsRow t.table.shared.table_id t.turns t.table.shared.key.parties };
+}
+
+impl<V, R: TurnRule<V>> Turns<V, R> {
+    /// Takes the turn `i` if it is free.
+    pub fn try_take(&self, party: &mut Party<V, R>, i: u32) -> Take<V>
+        requires row { party.old.table ≡ self.now.table }
+        requires range { i < self.now.turns }
+        requires not_held { ¬ IsAmong i party.old.held }
+        ensures taken { IfTaken result (λ v. WasFree R.holds party.old.number i v party.old.own × (party.new ≡ took party.old i (R.won party.old.number i v party.old.own))) }
+        ensures busy { IfBusy result (λ m. WasTaken R.holds party.old.number i m party.old.own × (party.new ≡ saw party.old (R.lost party.old.number i m party.old.own))) }
+        ensures owner { IfBusy result (λ m. (m < party.old.parties) × (m ≢ party.old.number) × Apart m party.old.joined) }
+    {
+        let mine = u64::from(party.number) + 1;
+        let shared = &self.table.shared;
+        let found = shared.compare_exchange::<Try<R>>(&mut party.seat, i as usize, 0, mine);
+        if found != 0 {
+            return Take::Busy {
+                owner: (found - 1) as u32,
+            };
+        }
+        let Some(value) = shared.exchange(&mut party.seat, i as usize, None) else {
+            unreachable!()
+        };
+        Take::Taken(value)
+    }
+
+    /// Gives the turn `i` back with `value`. What the party knows from then on rests on what it knew, the turn and the value.
+    pub fn give<M: GivenView<V, R::View, ()>>(&self, party: &mut Party<V, R>, i: u32, value: V)
+        requires row { party.old.table ≡ self.now.table }
+        requires held { IsAmong i party.old.held }
+        requires rule { MayGive R.holds party.old.number i value party.old.own (M.given tt party.old.own i value) }
+        ensures { party.new ≡ gave_back party.old i (M.given tt party.old.own i value) }
+    {
+        self.give_with::<(), M>(party, i, value, &());
+    }
+
+    /// The same, where what the party knows from then on rests on `hand` too, which is what else it has in hand.
+    pub fn give_with<H, M: GivenView<V, R::View, H>>(
+        &self,
+        party: &mut Party<V, R>,
+        i: u32,
+        value: V,
+        hand: &H,
+    )
+        requires row { party.old.table ≡ self.now.table }
+        requires held { IsAmong i party.old.held }
+        requires rule { MayGive R.holds party.old.number i value party.old.own (M.given hand.now party.old.own i value) }
+        ensures { party.new ≡ gave_back party.old i (M.given hand.now party.old.own i value) }
+    {
+        self.hand_back::<H, Brand>(party, i, value, hand);
+    }
+
+    // The party knows `N.next` from then on. `hand` is for the proof alone, where the caller picks `N.next`.
+    fn hand_back<H, N: Next<R::View>>(
+        &self,
+        party: &mut Party<V, R>,
+        i: u32,
+        value: V,
+        hand: &H,
+    )
+        requires row { party.old.table ≡ self.now.table }
+        requires held { IsAmong i party.old.held }
+        requires rule { (w : R.View) × (N.next ≡ Some w) × MayGive R.holds party.old.number i value party.old.own w }
+        ensures { IfSome N.next (λ w. party.new ≡ gave_back party.old i w) }
+    {
+        let _ = hand;
+        let shared = &self.table.shared;
+        shared.load::<Bring>(&mut party.seat, i as usize);
+        let empty = shared.exchange(&mut party.seat, i as usize, Some(value));
+        let None = empty else { unreachable!() };
+        shared.store::<Give<N>>(&mut party.seat, i as usize, 0);
+    }
+
+    /// Takes the turn `i`, and waits while another party has it.
+    pub fn take(&self, rt: &impl Wait, party: &mut Party<V, R>, i: u32) -> V
+        requires row { party.old.table ≡ self.now.table }
+        requires range { i < self.now.turns }
+        requires not_held { ¬ IsAmong i party.old.held }
+        ensures { (owners : List ℕ) × (w : R.View) × Loses R.holds R.lost party.old.number i owners party.old.own w × WasFree R.holds party.old.number i result w × (party.new ≡ took party.old i (R.won party.old.number i result w)) }
+    {
+        for _ in rt.forever() {
+            match self.try_take(party, i) {
+                Take::Taken(value) => return value,
+                Take::Busy { owner: _ } => thread::yield_now(),
+            }
+        }
+        unreachable!()
+    }
+
+    /// `other` joins `party`, which keeps what either has made, holds and claims under its own number, and has seen what either has seen.
+    pub fn join(&self, party: &mut Party<V, R>, other: Party<V, R>)
+        requires row { (party.old.table ≡ self.now.table) × (other.table ≡ self.now.table) }
+        requires free { (party.old.held ≡ []) × (other.held ≡ []) }
+        ensures { party.new ≡ met party.old other (R.learned party.old.own other.own) }
+    {
+        self.table
+            .shared
+            .join_seat::<Meet<V, R>>(&mut party.seat, other.into_seat());
+    }
+
+    /// The party of this number, which joined `party` last, parts from it. It has all that is its own, and has seen what `party` has seen.
+    pub fn part(&self, party: &mut Party<V, R>, number: u32) -> Party<V, R>
+        requires row { party.old.table ≡ self.now.table }
+        requires free { party.old.held ≡ [] }
+        requires last { IsLast number party.old.joined }
+        ensures party { party.new ≡ stayed party.old }
+        ensures result { result ≡ parted (λ w. R.learned w party.old.own) party.old party.old.joined }
+    {
+        let seat = self.table.shared.split_seat::<Part<V, R>>(&mut party.seat);
+        Party {
+            number,
+            seat,
+            rule: PhantomData,
+        }
+    }
+}
+
+pub(crate) type RowTable<V, R> = Table<
+    Option<V>,
+    Standing<<R as TurnRule<V>>::View>,
+    Setup<<R as TurnRule<V>>::Key>,
+    Ruled<R>,
+    Global,
+>;
+
+impl<V: Drop, R: TurnRule<V>> Turns<V, R> {
+    pub(crate) fn into_table(self) -> RowTable<V, R>
+        ensures { (result.shared.table_id ≡ self.table) × (result.shared.table_id.slots ≡ self.turns) × (result.shared.key.parties ≡ self.parties) × (0 < self.parties) }
+    {
+        let Turns {
+            table,
+            turns: _,
+            alloc: _,
+        } = self;
+        table
+    }
+}
+
+impl<V: Drop, R: TurnRule<V>> Drop for Turns<V, R> {
+    fn drop(self) {
+        let Turns {
+            table: _,
+            turns: _,
+            alloc: _,
+        } = self;
+    }
+}
