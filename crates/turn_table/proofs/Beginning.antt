@@ -65,19 +65,19 @@ module _ {V : Type 0} where
 module _ {V W : Type 0} (holds : Board V W → Type 0) where
   opens_at : (p : ℕ) (f : ℕ → W) (vs : List V) → 0 < p → holds (opening vs (numbered f 0 p)) → IsKept holds p (table_opening (replicate (length vs) 0) (map Some vs) (whole p f))
   opens_at p f vs some_party rule = record {
-      turns = map free vs;
-      views = numbered f 0 p;
-      seat = λ _. 0;
-      stands = record {
-        words = length_replicate (length vs) 0 ∙ sym (length_map free vs);
-        homes = length_map some (map Some vs) ∙ (length_map Some vs ∙ sym (length_map free vs));
-        each = stands_at vs;
-      };
-      rule = rule;
-      count = numbered_length f 0 p;
-      seats = only;
-      owners = λ i n e. absurd (none_taken vs i n e);
-    }
+    turns = map free vs;
+    views = numbered f 0 p;
+    seat = λ _. 0;
+    stands = record {
+      words = length_replicate (length vs) 0 ∙ sym (length_map free vs);
+      homes = length_map some (map Some vs) ∙ (length_map Some vs ∙ sym (length_map free vs));
+      each = stands_at vs;
+    };
+    rule = rule;
+    count = numbered_length f 0 p;
+    seats = only;
+    owners = λ i n e. absurd (none_taken vs i n e);
+  }
     where
       first : Sits p (map free vs) (numbered f 0 p) (λ _. 0) 0 (whole p f)
       first = record {

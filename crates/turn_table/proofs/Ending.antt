@@ -146,12 +146,12 @@ module _ {V W : Type 0} (holds : Board V W → Type 0) (parties : ℕ) where
       let r = fin.1.0 in
       let own = r.seats id x fin.1.1 live in
       let nobody : (i n : ℕ) → get_elem? r.turns i ≡ some (taken n) → ⊥ = λ i n e.
-          let h = r.owners i n e in
-          let there = r.seats h.id h.standing h.at h.live in
-          let below : n < parties = let a : h.standing.number < length r.views = within r.views h.standing.number h.standing.own there.own_is in let b : length r.views ≡ parties = r.count in let c : h.standing.number ≡ n = h.number in omega arith in
-          let mine : r.seat n ≡ id = ⊎_elim (λ q. ap r.seat (sym q) ∙ own.own_at) (λ q. seat_of r.views r.seat id n x.joined own.joined q) (all n below) in
-          let one : h.id ≡ id = sym there.own_at ∙ (ap r.seat h.number ∙ mine) in
-          subst (λ (l : List ℕ). IsAmong i l) idle (subst (λ (t : Standing W). IsAmong i t.held) (same_at s.views id h.standing x (subst (λ (t : ℕ). get_elem? s.views t ≡ some h.standing) one h.at) fin.1.1) h.among) in
+      let h = r.owners i n e in
+      let there = r.seats h.id h.standing h.at h.live in
+      let below : n < parties = let a : h.standing.number < length r.views = within r.views h.standing.number h.standing.own there.own_is in let b : length r.views ≡ parties = r.count in let c : h.standing.number ≡ n = h.number in omega arith in
+      let mine : r.seat n ≡ id = ⊎_elim (λ q. ap r.seat (sym q) ∙ own.own_at) (λ q. seat_of r.views r.seat id n x.joined own.joined q) (all n below) in
+      let one : h.id ≡ id = sym there.own_at ∙ (ap r.seat h.number ∙ mine) in
+      subst (λ (l : List ℕ). IsAmong i l) idle (subst (λ (t : Standing W). IsAmong i t.held) (same_at s.views id h.standing x (subst (λ (t : ℕ). get_elem? s.views t ≡ some h.standing) one h.at) fin.1.1) h.among) in
       let v = all_frees r.turns nobody in
       let homes : length s.homes ≡ length v.0 = r.stands.homes ∙ (ap length v.1 ∙ long v.0) in
       record {

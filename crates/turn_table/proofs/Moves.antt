@@ -45,18 +45,18 @@ module _ {V W : Type 0} (holds : Board V W → Type 0) (parties : ℕ) where
       → AllHeld us x.number is → AllOnce is
       → IsKept holds parties record { words = ws; homes = hs; views = set s.views id record { live = x.live; parties = x.parties; number = x.number; own = w; joined = x.joined; held = is } }
   moved s r id x at live us ws hs w is stands rule theirs whose mine once = record {
-      turns = us;
-      views = set r.views x.number w;
-      seat = r.seat;
-      stands = stands;
-      rule = rule;
-      count = length-set r.views x.number w ∙ r.count;
-      seats = λ j y e alive. ⊎_elim
-          (λ p. let P : ℕ → Standing W → Type 0 = Sits parties us (set r.views x.number w) r.seat in subst (λ (z : ℕ × Standing W). P z.0 z.1) (λ k. (sym p.0 k, p.1 k)) here)
-          (λ p. there j y p.0 p.1 alive)
-          (at_set s.views id j x' y e);
-      owners = λ j m e. ⊎_elim (λ p. other j m p.0 (r.owners j m p.1)) (λ p. record { id = id; standing = x'; at = set_here s.views id x' (within s.views id x at); live = live; number = sym p.0; among = p.1 }) (whose j m e);
-    }
+    turns = us;
+    views = set r.views x.number w;
+    seat = r.seat;
+    stands = stands;
+    rule = rule;
+    count = length-set r.views x.number w ∙ r.count;
+    seats = λ j y e alive. ⊎_elim
+        (λ p. let P : ℕ → Standing W → Type 0 = Sits parties us (set r.views x.number w) r.seat in subst (λ (z : ℕ × Standing W). P z.0 z.1) (λ k. (sym p.0 k, p.1 k)) here)
+        (λ p. there j y p.0 p.1 alive)
+        (at_set s.views id j x' y e);
+    owners = λ j m e. ⊎_elim (λ p. other j m p.0 (r.owners j m p.1)) (λ p. record { id = id; standing = x'; at = set_here s.views id x' (within s.views id x at); live = live; number = sym p.0; among = p.1 }) (whose j m e);
+  }
     where
       x' : Standing W
       x' = record { live = x.live; parties = x.parties; number = x.number; own = w; joined = x.joined; held = is }
@@ -145,9 +145,9 @@ module _ {V W : Type 0} (holds : Board V W → Type 0) (parties : ℕ) where
                 (keeps_won b n i v me.0.own r.rule e own.own_is)
                 (λ j m _. stay j m)
                 (λ j m f. ⊎_elim
-                    (λ p. inr (sym (taken_injective n m p.1), inl (sym p.0)))
-                    (λ p. whose_else s r id me.0 at live j m (i ∷ me.0.held) inr p.1)
-                    (at_set r.turns i j (taken n) (taken m) f))
+                (λ p. inr (sym (taken_injective n m p.1), inl (sym p.0)))
+                (λ p. whose_else s r id me.0 at live j m (i ∷ me.0.held) inr p.1)
+                (at_set r.turns i j (taken n) (taken m) f))
                 (set_here r.turns i (taken n) near, held_else r.turns (set r.turns i (taken n)) n me.0.held (λ j. stay j n) own.held)
                 (not_held, own.once),
             ((λ _. (v, record { board = b; held = r.rule; turn = e; view = own.own_is }, refl)), λ m f. absurd (cc)),
@@ -164,7 +164,7 @@ module _ {V W : Type 0} (holds : Board V W → Type 0) (parties : ℕ) where
           let there = r.seats h.id h.standing h.at h.live in
           let below : m < me.0.parties = let a : h.standing.number < length r.views = within r.views h.standing.number h.standing.own there.own_is in let c : length r.views ≡ me.0.parties = r.count ∙ sym own.all in let d : h.standing.number ≡ m = h.number in omega arith in
           let far : r.seat m ≢ id = λ q. let one : h.id ≡ id = sym there.own_at ∙ (ap r.seat h.number ∙ q) in
-              other (sym h.number ∙ ap (λ (y : Standing W). y.number) (same_at s.views id h.standing me.0 (subst (λ (z : ℕ). get_elem? s.views z ≡ some h.standing) one h.at) at)) in
+          other (sym h.number ∙ ap (λ (y : Standing W). y.number) (same_at s.views id h.standing me.0 (subst (λ (z : ℕ). get_elem? s.views z ≡ some h.standing) one h.at) at)) in
           let same : set s.words i (suc m) ≡ s.words = set_again s.words i (suc m) (r.stands.each i (taken m) e).0 in (
             seeing me.0 u,
             keeps,
@@ -231,9 +231,9 @@ module _ {V W : Type 0} (holds : Board V W → Type 0) (parties : ℕ) where
             (may b r.rule e own.own_is)
             (λ j m other f. set_else r.turns i j (free v) (λ q. other (sym (taken_injective n m (same_at r.turns i (taken n) (taken m) e (subst (λ (z : ℕ). get_elem? r.turns z ≡ some (taken m)) q f))))) ∙ f)
             (λ j m f. ⊎_elim
-                (λ p. absurd (free_taken v m p.1))
-                (λ p. whose_else s r id x at live j m (without i x.held) (among_without i j x.held p.0) p.1)
-                (at_set r.turns i j (free v) (taken m) f))
+            (λ p. absurd (free_taken v m p.1))
+            (λ p. whose_else s r id x at live j m (without i x.held) (among_without i j x.held p.0) p.1)
+            (at_set r.turns i j (free v) (taken m) f))
             (held_without r.turns n i (free v) x.held own.once own.held)
             (once_without i x.held own.once),
         λ u f. ap (λ (z : W). (giving x i z, es)) (some_same w u (sym is ∙ f)),

@@ -51,13 +51,13 @@ module _ {V : Type 0} where
   pub stands_set : (ws : List ℕ) (hs : Slots V) (ts : List (Turn V)) (i w : ℕ) (h : maybe.Option (Option V)) (t : Turn V) → AllStand ws hs ts → i < length ts
       → StandsAt (set ws i w) (set hs i h) i t → AllStand (set ws i w) (set hs i h) (set ts i t)
   stands_set ws hs ts i w h t a near here = record {
-      words = length-set ws i w ∙ (a.words ∙ sym (length-set ts i t));
-      homes = length-set hs i h ∙ (a.homes ∙ sym (length-set ts i t));
-      each = λ j u e. ⊎_elim
-          (λ p. subst (λ (z : ℕ × Turn V). StandsAt (set ws i w) (set hs i h) z.0 z.1) (λ k. (sym p.0 k, p.1 k)) here)
-          (λ p. else_at ws hs i j w h u p.0 (a.each j u p.1))
-          (at_set ts i j t u e);
-    }
+    words = length-set ws i w ∙ (a.words ∙ sym (length-set ts i t));
+    homes = length-set hs i h ∙ (a.homes ∙ sym (length-set ts i t));
+    each = λ j u e. ⊎_elim
+        (λ p. subst (λ (z : ℕ × Turn V). StandsAt (set ws i w) (set hs i h) z.0 z.1) (λ k. (sym p.0 k, p.1 k)) here)
+        (λ p. else_at ws hs i j w h u p.0 (a.each j u p.1))
+        (at_set ts i j t u e);
+  }
     where
       else_at : (ws : List ℕ) (hs : Slots V) (i j w : ℕ) (h : maybe.Option (Option V)) (u : Turn V) → j ≢ i → StandsAt ws hs j u → StandsAt (set ws i w) (set hs i h) j u
       else_at ws hs i j w h (free v) n s = (set_else ws i j w n ∙ s.0, set_else hs i j h n ∙ s.1)
@@ -152,14 +152,14 @@ module _ {V : Type 0} where
   fronted i [] hs all o h = absurd h
   fronted i (k ∷ ks) hs all o h =
       let P : Bool → Type 0 = λ b. let a : Act (Option V) = front_if b k i (front i ks) in
-          Valid hs (empties (k ∷ ks)) a × (homes_after hs (empties (k ∷ ks)) a ≡ hs) × (carried_after (empties (k ∷ ks)) a ≡ (i, None) ∷ empties (if b then ks else k ∷ without i ks)) in
+      Valid hs (empties (k ∷ ks)) a × (homes_after hs (empties (k ∷ ks)) a ≡ hs) × (carried_after (empties (k ∷ ks)) a ≡ (i, None) ∷ empties (if b then ks else k ∷ without i ks)) in
       dite (ℕ_discrete k i)
-          (λ e. subst P (sym (eq-eqb k i e)) (tt, refl, ap (λ (z : ℕ). (z, None) ∷ empties ks) e))
-          (λ n. subst P (sym (ne_eqb k i n))
-              (let hs1 : Slots V = set hs k (some None) in
-               let there : IsAmong i ks = ⊎_elim (λ e. absurd (n e)) (λ t. t) h in
-               let r = fronted i ks hs1 (out_set hs k (some None) ks o.0 all.1) o.1 there in
-               let es : List (ℕ × Option V) = empties (without i ks) in
-               let last : Ends i k hs es (homes_after hs1 (empties ks) (front i ks)) (carried_after (empties ks) (front i ks)) =
-                   subst (λ (z : Slots V × List (ℕ × Option V)). Ends i k hs es z.0 z.1) (λ j. (sym r.1 j, sym r.2 j)) (ends i k hs es n all.0 (out_at hs i ks all.1 there)) in
-               ((tt, (r.0, last.0)), last.1, last.2)))
+      (λ e. subst P (sym (eq-eqb k i e)) (tt, refl, ap (λ (z : ℕ). (z, None) ∷ empties ks) e))
+      (λ n. subst P (sym (ne_eqb k i n))
+      (let hs1 : Slots V = set hs k (some None) in
+      let there : IsAmong i ks = ⊎_elim (λ e. absurd (n e)) (λ t. t) h in
+      let r = fronted i ks hs1 (out_set hs k (some None) ks o.0 all.1) o.1 there in
+      let es : List (ℕ × Option V) = empties (without i ks) in
+      let last : Ends i k hs es (homes_after hs1 (empties ks) (front i ks)) (carried_after (empties ks) (front i ks)) =
+      subst (λ (z : Slots V × List (ℕ × Option V)). Ends i k hs es z.0 z.1) (λ j. (sym r.1 j, sym r.2 j)) (ends i k hs es n all.0 (out_at hs i ks all.1 there)) in
+      ((tt, (r.0, last.0)), last.1, last.2)))

@@ -150,9 +150,9 @@ module _ {V W : Type 0} (holds : Board V W → Type 0) (parties : ℕ) where
           seats = λ j z e alive. ⊎_elim
               (λ p. absurd (dead w z p.1 alive))
               (λ p. ⊎_elim
-                  (λ q. subst (λ (t : ℕ × Standing W). P t.0 t.1) (λ k. (sym q.0 k, q.1 k)) joins_sit)
-                  (λ q. stays_sit j z q.0 p.0 q.1 alive)
-                  (at_set s.views id j (meeting x y u) z p.1))
+              (λ q. subst (λ (t : ℕ × Standing W). P t.0 t.1) (λ k. (sym q.0 k, q.1 k)) joins_sit)
+              (λ q. stays_sit j z q.0 p.0 q.1 alive)
+              (at_set s.views id j (meeting x y u) z p.1))
               (at_set first other j (spent w) z e);
           owners = λ i m e. let h = r.owners i m e in
               let far : h.id ≢ id = λ q. idle x free_x i (subst (λ (t : Standing W). IsAmong i t.held) (same_at s.views id h.standing x (subst (λ (t : ℕ). get_elem? s.views t ≡ some h.standing) q h.at) at) h.among) in
@@ -188,7 +188,7 @@ module _ {V W : Type 0} (holds : Board V W → Type 0) (parties : ℕ) where
       let at' : get_elem? s.views other ≡ some y = sym (set_else s.views id other (meeting x y x.own) ne) ∙ at2 in
       let own = r.seats id x at live in
       joins_kept s r id other x y x.own w at live ne at' live' free_x free_y
-          (subst (λ (l : List W). holds record { turns = r.turns; views = l }) (sym (set_again r.views x.number x.own own.own_is)) r.rule)
+      (subst (λ (l : List W). holds record { turns = r.turns; views = l }) (sym (set_again r.views x.number x.own own.own_is)) r.rule)
 
   -- the party that joined the seat id last, of the standing x, parts from it and knows u
   module _ (s : State (Option V) (Standing W)) (r : IsKept holds parties s) (id : ℕ) (x : Standing W) (k : Kept W) (ks : List (Kept W)) (u : W) (at : get_elem? s.views id ≡ some x) (live : x.live ≡ true)
@@ -260,7 +260,7 @@ module _ {V W : Type 0} (holds : Board V W → Type 0) (parties : ℕ) where
     others_sit j z far e alive =
         let p = r.seats j z e alive in
         let same : (n : ℕ) → r.seat n ≡ j → (seat_after n ≡ j) × (get_elem? (set r.views k.number u) n ≡ get_elem? r.views n) = λ n q.
-            let a = unmoved n (far_apart r.views r.seat id n going (λ f. far (sym q ∙ f)) going_kept) in (a.0 ∙ q, a.1) in record {
+        let a = unmoved n (far_apart r.views r.seat id n going (λ f. far (sym q ∙ f)) going_kept) in (a.0 ∙ q, a.1) in record {
           all = p.all;
           own_at = (same z.number p.own_at).0;
           own_is = (same z.number p.own_at).1 ∙ p.own_is;
@@ -284,9 +284,9 @@ module _ {V W : Type 0} (holds : Board V W → Type 0) (parties : ℕ) where
           count = length-set r.views k.number u ∙ r.count;
           seats = λ j z e alive. ⊎_elim
               (λ (p : get_elem? stays j ≡ some z). ⊎_elim
-                  (λ q. subst (λ (t : ℕ × Standing W). P t.0 t.1) (λ i. (sym q.0 i, q.1 i)) stayer_sits)
-                  (λ q. others_sit j z q.0 q.1 alive)
-                  (at_set s.views id j Stayer z p))
+              (λ q. subst (λ (t : ℕ × Standing W). P t.0 t.1) (λ i. (sym q.0 i, q.1 i)) stayer_sits)
+              (λ q. others_sit j z q.0 q.1 alive)
+              (at_set s.views id j Stayer z p))
               (λ (p : (j ≡ length stays) × (Goer ≡ z)). subst (λ (t : ℕ × Standing W). P t.0 t.1) (λ i. (sym (p.0 ∙ long) i, p.1 i)) goer_sits)
               (at_end stays j Goer z e);
           owners = λ i m e. let h = r.owners i m e in

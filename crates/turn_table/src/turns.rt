@@ -83,13 +83,7 @@ impl<V, R: TurnRule<V>> Turns<V, R> {
     }
 
     // The party knows `N.next` from then on. `hand` is for the proof alone, where the caller picks `N.next`.
-    fn hand_back<H, N: Next<R::View>>(
-        &self,
-        party: &mut Party<V, R>,
-        i: u32,
-        value: V,
-        hand: &H,
-    )
+    fn hand_back<H, N: Next<R::View>>(&self, party: &mut Party<V, R>, i: u32, value: V, hand: &H)
         requires row { party.old.table ≡ self.now.table }
         requires held { IsAmong i party.old.held }
         requires rule { (w : R.View) × (N.next ≡ Some w) × MayGive R.holds party.old.number i value party.old.own w }

@@ -29,11 +29,11 @@ finished g c =
     let party = c.into_seat.ensures.party in
     let idle : c.into_seat.result.me.0.held ≡ [] = ap (λ (v : Place g.row.R-View.Denot). v.held) place ∙ c.gather.ensures.row.1 in
     ended g.R.TurnRule.holds c.into_table.result.shared.key.parties c.into_seat.result.id c.into_seat.result.me.0 _ (slots_items c.close_with-closed.result.slots) party.live idle
-        (λ n below.
-            let some_has = c.requires.all n (subst (λ (m : ℕ). n < m) c.into_table.ensures.2 below) in
-            let either = has_last n c.pop.new.self.items c.in-Some.party (subst (SomeHas n) c.in-Some.ensures.items some_has) in
-            subst (HasNumber n) (sym place) (c.gather.ensures.numbers n (⊎_elim inr inl either)))
-        c.close_with-closed.ensures.values.2
+    (λ n below.
+    let some_has = c.requires.all n (subst (λ (m : ℕ). n < m) c.into_table.ensures.2 below) in
+    let either = has_last n c.pop.new.self.items c.in-Some.party (subst (SomeHas n) c.in-Some.ensures.items some_has) in
+    subst (HasNumber n) (sym place) (c.gather.ensures.numbers n (⊎_elim inr inl either)))
+    c.close_with-closed.ensures.values.2
 
 pub take_values-requires-clause-full : goal.take_values-requires-clause-full
 take_values-requires-clause-full g c =
@@ -50,8 +50,7 @@ returns g c =
     let both = c.gather.ensures.views r.0 shown in
     let counted : length c.take_values.new.values.items ≡ length (slots_items c.close_with-closed.result.slots) = sym (length_some c.take_values.new.values.items) ∙ ap length (sym c.take_values.ensures.values) in
     let wide = slots_counts c.close_with-closed.result.slots in
-    let slots = c.close_with-closed.ensures.counts in
-    (
+    let slots = c.close_with-closed.ensures.counts in (
       c.take_values.new.values.ok.0 ∙ (counted ∙ (sym wide.0 ∙ (slots.1 ∙ c.into_table.ensures.1))),
       (r.0, r.1 ∙ c.into_table.ensures.2, subst (ShowAll r.0) (sym c.in-Some.ensures.items) (show_last r.0 c.pop.new.self.items c.in-Some.party both.1 both.0), r.2),
     )

@@ -12,8 +12,7 @@ loop-number-preserved g c =
     let n : ℕ = c.loop-number.number in
     let below : n < c.args.parties = omega arith in
     let from : 1 ≤ n = omega arith in
-    let before = c.loop-number.invariant in
-    (
+    let before = c.loop-number.invariant in (
       c.send_off.ensures.party ∙ deal_stays f c.args.self.now.table c.args.parties n below c.loop-number.first before.0,
       c.in_ok-push.ensures.items ∙ (ap (λ l. c.loop-number.all.items ++ l ∷ []) (c.send_off.ensures.result ∙ deal_goes f c.args.self.now.table c.args.parties n below c.loop-number.first before.0)
           ∙ (ap (λ l. l ++ newcomer c.args.self.now.table c.args.parties n (f n) ∷ []) before.1 ∙ newcomers_next f c.args.self.now.table c.args.parties n from)),

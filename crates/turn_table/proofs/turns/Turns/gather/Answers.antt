@@ -17,7 +17,7 @@ pub loop-other-preserved : goal.loop-other-preserved
 loop-other-preserved g c =
     let t = c.loop-other.invariant in
     subst (λ p. Takes c.args.self.now.table p c.args.party.now c.pop.new.self.items c.args.others.items) (sym c.take_in.ensures)
-        (takes_one c.args.self.now.table c.loop-other.party c.args.party.now c.in-Some.other c.loop-other.others.items c.args.others.items c.pop.new.self.items c.in-Some.ensures.items t)
+    (takes_one c.args.self.now.table c.loop-other.party c.args.party.now c.in-Some.other c.loop-other.others.items c.args.others.items c.pop.new.self.items c.in-Some.ensures.items t)
 
 pub returns-clause-numbers : goal.returns-clause-numbers
 returns-clause-numbers g c = λ n h.

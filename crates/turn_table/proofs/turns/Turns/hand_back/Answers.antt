@@ -26,14 +26,13 @@ store-requires g c =
     let swapped = c.exchange-empty.ensures.3 in
     let one : c.exchange-empty.new.seat.me.0 ≡ x = ap (λ m. m.0) swapped ∙ ap (λ m. m.0) c.load.ensures.2 in
     let out : c.exchange-empty.new.seat.me.1 ≡ (c.args.i, Some c.args.value) ∷ rest c.exchange-empty.new.seat.me.1 =
-        ap (λ m. m.1) swapped ∙ ap (λ m. (c.args.i, Some c.args.value) ∷ rest m.1) (sym swapped) in
+    ap (λ m. m.1) swapped ∙ ap (λ m. (c.args.i, Some c.args.value) ∷ rest m.1) (sym swapped) in
     let among : IsAmong c.args.i x.held = subst (λ (v : Place g.row.R-View.Denot). IsAmong c.args.i v.held) (sym c.party.view_is) c.requires.held in
     let rule = c.requires.rule in
     let table_at : c.party.inside.seat.table_id ≡ c.self.inside.table.shared.table_id = search rules in
     let swapped_at : c.exchange-empty.new.seat.table_id ≡ c.party.inside.seat.table_id = c.exchange-empty.ensures.0 ∙ c.load.ensures.0 in
     let near_words : c.args.i < c.self.inside.table.shared.table_id.words = subst (λ z. c.args.i < z.words) table_at (below_at c.party.inside.seat.table_id.words c.args.i _ p.below among) in
-    let may : MayGive g.R.TurnRule.holds x.number c.args.i c.args.value x.own rule.0 = subst (λ (v : Place g.row.R-View.Denot). MayGive g.R.TurnRule.holds v.number c.args.i c.args.value v.own rule.0) (sym c.party.view_is) rule.2 in
-    (
+    let may : MayGive g.R.TurnRule.holds x.number c.args.i c.args.value x.own rule.0 = subst (λ (v : Place g.row.R-View.Denot). MayGive g.R.TurnRule.holds v.number c.args.i c.args.value v.own rule.0) (sym c.party.view_is) rule.2 in (
       swapped_at ∙ table_at,
       near_words,
       gives_back _ _ _ c.args.i c.exchange-empty.new.seat.id c.exchange-empty.new.seat.me c.args.value rule.0 g.N.Next.next out rule.1

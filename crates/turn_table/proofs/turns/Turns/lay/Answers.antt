@@ -8,4 +8,4 @@ new-requires g c =
     let key = c.of.ensures in
     let words : c.as_slice.result.now ≡ replicate (length c.args.values.items) 0 = search rules in
     opens g.R.TurnRule.holds c.args.parties (g.R.TurnRule.first c.of.result.value) c.args.values.items c.as_slice.result.now c.in_ok-slots.slots.items c.requires.parties words c.in_ok-slots.ensures
-        (subst (λ (k : g.row.R-Key.Denot). g.R.TurnRule.holds (opening c.args.values.items (numbered (g.R.TurnRule.first k) 0 c.args.parties))) (sym key) c.requires.rule)
+    (subst (λ (k : g.row.R-Key.Denot). g.R.TurnRule.holds (opening c.args.values.items (numbered (g.R.TurnRule.first k) 0 c.args.parties))) (sym key) c.requires.rule)

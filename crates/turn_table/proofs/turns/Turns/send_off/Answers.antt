@@ -13,8 +13,7 @@ split_seat-seat-requires g c =
     let t : c.party.inside.seat.table_id ≡ c.self.inside.table.shared.table_id = search rules in
     let free : x.held ≡ [] = ap (λ (v : Place g.row.R-View.Denot). v.held) c.party.view_is ∙ c.requires.free in
     let last : IsLast c.args.number x.joined = subst (λ (v : Place g.row.R-View.Denot). IsLast c.args.number v.joined) (sym c.party.view_is) c.requires.last in
-    let k = some_last c.args.number x.joined last in
-    (
+    let k = some_last c.args.number x.joined last in (
       t,
       subst (λ (n : ℕ). 0 < n) (sym row.words) row.some_turn,
       deals g.R.TurnRule.holds _ c.party.inside.seat.id x k.0 k.1 p.live free k.2.0,

@@ -14,8 +14,7 @@ compare_exchange-found-requires g c =
     let not_held : ¬ IsAmong c.args.i c.party.inside.seat.me.0.held = subst (λ (v : Place g.row.R-View.Denot). ¬ IsAmong c.args.i v.held) (sym c.party.view_is) c.requires.not_held in
     let near : c.args.i < c.self.inside.turns = subst (λ (v : Row). c.args.i < v.turns) (sym c.self.view_is) c.requires.range in
     let same = c.self.invariant in
-    let mine : c.from-mine.result + 1 ≡ suc c.party.inside.seat.me.0.number = let a = c.from-mine.ensures in let b = p.numbered in omega arith in
-    (
+    let mine : c.from-mine.result + 1 ≡ suc c.party.inside.seat.me.0.number = let a = c.from-mine.ensures in let b = p.numbered in omega arith in (
       t,
       subst (λ z. c.args.i < z) (sym same.words) near,
       tries _ _ g.R.TurnRule.won g.R.TurnRule.lost g.R.TurnRule.keeps_won g.R.TurnRule.keeps_lost _ c.args.i c.party.inside.seat.id (c.from-mine.result + 1) c.party.inside.seat.me p.live not_held mine
@@ -37,7 +36,7 @@ pub invariant_of-party : goal.invariant_of-party
 invariant_of-party g c =
     let h = c.compare_exchange-found.ensures.2.1 (c.compare_exchange-found.result - 1) (before_suc c.compare_exchange-found.result c.if-found-ne0.true) in
     subst (λ z. IsParty c.party.inside.number z.words c.compare_exchange-found.new.seat.me) (sym c.compare_exchange-found.ensures.0)
-        (is_seeing c.party.inside.number c.party.inside.seat.table_id.words c.party.inside.seat.me c.compare_exchange-found.new.seat.me _ c.party.invariant h.4)
+    (is_seeing c.party.inside.number c.party.inside.seat.table_id.words c.party.inside.seat.me c.compare_exchange-found.new.seat.me _ c.party.invariant h.4)
 
 pub returns-then-found-ne0-clause-owner : goal.returns-then-found-ne0-clause-owner
 returns-then-found-ne0-clause-owner g c =
