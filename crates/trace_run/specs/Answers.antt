@@ -8,6 +8,8 @@ use Rattle.trace_text.specs.declared.reply.Reply.{Reply}
 use Rattle.trace_text.specs.declared.reply.Reply.TheVariants.{Read, Kept, Dropped, Refused}
 use Rattle.trace_text.specs.declared.reply.Refusal.{Refusal}
 use Rattle.trace_text.specs.declared.reply.Refusal.TheVariants.{PoolFault, Mismatch, Key, NoMemory, Range, NoHold}
+use Rattle.trace_text.specs.declared.served.Served.{Served}
+use Rattle.trace_text.specs.declared.served.Served.TheVariants as served_from
 use Rattle.trace_text.specs.declared.window.Window.{Window}
 use Rattle.trace_run.specs.Read.{IsServed, IsMismatch}
 
@@ -28,10 +30,14 @@ IsReadRefusal pool_len image ptr NoMemory = ⊥
 IsReadRefusal pool_len image ptr (Range end size) = ⊥
 IsReadRefusal pool_len image ptr (NoHold block) = ⊥
 
+-- where the bytes of a read may come from: there is no cache yet, so it is the pool
+abbrev pub MayServe : Served → Type 0
+MayServe served = served ≡ served_from.Pool
+
 -- the answers to a read that shows a window: a window past the block's size is refused before the key is looked at
 abbrev pub AnswersRead : ℕ → Option (List ℕ) → Ptr → Window → Reply → Type 0
 AnswersRead pool_len image ptr window (Read served digest shown) =
-    IsInside window ptr.key.size × IsValid pool_len ptr.key × (digest ≡ ptr.digest)
+    IsInside window ptr.key.size × IsValid pool_len ptr.key × MayServe served × (digest ≡ ptr.digest)
     × ((bytes : List ℕ) × IsServed image ptr bytes × (shown ≡ window_of window bytes))
 AnswersRead pool_len image ptr window (Refused (Range end size)) =
     (end ≡ window.at + window.len) × (size ≡ ptr.key.size) × (size < end)
@@ -40,7 +46,7 @@ AnswersRead pool_len image ptr window reply = ⊥
 
 -- the answers to a read that is kept
 abbrev pub AnswersHold : ℕ → Option (List ℕ) → Ptr → Reply → Type 0
-AnswersHold pool_len image ptr (Kept served) = IsValid pool_len ptr.key
+AnswersHold pool_len image ptr (Kept served) = IsValid pool_len ptr.key × MayServe served
 AnswersHold pool_len image ptr (Refused refusal) = IsReadRefusal pool_len image ptr refusal
 AnswersHold pool_len image ptr reply = ⊥
 
