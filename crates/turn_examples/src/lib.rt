@@ -2,6 +2,7 @@
 #![tactic(auto)]
 
 pub mod histories;
+pub mod twins;
+
 #[cfg(test)]
 mod tests;
-pub mod twins;

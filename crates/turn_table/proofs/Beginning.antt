@@ -1,16 +1,15 @@
 -- How a row of turns begins: all turns are free, and the first party has every number.
-use Rattle.std.proofs.Common.{◌≡◌, ◌≢◌, ◌⊎◌, ℕ, zero, suc, ◌+◌, ◌-◌, ◌<◌, ◌≤◌, List, [], ◌∷◌, ◌++◌, map, length, set, replicate, Bool, true, false, Option, Some, None, refl, sym, ap, ◌∙◌, subst, inl, inr, ⊎_elim, arith, length-set}
+use Rattle.std.proofs.Common.{◌≡◌, ℕ, zero, suc, ◌+◌, ◌-◌, ◌<◌, ◌≤◌, List, [], ◌∷◌, ◌++◌, map, length, replicate, true, Option, Some, refl, sym, ap, ◌∙◌, subst, arith}
 use mathlib.Core.Option.{some, none, some-injective, some-ne-none}
 use mathlib.Core.Option as maybe
 use lib.ListN.{get_elem?}
-use Rattle.atomic_table.specs.Table.{State, Splits, opening as table_opening}
+use Rattle.atomic_table.specs.Table.{Splits, opening as table_opening}
 use Rattle.atomic_table.specs.Seated.{TableId}
 use Rattle.atomic_table.proofs.Lists.{set_again}
 use Rattle.turn_table.specs.Board.{Turn, free, taken, Board, numbered, opening}
 use Rattle.turn_table.specs.declared.standing.Kept.{Kept}
 use Rattle.turn_table.specs.declared.standing.Standing.{Standing}
-use Rattle.turn_table.specs.Standings.{kept, kept_from, whole, whole_place, newcomer, newcomers, Place, Apart, AllApart, AllKept, AllHeld, StandsAt, AllStand, Sits, HasSeat, IsKept, left_with, leaving, IsLast, stayed, parted}
-use Rattle.turn_table.proofs.Rows.{same_at}
+use Rattle.turn_table.specs.Standings.{kept_from, whole, whole_place, newcomer, newcomers, Place, Apart, AllApart, AllKept, StandsAt, Sits, IsKept, left_with, leaving, IsLast, stayed, parted}
 use Rattle.turn_table.proofs.Seats.{parts}
 
 length_map : {A B : Type 0} (f : A → B) (l : List A) → length (map f l) ≡ length l

@@ -1,16 +1,16 @@
 -- How a row of turns ends: one party has taken in all others, so all turns are free.
-use Rattle.std.proofs.Common.{◌≡◌, ◌≢◌, ◌⊎◌, ℕ, zero, suc, ◌+◌, ◌-◌, ◌<◌, ◌≤◌, List, [], ◌∷◌, ◌++◌, map, length, take, get_or, set, Bool, true, false, Option, Some, None, refl, sym, ap, ◌∙◌, subst, inl, inr, ⊎_elim, arith}
+use Rattle.std.proofs.Common.{◌≡◌, ◌⊎◌, ℕ, zero, suc, ◌+◌, ◌<◌, ◌≤◌, List, [], ◌∷◌, ◌++◌, map, length, take, get_or, set, Bool, true, false, Option, Some, None, refl, sym, ap, ◌∙◌, subst, inl, inr, ⊎_elim, arith}
 use mathlib.Core.Option.{some, none, some-injective, some-ne-none}
 use mathlib.Core.Option as maybe
 use mathlib.Core.List.{map-append}
 use lib.ListN.{get_elem?}
-use Rattle.atomic_table.specs.Table.{State, Final, Seen}
+use Rattle.atomic_table.specs.Table.{Final, Seen}
 use Rattle.atomic_table.specs.Seated.{TableId}
 use Rattle.turn_table.specs.Board.{Turn, free, taken, Board, opening, IsAmong}
 use Rattle.turn_table.specs.declared.standing.Kept.{Kept}
 use Rattle.turn_table.specs.declared.standing.Standing.{Standing}
-use Rattle.turn_table.specs.Standings.{kept, Place, met, entries, IsIn, HasNumber, SomeHas, AreFree, AllShow, Shows, ShowAll, AllKept, StandsAt, AllStand, Sits, HasSeat, IsKept, place_of}
-use Rattle.turn_table.proofs.Rows.{some_at, within, read_at, same_at}
+use Rattle.turn_table.specs.Standings.{Place, met, entries, IsIn, HasNumber, SomeHas, AreFree, AllShow, Shows, ShowAll, AllKept, IsKept}
+use Rattle.turn_table.proofs.Rows.{within, same_at}
 
 -- what is kept while a party takes in others: it, what is left of them, and the two at the start
 pub record Takes {W : Type 0} (id : TableId) (p q : Place W) (ps qs : List (Place W)) : Type 0 where

@@ -1,5 +1,5 @@
 -- Tries that were lost one after the other.
-use Rattle.std.proofs.Common.{◌≡◌, ℕ, List, [], ◌∷◌, ◌++◌, refl, sym, ap, ◌∙◌, subst}
+use Rattle.std.proofs.Common.{◌≡◌, ℕ, List, [], ◌∷◌, ◌++◌, ap, subst}
 use Rattle.turn_table.specs.Board.{Board, WasTaken, Loses}
 
 module _ {V W : Type 0} (holds : Board V W → Type 0) (lost : ℕ → ℕ → ℕ → W → W) (n i : ℕ) where

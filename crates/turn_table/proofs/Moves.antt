@@ -1,17 +1,16 @@
 -- Each step of a row of turns keeps its rule.
-use Rattle.std.proofs.Common.{◌≡◌, ◌≢◌, ◌⊎◌, ◌==◌, if◌then◌else◌, ℕ, zero, suc, ◌+◌, ◌-◌, ◌<◌, List, [], ◌∷◌, ◌++◌, map, length, get_or, set, eqb, Bool, true, false, Option, Some, None, refl, sym, ap, ◌∙◌, subst, inl, inr, ⊎_elim, arith, length-set, ne_eqb}
-use mathlib.Core.Option.{some, none, some-injective, some-ne-none}
-use mathlib.Core.Option as maybe
+use Rattle.std.proofs.Common.{◌≡◌, ◌≢◌, ◌⊎◌, ℕ, suc, ◌<◌, List, [], ◌∷◌, length, get_or, set, eqb, Bool, true, Option, Some, refl, sym, ap, ◌∙◌, subst, inl, inr, ⊎_elim, arith, length-set, ne_eqb}
+use mathlib.Core.Option.{some, none}
 use mathlib.Core.Logic.{dite}
 use native.Mathlib.Decide.{ℕ_discrete}
 use lib.ListN.{get_elem?}
 use prog.Atomic.{either}
-use Rattle.atomic_table.specs.Table.{State, Me, Act, keeps, takes, gives, chain, stepped, Allows, step, Valid, carried_after, homes_after, rest}
-use Rattle.atomic_table.proofs.Lists.{at_set, set_here, set_else, set_again, exchanged}
-use Rattle.turn_table.specs.Board.{Turn, free, taken, Board, IsAmong, without, WasFree, WasTaken, KeepsWon, KeepsLost, MayGive}
+use Rattle.atomic_table.specs.Table.{State, Me, Act, keeps, takes, gives, stepped, Allows, step, Valid, carried_after, rest}
+use Rattle.atomic_table.proofs.Lists.{at_set, set_here, set_else, set_again}
+use Rattle.turn_table.specs.Board.{Turn, free, taken, Board, IsAmong, without, WasTaken, KeepsWon, KeepsLost, MayGive}
 use Rattle.turn_table.specs.declared.standing.Kept.{Kept}
 use Rattle.turn_table.specs.declared.standing.Standing.{Standing}
-use Rattle.turn_table.specs.Standings.{kept, Apart, AllApart, AllKept, AllOnce, StandsAt, AllStand, AllHeld, empties, Sits, HasSeat, IsKept, taking, giving, seeing, tried, brought, gave}
+use Rattle.turn_table.specs.Standings.{Apart, AllKept, AllOnce, AllStand, AllHeld, empties, Sits, HasSeat, IsKept, taking, giving, seeing, tried, brought, gave}
 use Rattle.turn_table.proofs.Rows.{some_at, within, read_at, same_at, stands_set, Slots, among_without, once_without, held_at, held_without, all_out, front, fronted}
 
 module _ {W : Type 0} where

@@ -1,15 +1,14 @@
 -- Lists: turns as words and slots show them, the parties that one party keeps, and the turns that it holds.
-use Rattle.std.proofs.Common.{◌≡◌, ◌≢◌, ◌⊎◌, ◌==◌, if◌then◌else◌, ℕ, zero, suc, ◌+◌, ◌-◌, ◌<◌, List, [], ◌∷◌, ◌++◌, map, length, take, drop, get_or, set, eqb, Bool, true, false, Option, Some, None, refl, sym, ap, ◌∙◌, subst, inl, inr, ⊎_elim, eq-eqb, ne_eqb, arith, length-set}
+use Rattle.std.proofs.Common.{◌≡◌, ◌≢◌, ◌==◌, if◌then◌else◌, ℕ, zero, suc, ◌<◌, List, [], ◌∷◌, length, get_or, set, Bool, true, false, Option, None, refl, sym, ap, ◌∙◌, subst, inl, inr, ⊎_elim, eq-eqb, ne_eqb, arith, length-set}
 use mathlib.Core.Option.{some, none, some-injective, some-ne-none}
 use mathlib.Core.Option as maybe
 use mathlib.Core.Logic.{dite}
 use native.Mathlib.Decide.{ℕ_discrete}
 use lib.ListN.{get_elem?}
 use Rattle.atomic_table.specs.Table.{Act, keeps, takes, gives, chain, Valid, homes_after, carried_after}
-use Rattle.atomic_table.proofs.Lists.{at_set, set_here, set_else, set_again}
+use Rattle.atomic_table.proofs.Lists.{at_set, set_here, set_else}
 use Rattle.turn_table.specs.Board.{Turn, free, taken, IsAmong, without}
-use Rattle.turn_table.specs.declared.standing.Kept.{Kept}
-use Rattle.turn_table.specs.Standings.{kept, Apart, AllApart, AllKept, AllOnce, StandsAt, AllStand, AllHeld, AllBelow, empties}
+use Rattle.turn_table.specs.Standings.{AllOnce, StandsAt, AllStand, AllHeld, AllBelow, empties}
 
 module _ {A : Type 0} where
   pub some_at : (l : List A) (i : ℕ) → i < length l → (a : A) × (get_elem? l i ≡ some a)

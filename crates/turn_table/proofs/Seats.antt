@@ -1,16 +1,15 @@
 -- Numbers go from one seat to another: a join, and a part.
-use Rattle.std.proofs.Common.{◌≡◌, ◌≢◌, ◌⊎◌, ◌==◌, if◌then◌else◌, ℕ, zero, suc, ◌+◌, ◌-◌, ◌<◌, List, [], ◌∷◌, ◌++◌, length, take, drop, set, Bool, true, false, Option, Some, None, refl, sym, ap, ◌∙◌, subst, inl, inr, ⊎_elim, arith, length-set, eq-eqb, ne_eqb}
-use mathlib.Core.Option.{some, none, some-injective, some-ne-none}
-use mathlib.Core.Option as maybe
+use Rattle.std.proofs.Common.{◌≡◌, ◌≢◌, ◌⊎◌, ◌==◌, if◌then◌else◌, ℕ, zero, suc, List, [], ◌∷◌, ◌++◌, length, take, drop, set, true, false, Option, refl, sym, ap, ◌∙◌, subst, inl, inr, ⊎_elim, length-set, eq-eqb, ne_eqb}
+use mathlib.Core.Option.{some, some-injective, some-ne-none}
 use mathlib.Core.Logic.{dite}
 use native.Mathlib.Decide.{ℕ_discrete}
 use lib.ListN.{get_elem?}
 use Rattle.atomic_table.specs.Table.{State, Splits, Joins}
-use Rattle.atomic_table.proofs.Lists.{at_set, at_snoc, at_longer, at_last, set_here, set_else, set_again}
-use Rattle.turn_table.specs.Board.{Turn, free, taken, Board, IsAmong, KeepsLearned}
+use Rattle.atomic_table.proofs.Lists.{at_set, at_longer, set_here, set_else, set_again}
+use Rattle.turn_table.specs.Board.{Board, IsAmong, KeepsLearned}
 use Rattle.turn_table.specs.declared.standing.Kept.{Kept}
 use Rattle.turn_table.specs.declared.standing.Standing.{Standing}
-use Rattle.turn_table.specs.Standings.{kept, Apart, AllApart, AllKept, AllHeld, Sits, HasSeat, IsKept, entries, meeting, leaving, leaves, left_with, rest_of, spent, IsLast, IsIn}
+use Rattle.turn_table.specs.Standings.{Apart, AllApart, AllKept, Sits, IsKept, entries, meeting, leaving, leaves, left_with, rest_of, spent, IsLast, IsIn}
 use Rattle.turn_table.proofs.Rows.{within, same_at}
 
 module _ {W : Type 0} where

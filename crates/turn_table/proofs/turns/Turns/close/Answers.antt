@@ -1,8 +1,6 @@
-use Rattle.std.proofs.Common.{rules, ◌≡◌, ◌<◌, ◌≤◌, ◌+◌, ◌++◌, ◌∷◌, ◌⊎◌, ℕ, List, [], map, length, Option, Some, None, arith, refl, sym, ap, ◌∙◌, subst, inl, inr, ⊎_elim}
+use Rattle.std.proofs.Common.{rules, ◌≡◌, ◌<◌, ℕ, [], length, sym, ap, ◌∙◌, subst, inl, inr, ⊎_elim}
 use Rattle.std.specs.Slots.{slots_items, slots_counts}
-use Rattle.turn_table.specs.Board.{opening}
-use Rattle.turn_table.specs.Standings.{Row, Place, AreFree, SomeHas, HasNumber, ShowAll, Shows, IsIn, AllShow, IsParty}
-use Rattle.turn_table.specs.declared.standing.Standing.{Standing}
+use Rattle.turn_table.specs.Standings.{Row, Place, AreFree, SomeHas, HasNumber, ShowAll, Shows}
 use Rattle.turn_table.proofs.turns.Turns.close.Given.{Over}
 use Rattle.turn_table.proofs.Ending.{nothing_left, free_last, has_last, show_last, ended, ended_as, Ended, length_some}
 use Rattle.turn_table.proofs.turns.Turns.close.Goals as goal

@@ -1,4 +1,4 @@
-use Rattle.std.proofs.Common.{◌≡◌, ◌-◌, ℕ, List}
+use Rattle.std.proofs.Common.{◌≡◌, ◌-◌}
 use Rattle.turn_table.specs.Standings.{newcomers, whole_place}
 use Rattle.turn_table.proofs.turns.Turns.deal.Given as goal
 

@@ -1,5 +1,5 @@
-use Rattle.std.proofs.Common.{rules, ◌≡◌, ◌⊎◌, ℕ, List, [], ◌∷◌, ◌++◌, refl, sym, ap, ◌∙◌, subst, ⊎_elim}
-use Rattle.turn_table.specs.Standings.{Place, SomeHas, ShowAll}
+use Rattle.std.proofs.Common.{rules, ◌≡◌, [], sym, subst, ⊎_elim}
+use Rattle.turn_table.specs.Standings.{SomeHas}
 use Rattle.turn_table.proofs.Ending.{Takes, takes_one, last_free, nothing_left}
 use Rattle.turn_table.proofs.turns.Turns.gather.Goals as goal
 

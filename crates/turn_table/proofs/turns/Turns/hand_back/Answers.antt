@@ -1,7 +1,7 @@
-use Rattle.std.proofs.Common.{rules, ◌≡◌, ◌<◌, ◌∷◌, ℕ, Some, sym, ap, ◌∙◌, subst}
-use Rattle.atomic_table.specs.Table.{rest, Me}
-use Rattle.turn_table.specs.Board.{IsAmong, MayGive, without}
-use Rattle.turn_table.specs.Standings.{Row, Place, IsParty, empties, giving, place_of}
+use Rattle.std.proofs.Common.{rules, ◌≡◌, ◌<◌, ◌∷◌, Some, sym, ap, ◌∙◌, subst}
+use Rattle.atomic_table.specs.Table.{rest}
+use Rattle.turn_table.specs.Board.{IsAmong, MayGive}
+use Rattle.turn_table.specs.Standings.{Place, IsParty}
 use Rattle.turn_table.specs.declared.standing.Standing.{Standing}
 use Rattle.turn_table.proofs.Rows.{below_at}
 use Rattle.turn_table.proofs.Moves.{brings, gives_back}

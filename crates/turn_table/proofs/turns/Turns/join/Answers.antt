@@ -1,6 +1,5 @@
-use Rattle.std.proofs.Common.{rules, ◌≡◌, ◌<◌, ℕ, List, [], map, refl, sym, ap, ◌∙◌, subst}
-use Rattle.turn_table.specs.Standings.{Row, Place, IsParty, empties, place_of}
-use Rattle.turn_table.specs.declared.standing.Standing.{Standing}
+use Rattle.std.proofs.Common.{rules, ◌≡◌, ◌<◌, ℕ, [], sym, ap, ◌∙◌, subst}
+use Rattle.turn_table.specs.Standings.{Row, Place, empties}
 use Rattle.turn_table.proofs.Seats.{meets}
 use Rattle.turn_table.proofs.turns.Turns.join.Goals as goal
 

@@ -1,4 +1,4 @@
-use Rattle.std.proofs.Common.{rules, ◌≡◌, ◌<◌, ℕ, List, [], map, length, replicate, Some, refl, sym, ap, ◌∙◌, subst}
+use Rattle.std.proofs.Common.{rules, ◌≡◌, length, replicate, sym, subst}
 use Rattle.turn_table.specs.Board.{numbered, opening}
 use Rattle.turn_table.proofs.Beginning.{opens}
 use Rattle.turn_table.proofs.turns.Turns.lay.Goals as goal

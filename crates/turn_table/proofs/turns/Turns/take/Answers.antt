@@ -1,4 +1,4 @@
-use Rattle.std.proofs.Common.{rules, ◌≡◌, ℕ, List, [], ◌∷◌, ◌++◌, refl, sym, ap, ◌∙◌, subst}
+use Rattle.std.proofs.Common.{◌≡◌, ℕ, [], ◌∷◌, ◌++◌, subst}
 use Rattle.turn_table.specs.Board.{WasTaken}
 use Rattle.turn_table.specs.Standings.{Place, saw}
 use Rattle.turn_table.proofs.Losses.{loses_more}

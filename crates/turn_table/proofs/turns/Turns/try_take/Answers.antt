@@ -1,10 +1,9 @@
-use Rattle.std.proofs.Common.{rules, ◌≡◌, ◌≢◌, ◌<◌, ◌+◌, ◌-◌, ◌∷◌, ℕ, suc, arith, Some, None, refl, sym, ap, ◌∙◌, subst}
-use Rattle.atomic_table.specs.Table.{rest, Me}
-use Rattle.turn_table.specs.Board.{IsAmong, WasTaken}
+use Rattle.std.proofs.Common.{rules, ◌≡◌, ◌≢◌, ◌<◌, ◌+◌, ◌-◌, ◌∷◌, ℕ, suc, arith, Some, sym, ap, ◌∙◌, subst}
+use Rattle.atomic_table.specs.Table.{rest}
+use Rattle.turn_table.specs.Board.{IsAmong}
 use Rattle.turn_table.specs.Standings.{Row, Place, IsParty, Apart}
-use Rattle.turn_table.specs.declared.standing.Standing.{Standing}
 use Rattle.turn_table.proofs.Moves.{tries}
-use Rattle.turn_table.proofs.Parties.{is_seeing, is_taking}
+use Rattle.turn_table.proofs.Parties.{is_seeing}
 use Rattle.turn_table.proofs.turns.Turns.try_take.Goals as goal
 
 pub compare_exchange-found-requires : goal.compare_exchange-found-requires
