@@ -1,1 +1,2 @@
 mod HexDigits
+pub mod Keys

@@ -1,7 +1,7 @@
 -- What a key must be to name a block of a pool: the checks that OpenZFS makes of a block pointer before it reads it
 -- (zio.c, zfs_blkptr_verify), for blocks that are stored uncompressed at one place.
-use Rattle.std.specs.Prelude.{◌≡◌, ℕ, ◌+◌, ◌%◌, ◌<◌, ◌≤◌, List, ◌++◌, codes, decimal}
-use Rattle.blk_ptr.specs.Size.{sector, IsBlockSize}
+use Rattle.std.specs.Prelude.{◌≡◌, ℕ, ◌+◌, ◌%◌, ◌<◌, ◌≤◌, Bool, ◌&&◌, ◌==◌, nat_lt, List, ◌++◌, codes, decimal}
+use Rattle.blk_ptr.specs.Size.{sector, IsBlockSize, is_block_size_of}
 use Rattle.blk_ptr.specs.declared.key.Key.{Key}
 use Rattle.blk_ptr.specs.declared.key.KeyFault.{KeyFault}
 use Rattle.blk_ptr.specs.declared.key.KeyFault.TheVariants.{Unaligned, Size, OutOfPool, BirthZero}
@@ -11,6 +11,10 @@ pub record IsWellFormed (key : Key) : Type 0 where
   pub aligned : key.offset % sector ≡ 0
   pub sized : IsBlockSize key.size
   pub born : 0 < key.birth
+
+-- the same, as a test
+abbrev pub is_well_formed : Key → Bool
+is_well_formed key = key.offset % sector == 0 && (is_block_size_of key.size && nat_lt 0 key.birth)
 
 -- the first byte past the key's range
 abbrev pub end_of : Key → ℕ

@@ -1,3 +1,5 @@
 pub mod Key
+pub mod Order
 pub mod Ptr
 pub mod Size
+pub mod State

@@ -1,5 +1,5 @@
 -- The sizes that a block may have.
-use Rattle.std.specs.Prelude.{◌≡◌, ℕ, ◌%◌, ◌≤◌}
+use Rattle.std.specs.Prelude.{◌≡◌, ℕ, ◌%◌, ◌≤◌, Bool, ◌&&◌, ◌==◌, nat_le}
 
 -- the bytes of a sector: every place and every size is a multiple of it (SPA_MINBLOCKSIZE)
 abbrev pub sector : ℕ
@@ -12,3 +12,7 @@ largest_block = 1048576
 -- a size that a block may have
 abbrev pub IsBlockSize : ℕ → Type 0
 IsBlockSize size = (size % sector ≡ 0) × (sector ≤ size) × (size ≤ largest_block)
+
+-- the same, as a test
+abbrev pub is_block_size_of : ℕ → Bool
+is_block_size_of size = size % sector == 0 && (nat_le sector size && nat_le size largest_block)

@@ -11,6 +11,7 @@ mod hex_text;
 mod key;
 mod memory;
 mod ptr;
+mod state;
 
 pub use block::Block;
 pub use digest::{Digest, digest_of};
@@ -18,3 +19,4 @@ pub use hex_text::Hex;
 pub use key::{Key, KeyFault, LARGEST_BLOCK, SECTOR, is_block_size};
 pub use memory::NoMemory;
 pub use ptr::Ptr;
+pub use state::State;
