@@ -85,14 +85,14 @@ module _ (h : List ℕ) (views : List Writer) (k : Kept (opening (h ∷ []) view
 -- an empty history that two parties begin
 pub kept_at_first : Kept (opening ([] ∷ []) (writer [] [] ∷ writer [] [] ∷ []))
 kept_at_first = record {
-    history = λ _. [];
-    owner = λ _ _. 0;
-    now = now_at;
-    seen = seen_at;
-    places = λ i p below. absurd (omega arith);
-    stand = stand_none;
-    rises = rises_none;
-  }
+  history = λ _. [];
+  owner = λ _ _. 0;
+  now = now_at;
+  seen = seen_at;
+  places = λ i p below. absurd (omega arith);
+  stand = stand_none;
+  rises = rises_none;
+}
   where
     Fresh : List Writer
     Fresh = writer [] [] ∷ writer [] [] ∷ []

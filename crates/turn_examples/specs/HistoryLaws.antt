@@ -82,26 +82,29 @@ now_stays : (b : Board (List ℕ) Writer) (n j : ℕ) (h : List ℕ) (w u : Writ
 now_stays b n j h w u (free v) at keeps e = e
 now_stays b n j h w u (taken m) at keeps e = dite (ℕ_discrete m n)
     (λ q. let one : e.0 ≡ w = same_at b.views n e.0 w (subst (λ (z : ℕ). get_elem? b.views z ≡ some e.0) q e.1) at in
-        (u, subst (λ (z : ℕ). get_elem? (set b.views n u) z ≡ some u) (sym q) (set_here b.views n u (within b.views n w at)), keeps (subst (λ (z : Writer). front_of j z.seen ≡ h) one e.2)))
+    (u, subst (λ (z : ℕ). get_elem? (set b.views n u) z ≡ some u) (sym q) (set_here b.views n u (within b.views n w at)), keeps (subst (λ (z : Writer). front_of j z.seen ≡ h) one e.2)))
     (λ q. (e.0, set_else b.views n m u q ∙ e.1, e.2))
 
 -- A step in which the party n makes nothing, and sees what begins each history. The turns become us, of the same histories
 looks : (b : Board (List ℕ) Writer) (k : Kept b) (us : List (Turn (List ℕ))) (n : ℕ) (w u : Writer) → get_elem? b.views n ≡ some w → u.mine ≡ w.mine → ((i : ℕ) → StartsWith (k.history i) (front_of i u.seen))
     → ((i : ℕ) (t : Turn (List ℕ)) → get_elem? us i ≡ some t → NowIs (set b.views n u) i t (k.history i)) → Kept record { turns = us; views = set b.views n u }
 looks b k us n w u at same sees now = record {
-    history = k.history;
-    owner = k.owner;
-    now = now;
-    seen = λ m i z e. ⊎_elim (λ p. subst (λ (y : Writer). StartsWith (k.history i) (front_of i y.seen)) p.1 (sees i)) (λ p. k.seen m i z p.1) (at_set b.views n m u z e);
-    places = λ i p below. let h = k.places i p below in dite (ℕ_discrete (k.owner i p) n)
-        (λ q. (u, subst (λ (m : ℕ). get_elem? (set b.views n u) m ≡ some u) (sym q) (set_here b.views n u (within b.views n w at)),
-            subst (HasPlace i p) (ap (λ (y : Writer). y.mine) (same_at b.views n h.0 w (subst (λ (m : ℕ). get_elem? b.views m ≡ some h.0) q h.1) at) ∙ sym same) h.2))
-        (λ q. (h.0, set_else b.views n (k.owner i p) u q ∙ h.1, h.2));
-    stand = λ m z e. ⊎_elim
-        (λ p. subst (λ (y : ℕ × Writer). AllStandAt k.history k.owner y.0 y.1.mine) (λ j. (sym p.0 j, p.1 j)) (subst (AllStandAt k.history k.owner n) (sym same) (k.stand n w at)))
-        (λ p. k.stand m z p.1) (at_set b.views n m u z e);
-    rises = λ m z e. ⊎_elim (λ p. subst (λ (y : Writer). Rises y.mine) p.1 (subst Rises (sym same) (k.rises n w at))) (λ p. k.rises m z p.1) (at_set b.views n m u z e);
-  }
+  history = k.history;
+  owner = k.owner;
+  now = now;
+  seen = λ m i z e. ⊎_elim (λ p. subst (λ (y : Writer). StartsWith (k.history i) (front_of i y.seen)) p.1 (sees i)) (λ p. k.seen m i z p.1) (at_set b.views n m u z e);
+  places = λ i p below. let h = k.places i p below in dite (ℕ_discrete (k.owner i p) n)
+      (λ q. (
+        u,
+        subst (λ (m : ℕ). get_elem? (set b.views n u) m ≡ some u) (sym q) (set_here b.views n u (within b.views n w at)),
+        subst (HasPlace i p) (ap (λ (y : Writer). y.mine) (same_at b.views n h.0 w (subst (λ (m : ℕ). get_elem? b.views m ≡ some h.0) q h.1) at) ∙ sym same) h.2,
+      ))
+      (λ q. (h.0, set_else b.views n (k.owner i p) u q ∙ h.1, h.2));
+  stand = λ m z e. ⊎_elim
+      (λ p. subst (λ (y : ℕ × Writer). AllStandAt k.history k.owner y.0 y.1.mine) (λ j. (sym p.0 j, p.1 j)) (subst (AllStandAt k.history k.owner n) (sym same) (k.stand n w at)))
+      (λ p. k.stand m z p.1) (at_set b.views n m u z e);
+  rises = λ m z e. ⊎_elim (λ p. subst (λ (y : Writer). Rises y.mine) p.1 (subst Rises (sym same) (k.rises n w at))) (λ p. k.rises m z p.1) (at_set b.views n m u z e);
+}
 
 pub keeps_won : KeepsWon Kept won
 keeps_won b n i v w k e at =
@@ -110,14 +113,14 @@ keeps_won b n i v w k e at =
     let whole : v ≡ k.history i = k.now i (free v) e in
     let views' : List Writer = set b.views n u in
     looks b k (set b.turns i (taken n)) n w u at refl
-        (λ j. dite (ℕ_discrete j i)
-            (λ q. subst (λ (z : ℕ). StartsWith (k.history z) (front_of z (put i v w.seen))) (sym q) ([], sym whole ∙ (sym (front_here i v w.seen) ∙ sym (append-nil (front_of i (put i v w.seen))))))
-            (λ q. subst (StartsWith (k.history j)) (sym (front_else i j v w.seen q)) (k.seen n j w at)))
-        (λ j t f. ⊎_elim
-            (λ p. let P : ℕ → Turn (List ℕ) → Type 0 = λ z s. NowIs views' z s (k.history z) in
-                subst (λ (z : ℕ × Turn (List ℕ)). P z.0 z.1) (λ z. (sym p.0 z, p.1 z)) (u, set_here b.views n u (within b.views n w at), front_here i v w.seen ∙ whole))
-            (λ p. now_stays b n j (k.history j) w u t at (λ c. front_else i j v w.seen p.0 ∙ c) (k.now j t p.1))
-            (at_set b.turns i j (taken n) t f))
+    (λ j. dite (ℕ_discrete j i)
+    (λ q. subst (λ (z : ℕ). StartsWith (k.history z) (front_of z (put i v w.seen))) (sym q) ([], sym whole ∙ (sym (front_here i v w.seen) ∙ sym (append-nil (front_of i (put i v w.seen))))))
+    (λ q. subst (StartsWith (k.history j)) (sym (front_else i j v w.seen q)) (k.seen n j w at)))
+    (λ j t f. ⊎_elim
+    (λ p. let P : ℕ → Turn (List ℕ) → Type 0 = λ z s. NowIs views' z s (k.history z) in
+    subst (λ (z : ℕ × Turn (List ℕ)). P z.0 z.1) (λ z. (sym p.0 z, p.1 z)) (u, set_here b.views n u (within b.views n w at), front_here i v w.seen ∙ whole))
+    (λ p. now_stays b n j (k.history j) w u t at (λ c. front_else i j v w.seen p.0 ∙ c) (k.now j t p.1))
+    (at_set b.turns i j (taken n) t f))
 
 -- a step that only looks changes no view
 view_again : (b : Board (List ℕ) Writer) (n : ℕ) (w : Writer) → Kept b → get_elem? b.views n ≡ some w → Kept record { turns = b.turns; views = set b.views n w }
@@ -152,9 +155,9 @@ keeps_learned b n m w u k ne at at' =
     let z : Writer = writer (seen_by_both w.seen u.seen) w.mine in
     let sees : (i : ℕ) → StartsWith (k.history i) (front_of i z.seen) = λ i. ⊎_elim (λ e. subst (StartsWith (k.history i)) (sym e) (k.seen n i w at)) (λ e. subst (StartsWith (k.history i)) (sym e) (k.seen m i u at')) (front_both i w.seen u.seen) in
     looks b k b.turns n w z at refl sees
-        (λ j t f. now_stays b n j (k.history j) w z t at
-            (λ c. starts_whole (k.history j) (front_of j z.seen) (sees j) (let d = both_least j w.seen u.seen in let e : length (front_of j w.seen) ≡ length (k.history j) = ap length c in omega arith))
-            (k.now j t f))
+    (λ j t f. now_stays b n j (k.history j) w z t at
+    (λ c. starts_whole (k.history j) (front_of j z.seen) (sees j) (let d = both_least j w.seen u.seen in let e : length (front_of j w.seen) ≡ length (k.history j) = ap length c in omega arith))
+    (k.now j t f))
 
 -- a history, and an owner, that change at one turn
 abbrev with_history : (ℕ → List ℕ) → ℕ → List ℕ → ℕ → List ℕ
@@ -190,12 +193,12 @@ module _ (history : ℕ → List ℕ) (owner : ℕ → ℕ → ℕ) (i x n : ℕ
   stand_more m [] all = tt
   stand_more m (s ∷ ss) all =
       let here : (slice_get (after s.turn) s.place ≡ Some s.entry) × (owned s.turn s.place ≡ m) = dite (ℕ_discrete s.turn i)
-          (λ q. let at : slice_get (history i) s.place ≡ Some s.entry = subst (λ (z : ℕ). slice_get (history z) s.place ≡ Some s.entry) q all.0.0 in
-              let below = get_below (history i) s.place s.entry at in (
-                subst (λ (z : ℕ). slice_get (after z) s.place ≡ Some s.entry) (sym q) (subst (λ (l : List ℕ). slice_get l s.place ≡ Some s.entry) (sym (history_here history i (history i ++ x ∷ []))) (get_more (history i) s.place x s.entry at)),
-                owner_place owner i (length (history i)) n s.turn s.place (λ e. absurd (omega arith)) ∙ all.0.1,
-              ))
-          (λ q. (subst (λ (l : List ℕ). slice_get l s.place ≡ Some s.entry) (sym (history_else history i s.turn (history i ++ x ∷ []) q)) all.0.0, owner_turn owner i (length (history i)) n s.turn s.place q ∙ all.0.1)) in
+      (λ q. let at : slice_get (history i) s.place ≡ Some s.entry = subst (λ (z : ℕ). slice_get (history z) s.place ≡ Some s.entry) q all.0.0 in
+      let below = get_below (history i) s.place s.entry at in (
+        subst (λ (z : ℕ). slice_get (after z) s.place ≡ Some s.entry) (sym q) (subst (λ (l : List ℕ). slice_get l s.place ≡ Some s.entry) (sym (history_here history i (history i ++ x ∷ []))) (get_more (history i) s.place x s.entry at)),
+        owner_place owner i (length (history i)) n s.turn s.place (λ e. absurd (omega arith)) ∙ all.0.1,
+      ))
+      (λ q. (subst (λ (l : List ℕ). slice_get l s.place ≡ Some s.entry) (sym (history_else history i s.turn (history i ++ x ∷ []) q)) all.0.0, owner_turn owner i (length (history i)) n s.turn s.place q ∙ all.0.1)) in
       (here, stand_more m ss all.1)
 
   stand_last : (ss : List Spot) → AllStandAt history owner n ss → AllStandAt after owned n (ss ++ spot i (length (history i)) x ∷ [])
@@ -233,22 +236,25 @@ appends n i x v w is b k e at =
           (at_set b.turns i j (free v) t f);
       seen = λ m j z f. dite (ℕ_discrete j i)
           (λ q. subst (λ (r : ℕ). StartsWith (history' r) (front_of r z.seen)) (sym q) (subst (λ (l : List ℕ). StartsWith l (front_of i z.seen)) (sym here)
-              (⊎_elim
-                  (λ p. subst (λ (y : Writer). StartsWith (k.history i ++ x ∷ []) (front_of i y.seen)) p.1 ([], sym grown ∙ (sym (front_here i v w.seen) ∙ sym (append-nil (front_of i (put i v w.seen))))))
-                  (λ p. starts_more (k.history i) (front_of i z.seen) x (k.seen m i z p.1))
-                  (at_set b.views n m u z f))))
+          (⊎_elim
+          (λ p. subst (λ (y : Writer). StartsWith (k.history i ++ x ∷ []) (front_of i y.seen)) p.1 ([], sym grown ∙ (sym (front_here i v w.seen) ∙ sym (append-nil (front_of i (put i v w.seen))))))
+          (λ p. starts_more (k.history i) (front_of i z.seen) x (k.seen m i z p.1))
+          (at_set b.views n m u z f))))
           (λ q. subst (λ (l : List ℕ). StartsWith l (front_of j z.seen)) (sym (history_else k.history i j (k.history i ++ x ∷ []) q))
-              (⊎_elim
-                  (λ p. subst (λ (y : Writer). StartsWith (k.history j) (front_of j y.seen)) p.1 (subst (StartsWith (k.history j)) (sym (front_else i j v w.seen q)) (k.seen n j w at)))
-                  (λ p. k.seen m j z p.1)
-                  (at_set b.views n m u z f)));
+          (⊎_elim
+          (λ p. subst (λ (y : Writer). StartsWith (k.history j) (front_of j y.seen)) p.1 (subst (StartsWith (k.history j)) (sym (front_else i j v w.seen q)) (k.seen n j w at)))
+          (λ p. k.seen m j z p.1)
+          (at_set b.views n m u z f)));
       places = λ j p below. dite (ℕ_discrete j i)
           (λ q. let below' : p < length (k.history i ++ x ∷ []) = subst (λ (l : List ℕ). p < length l) (ap history' q ∙ here) below in
-              dite (ℕ_discrete p (length (k.history i)))
-                  (λ r. (u, subst (λ (m : ℕ). get_elem? (set b.views n u) m ≡ some u) (sym (ap (λ (z : ℕ). owner' z p) q ∙ (ap (owner' i) r ∙ owner_here k.owner i (length (k.history i)) n))) my_view,
-                      subst (λ (l : List Spot). HasPlace j p l) (sym list) (subst (λ (z : ℕ × ℕ). HasPlace z.0 z.1 (w.mine ++ spot i (length (k.history i)) x ∷ [])) (λ z. (sym q z, sym r z)) (place_last i (length (k.history i)) x w.mine))))
-                  (λ r. let less : p < length (k.history j) = let a = length-append (k.history i) (x ∷ []) in let c : length (k.history j) ≡ length (k.history i) = ap (λ z. length (k.history z)) q in omega arith in
-                      old_place j p (owner_place k.owner i (length (k.history i)) n j p r) (k.places j p less)))
+          dite (ℕ_discrete p (length (k.history i)))
+          (λ r. (
+            u,
+            subst (λ (m : ℕ). get_elem? (set b.views n u) m ≡ some u) (sym (ap (λ (z : ℕ). owner' z p) q ∙ (ap (owner' i) r ∙ owner_here k.owner i (length (k.history i)) n))) my_view,
+            subst (λ (l : List Spot). HasPlace j p l) (sym list) (subst (λ (z : ℕ × ℕ). HasPlace z.0 z.1 (w.mine ++ spot i (length (k.history i)) x ∷ [])) (λ z. (sym q z, sym r z)) (place_last i (length (k.history i)) x w.mine)),
+          ))
+          (λ r. let less : p < length (k.history j) = let a = length-append (k.history i) (x ∷ []) in let c : length (k.history j) ≡ length (k.history i) = ap (λ z. length (k.history z)) q in omega arith in
+          old_place j p (owner_place k.owner i (length (k.history i)) n j p r) (k.places j p less)))
           (λ q. old_place j p (owner_turn k.owner i (length (k.history i)) n j p q) (k.places j p (subst (λ (l : List ℕ). p < length l) (history_else k.history i j (k.history i ++ x ∷ []) q) below)));
       stand = λ m z f. ⊎_elim
           (λ p. subst (λ (y : ℕ × Writer). AllStandAt history' owner' y.0 y.1.mine) (λ j. (sym p.0 j, p.1 j)) (subst (AllStandAt history' owner' n) (sym list) (stand_last k.history k.owner i x n w.mine (k.stand n w at))))
@@ -264,9 +270,12 @@ appends n i x v w is b k e at =
         let u : Writer = writer (put i v w.seen) (w.mine ++ spot i (length (front_of i w.seen)) x ∷ []) in
         let P : ℕ → Type 0 = λ m. (z : Writer) × (get_elem? (set b.views n u) m ≡ some z) × HasPlace j p z.mine in
         subst P (sym same) (dite (ℕ_discrete (k.owner j p) n)
-            (λ q. (u, subst (λ (m : ℕ). get_elem? (set b.views n u) m ≡ some u) (sym q) (set_here b.views n u (within b.views n w at)),
-                place_left j p w.mine (spot i (length (front_of i w.seen)) x ∷ []) (subst (λ (y : Writer). HasPlace j p y.mine) (same_at b.views n h.0 w (subst (λ (m : ℕ). get_elem? b.views m ≡ some h.0) q h.1) at) h.2)))
-            (λ q. (h.0, set_else b.views n (k.owner j p) u q ∙ h.1, h.2)))
+        (λ q. (
+          u,
+          subst (λ (m : ℕ). get_elem? (set b.views n u) m ≡ some u) (sym q) (set_here b.views n u (within b.views n w at)),
+          place_left j p w.mine (spot i (length (front_of i w.seen)) x ∷ []) (subst (λ (y : Writer). HasPlace j p y.mine) (same_at b.views n h.0 w (subst (λ (m : ℕ). get_elem? b.views m ≡ some h.0) q h.1) at) h.2),
+        ))
+        (λ q. (h.0, set_else b.views n (k.owner j p) u q ∙ h.1, h.2)))
 
 -- a party gives a history back as it found it
 pub returns_same : (n i : ℕ) (v : List ℕ) (w : Writer) → v ≡ front_of i w.seen → MayGive Kept n i v w w
@@ -274,7 +283,7 @@ returns_same n i v w is b k e at =
     let mine = k.now i (taken n) e in
     let whole : front_of i w.seen ≡ k.history i = subst (λ (z : Writer). front_of i z.seen ≡ k.history i) (same_at b.views n mine.0 w mine.1 at) mine.2 in
     looks b k (set b.turns i (free v)) n w w at refl (λ j. k.seen n j w at)
-        (λ j t f. ⊎_elim
-            (λ p. let P : ℕ → Turn (List ℕ) → Type 0 = λ z s. NowIs (set b.views n w) z s (k.history z) in subst (λ (z : ℕ × Turn (List ℕ)). P z.0 z.1) (λ z. (sym p.0 z, p.1 z)) (is ∙ whole))
-            (λ p. now_stays b n j (k.history j) w w t at (λ c. c) (k.now j t p.1))
-            (at_set b.turns i j (free v) t f))
+    (λ j t f. ⊎_elim
+    (λ p. let P : ℕ → Turn (List ℕ) → Type 0 = λ z s. NowIs (set b.views n w) z s (k.history z) in subst (λ (z : ℕ × Turn (List ℕ)). P z.0 z.1) (λ z. (sym p.0 z, p.1 z)) (is ∙ whole))
+    (λ p. now_stays b n j (k.history j) w w t at (λ c. c) (k.now j t p.1))
+    (at_set b.turns i j (free v) t f))

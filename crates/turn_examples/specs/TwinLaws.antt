@@ -26,21 +26,21 @@ renewed_at : (i j x y : ℕ) (l : List (ℕ × ℕ)) → j ≢ i → copy_of j l
 renewed_at i j x y [] n e = let f : None ≡ Some y = e in absurd (cc)
 renewed_at i j x y (c ∷ l) n e = dite (ℕ_discrete c.0 i)
     (λ q. let far : c.0 ≢ j = λ f. n (sym f ∙ q) in
-        subst (λ b. copy_of j (if b then renewed i x l else (c.0, x) ∷ renewed i x l) ≡ Some x) (sym (eq-eqb c.0 i q)) (renewed_at i j x y l n (sym (copy_else j c.0 c.1 l far) ∙ e)))
+    subst (λ b. copy_of j (if b then renewed i x l else (c.0, x) ∷ renewed i x l) ≡ Some x) (sym (eq-eqb c.0 i q)) (renewed_at i j x y l n (sym (copy_else j c.0 c.1 l far) ∙ e)))
     (λ q. subst (λ b. copy_of j (if b then renewed i x l else (c.0, x) ∷ renewed i x l) ≡ Some x) (sym (ne_eqb c.0 i q))
-        (dite (ℕ_discrete c.0 j)
-            (λ f. subst (λ b. (if b then Some x else copy_of j (renewed i x l)) ≡ Some x) (sym (eq-eqb c.0 j f)) refl)
-            (λ f. copy_else j c.0 x (renewed i x l) f ∙ renewed_at i j x y l n (sym (copy_else j c.0 c.1 l f) ∙ e))))
+    (dite (ℕ_discrete c.0 j)
+    (λ f. subst (λ b. (if b then Some x else copy_of j (renewed i x l)) ≡ Some x) (sym (eq-eqb c.0 j f)) refl)
+    (λ f. copy_else j c.0 x (renewed i x l) f ∙ renewed_at i j x y l n (sym (copy_else j c.0 c.1 l f) ∙ e))))
 
 renewed_from : (i j x z : ℕ) (l : List (ℕ × ℕ)) → copy_of j (renewed i x l) ≡ Some z → (j ≢ i) × ((y : ℕ) × (copy_of j l ≡ Some y))
 renewed_from i j x z [] e = let f : None ≡ Some z = e in absurd (cc)
 renewed_from i j x z (c ∷ l) e = dite (ℕ_discrete c.0 i)
     (λ q. let r = renewed_from i j x z l (subst (λ b. copy_of j (if b then renewed i x l else (c.0, x) ∷ renewed i x l) ≡ Some z) (eq-eqb c.0 i q) e) in
-        (r.0, (r.1.0, copy_else j c.0 c.1 l (λ f. r.0 (sym f ∙ q)) ∙ r.1.1)))
+    (r.0, (r.1.0, copy_else j c.0 c.1 l (λ f. r.0 (sym f ∙ q)) ∙ r.1.1)))
     (λ q. let e' = subst (λ b. copy_of j (if b then renewed i x l else (c.0, x) ∷ renewed i x l) ≡ Some z) (ne_eqb c.0 i q) e in
-        dite (ℕ_discrete c.0 j)
-            (λ f. ((λ g. q (f ∙ g)), (c.1, subst (λ b. (if b then Some c.1 else copy_of j l) ≡ Some c.1) (sym (eq-eqb c.0 j f)) refl)))
-            (λ f. let r = renewed_from i j x z l (sym (copy_else j c.0 x (renewed i x l) f) ∙ e') in (r.0, (r.1.0, copy_else j c.0 c.1 l f ∙ r.1.1))))
+    dite (ℕ_discrete c.0 j)
+    (λ f. ((λ g. q (f ∙ g)), (c.1, subst (λ b. (if b then Some c.1 else copy_of j l) ≡ Some c.1) (sym (eq-eqb c.0 j f)) refl)))
+    (λ f. let r = renewed_from i j x z l (sym (copy_else j c.0 x (renewed i x l) f) ∙ e') in (r.0, (r.1.0, copy_else j c.0 c.1 l f ∙ r.1.1))))
 
 abbrev won : ℕ → ℕ → ℕ → Copies → Copies
 won n i v w = copies ((i, v) ∷ w.held)
@@ -59,7 +59,7 @@ now_stays : (b : Board ℕ Copies) (n j x : ℕ) (w u : Copies) (t : Turn ℕ) �
 now_stays b n j x w u (free v) at keeps h = h
 now_stays b n j x w u (taken m) at keeps h = dite (ℕ_discrete m n)
     (λ q. let one : h.0 ≡ w = same_at b.views n h.0 w (subst (λ (z : ℕ). get_elem? b.views z ≡ some h.0) q h.1) at in
-        (u, subst (λ (z : ℕ). get_elem? (set b.views n u) z ≡ some u) (sym q) (set_here b.views n u (within b.views n w at)), keeps (subst (λ (z : Copies). copy_of j z.held ≡ Some x) one h.2)))
+    (u, subst (λ (z : ℕ). get_elem? (set b.views n u) z ≡ some u) (sym q) (set_here b.views n u (within b.views n w at)), keeps (subst (λ (z : Copies). copy_of j z.held ≡ Some x) one h.2)))
     (λ q. (h.0, set_else b.views n m u q ∙ h.1, h.2))
 
 pub keeps_won : KeepsWon Agrees won
@@ -70,17 +70,17 @@ keeps_won b n i v w h e at =
       two = length-set b.turns i (taken n) ∙ h.two;
       now = λ j t f. ⊎_elim
           (λ p. let P : ℕ → Turn ℕ → Type 0 = λ k s. NowIs (set b.views n u) k s h.number in
-              subst (λ (z : ℕ × Turn ℕ). P z.0 z.1) (λ k. (sym p.0 k, p.1 k)) (u, set_here b.views n u (within b.views n w at), copy_here i v w.held ∙ ap Some (h.now i (free v) e)))
+          subst (λ (z : ℕ × Turn ℕ). P z.0 z.1) (λ k. (sym p.0 k, p.1 k)) (u, set_here b.views n u (within b.views n w at), copy_here i v w.held ∙ ap Some (h.now i (free v) e)))
           (λ p. now_stays b n j h.number w u t at (λ c. copy_else j i v w.held (λ q. p.0 (sym q)) ∙ c) (h.now j t p.1))
           (at_set b.turns i j (taken n) t f);
       known = λ m j x z f c. ⊎_elim
           (λ p. let c' : copy_of j ((i, v) ∷ w.held) ≡ Some x = subst (λ (y : Copies). copy_of j y.held ≡ Some x) (sym p.1) c in
-              subst (λ (k : ℕ). get_elem? (set b.turns i (taken n)) j ≡ some (taken k)) (sym p.0)
-              (dite (ℕ_discrete i j)
-                  (λ q. subst (λ (k : ℕ). get_elem? (set b.turns i (taken n)) k ≡ some (taken n)) q (set_here b.turns i (taken n) near))
-                  (λ q. set_else b.turns i j (taken n) (λ r. q (sym r)) ∙ h.known n j x w at (sym (copy_else j i v w.held q) ∙ c'))))
+          subst (λ (k : ℕ). get_elem? (set b.turns i (taken n)) j ≡ some (taken k)) (sym p.0)
+          (dite (ℕ_discrete i j)
+          (λ q. subst (λ (k : ℕ). get_elem? (set b.turns i (taken n)) k ≡ some (taken n)) q (set_here b.turns i (taken n) near))
+          (λ q. set_else b.turns i j (taken n) (λ r. q (sym r)) ∙ h.known n j x w at (sym (copy_else j i v w.held q) ∙ c'))))
           (λ p. let g = h.known m j x z p.1 c in
-              set_else b.turns i j (taken n) (λ r. free_taken v m (same_at b.turns i (free v) (taken m) e (subst (λ (k : ℕ). get_elem? b.turns k ≡ some (taken m)) r g))) ∙ g)
+          set_else b.turns i j (taken n) (λ r. free_taken v m (same_at b.turns i (free v) (taken m) e (subst (λ (k : ℕ). get_elem? b.turns k ≡ some (taken m)) r g))) ∙ g)
           (at_set b.views n m u z f);
     }
 
@@ -109,9 +109,9 @@ gives_any n i x w others b h e at =
           (at_set b.turns i j (free x) t f);
       known = λ m j y z f c. ⊎_elim
           (λ p. let r = renewed_from i j x y w.held (subst (λ (q : Copies). copy_of j q.held ≡ Some y) (sym p.1) c) in
-              subst (λ (k : ℕ). get_elem? (set b.turns i (free x)) j ≡ some (taken k)) (sym p.0) (set_else b.turns i j (free x) r.0 ∙ h.known n j r.1.0 w at r.1.1))
+          subst (λ (k : ℕ). get_elem? (set b.turns i (free x)) j ≡ some (taken k)) (sym p.0) (set_else b.turns i j (free x) r.0 ∙ h.known n j r.1.0 w at r.1.1))
           (λ p. let g = h.known m j y z p.1 c in
-              set_else b.turns i j (free x) (λ r. p.0 (sym (taken_same n m (same_at b.turns i (taken n) (taken m) e (subst (λ (k : ℕ). get_elem? b.turns k ≡ some (taken m)) r g))))) ∙ g)
+          set_else b.turns i j (free x) (λ r. p.0 (sym (taken_same n m (same_at b.turns i (taken n) (taken m) e (subst (λ (k : ℕ). get_elem? b.turns k ≡ some (taken m)) r g))))) ∙ g)
           (at_set b.views n m u z f);
     }
 
@@ -121,7 +121,7 @@ gives_both n i k x y w ne ib kb c = gives_any n i x w (λ b h e at j t far f.
     let held : get_elem? b.turns j ≡ some (taken n) = subst (λ (z : ℕ). get_elem? b.turns z ≡ some (taken n)) (sym one) (h.known n k y w at c) in
     let is : taken n ≡ t = same_at b.turns j (taken n) t held f in
     subst (λ s. NowIs (set b.views n (copies (renewed i x w.held))) j s x) is
-        (copies (renewed i x w.held), set_here b.views n (copies (renewed i x w.held)) (within b.views n w at), renewed_at i j x y w.held far (subst (λ (z : ℕ). copy_of z w.held ≡ Some y) (sym one) c)))
+    (copies (renewed i x w.held), set_here b.views n (copies (renewed i x w.held)) (within b.views n w at), renewed_at i j x y w.held far (subst (λ (z : ℕ). copy_of z w.held ≡ Some y) (sym one) c)))
 
 pub gives_same : (n i x : ℕ) (w : Copies) → copy_of i w.held ≡ Some x → MayGive Agrees n i x w (copies (renewed i x w.held))
 gives_same n i x w c = gives_any n i x w (λ b h e at j t far f.

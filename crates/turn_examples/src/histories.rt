@@ -137,12 +137,7 @@ fn take_log<R: Wait>(rt: &R, logs: &Logs, party: &mut Hand) -> Log
 }
 
 /// Adds an entry to the history of the turn 0, and answers where it stands.
-pub fn append<R: Wait>(
-    rt: &R,
-    logs: &Logs,
-    party: &mut Hand,
-    entry: u64,
-) -> Result<u64, NoMemory>
+pub fn append<R: Wait>(rt: &R, logs: &Logs, party: &mut Hand, entry: u64) -> Result<u64, NoMemory>
     requires { (party.old.table ≡ logs.now.table) × (0 < logs.now.turns) × (party.old.held ≡ []) }
     ensures party { party.new ≡ saw party.old party.new.own }
     ensures ok { IfOk result (λ p. party.new.own.mine ≡ party.old.own.mine ++ spot 0 p entry ∷ []) }
@@ -187,7 +182,10 @@ fn both_append<R: Threads + Wait + Sync>(
     two: Hand,
     first: &[u64],
     second: &[u64],
-) -> (Result<(Hand, Vec<u64>), NoMemory>, Result<(Hand, Vec<u64>), NoMemory>)
+) -> (
+    Result<(Hand, Vec<u64>), NoMemory>,
+    Result<(Hand, Vec<u64>), NoMemory>,
+)
     requires turns { 0 < logs.now.turns }
     requires one { (one.table ≡ logs.now.table) × (one.held ≡ []) × (one.own.mine ≡ []) }
     requires two { (two.table ≡ logs.now.table) × (two.held ≡ []) × (two.own.mine ≡ []) }

@@ -2,7 +2,6 @@
 #![tactic(auto)]
 
 pub mod histories;
-pub mod twins;
-
 #[cfg(test)]
 mod tests;
+pub mod twins;

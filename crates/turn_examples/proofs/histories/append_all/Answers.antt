@@ -18,8 +18,7 @@ loop-entry-preserved g c =
     let near : i < length es = c.loop-entry-test.true in
     let long : length ps ≡ length (take i es) = let e = length-take i es in let f = before.2 in omega arith in
     let pushed : c.push.new.self.items ≡ ps ++ place ∷ [] = c.in_ok-push.ensures.items in
-    let made : c.append.new.party.own.mine ≡ c.loop-entry.party.own.mine ++ spot 0 place x ∷ [] = c.in_ok-place.ensures.ok in
-    (
+    let made : c.append.new.party.own.mine ≡ c.loop-entry.party.own.mine ++ spot 0 place x ∷ [] = c.in_ok-place.ensures.ok in (
       c.append.ensures.party ∙ ap (λ (v : Place Writer). saw v c.append.new.party.own) before.0,
       made ∙ (ap (λ (l : List Spot). l ++ spot 0 place x ∷ []) before.1 ∙ (spots_more ps (take i es) place x long ∙ (λ k. spots_at (sym pushed k) (sym (take_more es i 0 near) k)))),
       ap length pushed ∙ (length-append ps (place ∷ []) ∙ ap (λ n. n + 1) before.2),

@@ -6,8 +6,8 @@ pub prove_eq-unreachable-requires : goal.prove_eq-unreachable-requires
 prove_eq-unreachable-requires g c =
     let p = c.take_copy-first.new.party in
     c.if-prove_eq.true
-        (same_copy p.number c.take_copy-first.result c.take_copy-second.result p.own
-            (first_known c.take_copy-first.result c.take_copy-second.result 0 c.args.party.now p c.take_copy-second.new.party c.take_copy-first.ensures.party c.take_copy-second.ensures.party) c.take_copy-second.ensures.free)
+    (same_copy p.number c.take_copy-first.result c.take_copy-second.result p.own
+    (first_known c.take_copy-first.result c.take_copy-second.result 0 c.args.party.now p c.take_copy-second.new.party c.take_copy-first.ensures.party c.take_copy-second.ensures.party) c.take_copy-second.ensures.free)
 
 pub give_with-requires-clause-rule : goal.give_with-requires-clause-rule
 give_with-requires-clause-rule g c =

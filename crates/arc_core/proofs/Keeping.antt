@@ -1,0 +1,48 @@
+-- A shard keeps its invariant through an event.
+use Rattle.std.proofs.Common.{◌≡◌, ℕ, ◌+◌, ◌<◌, ◌≤◌, Bool, true, IsTrue, List, [], ◌∷◌, ◌++◌, length, refl, sym, ap, subst, ◌∙◌, arith, vec_len, vec_capacity}
+use Rattle.std.proofs.lemmas.List.{length-append}
+use Rattle.blk_ptr.specs.declared.key.Key.{Key}
+use Rattle.arc_core.specs.declared.shard.Shard.TheInside.{Inside}
+use Rattle.arc_core.specs.declared.event.Event.{Event}
+use Rattle.arc_core.specs.declared.event.Event.TheVariants.{Hit, Miss, Arrive, Fail, Drop, Past}
+use Rattle.arc_core.specs.Owed.{owed_of, room_for}
+use Rattle.arc_core.specs.PlainShard.{PlainShard}
+use Rattle.arc_core.specs.Replay.{is_legal_history, replay}
+use Rattle.arc_core.specs.Rules.{with_target_for}
+use Rattle.arc_core.specs.ShardLog.{IsReplayed}
+use Rattle.arc_core.specs.ShardModel.{IsKept, log_in}
+use Rattle.arc_core.specs.Sound.{IsSound, IsTidy}
+use Rattle.arc_core.specs.Step.{after, legal, read_entry}
+use Rattle.arc_core.proofs.Frames.{frame-taken_in, target-within}
+use Rattle.arc_core.proofs.Stepping.{legal-append, replay-append, sound-framed}
+
+-- after an event that is legal, keeps the shard sound, and takes no more room than it may
+pub IsKept-step : (s n : Inside) (e : Event) → IsKept s → IsTrue (legal s.table.shard e) → n.table.shard ≡ after s.table.shard e → IsSound n.table.shard → n.opened ≡ s.opened
+    → n.history.items ≡ s.history.items ++ e ∷ [] → vec_len n.history ≡ vec_len s.history + 1 → vec_capacity s.history ≤ vec_capacity n.history → n.spare_events + room_for e ≡ s.spare_events
+    → owed_of (after s.table.shard e) + 1 ≤ owed_of s.table.shard + room_for e → IsKept n
+IsKept-step s n e kept ok step sound opened history len capacity spare owed =
+    let opening = (log_in s).opening in
+    let replayed : replay opening (s.history.items ++ e ∷ []) ≡ after s.table.shard e = replay-append opening s.history.items (e ∷ []) ∙ ap (λ (t : PlainShard). after t e) kept.replayed.replayed in
+    let lawful : is_legal_history opening (s.history.items ++ e ∷ []) ≡ true = legal-append opening s.history.items e kept.replayed.legal (subst (λ t. legal t e ≡ true) (sym kept.replayed.replayed) ok) in
+    record {
+      replayed = record {
+        sound = sound;
+        replayed = rw (opened, history) (replayed ∙ sym step);
+        legal = rw (opened, history) lawful;
+      };
+      room = omega (arith, kept.room, len, capacity, spare, owed, ap owed_of step);
+    }
+
+-- a miss moves the target within its bounds, and keeps the rest of the frame
+pub sound-miss : (n t : ℕ) (k : Key) (s u : PlainShard) → IsSound s → u ≡ after s (Miss n k t) → IsTidy u → IsSound u
+sound-miss n t k s u sound is tidy =
+    let frame = frame-taken_in (read_entry n k t s) (with_target_for k s) in
+    let within = target-within k s sound.target_low sound.target_high in
+    record {
+      tidy = tidy;
+      target_low = rw (is, frame.p, frame.c) within.0;
+      target_high = rw (is, frame.p, frame.c) within.1;
+      feed = rw (is, frame.phase, frame.picked) sound.feed;
+      picks = rw (is, frame.picked) sound.picks;
+      passed = rw is refl;
+    }

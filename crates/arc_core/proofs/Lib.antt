@@ -1,0 +1,9 @@
+pub mod Accesses
+pub mod Evictions
+pub mod Frames
+pub mod Keeping
+pub mod Legal
+pub mod Stepping
+pub mod Tables
+pub mod Tidy
+mod WorkedRows

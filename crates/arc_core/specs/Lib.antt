@@ -1,0 +1,16 @@
+pub mod Candidate
+pub mod Changes
+pub mod Config
+pub mod Edits
+pub mod Operations
+pub mod Owed
+pub mod PlainShard
+pub mod PlainTable
+pub mod Replay
+pub mod Rules
+pub mod ShardLog
+pub mod ShardModel
+pub mod Sound
+pub mod Step
+pub mod TableModel
+pub mod View

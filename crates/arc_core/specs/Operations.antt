@@ -1,0 +1,212 @@
+-- Which events an operation stands for, and what it means that histories hold every call once.
+use Rattle.std.specs.Prelude.{◌≡◌, ℕ, ◌+◌, ◌<◌, ◌≢◌, Bool, true, false, not, ◌&&◌, ◌||◌, ◌==◌, IsTrue, ◌⊎◌, List, [], ◌∷◌, ◌++◌, length, map, filter, count_by, slice_index_or, Option, Some, None}
+use Rattle.std.specs.List.{AllByRecursion}
+use Rattle.blk_ptr.specs.declared.key.Key.{Key}
+use Rattle.blk_ptr.specs.declared.digest.Digest.{Digest}
+use Rattle.blk_ptr.specs.declared.ptr.Ptr.{Ptr}
+use Rattle.arc_core.specs.declared.entry.Entry.{Entry}
+use Rattle.arc_core.specs.declared.entry.Phase.{Phase}
+use Rattle.arc_core.specs.declared.entry.Phase.TheVariants.{Idle}
+use Rattle.arc_core.specs.declared.event.Event.{Event}
+use Rattle.arc_core.specs.declared.event.Event.TheVariants.{Pass, Hit, Miss, Arrive, Fail, Drop, Past, Hand, Insert, Release, Pick, FeedEnd, Set, Leave, Clear, Restore}
+use Rattle.arc_core.specs.declared.event.Origin.{Origin}
+use Rattle.arc_core.specs.declared.event.Origin.TheVariants as origin
+use Rattle.arc_core.specs.declared.event.FailedAt.{FailedAt}
+use Rattle.arc_core.specs.declared.event.FailedAt.TheVariants as failed
+use Rattle.arc_core.specs.declared.served.Served.{Served}
+use Rattle.arc_core.specs.declared.served.Served.TheVariants as served
+use Rattle.arc_core.specs.PlainShard.{PlainShard, entry_is, holds_of, is_at_rest, is_unheld, keeps_digest}
+use Rattle.arc_core.specs.Step.{after}
+
+-- ---- what is read off an event
+
+-- the number of who made it
+abbrev pub number_of : Event → ℕ
+number_of (Pass n k owner) = n
+number_of (Hit n k t) = n
+number_of (Miss n k t) = n
+number_of (Arrive n k d from) = n
+number_of (Fail n k at) = n
+number_of (Drop n k) = n
+number_of (Past n k kept) = n
+number_of (Hand n k to) = n
+number_of (Insert n k d t) = n
+number_of (Release n k sole) = n
+number_of (Pick n k) = n
+number_of (FeedEnd n) = n
+number_of (Set n k place) = n
+number_of (Leave n k why) = n
+number_of (Clear n k) = n
+number_of (Restore n k place) = n
+
+abbrev pub is_pass : Event → Bool
+is_pass (Pass n k owner) = true
+is_pass _ = false
+
+-- an event that only the feeder makes
+abbrev pub is_of_feed : Event → Bool
+is_of_feed (Pick n k) = true
+is_of_feed (FeedEnd n) = true
+is_of_feed (Set n k place) = true
+is_of_feed (Leave n k why) = true
+is_of_feed (Clear n k) = true
+is_of_feed (Restore n k place) = true
+is_of_feed _ = false
+
+-- an event that stands for one read of the pool: bytes that came from it, a read of it that failed, or one past the cache
+abbrev pub is_pool_read : Event → Bool
+is_pool_read (Arrive n k d origin.Pool) = true
+is_pool_read (Fail n k failed.Pool) = true
+is_pool_read (Past n k kept) = true
+is_pool_read _ = false
+
+-- how many reads of the pool a history stands for
+abbrev pub pool_reads : List Event → ℕ
+pool_reads = count_by is_pool_read
+
+-- nothing is held or reading, and there is no feed
+abbrev pub is_free : Entry → Bool
+is_free e = is_unheld e && is_at_rest e
+
+pub record IsAtRest (s : PlainShard) : Type 0 where
+  pub free : AllByRecursion (λ e. IsTrue (is_free e)) s.entries
+  pub idle : s.phase ≡ Idle
+
+-- ---- moments: each event with the shard that it found
+
+pub record Moment : Type 0 where
+  pub before : PlainShard
+  pub event : Event
+
+abbrev pub moments : PlainShard → List Event → List Moment
+moments s [] = []
+moments s (e ∷ es) = record { before = s; event = e } ∷ moments (after s e) es
+
+-- the moments of one number's events, its passes left out
+abbrev pub own_moments : ℕ → List Moment → List Moment
+own_moments n = filter (λ m. number_of m.event == n && not (is_pass m.event))
+
+-- ---- what operations do in the shard of a key, and how they were answered
+
+pub data Act : Type 0 where
+  -- a read at tick t was answered, and its hold given back; or the hold is kept
+  Reads : (n t : ℕ) → Ptr → Served → Act
+  Keeps : (n t : ℕ) → Ptr → Served → Act
+  -- a kept hold is given back: by its own line, at the run's end, or as a cell's dbuf is evicted
+  GivesBack : (n : ℕ) → Key → Act
+  -- an object's block was loaded for a dbuf of this cell
+  Loads : (n t : ℕ) → Ptr → Served → (cell : ℕ) → Act
+  -- a read or a load was refused, since the pool failed or gave other bytes
+  Fails : (n t : ℕ) → Ptr → Act
+  -- a read was refused for want of memory; or an operation on a dbuf was
+  RunsOut : (n t : ℕ) → Ptr → Act
+  RunsOutAtDbuf : (n t : ℕ) → Ptr → (cell : ℕ) → Act
+  -- a cell makes the block of a dbuf private
+  MakesPrivate : (cell : ℕ) → Key → Act
+  -- a sync wrote a block of a cell
+  Writes : (cell t : ℕ) → Ptr → Act
+
+-- the number whose act it is
+abbrev pub actor_of : Act → ℕ
+actor_of (Reads n t ptr from) = n
+actor_of (Keeps n t ptr from) = n
+actor_of (GivesBack n k) = n
+actor_of (Loads n t ptr from cell) = n
+actor_of (Fails n t ptr) = n
+actor_of (RunsOut n t ptr) = n
+actor_of (RunsOutAtDbuf n t ptr cell) = n
+actor_of (MakesPrivate cell k) = cell
+actor_of (Writes cell t ptr) = cell
+
+-- the key that it is about
+abbrev pub act_key : Act → Key
+act_key (Reads n t ptr from) = ptr.key
+act_key (Keeps n t ptr from) = ptr.key
+act_key (GivesBack n k) = k
+act_key (Loads n t ptr from cell) = ptr.key
+act_key (Fails n t ptr) = ptr.key
+act_key (RunsOut n t ptr) = ptr.key
+act_key (RunsOutAtDbuf n t ptr cell) = ptr.key
+act_key (MakesPrivate cell k) = k
+act_key (Writes cell t ptr) = ptr.key
+
+-- the digest that it asks for, where it asks for one
+abbrev pub asked_digest : Act → Option Digest
+asked_digest (GivesBack n k) = None
+asked_digest (MakesPrivate cell k) = None
+asked_digest (Reads n t ptr from) = Some ptr.digest
+asked_digest (Keeps n t ptr from) = Some ptr.digest
+asked_digest (Loads n t ptr from cell) = Some ptr.digest
+asked_digest (Fails n t ptr) = Some ptr.digest
+asked_digest (RunsOut n t ptr) = Some ptr.digest
+asked_digest (RunsOutAtDbuf n t ptr cell) = Some ptr.digest
+asked_digest (Writes cell t ptr) = Some ptr.digest
+
+-- ---- the events of an act
+
+-- one read past the cache
+abbrev pub IsPast : (n : ℕ) → Ptr → List Event → Type 0
+IsPast n ptr es = (kept : Digest) × (es ≡ Past n ptr.key kept ∷ [])
+
+-- a read that failed at its start, before the pool was read, or at the pool
+abbrev pub failing : (n t : ℕ) → Ptr → FailedAt → List Event
+failing n t ptr at = Miss n ptr.key t ∷ (Fail n ptr.key at ∷ [])
+
+-- an access that was served from here, and then these events; one past the cache stands alone
+abbrev pub IsServed : (n t : ℕ) → Ptr → Served → (rest : List Event) → List Event → Type 0
+IsServed n t ptr served.Hit rest es = es ≡ Hit n ptr.key t ∷ rest
+IsServed n t ptr served.Pool rest es = es ≡ Miss n ptr.key t ∷ (Arrive n ptr.key ptr.digest origin.Pool ∷ rest)
+IsServed n t ptr served.L2 rest es = es ≡ Miss n ptr.key t ∷ (Arrive n ptr.key ptr.digest origin.L2 ∷ rest)
+IsServed n t ptr served.Past rest es = IsPast n ptr es
+
+-- an operation that ran out of memory: it has no event, or a failed read, or a read past the cache, or an access whose hold it gave back
+abbrev pub HasRunOut : (n t : ℕ) → Ptr → List Event → Type 0
+HasRunOut n t ptr es =
+    (es ≡ []) ⊎ ((at : FailedAt) × (es ≡ failing n t ptr at)) ⊎ IsPast n ptr es
+    ⊎ ((from : Served) × IsServed n t ptr from (Drop n ptr.key ∷ []) es)
+
+-- these are the events of the act
+abbrev pub AreEvents : Act → List Event → Type 0
+AreEvents (Reads n t ptr from) es = IsServed n t ptr from (Drop n ptr.key ∷ []) es
+AreEvents (Keeps n t ptr from) es = IsServed n t ptr from [] es
+AreEvents (GivesBack n k) es = es ≡ Drop n k ∷ []
+AreEvents (Loads n t ptr from cell) es = IsServed n t ptr from (Hand n ptr.key cell ∷ []) es
+AreEvents (Fails n t ptr) es = (es ≡ failing n t ptr failed.Pool) ⊎ IsPast n ptr es
+AreEvents (RunsOut n t ptr) es = HasRunOut n t ptr es
+AreEvents (RunsOutAtDbuf n t ptr cell) es = HasRunOut n t ptr es ⊎ ((from : Served) × IsServed n t ptr from (Hand n ptr.key cell ∷ []) es)
+AreEvents (MakesPrivate cell k) es = (sole : Bool) × (es ≡ Release cell k sole ∷ [])
+AreEvents (Writes cell t ptr) es = es ≡ Insert cell ptr.key ptr.digest t ∷ []
+
+-- the event is fair to an operation that asked for this digest: a hit found it, and a read past the cache found another
+abbrev pub IsFair : Digest → PlainShard → Event → Type 0
+IsFair d before (Hit n k t) = IsTrue (entry_is (keeps_digest d) k before)
+IsFair d before (Past n k kept) = kept ≢ d
+IsFair d before _ = Unit {0}
+
+abbrev pub IsHonest : Option Digest → Moment → Type 0
+IsHonest None m = Unit {0}
+IsHonest (Some d) m = IsFair d m.before m.event
+
+-- these moments are what the act stands for
+pub record StandsFor (act : Act) (ms : List Moment) : Type 0 where
+  pub events : AreEvents act (map (λ m. m.event) ms)
+  pub digests : AllByRecursion (IsHonest (asked_digest act)) ms
+
+-- these moments are what the acts stand for, one after another, each once
+abbrev pub Tell : List Act → List Moment → Type 0
+Tell [] ms = ms ≡ []
+Tell (act ∷ acts) ms = (front : List Moment) × (rest : List Moment) × (ms ≡ front ++ rest) × StandsFor act front × Tell acts rest
+
+-- ---- every call once
+
+-- the acts of one number in one shard, in their order
+abbrev pub acts_in : (shard_of : Key → ℕ) → (shard n : ℕ) → List Act → List Act
+acts_in shard_of shard n = filter (λ act. actor_of act == n && shard_of (act_key act) == shard)
+
+-- The histories hold every call once: in each shard, the events of each caller and each cell, passes left out, are those of its acts
+-- in their order; and the feeder makes the feed's events alone. The callers are numbered from 0, and the feeder's number is theirs.
+pub record HoldEveryCallOnce (callers : ℕ) (shard_of : Key → ℕ) (opening : PlainShard) (acts : List Act) (histories : List (List Event)) : Type 0 where
+  pub told : (shard n : ℕ) → shard < length histories → n ≢ callers
+      → Tell (acts_in shard_of shard n acts) (own_moments n (moments opening (slice_index_or histories shard [])))
+  pub fed : (shard : ℕ) → shard < length histories
+      → AllByRecursion (λ m. IsTrue (is_of_feed m.event)) (own_moments callers (moments opening (slice_index_or histories shard [])))

@@ -1,0 +1,20 @@
+-- What a shard's parts mean, and what they keep.
+use Rattle.std.specs.Prelude.{◌≡◌, ◌+◌, ◌≤◌, vec_len, vec_capacity}
+use Rattle.arc_core.specs.declared.shard.Shard.TheInside.{Inside}
+use Rattle.arc_core.specs.Owed.{owed_of}
+use Rattle.arc_core.specs.PlainShard.{opening_shard}
+use Rattle.arc_core.specs.ShardLog.{IsReplayed, ShardLog}
+
+abbrev pub log_in : Inside → ShardLog
+log_in s = record {
+  now = s.table.shard;
+  opening = opening_shard s.opened.c s.opened.mintime s.opened.bounds;
+  history = s.history.items;
+  event_room = s.spare_events;
+  entry_room = s.table.spare;
+}
+
+pub record IsKept (s : Inside) : Type 0 where
+  pub replayed : IsReplayed (log_in s)
+  -- the history has room for the events that are owed and for the spare ones
+  pub room : owed_of s.table.shard + s.spare_events + vec_len s.history ≤ vec_capacity s.history

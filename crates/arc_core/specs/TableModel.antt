@@ -1,0 +1,32 @@
+-- What the vectors of a shard's table mean, and what they keep.
+use Rattle.std.specs.Prelude.{◌≡◌, ℕ, ◌+◌, ◌≤◌, map, vec_len, vec_capacity}
+use Rattle.arc_core.specs.declared.table.Table.TheInside.{Inside}
+use Rattle.arc_core.specs.PlainShard.{PlainShard, member_of}
+use Rattle.arc_core.specs.PlainTable.{PlainTable}
+use Rattle.arc_core.specs.Sound.{IsTidy}
+
+-- the plain shard that a table holds
+abbrev pub shard_in : Inside → PlainShard
+shard_in t = record {
+  entries = t.entries.items;
+  sequences = t.lists.sequences;
+  p = t.lists.p;
+  c = t.lists.c;
+  mintime = t.mintime;
+  bounds = t.bounds;
+  passed = t.passed.items;
+  phase = t.phase;
+  picked = t.picked.items;
+}
+
+abbrev pub plain_table : Inside → PlainTable
+plain_table t = record { shard = shard_in t; spare = t.lists.spare; marks = t.marks }
+
+pub record IsKept (t : Inside) : Type 0 where
+  pub tidy : IsTidy (shard_in t)
+  -- the lists have each entry's key and state
+  pub members : t.lists.members ≡ map member_of t.entries.items
+  -- there is room for the entries that the lists have room for, and for so many picks and passed keys
+  pub room : vec_len t.entries + t.lists.spare ≤ vec_capacity t.entries
+  pub passed_room : vec_len t.passed + t.marks ≤ vec_capacity t.passed
+  pub picked_room : vec_len t.picked + t.marks ≤ vec_capacity t.picked

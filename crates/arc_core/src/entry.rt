@@ -1,0 +1,117 @@
+ghost use Rattle.std.specs.Prelude.{◌≡◌, ◌+◌, ◌^◌, ◌<◌, length};
+
+use blk_ptr::{Digest, Key, State};
+
+/// The numbers that may hold an entry: callers, the feeder and cells of dbufs are numbered below it.
+pub const NUMBERS: usize = 33;
+
+/// What a shard knows of one key.
+#[derive(Clone, Copy, Debug, PartialEq, Eq)]
+pub struct Entry {
+    pub key: Key,
+    pub state: State,
+    /// How many holds each number has.
+    pub holds: [u64; NUMBERS],
+    /// Its bytes are being read.
+    pub reading: bool,
+    /// The tick of its last access.
+    pub last: u64,
+    /// Its place on the cache device.
+    pub place: Option<u64>,
+    /// The SHA-256 of its bytes, also after they were evicted.
+    pub digest: Option<Digest>,
+}
+
+impl Entry {
+    ghost use Rattle.arc_core.specs.PlainShard.{held_by, is_resident, keeps_digest, numbers};
+    ghost use Rattle.arc_core.specs.Changes.{one_less, one_more};
+    ghost use Rattle.arc_core.specs.Rules.{accessed};
+    ghost use Rattle.arc_core.specs.Step.{holds, reads};
+
+    /// The entry with one hold of `n` more.
+    pub fn one_more(mut self, n: u32) -> Entry
+        requires number { n < numbers }
+        requires count { held_by n self + 1 < 2 ^ 64 }
+        ensures { result ≡ one_more n self }
+    {
+        self.holds[n as usize] += 1;
+        self
+    }
+
+    /// The entry with one hold of `n` less.
+    pub fn one_less(mut self, n: u32) -> Entry
+        requires number { n < numbers }
+        requires count { 0 < held_by n self }
+        ensures { result ≡ one_less n self }
+    {
+        self.holds[n as usize] -= 1;
+        self
+    }
+
+    /// Whether its bytes are cached and nobody reads them just now.
+    pub fn is_resident(&self) -> bool
+        ensures { result ≡ is_resident self.now }
+    {
+        matches!(self.state, State::Mru | State::Mfu) && !self.reading
+    }
+
+    /// Whether it keeps this digest.
+    pub fn keeps(&self, digest: Digest) -> bool
+        ensures { result ≡ keeps_digest digest self.now }
+    {
+        match self.digest {
+            Some(kept) => kept == digest,
+            None => false,
+        }
+    }
+
+    /// Whether it is being read, and `n` holds it.
+    pub fn reads(&self, n: u32) -> bool
+        requires { n < numbers }
+        ensures { result ≡ reads n self.now }
+    {
+        self.reading && self.holds[n as usize] != 0
+    }
+
+    /// Whether nobody reads it just now, and `n` holds it.
+    pub fn is_held(&self, n: u32) -> bool
+        requires { n < numbers }
+        ensures { result ≡ holds n self.now }
+    {
+        !self.reading && self.holds[n as usize] != 0
+    }
+
+    /// The entry after an access at tick `t`: an MRU entry becomes MFU where its last access was more than `mintime` ticks ago
+    /// (`arc_access` of OpenZFS's `arc.c`).
+    pub fn accessed(mut self, mintime: u64, t: u64) -> Entry
+        ensures { result ≡ accessed mintime t self }
+    {
+        match self.state {
+            State::Mru if t > self.last && t - self.last > mintime => {
+                self.state = State::Mfu;
+                self.last = t;
+            }
+            State::Mfu => self.last = t,
+            _ => {}
+        }
+        self
+    }
+}
+
+/// A key that the feeder picked, with the digest that it had then.
+#[derive(Clone, Copy, Debug, PartialEq, Eq)]
+pub struct Picked {
+    pub key: Key,
+    pub digest: Option<Digest>,
+}
+
+/// How far a feed of the cache device has come in a shard.
+#[derive(Clone, Copy, Debug, PartialEq, Eq)]
+pub enum Phase {
+    /// There is no feed.
+    Idle,
+    /// Keys are being picked.
+    Picking,
+    /// The picked blocks are being written.
+    Writing,
+}

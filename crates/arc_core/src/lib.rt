@@ -1,0 +1,21 @@
+//! One shard of the adaptive replacement cache, as plain data with events.
+#![tactic(auto)]
+
+mod config;
+mod entries;
+mod entry;
+mod event;
+mod laws;
+mod served;
+mod shard;
+mod table;
+
+pub use config::{Bounds, Config};
+pub use entry::{Entry, NUMBERS, Phase, Picked};
+pub use event::{Event, FailedAt, Origin, Why};
+pub use laws::{prefixes_are_legal, replay_goes_on};
+pub use served::{ReadFault, Restored, Served};
+pub use shard::{EntryView, Shard};
+
+#[cfg(test)]
+mod tests;

@@ -1,0 +1,34 @@
+use blk_ptr::{Digest, KeyFault};
+
+/// Where the bytes of an answered read came from.
+#[derive(Clone, Copy, Debug, PartialEq, Eq)]
+pub enum Served {
+    /// They were cached.
+    Hit,
+    /// They were read from the pool.
+    Pool,
+    /// They were read from the cache device.
+    L2,
+    /// They were read from the pool past the cache, which keeps other bytes under the key.
+    Past,
+}
+
+/// Why a read was refused.
+#[derive(Clone, Copy, Debug, PartialEq, Eq)]
+pub enum ReadFault {
+    /// The pool failed.
+    PoolFault,
+    /// The pool gave bytes of this digest, which isn't the pointer's.
+    Mismatch { found: Digest },
+    /// The key names no block of the pool.
+    Key(KeyFault),
+    /// Memory was refused.
+    NoMemory,
+}
+
+/// A key that stands on the cache device since an earlier run, and its place there.
+#[derive(Clone, Copy, Debug, PartialEq, Eq)]
+pub struct Restored {
+    pub key: blk_ptr::Key,
+    pub place: u64,
+}

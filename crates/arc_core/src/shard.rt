@@ -1,0 +1,276 @@
+ghost use Rattle.std.specs.Prelude.{◌≡◌, ℕ, ◌+◌, ◌≤◌, ◌++◌, ◌∷◌, [], IsTrue, OnOk, OnErr, vec_len, vec_capacity, length, option_map, ◌^◌, ◌<◌};
+ghost use Rattle.arc_lists.specs.Adapting.{IsCapacity};
+ghost use Rattle.arc_core.specs.declared.event.Event.{Event};
+ghost use Rattle.arc_core.specs.PlainShard.{entry_of, holds_of, numbers, size_in};
+ghost use Rattle.arc_core.specs.ShardLog.{HasRoom, IsReplayed, Makes, opening_log};
+ghost use Rattle.arc_core.specs.Step.{legal};
+ghost use Rattle.arc_core.specs.View.{first_holder, view_of};
+
+mod rules;
+
+use crate::config::Bounds;
+use crate::entry::Entry;
+use crate::event::{Event, FailedAt, Origin};
+use crate::table::Table;
+use blk_ptr::{Digest, Key, NoMemory, State};
+use std::alloc::Global;
+use std::marker::Model;
+
+/// What a shard shows of an entry.
+#[derive(Clone, Copy, Debug, PartialEq, Eq)]
+pub struct EntryView {
+    /// Where it stands.
+    pub state: State,
+    /// Who reads its bytes, where they are being read.
+    pub reader: Option<u32>,
+    /// The tick of its last access.
+    pub last: u64,
+    /// Its place on the cache device.
+    pub place: Option<u64>,
+    /// The SHA-256 of its bytes.
+    pub digest: Option<Digest>,
+    /// How many holds there are on it.
+    pub held: u64,
+}
+
+// The numbers with which a shard was made.
+#[derive(Clone, Copy, Debug)]
+struct Opened {
+    c: u64,
+    mintime: u64,
+    bounds: Bounds,
+}
+
+/// One shard of the cache with its history. Contracts see a plain shard now and at the start, and the list of the events
+/// between; the shard is always the replay of its history.
+#[derive(Debug, Drop)]
+pub struct Shard {
+    table: Table,
+    opened: Opened,
+    history: Vec<Event>,
+    spare_events: usize,
+}
+
+impl Model for Shard {
+    ghost use Rattle.arc_core.specs.ShardLog.{ShardLog};
+
+    ghost Value = { ShardLog };
+
+    ghost use Rattle.arc_core.specs.ShardModel.{log_in, IsKept};
+
+    ghost view = { log_in };
+
+    ghost invariant = { IsKept };
+}
+
+// Appends an event for which there is room.
+fn append(history: &mut Vec<Event>, event: Event)
+    requires { vec_len history.old < vec_capacity history.old }
+    ensures items { history.new.items ≡ history.old.items ++ event ∷ [] }
+    ensures len { vec_len history.new ≡ vec_len history.old + 1 }
+    ensures capacity { vec_capacity history.old ≤ vec_capacity history.new }
+{
+    let _ = history.push(event);
+}
+
+// Who holds an entry that is being read, and how many holds there are.
+fn view_of(entry: &Entry) -> EntryView
+    requires { holds_of entry.now < 2 ^ 63 }
+    ensures { result ≡ view_of entry.now }
+{
+    EntryView {
+        state: entry.state,
+        reader: if entry.reading {
+            holder_of(&entry.holds)
+        } else {
+            None
+        },
+        last: entry.last,
+        place: entry.place,
+        digest: entry.digest,
+        held: entry.holds.iter().sum(),
+    }
+}
+
+// The least number that has a hold.
+fn holder_of(holds: &[u64]) -> Option<u32>
+    requires { length holds.now ≡ numbers }
+    ensures { result ≡ first_holder 0 holds.now }
+{
+    for (n, count) in holds.iter().enumerate() {
+        if *count != 0 {
+            return Some(n as u32);
+        }
+    }
+    None
+}
+
+impl Shard {
+    ghost use Rattle.arc_core.specs.View.{first_holder, view_of};
+
+    /// A shard with no entries and no history. `c` is its capacity in bytes, from 4,096 to 2^32.
+    pub fn new(alloc: Global, c: u64, mintime: u64, bounds: Bounds) -> Shard
+        requires { IsCapacity c }
+        ensures log { result.now ≡ (opening_log c mintime bounds).now }
+        ensures opening { result.opening ≡ (opening_log c mintime bounds).opening }
+        ensures history { result.history ≡ [] }
+    {
+        Shard {
+            table: Table::new(alloc, c, mintime, bounds),
+            opened: Opened { c, mintime, bounds },
+            history: Vec::new(alloc),
+            spare_events: 0,
+        }
+    }
+
+    /// Makes room for `events` more events beyond those that are owed, and for `entries` more entries. One event is owed for
+    /// each hold, each reading and each picked key. After want of memory the shard is as before.
+    pub fn reserve(&mut self, events: usize, entries: usize) -> Result<(), NoMemory>
+        ensures log { self.new ≡ record self.old { event_room = self.new.event_room; entry_room = self.new.entry_room } }
+        ensures events { OnOk result (events ≤ self.new.event_room) }
+        ensures entries { OnOk result (entries ≤ self.new.entry_room) }
+        ensures kept_events { self.old.event_room ≤ self.new.event_room }
+        ensures kept_entries { self.old.entry_room ≤ self.new.entry_room }
+        ensures err { OnErr result (self.new ≡ self.old) }
+    {
+        let before = self.history.capacity();
+        if self.spare_events < events {
+            let free = before - self.history.len();
+            let more = free
+                .checked_add(events - self.spare_events)
+                .ok_or(NoMemory)?;
+            self.history.reserve(more)?;
+        }
+        self.table.reserve(entries)?;
+        self.spare_events += self.history.capacity() - before;
+        Ok(())
+    }
+
+    /// `n` asks for a key at tick `t` whose bytes are cached.
+    pub fn hit(&mut self, n: u32, key: Key, t: u64) -> Event
+        requires legal { IsTrue (legal self.old.now (Event.Hit n key t)) }
+        requires room { HasRoom (Event.Hit n key t) self.old }
+        ensures event { result ≡ Event.Hit n key t }
+        ensures makes { Makes (Event.Hit n key t) self.old self.new }
+    {
+        let event = Event::Hit { n, key, t };
+        self.table.hit(n, key, t);
+        self.table.forget_passed();
+        append(&mut self.history, event);
+        self.spare_events -= 2;
+        event
+    }
+
+    /// `n` begins to read a key at tick `t`.
+    pub fn miss(&mut self, n: u32, key: Key, t: u64) -> Event
+        requires legal { IsTrue (legal self.old.now (Event.Miss n key t)) }
+        requires room { HasRoom (Event.Miss n key t) self.old }
+        ensures event { result ≡ Event.Miss n key t }
+        ensures makes { Makes (Event.Miss n key t) self.old self.new }
+    {
+        let event = Event::Miss { n, key, t };
+        self.table.miss(n, key, t);
+        self.table.forget_passed();
+        append(&mut self.history, event);
+        self.spare_events -= 3;
+        event
+    }
+
+    /// The bytes of a read of `n` have arrived, with this digest.
+    pub fn arrive(&mut self, n: u32, key: Key, digest: Digest, from: Origin) -> Event
+        requires { IsTrue (legal self.old.now (Event.Arrive n key digest from)) }
+        ensures event { result ≡ Event.Arrive n key digest from }
+        ensures makes { Makes (Event.Arrive n key digest from) self.old self.new }
+    {
+        let event = Event::Arrive {
+            n,
+            key,
+            digest,
+            from,
+        };
+        self.table.arrive(n, key, digest, from);
+        self.table.forget_passed();
+        append(&mut self.history, event);
+        event
+    }
+
+    /// A read of `n` has failed.
+    pub fn fail(&mut self, n: u32, key: Key, at: FailedAt) -> Event
+        requires { IsTrue (legal self.old.now (Event.Fail n key at)) }
+        ensures event { result ≡ Event.Fail n key at }
+        ensures makes { Makes (Event.Fail n key at) self.old self.new }
+    {
+        let event = Event::Fail { n, key, at };
+        self.table.fail(n, key, at);
+        self.table.forget_passed();
+        append(&mut self.history, event);
+        event
+    }
+
+    /// `n` gives one hold back.
+    pub fn drop_one(&mut self, n: u32, key: Key) -> Event
+        requires { IsTrue (legal self.old.now (Event.Drop n key)) }
+        ensures event { result ≡ Event.Drop n key }
+        ensures makes { Makes (Event.Drop n key) self.old self.new }
+    {
+        let event = Event::Drop { n, key };
+        self.table.give_back(n, key);
+        self.table.forget_passed();
+        append(&mut self.history, event);
+        event
+    }
+
+    /// `n` has read the pool past the cache, which keeps bytes of the digest `kept` under the key.
+    pub fn past(&mut self, n: u32, key: Key, kept: Digest) -> Event
+        requires legal { IsTrue (legal self.old.now (Event.Past n key kept)) }
+        requires room { HasRoom (Event.Past n key kept) self.old }
+        ensures event { result ≡ Event.Past n key kept }
+        ensures makes { Makes (Event.Past n key kept) self.old self.new }
+    {
+        let event = Event::Past { n, key, kept };
+        self.table.forget_passed();
+        append(&mut self.history, event);
+        self.spare_events -= 1;
+        event
+    }
+
+    /// The events so far. The shard is sound, and it is their replay.
+    pub fn history(&self) -> &[Event]
+        ensures history { result.now ≡ self.now.history }
+        ensures replayed { IsReplayed self.now }
+    {
+        &self.history
+    }
+
+    /// What is known of a key.
+    pub fn entry(&self, key: Key) -> Option<EntryView>
+        ensures { result ≡ option_map view_of (entry_of key self.now.now) }
+    {
+        let _owed = &self.history;
+        match self.table.find(key) {
+            Some(entry) => Some(view_of(&entry)),
+            None => None,
+        }
+    }
+
+    /// The size of a state in bytes, held entries included.
+    pub fn size(&self, state: State) -> u128
+        ensures { result ≡ size_in state self.now.now }
+    {
+        self.table.size(state)
+    }
+
+    /// The target of anonymous and MRU bytes.
+    pub fn p(&self) -> u64
+        ensures { result ≡ self.now.now.p }
+    {
+        self.table.p()
+    }
+
+    /// The capacity in bytes.
+    pub fn c(&self) -> u64
+        ensures { result ≡ self.now.now.c }
+    {
+        self.table.c()
+    }
+}

@@ -1,0 +1,164 @@
+ghost use Rattle.std.specs.Prelude.{◌≡◌, ℕ, ◌+◌, ◌-◌, ◌/◌, ◌<◌, ◌≤◌, false, IsTrue, IsSome, None, length, max, OnOk, OnErr};
+ghost use Rattle.blk_ptr.specs.declared.key.Key.{Key};
+ghost use Rattle.arc_lists.specs.Adapting.{IsCapacity};
+ghost use Rattle.arc_core.specs.PlainShard.{entry_of, is_unheld, opening_shard, size_in};
+ghost use Rattle.arc_core.specs.Changes.{come, gone, with_none_passed};
+ghost use Rattle.arc_core.specs.Edits.{amended, is_off, placed, HasAlike};
+ghost use Rattle.arc_core.specs.Sound.{IsSoundEntry, IsTidy};
+
+mod events;
+mod room;
+
+use crate::config::Bounds;
+use crate::entries;
+use crate::entry::{Entry, Phase, Picked};
+use arc_lists::Lists;
+use blk_ptr::{Key, NoMemory, State};
+use std::alloc::Global;
+use std::marker::Model;
+
+/// The entries of a shard, with the lists on which they stand. Contracts see a plain shard.
+#[derive(Debug, Drop)]
+pub struct Table {
+    entries: Vec<Entry>,
+    lists: Lists,
+    mintime: u64,
+    bounds: Bounds,
+    passed: Vec<Key>,
+    phase: Phase,
+    picked: Vec<Picked>,
+    marks: usize,
+}
+
+impl Model for Table {
+    ghost use Rattle.arc_core.specs.PlainTable.{PlainTable};
+
+    ghost Value = { PlainTable };
+
+    ghost use Rattle.arc_core.specs.TableModel.{plain_table, IsKept};
+
+    ghost view = { plain_table };
+
+    ghost invariant = { IsKept };
+}
+
+// Whether nobody holds an entry.
+fn is_unheld(entry: &Entry) -> bool
+    ensures { result ≡ is_unheld entry.now }
+{
+    entry.holds.iter().all(|count| *count == 0)
+}
+
+impl Table {
+    pub fn new(alloc: Global, c: u64, mintime: u64, bounds: Bounds) -> Table
+        requires { IsCapacity c }
+        ensures shard { result.shard ≡ opening_shard c mintime bounds }
+    {
+        Table {
+            entries: Vec::new(alloc),
+            lists: Lists::new(alloc, c),
+            mintime,
+            bounds,
+            passed: Vec::new(alloc),
+            phase: Phase::Idle,
+            picked: Vec::new(alloc),
+            marks: 0,
+        }
+    }
+
+    /// Makes room for `entries` more entries.
+    pub fn reserve(&mut self, entries: usize) -> Result<(), NoMemory>
+        ensures table { self.new ≡ record self.old { spare = self.new.spare } }
+        ensures ok { OnOk result (self.new.spare ≡ max self.old.spare entries) }
+        ensures err { OnErr result (self.new ≡ self.old) }
+    {
+        self.entries.reserve(entries)?;
+        self.lists.reserve(entries)
+    }
+
+    /// How many entries there are.
+    pub fn len(&self) -> usize
+        ensures { result ≡ length self.now.shard.entries }
+    {
+        self.entries.len()
+    }
+
+    /// The entry of a key.
+    pub fn find(&self, key: Key) -> Option<Entry>
+        ensures value { result ≡ entry_of key self.now.shard }
+        ensures tidy { IsTidy self.now.shard }
+    {
+        entries::find(&self.entries, key)
+    }
+
+    /// Writes an entry over its key's, and puts the key at its sequence's head where nobody holds it.
+    pub fn place(&mut self, entry: Entry)
+        requires there { IsSome (entry_of entry.key self.old.shard) }
+        requires sound { IsSoundEntry entry }
+        ensures { self.new ≡ record self.old { shard = placed entry self.old.shard } }
+    {
+        let unheld = is_unheld(&entry);
+        self.lists.take_out(entry.key);
+        self.lists.put(entry.key, entry.state, unheld);
+        entries::write(&mut self.entries, entry);
+    }
+
+    /// Writes an entry over its key's, which has the same state and holds, and leaves the key where it stands.
+    pub fn amend(&mut self, entry: Entry)
+        requires alike { HasAlike entry self.old.shard }
+        requires sound { IsSoundEntry entry }
+        ensures { self.new ≡ record self.old { shard = amended entry self.old.shard } }
+    {
+        entries::write(&mut self.entries, entry);
+    }
+
+    /// Adds an entry of a key that has none, on no sequence.
+    pub fn add(&mut self, entry: Entry)
+        requires room { 0 < self.old.spare }
+        requires absent { entry_of entry.key self.old.shard ≡ None }
+        requires off { IsTrue (is_off entry) }
+        requires sound { IsSoundEntry entry }
+        ensures { self.new ≡ record self.old { shard = come entry self.old.shard; spare = self.old.spare - 1 } }
+    {
+        self.lists.put(entry.key, entry.state, false);
+        entries::add(&mut self.entries, entry);
+    }
+
+    /// Removes the entry of a key.
+    pub fn remove(&mut self, key: Key)
+        requires { IsSome (entry_of key self.old.shard) }
+        ensures { self.new ≡ record self.old { shard = gone key self.old.shard; spare = self.old.spare + 1 } }
+    {
+        self.lists.take_out(key);
+        entries::remove(&mut self.entries, key);
+    }
+
+    /// Forgets the passed keys.
+    pub fn forget_passed(&mut self)
+        ensures now { self.new ≡ record self.old { shard = with_none_passed self.old.shard } }
+        ensures tidy { IsTidy self.new.shard }
+    {
+        self.passed.clear();
+    }
+
+    /// The size of a state in bytes.
+    pub fn size(&self, state: State) -> u128
+        ensures { result ≡ size_in state self.now.shard }
+    {
+        self.lists.size(state)
+    }
+
+    /// The target in bytes.
+    pub fn p(&self) -> u64
+        ensures { result ≡ self.now.shard.p }
+    {
+        self.lists.p()
+    }
+
+    /// The capacity in bytes.
+    pub fn c(&self) -> u64
+        ensures { result ≡ self.now.shard.c }
+    {
+        self.lists.c()
+    }
+}

@@ -1,0 +1,110 @@
+ghost use Rattle.std.specs.Prelude.{◌≡◌, ℕ, ◌+◌, ◌^◌, ◌<◌, ◌≤◌, IsTrue};
+ghost use Rattle.arc_core.specs.declared.event.Event.{Event};
+ghost use Rattle.arc_core.specs.PlainShard.{numbers, one_hold};
+ghost use Rattle.arc_core.specs.Owed.{entries_for, owed_of};
+ghost use Rattle.arc_core.specs.Rules.{arrived_state};
+ghost use Rattle.arc_core.specs.Step.{effect, entry_to_read, legal};
+
+use super::Table;
+use crate::entry::{Entry, NUMBERS};
+use crate::event::{FailedAt, Origin};
+use blk_ptr::{Digest, Key, State};
+
+// The state of an entry whose bytes have arrived.
+fn arrived_state(state: State) -> State
+    ensures { result ≡ arrived_state state }
+{
+    match state {
+        State::Anon => State::Mru,
+        other => other,
+    }
+}
+
+// One hold of `n`, and none of any other number.
+fn one_hold(n: u32) -> [u64; NUMBERS]
+    requires { n < numbers }
+    ensures { result ≡ one_hold n }
+{
+    let mut holds = [0; NUMBERS];
+    holds[n as usize] = 1;
+    holds
+}
+
+// What a miss of `n` at tick `t` puts in for a key that had this entry.
+fn entry_to_read(n: u32, key: Key, t: u64, old: Option<Entry>) -> Entry
+    requires { n < numbers }
+    ensures { result ≡ entry_to_read n key t old }
+{
+    Entry {
+        key,
+        state: if old.is_some() {
+            State::Mfu
+        } else {
+            State::Anon
+        },
+        holds: one_hold(n),
+        reading: true,
+        last: t,
+        place: old.and_then(|entry| entry.place),
+        digest: None,
+    }
+}
+
+impl Table {
+    /// A hit of `n` at tick `t`.
+    pub fn hit(&mut self, n: u32, key: Key, t: u64)
+        requires legal { IsTrue (legal self.old.shard (Event.Hit n key t)) }
+        requires counts { owed_of self.old.shard < 2 ^ 63 }
+        ensures { self.new ≡ record self.old { shard = effect self.old.shard (Event.Hit n key t) } }
+    {
+        let mintime = self.mintime;
+        if let Some(entry) = self.find(key) {
+            self.place(entry.accessed(mintime, t).one_more(n));
+        }
+    }
+
+    /// The bytes of a read of `n` have arrived.
+    pub fn arrive(&mut self, n: u32, key: Key, digest: Digest, from: Origin)
+        requires { IsTrue (legal self.old.shard (Event.Arrive n key digest from)) }
+        ensures { self.new ≡ record self.old { shard = effect self.old.shard (Event.Arrive n key digest from) } }
+    {
+        if let Some(mut entry) = self.find(key) {
+            entry.state = arrived_state(entry.state);
+            entry.reading = false;
+            entry.digest = Some(digest);
+            self.place(entry);
+        }
+    }
+
+    /// `n` gives one hold back.
+    pub fn give_back(&mut self, n: u32, key: Key)
+        requires { IsTrue (legal self.old.shard (Event.Drop n key)) }
+        ensures { self.new ≡ record self.old { shard = effect self.old.shard (Event.Drop n key) } }
+    {
+        if let Some(entry) = self.find(key) {
+            self.place(entry.one_less(n));
+        }
+    }
+
+    /// `n` begins to read a key at tick `t`.
+    pub fn miss(&mut self, n: u32, key: Key, t: u64)
+        requires legal { IsTrue (legal self.old.shard (Event.Miss n key t)) }
+        requires room { entries_for self.old.shard (Event.Miss n key t) ≤ self.old.spare }
+        ensures shard { self.new.shard ≡ effect self.old.shard (Event.Miss n key t) }
+        ensures spare { self.old.spare ≤ self.new.spare + entries_for self.old.shard (Event.Miss n key t) }
+        ensures marks { self.new.marks ≡ self.old.marks }
+    {
+        let old = self.find(key);
+        self.adapt(key);
+        self.take_in(entry_to_read(n, key, t, old));
+    }
+
+    /// A read of `n` has failed.
+    pub fn fail(&mut self, n: u32, key: Key, at: FailedAt)
+        requires { IsTrue (legal self.old.shard (Event.Fail n key at)) }
+        ensures shard { self.new.shard ≡ effect self.old.shard (Event.Fail n key at) }
+        ensures spare { self.old.spare ≤ self.new.spare }
+    {
+        self.remove(key);
+    }
+}

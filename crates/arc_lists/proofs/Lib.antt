@@ -1,0 +1,5 @@
+pub mod Keeping
+pub mod Members
+pub mod SizeSums
+pub mod Standing
+pub mod Tables

@@ -1,0 +1,212 @@
+ghost use Rattle.std.specs.Prelude.{◌≡◌, ℕ, ◌+◌, ◌-◌, ◌/◌, ◌<◌, ◌≤◌, Bool, false, IsTrue, IsSome, OnOk, OnErr, max};
+ghost use Rattle.blk_ptr.specs.Size.{IsBlockSize};
+ghost use Rattle.blk_ptr.specs.declared.key.Key.{Key};
+ghost use Rattle.blk_ptr.specs.declared.state.State.TheVariants as state;
+ghost use Rattle.arc_lists.specs.Adapting.{IsCapacity, adapted, state_of};
+ghost use Rattle.arc_lists.specs.ByKey.{has_key, item_at};
+ghost use Rattle.arc_lists.specs.PlainLists.{IsBound, freed, member_key, opening_lists, put, size_of, take_out};
+ghost use Rattle.arc_lists.specs.Room.{next_drop, next_eviction};
+ghost use Rattle.arc_lists.specs.Sequences.{stands, taken_off};
+
+use crate::ghost_list::Ghost;
+use crate::member::Member;
+use crate::queues::{Queues, oldest};
+use crate::sizes::Sizes;
+use crate::{table, target};
+use blk_ptr::{Key, NoMemory, State};
+use std::alloc::Global;
+use std::marker::Model;
+
+/// Who is there and in which state, the four sequences, the sizes, and the target. Contracts see plain lists.
+#[derive(Debug, Drop)]
+pub struct Lists {
+    members: Vec<Member>,
+    queues: Queues,
+    sizes: Sizes,
+    p: u64,
+    c: u64,
+    spare: usize,
+}
+
+impl Model for Lists {
+    ghost use Rattle.arc_lists.specs.PlainLists.{PlainLists};
+
+    ghost Value = { PlainLists };
+
+    ghost use Rattle.arc_lists.specs.Kept.{plain, IsKept};
+
+    ghost view = { plain };
+
+    ghost invariant = { IsKept };
+}
+
+impl Lists {
+    /// Empty lists of this capacity in bytes, from 4,096 to 2^32. Half of it is for MRU (`arc_init` of OpenZFS's `arc.c`).
+    pub fn new(alloc: Global, c: u64) -> Lists
+        requires { IsCapacity c }
+        ensures { result ≡ opening_lists (c / 2) c }
+    {
+        Lists {
+            members: Vec::new(alloc),
+            queues: Queues::new(alloc),
+            sizes: Sizes::zero(),
+            p: c / 2,
+            c,
+            spare: 0,
+        }
+    }
+
+    /// Makes room for `n` more keys. After want of memory the lists are as before.
+    pub fn reserve(&mut self, n: usize) -> Result<(), NoMemory>
+        ensures lists { self.new ≡ record self.old { spare = self.new.spare } }
+        ensures ok { OnOk result (self.new.spare ≡ max self.old.spare n) }
+        ensures err { OnErr result (self.new ≡ self.old) }
+    {
+        if n <= self.spare {
+            return Ok(());
+        }
+        let all = self.members.len().checked_add(n).ok_or(NoMemory)?;
+        self.queues.reserve_all(all)?;
+        self.members.reserve(n)?;
+        self.spare = n;
+        Ok(())
+    }
+
+    /// Moves the target, since `z` bytes of a ghost were asked for.
+    pub fn adapt(&mut self, kind: Ghost, z: u64)
+        requires some { 0 < z }
+        requires there { z ≤ size_of (state_of kind) self.old.members }
+        ensures { self.new ≡ record self.old {
+          p = adapted kind z (size_of state.MruGhost self.old.members)
+              (size_of state.MfuGhost self.old.members) self.old.p self.old.c;
+        } }
+    {
+        let (mru_ghost, mfu_ghost) = (self.sizes.mru_ghost, self.sizes.mfu_ghost);
+        self.p = match kind {
+            Ghost::Mru => target::raised(z, mru_ghost, mfu_ghost, self.p, self.c),
+            Ghost::Mfu => target::lowered(z, mru_ghost, mfu_ghost, self.p, self.c),
+        };
+    }
+
+    /// Adds a key under a state. Where it is unheld and the state has a sequence, it stands at that sequence's head.
+    pub fn put(&mut self, key: Key, s: State, unheld: bool)
+        requires room { 0 < self.old.spare }
+        requires absent { has_key member_key key self.old.members ≡ false }
+        requires size { IsBlockSize key.size }
+        ensures { self.new ≡ put key s unheld self.old }
+    {
+        table::add(&mut self.members, key, s);
+        self.sizes.add(s, key.size);
+        if unheld {
+            self.queues.put_at_head(s, key);
+        }
+        self.spare -= 1;
+    }
+
+    /// Removes a key: its size no longer counts, and it stands on no sequence.
+    pub fn take_out(&mut self, key: Key)
+        requires { IsSome (item_at member_key key self.old.members) }
+        ensures { self.new ≡ take_out key self.old }
+    {
+        let s = table::remove(&mut self.members, key);
+        self.sizes.take(s, key.size);
+        self.queues.take_off(key);
+        self.spare += 1;
+    }
+
+    /// Puts a key that stands on no sequence at the head of its state's sequence.
+    pub fn free(&mut self, key: Key)
+        requires { IsBound key self.old }
+        ensures { self.new ≡ freed key self.old }
+    {
+        let s = table::state_of(&self.members, key);
+        self.queues.put_at_head(s, key);
+    }
+
+    /// Takes a key off its sequence.
+    pub fn bind(&mut self, key: Key)
+        requires { IsTrue (stands key self.old.sequences) }
+        ensures { self.new ≡ record self.old { sequences = taken_off key self.old.sequences } }
+    {
+        self.queues.take_off(key);
+    }
+
+    /// The size of a state in bytes: the sum of the sizes of all its keys, those on no sequence included.
+    pub fn size(&self, s: State) -> u128
+        ensures { result ≡ size_of s self.now.members }
+    {
+        self.sizes.at(s)
+    }
+
+    /// The target of anonymous and MRU bytes.
+    pub fn p(&self) -> u64
+        ensures { result ≡ self.now.p }
+    {
+        self.p
+    }
+
+    /// The capacity in bytes.
+    pub fn c(&self) -> u64
+        ensures { result ≡ self.now.c }
+    {
+        self.c
+    }
+
+    /// The next key that room for `z` bytes evicts with this `c` and `p`, where so many bytes of MRU and of MFU count as
+    /// evicted already, and no key is chosen that `skip` passes over. None where the bytes fit or no key may go
+    /// (`arc_adjust` of OpenZFS's `arc.c`).
+    pub fn pick<F: Fn(Key) -> bool>(
+        &self,
+        c: u64,
+        p: u64,
+        z: u64,
+        mru_gone: u128,
+        mfu_gone: u128,
+        skip: F,
+    ) -> Option<Key>
+        requires callable { F.IsAlwaysCallable skip }
+        requires mru { mru_gone ≤ size_of state.Mru self.now.members }
+        requires mfu { mfu_gone ≤ size_of state.Mfu self.now.members }
+        ensures { (skips : Key → Bool) → ((key : Key) (answer : Bool) → F.post skip key answer → answer ≡ skips key)
+            → result ≡ next_eviction c p z (size_of state.Anon self.now.members) (size_of state.Mru self.now.members - mru_gone)
+            (size_of state.Mfu self.now.members - mfu_gone) skips self.now.sequences }
+    {
+        let cached = self.sizes.anon + (self.sizes.mru - mru_gone);
+        let all = cached + (self.sizes.mfu - mfu_gone) + u128::from(z);
+        if all <= u128::from(c) {
+            return None;
+        }
+        let oldest_mru = oldest(&self.queues.mru, &skip);
+        if cached > u128::from(p) && oldest_mru.is_some() {
+            return oldest_mru;
+        }
+        oldest(&self.queues.mfu, &skip).or(oldest_mru)
+    }
+
+    /// The next ghost that trim drops with this `c`, where MRU and the two ghosts have these sizes, and no ghost is chosen
+    /// that `skip` passes over. None where trim drops none.
+    pub fn trim<F: Fn(Key) -> bool>(
+        &self,
+        c: u64,
+        mru: u128,
+        mru_ghost: u128,
+        mfu_ghost: u128,
+        skip: F,
+    ) -> Option<Key>
+        requires { F.IsAlwaysCallable skip }
+        ensures { (skips : Key → Bool) → ((key : Key) (answer : Bool) → F.post skip key answer → answer ≡ skips key)
+            → result ≡ next_drop c mru mru_ghost mfu_ghost skips self.now.sequences }
+    {
+        let c = u128::from(c);
+        if mru.saturating_add(mru_ghost) > c {
+            let oldest_mru_ghost = oldest(&self.queues.mru_ghost, &skip);
+            if oldest_mru_ghost.is_some() {
+                return oldest_mru_ghost;
+            }
+        }
+        if mru_ghost.saturating_add(mfu_ghost) > c {
+            return oldest(&self.queues.mfu_ghost, &skip);
+        }
+        None
+    }
+}
