@@ -1,6 +1,5 @@
 -- The parts of a header, and which of their rules speak of which places.
-use Rattle.std.proofs.Common.{◌≡◌, ℕ, ◌≤◌, refl, Result, Ok, Err, MatchResult, List, length, ap, sym, ◌∙◌, arith}
-use Rattle.std.specs.Result.{IsOk}
+use Rattle.std.proofs.Common.{◌≡◌, ℕ, ◌≤◌, Result, Ok, Err, MatchResult, List, length, ap, sym, ◌∙◌, arith}
 use Rattle.blk_ptr.specs.Ptr.{sha256_of}
 use Rattle.l2_log.specs.declared.header.DevHeader.{DevHeader}
 use Rattle.l2_log.specs.declared.fault.LogFault.{LogFault}
@@ -9,6 +8,7 @@ use Rattle.l2_log.specs.Bytes.{digest_at, AreZero, AreSame, AreBytes, IsZeroIn}
 use Rattle.l2_log.specs.Places.{IsFieldFault}
 use Rattle.l2_log.specs.PointerBytes.{PointerRule}
 use Rattle.l2_log.specs.HeaderBytes.{IsHeader, IsHeaderFront, IsSealed, NumberRule, HeaderRule, IsFirstRefusal}
+use Rattle.l2_log.specs.Values.{same_header_of_bytes}
 use Rattle.l2_log.proofs.Numbers.{word_only, same_joined, zeros_same, part_same, front_same, same_whole}
 use Rattle.l2_log.proofs.Pointers.{pointer_only, pointer_rule, pointer_below}
 
@@ -140,8 +140,8 @@ header_not_refused bytes header (fault.Field at) is r = r.2.broken (header_rule 
 
 -- a reader that is exact reads each header
 pub read_complete : (bytes : List ℕ) (r : Result DevHeader LogFault) → MatchResult r (λ header. IsHeader bytes header) (λ f. IsFirstRefusal bytes f)
-    → (header : DevHeader) → IsHeader bytes header → IsOk r
-read_complete bytes (Ok read) exact header is = refl
+    → (header : DevHeader) → IsHeader bytes header → r ≡ Ok header
+read_complete bytes (Ok read) exact header is = ap Ok (same_header_of_bytes bytes read header exact is)
 read_complete bytes (Err f) exact header is = absurd (header_not_refused bytes header f is exact)
 
 -- the bytes of a header are given by it

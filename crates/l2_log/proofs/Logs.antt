@@ -1,6 +1,5 @@
 -- The parts of a log block, and which of their rules speak of which places.
 use Rattle.std.proofs.Common.{◌≡◌, ℕ, ◌+◌, ◌*◌, refl, Result, Ok, Err, MatchResult, List, length, sym, ◌∙◌, arith}
-use Rattle.std.specs.Prelude.{OnErr, IsErrOf}
 use Rattle.l2_log.specs.declared.log_block.LogBlock.{LogBlock}
 use Rattle.l2_log.specs.declared.fault.LogFault.{LogFault}
 use Rattle.l2_log.specs.declared.fault.LogFault.TheVariants as fault
@@ -13,6 +12,7 @@ use Rattle.l2_log.specs.Places.{IsFieldFault}
 use Rattle.l2_log.specs.PointerBytes.{PointerRule}
 use Rattle.l2_log.specs.EntryBytes.{AreEntries}
 use Rattle.l2_log.specs.LogBytes.{IsLogBlock, IsLogFront, IsEntryRefusal, LogRule, IsFirstLogFault, IsLogRefusal}
+use Rattle.l2_log.specs.Values.{same_log_block_of_bytes}
 use Rattle.l2_log.proofs.Numbers.{word_only, same_joined, zeros_same, same_whole}
 use Rattle.l2_log.proofs.Pointers.{pointer_only, pointer_rule}
 use Rattle.l2_log.proofs.EntryRules.{entries_rule, entries_only}
@@ -78,8 +78,8 @@ log_not_refused bytes block _ is r = r
 
 -- a reader that is exact reads each log block, unless memory was refused
 pub log_complete : (bytes : List ℕ) (r : Result LogBlock LogReadFault) → MatchResult r (λ block. IsLogBlock bytes block) (λ f. IsLogRefusal bytes f)
-    → (block : LogBlock) → IsLogBlock bytes block → OnErr r (IsErrOf r refusal.NoMemory)
-log_complete bytes (Ok read) exact block is = tt
+    → (block : LogBlock) → IsLogBlock bytes block → MatchResult r (λ read. read ≡ block) (λ f. f ≡ refusal.NoMemory)
+log_complete bytes (Ok read) exact block is = same_log_block_of_bytes bytes read block exact is
 log_complete bytes (Err (refusal.Fault f)) exact block is = absurd (log_not_refused bytes block f is exact)
 log_complete bytes (Err refusal.NoMemory) exact block is = refl
 

@@ -5,3 +5,4 @@ pub mod LogBytes
 pub mod Places
 pub mod PointerBytes
 pub mod Rules
+pub mod Values

@@ -48,7 +48,7 @@ pub struct DevHeader {
 }
 
 impl DevHeader {
-    ghost use Rattle.std.specs.Prelude.{◌≡◌, ℕ, List, length, IsOk, MatchResult};
+    ghost use Rattle.std.specs.Prelude.{◌≡◌, ℕ, List, length, Ok, MatchResult};
     ghost use Rattle.l2_log.specs.Bytes.{AreBytes};
     ghost use Rattle.l2_log.specs.HeaderBytes.{IsHeader, IsHeaderFront, IsSealed, IsFirstRefusal};
 
@@ -56,7 +56,7 @@ impl DevHeader {
     /// version, the digest, and then the fields by rising place.
     pub fn read(bytes: &[u8]) -> Result<DevHeader, LogFault>
         ensures exact { MatchResult result (λ header. IsHeader bytes.now header) (λ fault. IsFirstRefusal bytes.now fault) }
-        ensures complete { (header : DevHeader) → IsHeader bytes.now header → IsOk result }
+        ensures complete { (header : DevHeader) → IsHeader bytes.now header → result ≡ Ok header }
     {
         check_front(bytes)?;
         DevHeader::read_fields(bytes)

@@ -88,7 +88,8 @@ impl LogBlock {
     /// then the fields by rising place.
     pub fn read(alloc: Global, bytes: &[u8]) -> Result<LogBlock, LogReadFault>
         ensures exact { MatchResult result (λ block. IsLogBlock bytes.now block) (λ fault. IsLogRefusal bytes.now fault) }
-        ensures complete { (block : LogBlock) → IsLogBlock bytes.now block → OnErr result (IsErrOf result LogReadFault.NoMemory) }
+        ensures complete { (block : LogBlock) → IsLogBlock bytes.now block
+            → MatchResult result (λ read. read ≡ block) (λ fault. fault ≡ LogReadFault.NoMemory) }
     {
         check_log_front(bytes)?;
         LogBlock::read_fields(alloc, bytes)

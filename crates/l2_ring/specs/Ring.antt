@@ -72,6 +72,10 @@ pub record IsPlanFor (ring : RingState) (n : ℕ) (plan : Plan) : Type 0 where
 abbrev pub IsPlan : RingState → Plan → Type 0
 IsPlan ring plan = (n : ℕ) × IsPlanFor ring n plan
 
+-- the numbers that a ring has, as a plan
+abbrev pub numbers_of : RingState → Plan
+numbers_of ring = record { hand = ring.hand; evict = ring.evict; top = ring.top; lap = ring.lap }
+
 -- the ring has the plan's numbers
 pub record HasPlan (plan : Plan) (old new : RingState) : Type 0 where
   pub end : new.end ≡ old.end

@@ -1,5 +1,6 @@
 -- Which live entries a plan keeps.
-use Rattle.std.specs.Prelude.{◌==◌, ◌&&◌, ◌||◌, ℕ, ◌+◌, Bool, not, nat_le}
+use Rattle.std.specs.Prelude.{◌≡◌, ◌==◌, ◌&&◌, ◌||◌, ℕ, ◌+◌, List, Bool, true, not, nat_le}
+use Rattle.std.specs.List.{All}
 use Rattle.l2_log.specs.Rules.{ring_start}
 use Rattle.l2_ring.specs.declared.live.Written.{Written}
 use Rattle.l2_ring.specs.declared.live.Live.{Live}
@@ -23,3 +24,7 @@ falls plan written = not (stays plan written)
 -- the entry without its lap
 abbrev pub live_of : Written → Live
 live_of written = written.live
+
+-- each of the entries lies in the part of these numbers that its own lap asks for
+abbrev pub AreLive : Plan → List Written → Type 0
+AreLive plan entries = All (λ written. stays plan written ≡ true) entries

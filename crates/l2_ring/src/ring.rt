@@ -3,13 +3,13 @@ ghost use Rattle.std.specs.List.{filter};
 ghost use Rattle.std.specs.Vec.{vec_capacity};
 ghost use Rattle.blk_ptr.specs.Size.{sector};
 ghost use Rattle.l2_log.specs.Rules.{ring_start, IsRingEnd};
-ghost use Rattle.l2_ring.specs.Ring.{IsLower, IsUpper, IsInPart, IsRoom, IsPlanFor, IsPlan, HasPlan, IsSameRing};
-ghost use Rattle.l2_ring.specs.Stays.{stays, falls, live_of};
+ghost use Rattle.l2_ring.specs.Ring.{IsLower, IsUpper, IsInPart, IsRoom, IsPlanFor, IsPlan, HasPlan, IsSameRing, numbers_of};
+ghost use Rattle.l2_ring.specs.Stays.{stays, falls, live_of, AreLive};
 
 use crate::live::{Live, Written};
 use crate::part::Part;
 use crate::plan::Plan;
-use crate::sift::sift;
+use crate::sift::keep;
 use blk_ptr::NoMemory;
 use l2_log::{DevHeader, RING_START};
 use std::alloc::Global;
@@ -30,6 +30,7 @@ impl Model for Ring {
     ghost use Rattle.std.specs.Prelude.{◌-◌, length};
     ghost use Rattle.std.specs.Vec.{vec_capacity};
     ghost use Rattle.l2_ring.specs.Ring.{RingState, IsRing};
+    ghost use Rattle.l2_ring.specs.Stays.{AreLive};
 
     ghost Value = { RingState };
 
@@ -43,7 +44,8 @@ impl Model for Ring {
       spare = vec_capacity ring.live - length ring.live.items;
     } };
 
-    ghost invariant = { λ ring. IsRing ring.end ring.hand ring.evict ring.top ring.lap };
+    ghost invariant = { λ ring. IsRing ring.end ring.hand ring.evict ring.top ring.lap
+        × AreLive record { hand = ring.hand; evict = ring.evict; top = ring.top; lap = ring.lap } ring.live.items };
 }
 
 impl Ring {
@@ -113,9 +115,10 @@ impl Ring {
         self.lap
     }
 
-    /// The live entries, in the order in which they were added.
+    /// The live entries, in the order in which they were added. Each lies in the part of the ring that its own lap asks for.
     pub fn live(&self) -> &[Written]
-        ensures { result.now ≡ self.now.live }
+        ensures entries { result.now ≡ self.now.live }
+        ensures placed { AreLive (numbers_of self.now) self.now.live }
     {
         &self.live
     }
@@ -173,8 +176,7 @@ impl Ring {
         ensures dropped { dropped.new.items ≡ dropped.old.items ++ map live_of (filter (falls plan) self.old.live) }
         ensures spare { self.old.spare ≤ self.new.spare }
     {
-        let kept = sift(&mut self.live, plan, dropped);
-        self.live.truncate(kept);
+        keep(&mut self.live, plan, dropped);
         self.hand = plan.hand;
         self.evict = plan.evict;
         self.top = plan.top;

@@ -40,7 +40,7 @@ fn push(dropped: &mut Vec<Live>, live: Live)
 
 /// Moves the entries that the plan keeps to the front, in their order, and answers how many they are. The others go
 /// to the end of `dropped`, in their order.
-pub(crate) fn sift(live: &mut [Written], plan: Plan, dropped: &mut Vec<Live>) -> usize
+fn sift(live: &mut [Written], plan: Plan, dropped: &mut Vec<Live>) -> usize
     requires { vec_len dropped.old + length live.old ≤ vec_capacity dropped.old }
     ensures kept { take result live.new ≡ filter (stays plan) live.old }
     ensures dropped { dropped.new.items ≡ dropped.old.items ++ map live_of (filter (falls plan) live.old) }
@@ -56,4 +56,16 @@ pub(crate) fn sift(live: &mut [Written], plan: Plan, dropped: &mut Vec<Live>) ->
         }
     }
     kept
+}
+
+/// Moves the entries that the plan drops to the end of `dropped`, and keeps the others, all in their order.
+pub(crate) fn keep(live: &mut Vec<Written>, plan: Plan, dropped: &mut Vec<Live>)
+    requires { vec_len dropped.old + vec_len live.old ≤ vec_capacity dropped.old }
+    ensures kept { live.new.items ≡ filter (stays plan) live.old.items }
+    ensures len { length live.new.items ≤ length live.old.items }
+    ensures capacity { vec_capacity live.new ≡ vec_capacity live.old }
+    ensures dropped { dropped.new.items ≡ dropped.old.items ++ map live_of (filter (falls plan) live.old.items) }
+{
+    let kept = sift(live, plan, dropped);
+    live.truncate(kept);
 }

@@ -1,5 +1,9 @@
+pub mod Counting
+pub mod EndText
+pub mod EventText
 pub mod Generator
 pub mod Grammar
 pub mod Reading
 pub mod ReportText
 pub mod ReportWords
+pub mod SizesText

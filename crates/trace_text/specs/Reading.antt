@@ -75,7 +75,7 @@ IsBegun config first (Ok word) = (first ≡ text_of word) × MayBegin config wor
 IsBegun config first (Err kind) = (fields : List (List ℕ)) → IsMisspelled config (first ∷ fields) kind
 
 -- what the lines so far say has so many callers, blocks and operations
-pub record Counts (before : Content) (seen : Seen) : Type 0 where
+pub record IsSeenOf (before : Content) (seen : Seen) : Type 0 where
   pub callers : seen.callers ≡ callers_of before.config
   pub blocks : seen.blocks ≡ length before.blocks
   pub operations : seen.operations ≡ length before.ops

@@ -1,6 +1,6 @@
 ghost use Rattle.std.specs.Prelude.{◌≡◌, ◌≤◌, IfErr, MatchOption, None, OnOk, vec_len};
 ghost use Rattle.trace_text.specs.Grammar.{Adds, Content, content_of, fields_of, nothing};
-ghost use Rattle.trace_text.specs.Reading.{Counts, IsBegun, IsLineCause, IsLineRead, IsPlaced};
+ghost use Rattle.trace_text.specs.Reading.{IsBegun, IsLineCause, IsLineRead, IsPlaced, IsSeenOf};
 
 use crate::blocks::Blocks;
 use crate::config::Config;
@@ -63,7 +63,7 @@ impl Draft {
 
     /// How much the lines so far say.
     fn seen(&self) -> Seen
-        ensures { Counts self.now result }
+        ensures { IsSeenOf self.now result }
     {
         Seen {
             callers: self.config.map_or(0, |sizes| sizes.callers),

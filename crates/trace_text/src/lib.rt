@@ -8,17 +8,25 @@
 
 mod blocks;
 mod config;
+mod counting;
+mod counts;
 mod draft;
+mod ends;
+mod event_words;
+mod events;
 mod fault;
 mod fields;
 mod forms;
 mod generator;
+mod histories;
+mod history;
 mod laws;
 mod line;
 mod op;
 mod ops;
 mod parts;
 mod print;
+mod print_events;
 mod reader;
 mod reply;
 mod report;
@@ -30,8 +38,14 @@ mod words;
 
 pub use blocks::Blocks;
 pub use config::{Bounds, Config};
+pub use counting::counts_of;
+pub use counts::Counts;
+pub use ends::{Ends, ShardEnd};
+pub use events::event_text;
 pub use fault::{Kind, TraceFault};
 pub use generator::{MOST_GENERATED_BLOCKS, MOST_GENERATED_READS, gen_trace};
+pub use histories::Histories;
+pub use history::History;
 pub use laws::{one_fault, one_trace, written_lines};
 pub use op::Op;
 pub use ops::Ops;
@@ -44,5 +58,7 @@ pub use shown::{MOST_SHOWN, Shown};
 pub use trace::Trace;
 pub use window::Window;
 
+#[cfg(test)]
+mod event_tests;
 #[cfg(test)]
 mod tests;

@@ -1,4 +1,4 @@
-use crate::{Bounds, Config, Kind, Op, Trace, TraceFault, Window, read_trace};
+use crate::{Bounds, Config, Kind, Op, Trace, TraceFault, Window, gen_trace, read_trace};
 use std::alloc::{AllocError, Global};
 use std::test::Fail;
 
@@ -254,5 +254,26 @@ fn a_text_too_long(rt: HostRuntime) -> Result<(), Fail> {
         fault_of(rt.alloc(), one_more.as_bytes())?,
         Some((67_108_865, Kind::Length))
     );
+    Ok(())
+}
+
+#[test]
+fn a_generated_trace(rt: HostRuntime) -> Result<(), Fail> {
+    let trace = gen_trace(rt.alloc(), 1, 8, 10)?;
+    assert_eq!(rt; (trace.config.buckets, trace.config.c), (256, 4096));
+    assert_eq!(rt; trace.blocks.len(), 8);
+    let last = trace.blocks.get(7).ok_or("too few blocks")?;
+    assert_eq!(rt;
+        (last.key.offset, last.digest.0[0], last.digest.0[31]),
+        (3584, 0x07, 0x60)
+    );
+    let drawn = [6, 6, 1, 3, 3, 3, 2, 3, 4, 6];
+    assert_eq!(rt; trace.ops.len(), 10);
+    for (number, op) in trace.ops.as_slice().iter().enumerate() {
+        let w = Window { at: 0, len: 0 };
+        let x = drawn.get(number).copied().ok_or("too many operations")?;
+        let t = number as u64 + 1;
+        assert_eq!(rt; *op, Op::Read { n: 0, t, x, w });
+    }
     Ok(())
 }

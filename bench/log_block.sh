@@ -1,5 +1,5 @@
 #!/usr/bin/env bash
-# Runs the benchmarks on a copy of the crates, so that no proof waits for them.
+# Proves, builds and runs the benchmark in a copy of the repository, so that no gate waits for it.
 set -eu
 here=$(cd "$(dirname "$0")" && pwd)
 copy=$(mktemp -d)
@@ -10,4 +10,4 @@ cp -r "$here/log_block" "$copy/crates/log_block"
 mv "$copy/crates/log_block/src/main.rt.in" "$copy/crates/log_block/src/main.rt"
 printf '\nlog_block: blk_ptr l2_log\n' >> "$copy/crates.txt"
 cd "$copy/crates/log_block"
-rt try
+rt run
