@@ -4,7 +4,7 @@ use trace_run::Status;
 
 /// Why the program didn't do what it was asked.
 #[derive(Clone, Copy, Debug, Error)]
-pub enum Fault {
+pub(crate) enum Fault {
     /// There are fewer than two words, or one of them is no text.
     #[error("usage: arc_tool POOL CACHE WORD..., where a file name may be -")]
     Names,
@@ -24,7 +24,7 @@ pub enum Fault {
 
 impl Fault {
     /// What is told of a run that ended with this status, if anything is: a report speaks for itself.
-    pub fn of(status: Status) -> Option<Fault> {
+    pub(crate) fn of(status: Status) -> Option<Fault> {
         match status {
             Status::Ok | Status::ReadsFailed => None,
             Status::Usage { index } => Some(Fault::Word(index)),
@@ -33,7 +33,7 @@ impl Fault {
     }
 
     /// The program's exit status.
-    pub fn code(self) -> u8 {
+    pub(crate) fn code(self) -> u8 {
         match self {
             Fault::Word(_) => 2,
             Fault::Ended(code) => code,

@@ -106,3 +106,40 @@ fn file_len(rt: &HostRuntime, name: &str) -> Result<u64, Fail> {
         .ok_or("the file")?;
     Ok(dev.len())
 }
+
+/// Reads the last bytes of a pool of at least 512 bytes through its trait alone.
+fn read_last<P: Pool>(rt: &impl Abort, pool: &mut P, wanted: &[u8; 4]) {
+    let len = pool.len();
+    if len < 512 {
+        assert!(rt; false, "a short pool");
+        return;
+    }
+    let mut bytes = [0; 4];
+    assert_eq!(rt; pool.read(len - 4, &mut bytes), Ok(()));
+    assert_eq!(rt; bytes, *wanted);
+}
+
+#[test]
+fn a_pool_in_a_file(rt: HostRuntime) -> Result<(), Fail> {
+    let name = "pool_of_a_test";
+    let mut bytes = [7u8; 512];
+    bytes[508..].copy_from_slice(b"last");
+    fs::write(&rt, name, bytes.as_slice())?;
+    let mut pool = FilePool::open(&rt, name).ok().ok_or("the file")?;
+    assert_eq!(rt; pool.len(), 512);
+    read_last(&rt, &mut pool, b"last");
+    fs::remove_file(&rt, name)?;
+    assert!(rt; matches!(FilePool::open(&rt, name), Err(OpenFault::File)));
+    assert!(rt; matches!(FilePool::open(&rt, "."), Err(OpenFault::File)));
+    assert_eq!(rt; FilePool::empty(&rt).len(), 0);
+    Ok(())
+}
+
+/// What the standard streams hold is the program's stored run's to show; here they are called through their traits.
+#[test]
+fn the_standard_streams(rt: HostRuntime) {
+    let mut sink = StdSink::new(&rt);
+    assert_eq!(rt; sink.write(b""), Ok(0));
+    let mut source = StdSource::new(&rt);
+    assert_eq!(rt; source.read(&mut []), Ok(0));
+}
