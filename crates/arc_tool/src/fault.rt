@@ -23,6 +23,9 @@ pub(crate) enum Fault {
 }
 
 impl Fault {
+    /// Memory was refused, in the run or before it.
+    pub(crate) const NO_MEMORY: Fault = Fault::Ended(7);
+
     /// What is told of a run that ended with this status, if anything is: a report speaks for itself.
     pub(crate) fn of(status: Status) -> Option<Fault> {
         match status {

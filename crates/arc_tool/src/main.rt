@@ -5,9 +5,10 @@ mod fault;
 
 use crate::fault::Fault;
 use std::env;
+use std::io::ErrorKind;
 use std::process::ExitCode;
 use std::rt::{Env, Files};
-use trace_run::{Status, run};
+use trace_run::run;
 use vdev_io::{FilePool, FreeGate, NoCache, OpenFault, StdSink, StdSource};
 
 /// The file name that stands for an empty pool, or for no cache device.
@@ -47,13 +48,16 @@ fn main(rt: HostRuntime) -> ExitCode {
 
 /// Reads the program's words, and opens the files that the first two name.
 fn prepare<R: AllocGlobal + Env + Files>(rt: &R) -> Result<Job<'_, R>, Fault> {
-    let mut args = env::args(rt).map_err(|_| Fault::Names)?;
+    let mut args = env::args(rt).map_err(|error| match error.kind() {
+        ErrorKind::OutOfMemory => Fault::NO_MEMORY,
+        _ => Fault::Names,
+    })?;
     let (Some(_program), Some(pool), Some(cache)) = (args.next(), args.next(), args.next()) else {
         return Err(Fault::Names);
     };
     let words = args
         .collect::<Vec<String>>(rt.alloc())
-        .map_err(|_| Fault::Ended(Status::NoMemory.code()))?;
+        .map_err(|_| Fault::NO_MEMORY)?;
     let pool = open_pool(rt, pool.as_str())?;
     if cache.as_str() != NO_FILE {
         return Err(Fault::Cache);
@@ -68,6 +72,6 @@ fn open_pool<'a, R: Files>(rt: &'a R, name: &str) -> Result<FilePool<'a, R>, Fau
     }
     FilePool::open(rt, name).map_err(|fault| match fault {
         OpenFault::File => Fault::Pool,
-        OpenFault::NoMemory => Fault::Ended(Status::NoMemory.code()),
+        OpenFault::NoMemory => Fault::NO_MEMORY,
     })
 }
