@@ -169,6 +169,6 @@ fn a_history_replays(rt: HostRuntime) -> Result<(), Fail> {
         assert!(rt; make(&mut again, *event)?);
     }
     assert_eq!(rt; ends(&again), ends(&shard));
-    assert!(rt; shard.size(State::MruGhost) > 0);
+    assert!(rt; shard.size(State::MfuGhost) > 0);
     Ok(())
 }
