@@ -12,9 +12,16 @@ pub record CallLog : Type 0 where
 abbrev pub is_to_fail : CallLog → Bool
 is_to_fail log = list_any (λ number. number == log.made) log.fail
 
--- a source, by the bytes that are left of it, or a sink, by those that were written
+-- a source, by the bytes that are left of it
 pub record MemoryStream : Type 0 where
   pub bytes : List ℕ
+  pub log : CallLog
+
+-- a sink: the bytes that were written, how many it takes in one call, and how many in all
+pub record MemorySink : Type 0 where
+  pub bytes : List ℕ
+  pub most : ℕ
+  pub room : ℕ
   pub log : CallLog
 
 -- a pool: its bytes, and how many reads were asked for

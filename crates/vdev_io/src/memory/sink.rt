@@ -2,7 +2,7 @@ ghost use Rattle.std.specs.Prelude.{◌≡◌, ◌≤◌, ◌<◌, [], take, len
 ghost use Rattle.std.specs.Io.{WritesAtMost};
 ghost use Rattle.std.specs.Io.KnownBytes.{WriteAppends};
 ghost use Rattle.vdev_io.specs.Faults.{HasCause};
-ghost use Rattle.vdev_io.specs.Memory.{MemoryStream, is_to_fail};
+ghost use Rattle.vdev_io.specs.Memory.{MemorySink, is_to_fail};
 
 use super::calls::Calls;
 use crate::fault::Failed;
@@ -21,9 +21,9 @@ pub struct MemSink {
 }
 
 impl Model for MemSink {
-    ghost Value = { MemoryStream };
+    ghost Value = { MemorySink };
 
-    ghost view = { λ sink. record { bytes = take sink.at sink.room.items; log = sink.calls } };
+    ghost view = { λ sink. record { bytes = take sink.at sink.room.items; most = sink.most; room = length sink.room.items; log = sink.calls } };
 
     ghost invariant = { λ sink. sink.at ≤ length sink.room.items };
 }
@@ -32,7 +32,7 @@ impl MemSink {
     /// An empty sink that takes at most `most` bytes in one call and `room` bytes in all, for which it takes the memory now.
     /// The calls numbered in `fail` are to fail, counted from 0.
     pub fn new(alloc: Global, most: usize, room: usize, fail: Vec<u64>) -> Result<MemSink, NoMemory>
-        ensures { IfOk result (λ sink. sink ≡ record { bytes = []; log = record { fail = fail.items; made = 0; faults = 0 } }) }
+        ensures { IfOk result (λ sink. sink ≡ record { bytes = []; most = most; room = room; log = record { fail = fail.items; made = 0; faults = 0 } }) }
     {
         let room = vec![in alloc; 0; room]?;
         let calls = Calls::new(fail);
