@@ -1,6 +1,9 @@
+pub mod Access
 pub mod Answers
+pub mod CallerCache
 pub mod Calls
 pub mod Outcome
+pub mod PlainCache
 pub mod Read
 pub mod ReadFault
 pub mod Status

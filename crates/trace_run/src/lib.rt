@@ -1,7 +1,9 @@
 //! The run of a trace: from the words and the source to the report on the sink.
 #![tactic(auto)]
 
+mod access;
 mod answer;
+mod caller_cache;
 mod read;
 mod status;
 mod stream;

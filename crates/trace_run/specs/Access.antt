@@ -1,0 +1,52 @@
+-- How one caller's read finds its block in a shard, and which events that makes (arc_read of arc.c, for a single thread).
+use Rattle.std.specs.Prelude.{ℕ, if◌then◌else◌, List, [], ◌∷◌, Option, Some, None}
+use Rattle.blk_ptr.specs.declared.digest.Digest.{Digest}
+use Rattle.blk_ptr.specs.declared.key.Key.{Key}
+use Rattle.blk_ptr.specs.declared.ptr.Ptr.{Ptr}
+use Rattle.blk_ptr.specs.Order.{digest_eq}
+use Rattle.arc_core.specs.declared.event.Event.{Event}
+use Rattle.arc_core.specs.declared.event.Event.TheVariants as event
+use Rattle.arc_core.specs.declared.event.FailedAt.TheVariants as failed_at
+use Rattle.arc_core.specs.declared.event.Origin.TheVariants as origin
+use Rattle.arc_core.specs.declared.served.Served.{Served}
+use Rattle.arc_core.specs.declared.served.Served.TheVariants as served
+use Rattle.arc_core.specs.PlainShard.{PlainShard, resident_digest}
+use Rattle.trace_run.specs.declared.access.Access.{Access}
+use Rattle.trace_run.specs.declared.access.Access.TheVariants.{Hit, Past, Miss}
+
+-- bytes of this digest were asked for, and bytes of that digest are cached, or none
+abbrev pub found : Digest → Option Digest → Access
+found asked None = Miss
+found asked (Some kept) = if digest_eq kept asked then Hit else Past kept
+
+-- A read finds its block cached with the pointer's digest, or cached with another one, and then it goes past the cache, or not cached.
+abbrev pub access_of : PlainShard → Ptr → Access
+access_of s ptr = found ptr.digest (resident_digest ptr.key s)
+
+-- where the bytes come from, where the read is answered
+abbrev pub source_of : Access → Served
+source_of Hit = served.Hit
+source_of (Past kept) = served.Past
+source_of Miss = served.Pool
+
+-- the key of the entry that an answered read holds: one past the cache holds none
+abbrev pub held_key : Ptr → Access → Option Key
+held_key ptr (Past kept) = None
+held_key ptr _ = Some ptr.key
+
+-- the events of a read that is answered, as long as it is kept
+abbrev pub events_of_answered : (n t : ℕ) → Ptr → Access → List Event
+events_of_answered n t ptr Hit = event.Hit n ptr.key t ∷ []
+events_of_answered n t ptr (Past kept) = event.Past n ptr.key kept ∷ []
+events_of_answered n t ptr Miss = event.Miss n ptr.key t ∷ (event.Arrive n ptr.key ptr.digest origin.Pool ∷ [])
+
+-- the events of a read for which the pool failed or gave other bytes
+abbrev pub events_of_refused : (n t : ℕ) → Ptr → Access → List Event
+events_of_refused n t ptr Hit = []
+events_of_refused n t ptr (Past kept) = event.Past n ptr.key kept ∷ []
+events_of_refused n t ptr Miss = event.Miss n ptr.key t ∷ (event.Fail n ptr.key failed_at.Pool ∷ [])
+
+-- the events of a kept read that is given back
+abbrev pub events_of_drop : (n : ℕ) → Option Key → List Event
+events_of_drop n None = []
+events_of_drop n (Some key) = event.Drop n key ∷ []
