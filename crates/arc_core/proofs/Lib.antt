@@ -1,8 +1,10 @@
 pub mod Accesses
+pub mod EntriesAfter
 pub mod Evictions
 pub mod Frames
 pub mod Keeping
 pub mod Legal
+pub mod Sparing
 pub mod Stepping
 pub mod Tables
 pub mod Tidy

@@ -11,6 +11,7 @@ pub mod Rules
 pub mod ShardLog
 pub mod ShardModel
 pub mod Sound
+pub mod Sparing
 pub mod Step
 pub mod TableModel
 pub mod View
