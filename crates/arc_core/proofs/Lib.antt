@@ -1,4 +1,5 @@
 pub mod Accesses
+pub mod Ending
 pub mod EntriesAfter
 pub mod Evictions
 pub mod Frames

@@ -86,7 +86,7 @@ sparing-placed j k s e f tidy at key sound spared =
 free : (k : Key) (s : PlainShard) (e : Entry) → Found k s e → is_unheld e ≡ true → is_free e ≡ true
 free k s e at unheld = both _ _ unheld (unheld-rests e unheld at.sound.reading)
 
-uncached : (state : State) → is_cached state ≡ true → is_cached (evicted_state state) ≡ false
+pub uncached : (state : State) → is_cached state ≡ true → is_cached (evicted_state state) ≡ false
 uncached Mru cached = refl
 uncached Mfu cached = refl
 uncached Anon cached = absurd (false≢true cached)

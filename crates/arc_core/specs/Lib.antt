@@ -2,6 +2,7 @@ pub mod Candidate
 pub mod Changes
 pub mod Config
 pub mod Edits
+pub mod Ending
 pub mod Operations
 pub mod Owed
 pub mod PlainShard

@@ -1,3 +1,4 @@
+ghost use Rattle.arc_core.specs.Ending.{IsRoomEnding, IsTrimEnding};
 ghost use Rattle.arc_core.specs.Replay.{IsPrefixLegal, IsReplayInParts};
 ghost use Rattle.arc_core.specs.Sparing.{IsMissEntering, IsMissSparing};
 
@@ -15,4 +16,10 @@ pub fn replay_goes_on()
 pub fn a_miss_spares_others()
     ensures sparing { IsMissSparing }
     ensures entering { IsMissEntering }
+{}
+
+/// A law of room and trim: each goes on until there is nothing more to evict or to drop.
+pub fn room_and_trim_end()
+    ensures room { IsRoomEnding }
+    ensures trim { IsTrimEnding }
 {}
