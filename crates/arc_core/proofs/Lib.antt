@@ -5,6 +5,7 @@ pub mod Evictions
 pub mod Frames
 pub mod Keeping
 pub mod Legal
+pub mod Soundness
 pub mod Sparing
 pub mod Stepping
 pub mod Tables

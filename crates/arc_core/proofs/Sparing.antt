@@ -186,7 +186,7 @@ module _ (e : Entry) (s : PlainShard) (tidy : IsTidy s) where
 -- ---- a miss
 
 -- moving the target changes no entry and no sequence
-tidy-target : (k : Key) (s : PlainShard) → IsTidy s → IsTidy (with_target_for k s)
+pub tidy-target : (k : Key) (s : PlainShard) → IsTidy s → IsTidy (with_target_for k s)
 tidy-target k s tidy = IsTidy-same s (with_target_for k s) refl refl tidy
 
 pub spared-miss : (s : PlainShard) (n t : ℕ) (k j : Key) → IsSound s → IsTrue (legal s (Miss n k t)) → key_eq j k ≡ false

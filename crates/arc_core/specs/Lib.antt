@@ -12,6 +12,7 @@ pub mod Rules
 pub mod ShardLog
 pub mod ShardModel
 pub mod Sound
+pub mod Soundness
 pub mod Sparing
 pub mod Step
 pub mod TableModel

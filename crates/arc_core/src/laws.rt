@@ -1,5 +1,6 @@
 ghost use Rattle.arc_core.specs.Ending.{IsRoomEnding, IsTrimEnding};
 ghost use Rattle.arc_core.specs.Replay.{IsPrefixLegal, IsReplayInParts};
+ghost use Rattle.arc_core.specs.Soundness.{IsSoundAfter};
 ghost use Rattle.arc_core.specs.Sparing.{IsMissEntering, IsMissSparing};
 
 /// A law of histories: what stands at the front of a legal history is a legal history.
@@ -22,4 +23,9 @@ pub fn a_miss_spares_others()
 pub fn room_and_trim_end()
     ensures room { IsRoomEnding }
     ensures trim { IsTrimEnding }
+{}
+
+/// A law of soundness: each event that has a call keeps a sound shard sound where it is legal.
+pub fn events_keep_soundness()
+    ensures { IsSoundAfter }
 {}
