@@ -2,6 +2,7 @@ pub mod Candidate
 pub mod Changes
 pub mod Config
 pub mod Edits
+pub mod Ending
 pub mod Operations
 pub mod Owed
 pub mod PlainShard
@@ -11,6 +12,8 @@ pub mod Rules
 pub mod ShardLog
 pub mod ShardModel
 pub mod Sound
+pub mod Soundness
+pub mod Sparing
 pub mod Step
 pub mod TableModel
 pub mod View

@@ -15,7 +15,7 @@ use Rattle.arc_core.specs.declared.event.FailedAt.{FailedAt}
 use Rattle.arc_core.specs.declared.event.FailedAt.TheVariants as failed
 use Rattle.arc_core.specs.declared.served.Served.{Served}
 use Rattle.arc_core.specs.declared.served.Served.TheVariants as served
-use Rattle.arc_core.specs.PlainShard.{PlainShard, entry_is, holds_of, is_at_rest, is_unheld, keeps_digest}
+use Rattle.arc_core.specs.PlainShard.{PlainShard, entry_is, holds_of, is_at_rest, is_free, is_unheld, keeps_digest}
 use Rattle.arc_core.specs.Step.{after}
 
 -- ---- what is read off an event
@@ -65,9 +65,6 @@ abbrev pub pool_reads : List Event → ℕ
 pool_reads = count_by is_pool_read
 
 -- nothing is held or reading, and there is no feed
-abbrev pub is_free : Entry → Bool
-is_free e = is_unheld e && is_at_rest e
-
 pub record IsAtRest (s : PlainShard) : Type 0 where
   pub free : AllByRecursion (λ e. IsTrue (is_free e)) s.entries
   pub idle : s.phase ≡ Idle

@@ -1,5 +1,5 @@
 -- A shard of the cache as plain data, and what is read off it.
-use Rattle.std.specs.Prelude.{ℕ, ◌+◌, ◌/◌, Bool, true, false, not, ◌&&◌, ◌==◌, nat_lt, nat_le, List, [], ◌∷◌, map, sum, replicate, slice_index, slice_set, Option, Some, None, is_some, option_map, option_and_then, unwrap_or}
+use Rattle.std.specs.Prelude.{ℕ, ◌+◌, ◌/◌, Bool, true, false, not, ◌&&◌, ◌==◌, if◌then◌else◌, nat_lt, nat_le, List, [], ◌∷◌, map, sum, replicate, slice_index, slice_set, Option, Some, None, is_some, option_map, option_and_then, unwrap_or}
 use Rattle.std.specs.List.{list_all}
 use Rattle.std.specs.Option.{option_map_or}
 use Rattle.blk_ptr.specs.declared.key.Key.{Key}
@@ -86,6 +86,10 @@ is_unheld e = list_all (λ count. count == 0) e.holds
 abbrev pub is_at_rest : Entry → Bool
 is_at_rest e = not e.reading
 
+-- nothing is held or reading
+abbrev pub is_free : Entry → Bool
+is_free e = is_unheld e && is_at_rest e
+
 -- its bytes are cached and nobody reads them just now
 abbrev pub is_resident : Entry → Bool
 is_resident e = is_cached e.state && is_at_rest e
@@ -118,6 +122,10 @@ is_absent k s = not (is_some (entry_of k s))
 -- the key's place on the cache device
 abbrev pub place_of : Key → PlainShard → Option ℕ
 place_of k s = option_and_then (λ e. e.place) (entry_of k s)
+
+-- the digest of the key's bytes, where they are cached and nobody reads them just now
+abbrev pub resident_digest : Key → PlainShard → Option Digest
+resident_digest k s = option_and_then (λ e. if is_resident e then e.digest else None) (entry_of k s)
 
 -- the scan in hand has passed the key
 abbrev pub is_passed : PlainShard → Key → Bool

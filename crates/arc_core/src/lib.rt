@@ -13,7 +13,10 @@ mod table;
 pub use config::{Bounds, Config};
 pub use entry::{Entry, NUMBERS, Phase, Picked};
 pub use event::{Event, FailedAt, Origin, Why};
-pub use laws::{prefixes_are_legal, replay_goes_on};
+pub use laws::{
+    a_miss_spares_others, events_keep_soundness, prefixes_are_legal, replay_goes_on,
+    room_and_trim_end,
+};
 pub use served::{ReadFault, Restored, Served};
 pub use shard::{EntryView, Shard};
 

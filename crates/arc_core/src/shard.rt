@@ -1,7 +1,7 @@
 ghost use Rattle.std.specs.Prelude.{◌≡◌, ℕ, ◌+◌, ◌≤◌, ◌++◌, ◌∷◌, [], IsTrue, OnOk, OnErr, vec_len, vec_capacity, length, option_map, ◌^◌, ◌<◌};
 ghost use Rattle.arc_lists.specs.Adapting.{IsCapacity};
 ghost use Rattle.arc_core.specs.declared.event.Event.{Event};
-ghost use Rattle.arc_core.specs.PlainShard.{entry_of, holds_of, numbers, size_in};
+ghost use Rattle.arc_core.specs.PlainShard.{entry_of, holds_of, numbers, resident_digest, size_in};
 ghost use Rattle.arc_core.specs.ShardLog.{HasRoom, IsReplayed, Makes, opening_log};
 ghost use Rattle.arc_core.specs.Step.{legal};
 ghost use Rattle.arc_core.specs.View.{first_holder, view_of};
@@ -242,6 +242,13 @@ impl Shard {
         &self.history
     }
 
+    /// Gives the events so far away, and the shard with its entries goes.
+    pub fn into_history(self) -> Vec<Event>
+        ensures { result.items ≡ self.history }
+    {
+        self.history
+    }
+
     /// What is known of a key.
     pub fn entry(&self, key: Key) -> Option<EntryView>
         ensures { result ≡ option_map view_of (entry_of key self.now.now) }
@@ -250,6 +257,16 @@ impl Shard {
         match self.table.find(key) {
             Some(entry) => Some(view_of(&entry)),
             None => None,
+        }
+    }
+
+    /// The digest of a key's bytes, where they are cached and nobody reads them just now.
+    pub fn resident(&self, key: Key) -> Option<Digest>
+        ensures { result ≡ resident_digest key self.now.now }
+    {
+        match self.table.find(key) {
+            Some(entry) if entry.is_resident() => entry.digest,
+            _ => None,
         }
     }
 
