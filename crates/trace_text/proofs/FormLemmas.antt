@@ -3,7 +3,7 @@ use Rattle.std.proofs.Common.{◌≡◌, ℕ, List, [], ◌∷◌, codes, length
 use Rattle.std.specs.Prelude.{decimal}
 use Rattle.hex.specs.Hex.{encode_lower}
 use Rattle.blk_ptr.specs.declared.ptr.Ptr.{Ptr}
-use Rattle.trace_text.specs.declared.config.Config.{Config}
+use Rattle.arc_core.specs.declared.config.Config.{Config}
 use Rattle.trace_text.specs.declared.fault.Kind.{Kind}
 use Rattle.trace_text.specs.declared.fault.Kind.TheVariants as kinds
 use Rattle.trace_text.specs.declared.op.Op.TheVariants as ops
@@ -12,7 +12,7 @@ use Rattle.trace_text.specs.declared.words.Line.{Line}
 use Rattle.trace_text.specs.declared.words.Line.TheVariants.{Sizes, Declared, Operation}
 use Rattle.trace_text.specs.declared.words.Seen.{Seen}
 use Rattle.trace_text.specs.declared.words.Word.{Word}
-use Rattle.trace_text.specs.Grammar.{IsConfig, IsDeclarable, IsInOrder, IsOperation, Spell, text_of}
+use Rattle.trace_text.specs.Grammar.{AreSizes, IsDeclarable, IsInOrder, IsOperation, Spell, text_of}
 use Rattle.trace_text.specs.Reading.{IsFormRead}
 
 -- the fields that come after the words of lines
@@ -30,7 +30,7 @@ letter ((b ∷ word) ∷ fields) = b
 
 -- a line that begins with this word is of this form
 pub spell-arc : (callers : ℕ) (fields : List (List ℕ)) (line : Line) → Spell callers (codes "arc" ∷ fields) line
-    → (z : Config) × (line ≡ Sizes z) × (fields ≡ sizes_fields z) × IsConfig z
+    → (z : Config) × (line ≡ Sizes z) × (fields ≡ sizes_fields z) × AreSizes z
 spell-arc callers fields (Sizes z) s = let e = s.spelled in (z, refl, cc, s.ranged)
 spell-arc callers fields (Declared p) s = let e = s.spelled in absurd (omega (arith, ap letter e))
 spell-arc callers fields (Operation (ops.Read n t x w)) s = let e = s.spelled in absurd (omega (arith, ap letter e))

@@ -5,7 +5,7 @@ use Rattle.std.specs.Prelude.{All, IfSome, IsNone, MatchBool}
 use Rattle.std.proofs.lemmas.Bool.{false≢true}
 use Rattle.std.proofs.lemmas.List.Elements.{All-nil, All-push}
 use Rattle.blk_ptr.specs.declared.ptr.Ptr.{Ptr}
-use Rattle.trace_text.specs.declared.config.Config.{Config}
+use Rattle.arc_core.specs.declared.config.Config.{Config}
 use Rattle.trace_text.specs.declared.op.Op.{Op}
 use Rattle.trace_text.specs.declared.op.Op.TheVariants as ops
 use Rattle.trace_text.specs.declared.trace.Trace.{Trace}
@@ -15,7 +15,7 @@ use Rattle.trace_text.specs.declared.words.Word.{Word}
 use Rattle.trace_text.specs.declared.words.Word.TheVariants as words
 use Rattle.trace_text.proofs.FormLemmas.{letter}
 use Rattle.trace_text.proofs.LawLemmas.{letter-begins}
-use Rattle.trace_text.specs.Grammar.{Add, AddAll, Adds, BeginsWith, Content, HasRoom, IsConfig, IsDeclarable, IsFormed, IsInOrder, IsOperation, IsTraceText, Say, block_of, callers_of, content_of, counted_fields, fields_of, is_passed_over, lines_in, lines_of, nothing, spelling, text_of, with_line}
+use Rattle.trace_text.specs.Grammar.{Add, AddAll, Adds, AreSizes, BeginsWith, Content, HasRoom, IsDeclarable, IsFormed, IsInOrder, IsOperation, IsTraceText, Say, block_of, callers_of, content_of, counted_fields, fields_of, is_passed_over, lines_in, lines_of, nothing, spelling, text_of, with_line}
 
 -- an operation that is possible where there are so many callers and blocks
 abbrev Possible : ℕ → ℕ → Op → Type 0
@@ -25,7 +25,7 @@ Possible callers blocks op = IsOperation callers op × (block_of op < blocks)
 pub record Sound (said : Content) : Type 0 where
   pub no_blocks : IsNone said.config → length said.blocks ≡ 0
   pub no_ops : IsNone said.config → length said.ops ≡ 0
-  pub config : IfSome said.config IsConfig
+  pub config : IfSome said.config AreSizes
   pub blocks : All IsDeclarable said.blocks
   pub few_blocks : length said.blocks ≤ 100000
   pub ops : All (Possible (callers_of said.config) (length said.blocks)) said.ops

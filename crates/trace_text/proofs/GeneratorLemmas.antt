@@ -8,12 +8,12 @@ use Rattle.std.specs.Prelude.{replicate}
 use Rattle.hex.specs.Hex.{IsBytes}
 use Rattle.sha2.specs.Sha256.{digest_bytes, sha256}
 use Rattle.sha2.proofs.Facts256.{length-sha256}
-use Rattle.trace_text.specs.declared.config.Config.{Config}
+use Rattle.arc_core.specs.declared.config.Config.{Config}
 use Rattle.trace_text.specs.declared.op.Op.TheVariants.{Read}
 use Rattle.trace_text.specs.declared.trace.Trace.{Trace}
 use Rattle.trace_text.specs.declared.window.Window.{Window}
 use Rattle.trace_text.specs.Generator.{IsGenerated, draw, empty_window, generated_block, generated_read, generated_sizes, next_draw, zero_digest}
-use Rattle.trace_text.specs.Grammar.{IsConfig, IsDeclarable, IsDigest, IsFormed, IsPossible}
+use Rattle.trace_text.specs.Grammar.{AreSizes, IsDeclarable, IsDigest, IsFormed, IsPossible}
 use Rattle.trace_text.proofs.SameLemmas.{window-same}
 
 -- one more of a list that is made from its places
@@ -84,16 +84,15 @@ IsFormed-generated seed blocks count trace some few short g =
     drawn : (i : ℕ) → i < count → trace.config.callers ≡ 1 → length trace.blocks ≡ blocks → IsPossible trace.config trace.blocks (generated_read seed blocks i)
     drawn i lt one many = ((omega arith, omega arith, omega arith, omega arith), omega arith)
 
-    sizes-ranged : (n : ℕ) → n ≤ 32768 → IsConfig (generated_sizes n)
+    sizes-ranged : (n : ℕ) → n ≤ 32768 → AreSizes (generated_sizes n)
     sizes-ranged n few = record {
-      callers = (omega arith, omega arith);
-      shards = (omega arith, omega arith);
-      buckets = (omega arith, omega arith);
-      cells = (omega arith, omega arith);
-      c = (omega arith, omega arith);
-      all_shards = omega arith;
-      mintime = omega arith;
-      dbuf_bytes = omega arith;
+      ranged = record {
+        counts = record { callers = (omega arith, omega arith); shards = (omega arith, omega arith); buckets = (omega arith, omega arith); cells = (omega arith, omega arith) };
+        amounts = record { c = record { least = omega arith; most = omega arith }; all_shards = omega arith; mintime = omega arith; dbuf_bytes = omega arith };
+        bounds = record { write_max = (omega arith, omega arith); headroom = (omega arith, omega arith) };
+      };
+      one_caller = omega arith;
+      one_shard = omega arith;
       write_max = refl;
       headroom = refl;
     }

@@ -5,7 +5,7 @@ use Rattle.std.specs.Prelude.{IsNone, IsSome, MatchBool}
 use Rattle.std.proofs.lemmas.Fmt.{decimal_nonempty}
 use Rattle.hex.specs.Hex.{lower_digits}
 use Rattle.hex.proofs.HexLemmas.{length-encode_with}
-use Rattle.trace_text.specs.declared.config.Config.{Config}
+use Rattle.arc_core.specs.declared.config.Config.{Config}
 use Rattle.trace_text.specs.declared.fault.Kind.{Kind}
 use Rattle.trace_text.specs.declared.fault.Kind.TheVariants as kinds
 use Rattle.trace_text.specs.declared.op.Op.TheVariants as ops
@@ -42,7 +42,7 @@ Adds-one before few line x y a b = by (is_passed_over line) a b
     by false a b = Add-one before few (fields_of line) x y a b
 
 with_line-few : (before : Content) (l : Line) → FewCallers before → IsInRange (callers_of before.config) l → FewCallers (with_line before l)
-with_line-few before (Sizes z) few ranged = ranged.callers.1
+with_line-few before (Sizes z) few ranged = ranged.one_caller
 with_line-few before (Declared p) few ranged = few
 with_line-few before (Operation op) few ranged = few
 
@@ -74,7 +74,7 @@ letter-begins config ([] ∷ fields) word h = ap (λ w. letter (w ∷ [])) h.0
 letter-begins config ((b ∷ first) ∷ fields) word h = ap (λ w. letter (w ∷ [])) h.0
 
 spelling-shape : (callers : ℕ) → callers ≤ 1 → (l : Line) (word : Word) → letter (spelling l) ≡ letter (text_of word ∷ []) → IsInRange callers l → HasShape word (spelling l)
-spelling-shape callers few (Sizes z) words.Arc e r = (refl, (decimal_nonempty z.callers (omega (arith, r.callers.1)), (decimal_nonempty z.shards (omega (arith, r.shards.1)), (decimal_nonempty z.buckets (omega (arith, r.buckets.1)), (decimal_nonempty z.cells (omega (arith, r.cells.1)), (decimal_nonempty z.c (omega (arith, r.c.1)), (decimal_nonempty z.mintime (omega (arith, r.mintime)), (decimal_nonempty z.dbuf_bytes (omega (arith, r.dbuf_bytes)), tt))))))))
+spelling-shape callers few (Sizes z) words.Arc e r = (refl, (decimal_nonempty z.callers (omega (arith, r.one_caller)), (decimal_nonempty z.shards (omega (arith, r.one_shard)), (decimal_nonempty z.buckets (omega (arith, r.ranged.counts.buckets.1)), (decimal_nonempty z.cells (omega (arith, r.ranged.counts.cells.1)), (decimal_nonempty z.c (omega (arith, r.ranged.amounts.c.most)), (decimal_nonempty z.mintime (omega (arith, r.ranged.amounts.mintime)), (decimal_nonempty z.dbuf_bytes (omega (arith, r.ranged.amounts.dbuf_bytes)), tt))))))))
 spelling-shape callers few (Declared p) words.Block e r = (refl, (decimal_nonempty p.key.offset (omega (arith, r.offset)), (decimal_nonempty p.key.size (omega (arith, r.size)), (decimal_nonempty p.key.birth (omega (arith, r.birth)), ((let twice = length-encode_with lower_digits p.digest.0 in omega (arith, r.digest.sized)), tt)))))
 spelling-shape callers few (Operation (ops.Read n t x w)) words.Read e r = (refl, (decimal_nonempty n (omega (arith, r.0)), (decimal_nonempty t (omega (arith, r.1)), (decimal_nonempty x (omega (arith, r.2)), (decimal_nonempty w.at (omega (arith, r.3)), (decimal_nonempty w.len (omega (arith, w.short)), tt))))))
 spelling-shape callers few (Operation (ops.Hold n t x)) words.Hold e r = (refl, (decimal_nonempty n (omega (arith, r.0)), (decimal_nonempty t (omega (arith, r.1)), (decimal_nonempty x (omega (arith, r.2)), tt))))

@@ -3,7 +3,7 @@ use Rattle.std.proofs.Common.{◌≡◌, ℕ, ◌<◌, ◌≤◌, ◌^◌, [], r
 use Rattle.std.proofs.Math.Bridge.{le_prop}
 use Rattle.std.proofs.lemmas.Fmt.{decimal_injective}
 use Rattle.blk_ptr.specs.declared.ptr.Ptr.{Ptr}
-use Rattle.trace_text.specs.declared.config.Config.{Config}
+use Rattle.arc_core.specs.declared.config.Config.{Config}
 use Rattle.trace_text.specs.declared.op.Op.TheVariants as ops
 use Rattle.trace_text.specs.declared.window.Window.{Window}
 use Rattle.trace_text.specs.declared.words.Line.{Line}
@@ -32,13 +32,13 @@ ptr-same a b e1 e2 e3 e4 = λ i. record { key = record { offset = e1 i; size = e
 -- two lines in range with one spelling are one line
 pub spelling-injective : (callers : ℕ) → callers < 2 ^ 64 → (l m : Line) → IsInRange callers l → IsInRange callers m → spelling l ≡ spelling m → l ≡ m
 spelling-injective callers few (Sizes a) (Sizes b) p q e = ap Sizes (config-same a b
-    (decimal_injective a.callers b.callers (omega (arith, p.callers.1)) (omega (arith, q.callers.1)) (ap (λ f. get_or f 1 []) e))
-    (decimal_injective a.shards b.shards (omega (arith, p.shards.1)) (omega (arith, q.shards.1)) (ap (λ f. get_or f 2 []) e))
-    (decimal_injective a.buckets b.buckets (omega (arith, p.buckets.1)) (omega (arith, q.buckets.1)) (ap (λ f. get_or f 3 []) e))
-    (decimal_injective a.cells b.cells (omega (arith, p.cells.1)) (omega (arith, q.cells.1)) (ap (λ f. get_or f 4 []) e))
-    (decimal_injective a.c b.c (omega (arith, p.c.1)) (omega (arith, q.c.1)) (ap (λ f. get_or f 5 []) e))
-    (decimal_injective a.mintime b.mintime (omega (arith, p.mintime)) (omega (arith, q.mintime)) (ap (λ f. get_or f 6 []) e))
-    (decimal_injective a.dbuf_bytes b.dbuf_bytes (omega (arith, p.dbuf_bytes)) (omega (arith, q.dbuf_bytes)) (ap (λ f. get_or f 7 []) e))
+    (decimal_injective a.callers b.callers (omega (arith, p.one_caller)) (omega (arith, q.one_caller)) (ap (λ f. get_or f 1 []) e))
+    (decimal_injective a.shards b.shards (omega (arith, p.one_shard)) (omega (arith, q.one_shard)) (ap (λ f. get_or f 2 []) e))
+    (decimal_injective a.buckets b.buckets (omega (arith, p.ranged.counts.buckets.1)) (omega (arith, q.ranged.counts.buckets.1)) (ap (λ f. get_or f 3 []) e))
+    (decimal_injective a.cells b.cells (omega (arith, p.ranged.counts.cells.1)) (omega (arith, q.ranged.counts.cells.1)) (ap (λ f. get_or f 4 []) e))
+    (decimal_injective a.c b.c (omega (arith, p.ranged.amounts.c.most)) (omega (arith, q.ranged.amounts.c.most)) (ap (λ f. get_or f 5 []) e))
+    (decimal_injective a.mintime b.mintime (omega (arith, p.ranged.amounts.mintime)) (omega (arith, q.ranged.amounts.mintime)) (ap (λ f. get_or f 6 []) e))
+    (decimal_injective a.dbuf_bytes b.dbuf_bytes (omega (arith, p.ranged.amounts.dbuf_bytes)) (omega (arith, q.ranged.amounts.dbuf_bytes)) (ap (λ f. get_or f 7 []) e))
     (p.write_max ∙ sym q.write_max) (p.headroom ∙ sym q.headroom))
 spelling-injective callers few (Declared a) (Declared b) p q e = ap Declared (ptr-same a b
     (decimal_injective a.key.offset b.key.offset (omega (arith, p.offset)) (omega (arith, q.offset)) (ap (λ f. get_or f 1 []) e))

@@ -5,7 +5,7 @@ use Rattle.std.proofs.Common.{lit≤}
 use Rattle.blk_ptr.specs.Ptr.{sha256_of}
 use Rattle.blk_ptr.specs.declared.digest.Digest.{Digest}
 use Rattle.blk_ptr.specs.declared.ptr.Ptr.{Ptr}
-use Rattle.trace_text.specs.declared.config.Config.{Config}
+use Rattle.arc_core.specs.declared.config.Config.{Config}
 use Rattle.trace_text.specs.declared.op.Op.{Op}
 use Rattle.trace_text.specs.declared.op.Op.TheVariants.{Read}
 use Rattle.trace_text.specs.declared.trace.Trace.{Trace}

@@ -4,7 +4,8 @@ use Rattle.std.specs.List.{slice_split, AllByRecursion}
 use Rattle.hex.specs.Hex.{IsBytes, encode_lower}
 use Rattle.blk_ptr.specs.declared.digest.Digest.{Digest}
 use Rattle.blk_ptr.specs.declared.ptr.Ptr.{Ptr}
-use Rattle.trace_text.specs.declared.config.Config.{Config}
+use Rattle.arc_core.specs.Config.{IsConfig}
+use Rattle.arc_core.specs.declared.config.Config.{Config}
 use Rattle.trace_text.specs.declared.op.Op.{Op}
 use Rattle.trace_text.specs.declared.op.Op.TheVariants as ops
 use Rattle.trace_text.specs.declared.words.Word.{Word}
@@ -70,24 +71,16 @@ spelling (Operation op) = operation_fields op
 abbrev pub IsPlain : ℕ → Type 0
 IsPlain n = n ≤ 2 ^ 62
 
-abbrev pub IsBetween : ℕ → ℕ → ℕ → Type 0
-IsBetween low high n = (low ≤ n) × (n ≤ high)
-
 -- 32 bytes
 pub record IsDigest (digest : Digest) : Type 0 where
   pub sized : length digest.0 ≡ 32
   pub bytes : IsBytes digest.0
 
--- the ranges of a cache's sizes
-pub record IsConfig (sizes : Config) : Type 0 where
-  pub callers : IsBetween 1 1 sizes.callers
-  pub shards : IsBetween 1 1 sizes.shards
-  pub buckets : IsBetween 1 256 sizes.buckets
-  pub cells : IsBetween 1 16 sizes.cells
-  pub c : IsBetween 4096 (2 ^ 32) sizes.c
-  pub all_shards : sizes.shards * sizes.c ≤ 2 ^ 32
-  pub mintime : sizes.mintime ≤ 2 ^ 32
-  pub dbuf_bytes : sizes.dbuf_bytes ≤ 2 ^ 32
+-- the sizes of a cache that an `arc` line may give: for now those of one caller and one shard, with the usual bounds of a feed
+pub record AreSizes (sizes : Config) : Type 0 where
+  pub ranged : IsConfig sizes
+  pub one_caller : sizes.callers ≤ 1
+  pub one_shard : sizes.shards ≤ 1
   pub write_max : sizes.bounds.write_max ≡ 8388608
   pub headroom : sizes.bounds.headroom ≡ 2
 
@@ -106,7 +99,7 @@ IsOperation callers (ops.Drop n x) = (n < callers) × IsPlain x
 
 -- the numbers of a line are in their ranges, where there are so many callers
 abbrev pub IsInRange : ℕ → Line → Type 0
-IsInRange callers (Sizes z) = IsConfig z
+IsInRange callers (Sizes z) = AreSizes z
 IsInRange callers (Declared p) = IsDeclarable p
 IsInRange callers (Operation op) = IsOperation callers op
 
@@ -269,7 +262,7 @@ IsPossible sizes blocks op = IsOperation sizes.callers op × (block_of op < leng
 
 -- what every trace that is read has
 pub record IsFormed (trace : Trace) : Type 0 where
-  pub config : IsConfig trace.config
+  pub config : AreSizes trace.config
   pub blocks : All IsDeclarable trace.blocks
   pub few_blocks : length trace.blocks ≤ 100000
   pub ops : All (IsPossible trace.config trace.blocks) trace.ops

@@ -1,6 +1,10 @@
--- The text of a report: its first line, a line for each reply, and the status at which it was made.
-use Rattle.std.specs.Prelude.{ℕ, ◌+◌, List, [], ◌∷◌, ◌++◌, codes, decimal, if◌then◌else◌}
+-- The text of a report: its first line, a line for each reply, for each event where they are asked for and for each shard, what the events are
+-- counted as, and the status at which it was made.
+use Rattle.std.specs.Prelude.{ℕ, ◌+◌, Bool, List, [], ◌∷◌, ◌++◌, codes, decimal, if◌then◌else◌}
 use Rattle.hex.specs.Hex.{encode_lower}
+use Rattle.trace_text.specs.Counting.{counts_in}
+use Rattle.trace_text.specs.EndText.{count_words, end_lines}
+use Rattle.trace_text.specs.EventText.{history_lines}
 use Rattle.trace_text.specs.ReportWords.{served_word, refusal_text}
 use Rattle.trace_text.specs.declared.reply.Reply.{Reply}
 use Rattle.trace_text.specs.declared.reply.Reply.TheVariants.{Read, Kept, Dropped, Refused}
@@ -25,7 +29,12 @@ reply_lines number [] = []
 reply_lines number (reply ∷ replies) =
     decimal number ++ codes " " ++ reply_text reply ++ codes "\n" ++ reply_lines (number + 1) replies
 
--- the whole text
-abbrev pub text_of : Report → List ℕ
-text_of report =
-    codes "arc 1\n" ++ (if report.short then [] else reply_lines 0 report.replies) ++ codes "end " ++ decimal report.status ++ codes "\n"
+-- the whole text, with the events or without
+abbrev pub text_of : Report → Bool → List ℕ
+text_of report events =
+    codes "arc 1\n"
+    ++ (if report.short then [] else reply_lines 0 report.replies)
+    ++ (if events then history_lines 0 report.histories else [])
+    ++ end_lines 0 report.ends
+    ++ codes "count " ++ count_words (counts_in report.histories) ++ codes "\n"
+    ++ codes "end " ++ decimal report.status ++ codes "\n"

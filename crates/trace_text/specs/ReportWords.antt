@@ -2,8 +2,8 @@
 use Rattle.std.specs.Prelude.{ℕ, List, ◌++◌, codes, decimal}
 use Rattle.hex.specs.Hex.{encode_lower}
 use Rattle.blk_ptr.specs.Key.{fault_text}
-use Rattle.trace_text.specs.declared.served.Served.{Served}
-use Rattle.trace_text.specs.declared.served.Served.TheVariants.{Hit, Pool, L2, Past}
+use Rattle.arc_core.specs.declared.served.Served.{Served}
+use Rattle.arc_core.specs.declared.served.Served.TheVariants.{Hit, Pool, L2, Past}
 use Rattle.trace_text.specs.declared.reply.Refusal.{Refusal}
 use Rattle.trace_text.specs.declared.reply.Refusal.TheVariants.{PoolFault, Mismatch, Key, NoMemory, Range, NoHold}
 

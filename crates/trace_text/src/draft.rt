@@ -3,7 +3,6 @@ ghost use Rattle.trace_text.specs.Grammar.{Adds, Content, content_of, fields_of,
 ghost use Rattle.trace_text.specs.Reading.{IsBegun, IsLineCause, IsLineRead, IsPlaced, IsSeenOf};
 
 use crate::blocks::Blocks;
-use crate::config::Config;
 use crate::fault::Kind;
 use crate::fields::word_of;
 use crate::line::{has_shape, line_after};
@@ -12,6 +11,7 @@ use crate::ops::Ops;
 use crate::parts::Parts;
 use crate::trace::Trace;
 use crate::words::{Line, LineFault, Seen, Word};
+use arc_core::Config;
 use blk_ptr::Ptr;
 use std::alloc::Global;
 use std::marker::Model;

@@ -3,13 +3,14 @@ ghost use Rattle.trace_text.specs.Grammar.{field_count};
 ghost use Rattle.trace_text.specs.Reading.{IsFormRead};
 ghost use Rattle.trace_text.specs.declared.words.Word.TheVariants as words;
 
-use crate::config::{Config, DEFAULT_BOUNDS};
+use crate::bounds::DEFAULT_BOUNDS;
 use crate::fault::Kind;
 use crate::fields::{next_below, next_digest, next_number};
 use crate::op::Op;
 use crate::parts::Parts;
 use crate::window::Window;
 use crate::words::{Line, Seen};
+use arc_core::Config;
 use blk_ptr::{Key, Ptr};
 
 /// The largest number of a trace that has no narrower range.

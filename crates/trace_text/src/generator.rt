@@ -4,11 +4,12 @@ ghost use Rattle.trace_text.specs.Generator.{IsGenerated, next_draw, generated_b
 ghost use Rattle.trace_text.specs.Grammar.{IsFormed};
 
 use crate::blocks::Blocks;
-use crate::config::{Config, DEFAULT_BOUNDS};
+use crate::bounds::DEFAULT_BOUNDS;
 use crate::op::Op;
 use crate::ops::Ops;
 use crate::trace::Trace;
 use crate::window::Window;
+use arc_core::Config;
 use blk_ptr::{Digest, Key, NoMemory, Ptr, SECTOR, digest_of};
 use std::alloc::{AllocError, Global};
 

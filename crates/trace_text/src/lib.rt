@@ -7,7 +7,7 @@
 #![tactic(auto)]
 
 mod blocks;
-mod config;
+mod bounds;
 mod counting;
 mod counts;
 mod draft;
@@ -30,14 +30,13 @@ mod print_events;
 mod reader;
 mod reply;
 mod report;
-mod served;
 mod shown;
 mod trace;
 mod window;
 mod words;
 
+pub use arc_core::{Bounds, Config, Served};
 pub use blocks::Blocks;
-pub use config::{Bounds, Config};
 pub use counting::counts_of;
 pub use counts::Counts;
 pub use ends::{Ends, ShardEnd};
@@ -53,12 +52,11 @@ pub use print::report_text;
 pub use reader::read_trace;
 pub use reply::{Refusal, Replies, Reply};
 pub use report::Report;
-pub use served::Served;
 pub use shown::{MOST_SHOWN, Shown};
 pub use trace::Trace;
 pub use window::Window;
 
 #[cfg(test)]
-mod event_tests;
+mod report_tests;
 #[cfg(test)]
 mod tests;

@@ -1,7 +1,8 @@
 ghost use Rattle.std.specs.Prelude.{◌≡◌, Some};
+ghost use Rattle.trace_text.specs.ReportWords.{served_word};
 
-use crate::served::Served;
 use crate::shown::Shown;
+use arc_core::Served;
 use blk_ptr::{Digest, KeyFault};
 use std::fmt;
 use std::marker::Model;
@@ -70,11 +71,23 @@ impl fmt::Display for Reply {
                 served,
                 digest,
                 shown,
-            } => write!(f, "ok {served} {digest} {shown}"),
-            Reply::Kept { served } => write!(f, "held {served}"),
+            } => write!(f, "ok {} {digest} {shown}", word_of_served(*served)),
+            Reply::Kept { served } => write!(f, "held {}", word_of_served(*served)),
             Reply::Dropped => write!(f, "dropped"),
             Reply::Refused(refusal) => write!(f, "refused {refusal}"),
         }
+    }
+}
+
+/// Where the bytes of a read came from.
+fn word_of_served(served: Served) -> &'static str
+    ensures { result.now ≡ served_word served }
+{
+    match served {
+        Served::Hit => "hit",
+        Served::Pool => "pool",
+        Served::L2 => "l2",
+        Served::Past => "past",
     }
 }
 

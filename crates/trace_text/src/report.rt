@@ -1,12 +1,18 @@
+use crate::ends::Ends;
+use crate::histories::Histories;
 use crate::reply::Replies;
 
 /// What a run reports.
 #[derive(Debug, Drop)]
 pub struct Report {
-    /// What each operation was answered.
+    /// What each operation was answered, in the order of the operations.
     pub replies: Replies,
+    /// The events of each shard, in the order of the shards' numbers.
+    pub histories: Histories,
+    /// What each shard ends with, in the same order.
+    pub ends: Ends,
     /// The status at which the report was made.
     pub status: u8,
-    /// Whether the text leaves the replies out.
+    /// Whether the text leaves the replies out, as that of a generated trace does.
     pub short: bool,
 }

@@ -1,6 +1,6 @@
 use crate::blocks::Blocks;
-use crate::config::Config;
 use crate::ops::Ops;
+use arc_core::Config;
 
 /// What a trace's text says.
 #[derive(Debug, Drop)]

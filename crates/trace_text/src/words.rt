@@ -1,9 +1,9 @@
 ghost use Rattle.std.specs.Prelude.{◌≡◌};
 ghost use Rattle.trace_text.specs.declared.words.LineFault.TheVariants.{NoMemory};
 
-use crate::config::Config;
 use crate::fault::Kind;
 use crate::op::Op;
+use arc_core::Config;
 use blk_ptr::Ptr;
 use std::alloc::AllocFailed;
 
