@@ -1,4 +1,7 @@
 pub mod AnswerLemmas
+pub mod CacheLemmas
+pub mod DropLemmas
+pub mod HoldLemmas
 pub mod OutcomeLemmas
 pub mod StreamLemmas
 pub mod WordLemmas

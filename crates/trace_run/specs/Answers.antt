@@ -8,8 +8,6 @@ use Rattle.trace_text.specs.declared.reply.Reply.{Reply}
 use Rattle.trace_text.specs.declared.reply.Reply.TheVariants.{Read, Kept, Dropped, Refused}
 use Rattle.trace_text.specs.declared.reply.Refusal.{Refusal}
 use Rattle.trace_text.specs.declared.reply.Refusal.TheVariants.{PoolFault, Mismatch, Key, NoMemory, Range, NoHold}
-use Rattle.trace_text.specs.declared.served.Served.{Served}
-use Rattle.trace_text.specs.declared.served.Served.TheVariants as served_from
 use Rattle.trace_text.specs.declared.window.Window.{Window}
 use Rattle.trace_run.specs.Read.{IsServed, IsMismatch}
 
@@ -30,14 +28,10 @@ IsReadRefusal pool_len image ptr NoMemory = ⊥
 IsReadRefusal pool_len image ptr (Range end size) = ⊥
 IsReadRefusal pool_len image ptr (NoHold block) = ⊥
 
--- where the bytes of a read may come from: there is no cache yet, so it is the pool
-abbrev pub MayServe : Served → Type 0
-MayServe served = served ≡ served_from.Pool
-
 -- the answers to a read that shows a window: a window past the block's size is refused before the key is looked at
 abbrev pub AnswersRead : ℕ → Option (List ℕ) → Ptr → Window → Reply → Type 0
 AnswersRead pool_len image ptr window (Read served digest shown) =
-    IsInside window ptr.key.size × IsValid pool_len ptr.key × MayServe served × (digest ≡ ptr.digest)
+    IsInside window ptr.key.size × IsValid pool_len ptr.key × (digest ≡ ptr.digest)
     × ((bytes : List ℕ) × IsServed image ptr bytes × (shown ≡ window_of window bytes))
 AnswersRead pool_len image ptr window (Refused (Range end size)) =
     (end ≡ window.at + window.len) × (size ≡ ptr.key.size) × (size < end)
@@ -46,7 +40,7 @@ AnswersRead pool_len image ptr window reply = ⊥
 
 -- the answers to a read that is kept
 abbrev pub AnswersHold : ℕ → Option (List ℕ) → Ptr → Reply → Type 0
-AnswersHold pool_len image ptr (Kept served) = IsValid pool_len ptr.key × MayServe served
+AnswersHold pool_len image ptr (Kept served) = IsValid pool_len ptr.key
 AnswersHold pool_len image ptr (Refused refusal) = IsReadRefusal pool_len image ptr refusal
 AnswersHold pool_len image ptr reply = ⊥
 
@@ -97,18 +91,6 @@ pub record AnswersAll (pool_len : ℕ) (image : Option (List ℕ)) (blocks : Lis
 abbrev pub is_pool_fault : Reply → Bool
 is_pool_fault (Refused PoolFault) = true
 is_pool_fault reply = false
-
--- a reply that says that a key was refused, or a window, or a drop: the pool was not read
-abbrev pub is_unread : Reply → Bool
-is_unread Dropped = true
-is_unread (Refused (Key fault)) = true
-is_unread (Refused (Range end size)) = true
-is_unread (Refused (NoHold block)) = true
-is_unread reply = false
-
--- a reply for which the pool was read
-abbrev pub is_pool_read : Reply → Bool
-is_pool_read reply = if is_unread reply then false else true
 
 -- a reply that is a refusal
 abbrev pub is_refusal : Reply → Bool

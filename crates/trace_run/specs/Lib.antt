@@ -1,11 +1,16 @@
 pub mod Access
+pub mod Acts
+pub mod Answering
 pub mod Answers
 pub mod CallerCache
 pub mod Calls
+pub mod Explaining
+pub mod OneCaller
 pub mod Outcome
 pub mod PlainCache
 pub mod Read
 pub mod ReadFault
+pub mod Serving
 pub mod Status
 pub mod Stream
 pub mod Tally

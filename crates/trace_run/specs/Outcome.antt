@@ -11,7 +11,8 @@ use Rattle.trace_text.specs.declared.trace.Trace.{Trace}
 use Rattle.trace_run.specs.declared.status.Status.{Status}
 use Rattle.trace_run.specs.declared.status.Status.TheVariants as statuses
 use Rattle.trace_run.specs.declared.words.Command.TheVariants.{Run}
-use Rattle.trace_run.specs.Answers.{AnswersAll, is_pool_fault, is_pool_read, is_refusal}
+use Rattle.trace_run.specs.Answers.{AnswersAll, is_pool_fault, is_refusal}
+use Rattle.trace_run.specs.Explaining.{Explain}
 use Rattle.trace_run.specs.Stream.{Gives, AppendsFront}
 use Rattle.trace_run.specs.Words.{IsCommand, IsFirstWrong}
 
@@ -44,11 +45,11 @@ pub record IsBadTrace (before after : StreamState) (line : ℕ) (kind : Kind) : 
   pub given : Gives before.told after.told longest_text text
   pub fault : IsFirstFault text line kind
 
--- Each operation of the trace has its answer. The pool was read once for each reply that says so, and failed at least once for
--- each reply that says so, where these counts had room.
+-- Each operation of the trace has its answer, the pool failed at least once for each reply that says so, where that count had room,
+-- and the histories explain the replies and the reads of the pool.
 pub record IsRun (before after : PoolState) (trace : Trace) (report : Report) : Type 0 where
   pub answers : AnswersAll before.size before.told trace.blocks trace.ops report.replies
-  pub reads : before.reads < 2 ^ 63 → after.reads ≡ before.reads + count_by is_pool_read report.replies
+  pub explained : Explain trace report.replies report.ends before.reads after.reads report.histories
   pub faults : before.faults < 2 ^ 63 → before.faults + count_by is_pool_fault report.replies ≤ after.faults
 
 -- the status of a report: 0 where no reply is a refusal, and else 1
@@ -86,10 +87,10 @@ AnswersSource before after status = Unit {0}
 -- What was written behind what the sink had: the report's text where the status is the report's, a front of it where the sink
 -- failed, and else nothing.
 abbrev pub AnswersSink : StreamState → StreamState → Status → Option Report → Type 0
-AnswersSink before after statuses.Ok (Some report) = Appends before.told after.told (text_of report) × (report.status ≡ 0)
-AnswersSink before after statuses.ReadsFailed (Some report) = Appends before.told after.told (text_of report) × (report.status ≡ 1)
+AnswersSink before after statuses.Ok (Some report) = Appends before.told after.told (text_of report false) × (report.status ≡ 0)
+AnswersSink before after statuses.ReadsFailed (Some report) = Appends before.told after.told (text_of report false) × (report.status ≡ 1)
 AnswersSink before after statuses.SinkFault (Some report) =
-    AppendsFront before.told after.told (text_of report) × Rose before.faults after.faults
+    AppendsFront before.told after.told (text_of report false) × Rose before.faults after.faults
 AnswersSink before after status report = after ≡ before
 
 -- a fact where the words are refused

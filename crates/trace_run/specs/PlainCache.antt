@@ -22,12 +22,12 @@ abbrev pub kept_read : (block : ℕ) → Option Key → KeptRead
 kept_read block held = record { block = block; held = held }
 
 -- the shard makes these events, and then the caller keeps these reads
-pub record MakesAll (events : List Event) (kept : List KeptRead) (old new : PlainCache) : Type 0 where
+pub record MakesAll (events : List Event) (reads : List KeptRead) (old new : PlainCache) : Type 0 where
   pub caller : new.caller ≡ old.caller
   pub now : new.log.now ≡ replay old.log.now events
   pub history : new.log.history ≡ old.log.history ++ events
   pub opening : new.log.opening ≡ old.log.opening
-  pub kept : new.kept ≡ kept
+  pub kept : new.kept ≡ reads
 
 -- the read holds the entry of this key
 abbrev pub holds_key : Key → KeptRead → Bool

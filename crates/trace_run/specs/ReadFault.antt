@@ -14,6 +14,11 @@ IsCause pool_len image ptr (Mismatch found) = IsValid pool_len ptr.key × IsMism
 IsCause pool_len image ptr (Key fault) = IsFirstFault pool_len ptr.key fault
 IsCause pool_len image ptr NoMemory = Unit {0}
 
+-- the key was not refused
+abbrev pub IsPastKey : ReadFault → Type 0
+IsPastKey (Key fault) = ⊥
+IsPastKey fault = Unit {0}
+
 -- the pool was read once, but where the key or the memory was refused, and then not at all
 abbrev pub CountsRead : {T : Type 0} → Result T ReadFault → ℕ → ℕ → Type 0
 CountsRead (Err (Key fault)) before now = now ≡ before

@@ -1,105 +1,96 @@
 //! The operations of a trace, answered one after the other.
-ghost use Rattle.std.specs.Prelude.{◌≡◌, ◌<◌, ◌≤◌, ◌+◌, ◌^◌, length, slice_index, count_by, false, IfOk, OnErr};
-ghost use Rattle.blk_ptr.specs.Key.{IsValid};
-ghost use Rattle.trace_run.specs.Answers.{window_of, IsInside, IsReadRefusal, AnswersRead, AnswersHold, AnswersDrop, AnswersAll, is_pool_fault, is_pool_read};
-ghost use Rattle.trace_run.specs.Tally.{AnswersNow, IsOfCaller, block_of, kept_after};
+ghost use Rattle.std.specs.Prelude.{◌≡◌, ◌<◌, ◌≤◌, ◌+◌, ◌++◌, ◌^◌, [], length, count_by, IfOk, OnErr};
+ghost use Rattle.arc_core.specs.Operations.{pool_reads};
+ghost use Rattle.trace_run.specs.Answers.{AnswersRead, AnswersHold, AnswersDrop, AnswersAll, is_pool_fault};
+ghost use Rattle.trace_run.specs.Answering.{MakesAnswer};
 ghost use Rattle.trace_run.specs.Calls.{CountsReads, CountsFaults, IsRefusalOf};
+ghost use Rattle.trace_run.specs.Access.{access_of};
+ghost use Rattle.trace_run.specs.OneCaller.{AreFoundAs, NamesSource, events_of_all, events_of_dropping, events_of_hold, events_of_read, kept_after_all, kept_after_drop, kept_after_hold};
+ghost use Rattle.trace_run.specs.PlainCache.{MakesAll};
+ghost use Rattle.trace_run.specs.Tally.{AnswersNow, IsOfCaller, block_of, caller_of, kept_of_block};
 
-use crate::read::{ReadFault, read_block};
-use blk_ptr::{Block, NoMemory, Ptr};
+use crate::caller_cache::CallerCache;
+use crate::read::ReadFault;
+use crate::serve::{Given, serve};
+use blk_ptr::{NoMemory, Ptr};
 use std::alloc::Global;
-use trace_text::{Op, Refusal, Reply, Served, Shown, Window};
+use trace_text::{Op, Refusal, Reply, Window};
 use vdev_io::{Gate, Pool};
 
-/// Answers the operations of one caller, in their order.
+/// Answers the operations of the cache's caller, in their order.
 pub(crate) fn answer_all<P: Pool, G: Gate>(
     alloc: Global,
+    cache: &mut CallerCache,
     pool: &mut P,
     blocks: &[Ptr],
-    caller: u32,
     ops: &[Op],
     gate: &G,
 ) -> Result<Vec<Reply>, NoMemory>
-    requires own { IsOfCaller caller (length blocks.now) ops.now }
+    requires own { IsOfCaller cache.old.caller (length blocks.now) ops.now }
     requires few { length ops.now < 2 ^ 32 }
+    requires fresh { cache.old.kept ≡ [] }
     ensures answers { IfOk result (λ replies.
         AnswersAll (P.size pool.old) (P.told pool.old) blocks.now ops.now replies.items) }
+    ensures events { IfOk result (λ replies. MakesAll (events_of_all blocks.now cache.old.log.now [] ops.now replies.items)
+        (kept_after_all blocks.now [] ops.now replies.items) cache.old cache.new) }
+    ensures found { IfOk result (λ replies. AreFoundAs blocks.now cache.old.log.now [] ops.now replies.items) }
     ensures reads { IfOk result (λ replies. P.reads pool.old < 2 ^ 63 →
-        P.reads pool.new ≡ P.reads pool.old + count_by is_pool_read replies.items) }
+        P.reads pool.new ≡ P.reads pool.old + pool_reads (events_of_all blocks.now cache.old.log.now [] ops.now replies.items)) }
     ensures faults { IfOk result (λ replies. P.faults pool.old < 2 ^ 63 →
         P.faults pool.old + count_by is_pool_fault replies.items ≤ P.faults pool.new) }
     ensures kept { P.faults pool.old ≤ P.faults pool.new }
     ensures told { P.told pool.new ≡ P.told pool.old }
     ensures size { P.size pool.new ≡ P.size pool.old }
 {
+    let caller = cache.caller();
     let mut replies = Vec::new(alloc);
-    let mut counts = vec![in alloc; 0; blocks.len()]?;
-    let kept = counts.as_mut_slice();
     for (number, op) in ops.iter().enumerate() {
         gate.before(caller, number as u32);
-        let reply = answer(alloc, pool, blocks, kept, *op)?;
+        let reply = answer(alloc, cache, pool, blocks, *op)?;
         gate.after(caller, number as u32);
         replies.push(reply)?;
     }
     Ok(replies)
 }
 
-/// Answers one operation, where `kept` counts the reads of each block that the caller keeps.
+/// Answers one operation.
 fn answer<P: Pool>(
     alloc: Global,
+    cache: &mut CallerCache,
     pool: &mut P,
     blocks: &[Ptr],
-    kept: &mut [u64],
     op: Op,
 ) -> Result<Reply, NoMemory>
+    requires own { caller_of op ≡ cache.old.caller }
     requires declared { block_of op < length blocks.now }
-    requires sized { length kept.old ≡ length blocks.now }
-    requires room { slice_index kept.old (block_of op) + 1 < 2 ^ 64 }
-    ensures answer { IfOk result (AnswersNow (P.size pool.old) (P.told pool.old) blocks.now kept.old op) }
-    ensures tally { IfOk result (λ reply. kept.new ≡ kept_after op reply kept.old) }
-    ensures reads { IfOk result (λ reply. CountsReads reply (P.reads pool.old) (P.reads pool.new)) }
+    ensures answer { IfOk result (AnswersNow (P.size pool.old) (P.told pool.old) blocks.now cache.old.kept op) }
+    ensures makes { IfOk result (MakesAnswer blocks.now op cache.old cache.new (P.reads pool.old) (P.reads pool.new)) }
     ensures faults { IfOk result (λ reply. CountsFaults reply (P.faults pool.old) (P.faults pool.new)) }
     ensures kept { P.faults pool.old ≤ P.faults pool.new }
     ensures told { P.told pool.new ≡ P.told pool.old }
     ensures size { P.size pool.new ≡ P.size pool.old }
 {
     match op {
-        Op::Read { x, w, .. } => answer_read(alloc, pool, &blocks[x as usize], w),
-        Op::Hold { x, .. } => {
-            let reply = answer_hold(alloc, pool, &blocks[x as usize])?;
-            if let Reply::Kept { .. } = reply {
-                kept[x as usize] += 1;
-            }
-            Ok(reply)
-        }
-        Op::Drop { x, .. } => Ok(answer_drop(kept, x)),
+        Op::Read { t, x, w, .. } => answer_read(alloc, cache, pool, &blocks[x as usize], x, t, w),
+        Op::Hold { t, x, .. } => answer_hold(alloc, cache, pool, &blocks[x as usize], x, t),
+        Op::Drop { x, .. } => Ok(answer_drop(cache, x)),
     }
-}
-
-/// Answers a drop of a kept read.
-fn answer_drop(kept: &mut [u64], block: u32) -> Reply
-    requires { block < length kept.old }
-    ensures answer { AnswersDrop (slice_index kept.old block) 0 block result }
-    ensures tally { kept.new ≡ kept_after (Op.Drop 0 block) result kept.old }
-    ensures unread { is_pool_read result ≡ false }
-{
-    let kept = &mut kept[block as usize];
-    if *kept == 0 {
-        return Reply::Refused(Refusal::NoHold { block });
-    }
-    *kept -= 1;
-    Reply::Dropped
 }
 
 /// Answers a read that shows a window of its block.
 fn answer_read<P: Pool>(
     alloc: Global,
+    cache: &mut CallerCache,
     pool: &mut P,
     ptr: &Ptr,
+    block: u32,
+    t: u64,
     window: Window,
 ) -> Result<Reply, NoMemory>
     ensures answer { IfOk result (AnswersRead (P.size pool.old) (P.told pool.old) ptr.now window) }
-    ensures reads { IfOk result (λ reply. CountsReads reply (P.reads pool.old) (P.reads pool.new)) }
+    ensures makes { IfOk result (λ reply. MakesAll (events_of_read cache.old.caller t cache.old.log.now ptr.now reply) cache.old.kept cache.old cache.new) }
+    ensures reads { IfOk result (λ reply. CountsReads (events_of_read cache.old.caller t cache.old.log.now ptr.now reply) (P.reads pool.old) (P.reads pool.new)) }
+    ensures found { IfOk result (NamesSource (access_of cache.old.log.now ptr.now)) }
     ensures faults { IfOk result (λ reply. CountsFaults reply (P.faults pool.old) (P.faults pool.new)) }
     ensures kept { P.faults pool.old ≤ P.faults pool.new }
     ensures told { P.told pool.new ≡ P.told pool.old }
@@ -110,40 +101,52 @@ fn answer_read<P: Pool>(
     if end > size {
         return Ok(Reply::Refused(Refusal::Range { end, size }));
     }
-    match read_block(alloc, pool, ptr) {
-        Ok(block) => Ok(Reply::Read {
-            served: Served::Pool,
-            digest: block.digest(),
-            shown: window_of(&block, window),
-        }),
+    match serve(alloc, cache, pool, block, ptr, t, window) {
+        Ok(Given { served, shown }) => {
+            cache.give_back_newest();
+            let digest = ptr.digest;
+            Ok(Reply::Read { served, digest, shown })
+        }
         Err(fault) => Ok(Reply::Refused(refusal_of(fault)?)),
     }
 }
 
 /// Answers a read that is kept.
-fn answer_hold<P: Pool>(alloc: Global, pool: &mut P, ptr: &Ptr) -> Result<Reply, NoMemory>
+fn answer_hold<P: Pool>(
+    alloc: Global,
+    cache: &mut CallerCache,
+    pool: &mut P,
+    ptr: &Ptr,
+    block: u32,
+    t: u64,
+) -> Result<Reply, NoMemory>
     ensures answer { IfOk result (AnswersHold (P.size pool.old) (P.told pool.old) ptr.now) }
-    ensures reads { IfOk result (λ reply. CountsReads reply (P.reads pool.old) (P.reads pool.new)) }
+    ensures makes { IfOk result (λ reply. MakesAll (events_of_hold cache.old.caller t cache.old.log.now ptr.now reply)
+        (kept_after_hold block ptr.now reply cache.old.kept) cache.old cache.new) }
+    ensures reads { IfOk result (λ reply. CountsReads (events_of_hold cache.old.caller t cache.old.log.now ptr.now reply) (P.reads pool.old) (P.reads pool.new)) }
+    ensures found { IfOk result (NamesSource (access_of cache.old.log.now ptr.now)) }
     ensures faults { IfOk result (λ reply. CountsFaults reply (P.faults pool.old) (P.faults pool.new)) }
     ensures kept { P.faults pool.old ≤ P.faults pool.new }
     ensures told { P.told pool.new ≡ P.told pool.old }
     ensures size { P.size pool.new ≡ P.size pool.old }
 {
-    match read_block(alloc, pool, ptr) {
-        Ok(_block) => Ok(Reply::Kept {
-            served: Served::Pool,
-        }),
+    let window = Window { at: 0, len: 0 };
+    match serve(alloc, cache, pool, block, ptr, t, window) {
+        Ok(Given { served, .. }) => Ok(Reply::Kept { served }),
         Err(fault) => Ok(Reply::Refused(refusal_of(fault)?)),
     }
 }
 
-/// The bytes that a window shows.
-fn window_of(block: &Block, window: Window) -> Shown
-    requires { IsInside window (length block.now) }
-    ensures { result ≡ window_of window block.now }
+/// Answers a drop of the oldest kept read of a block.
+fn answer_drop(cache: &mut CallerCache, block: u32) -> Reply
+    ensures answer { AnswersDrop (kept_of_block block cache.old.kept) 0 block result }
+    ensures makes { MakesAll (events_of_dropping cache.old.caller block cache.old.kept result) (kept_after_drop block result cache.old.kept) cache.old cache.new }
 {
-    let at = window.at as usize;
-    Shown::of(&block.bytes()[at..at + window.len as usize])
+    if cache.give_back_oldest(block) {
+        Reply::Dropped
+    } else {
+        Reply::Refused(Refusal::NoHold { block })
+    }
 }
 
 /// What a caller is told of a read that was refused. Want of memory ends the run.

@@ -1,16 +1,23 @@
 //! The cache of one caller: a shard, the blocks whose bytes it caches, and the reads that the caller keeps.
-ghost use Rattle.std.specs.Prelude.{◌≡◌, ◌<◌, ◌++◌, ◌∷◌, [], length, remove, slice_get, IfSome, IsSome, None, OnOk, Some};
+ghost use Rattle.std.specs.Prelude.{◌≡◌, ◌<◌, ◌++◌, ◌∷◌, [], length, is_some, position, IfSome, IsTrue, List, None, OnOk, Some};
 ghost use Rattle.blk_ptr.specs.Key.{IsWellFormed};
-ghost use Rattle.blk_ptr.specs.Ptr.{sha256_of, IsOf};
+ghost use Rattle.blk_ptr.specs.Ptr.{IsOf};
 ghost use Rattle.arc_lists.specs.Adapting.{IsCapacity};
-ghost use Rattle.arc_core.specs.PlainShard.{numbers, resident_digest};
+ghost use Rattle.arc_core.specs.Operations.{IsAtRest};
+ghost use Rattle.arc_core.specs.PlainShard.{numbers};
+ghost use Rattle.arc_core.specs.Replay.{replay};
+ghost use Rattle.arc_core.specs.Step.{legal};
 ghost use Rattle.arc_core.specs.ShardLog.{opening_log, IsReplayed};
-ghost use Rattle.trace_run.specs.Access.{access_of, events_of_answered, events_of_drop, events_of_refused, held_key};
-ghost use Rattle.trace_run.specs.PlainCache.{kept_read, MakesAll};
+ghost use Rattle.trace_run.specs.declared.access.KeptRead.{KeptRead};
+ghost use Rattle.trace_run.specs.Access.{access_of, events_of_answered, events_of_drop, events_of_refused};
+ghost use Rattle.trace_run.specs.Explaining.{end_of};
+ghost use Rattle.trace_run.specs.OneCaller.{events_of_drops, is_of_block, oldest_key, oldest_kept, without_oldest};
+ghost use Rattle.trace_run.specs.PlainCache.{kept_read, AreHeld, MakesAll};
 
 use crate::access::{Access, KeptRead};
 use arc_core::{Bounds, Event, FailedAt, Origin, Shard};
 use blk_ptr::{Block, Digest, Key, NoMemory, Ptr, State};
+use trace_text::ShardEnd;
 use std::alloc::Global;
 use std::collections::BTreeMap;
 use std::marker::Model;
@@ -34,6 +41,48 @@ impl Model for CallerCache {
     ghost view = { plain_cache };
 
     ghost invariant = { IsKept };
+}
+
+/// The states, in the order in which their sizes are told.
+const STATES: [State; 6] = [
+    State::Anon,
+    State::Mru,
+    State::MruGhost,
+    State::Mfu,
+    State::MfuGhost,
+    State::L2Only,
+];
+
+// Gives back the hold of a read, where it holds an entry.
+fn give_back(shard: &mut Shard, caller: u32, held: Option<Key>)
+    requires { IfSome held (λ key. IsTrue (legal shard.old.now (Event.Drop caller key))) }
+    ensures now { shard.new.now ≡ replay shard.old.now (events_of_drop caller held) }
+    ensures history { shard.new.history ≡ shard.old.history ++ events_of_drop caller held }
+    ensures opening { shard.new.opening ≡ shard.old.opening }
+{
+    if let Some(key) = held {
+        shard.drop_one(caller, key);
+    }
+}
+
+// Gives back the holds of these reads, one after another.
+fn give_back_each(shard: &mut Shard, caller: u32, kept: &[KeptRead])
+    requires number { caller < numbers }
+    requires held { AreHeld caller kept.now shard.old.now }
+    ensures now { shard.new.now ≡ replay shard.old.now (events_of_drops caller kept.now) }
+    ensures history { shard.new.history ≡ shard.old.history ++ events_of_drops caller kept.now }
+    ensures opening { shard.new.opening ≡ shard.old.opening }
+{
+    for read in kept {
+        give_back(shard, caller, read.held);
+    }
+}
+
+// Where the oldest read of a block stands.
+fn oldest_of(kept: &[KeptRead], block: u32) -> Option<usize>
+    ensures { result ≡ position (is_of_block block) kept.now }
+{
+    kept.iter().position(|read| read.block == block)
 }
 
 impl CallerCache {
@@ -126,31 +175,88 @@ impl CallerCache {
     /// Notes a read past the cache, which keeps bytes of the digest `kept` under the pointer's key.
     pub(crate) fn past(&mut self, ptr: &Ptr, kept: Digest) -> Result<(), NoMemory>
         requires { access_of self.old.log.now ptr.now ≡ Access.Past kept }
-        ensures { OnOk result (MakesAll (events_of_refused self.old.caller 0 ptr.now (Access.Past kept)) self.old.kept self.old self.new) }
+        ensures { OnOk result (MakesAll (Event.Past self.old.caller ptr.now.key kept ∷ []) self.old.kept self.old self.new) }
     {
+        let key = ptr.key;
         self.shard.reserve(1, 0)?;
-        self.shard.past(self.caller, ptr.key, kept);
+        self.shard.past(self.caller, key, kept);
         Ok(())
     }
 
-    /// Keeps a read that went past the cache: it holds nothing.
-    pub(crate) fn keep_past(&mut self, block: u32) -> Result<(), NoMemory>
-        ensures { OnOk result (MakesAll [] (self.old.kept ++ kept_read block None ∷ []) self.old self.new) }
+    /// Keeps a read past the cache: it holds nothing.
+    pub(crate) fn keep_past(&mut self, block: u32, ptr: &Ptr, kept: Digest) -> Result<(), NoMemory>
+        requires { access_of self.old.log.now ptr.now ≡ Access.Past kept }
+        ensures { OnOk result (MakesAll (Event.Past self.old.caller ptr.now.key kept ∷ [])
+            (self.old.kept ++ kept_read block None ∷ []) self.old self.new) }
     {
+        let key = ptr.key;
+        self.shard.reserve(1, 0)?;
         self.kept.push(KeptRead { block, held: None })?;
+        self.shard.past(self.caller, key, kept);
         Ok(())
     }
 
-    /// Gives back the kept read of this place.
-    pub(crate) fn give_back(&mut self, at: usize)
-        requires { at < length self.old.kept }
-        ensures { IfSome (slice_get self.old.kept at) (λ read.
-            MakesAll (events_of_drop self.old.caller read.held) (remove self.old.kept at) self.old self.new) }
+    /// Gives back the read that was kept last.
+    pub(crate) fn give_back_newest(&mut self)
+        requires { 0 < length self.old.kept }
+        ensures { (reads : List KeptRead) (read : KeptRead) → self.old.kept ≡ reads ++ read ∷ []
+            → MakesAll (events_of_drop self.old.caller read.held) reads self.old self.new }
     {
         let _events = self.shard.history();
-        let read = self.kept.remove(at);
-        if let Some(key) = read.held {
-            self.shard.drop_one(self.caller, key);
+        if let Some(read) = self.kept.pop() {
+            give_back(&mut self.shard, self.caller, read.held);
         }
+    }
+
+    /// Gives back the read of a block that was kept first. False where none is kept.
+    pub(crate) fn give_back_oldest(&mut self, block: u32) -> bool
+        ensures found { result ≡ is_some (oldest_kept block self.old.kept) }
+        ensures makes { MakesAll (events_of_drop self.old.caller (oldest_key block self.old.kept)) (without_oldest block self.old.kept) self.old self.new }
+    {
+        let _events = self.shard.history();
+        let Some(at) = oldest_of(&self.kept, block) else {
+            return false;
+        };
+        let read = self.kept.remove(at);
+        give_back(&mut self.shard, self.caller, read.held);
+        true
+    }
+
+    /// Gives back all reads that are kept, the oldest first. Then nothing is held.
+    pub(crate) fn give_back_all(&mut self)
+        ensures makes { MakesAll (events_of_drops self.old.caller self.old.kept) [] self.old self.new }
+        ensures at_rest { IsAtRest self.new.log.now }
+    {
+        let _events = self.shard.history();
+        give_back_each(&mut self.shard, self.caller, &self.kept);
+        self.kept.clear();
+        let _events = self.shard.history();
+    }
+
+    /// The number of the caller.
+    pub(crate) fn caller(&self) -> u32
+        ensures { result ≡ self.now.caller }
+    {
+        self.caller
+    }
+
+    /// What the shard ends with.
+    pub(crate) fn end(&self) -> ShardEnd
+        ensures { result ≡ end_of self.now.log.now }
+    {
+        ShardEnd {
+            c: self.shard.c(),
+            p: self.shard.p(),
+            sizes: STATES.map(|state| self.shard.size(state)),
+        }
+    }
+
+    /// The events of the shard, whose replay it is.
+    pub(crate) fn into_history(self) -> Vec<Event>
+        ensures history { result.items ≡ self.log.history }
+        ensures replayed { IsReplayed self.log }
+    {
+        let _events = self.shard.history();
+        self.shard.into_history()
     }
 }

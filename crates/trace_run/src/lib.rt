@@ -5,6 +5,7 @@ mod access;
 mod answer;
 mod caller_cache;
 mod read;
+mod serve;
 mod status;
 mod stream;
 #[cfg(test)]

@@ -4,7 +4,7 @@ ghost use Rattle.blk_ptr.specs.Key.{IsValid};
 ghost use Rattle.blk_ptr.specs.Ptr.{range_of};
 ghost use Rattle.vdev_io.specs.Faults.{Rose};
 ghost use Rattle.trace_run.specs.Read.{IsServed};
-ghost use Rattle.trace_run.specs.ReadFault.{IsCause, CountsRead};
+ghost use Rattle.trace_run.specs.ReadFault.{IsCause, IsPastKey, CountsRead};
 
 use blk_ptr::{Block, Digest, Key, KeyFault, Ptr};
 use std::alloc::{AllocError, Global};
@@ -34,6 +34,17 @@ impl From<AllocError> for ReadFault {
     }
 }
 
+impl From<blk_ptr::NoMemory> for ReadFault {
+    ghost use Rattle.std.specs.Prelude.{◌≡◌};
+    ghost use Rattle.trace_run.specs.declared.read.ReadFault.TheVariants.{NoMemory};
+
+    ghost from_gives = { λ _ fault. fault ≡ NoMemory };
+
+    fn from(_refused: blk_ptr::NoMemory) -> Self {
+        ReadFault::NoMemory
+    }
+}
+
 impl From<KeyFault> for ReadFault {
     ghost use Rattle.std.specs.Prelude.{◌≡◌};
     ghost use Rattle.trace_run.specs.declared.read.ReadFault.TheVariants.{Key};
@@ -56,23 +67,23 @@ impl From<Failed> for ReadFault {
     }
 }
 
-/// Reads the block of a pointer from the pool, once, and compares its digest.
+/// Reads the block of a pointer whose key is valid from the pool, once, and compares its digest.
 pub(crate) fn read_block<P: Pool>(
     alloc: Global,
     pool: &mut P,
     ptr: &Ptr,
 ) -> Result<Block, ReadFault>
-    ensures key { IfOk result (λ block. IsValid (P.size pool.old) ptr.now.key) }
-    ensures ok { IfOk result (λ block. IsServed (P.told pool.old) ptr.now block) }
-    ensures err { IfErr result (λ fault. IsCause (P.size pool.old) (P.told pool.old) ptr.now fault) }
+    requires { IsValid (P.size pool.old) ptr.now.key }
+    ensures ok { IfOk result (IsServed (P.told pool.old) ptr.now) }
+    ensures err { IfErr result (IsCause (P.size pool.old) (P.told pool.old) ptr.now) }
+    ensures past_key { IfErr result IsPastKey }
     ensures counted { CountsRead result (P.reads pool.old) (P.reads pool.new) }
     ensures kept { P.faults pool.old ≤ P.faults pool.new }
     ensures rose { result ≡ Err ReadFault.PoolFault → Rose (P.faults pool.old) (P.faults pool.new) }
     ensures told { P.told pool.new ≡ P.told pool.old }
     ensures size { P.size pool.new ≡ P.size pool.old }
 {
-    let key = ptr.key.check(pool.len())?;
-    let block = Block::seal(read_range(alloc, pool, key)?);
+    let block = Block::seal(read_range(alloc, pool, ptr.key)?);
     let found = block.digest();
     if found != ptr.digest {
         return Err(ReadFault::Mismatch { found });

@@ -8,6 +8,7 @@ ghost use Rattle.trace_run.specs.Outcome.{AnswersWords, AnswersSource, AnswersSi
 ghost use Rattle.trace_run.specs.Words.{texts};
 
 use crate::answer::answer_all;
+use crate::caller_cache::CallerCache;
 use crate::status::{Outcome, Status};
 use crate::stream::{ReadAllFault, read_all, write_all};
 use crate::words::Command;
@@ -15,11 +16,16 @@ use blk_ptr::NoMemory;
 use std::alloc::Global;
 use std::sync::Wait;
 use std::thread::Threads;
-use trace_text::{Replies, Reply, Report, Trace, TraceFault, read_trace, report_text};
+use trace_text::{
+    Config, Ends, Histories, History, Replies, Reply, Report, Trace, TraceFault, read_trace, report_text,
+};
 use vdev_io::{CacheDev, Failed, Gate, Pool, Sink, Source};
 
 /// The most bytes of a trace.
 const LONGEST_TRACE: usize = 67_108_864;
+
+/// The number of the one caller.
+const CALLER: u32 = 0;
 
 /// Does what the words ask: reads the trace from the source, runs it over the pool, and writes the report to the sink.
 ///
@@ -154,11 +160,27 @@ fn run_trace<P: Pool, G: Gate>(
     ensures told { P.told pool.new ≡ P.told pool.old }
     ensures size { P.size pool.new ≡ P.size pool.old }
 {
-    let blocks = trace.blocks.as_slice();
-    let replies = answer_all(alloc, pool, blocks, 0, trace.ops.as_slice(), gate)?;
+    let Config {
+        c, mintime, bounds, ..
+    } = trace.config;
+    let mut cache = CallerCache::new(alloc, CALLER, c, mintime, bounds);
+    let replies = answer_all(
+        alloc,
+        &mut cache,
+        pool,
+        trace.blocks.as_slice(),
+        trace.ops.as_slice(),
+        gate,
+    )?;
+    cache.give_back_all();
     let status = status_of(&replies);
+    let ends = vec![in alloc; cache.end()]?;
+    let history = History::from_vec(cache.into_history());
+    let histories = vec![in alloc; history]?;
     Ok(Report {
         replies: Replies::from_vec(replies),
+        histories: Histories::from_vec(histories),
+        ends: Ends::from_vec(ends),
         status,
         short: false,
     })
@@ -187,7 +209,7 @@ fn deliver<K: Sink>(alloc: Global, sink: &mut K, report: Report) -> Outcome
     ensures which { IsDelivered result.status }
 {
     let mut text = Vec::new(alloc);
-    if let Err(NoMemory) = report_text(alloc, &report, &mut text) {
+    if let Err(NoMemory) = report_text(alloc, &report, false, &mut text) {
         return Outcome {
             status: Status::NoMemory,
             report: None,

@@ -1,0 +1,52 @@
+use Rattle.std.proofs.Common.{◌≡◌, ◌<◌, IsTrue, None, refl, sym, ap, subst, ◌∙◌, Some}
+use Rattle.arc_core.specs.PlainShard.{PlainShard, numbers, resident_digest}
+use Rattle.arc_core.specs.ShardLog.{ShardLog}
+use Rattle.arc_core.specs.Step.{after, legal}
+use Rattle.arc_core.specs.declared.event.Event.TheVariants.{Miss, Arrive}
+use Rattle.arc_core.specs.declared.event.Origin.TheVariants as origin
+use Rattle.arc_core.specs.Sound.{IsSound}
+use Rattle.trace_run.specs.CallerCache.{HasBlock}
+use Rattle.trace_run.proofs.CacheLemmas.{AreCached-inserted, AreCached-unchanged, IsKept-arrive, IsKept-same, access-missing, arrive-legal, key_cmp-differs, miss-legal}
+use Rattle.trace_run.proofs.caller_cache.CallerCache.arrive.Goals as goal
+
+pub invariant_of-self-in_err-insert : goal.invariant_of-self-in_err-insert
+invariant_of-self-in_err-insert c =
+    let same : c.reserve.new.self.now ≡ c.self.inside.shard.now = ap (λ (log : ShardLog). log.now) c.reserve.ensures.log in
+    IsKept-same c.self.inside _ c.self.invariant refl same refl
+    (AreCached-unchanged c.self.inside.blocks c.insert.new.self c.self.inside.shard.now c.self.invariant.cached c.in_err-insert.ensures.err)
+
+pub invariant_of-self-in_err-push : goal.invariant_of-self-in_err-push
+invariant_of-self-in_err-push c =
+    let k = c.args.ptr.now.key in
+    let same : c.reserve.new.self.now ≡ c.self.inside.shard.now = ap (λ (log : ShardLog). log.now) c.reserve.ensures.log in
+    let none = access-missing c.self.inside.shard.now c.args.ptr.now (rw (sym c.self.view_is) at c.requires.missing) in
+    IsKept-same c.self.inside _ c.self.invariant refl same c.in_err-push.ensures.items
+    (AreCached-inserted k c.self.inside.blocks c.insert.new.self c.self.inside.shard.now c.self.invariant.cached none (λ j differs. c.in_ok-insert.ensures.updates.2 j (key_cmp-differs j k differs)))
+
+pub miss-requires-clause-legal : goal.miss-requires-clause-legal
+miss-requires-clause-legal c =
+    let same : c.self.inside.shard.now ≡ c.reserve.new.self.now = sym (ap (λ (log : ShardLog). log.now) c.reserve.ensures.log) in
+    let none = access-missing c.self.inside.shard.now c.args.ptr.now (rw (sym c.self.view_is) at c.requires.missing) in
+    miss-legal c.self.inside.caller c.args.t c.args.ptr.now.key c.self.inside.kept.items c.reserve.new.self.now c.self.invariant.number c.history-events.ensures.replayed.sound
+    (rw same at c.self.invariant.held) c.requires.formed (rw same at none)
+
+pub arrive-requires : goal.arrive-requires
+arrive-requires c =
+    let same : c.self.inside.shard.now ≡ c.reserve.new.self.now = sym (ap (λ (log : ShardLog). log.now) c.reserve.ensures.log) in
+    let none = access-missing c.self.inside.shard.now c.args.ptr.now (rw (sym c.self.view_is) at c.requires.missing) in
+    let n = c.self.inside.caller in
+    let k = c.args.ptr.now.key in
+    let ok = miss-legal n c.args.t k c.self.inside.kept.items c.reserve.new.self.now c.self.invariant.number c.history-events.ensures.replayed.sound (rw same at c.self.invariant.held) c.requires.formed (rw same at none) in
+    arrive-legal n c.args.t k c.args.ptr.now.digest c.reserve.new.self.now c.miss.new.self.now c.self.invariant.number c.history-events.ensures.replayed.sound ok c.miss.ensures.makes.now
+
+pub invariant_of-self-2 : goal.invariant_of-self-2
+invariant_of-self-2 c =
+    let same : c.reserve.new.self.now ≡ c.self.inside.shard.now = ap (λ (log : ShardLog). log.now) c.reserve.ensures.log in
+    let none = access-missing c.self.inside.shard.now c.args.ptr.now (rw (sym c.self.view_is) at c.requires.missing) in
+    let sound : IsSound c.self.inside.shard.now = subst IsSound same c.history-events.ensures.replayed.sound in
+    let k = c.args.ptr.now.key in
+    let updates = c.in_ok-insert.ensures.updates in
+    let missed : c.miss.new.self.now ≡ after c.self.inside.shard.now (Miss c.self.inside.caller k c.args.t) = c.miss.ensures.makes.now ∙ ap (λ (s : PlainShard). after s (Miss c.self.inside.caller k c.args.t)) same in
+    let block : HasBlock k c.args.ptr.now.digest c.insert.new.self = record { bytes = c.args.bytes; there = updates.1; size = c.requires.of.size; digest = c.requires.of.digest } in
+    IsKept-arrive c.self.inside _ k c.args.t c.args.block c.args.ptr.now.digest c.args.bytes c.miss.new.self.now c.self.invariant sound c.requires.formed none missed refl
+    c.arrive.ensures.makes.now block (λ j differs. updates.2 j (key_cmp-differs j k differs)) c.in_ok-push.ensures.items

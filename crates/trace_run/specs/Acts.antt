@@ -1,0 +1,58 @@
+-- What the operations of a trace do in the shards of their keys, by their replies.
+use Rattle.std.specs.Prelude.{ℕ, List, [], ◌∷◌, ◌++◌, slice_get, Option, Some, None}
+use Rattle.std.specs.Option.{option_map_or}
+use Rattle.blk_ptr.specs.declared.key.Key.{Key}
+use Rattle.blk_ptr.specs.declared.ptr.Ptr.{Ptr}
+use Rattle.arc_core.specs.Operations.{Act, Reads, Keeps, GivesBack, Fails}
+use Rattle.trace_text.specs.declared.op.Op.{Op}
+use Rattle.trace_text.specs.declared.op.Op.TheVariants as ops
+use Rattle.trace_text.specs.declared.reply.Reply.{Reply}
+use Rattle.trace_text.specs.declared.reply.Reply.TheVariants.{Read, Kept, Dropped, Refused}
+use Rattle.trace_text.specs.declared.reply.Refusal.TheVariants.{PoolFault, Mismatch}
+use Rattle.trace_run.specs.declared.access.KeptRead.{KeptRead}
+use Rattle.trace_run.specs.OneCaller.{kept_after, kept_after_all, oldest_key}
+
+-- a read that is answered, or that the pool refused; any other refusal does nothing
+abbrev pub acts_of_read : (n t : ℕ) → Ptr → Reply → List Act
+acts_of_read n t ptr (Read served digest shown) = Reads n t ptr served ∷ []
+acts_of_read n t ptr (Refused PoolFault) = Fails n t ptr ∷ []
+acts_of_read n t ptr (Refused (Mismatch digest)) = Fails n t ptr ∷ []
+acts_of_read n t ptr reply = []
+
+-- the same, kept
+abbrev pub acts_of_hold : (n t : ℕ) → Ptr → Reply → List Act
+acts_of_hold n t ptr (Kept served) = Keeps n t ptr served ∷ []
+acts_of_hold n t ptr (Refused PoolFault) = Fails n t ptr ∷ []
+acts_of_hold n t ptr (Refused (Mismatch digest)) = Fails n t ptr ∷ []
+acts_of_hold n t ptr reply = []
+
+-- a kept read that is given back: one past the cache held nothing
+abbrev pub acts_of_drop : (n : ℕ) → Option Key → List Act
+acts_of_drop n None = []
+acts_of_drop n (Some key) = GivesBack n key ∷ []
+
+abbrev pub acts_of_dropping : (n block : ℕ) → List KeptRead → Reply → List Act
+acts_of_dropping n block kept Dropped = acts_of_drop n (oldest_key block kept)
+acts_of_dropping n block kept reply = []
+
+-- an operation with its reply, where these reads are kept
+abbrev pub acts_of : List Ptr → List KeptRead → Op → Reply → List Act
+acts_of blocks kept (ops.Read n t x window) reply = option_map_or (λ ptr. acts_of_read n t ptr reply) (slice_get blocks x) []
+acts_of blocks kept (ops.Hold n t x) reply = option_map_or (λ ptr. acts_of_hold n t ptr reply) (slice_get blocks x) []
+acts_of blocks kept (ops.Drop n x) reply = acts_of_dropping n x kept reply
+
+-- all operations with their replies, one after another
+abbrev pub acts_of_all : List Ptr → List KeptRead → List Op → List Reply → List Act
+acts_of_all blocks kept [] replies = []
+acts_of_all blocks kept (op ∷ ops) [] = []
+acts_of_all blocks kept (op ∷ ops) (reply ∷ replies) =
+    acts_of blocks kept op reply ++ acts_of_all blocks (kept_after blocks op reply kept) ops replies
+
+-- the drops at the end of the run, the oldest first
+abbrev pub acts_of_drops : (n : ℕ) → List KeptRead → List Act
+acts_of_drops n [] = []
+acts_of_drops n (read ∷ reads) = acts_of_drop n read.held ++ acts_of_drops n reads
+
+-- what a caller's operations and the end of the run do
+abbrev pub acts_of_caller : List Ptr → (n : ℕ) → List Op → List Reply → List Act
+acts_of_caller blocks n ops replies = acts_of_all blocks [] ops replies ++ acts_of_drops n (kept_after_all blocks [] ops replies)
