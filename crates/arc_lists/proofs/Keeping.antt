@@ -1,20 +1,19 @@
 -- What putting a key in and taking one out keep of the vectors' invariant.
-use Rattle.std.proofs.Common.{◌≡◌, ℕ, suc, ◌+◌, ◌-◌, ◌*◌, ◌<◌, ◌≤◌, ◌^◌, false, length, Some, is_some, sym, ap, subst, ◌∙◌, arith, vec_len, vec_capacity}
+use Rattle.std.proofs.Common.{◌≡◌, ℕ, ◌+◌, ◌-◌, ◌<◌, ◌≤◌, ◌^◌, false, length, Some, sym, ap, subst, ◌∙◌, arith, vec_len, vec_capacity}
 use Rattle.std.specs.List.{AllByRecursion}
 use Rattle.blk_ptr.specs.Size.{largest_block}
 use Rattle.blk_ptr.specs.declared.key.Key.{Key}
 use Rattle.blk_ptr.specs.declared.state.State.{State}
 use Rattle.arc_lists.specs.declared.lists.Lists.TheInside.{Inside}
-use Rattle.arc_lists.specs.declared.queues.Queues.{Queues}
 use Rattle.arc_lists.specs.declared.member.Member.{Member}
 use Rattle.arc_lists.specs.ByKey.{IsRising, has_key, item_at, with_item, without}
 use Rattle.arc_lists.specs.Kept.{IsKept}
 use Rattle.arc_lists.specs.PlainLists.{member, member_key, share_of, size_of}
 use Rattle.arc_lists.specs.Queues.{AreInState, AreSequencesOf, HaveCapacity, sequences_in, size_at}
-use Rattle.arc_lists.specs.Sequences.{Sequences, taken_off}
+use Rattle.arc_lists.specs.Sequences.{taken_off}
 use Rattle.arc_lists.proofs.InState.{AreInState-without}
 use Rattle.arc_lists.proofs.SizeSums.{size_of-with_item, size_of-without, size_of-le}
-use Rattle.arc_lists.proofs.Standing.{AreSequencesOf-with_item, AreSequencesOf-without, HaveCapacity-le}
+use Rattle.arc_lists.proofs.Standing.{AreSequencesOf-without, HaveCapacity-le}
 use Rattle.arc_lists.proofs.Tables.{All-with_item, All-without, IsRising-with_item, IsRising-without, length-with_item, length-without}
 
 -- every size is far from the end of its type

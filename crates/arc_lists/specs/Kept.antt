@@ -1,5 +1,5 @@
 -- What the vectors of the lists keep.
-use Rattle.std.specs.Prelude.{◌≡◌, ℕ, ◌+◌, ◌≤◌, vec_len, vec_capacity}
+use Rattle.std.specs.Prelude.{◌≡◌, ◌+◌, ◌≤◌, vec_len, vec_capacity}
 use Rattle.std.specs.List.{AllByRecursion}
 use Rattle.blk_ptr.specs.Size.{largest_block}
 use Rattle.blk_ptr.specs.declared.state.State.{State}

@@ -1,7 +1,6 @@
 -- The four sequences as four vectors, and the six sizes as numbers that are counted along the way.
-use Rattle.std.specs.Prelude.{◌≡◌, ℕ, ◌+◌, ◌*◌, ◌<◌, ◌≤◌, false, IsTrue, List, length, Some, vec_len, vec_capacity}
+use Rattle.std.specs.Prelude.{◌≡◌, ℕ, ◌<◌, ◌≤◌, false, IsTrue, List, Some, vec_len, vec_capacity}
 use Rattle.std.specs.List.{AllByRecursion}
-use Rattle.blk_ptr.specs.Size.{largest_block}
 use Rattle.blk_ptr.specs.declared.key.Key.{Key}
 use Rattle.blk_ptr.specs.declared.state.State.{State}
 use Rattle.blk_ptr.specs.declared.state.State.TheVariants.{Anon, Mru, MruGhost, Mfu, MfuGhost, L2Only}
@@ -9,8 +8,8 @@ use Rattle.blk_ptr.specs.State.{is_same_state}
 use Rattle.arc_lists.specs.declared.member.Member.{Member}
 use Rattle.arc_lists.specs.declared.queues.Queues.{Queues}
 use Rattle.arc_lists.specs.declared.sizes.Sizes.{Sizes}
-use Rattle.arc_lists.specs.ByKey.{IsRising, has_key, item_at}
-use Rattle.arc_lists.specs.PlainLists.{member, member_key, size_of}
+use Rattle.arc_lists.specs.ByKey.{has_key, item_at}
+use Rattle.arc_lists.specs.PlainLists.{member, member_key}
 use Rattle.arc_lists.specs.Sequences.{Sequences, is_distinct, sequence_of, stands_on}
 
 -- the sequences that the vectors hold

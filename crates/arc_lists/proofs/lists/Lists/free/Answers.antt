@@ -1,4 +1,4 @@
-use Rattle.std.proofs.Common.{◌≡◌, false, is_some, IsTrue, refl, sym, ap, subst, arith}
+use Rattle.std.proofs.Common.{◌≡◌, false, IsTrue, refl, sym, subst, arith}
 use Rattle.arc_lists.specs.ByKey.{has_key}
 use Rattle.arc_lists.specs.PlainLists.{member_key}
 use Rattle.arc_lists.specs.Queues.{AreInState, AreSequencesOf, sequences_in}

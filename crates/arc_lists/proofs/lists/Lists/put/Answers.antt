@@ -1,4 +1,4 @@
-use Rattle.std.proofs.Common.{◌≡◌, ◌<◌, false, IsTrue, is_some, refl, sym, ap, subst, ◌∙◌, arith}
+use Rattle.std.proofs.Common.{◌≡◌, ◌<◌, false, IsTrue, is_some, refl, sym, ap, subst, arith}
 use Rattle.arc_lists.specs.PlainLists.{member, member_key}
 use Rattle.arc_lists.specs.ByKey.{has_key, with_item}
 use Rattle.arc_lists.specs.Queues.{AreInState, AreSequencesOf, sequences_in}
