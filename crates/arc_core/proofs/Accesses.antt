@@ -1,10 +1,10 @@
 -- The entries that events write are sound, and writing them is what the events do.
-use Rattle.std.proofs.Common.{◌≡◌, ℕ, zero, suc, ◌+◌, ◌-◌, ◌*◌, ◌<◌, ◌≤◌, Bool, true, false, cond, not, ◌&&◌, ◌||◌, if◌then◌else◌, ltb, nat_lt, ◌==◌, IsTrue, List, [], ◌∷◌, ◌++◌, length, map, sum, set, get_or, replicate, Option, Some, None, is_some, is_none, IsSome, ◌⊎◌, inl, inr, refl, sym, ap, subst, ◌∙◌, arith}
-use Rattle.std.specs.List.{AllByRecursion, list_all}
-use Rattle.std.specs.Option.{option_and_then, option_map_or}
-use Rattle.std.proofs.lemmas.Bool.{eqb-true, false≢true}
+use Rattle.std.proofs.Common.{◌≡◌, ℕ, zero, suc, ◌+◌, ◌<◌, Bool, true, false, not, ◌&&◌, ◌||◌, if◌then◌else◌, nat_lt, ◌==◌, IsTrue, List, [], ◌∷◌, length, sum, set, get_or, Some, is_some, inl, inr, refl, sym, ap, subst, ◌∙◌, arith}
+use Rattle.std.specs.List.{list_all}
+use Rattle.std.specs.Option.{option_map_or}
+use Rattle.std.proofs.lemmas.Bool.{false≢true}
 use Rattle.std.proofs.lemmas.Bool.Decides.{nat_tests}
-use Rattle.std.proofs.lemmas.List.Sums.{sum_by-cons, sum_by-set}
+use Rattle.std.proofs.lemmas.List.Sums.{sum_by-set}
 use Rattle.std.proofs.Math.ListN.{length-set}
 use Rattle.std.proofs.lemmas.List.{get_or-replicate}
 use Rattle.blk_ptr.specs.declared.key.Key.{Key}
@@ -12,21 +12,20 @@ use Rattle.blk_ptr.specs.declared.digest.Digest.{Digest}
 use Rattle.blk_ptr.specs.declared.state.State.{State}
 use Rattle.blk_ptr.specs.declared.state.State.TheVariants.{Anon, Mru, MruGhost, Mfu, MfuGhost, L2Only}
 use Rattle.blk_ptr.specs.Key.{is_well_formed}
-use Rattle.blk_ptr.specs.Order.{key_eq}
 use Rattle.blk_ptr.proofs.Keys.{key_eq-same}
-use Rattle.blk_ptr.specs.State.{is_cached, is_ghost, is_same_state}
-use Rattle.arc_lists.specs.ByKey.{IsRising, has_key, item_at, with_item, without, with_change}
-use Rattle.arc_lists.specs.Sequences.{Sequences, has_sequence, put_at_head, sequence_of, stands_on, taken_off}
-use Rattle.arc_lists.proofs.Standing.{and_left, and_right, both, not_true, not_true_is}
-use Rattle.arc_lists.proofs.Tables.{cases_true, some_is, item_at-key, item_at-with_change_same}
+use Rattle.blk_ptr.specs.State.{is_cached, is_same_state}
+use Rattle.arc_lists.specs.ByKey.{with_change}
+use Rattle.arc_lists.specs.Sequences.{Sequences, has_sequence, put_at_head, taken_off}
+use Rattle.arc_lists.proofs.Standing.{and_left, and_right, not_true_is}
+use Rattle.arc_lists.proofs.Tables.{cases_true, item_at-key, item_at-with_change_same}
 use Rattle.arc_core.specs.declared.entry.Entry.{Entry}
-use Rattle.arc_core.specs.PlainShard.{PlainShard, entry_is, entry_key, entry_of, held_by, holds_of, is_at_rest, is_number, is_resident, is_unheld, no_holds, numbers, one_hold}
-use Rattle.arc_core.specs.Changes.{at_head, changed, given_back, off_sequence, one_less, one_more}
+use Rattle.arc_core.specs.PlainShard.{PlainShard, entry_key, entry_of, held_by, is_at_rest, is_resident, is_unheld, no_holds, numbers, one_hold}
+use Rattle.arc_core.specs.Changes.{changed, given_back, off_sequence, one_less, one_more}
 use Rattle.arc_core.specs.Edits.{is_off, placed, with_standing}
 use Rattle.arc_core.specs.Rules.{access, accessed, arrived_state}
 use Rattle.arc_core.specs.Sound.{IsSoundEntry, IsTidy, belongs_on, fits_reading, fits_state}
-use Rattle.arc_core.specs.Step.{arrived, hit_entry, holds, read_entry, reads, restored_entry, written_entry}
-use Rattle.arc_core.proofs.Evictions.{changed-written, off-changed, or_other}
+use Rattle.arc_core.specs.Step.{arrived, hit_entry, read_entry, reads, restored_entry, written_entry}
+use Rattle.arc_core.proofs.Evictions.{changed-written, off-changed}
 use Rattle.arc_core.proofs.Tidy.{off_sequences}
 
 -- ---- counts of holds

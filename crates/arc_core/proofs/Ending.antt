@@ -1,9 +1,7 @@
 -- Each eviction leaves one evictable entry less, and each drop one droppable entry less, so their turns suffice.
-use Rattle.std.proofs.Common.{◌≡◌, ℕ, zero, suc, ◌+◌, ◌≤◌, Bool, true, false, ◌&&◌, if◌then◌else◌, IsTrue, List, [], ◌∷◌, length, Option, Some, None, is_some, inl, inr, refl, sym, ap, subst, ◌∙◌, arith}
+use Rattle.std.proofs.Common.{◌≡◌, ℕ, zero, suc, ◌+◌, ◌≤◌, Bool, true, false, ◌&&◌, if◌then◌else◌, List, [], ◌∷◌, length, Option, Some, None, is_some, inl, inr, refl, sym, ap, subst, ◌∙◌, arith}
 use Rattle.std.specs.Option.{option_map_or}
 use Rattle.blk_ptr.specs.declared.key.Key.{Key}
-use Rattle.blk_ptr.specs.declared.state.State.{State}
-use Rattle.blk_ptr.specs.declared.state.State.TheVariants.{Anon, Mru, MruGhost, Mfu, MfuGhost, L2Only}
 use Rattle.blk_ptr.specs.Order.{key_eq}
 use Rattle.blk_ptr.specs.State.{is_cached}
 use Rattle.arc_lists.specs.ByKey.{item_at, with_change, without}
@@ -15,7 +13,7 @@ use Rattle.arc_core.specs.Changes.{changed, off_sequence}
 use Rattle.arc_core.specs.Edits.{is_droppable, is_evictable}
 use Rattle.arc_core.specs.Rules.{dropped, evicted, evicted_entry, evicting, next_dropped, next_evicted, trimmed, trimming, with_room}
 use Rattle.arc_core.specs.Sound.{IsTidy}
-use Rattle.arc_core.proofs.Evictions.{at_head-entries, dropped-gone, dropped-placed, entry_of-is, found, l2_only, changed-written, next_dropped-is, next_evicted-is}
+use Rattle.arc_core.proofs.Evictions.{at_head-entries, dropped-gone, dropped-placed, entry_of-is, found, l2_only, next_dropped-is, next_evicted-is}
 use Rattle.arc_core.proofs.Sparing.{sparing-dropped, sparing-evicted, uncached}
 
 -- how many entries pass a test

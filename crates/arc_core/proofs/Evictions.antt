@@ -1,6 +1,6 @@
 -- What room evicts and trim drops: keys of sequences, whose entries are as their sequences say.
-use Rattle.std.proofs.Common.{◌≡◌, ℕ, zero, suc, ◌+◌, ◌-◌, ◌*◌, ◌<◌, ◌≤◌, Bool, true, false, cond, not, ◌&&◌, ◌||◌, if◌then◌else◌, ltb, nat_lt, ◌==◌, IsTrue, List, [], ◌∷◌, ◌++◌, length, map, reverse, sum, Option, Some, None, is_some, is_none, IsSome, ◌⊎◌, inl, inr, refl, sym, ap, subst, ◌∙◌, arith}
-use Rattle.std.specs.List.{AllByRecursion, find, list_all}
+use Rattle.std.proofs.Common.{◌≡◌, ℕ, zero, suc, ◌+◌, ◌-◌, ◌<◌, ◌≤◌, Bool, true, false, not, ◌&&◌, ◌||◌, if◌then◌else◌, nat_lt, ◌==◌, IsTrue, List, [], ◌∷◌, ◌++◌, map, reverse, sum, Option, Some, None, is_some, is_none, IsSome, ◌⊎◌, inl, inr, refl, sym, ap, subst, ◌∙◌, arith}
+use Rattle.std.specs.List.{find, list_all}
 use Rattle.std.specs.Option.{option_and_then, option_map_or}
 use Rattle.std.proofs.lemmas.Bool.{false≢true}
 use Rattle.std.proofs.lemmas.List.{reverse-append}
@@ -12,12 +12,12 @@ use Rattle.blk_ptr.specs.declared.state.State.{State}
 use Rattle.blk_ptr.specs.declared.state.State.TheVariants.{Anon, Mru, MruGhost, Mfu, MfuGhost, L2Only}
 use Rattle.blk_ptr.specs.Order.{key_eq}
 use Rattle.blk_ptr.specs.State.{is_cached, is_ghost, is_same_state}
-use Rattle.blk_ptr.proofs.Keys.{key_eq-is, key_eq-same, key_eq-sym}
-use Rattle.arc_lists.specs.ByKey.{IsRising, has_key, item_at, with_item, without, with_change}
-use Rattle.arc_lists.specs.Room.{next_drop, next_eviction, or_else}
+use Rattle.blk_ptr.proofs.Keys.{key_eq-same}
+use Rattle.arc_lists.specs.ByKey.{item_at, with_change}
+use Rattle.arc_lists.specs.Room.{or_else}
 use Rattle.arc_lists.specs.Sequences.{Sequences, oldest_unskipped, put_at_head, sequence_of, stands_on, taken_off}
 use Rattle.arc_lists.proofs.Standing.{and_left, and_right, both, not_true_is}
-use Rattle.arc_lists.proofs.Tables.{cases_true, head_differs, is_some_of, item_at-without_same, without-absent, some_is, All-item, item_at-key, item_at-with_change_other, item_at-with_change_same, with_change-same}
+use Rattle.arc_lists.proofs.Tables.{cases_true, head_differs, item_at-without_same, without-absent, some_is, All-item, item_at-key, item_at-with_change_same, with_change-same}
 use Rattle.arc_core.specs.declared.entry.Entry.{Entry}
 use Rattle.blk_ptr.specs.Key.{is_well_formed}
 use Rattle.arc_lists.specs.PlainLists.{member, size_of}

@@ -1,25 +1,20 @@
 -- What the events leave as it was, where the target stays, and what is owed afterwards.
-use Rattle.std.proofs.Common.{◌≡◌, ℕ, zero, suc, ◌+◌, ◌-◌, ◌*◌, ◌/◌, ◌<◌, ◌≤◌, min, max, Bool, true, false, not, ◌&&◌, ◌||◌, ◌==◌, if◌then◌else◌, nat_lt, IsTrue, IsSome, List, [], ◌∷◌, length, get_or, set, sum, Option, Some, None, is_some, inl, inr, refl, sym, ap, subst, ◌∙◌, arith}
+use Rattle.std.proofs.Common.{◌≡◌, ℕ, zero, suc, ◌+◌, ◌-◌, ◌≤◌, min, max, Bool, true, false, if◌then◌else◌, List, [], ◌∷◌, length, Option, Some, None, is_some, inl, inr, refl, ap, subst, ◌∙◌, arith}
 use Rattle.std.specs.Option.{option_and_then, option_map_or}
-use Rattle.std.proofs.lemmas.Bool.{false≢true}
-use Rattle.std.proofs.lemmas.Bool.Decides.{nat_tests}
-use Rattle.std.proofs.lemmas.List.Sums.{sum_by-set}
 use Rattle.blk_ptr.specs.declared.key.Key.{Key}
 use Rattle.blk_ptr.specs.Order.{key_eq, key_lt}
 use Rattle.arc_lists.specs.declared.ghost_list.Ghost.{Ghost}
 use Rattle.arc_lists.specs.declared.ghost_list.Ghost.TheVariants as ghosts
-use Rattle.arc_lists.specs.Adapting.{IsCapacity, adapted, least_target}
+use Rattle.arc_lists.specs.Adapting.{adapted, least_target}
 use Rattle.arc_lists.specs.ByKey.{item_at, with_change, with_item, without}
 use Rattle.arc_lists.specs.Sequences.{put_at_head}
 use Rattle.arc_lists.proofs.Tables.{cases_true, some_is}
 use Rattle.arc_core.specs.declared.entry.Entry.{Entry}
-use Rattle.arc_core.specs.declared.entry.Picked.{Picked}
-use Rattle.arc_core.specs.declared.entry.Phase.{Phase}
-use Rattle.arc_core.specs.PlainShard.{PlainShard, entry_is, entry_key, entry_of, holds_of, is_unheld, place_of, size_in}
-use Rattle.arc_core.specs.Changes.{at_head, changed, come, given_back, gone, off_sequence, one_less, one_more}
-use Rattle.arc_core.specs.Owed.{owed_by, owed_in, owed_of}
+use Rattle.arc_core.specs.PlainShard.{PlainShard, entry_is, entry_key, entry_of, is_unheld, place_of, size_in}
+use Rattle.arc_core.specs.Changes.{at_head, changed, come, given_back, gone, off_sequence, one_less}
+use Rattle.arc_core.specs.Owed.{owed_by, owed_in}
 use Rattle.blk_ptr.specs.declared.state.State.TheVariants.{L2Only, MruGhost, MfuGhost}
-use Rattle.arc_core.specs.Rules.{ghost_of, dropped, evicted, evicted_entry, evicting, next_dropped, next_evicted, target_after, trimmed, trimming, with_room, with_target_for}
+use Rattle.arc_core.specs.Rules.{ghost_of, dropped, evicted, evicted_entry, evicting, next_dropped, next_evicted, target_after, trimming, with_room}
 use Rattle.arc_core.specs.Step.{taken_in}
 use Rattle.arc_core.proofs.Evictions.{at_head-entries}
 

@@ -1,20 +1,18 @@
 -- A shard keeps its invariant through an event.
-use Rattle.std.proofs.Common.{◌≡◌, ℕ, ◌+◌, ◌<◌, ◌≤◌, Bool, true, IsTrue, List, [], ◌∷◌, ◌++◌, length, refl, sym, ap, subst, ◌∙◌, arith, vec_len, vec_capacity}
-use Rattle.std.proofs.lemmas.List.{length-append}
+use Rattle.std.proofs.Common.{◌≡◌, ℕ, ◌+◌, ◌≤◌, true, IsTrue, [], ◌∷◌, ◌++◌, refl, sym, ap, subst, ◌∙◌, arith, vec_len, vec_capacity}
 use Rattle.blk_ptr.specs.declared.key.Key.{Key}
 use Rattle.arc_core.specs.declared.shard.Shard.TheInside.{Inside}
 use Rattle.arc_core.specs.declared.event.Event.{Event}
-use Rattle.arc_core.specs.declared.event.Event.TheVariants.{Hit, Miss, Arrive, Fail, Drop, Past}
+use Rattle.arc_core.specs.declared.event.Event.TheVariants.{Miss}
 use Rattle.arc_core.specs.Owed.{owed_of, room_for}
 use Rattle.arc_core.specs.PlainShard.{PlainShard}
 use Rattle.arc_core.specs.Replay.{is_legal_history, replay}
 use Rattle.arc_core.specs.Rules.{with_target_for}
-use Rattle.arc_core.specs.ShardLog.{IsReplayed}
 use Rattle.arc_core.specs.ShardModel.{IsKept, log_in}
 use Rattle.arc_core.specs.Sound.{IsSound, IsTidy}
 use Rattle.arc_core.specs.Step.{after, legal, read_entry}
 use Rattle.arc_core.proofs.Frames.{frame-taken_in, target-within}
-use Rattle.arc_core.proofs.Stepping.{legal-append, replay-append, sound-framed}
+use Rattle.arc_core.proofs.Stepping.{legal-append, replay-append}
 
 -- after an event that is legal, keeps the shard sound, and takes no more room than it may
 pub IsKept-step : (s n : Inside) (e : Event) → IsKept s → IsTrue (legal s.table.shard e) → n.table.shard ≡ after s.table.shard e → IsSound n.table.shard → n.opened ≡ s.opened

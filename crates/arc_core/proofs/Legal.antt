@@ -1,29 +1,26 @@
 -- What a legal event says of its key's entry, and that writing the changed entry is the event's change.
-use Rattle.std.proofs.Common.{◌≡◌, ℕ, ◌+◌, ◌<◌, ◌≤◌, Bool, true, false, not, ◌&&◌, ◌||◌, ◌==◌, if◌then◌else◌, nat_lt, IsTrue, IsSome, List, [], ◌∷◌, length, get_or, sum, Option, Some, None, is_some, ◌^◌, inl, inr, refl, sym, ap, subst, ◌∙◌, arith}
-use Rattle.std.specs.Option.{option_map_or}
-use Rattle.std.proofs.lemmas.Bool.{ltb-true, false≢true}
+use Rattle.std.proofs.Common.{◌≡◌, ℕ, ◌+◌, ◌<◌, ◌≤◌, true, false, not, ◌&&◌, ◌==◌, IsTrue, IsSome, List, [], ◌∷◌, length, get_or, Some, ◌^◌, inl, inr, refl, sym, ap, subst, arith}
+use Rattle.std.proofs.lemmas.Bool.{ltb-true}
 use Rattle.std.proofs.lemmas.Bool.Decides.{nat_tests}
 use Rattle.std.proofs.lemmas.List.Sums.{get_or-le-sum_by}
 use Rattle.std.proofs.Math.ListN.{length-set}
 use Rattle.blk_ptr.specs.declared.key.Key.{Key}
 use Rattle.blk_ptr.specs.declared.digest.Digest.{Digest}
-use Rattle.blk_ptr.specs.Key.{is_well_formed}
 use Rattle.blk_ptr.specs.Order.{key_eq}
-use Rattle.blk_ptr.specs.State.{is_cached}
 use Rattle.arc_lists.specs.ByKey.{item_at}
 use Rattle.arc_lists.proofs.Standing.{and_left, and_right}
 use Rattle.arc_lists.proofs.Tables.{cases_true, some_is}
 use Rattle.arc_core.specs.declared.entry.Entry.{Entry}
 use Rattle.arc_core.specs.declared.event.Origin.{Origin}
 use Rattle.arc_core.specs.declared.event.Event.{Event}
-use Rattle.arc_core.specs.declared.event.Event.TheVariants.{Pass, Hit, Miss, Arrive, Fail, Drop, Past, Hand, Insert, Release, Pick, FeedEnd, Set, Leave, Clear, Restore}
-use Rattle.arc_core.specs.PlainShard.{PlainShard, entry_is, entry_of, held_by, holds_of, is_number, is_resident, is_unheld, numbers}
+use Rattle.arc_core.specs.declared.event.Event.TheVariants.{Hit, Miss, Arrive, Drop}
+use Rattle.arc_core.specs.PlainShard.{PlainShard, entry_is, entry_of, held_by, is_number, is_resident, is_unheld, numbers}
 use Rattle.arc_core.specs.Changes.{one_less, one_more}
 use Rattle.arc_core.specs.Edits.{is_off, placed}
 use Rattle.arc_core.specs.Owed.{owed_by, owed_in, owed_of}
 use Rattle.arc_core.specs.Rules.{accessed}
 use Rattle.arc_core.specs.Sound.{IsSoundEntry, IsTidy}
-use Rattle.arc_core.specs.Step.{arrived, effect, hit_entry, holds, legal, may_come_from, read_entry, reads}
+use Rattle.arc_core.specs.Step.{arrived, effect, holds, legal, may_come_from, read_entry, reads}
 use Rattle.arc_core.proofs.Accesses.{IsSoundEntry-arrived, IsSoundEntry-held, IsSoundEntry-hit, IsSoundEntry-read, accessed-keeps, change-placed, given_back-placed, held-one_hold, hit-placed, off-held, unheld-held}
 use Rattle.arc_core.proofs.Evictions.{Found, found, passes}
 

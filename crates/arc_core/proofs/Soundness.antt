@@ -1,5 +1,5 @@
 -- Each legal event keeps a sound shard sound, by the definitions alone.
-use Rattle.std.proofs.Common.{◌≡◌, ℕ, true, false, ◌&&◌, IsTrue, [], refl, sym, subst}
+use Rattle.std.proofs.Common.{ℕ, ◌&&◌, IsTrue, refl, sym, subst}
 use Rattle.std.proofs.lemmas.Bool.{false≢true}
 use Rattle.blk_ptr.specs.declared.key.Key.{Key}
 use Rattle.blk_ptr.specs.declared.digest.Digest.{Digest}

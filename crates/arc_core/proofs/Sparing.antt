@@ -1,5 +1,5 @@
 -- Room and trim spare what is held or being read, and keep a shard tidy.
-use Rattle.std.proofs.Common.{◌≡◌, ℕ, zero, suc, Bool, true, false, not, ◌&&◌, if◌then◌else◌, IsTrue, IsSome, List, [], ◌∷◌, length, Option, Some, None, is_some, ◌⊎◌, inl, inr, refl, sym, ap, subst, ◌∙◌}
+use Rattle.std.proofs.Common.{◌≡◌, ℕ, zero, suc, true, false, ◌&&◌, IsTrue, IsSome, length, Option, Some, None, is_some, inl, inr, refl, sym, ap, subst, ◌∙◌}
 use Rattle.std.specs.Option.{option_map_or}
 use Rattle.std.proofs.lemmas.Bool.{false≢true}
 use Rattle.blk_ptr.specs.declared.key.Key.{Key}
@@ -8,15 +8,15 @@ use Rattle.blk_ptr.specs.declared.state.State.TheVariants.{Anon, Mru, MruGhost, 
 use Rattle.blk_ptr.specs.Order.{key_eq}
 use Rattle.blk_ptr.specs.State.{is_cached}
 use Rattle.blk_ptr.proofs.Keys.{key_eq-is, key_eq-sym}
-use Rattle.arc_lists.specs.ByKey.{has_key, item_at}
+use Rattle.arc_lists.specs.ByKey.{has_key}
 use Rattle.arc_lists.proofs.Standing.{and_left, and_right, both}
-use Rattle.arc_lists.proofs.Tables.{cases_true, item_at-with_item_other, item_at-with_item_same, item_at-without_other, item_at-without_same}
+use Rattle.arc_lists.proofs.Tables.{cases_true, item_at-with_item_other, item_at-with_item_same, item_at-without_other}
 use Rattle.arc_core.specs.declared.entry.Entry.{Entry}
 use Rattle.arc_core.specs.declared.event.Event.TheVariants.{Miss}
-use Rattle.arc_core.specs.PlainShard.{PlainShard, entry_key, entry_of, is_at_rest, is_free, is_number, is_unheld}
+use Rattle.arc_core.specs.PlainShard.{PlainShard, entry_key, entry_of, is_at_rest, is_free, is_unheld}
 use Rattle.arc_core.specs.Changes.{come, gone}
 use Rattle.arc_core.specs.Edits.{is_droppable, is_evictable, is_off, placed}
-use Rattle.arc_core.specs.Rules.{dropped, evicted, evicted_entry, evicted_state, evicting, next_dropped, next_evicted, trimmed, trimming, with_room, with_target_for}
+use Rattle.arc_core.specs.Rules.{dropped, evicted, evicted_entry, evicted_state, evicting, next_dropped, next_evicted, trimming, with_room, with_target_for}
 use Rattle.arc_core.specs.Sound.{IsSound, IsSoundEntry, IsTidy}
 use Rattle.arc_core.specs.Sparing.{IsSpared}
 use Rattle.arc_core.specs.Step.{after, legal, read_entry, taken_in}

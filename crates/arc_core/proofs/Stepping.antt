@@ -1,26 +1,24 @@
 -- Each event of one caller keeps a sound shard sound, and what is owed within the room that the event takes.
-use Rattle.std.proofs.Common.{◌≡◌, ℕ, ◌+◌, ◌-◌, ◌<◌, ◌≤◌, Bool, true, false, not, ◌&&◌, ◌||◌, ◌==◌, if◌then◌else◌, IsTrue, IsSome, List, [], ◌∷◌, ◌++◌, length, get_or, set, sum, Option, Some, None, is_some, is_none, inl, inr, refl, sym, ap, subst, ◌∙◌, arith}
-use Rattle.std.proofs.lemmas.Bool.{false≢true}
-use Rattle.std.proofs.lemmas.List.Sums.{get_or-le-sum_by, sum_by-set}
+use Rattle.std.proofs.Common.{◌≡◌, ℕ, ◌+◌, ◌-◌, ◌<◌, ◌≤◌, Bool, true, ◌&&◌, if◌then◌else◌, IsTrue, List, [], ◌∷◌, ◌++◌, length, get_or, sum, refl, sym, ap, arith}
+use Rattle.std.proofs.lemmas.List.Sums.{sum_by-set}
 use Rattle.blk_ptr.specs.declared.key.Key.{Key}
 use Rattle.blk_ptr.specs.declared.digest.Digest.{Digest}
-use Rattle.arc_lists.specs.Adapting.{least_target}
 use Rattle.arc_lists.proofs.Standing.{and_left, and_right}
 use Rattle.arc_core.specs.declared.entry.Entry.{Entry}
 use Rattle.arc_core.specs.declared.event.Event.{Event}
-use Rattle.arc_core.specs.declared.event.Event.TheVariants.{Pass, Hit, Miss, Arrive, Fail, Drop, Past, Hand, Insert, Release, Pick, FeedEnd, Set, Leave, Clear, Restore}
+use Rattle.arc_core.specs.declared.event.Event.TheVariants.{Hit, Miss, Arrive, Fail, Drop}
 use Rattle.arc_core.specs.declared.event.FailedAt.{FailedAt}
 use Rattle.arc_core.specs.declared.event.Origin.{Origin}
-use Rattle.arc_core.specs.PlainShard.{PlainShard, entry_is, entry_of, held_by, holds_of, is_number, is_resident, is_unheld, numbers, one_hold}
-use Rattle.arc_core.specs.Changes.{one_less, one_more}
-use Rattle.arc_core.specs.Owed.{owed_by, owed_in, owed_of, room_for}
+use Rattle.arc_core.specs.PlainShard.{PlainShard, holds_of, is_number, is_resident}
+use Rattle.arc_core.specs.Changes.{one_less}
+use Rattle.arc_core.specs.Owed.{owed_by, owed_of, room_for}
 use Rattle.arc_core.specs.Rules.{accessed, with_target_for}
 use Rattle.arc_core.specs.Replay.{is_legal_history, replay}
-use Rattle.arc_core.specs.Sound.{IsSound, IsSoundEntry, IsTidy}
-use Rattle.arc_core.specs.Step.{after, arrived, effect, hit_entry, holds, legal, may_come_from, read_entry, reads}
+use Rattle.arc_core.specs.Sound.{IsSound, IsTidy}
+use Rattle.arc_core.specs.Step.{after, arrived, hit_entry, holds, legal, may_come_from, read_entry, reads}
 use Rattle.arc_core.proofs.Accesses.{accessed-keeps, sum-one_hold}
 use Rattle.arc_core.proofs.Evictions.{entry_of-is, found}
-use Rattle.arc_core.proofs.Frames.{SameFrame, frame-given_back, frame-taken_in, owed-changed, owed-given_back, owed-taken_in, owed-without, same, target-within}
+use Rattle.arc_core.proofs.Frames.{SameFrame, frame-given_back, frame-taken_in, owed-changed, owed-given_back, owed-taken_in, owed-without}
 use Rattle.arc_core.proofs.Legal.{holding, number-lt}
 
 -- a shard in the same frame, tidy and with nothing passed, is as sound as it was

@@ -1,15 +1,14 @@
 -- The table's vectors keep their invariant through the edits.
-use Rattle.std.proofs.Common.{◌≡◌, ℕ, ◌+◌, ◌-◌, ◌<◌, ◌≤◌, Bool, true, false, cond, IsTrue, IsSome, IsSomeAnd, List, [], ◌∷◌, length, map, Option, Some, None, is_some, inl, inr, refl, sym, ap, subst, ◌∙◌, arith, vec_len, vec_capacity}
+use Rattle.std.proofs.Common.{◌≡◌, false, IsTrue, IsSomeAnd, List, [], ◌∷◌, map, Option, Some, None, is_some, inl, inr, refl, sym, ap, subst, ◌∙◌}
 use Rattle.std.specs.Option.{option_map}
-use Rattle.std.proofs.lemmas.Bool.{false≢true}
 use Rattle.blk_ptr.specs.declared.key.Key.{Key}
 use Rattle.blk_ptr.specs.declared.state.State.{State}
 use Rattle.blk_ptr.specs.Order.{key_eq}
 use Rattle.blk_ptr.proofs.Keys.{key_eq-is}
 use Rattle.arc_lists.specs.declared.member.Member.{Member}
 use Rattle.arc_lists.specs.ByKey.{IsAbove, IsRising, has_key, item_at, with_item, without, with_change}
-use Rattle.arc_lists.specs.PlainLists.{member, member_key}
-use Rattle.arc_lists.proofs.Tables.{cases_true, some_is, item_at-map, item_at-without_same, map-with_change, map-with_item, map-without, with_change-same, with_item-without}
+use Rattle.arc_lists.specs.PlainLists.{member_key}
+use Rattle.arc_lists.proofs.Tables.{cases_true, some_is, item_at-map, item_at-without_same, map-with_change, with_item-without}
 use Rattle.arc_core.specs.declared.entry.Entry.{Entry}
 use Rattle.arc_lists.specs.Sequences.{Sequences}
 use Rattle.arc_core.specs.PlainShard.{PlainShard, entry_key, member_of}

@@ -1,5 +1,5 @@
 -- The edits of a shard's table keep entries and sequences together.
-use Rattle.std.proofs.Common.{◌≡◌, ℕ, ◌+◌, ◌≤◌, Bool, true, false, cond, not, ◌&&◌, ◌||◌, if◌then◌else◌, IsTrue, List, [], ◌∷◌, length, Option, Some, None, is_some, IsSome, inl, inr, refl, sym, ap, subst, ◌∙◌, arith}
+use Rattle.std.proofs.Common.{◌≡◌, Bool, true, false, not, ◌&&◌, if◌then◌else◌, IsTrue, List, ◌∷◌, Option, Some, None, is_some, inl, inr, refl, sym, ap, subst, ◌∙◌}
 use Rattle.std.specs.List.{AllByRecursion}
 use Rattle.std.specs.Option.{option_map_or}
 use Rattle.std.proofs.lemmas.Bool.{false≢true}
@@ -9,14 +9,14 @@ use Rattle.blk_ptr.specs.declared.state.State.TheVariants.{Anon, Mru, MruGhost, 
 use Rattle.blk_ptr.specs.Order.{key_eq}
 use Rattle.blk_ptr.specs.State.{is_same_state}
 use Rattle.blk_ptr.proofs.Keys.{key_eq-is, key_eq-same, key_eq-sym}
-use Rattle.arc_lists.specs.ByKey.{IsRising, has_key, item_at, with_item, without, with_change}
-use Rattle.arc_lists.specs.Sequences.{Sequences, has_sequence, is_distinct, put_at_head, sequence_of, stands_on, taken_off, without_key}
+use Rattle.arc_lists.specs.ByKey.{IsRising, has_key, item_at, with_item, with_change}
+use Rattle.arc_lists.specs.Sequences.{Sequences, has_sequence, is_distinct, put_at_head, stands_on, taken_off, without_key}
 use Rattle.arc_lists.proofs.Standing.{both, distinct-without_key, not_true, stands_on-without_other, stands_on-without_same, without_key-absent}
 use Rattle.arc_lists.proofs.Tables.{cases_true, is_some_of, All-with_change, All-with_item, All-without, IsRising-with_change, IsRising-with_item, IsRising-without, item_at-with_change_other, item_at-with_change_same, item_at-with_item_other, item_at-with_item_same, item_at-without_other, item_at-without_same}
 use Rattle.arc_core.specs.declared.entry.Entry.{Entry}
 use Rattle.arc_core.specs.PlainShard.{PlainShard, entry_is, entry_key, entry_of, is_unheld}
 use Rattle.arc_core.specs.Changes.{come, gone}
-use Rattle.arc_core.specs.Edits.{amended, is_off, placed, with_standing}
+use Rattle.arc_core.specs.Edits.{amended, is_off, placed}
 use Rattle.arc_core.specs.Sound.{IsSequence, IsSoundEntry, IsTidy, belongs_on}
 
 -- ---- one sequence

@@ -1,16 +1,14 @@
 -- Worked traces, computed from the definitions alone: the ends of a shard after a history.
-use Rattle.std.proofs.Common.{◌≡◌, ℕ, ◌+◌, ◌*◌, Bool, true, false, List, [], ◌∷◌, ◌++◌, Option, Some, None, refl}
+use Rattle.std.proofs.Common.{◌≡◌, ℕ, ◌*◌, true, false, List, [], ◌∷◌, ◌++◌, refl}
 use Rattle.blk_ptr.specs.declared.key.Key.{Key}
 use Rattle.blk_ptr.specs.declared.digest.Digest.{Digest}
 use Rattle.blk_ptr.specs.declared.state.State.TheVariants.{Anon, Mru, MruGhost, Mfu, MfuGhost, L2Only}
-use Rattle.arc_core.specs.declared.config.Bounds.{Bounds}
-use Rattle.arc_core.specs.declared.entry.Phase.TheVariants.{Idle, Picking, Writing}
+use Rattle.arc_core.specs.declared.entry.Phase.TheVariants.{Idle}
 use Rattle.arc_core.specs.declared.event.Event.{Event}
-use Rattle.arc_core.specs.declared.event.Event.TheVariants.{Pass, Hit, Miss, Arrive, Fail, Drop, Past, Hand, Insert, Release, Pick, FeedEnd, Set, Leave, Clear, Restore}
+use Rattle.arc_core.specs.declared.event.Event.TheVariants.{Pass, Hit, Miss, Arrive, Fail, Drop, Hand, Insert, Release, Pick, FeedEnd, Set, Clear, Restore}
 use Rattle.arc_core.specs.declared.event.Origin.TheVariants as origin
 use Rattle.arc_core.specs.declared.event.FailedAt.TheVariants as failed
-use Rattle.arc_core.specs.declared.event.Why.TheVariants as why
-use Rattle.arc_core.specs.PlainShard.{PlainShard, opening_shard, size_in, place_of}
+use Rattle.arc_core.specs.PlainShard.{PlainShard, opening_shard, size_in}
 use Rattle.arc_core.specs.Replay.{replay, is_legal_history}
 
 -- the target and the six sizes

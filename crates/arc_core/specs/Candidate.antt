@@ -2,7 +2,6 @@
 use Rattle.std.specs.Prelude.{ℕ, ◌+◌, ◌*◌, Bool, not, ◌&&◌, if◌then◌else◌, nat_le, List, [], ◌∷◌, reverse, sum_by, Option, Some, None, is_some, option_and_then}
 use Rattle.blk_ptr.specs.declared.key.Key.{Key}
 use Rattle.arc_lists.specs.Room.{or_else}
-use Rattle.arc_core.specs.declared.entry.Picked.{Picked}
 use Rattle.arc_core.specs.PlainShard.{PlainShard, is_passed, place_of}
 use Rattle.arc_core.specs.Changes.{pick_of}
 

@@ -1,17 +1,13 @@
 -- The small changes of which the events are made.
-use Rattle.std.specs.Prelude.{ℕ, ◌+◌, ◌-◌, Bool, true, false, not, ◌&&◌, ◌||◌, if◌then◌else◌, nat_lt, List, [], ◌∷◌, ◌++◌, filter, slice_index, slice_set, Option, Some, None, is_some, is_none}
+use Rattle.std.specs.Prelude.{ℕ, ◌+◌, ◌-◌, if◌then◌else◌, List, [], ◌∷◌, slice_index, slice_set, Option}
 use Rattle.std.specs.Option.{option_map_or}
 use Rattle.blk_ptr.specs.declared.key.Key.{Key}
-use Rattle.blk_ptr.specs.declared.digest.Digest.{Digest}
-use Rattle.blk_ptr.specs.declared.state.State.{State}
-use Rattle.blk_ptr.specs.declared.state.State.TheVariants.{Anon, Mru, MruGhost, Mfu, MfuGhost, L2Only}
-use Rattle.blk_ptr.specs.Order.{key_eq}
 use Rattle.arc_lists.specs.ByKey.{item_at, with_item, without, with_change}
 use Rattle.arc_lists.specs.Sequences.{put_at_head, taken_off}
 use Rattle.arc_core.specs.declared.entry.Entry.{Entry}
 use Rattle.arc_core.specs.declared.entry.Picked.{Picked}
 use Rattle.arc_core.specs.declared.entry.Phase.{Phase}
-use Rattle.arc_core.specs.declared.entry.Phase.TheVariants.{Idle, Picking, Writing}
+use Rattle.arc_core.specs.declared.entry.Phase.TheVariants.{Idle, Writing}
 use Rattle.arc_core.specs.PlainShard.{PlainShard, entry_key, entry_is, entry_of, is_unheld}
 
 -- the entry of the key is changed

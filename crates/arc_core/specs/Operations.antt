@@ -1,21 +1,18 @@
 -- Which events an operation stands for, and what it means that histories hold every call once.
-use Rattle.std.specs.Prelude.{◌≡◌, ℕ, ◌+◌, ◌<◌, ◌≢◌, Bool, true, false, not, ◌&&◌, ◌||◌, ◌==◌, IsTrue, ◌⊎◌, List, [], ◌∷◌, ◌++◌, length, map, filter, count_by, slice_index_or, Option, Some, None}
+use Rattle.std.specs.Prelude.{◌≡◌, ℕ, ◌<◌, ◌≢◌, Bool, true, false, not, ◌&&◌, ◌==◌, IsTrue, ◌⊎◌, List, [], ◌∷◌, ◌++◌, length, map, filter, count_by, slice_index_or, Option, Some, None}
 use Rattle.std.specs.List.{AllByRecursion}
 use Rattle.blk_ptr.specs.declared.key.Key.{Key}
 use Rattle.blk_ptr.specs.declared.digest.Digest.{Digest}
 use Rattle.blk_ptr.specs.declared.ptr.Ptr.{Ptr}
-use Rattle.arc_core.specs.declared.entry.Entry.{Entry}
-use Rattle.arc_core.specs.declared.entry.Phase.{Phase}
 use Rattle.arc_core.specs.declared.entry.Phase.TheVariants.{Idle}
 use Rattle.arc_core.specs.declared.event.Event.{Event}
 use Rattle.arc_core.specs.declared.event.Event.TheVariants.{Pass, Hit, Miss, Arrive, Fail, Drop, Past, Hand, Insert, Release, Pick, FeedEnd, Set, Leave, Clear, Restore}
-use Rattle.arc_core.specs.declared.event.Origin.{Origin}
 use Rattle.arc_core.specs.declared.event.Origin.TheVariants as origin
 use Rattle.arc_core.specs.declared.event.FailedAt.{FailedAt}
 use Rattle.arc_core.specs.declared.event.FailedAt.TheVariants as failed
 use Rattle.arc_core.specs.declared.served.Served.{Served}
 use Rattle.arc_core.specs.declared.served.Served.TheVariants as served
-use Rattle.arc_core.specs.PlainShard.{PlainShard, entry_is, holds_of, is_at_rest, is_free, is_unheld, keeps_digest}
+use Rattle.arc_core.specs.PlainShard.{PlainShard, entry_is, is_free, keeps_digest}
 use Rattle.arc_core.specs.Step.{after}
 
 -- ---- what is read off an event

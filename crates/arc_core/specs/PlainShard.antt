@@ -1,12 +1,11 @@
 -- A shard of the cache as plain data, and what is read off it.
-use Rattle.std.specs.Prelude.{ℕ, ◌+◌, ◌/◌, Bool, true, false, not, ◌&&◌, ◌==◌, if◌then◌else◌, nat_lt, nat_le, List, [], ◌∷◌, map, sum, replicate, slice_index, slice_set, Option, Some, None, is_some, option_map, option_and_then, unwrap_or}
+use Rattle.std.specs.Prelude.{ℕ, ◌/◌, Bool, false, not, ◌&&◌, ◌==◌, if◌then◌else◌, nat_lt, nat_le, List, [], map, sum, replicate, slice_index, slice_set, Option, None, is_some, option_and_then}
 use Rattle.std.specs.List.{list_all}
 use Rattle.std.specs.Option.{option_map_or}
 use Rattle.blk_ptr.specs.declared.key.Key.{Key}
 use Rattle.blk_ptr.specs.declared.digest.Digest.{Digest}
 use Rattle.blk_ptr.specs.declared.state.State.{State}
-use Rattle.blk_ptr.specs.declared.state.State.TheVariants.{Anon, Mru, MruGhost, Mfu, MfuGhost, L2Only}
-use Rattle.blk_ptr.specs.Order.{key_eq, digest_eq}
+use Rattle.blk_ptr.specs.Order.{digest_eq}
 use Rattle.blk_ptr.specs.State.{is_cached}
 use Rattle.arc_lists.specs.declared.member.Member.{Member}
 use Rattle.arc_lists.specs.ByKey.{item_at}
@@ -15,7 +14,7 @@ use Rattle.arc_lists.specs.PlainLists.{member, size_of}
 use Rattle.arc_core.specs.declared.entry.Entry.{Entry}
 use Rattle.arc_core.specs.declared.entry.Picked.{Picked}
 use Rattle.arc_core.specs.declared.entry.Phase.{Phase}
-use Rattle.arc_core.specs.declared.entry.Phase.TheVariants.{Idle, Picking, Writing}
+use Rattle.arc_core.specs.declared.entry.Phase.TheVariants.{Idle}
 use Rattle.arc_core.specs.declared.config.Bounds.{Bounds}
 
 pub record PlainShard : Type 0 where

@@ -1,6 +1,6 @@
 -- The rules of the cache: what an access does to an entry, how a ghost that is asked for moves the target, how room is made, and
 -- which ghosts are dropped (arc.c of OpenZFS 2.1; Megiddo and Modha, FAST 2003).
-use Rattle.std.specs.Prelude.{ℕ, zero, suc, ◌+◌, Bool, true, false, if◌then◌else◌, nat_lt, List, length, Option, Some, None, is_some, option_and_then}
+use Rattle.std.specs.Prelude.{ℕ, zero, suc, ◌+◌, if◌then◌else◌, nat_lt, length, Option, Some, None, is_some, option_and_then}
 use Rattle.std.specs.Option.{option_map_or}
 use Rattle.blk_ptr.specs.declared.key.Key.{Key}
 use Rattle.blk_ptr.specs.declared.state.State.{State}

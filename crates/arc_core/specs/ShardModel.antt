@@ -1,5 +1,5 @@
 -- What a shard's parts mean, and what they keep.
-use Rattle.std.specs.Prelude.{◌≡◌, ◌+◌, ◌≤◌, vec_len, vec_capacity}
+use Rattle.std.specs.Prelude.{◌+◌, ◌≤◌, vec_len, vec_capacity}
 use Rattle.arc_core.specs.declared.shard.Shard.TheInside.{Inside}
 use Rattle.arc_core.specs.Owed.{owed_of}
 use Rattle.arc_core.specs.PlainShard.{opening_shard}

@@ -1,5 +1,5 @@
 -- What a sound shard is: facts that every event keeps.
-use Rattle.std.specs.Prelude.{◌≡◌, ℕ, ◌+◌, ◌-◌, ◌/◌, ◌≤◌, Bool, true, false, not, ◌&&◌, ◌||◌, ◌==◌, IsTrue, nat_lt, List, [], ◌∷◌, length, Option, Some, None, is_some, is_none}
+use Rattle.std.specs.Prelude.{◌≡◌, ◌-◌, ◌≤◌, Bool, true, false, not, ◌&&◌, ◌||◌, ◌==◌, IsTrue, List, [], ◌∷◌, length, is_some, is_none}
 use Rattle.std.specs.List.{AllByRecursion, list_all}
 use Rattle.blk_ptr.specs.declared.key.Key.{Key}
 use Rattle.blk_ptr.specs.declared.state.State.{State}
@@ -8,7 +8,7 @@ use Rattle.blk_ptr.specs.Key.{is_well_formed}
 use Rattle.blk_ptr.specs.State.{is_same_state}
 use Rattle.arc_lists.specs.Adapting.{least_target}
 use Rattle.arc_lists.specs.ByKey.{IsRising}
-use Rattle.arc_lists.specs.Sequences.{Sequences, has_sequence, sequence_of, stands, stands_on}
+use Rattle.arc_lists.specs.Sequences.{sequence_of, stands, stands_on}
 use Rattle.arc_core.specs.declared.entry.Entry.{Entry}
 use Rattle.arc_core.specs.declared.entry.Picked.{Picked}
 use Rattle.arc_core.specs.declared.entry.Phase.{Phase}

@@ -1,5 +1,5 @@
 -- What a miss may do to the entries of other keys, and the entry that it leaves at its own.
-use Rattle.std.specs.Prelude.{◌≡◌, ℕ, Bool, false, IsTrue, ◌⊎◌, Option, Some, None}
+use Rattle.std.specs.Prelude.{◌≡◌, ℕ, false, IsTrue, ◌⊎◌, Option, Some, None}
 use Rattle.blk_ptr.specs.declared.key.Key.{Key}
 use Rattle.blk_ptr.specs.Order.{key_eq}
 use Rattle.blk_ptr.specs.State.{is_cached}

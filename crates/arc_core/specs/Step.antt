@@ -1,5 +1,5 @@
 -- The table of events: where each is legal, and what it changes.
-use Rattle.std.specs.Prelude.{ℕ, ◌+◌, Bool, true, false, not, ◌&&◌, ◌||◌, ◌==◌, if◌then◌else◌, nat_le, List, [], ◌∷◌, ◌++◌, Option, Some, None, is_some, is_none, option_and_then}
+use Rattle.std.specs.Prelude.{ℕ, Bool, true, false, not, ◌&&◌, ◌||◌, ◌==◌, if◌then◌else◌, [], ◌∷◌, ◌++◌, Option, Some, None, is_some, is_none, option_and_then}
 use Rattle.std.specs.Option.{option_map_or}
 use Rattle.blk_ptr.specs.declared.key.Key.{Key}
 use Rattle.blk_ptr.specs.declared.digest.Digest.{Digest}
@@ -12,15 +12,15 @@ use Rattle.arc_lists.specs.Sequences.{stands}
 use Rattle.arc_core.specs.declared.entry.Entry.{Entry}
 use Rattle.arc_core.specs.declared.entry.Picked.{Picked}
 use Rattle.arc_core.specs.declared.entry.Phase.{Phase}
-use Rattle.arc_core.specs.declared.entry.Phase.TheVariants.{Idle, Picking, Writing}
+use Rattle.arc_core.specs.declared.entry.Phase.TheVariants.{Picking, Writing}
 use Rattle.arc_core.specs.declared.event.Origin.{Origin}
 use Rattle.arc_core.specs.declared.event.Origin.TheVariants as origin
 use Rattle.arc_core.specs.declared.event.Why.{Why}
 use Rattle.arc_core.specs.declared.event.Why.TheVariants as why
 use Rattle.arc_core.specs.declared.event.Event.{Event}
 use Rattle.arc_core.specs.declared.event.Event.TheVariants.{Pass, Hit, Miss, Arrive, Fail, Drop, Past, Hand, Insert, Release, Pick, FeedEnd, Set, Leave, Clear, Restore}
-use Rattle.arc_core.specs.PlainShard.{PlainShard, entry_of, entry_is, entry_key, held_by, holds_of, is_absent, is_at_rest, is_cell, is_number, is_party, is_passed, is_resident, keeps_digest, no_holds, one_hold, place_of}
-use Rattle.arc_core.specs.Changes.{at_head, changed, come, given_back, gone, off_sequence, one_less, one_more, pick_of, settled, with_none_passed, writing_phase}
+use Rattle.arc_core.specs.PlainShard.{PlainShard, entry_of, entry_is, held_by, holds_of, is_absent, is_at_rest, is_cell, is_number, is_party, is_passed, is_resident, keeps_digest, no_holds, one_hold, place_of}
+use Rattle.arc_core.specs.Changes.{changed, come, given_back, gone, off_sequence, one_less, one_more, pick_of, settled, with_none_passed, writing_phase}
 use Rattle.arc_core.specs.Rules.{accessed, arrived_state, trimmed, with_room, with_target_for}
 use Rattle.arc_core.specs.Candidate.{candidate}
 

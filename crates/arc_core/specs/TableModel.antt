@@ -1,5 +1,5 @@
 -- What the vectors of a shard's table mean, and what they keep.
-use Rattle.std.specs.Prelude.{◌≡◌, ℕ, ◌+◌, ◌≤◌, map, vec_len, vec_capacity}
+use Rattle.std.specs.Prelude.{◌≡◌, ◌+◌, ◌≤◌, map, vec_len, vec_capacity}
 use Rattle.arc_core.specs.declared.table.Table.TheInside.{Inside}
 use Rattle.arc_core.specs.PlainShard.{PlainShard, member_of}
 use Rattle.arc_core.specs.PlainTable.{PlainTable}

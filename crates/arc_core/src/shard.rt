@@ -246,7 +246,8 @@ impl Shard {
     pub fn into_history(self) -> Vec<Event>
         ensures { result.items ≡ self.history }
     {
-        self.history
+        let Shard { history, .. } = self;
+        history
     }
 
     /// What is known of a key.

@@ -1,3 +1,4 @@
+pub mod InState
 pub mod Keeping
 pub mod Members
 pub mod SizeSums

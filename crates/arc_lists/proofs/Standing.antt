@@ -1,19 +1,19 @@
 -- Sequences that name members, each once.
-use Rattle.std.proofs.Common.{◌≡◌, ℕ, suc, ◌+◌, ◌≤◌, Bool, true, false, cond, not, ◌&&◌, ◌||◌, IsTrue, List, [], ◌∷◌, length, filter, Some, None, Option, is_some, inl, inr, refl, sym, ap, subst, ◌∙◌, arith}
+use Rattle.std.proofs.Common.{◌≡◌, ℕ, suc, ◌≤◌, Bool, true, false, not, ◌&&◌, ◌||◌, IsTrue, List, [], ◌∷◌, length, Some, Option, is_some, inl, inr, refl, sym, ap, subst, ◌∙◌, arith}
 use Rattle.std.specs.List.{AllByRecursion}
 use Rattle.std.proofs.lemmas.Bool.{false≢true}
 use Rattle.blk_ptr.specs.declared.key.Key.{Key}
 use Rattle.blk_ptr.specs.declared.state.State.{State}
 use Rattle.blk_ptr.specs.declared.state.State.TheVariants.{Anon, Mru, MruGhost, Mfu, MfuGhost, L2Only}
 use Rattle.blk_ptr.specs.Order.{key_eq}
-use Rattle.blk_ptr.proofs.Keys.{key_eq-is, key_eq-same, key_eq-sym}
+use Rattle.blk_ptr.proofs.Keys.{key_eq-is, key_eq-sym}
 use Rattle.arc_lists.specs.declared.member.Member.{Member}
 use Rattle.arc_lists.specs.ByKey.{IsRising, has_key, item_at, with_item, without}
 use Rattle.arc_lists.specs.PlainLists.{member_key}
 use Rattle.arc_lists.specs.declared.queues.Queues.{Queues}
 use Rattle.arc_lists.specs.Queues.{AreSequencesOf, HaveCapacity, HaveRoom, IsSequenceOf, sequences_in}
 use Rattle.arc_lists.specs.Sequences.{Sequences, is_distinct, put_at_head, stands, stands_on, taken_off, without_key}
-use Rattle.arc_lists.proofs.Tables.{cases_true, some_is, is_some_of, IsRising-without, item_at-with_item_other, item_at-with_item_same, item_at-without_other, length-without}
+use Rattle.arc_lists.proofs.Tables.{cases_true, is_some_of, IsRising-without, item_at-with_item_other, item_at-without_other, length-without}
 
 pub and_left : (a b : Bool) → (a && b) ≡ true → a ≡ true
 and_left true b h = refl

@@ -1,5 +1,5 @@
 -- Lists of items in rising order of their keys, one item a key: a table by key, as plain data.
-use Rattle.std.specs.Prelude.{ℕ, Bool, true, IsTrue, if◌then◌else◌, List, [], ◌∷◌, Option, Some, None, is_some}
+use Rattle.std.specs.Prelude.{ℕ, Bool, IsTrue, if◌then◌else◌, List, [], ◌∷◌, Option, Some, None, is_some}
 use Rattle.std.specs.List.{prefix_len}
 use Rattle.blk_ptr.specs.declared.key.Key.{Key}
 use Rattle.blk_ptr.specs.Order.{key_eq, key_lt}

@@ -1,12 +1,12 @@
 -- What the vectors of the lists keep.
-use Rattle.std.specs.Prelude.{◌≡◌, ℕ, ◌+◌, ◌≤◌, vec_len, vec_capacity}
+use Rattle.std.specs.Prelude.{◌≡◌, ◌+◌, ◌≤◌, vec_len, vec_capacity}
 use Rattle.std.specs.List.{AllByRecursion}
 use Rattle.blk_ptr.specs.Size.{largest_block}
 use Rattle.blk_ptr.specs.declared.state.State.{State}
 use Rattle.arc_lists.specs.declared.lists.Lists.TheInside.{Inside}
 use Rattle.arc_lists.specs.ByKey.{IsRising}
 use Rattle.arc_lists.specs.PlainLists.{PlainLists, member_key, size_of}
-use Rattle.arc_lists.specs.Queues.{AreSequencesOf, HaveCapacity, sequences_in, size_at}
+use Rattle.arc_lists.specs.Queues.{AreInState, AreSequencesOf, HaveCapacity, sequences_in, size_at}
 
 -- the plain lists that the vectors hold
 abbrev pub plain : Inside → PlainLists
@@ -23,3 +23,5 @@ pub record IsKept (l : Inside) : Type 0 where
   pub queues : HaveCapacity (vec_len l.members + l.spare) l.queues
   -- the sequences name members alone, each once
   pub listed : AreSequencesOf l.members.items (sequences_in l.queues)
+  -- and each member on the sequence of its own state alone
+  pub stated : AreInState l.members.items (sequences_in l.queues)

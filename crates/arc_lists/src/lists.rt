@@ -110,7 +110,7 @@ impl Lists {
     {
         let s = table::remove(&mut self.members, key);
         self.sizes.take(s, key.size);
-        self.queues.take_off(key);
+        self.queues.take_off(s, key);
         self.spare += 1;
     }
 
@@ -128,7 +128,8 @@ impl Lists {
         requires { IsTrue (stands key self.old.sequences) }
         ensures { self.new ≡ record self.old { sequences = taken_off key self.old.sequences } }
     {
-        self.queues.take_off(key);
+        let s = table::state_of(&self.members, key);
+        self.queues.take_off(s, key);
     }
 
     /// The size of a state in bytes: the sum of the sizes of all its keys, those on no sequence included.

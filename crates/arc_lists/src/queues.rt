@@ -60,7 +60,7 @@ pub fn oldest<F: Fn(Key) -> bool>(sequence: &[Key], skip: &F) -> Option<Key>
 }
 
 impl Queues {
-    ghost use Rattle.arc_lists.specs.Queues.{sequences_in, HaveCapacity, HaveRoom};
+    ghost use Rattle.arc_lists.specs.Queues.{sequences_in, HaveCapacity, HaveRoom, IsOnlyOn};
     ghost use Rattle.arc_lists.specs.Sequences.{no_keys, put_at_head, taken_off};
 
     pub fn new(alloc: Global) -> Queues
@@ -101,14 +101,18 @@ impl Queues {
         }
     }
 
-    /// Takes a key off the sequence on which it stands.
-    pub fn take_off(&mut self, key: Key)
+    /// Takes a key off the sequence of its state, the only one on which it may stand.
+    pub fn take_off(&mut self, state: State, key: Key)
+        requires { IsOnlyOn state key (sequences_in self.old) }
         ensures items { sequences_in self.new ≡ taken_off key (sequences_in self.old) }
         ensures kept { (m : ℕ) → HaveCapacity m self.old → HaveCapacity m self.new }
     {
-        remove(&mut self.mru, key);
-        remove(&mut self.mru_ghost, key);
-        remove(&mut self.mfu, key);
-        remove(&mut self.mfu_ghost, key);
+        match state {
+            State::Mru => remove(&mut self.mru, key),
+            State::MruGhost => remove(&mut self.mru_ghost, key),
+            State::Mfu => remove(&mut self.mfu, key),
+            State::MfuGhost => remove(&mut self.mfu_ghost, key),
+            State::Anon | State::L2Only => {}
+        }
     }
 }

@@ -1,4 +1,4 @@
-use Rattle.std.proofs.Common.{◌≡◌, ◌≤◌, IsTrue, refl, sym, ap, subst, ◌∙◌, arith}
+use Rattle.std.proofs.Common.{◌≤◌, IsTrue, refl, sym, ap, subst, ◌∙◌, arith}
 use Rattle.arc_core.specs.declared.event.Event.TheVariants.{Miss}
 use Rattle.arc_core.specs.Changes.{with_none_passed}
 use Rattle.arc_core.specs.Step.{after, legal}

@@ -1,6 +1,5 @@
-use Rattle.std.proofs.Common.{◌≡◌, ◌≤◌, IsTrue, refl, sym, ap, subst, ◌∙◌, arith}
+use Rattle.std.proofs.Common.{◌≤◌, IsTrue, refl, sym, ap, subst, arith}
 use Rattle.arc_core.specs.declared.event.Event.TheVariants.{Past}
-use Rattle.arc_core.specs.Changes.{with_none_passed}
 use Rattle.arc_core.specs.Step.{after, legal}
 use Rattle.arc_core.specs.Sound.{IsTidy}
 use Rattle.arc_core.proofs.Frames.{SameFrame}

@@ -1,6 +1,5 @@
 use Rattle.std.proofs.Common.{◌≡◌, ◌<◌, ◌≤◌, Some, sym, ap, subst, map, ◌∙◌}
 use Rattle.arc_lists.specs.PlainLists.{size_of}
-use Rattle.blk_ptr.specs.declared.state.State.TheVariants.{MruGhost, MfuGhost}
 use Rattle.arc_core.specs.PlainShard.{entry_of, member_of}
 use Rattle.arc_core.specs.TableModel.{shard_in}
 use Rattle.arc_core.proofs.Evictions.{entry-le, found, sized}

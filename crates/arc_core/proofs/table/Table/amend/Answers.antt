@@ -1,5 +1,5 @@
-use Rattle.std.proofs.Common.{◌≡◌, IsSomeAnd, sym, subst, ◌∙◌, arith, refl}
-use Rattle.arc_core.specs.PlainShard.{entry_of, member_of}
+use Rattle.std.proofs.Common.{sym, subst, ◌∙◌, arith, refl}
+use Rattle.arc_core.specs.PlainShard.{entry_of}
 use Rattle.arc_core.specs.Edits.{HasAlike, amended}
 use Rattle.arc_core.specs.TableModel.{shard_in}
 use Rattle.arc_core.proofs.Tables.{IsTidy-same, belongs_on-alike, members-amended, some_and}

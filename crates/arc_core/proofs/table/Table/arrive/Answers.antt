@@ -1,6 +1,6 @@
-use Rattle.std.proofs.Common.{Some, false, IsSome, sym, ap, subst, ◌∙◌}
+use Rattle.std.proofs.Common.{Some, false, sym, ap, subst, ◌∙◌}
 use Rattle.blk_ptr.specs.declared.state.State.{State}
-use Rattle.arc_core.specs.PlainShard.{PlainShard, entry_of}
+use Rattle.arc_core.specs.PlainShard.{PlainShard}
 use Rattle.arc_core.specs.Edits.{placed}
 use Rattle.arc_core.specs.Sound.{IsSoundEntry}
 use Rattle.arc_core.specs.declared.entry.Entry.{Entry}

@@ -1,4 +1,4 @@
-use Rattle.std.proofs.Common.{◌≡◌, true, is_some, sym, ap, ◌∙◌}
+use Rattle.std.proofs.Common.{sym, ap, ◌∙◌}
 use Rattle.arc_core.specs.Edits.{is_droppable}
 use Rattle.arc_core.proofs.Evictions.{IsSoundEntry-l2_only, dropped-placed, found, passes}
 use Rattle.arc_core.proofs.table.Table.drop_ghost.Goals as goal

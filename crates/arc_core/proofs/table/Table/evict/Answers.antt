@@ -1,4 +1,4 @@
-use Rattle.std.proofs.Common.{true, sym, ap, ◌∙◌}
+use Rattle.std.proofs.Common.{sym, ap, ◌∙◌}
 use Rattle.arc_lists.proofs.Standing.{and_left}
 use Rattle.arc_core.specs.PlainShard.{PlainShard, is_unheld}
 use Rattle.arc_core.specs.Edits.{is_evictable}

@@ -1,7 +1,6 @@
-use Rattle.std.proofs.Common.{◌≡◌, ◌+◌, ◌<◌, ◌^◌, IsSome, sym, ap, subst, ◌∙◌}
-use Rattle.arc_core.specs.declared.event.Event.TheVariants.{Hit}
+use Rattle.std.proofs.Common.{◌+◌, ◌<◌, ◌^◌, IsSome, sym, ap, subst, ◌∙◌}
 use Rattle.arc_core.specs.declared.entry.Entry.{Entry}
-use Rattle.arc_core.specs.PlainShard.{PlainShard, entry_of, held_by, is_number}
+use Rattle.arc_core.specs.PlainShard.{PlainShard, entry_of, held_by}
 use Rattle.arc_core.specs.Changes.{one_more}
 use Rattle.arc_core.specs.Edits.{placed}
 use Rattle.arc_core.specs.Rules.{accessed}

@@ -1,4 +1,4 @@
-use Rattle.std.proofs.Common.{◌≡◌, ◌<◌, ◌+◌, ◌-◌, length, sym, ap, ◌∙◌, arith}
+use Rattle.std.proofs.Common.{◌<◌, ◌+◌, ◌-◌, length, sym, ap, ◌∙◌, arith}
 use Rattle.arc_core.specs.Rules.{evicting}
 use Rattle.arc_core.proofs.Evictions.{evicting-more, next_evicted-is}
 use Rattle.arc_core.proofs.table.Table.make_room.Goals as goal

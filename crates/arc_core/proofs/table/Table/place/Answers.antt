@@ -1,9 +1,5 @@
-use Rattle.std.proofs.Common.{◌≡◌, ◌<◌, IsSome, length, Some, None, refl, sym, ap, subst, ◌∙◌, arith, map}
-use Rattle.std.specs.Option.{is_some}
-use Rattle.arc_lists.specs.ByKey.{IsRising}
-use Rattle.arc_lists.specs.PlainLists.{member_key}
-use Rattle.arc_lists.proofs.Tables.{is_some_of}
-use Rattle.arc_core.specs.PlainShard.{entry_key, entry_of, member_of}
+use Rattle.std.proofs.Common.{IsSome, refl, sym, ap, subst, ◌∙◌, arith, map}
+use Rattle.arc_core.specs.PlainShard.{entry_of, member_of}
 use Rattle.arc_core.specs.Edits.{placed}
 use Rattle.arc_core.specs.TableModel.{shard_in}
 use Rattle.arc_core.proofs.Tables.{absent-taken, has_key-members, IsTidy-same, members-placed, members-rising}

@@ -1,5 +1,4 @@
-use Rattle.std.proofs.Common.{◌≡◌, ◌<◌, IsSome, length, Some, None, refl, sym, ap, subst, ◌∙◌, arith, map}
-use Rattle.std.specs.Option.{is_some}
+use Rattle.std.proofs.Common.{IsSome, length, refl, sym, ap, subst, ◌∙◌, arith}
 use Rattle.arc_lists.specs.PlainLists.{member_key}
 use Rattle.arc_lists.proofs.Tables.{is_some_of, length-without, map-without}
 use Rattle.arc_core.specs.PlainShard.{entry_key, entry_of, member_of}

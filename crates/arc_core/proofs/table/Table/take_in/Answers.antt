@@ -1,6 +1,5 @@
-use Rattle.std.proofs.Common.{◌≡◌, None, sym, ap, subst, ◌∙◌}
-use Rattle.arc_core.specs.PlainShard.{PlainShard, entry_of}
-use Rattle.arc_core.specs.Changes.{come, gone}
+use Rattle.std.proofs.Common.{ap, ◌∙◌}
+use Rattle.arc_core.specs.Changes.{come}
 use Rattle.arc_core.specs.Rules.{trimmed, with_room}
 use Rattle.arc_core.proofs.Evictions.{absent-evicting}
 use Rattle.arc_core.proofs.table.Table.take_in.Goals as goal

@@ -1,4 +1,4 @@
-use Rattle.std.proofs.Common.{◌≡◌, None, sym, ap, ◌∙◌}
+use Rattle.std.proofs.Common.{sym, ap, ◌∙◌}
 use Rattle.arc_core.specs.PlainShard.{entry_of}
 use Rattle.arc_core.proofs.Evictions.{absent-gone, gone-absent, is_none_of}
 use Rattle.arc_core.proofs.table.Table.take_out.Goals as goal

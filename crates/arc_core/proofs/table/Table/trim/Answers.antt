@@ -1,4 +1,4 @@
-use Rattle.std.proofs.Common.{◌≡◌, ◌<◌, ◌+◌, ◌-◌, length, sym, ap, ◌∙◌, arith}
+use Rattle.std.proofs.Common.{◌<◌, ◌+◌, ◌-◌, length, sym, ap, ◌∙◌, arith}
 use Rattle.arc_core.specs.Rules.{trimming}
 use Rattle.arc_core.proofs.Evictions.{next_dropped-is, trimming-more}
 use Rattle.arc_core.proofs.table.Table.trim.Goals as goal

@@ -1,8 +1,9 @@
-use Rattle.std.proofs.Common.{◌≡◌, false, is_some, IsTrue, refl, sym, ap, subst, arith}
+use Rattle.std.proofs.Common.{◌≡◌, false, IsTrue, refl, sym, subst, arith}
 use Rattle.arc_lists.specs.ByKey.{has_key}
 use Rattle.arc_lists.specs.PlainLists.{member_key}
-use Rattle.arc_lists.specs.Queues.{AreSequencesOf, sequences_in}
+use Rattle.arc_lists.specs.Queues.{AreInState, AreSequencesOf, sequences_in}
 use Rattle.arc_lists.specs.Sequences.{stands}
+use Rattle.arc_lists.proofs.InState.{AreInState-head}
 use Rattle.arc_lists.proofs.Standing.{AreSequencesOf-head, HaveRoom-free, off_each}
 use Rattle.arc_lists.proofs.lists.Lists.free.Goals as goal
 
@@ -26,4 +27,6 @@ invariant_of-self c =
       queues = c.put_at_head.ensures.kept _ kept.queues;
       listed = subst (AreSequencesOf c.self.inside.members.items) (sym c.put_at_head.ensures.items)
           (AreSequencesOf-head c.state_of-s.result _ c.args.key _ there (off_each _ _ off) kept.listed);
+      stated = subst (AreInState c.self.inside.members.items) (sym c.put_at_head.ensures.items)
+          (AreInState-head c.state_of-s.result c.self.inside.members.items c.args.key (sequences_in c.self.inside.queues) c.state_of-s.ensures kept.stated);
     }

@@ -1,5 +1,5 @@
 use Rattle.std.proofs.Common.{sym, subst}
-use Rattle.arc_lists.specs.Queues.{AreSequencesOf}
+use Rattle.arc_lists.specs.Queues.{AreInState, AreSequencesOf}
 use Rattle.arc_lists.proofs.lists.Lists.reserve.Goals as goal
 
 -- the members didn't get their room, and the sequences have more than they need
@@ -13,4 +13,5 @@ invariant_of-self c =
       room = kept.room;
       queues = c.reserve_all.ensures.kept _ kept.queues;
       listed = subst (AreSequencesOf c.self.inside.members.items) (sym c.reserve_all.ensures.items) kept.listed;
+      stated = subst (AreInState c.self.inside.members.items) (sym c.reserve_all.ensures.items) kept.stated;
     }
