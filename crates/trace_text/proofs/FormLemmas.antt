@@ -12,63 +12,40 @@ use Rattle.trace_text.specs.declared.words.Line.{Line}
 use Rattle.trace_text.specs.declared.words.Line.TheVariants.{Sizes, Declared, Operation}
 use Rattle.trace_text.specs.declared.words.Seen.{Seen}
 use Rattle.trace_text.specs.declared.words.Word.{Word}
-use Rattle.trace_text.specs.Grammar.{AreSizes, IsDeclarable, IsInOrder, IsOperation, Spell, text_of}
+use Rattle.trace_text.specs.declared.words.Word.TheVariants as words
+use Rattle.trace_text.specs.Grammar.{AreSizes, IsDeclarable, IsInOrder, IsOperation, Spell, fields_after, text_of}
 use Rattle.trace_text.specs.Reading.{IsFormRead}
-
--- the fields that come after the words of lines
-abbrev pub sizes_fields : Config → List (List ℕ)
-sizes_fields z = decimal z.callers ∷ decimal z.shards ∷ decimal z.buckets ∷ decimal z.cells ∷ decimal z.c ∷ decimal z.mintime ∷ decimal z.dbuf_bytes ∷ []
-
-abbrev pub declared_fields : Ptr → List (List ℕ)
-declared_fields p = decimal p.key.offset ∷ decimal p.key.size ∷ decimal p.key.birth ∷ encode_lower p.digest.0 ∷ []
-
--- the first letter of the first field
-abbrev pub letter : List (List ℕ) → ℕ
-letter [] = 0
-letter ([] ∷ fields) = 0
-letter ((b ∷ word) ∷ fields) = b
+use Rattle.trace_text.proofs.WordLemmas.{line-of}
 
 -- a line that begins with this word is of this form
-pub spell-arc : (callers : ℕ) (fields : List (List ℕ)) (line : Line) → Spell callers (codes "arc" ∷ fields) line
-    → (z : Config) × (line ≡ Sizes z) × (fields ≡ sizes_fields z) × AreSizes z
-spell-arc callers fields (Sizes z) s = let e = s.spelled in (z, refl, cc, s.ranged)
-spell-arc callers fields (Declared p) s = let e = s.spelled in absurd (omega (arith, ap letter e))
-spell-arc callers fields (Operation (ops.Read n t x w)) s = let e = s.spelled in absurd (omega (arith, ap letter e))
-spell-arc callers fields (Operation (ops.Hold n t x)) s = let e = s.spelled in absurd (omega (arith, ap letter e))
-spell-arc callers fields (Operation (ops.Drop n x)) s = let e = s.spelled in absurd (omega (arith, ap letter e))
+pub spell-arc : (callers : ℕ) (fields : List (List ℕ)) (line : Line) → Spell callers (text_of words.Arc ∷ fields) line
+    → (z : Config) × (line ≡ Sizes z) × (fields ≡ fields_after (Sizes z)) × AreSizes z
+spell-arc callers fields line s =
+    let l = line-of callers words.Arc fields line s in (l.form.0, l.form.1, rw l.form.1 at l.after, rw l.form.1 at l.ranged)
 
-pub spell-block : (callers : ℕ) (fields : List (List ℕ)) (line : Line) → Spell callers (codes "block" ∷ fields) line
-    → (p : Ptr) × (line ≡ Declared p) × (fields ≡ declared_fields p) × IsDeclarable p
-spell-block callers fields (Declared p) s = let e = s.spelled in (p, refl, cc, s.ranged)
-spell-block callers fields (Sizes z) s = let e = s.spelled in absurd (omega (arith, ap letter e))
-spell-block callers fields (Operation (ops.Read n t x w)) s = let e = s.spelled in absurd (omega (arith, ap letter e))
-spell-block callers fields (Operation (ops.Hold n t x)) s = let e = s.spelled in absurd (omega (arith, ap letter e))
-spell-block callers fields (Operation (ops.Drop n x)) s = let e = s.spelled in absurd (omega (arith, ap letter e))
+pub spell-block : (callers : ℕ) (fields : List (List ℕ)) (line : Line) → Spell callers (text_of words.Block ∷ fields) line
+    → (p : Ptr) × (line ≡ Declared p) × (fields ≡ fields_after (Declared p)) × IsDeclarable p
+spell-block callers fields line s =
+    let l = line-of callers words.Block fields line s in (l.form.0, l.form.1, rw l.form.1 at l.after, rw l.form.1 at l.ranged)
 
-pub spell-read : (callers : ℕ) (fields : List (List ℕ)) (line : Line) → Spell callers (codes "read" ∷ fields) line
+pub spell-read : (callers : ℕ) (fields : List (List ℕ)) (line : Line) → Spell callers (text_of words.Read ∷ fields) line
     → (n t x : ℕ) × (w : Window) × (line ≡ Operation (ops.Read n t x w))
     × (fields ≡ decimal n ∷ decimal t ∷ decimal x ∷ decimal w.at ∷ decimal w.len ∷ []) × IsOperation callers (ops.Read n t x w)
-spell-read callers fields (Operation (ops.Read n t x w)) s = let e = s.spelled in (n, t, x, w, refl, cc, s.ranged)
-spell-read callers fields (Sizes z) s = let e = s.spelled in absurd (omega (arith, ap letter e))
-spell-read callers fields (Declared p) s = let e = s.spelled in absurd (omega (arith, ap letter e))
-spell-read callers fields (Operation (ops.Hold n t x)) s = let e = s.spelled in absurd (omega (arith, ap letter e))
-spell-read callers fields (Operation (ops.Drop n x)) s = let e = s.spelled in absurd (omega (arith, ap letter e))
+spell-read callers fields line s =
+    let l = line-of callers words.Read fields line s in
+    (l.form.0, l.form.1, l.form.2, l.form.3, l.form.4, rw l.form.4 at l.after, rw l.form.4 at l.ranged)
 
-pub spell-hold : (callers : ℕ) (fields : List (List ℕ)) (line : Line) → Spell callers (codes "hold" ∷ fields) line
+pub spell-hold : (callers : ℕ) (fields : List (List ℕ)) (line : Line) → Spell callers (text_of words.Hold ∷ fields) line
     → (n t x : ℕ) × (line ≡ Operation (ops.Hold n t x)) × (fields ≡ decimal n ∷ decimal t ∷ decimal x ∷ []) × IsOperation callers (ops.Hold n t x)
-spell-hold callers fields (Operation (ops.Hold n t x)) s = let e = s.spelled in (n, t, x, refl, cc, s.ranged)
-spell-hold callers fields (Sizes z) s = let e = s.spelled in absurd (omega (arith, ap letter e))
-spell-hold callers fields (Declared p) s = let e = s.spelled in absurd (omega (arith, ap letter e))
-spell-hold callers fields (Operation (ops.Read n t x w)) s = let e = s.spelled in absurd (omega (arith, ap letter e))
-spell-hold callers fields (Operation (ops.Drop n x)) s = let e = s.spelled in absurd (omega (arith, ap letter e))
+spell-hold callers fields line s =
+    let l = line-of callers words.Hold fields line s in
+    (l.form.0, l.form.1, l.form.2, l.form.3, rw l.form.3 at l.after, rw l.form.3 at l.ranged)
 
-pub spell-drop : (callers : ℕ) (fields : List (List ℕ)) (line : Line) → Spell callers (codes "drop" ∷ fields) line
+pub spell-drop : (callers : ℕ) (fields : List (List ℕ)) (line : Line) → Spell callers (text_of words.Drop ∷ fields) line
     → (n x : ℕ) × (line ≡ Operation (ops.Drop n x)) × (fields ≡ decimal n ∷ decimal x ∷ []) × IsOperation callers (ops.Drop n x)
-spell-drop callers fields (Operation (ops.Drop n x)) s = let e = s.spelled in (n, x, refl, cc, s.ranged)
-spell-drop callers fields (Sizes z) s = let e = s.spelled in absurd (omega (arith, ap letter e))
-spell-drop callers fields (Declared p) s = let e = s.spelled in absurd (omega (arith, ap letter e))
-spell-drop callers fields (Operation (ops.Read n t x w)) s = let e = s.spelled in absurd (omega (arith, ap letter e))
-spell-drop callers fields (Operation (ops.Hold n t x)) s = let e = s.spelled in absurd (omega (arith, ap letter e))
+spell-drop callers fields line s =
+    let l = line-of callers words.Drop fields line s in
+    (l.form.0, l.form.1, l.form.2, rw l.form.2 at l.after, rw l.form.2 at l.ranged)
 
 -- what comes after the first field
 pub next-fields : {fields rest others : List (List ℕ)} {a b : List ℕ} → fields ≡ a ∷ rest → fields ≡ b ∷ others → rest ≡ others
@@ -92,35 +69,35 @@ no-fields (field ∷ fields) h = absurd (omega arith)
 -- the line of fields that were taken one after the other
 pub read-spelled : (callers : ℕ) (f0 f1 f2 f3 f4 f5 : List (List ℕ)) (n t x a l : ℕ) (w : Window) → w.at ≡ a → w.len ≡ l → length f0 ≡ 5
     → f0 ≡ decimal n ∷ f1 → f1 ≡ decimal t ∷ f2 → f2 ≡ decimal x ∷ f3 → f3 ≡ decimal a ∷ f4 → f4 ≡ decimal l ∷ f5
-    → IsOperation callers (ops.Read n t x w) → Spell callers (codes "read" ∷ f0) (Operation (ops.Read n t x w))
+    → IsOperation callers (ops.Read n t x w) → Spell callers (text_of words.Read ∷ f0) (Operation (ops.Read n t x w))
 read-spelled callers f0 f1 f2 f3 f4 f5 n t x a l w wa wl five e0 e1 e2 e3 e4 ranged =
     let left = no-fields f5 (omega (arith, ap length e0, ap length e1, ap length e2, ap length e3, ap length e4)) in
     let all : f0 ≡ decimal n ∷ decimal t ∷ decimal x ∷ decimal w.at ∷ decimal w.len ∷ [] =
     e0 ∙ ap (λ f. decimal n ∷ f) (e1 ∙ ap (λ f. decimal t ∷ f) (e2 ∙ ap (λ f. decimal x ∷ f) (e3 ∙ rw (wa, wl) (ap (λ f. decimal a ∷ f) (e4 ∙ ap (λ f. decimal l ∷ f) left))))) in
-    record { spelled = ap (λ f. codes "read" ∷ f) all; ranged = ranged }
+    record { spelled = ap (λ f. text_of words.Read ∷ f) all; ranged = ranged }
 
 pub hold-spelled : (callers : ℕ) (f0 f1 f2 f3 : List (List ℕ)) (n t x : ℕ) → length f0 ≡ 3
     → f0 ≡ decimal n ∷ f1 → f1 ≡ decimal t ∷ f2 → f2 ≡ decimal x ∷ f3
-    → IsOperation callers (ops.Hold n t x) → Spell callers (codes "hold" ∷ f0) (Operation (ops.Hold n t x))
+    → IsOperation callers (ops.Hold n t x) → Spell callers (text_of words.Hold ∷ f0) (Operation (ops.Hold n t x))
 hold-spelled callers f0 f1 f2 f3 n t x three e0 e1 e2 ranged =
     let left = no-fields f3 (omega (arith, ap length e0, ap length e1, ap length e2)) in
     let all : f0 ≡ decimal n ∷ decimal t ∷ decimal x ∷ [] =
     e0 ∙ ap (λ f. decimal n ∷ f) (e1 ∙ ap (λ f. decimal t ∷ f) (e2 ∙ ap (λ f. decimal x ∷ f) left)) in
-    record { spelled = ap (λ f. codes "hold" ∷ f) all; ranged = ranged }
+    record { spelled = ap (λ f. text_of words.Hold ∷ f) all; ranged = ranged }
 
 pub drop-spelled : (callers : ℕ) (f0 f1 f2 : List (List ℕ)) (n x : ℕ) → length f0 ≡ 2
     → f0 ≡ decimal n ∷ f1 → f1 ≡ decimal x ∷ f2
-    → IsOperation callers (ops.Drop n x) → Spell callers (codes "drop" ∷ f0) (Operation (ops.Drop n x))
+    → IsOperation callers (ops.Drop n x) → Spell callers (text_of words.Drop ∷ f0) (Operation (ops.Drop n x))
 drop-spelled callers f0 f1 f2 n x two e0 e1 ranged =
     let left = no-fields f2 (omega (arith, ap length e0, ap length e1)) in
     let all : f0 ≡ decimal n ∷ decimal x ∷ [] = e0 ∙ ap (λ f. decimal n ∷ f) (e1 ∙ ap (λ f. decimal x ∷ f) left) in
-    record { spelled = ap (λ f. codes "drop" ∷ f) all; ranged = ranged }
+    record { spelled = ap (λ f. text_of words.Drop ∷ f) all; ranged = ranged }
 
 pub block-spelled : (callers : ℕ) (f0 f1 f2 f3 f4 : List (List ℕ)) (p : Ptr) → length f0 ≡ 4
     → f0 ≡ decimal p.key.offset ∷ f1 → f1 ≡ decimal p.key.size ∷ f2 → f2 ≡ decimal p.key.birth ∷ f3 → f3 ≡ encode_lower p.digest.0 ∷ f4
-    → IsDeclarable p → Spell callers (codes "block" ∷ f0) (Declared p)
+    → IsDeclarable p → Spell callers (text_of words.Block ∷ f0) (Declared p)
 block-spelled callers f0 f1 f2 f3 f4 p four e0 e1 e2 e3 ranged =
     let left = no-fields f4 (omega (arith, ap length e0, ap length e1, ap length e2, ap length e3)) in
-    let all : f0 ≡ declared_fields p =
+    let all : f0 ≡ fields_after (Declared p) =
     e0 ∙ ap (λ f. decimal p.key.offset ∷ f) (e1 ∙ ap (λ f. decimal p.key.size ∷ f) (e2 ∙ ap (λ f. decimal p.key.birth ∷ f) (e3 ∙ ap (λ f. encode_lower p.digest.0 ∷ f) left))) in
-    record { spelled = ap (λ f. codes "block" ∷ f) all; ranged = ranged }
+    record { spelled = ap (λ f. text_of words.Block ∷ f) all; ranged = ranged }

@@ -13,9 +13,8 @@ use Rattle.trace_text.specs.declared.words.Line.{Line}
 use Rattle.trace_text.specs.declared.words.Line.TheVariants.{Sizes, Declared, Operation}
 use Rattle.trace_text.specs.declared.words.Word.{Word}
 use Rattle.trace_text.specs.declared.words.Word.TheVariants as words
-use Rattle.trace_text.proofs.FormLemmas.{letter}
-use Rattle.trace_text.proofs.LawLemmas.{letter-begins}
-use Rattle.trace_text.specs.Grammar.{Add, AddAll, Adds, AreSizes, BeginsWith, Content, HasRoom, IsDeclarable, IsFormed, IsInOrder, IsOperation, IsTraceText, Say, block_of, callers_of, content_of, counted_fields, fields_of, is_passed_over, lines_in, lines_of, nothing, spelling, text_of, with_line}
+use Rattle.trace_text.proofs.WordLemmas.{begins-word}
+use Rattle.trace_text.specs.Grammar.{Add, AddAll, Adds, AreSizes, BeginsWith, Content, HasRoom, IsDeclarable, IsFormed, IsInOrder, IsOperation, IsTraceText, Say, block_of, callers_of, content_of, counted_fields, fields_of, is_passed_over, lines_in, lines_of, nothing, spelling, with_line, word_of}
 
 -- an operation that is possible where there are so many callers and blocks
 abbrev Possible : ℕ → ℕ → Op → Type 0
@@ -45,35 +44,19 @@ Sound-nothing = record {
 no-ops : (P : Op → Type 0) (operations : List Op) → length operations ≡ 0 → All P operations
 no-ops P operations h = λ k d lt. absurd (omega arith)
 
--- a line with this word
-starts : (config : Option Config) (fields : List (List ℕ)) (l : Line) (said : Say config fields l) → letter (spelling l) ≡ letter (text_of said.word ∷ [])
-starts config fields l said = ap letter (sym said.spelled.spelled) ∙ letter-begins config fields said.word said.begins
-
--- a word that does not begin the `arc` line stands after one
-not-arc : (config : Option Config) (word : Word) (n : ℕ) → n ≡ letter (text_of word ∷ []) → 97 < n → ((word ≡ words.Arc) ↔ IsNone config) → IsNone config → ⊥
-not-arc config word n e other begins none =
-    let arc = begins.1 none in
-    let first = e ∙ ap (λ w. letter (text_of w ∷ [])) arc in
-    omega arith
-
 may-begin : (config : Option Config) (fields : List (List ℕ)) (word : Word) → BeginsWith config fields word → (word ≡ words.Arc) ↔ IsNone config
 may-begin config [] word h = absurd h
 may-begin config (first ∷ fields) word h = h.1
 
-not-none : (config : Option Config) (fields : List (List ℕ)) (l : Line) (said : Say config fields l) → 97 < letter (spelling l) → IsNone config → ⊥
-not-none config fields l said other =
-    not-arc config said.word (letter (spelling l)) (starts config fields l said) other (may-begin config fields said.word said.begins)
+-- a line with another word stands after an `arc` line
+not-none : (config : Option Config) (fields : List (List ℕ)) (l : Line) (said : Say config fields l) → (word_of l ≡ words.Arc → ⊥) → IsNone config → ⊥
+not-none config fields l said other none =
+    other (begins-word config fields said.word l said.begins said.spelled.spelled ∙ (may-begin config fields said.word said.begins).1 none)
 
 -- the `arc` line stands where there are no sizes yet
 is-none : (config : Option Config) (fields : List (List ℕ)) (z : Config) (said : Say config fields (Sizes z)) → IsNone config
-is-none config fields z said = by said.word (starts config fields (Sizes z) said) (may-begin config fields said.word said.begins)
-  where
-    by : (word : Word) → 97 ≡ letter (text_of word ∷ []) → ((word ≡ words.Arc) ↔ IsNone config) → IsNone config
-    by words.Arc e h = h.0 refl
-    by words.Block e h = absurd (omega arith)
-    by words.Read e h = absurd (omega arith)
-    by words.Hold e h = absurd (omega arith)
-    by words.Drop e h = absurd (omega arith)
+is-none config fields z said =
+    (may-begin config fields said.word said.begins).0 (sym (begins-word config fields said.word (Sizes z) said.begins said.spelled.spelled))
 
 -- one more line
 Sound-line : (before : Content) (fields : List (List ℕ)) (l : Line) → Sound before → Say before.config fields l
@@ -92,7 +75,7 @@ Sound-line before fields (Sizes z) s said ordered room =
 Sound-line before fields (Declared p) s said ordered room =
     let more = length-append before.blocks (p ∷ []) in
     record {
-      no_blocks = λ none. absurd (not-none before.config fields (Declared p) said (omega arith) none);
+      no_blocks = λ none. absurd (not-none before.config fields (Declared p) said (λ e. cc) none);
       no_ops = s.no_ops;
       config = s.config;
       blocks = All-push IsDeclarable before.blocks p s.blocks said.spelled.ranged;
@@ -112,10 +95,10 @@ Sound-line before fields (Operation op) s said ordered room =
       few_ops = omega arith;
     }
   where
-    later : (op : Op) → 97 < letter (spelling (Operation op))
-    later (ops.Read n t x w) = omega arith
-    later (ops.Hold n t x) = omega arith
-    later (ops.Drop n x) = omega arith
+    later : (op : Op) → word_of (Operation op) ≡ words.Arc → ⊥
+    later (ops.Read n t x w) e = cc
+    later (ops.Hold n t x) e = cc
+    later (ops.Drop n x) e = cc
 
 Sound-adds : (before after : Content) (line : List ℕ) → Sound before → Adds before line after → Sound after
 Sound-adds before after line s a = by (is_passed_over line) a

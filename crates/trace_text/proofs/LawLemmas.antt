@@ -13,19 +13,18 @@ use Rattle.trace_text.specs.declared.trace.Trace.{Trace}
 use Rattle.trace_text.specs.declared.words.Line.{Line}
 use Rattle.trace_text.specs.declared.words.Line.TheVariants.{Sizes, Declared, Operation}
 use Rattle.trace_text.specs.declared.words.Word.{Word}
-use Rattle.trace_text.specs.declared.words.Word.TheVariants as words
-use Rattle.trace_text.proofs.FormLemmas.{letter}
+use Rattle.trace_text.proofs.WordLemmas.{begins-word, word-one}
 use Rattle.trace_text.proofs.SameLemmas.{spelling-injective}
-use Rattle.trace_text.specs.Grammar.{Add, AddAll, Adds, BeginsWith, Content, HasFault, HasRoom, HasShape, IsFaulty, IsFirstFault, IsInOrder, IsInRange, IsMisplaced, IsMisspelled, IsTraceText, Say, SaysNothing, callers_of, content_of, fields_of, is_passed_over, lines_of, nothing, spelling, text_of, with_line}
+use Rattle.trace_text.specs.Grammar.{Add, AddAll, Adds, BeginsWith, Content, HasFault, HasRoom, HasShape, IsFaulty, IsFirstFault, IsInOrder, IsInRange, IsMisplaced, IsMisspelled, IsTraceText, Say, SaysNothing, callers_of, content_of, fields_of, is_passed_over, lines_of, nothing, spelling, with_line, word_of}
 
 -- ---- what is said is determined
 
 -- the number of callers is small
 abbrev pub FewCallers : Content → Type 0
-FewCallers said = callers_of said.config ≤ 1
+FewCallers said = callers_of said.config ≤ 16
 
 -- the fields are one line
-pub Say-one : (config : Option Config) → callers_of config ≤ 1 → (fields : List (List ℕ)) (l m : Line) → Say config fields l → Say config fields m → l ≡ m
+pub Say-one : (config : Option Config) → callers_of config ≤ 16 → (fields : List (List ℕ)) (l m : Line) → Say config fields l → Say config fields m → l ≡ m
 Say-one config few fields l m a b =
     spelling-injective (callers_of config) (omega arith) l m a.spelled.ranged b.spelled.ranged (sym a.spelled.spelled ∙ b.spelled.spelled)
 
@@ -42,7 +41,7 @@ Adds-one before few line x y a b = by (is_passed_over line) a b
     by false a b = Add-one before few (fields_of line) x y a b
 
 with_line-few : (before : Content) (l : Line) → FewCallers before → IsInRange (callers_of before.config) l → FewCallers (with_line before l)
-with_line-few before (Sizes z) few ranged = ranged.one_caller
+with_line-few before (Sizes z) few ranged = ranged.ranged.counts.callers.1
 with_line-few before (Declared p) few ranged = few
 with_line-few before (Operation op) few ranged = few
 
@@ -68,44 +67,20 @@ AddAll-one before few (line ∷ lines) x y a b =
 
 -- ---- a line that is added has no fault
 
-pub letter-begins : (config : Option Config) (fields : List (List ℕ)) (word : Word) → BeginsWith config fields word → letter fields ≡ letter (text_of word ∷ [])
-letter-begins config [] word h = absurd h
-letter-begins config ([] ∷ fields) word h = ap (λ w. letter (w ∷ [])) h.0
-letter-begins config ((b ∷ first) ∷ fields) word h = ap (λ w. letter (w ∷ [])) h.0
-
-spelling-shape : (callers : ℕ) → callers ≤ 1 → (l : Line) (word : Word) → letter (spelling l) ≡ letter (text_of word ∷ []) → IsInRange callers l → HasShape word (spelling l)
-spelling-shape callers few (Sizes z) words.Arc e r = (refl, (decimal_nonempty z.callers (omega (arith, r.one_caller)), (decimal_nonempty z.shards (omega (arith, r.one_shard)), (decimal_nonempty z.buckets (omega (arith, r.ranged.counts.buckets.1)), (decimal_nonempty z.cells (omega (arith, r.ranged.counts.cells.1)), (decimal_nonempty z.c (omega (arith, r.ranged.amounts.c.most)), (decimal_nonempty z.mintime (omega (arith, r.ranged.amounts.mintime)), (decimal_nonempty z.dbuf_bytes (omega (arith, r.ranged.amounts.dbuf_bytes)), tt))))))))
-spelling-shape callers few (Declared p) words.Block e r = (refl, (decimal_nonempty p.key.offset (omega (arith, r.offset)), (decimal_nonempty p.key.size (omega (arith, r.size)), (decimal_nonempty p.key.birth (omega (arith, r.birth)), ((let twice = length-encode_with lower_digits p.digest.0 in omega (arith, r.digest.sized)), tt)))))
-spelling-shape callers few (Operation (ops.Read n t x w)) words.Read e r = (refl, (decimal_nonempty n (omega (arith, r.0)), (decimal_nonempty t (omega (arith, r.1)), (decimal_nonempty x (omega (arith, r.2)), (decimal_nonempty w.at (omega (arith, r.3)), (decimal_nonempty w.len (omega (arith, w.short)), tt))))))
-spelling-shape callers few (Operation (ops.Hold n t x)) words.Hold e r = (refl, (decimal_nonempty n (omega (arith, r.0)), (decimal_nonempty t (omega (arith, r.1)), (decimal_nonempty x (omega (arith, r.2)), tt))))
-spelling-shape callers few (Operation (ops.Drop n x)) words.Drop e r = (refl, (decimal_nonempty n (omega (arith, r.0)), (decimal_nonempty x (omega (arith, r.1)), tt)))
-spelling-shape callers few (Sizes z) words.Block e r = absurd (omega arith)
-spelling-shape callers few (Sizes z) words.Read e r = absurd (omega arith)
-spelling-shape callers few (Sizes z) words.Hold e r = absurd (omega arith)
-spelling-shape callers few (Sizes z) words.Drop e r = absurd (omega arith)
-spelling-shape callers few (Declared p) words.Arc e r = absurd (omega arith)
-spelling-shape callers few (Declared p) words.Read e r = absurd (omega arith)
-spelling-shape callers few (Declared p) words.Hold e r = absurd (omega arith)
-spelling-shape callers few (Declared p) words.Drop e r = absurd (omega arith)
-spelling-shape callers few (Operation (ops.Read n t x w)) words.Arc e r = absurd (omega arith)
-spelling-shape callers few (Operation (ops.Read n t x w)) words.Block e r = absurd (omega arith)
-spelling-shape callers few (Operation (ops.Read n t x w)) words.Hold e r = absurd (omega arith)
-spelling-shape callers few (Operation (ops.Read n t x w)) words.Drop e r = absurd (omega arith)
-spelling-shape callers few (Operation (ops.Hold n t x)) words.Arc e r = absurd (omega arith)
-spelling-shape callers few (Operation (ops.Hold n t x)) words.Block e r = absurd (omega arith)
-spelling-shape callers few (Operation (ops.Hold n t x)) words.Read e r = absurd (omega arith)
-spelling-shape callers few (Operation (ops.Hold n t x)) words.Drop e r = absurd (omega arith)
-spelling-shape callers few (Operation (ops.Drop n x)) words.Arc e r = absurd (omega arith)
-spelling-shape callers few (Operation (ops.Drop n x)) words.Block e r = absurd (omega arith)
-spelling-shape callers few (Operation (ops.Drop n x)) words.Read e r = absurd (omega arith)
-spelling-shape callers few (Operation (ops.Drop n x)) words.Hold e r = absurd (omega arith)
+spelling-shape : (callers : ℕ) → callers ≤ 16 → (l : Line) → IsInRange callers l → HasShape (word_of l) (spelling l)
+spelling-shape callers few (Sizes z) r = (refl, (decimal_nonempty z.callers (omega (arith, r.one_caller)), (decimal_nonempty z.shards (omega (arith, r.one_shard)), (decimal_nonempty z.buckets (omega (arith, r.ranged.counts.buckets.1)), (decimal_nonempty z.cells (omega (arith, r.ranged.counts.cells.1)), (decimal_nonempty z.c (omega (arith, r.ranged.amounts.c.most)), (decimal_nonempty z.mintime (omega (arith, r.ranged.amounts.mintime)), (decimal_nonempty z.dbuf_bytes (omega (arith, r.ranged.amounts.dbuf_bytes)), tt))))))))
+spelling-shape callers few (Declared p) r = (refl, (decimal_nonempty p.key.offset (omega (arith, r.offset)), (decimal_nonempty p.key.size (omega (arith, r.size)), (decimal_nonempty p.key.birth (omega (arith, r.birth)), ((let twice = length-encode_with lower_digits p.digest.0 in omega (arith, r.digest.sized)), tt)))))
+spelling-shape callers few (Operation (ops.Read n t x w)) r = (refl, (decimal_nonempty n (omega (arith, r.0)), (decimal_nonempty t (omega (arith, r.1)), (decimal_nonempty x (omega (arith, r.2)), (decimal_nonempty w.at (omega (arith, r.3)), (decimal_nonempty w.len (omega (arith, w.short)), tt))))))
+spelling-shape callers few (Operation (ops.Hold n t x)) r = (refl, (decimal_nonempty n (omega (arith, r.0)), (decimal_nonempty t (omega (arith, r.1)), (decimal_nonempty x (omega (arith, r.2)), tt))))
+spelling-shape callers few (Operation (ops.Drop n x)) r = (refl, (decimal_nonempty n (omega (arith, r.0)), (decimal_nonempty x (omega (arith, r.1)), tt)))
 
 -- the fields of a line have its word's shape
-pub Say-shape : (config : Option Config) → callers_of config ≤ 1 → (fields : List (List ℕ)) (l : Line) (word : Word) → BeginsWith config fields word → Say config fields l → HasShape word fields
+pub Say-shape : (config : Option Config) → callers_of config ≤ 16 → (fields : List (List ℕ)) (l : Line) (word : Word) → BeginsWith config fields word → Say config fields l → HasShape word fields
 Say-shape config few fields l word begins said =
-    rw said.spelled.spelled (spelling-shape (callers_of config) few l word (ap letter (sym said.spelled.spelled) ∙ letter-begins config fields word begins) said.spelled.ranged)
+    let same = begins-word config fields word l begins said.spelled.spelled in
+    rw (said.spelled.spelled, ← same) (spelling-shape (callers_of config) few l said.spelled.ranged)
 
-misspelled-not : (config : Option Config) → callers_of config ≤ 1 → (fields : List (List ℕ)) (l : Line) (kind : Kind) → Say config fields l → IsMisspelled config fields kind → ⊥
+misspelled-not : (config : Option Config) → callers_of config ≤ 16 → (fields : List (List ℕ)) (l : Line) (kind : Kind) → Say config fields l → IsMisspelled config fields kind → ⊥
 misspelled-not config few fields l kinds.First said m = m.1 said.word said.begins
 misspelled-not config few fields l kinds.Word said m = m.1 said.word said.begins
 misspelled-not config few fields l kinds.Shape said m = m.2 (Say-shape config few fields l m.0 m.1 said)
@@ -227,33 +202,6 @@ some-kind : (config : Option Config) → IsSome config → kind_at config 0 ≡ 
 some-kind None h = absurd (false≢true h)
 some-kind (Some z) h = refl
 
-text_of-injective : (v w : Word) → letter (text_of v ∷ []) ≡ letter (text_of w ∷ []) → v ≡ w
-text_of-injective words.Arc words.Arc e = refl
-text_of-injective words.Arc words.Block e = absurd (omega arith)
-text_of-injective words.Arc words.Read e = absurd (omega arith)
-text_of-injective words.Arc words.Hold e = absurd (omega arith)
-text_of-injective words.Arc words.Drop e = absurd (omega arith)
-text_of-injective words.Block words.Arc e = absurd (omega arith)
-text_of-injective words.Block words.Block e = refl
-text_of-injective words.Block words.Read e = absurd (omega arith)
-text_of-injective words.Block words.Hold e = absurd (omega arith)
-text_of-injective words.Block words.Drop e = absurd (omega arith)
-text_of-injective words.Read words.Arc e = absurd (omega arith)
-text_of-injective words.Read words.Block e = absurd (omega arith)
-text_of-injective words.Read words.Read e = refl
-text_of-injective words.Read words.Hold e = absurd (omega arith)
-text_of-injective words.Read words.Drop e = absurd (omega arith)
-text_of-injective words.Hold words.Arc e = absurd (omega arith)
-text_of-injective words.Hold words.Block e = absurd (omega arith)
-text_of-injective words.Hold words.Read e = absurd (omega arith)
-text_of-injective words.Hold words.Hold e = refl
-text_of-injective words.Hold words.Drop e = absurd (omega arith)
-text_of-injective words.Drop words.Arc e = absurd (omega arith)
-text_of-injective words.Drop words.Block e = absurd (omega arith)
-text_of-injective words.Drop words.Read e = absurd (omega arith)
-text_of-injective words.Drop words.Hold e = absurd (omega arith)
-text_of-injective words.Drop words.Drop e = refl
-
 shape-kind : (config : Option Config) → kinds.Shape ≡ kind_at config 1
 shape-kind None = refl
 shape-kind (Some z) = refl
@@ -269,10 +217,6 @@ order-kind (Some z) = refl
 count-kind : (config : Option Config) → kinds.Count ≡ kind_at config 4
 count-kind None = refl
 count-kind (Some z) = refl
-
--- fields begin with one word
-word-one : (config : Option Config) (fields : List (List ℕ)) (v w : Word) → BeginsWith config fields v → BeginsWith config fields w → v ≡ w
-word-one config fields v w p q = text_of-injective v w (sym (letter-begins config fields v p) ∙ letter-begins config fields w q)
 
 word-shape : (config : Option Config) (fields : List (List ℕ)) (v w : Word) → BeginsWith config fields v → BeginsWith config fields w → HasShape w fields → HasShape v fields
 word-shape config fields v w p q shape = rw (word-one config fields v w p q) shape

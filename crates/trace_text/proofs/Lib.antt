@@ -1,5 +1,6 @@
 pub mod SplitLemmas
 pub mod NumberLemmas
+pub mod WordLemmas
 pub mod FormLemmas
 pub mod DigestLemmas
 pub mod DraftLemmas

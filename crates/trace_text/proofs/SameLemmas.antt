@@ -4,13 +4,15 @@ use Rattle.std.proofs.Math.Bridge.{le_prop}
 use Rattle.std.proofs.lemmas.Fmt.{decimal_injective}
 use Rattle.blk_ptr.specs.declared.ptr.Ptr.{Ptr}
 use Rattle.arc_core.specs.declared.config.Config.{Config}
+use Rattle.trace_text.specs.declared.op.Op.{Op}
 use Rattle.trace_text.specs.declared.op.Op.TheVariants as ops
 use Rattle.trace_text.specs.declared.window.Window.{Window}
 use Rattle.trace_text.specs.declared.words.Line.{Line}
 use Rattle.trace_text.specs.declared.words.Line.TheVariants.{Sizes, Declared, Operation}
+use Rattle.trace_text.specs.declared.words.Word.TheVariants as words
 use Rattle.trace_text.proofs.DigestLemmas.{digest-injective}
-use Rattle.trace_text.proofs.FormLemmas.{letter}
-use Rattle.trace_text.specs.Grammar.{IsInRange, spelling}
+use Rattle.trace_text.proofs.WordLemmas.{FormOf, form-as, same-word}
+use Rattle.trace_text.specs.Grammar.{AreSizes, IsDeclarable, IsInRange, IsOperation, spelling, word_of}
 
 abbrev window : (at len : ℕ) → len ≤ 64 → Window
 window at len short = record { at = at; len = len; short = short }
@@ -29,9 +31,9 @@ config-same a b e1 e2 e3 e4 e5 e6 e7 e8 e9 =
 pub ptr-same : (a b : Ptr) → a.key.offset ≡ b.key.offset → a.key.size ≡ b.key.size → a.key.birth ≡ b.key.birth → a.digest ≡ b.digest → a ≡ b
 ptr-same a b e1 e2 e3 e4 = λ i. record { key = record { offset = e1 i; size = e2 i; birth = e3 i }; digest = e4 i }
 
--- two lines in range with one spelling are one line
-pub spelling-injective : (callers : ℕ) → callers < 2 ^ 64 → (l m : Line) → IsInRange callers l → IsInRange callers m → spelling l ≡ spelling m → l ≡ m
-spelling-injective callers few (Sizes a) (Sizes b) p q e = ap Sizes (config-same a b
+-- two lines in range of one word, with one spelling, are one line
+same-sizes : (a b : Config) → AreSizes a → AreSizes b → spelling (Sizes a) ≡ spelling (Sizes b) → Sizes a ≡ Sizes b
+same-sizes a b p q e = ap Sizes (config-same a b
     (decimal_injective a.callers b.callers (omega (arith, p.one_caller)) (omega (arith, q.one_caller)) (ap (λ f. get_or f 1 []) e))
     (decimal_injective a.shards b.shards (omega (arith, p.one_shard)) (omega (arith, q.one_shard)) (ap (λ f. get_or f 2 []) e))
     (decimal_injective a.buckets b.buckets (omega (arith, p.ranged.counts.buckets.1)) (omega (arith, q.ranged.counts.buckets.1)) (ap (λ f. get_or f 3 []) e))
@@ -40,43 +42,48 @@ spelling-injective callers few (Sizes a) (Sizes b) p q e = ap Sizes (config-same
     (decimal_injective a.mintime b.mintime (omega (arith, p.ranged.amounts.mintime)) (omega (arith, q.ranged.amounts.mintime)) (ap (λ f. get_or f 6 []) e))
     (decimal_injective a.dbuf_bytes b.dbuf_bytes (omega (arith, p.ranged.amounts.dbuf_bytes)) (omega (arith, q.ranged.amounts.dbuf_bytes)) (ap (λ f. get_or f 7 []) e))
     (p.write_max ∙ sym q.write_max) (p.headroom ∙ sym q.headroom))
-spelling-injective callers few (Declared a) (Declared b) p q e = ap Declared (ptr-same a b
+
+same-block : (a b : Ptr) → IsDeclarable a → IsDeclarable b → spelling (Declared a) ≡ spelling (Declared b) → Declared a ≡ Declared b
+same-block a b p q e = ap Declared (ptr-same a b
     (decimal_injective a.key.offset b.key.offset (omega (arith, p.offset)) (omega (arith, q.offset)) (ap (λ f. get_or f 1 []) e))
     (decimal_injective a.key.size b.key.size (omega (arith, p.size)) (omega (arith, q.size)) (ap (λ f. get_or f 2 []) e))
     (decimal_injective a.key.birth b.key.birth (omega (arith, p.birth)) (omega (arith, q.birth)) (ap (λ f. get_or f 3 []) e))
     (digest-injective a.digest b.digest p.digest q.digest (ap (λ f. get_or f 4 []) e)))
-spelling-injective callers few (Operation (ops.Read n t x w)) (Operation (ops.Read n' t' x' w')) p q e =
-    let e1 = (decimal_injective n n' (omega (arith, p.0)) (omega (arith, q.0)) (ap (λ f. get_or f 1 []) e)) in
-    let e2 = (decimal_injective t t' (omega (arith, p.1)) (omega (arith, q.1)) (ap (λ f. get_or f 2 []) e)) in
-    let e3 = (decimal_injective x x' (omega (arith, p.2)) (omega (arith, q.2)) (ap (λ f. get_or f 3 []) e)) in
-    let e4 = window-same w w' (decimal_injective w.at w'.at (omega (arith, p.3)) (omega (arith, q.3)) (ap (λ f. get_or f 4 []) e)) (decimal_injective w.len w'.len (omega (arith, w.short)) (omega (arith, w'.short)) (ap (λ f. get_or f 5 []) e)) in
-    λ i. Operation (ops.Read (e1 i) (e2 i) (e3 i) (e4 i))
-spelling-injective callers few (Operation (ops.Hold n t x)) (Operation (ops.Hold n' t' x')) p q e =
-    let e1 = (decimal_injective n n' (omega (arith, p.0)) (omega (arith, q.0)) (ap (λ f. get_or f 1 []) e)) in
-    let e2 = (decimal_injective t t' (omega (arith, p.1)) (omega (arith, q.1)) (ap (λ f. get_or f 2 []) e)) in
-    let e3 = (decimal_injective x x' (omega (arith, p.2)) (omega (arith, q.2)) (ap (λ f. get_or f 3 []) e)) in
-    λ i. Operation (ops.Hold (e1 i) (e2 i) (e3 i))
-spelling-injective callers few (Operation (ops.Drop n x)) (Operation (ops.Drop n' x')) p q e =
-    let e1 = (decimal_injective n n' (omega (arith, p.0)) (omega (arith, q.0)) (ap (λ f. get_or f 1 []) e)) in
-    let e2 = (decimal_injective x x' (omega (arith, p.1)) (omega (arith, q.1)) (ap (λ f. get_or f 2 []) e)) in
-    λ i. Operation (ops.Drop (e1 i) (e2 i))
-spelling-injective callers few (Sizes a) (Declared b) p q e = absurd (omega (arith, ap letter e))
-spelling-injective callers few (Sizes a) (Operation (ops.Read n' t' x' w')) p q e = absurd (omega (arith, ap letter e))
-spelling-injective callers few (Sizes a) (Operation (ops.Hold n' t' x')) p q e = absurd (omega (arith, ap letter e))
-spelling-injective callers few (Sizes a) (Operation (ops.Drop n' x')) p q e = absurd (omega (arith, ap letter e))
-spelling-injective callers few (Declared a) (Sizes b) p q e = absurd (omega (arith, ap letter e))
-spelling-injective callers few (Declared a) (Operation (ops.Read n' t' x' w')) p q e = absurd (omega (arith, ap letter e))
-spelling-injective callers few (Declared a) (Operation (ops.Hold n' t' x')) p q e = absurd (omega (arith, ap letter e))
-spelling-injective callers few (Declared a) (Operation (ops.Drop n' x')) p q e = absurd (omega (arith, ap letter e))
-spelling-injective callers few (Operation (ops.Read n t x w)) (Sizes b) p q e = absurd (omega (arith, ap letter e))
-spelling-injective callers few (Operation (ops.Read n t x w)) (Declared b) p q e = absurd (omega (arith, ap letter e))
-spelling-injective callers few (Operation (ops.Read n t x w)) (Operation (ops.Hold n' t' x')) p q e = absurd (omega (arith, ap letter e))
-spelling-injective callers few (Operation (ops.Read n t x w)) (Operation (ops.Drop n' x')) p q e = absurd (omega (arith, ap letter e))
-spelling-injective callers few (Operation (ops.Hold n t x)) (Sizes b) p q e = absurd (omega (arith, ap letter e))
-spelling-injective callers few (Operation (ops.Hold n t x)) (Declared b) p q e = absurd (omega (arith, ap letter e))
-spelling-injective callers few (Operation (ops.Hold n t x)) (Operation (ops.Read n' t' x' w')) p q e = absurd (omega (arith, ap letter e))
-spelling-injective callers few (Operation (ops.Hold n t x)) (Operation (ops.Drop n' x')) p q e = absurd (omega (arith, ap letter e))
-spelling-injective callers few (Operation (ops.Drop n x)) (Sizes b) p q e = absurd (omega (arith, ap letter e))
-spelling-injective callers few (Operation (ops.Drop n x)) (Declared b) p q e = absurd (omega (arith, ap letter e))
-spelling-injective callers few (Operation (ops.Drop n x)) (Operation (ops.Read n' t' x' w')) p q e = absurd (omega (arith, ap letter e))
-spelling-injective callers few (Operation (ops.Drop n x)) (Operation (ops.Hold n' t' x')) p q e = absurd (omega (arith, ap letter e))
+
+same-operation : (callers : ℕ) → callers < 2 ^ 64 → (op : Op) (m : Line) → IsOperation callers op → IsInRange callers m → FormOf (word_of (Operation op)) m
+    → spelling (Operation op) ≡ spelling m → Operation op ≡ m
+same-operation callers few (ops.Read n t x w) m p r (n', t', x', w', is) e =
+    let q : IsOperation callers (ops.Read n' t' x' w') = rw is at r in
+    let s : spelling (Operation (ops.Read n t x w)) ≡ spelling (Operation (ops.Read n' t' x' w')) = rw is at e in
+    let e1 = decimal_injective n n' (omega (arith, p.0)) (omega (arith, q.0)) (ap (λ f. get_or f 1 []) s) in
+    let e2 = decimal_injective t t' (omega (arith, p.1)) (omega (arith, q.1)) (ap (λ f. get_or f 2 []) s) in
+    let e3 = decimal_injective x x' (omega (arith, p.2)) (omega (arith, q.2)) (ap (λ f. get_or f 3 []) s) in
+    let e4 = window-same w w' (decimal_injective w.at w'.at (omega (arith, p.3)) (omega (arith, q.3)) (ap (λ f. get_or f 4 []) s)) (decimal_injective w.len w'.len (omega (arith, w.short)) (omega (arith, w'.short)) (ap (λ f. get_or f 5 []) s)) in
+    let same : Operation (ops.Read n t x w) ≡ Operation (ops.Read n' t' x' w') = λ i. Operation (ops.Read (e1 i) (e2 i) (e3 i) (e4 i)) in
+    same ∙ sym is
+same-operation callers few (ops.Hold n t x) m p r (n', t', x', is) e =
+    let q : IsOperation callers (ops.Hold n' t' x') = rw is at r in
+    let s : spelling (Operation (ops.Hold n t x)) ≡ spelling (Operation (ops.Hold n' t' x')) = rw is at e in
+    let e1 = decimal_injective n n' (omega (arith, p.0)) (omega (arith, q.0)) (ap (λ f. get_or f 1 []) s) in
+    let e2 = decimal_injective t t' (omega (arith, p.1)) (omega (arith, q.1)) (ap (λ f. get_or f 2 []) s) in
+    let e3 = decimal_injective x x' (omega (arith, p.2)) (omega (arith, q.2)) (ap (λ f. get_or f 3 []) s) in
+    let same : Operation (ops.Hold n t x) ≡ Operation (ops.Hold n' t' x') = λ i. Operation (ops.Hold (e1 i) (e2 i) (e3 i)) in
+    same ∙ sym is
+same-operation callers few (ops.Drop n x) m p r (n', x', is) e =
+    let q : IsOperation callers (ops.Drop n' x') = rw is at r in
+    let s : spelling (Operation (ops.Drop n x)) ≡ spelling (Operation (ops.Drop n' x')) = rw is at e in
+    let e1 = decimal_injective n n' (omega (arith, p.0)) (omega (arith, q.0)) (ap (λ f. get_or f 1 []) s) in
+    let e2 = decimal_injective x x' (omega (arith, p.1)) (omega (arith, q.1)) (ap (λ f. get_or f 2 []) s) in
+    let same : Operation (ops.Drop n x) ≡ Operation (ops.Drop n' x') = λ i. Operation (ops.Drop (e1 i) (e2 i)) in
+    same ∙ sym is
+
+-- two lines in range with one spelling are one line
+pub spelling-injective : (callers : ℕ) → callers < 2 ^ 64 → (l m : Line) → IsInRange callers l → IsInRange callers m → spelling l ≡ spelling m → l ≡ m
+spelling-injective callers few (Sizes a) m p q e =
+    let f = form-as words.Arc m (same-word m (Sizes a) (sym e)) in
+    same-sizes a f.0 p (rw f.1 at q) (rw f.1 at e) ∙ sym f.1
+spelling-injective callers few (Declared a) m p q e =
+    let f = form-as words.Block m (same-word m (Declared a) (sym e)) in
+    same-block a f.0 p (rw f.1 at q) (rw f.1 at e) ∙ sym f.1
+spelling-injective callers few (Operation op) m p q e =
+    same-operation callers few op m p q (form-as (word_of (Operation op)) m (same-word m (Operation op) (sym e))) e

@@ -51,19 +51,26 @@ field_count words.Read = 5
 field_count words.Hold = 3
 field_count words.Drop = 2
 
--- the fields of an operation's line
-abbrev pub operation_fields : Op → List (List ℕ)
-operation_fields (ops.Read n t x w) = codes "read" ∷ decimal n ∷ decimal t ∷ decimal x ∷ decimal w.at ∷ decimal w.len ∷ []
-operation_fields (ops.Hold n t x) = codes "hold" ∷ decimal n ∷ decimal t ∷ decimal x ∷ []
-operation_fields (ops.Drop n x) = codes "drop" ∷ decimal n ∷ decimal x ∷ []
+-- the word of a line
+abbrev pub word_of : Line → Word
+word_of (Sizes z) = words.Arc
+word_of (Declared p) = words.Block
+word_of (Operation (ops.Read n t x w)) = words.Read
+word_of (Operation (ops.Hold n t x)) = words.Hold
+word_of (Operation (ops.Drop n x)) = words.Drop
 
--- the fields of a line: its word, and then decimal numbers with no leading zero, and a digest as lower-case hex
+-- the fields after a line's word: decimal numbers with no leading zero, and a digest as lower-case hex
+abbrev pub fields_after : Line → List (List ℕ)
+fields_after (Sizes z) =
+    decimal z.callers ∷ decimal z.shards ∷ decimal z.buckets ∷ decimal z.cells ∷ decimal z.c ∷ decimal z.mintime ∷ decimal z.dbuf_bytes ∷ []
+fields_after (Declared p) = decimal p.key.offset ∷ decimal p.key.size ∷ decimal p.key.birth ∷ encode_lower p.digest.0 ∷ []
+fields_after (Operation (ops.Read n t x w)) = decimal n ∷ decimal t ∷ decimal x ∷ decimal w.at ∷ decimal w.len ∷ []
+fields_after (Operation (ops.Hold n t x)) = decimal n ∷ decimal t ∷ decimal x ∷ []
+fields_after (Operation (ops.Drop n x)) = decimal n ∷ decimal x ∷ []
+
+-- the fields of a line
 abbrev pub spelling : Line → List (List ℕ)
-spelling (Sizes z) =
-    codes "arc" ∷ decimal z.callers ∷ decimal z.shards ∷ decimal z.buckets ∷ decimal z.cells ∷ decimal z.c ∷ decimal z.mintime ∷ decimal z.dbuf_bytes ∷ []
-spelling (Declared p) =
-    codes "block" ∷ decimal p.key.offset ∷ decimal p.key.size ∷ decimal p.key.birth ∷ encode_lower p.digest.0 ∷ []
-spelling (Operation op) = operation_fields op
+spelling line = text_of (word_of line) ∷ fields_after line
 
 -- ---- the ranges
 

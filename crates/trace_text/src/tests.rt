@@ -44,8 +44,11 @@ fn cuts_of_a_small_trace(rt: HostRuntime) -> Result<(), Fail> {
 }
 
 /// One line after two others, and what is wrong with it.
-const THIRD_LINES: [(&str, Kind); 42] = [
+const THIRD_LINES: [(&str, Kind); 59] = [
     ("arc 1 1 16 1 4096 0 4096", Kind::Word),
+    ("arc", Kind::Word),
+    ("reads 0 1 0 0 4", Kind::Word),
+    ("rea", Kind::Word),
     ("Read 0 1 0 0 4", Kind::Word),
     (" read 0 1 0 0 4", Kind::Word),
     ("read\t0 1 0 0 4", Kind::Word),
@@ -58,9 +61,20 @@ const THIRD_LINES: [(&str, Kind); 42] = [
     ("hold 0 1", Kind::Shape),
     ("drop 0", Kind::Shape),
     ("drop", Kind::Shape),
+    ("read 5  x 0 0 4", Kind::Shape),
     ("block 0 512 1", Kind::Shape),
     ("read 1 1 0 0 4", Kind::Number),
+    ("read 4294967296 1 0 0 4", Kind::Number),
     ("read 00 1 0 0 4", Kind::Number),
+    ("read 0\t1 0 0 4 4", Kind::Number),
+    ("read 0 1 00 0 4", Kind::Number),
+    ("read 0 1 0 01 4", Kind::Number),
+    ("read 0 1 0 0 04", Kind::Number),
+    ("read 0 1 0 0 4.", Kind::Number),
+    ("read 0 1_0 0 0 4", Kind::Number),
+    ("read 0 123456789012345678901234567890 0 0 4", Kind::Number),
+    ("read 0 1 123456789012345678901234567890 0 4", Kind::Number),
+    ("read 0 1 9 0 123456789012345678901234567890", Kind::Number),
     ("read 0 01 0 0 4", Kind::Number),
     ("read 0 +1 0 0 4", Kind::Number),
     ("read 0 -1 0 0 4", Kind::Number),
@@ -75,7 +89,9 @@ const THIRD_LINES: [(&str, Kind); 42] = [
     ("read 0 1 1 0 65", Kind::Number),
     ("hold 1 1 0", Kind::Number),
     ("hold 0 x 0", Kind::Number),
+    ("hold 0 1 4611686018427387905", Kind::Number),
     ("drop 1 0", Kind::Number),
+    ("drop 0 4611686018427387905", Kind::Number),
     ("drop 0 ", Kind::Shape),
     (
         "block 4611686018427387905 512 1 076a27c79e5ace2a3d47f9dd2e83e4ff6ea8872b3c2218f66c92b89b55f36560",
@@ -105,6 +121,7 @@ const THIRD_LINES: [(&str, Kind); 42] = [
     ("hold 0 1 4611686018427387904", Kind::Order),
     ("drop 0 4294967296", Kind::Order),
     ("hold 0 1 1", Kind::Order),
+    ("read 0 1 4611686018427387904 0 4", Kind::Order),
 ];
 
 #[test]
@@ -120,12 +137,46 @@ fn faults_of_a_third_line(rt: HostRuntime) -> Result<(), Fail> {
     Ok(())
 }
 
+/// Lines with numbers at the ends of their ranges, with which nothing is wrong behind the first two lines.
+const GOOD_LINES: [&str; 9] = [
+    "read 0 0 0 0 0",
+    "read 0 4611686018427387904 0 4294967295 64",
+    "hold 0 4611686018427387904 0",
+    "drop 0 0",
+    "block 4611686018427387904 4294967296 4611686018427387904 076a27c79e5ace2a3d47f9dd2e83e4ff6ea8872b3c2218f66c92b89b55f36560",
+    "block 1 0 0 ffffffffffffffffffffffffffffffffffffffffffffffffffffffffffffffff",
+    "",
+    "#read",
+    "# \tarc",
+];
+
+#[test]
+fn third_lines_with_no_fault(rt: HostRuntime) -> Result<(), Fail> {
+    for line in &GOOD_LINES {
+        let text = format!(in rt.alloc(); "{SIZES}\n{BLOCK}\n{line}\nread\n")?;
+        assert_eq!(rt;
+            fault_of(rt.alloc(), text.as_bytes())?,
+            Some((4, Kind::Shape))
+        );
+    }
+    Ok(())
+}
+
 /// A first line, and what is wrong with it.
-const FIRST_LINES: [(&str, Kind); 16] = [
+const FIRST_LINES: [(&str, Kind); 30] = [
+    (" arc 1 1 16 1 4096 0 0", Kind::First),
+    ("arc\t1 1 16 1 4096 0 0", Kind::First),
+    ("Arc 1 1 16 1 4096 0 0", Kind::First),
+    ("arcs", Kind::First),
+    ("\r", Kind::First),
     ("", Kind::First),
     ("read 0 1 0 0 4", Kind::First),
     ("arc", Kind::Shape),
     ("arc 1 1 16 1 4096 0", Kind::Shape),
+    ("arc 1 1 16 1 4096 0 0 0", Kind::Shape),
+    ("arc 1  1 16 1 4096 0 0", Kind::Shape),
+    ("arc 1 1 16 1 4096 0 ", Kind::Shape),
+    ("arc x 1 16 1 4096 0", Kind::Shape),
     ("arc 2 1 16 1 4096 0 0", Kind::Number),
     ("arc 0 1 16 1 4096 0 0", Kind::Number),
     ("arc 1 2 16 1 4096 0 0", Kind::Number),
@@ -138,6 +189,14 @@ const FIRST_LINES: [(&str, Kind); 16] = [
     ("arc 1 1 16 1 4096 4294967297 0", Kind::Number),
     ("arc 1 1 16 1 4096 0 4294967297", Kind::Number),
     ("arc 1 1 16 1 4096 0 00", Kind::Number),
+    ("arc 01 1 16 1 4096 0 0", Kind::Number),
+    ("arc 1 1 16 1 +4096 0 0", Kind::Number),
+    ("arc 1 1 16 1 4096 -0 0", Kind::Number),
+    (
+        "arc 1 1 16 1 4096 0 123456789012345678901234567890",
+        Kind::Number,
+    ),
+    ("arc 4294967297 1 16 1 4096 0 0", Kind::Number),
 ];
 
 #[test]
@@ -149,19 +208,51 @@ fn faults_of_a_first_line(rt: HostRuntime) -> Result<(), Fail> {
             "{line}"
         );
     }
-    let late = b"\n# a comment\n\nhold 0 1 0\n";
-    assert_eq!(rt; fault_of(rt.alloc(), late)?, Some((4, Kind::First)));
-    assert_eq!(rt; fault_of(rt.alloc(), b"\n\n#\n")?, Some((1, Kind::First)));
+    Ok(())
+}
+
+/// Texts, and the line and the kind of the first fault of each, or None.
+const TEXTS: [(&str, Option<(u32, Kind)>); 10] = [
+    ("", Some((1, Kind::First))),
+    ("\n", Some((1, Kind::First))),
+    ("\n\n#\n", Some((1, Kind::First))),
+    ("# only\n# comments", Some((1, Kind::First))),
+    ("\n# a comment\n\nhold 0 1 0\n", Some((4, Kind::First))),
+    (
+        "hold 0 1 0\narc 1 1 16 1 4096 0 0\n",
+        Some((1, Kind::First)),
+    ),
+    ("#\narc 1 1 256 16 4294967296 4294967296 4294967296", None),
+    (
+        "arc 1 1 16 1 4096 0 0\narc 1 1 16 1 4096 0 0",
+        Some((2, Kind::Word)),
+    ),
+    (
+        "arc 1 1 16 1 4096 0 0\n\n\ndrop 0 0\nblock",
+        Some((4, Kind::Order)),
+    ),
+    ("arc 1 1 16 1 4096 0 0\n#\nfly\nread", Some((3, Kind::Word))),
+];
+
+#[test]
+fn faults_of_whole_texts(rt: HostRuntime) -> Result<(), Fail> {
+    for (text, fault) in &TEXTS {
+        assert_eq!(rt; fault_of(rt.alloc(), text.as_bytes())?, *fault);
+    }
     Ok(())
 }
 
 #[test]
-fn a_block_after_an_operation(rt: HostRuntime) -> Result<(), Fail> {
-    let text = format!(in rt.alloc(); "{SIZES}\n{BLOCK}\n{READ}\n{BLOCK}\n")?;
-    assert_eq!(rt;
-        fault_of(rt.alloc(), text.as_bytes())?,
-        Some((4, Kind::Order))
-    );
+fn blocks_after_an_operation(rt: HostRuntime) -> Result<(), Fail> {
+    let lines = [
+        (BLOCK, Kind::Order),
+        ("block 0 512 1 0", Kind::Number),
+        ("block 0 512 1", Kind::Shape),
+    ];
+    for (line, kind) in &lines {
+        let text = format!(in rt.alloc(); "{SIZES}\n{BLOCK}\n{READ}\n{line}\n")?;
+        assert_eq!(rt; fault_of(rt.alloc(), text.as_bytes())?, Some((4, *kind)));
+    }
     Ok(())
 }
 

@@ -1,0 +1,88 @@
+-- A line is told by its word, and a word by its whole spelling.
+use Rattle.std.proofs.Common.{◌≡◌, ℕ, eqb, Bool, true, false, List, [], ◌∷◌, Option, Some, None, refl, ap, ◌∙◌, sym, subst, cond}
+use Rattle.blk_ptr.specs.declared.ptr.Ptr.{Ptr}
+use Rattle.arc_core.specs.declared.config.Config.{Config}
+use Rattle.trace_text.specs.declared.op.Op.TheVariants as ops
+use Rattle.trace_text.specs.declared.window.Window.{Window}
+use Rattle.trace_text.specs.declared.words.Line.{Line}
+use Rattle.trace_text.specs.declared.words.Line.TheVariants.{Sizes, Declared, Operation}
+use Rattle.trace_text.specs.declared.words.Word.{Word}
+use Rattle.trace_text.specs.declared.words.Word.TheVariants as words
+use Rattle.trace_text.specs.Grammar.{BeginsWith, IsInRange, Spell, fields_after, spelling, text_of, word_of}
+
+-- whether two texts are one
+abbrev same_text : List ℕ → List ℕ → Bool
+same_text [] [] = true
+same_text [] (b ∷ other) = false
+same_text (a ∷ text) [] = false
+same_text (a ∷ text) (b ∷ other) = cond (eqb a b) (same_text text other) false
+
+-- the first of these words that is spelled so
+abbrev spelled_in : List Word → List ℕ → Option Word
+spelled_in [] text = None
+spelled_in (word ∷ others) text = cond (same_text (text_of word) text) (Some word) (spelled_in others text)
+
+abbrev all_words : List Word
+all_words = words.Arc ∷ words.Block ∷ words.Read ∷ words.Hold ∷ words.Drop ∷ []
+
+-- each word is the first that is spelled as it is
+spelled_in-text : (word : Word) → spelled_in all_words (text_of word) ≡ Some word
+spelled_in-text words.Arc = refl
+spelled_in-text words.Block = refl
+spelled_in-text words.Read = refl
+spelled_in-text words.Hold = refl
+spelled_in-text words.Drop = refl
+
+-- two words with one spelling are one
+pub text_of-injective : (v w : Word) → text_of v ≡ text_of w → v ≡ w
+text_of-injective v w e =
+    let both : Some v ≡ Some w = sym (spelled_in-text v) ∙ ap (spelled_in all_words) e ∙ spelled_in-text w in
+    cc
+
+-- what a line with this word says
+abbrev pub FormOf : Word → Line → Type 0
+FormOf words.Arc line = (z : Config) × (line ≡ Sizes z)
+FormOf words.Block line = (p : Ptr) × (line ≡ Declared p)
+FormOf words.Read line = (n t x : ℕ) × (w : Window) × (line ≡ Operation (ops.Read n t x w))
+FormOf words.Hold line = (n t x : ℕ) × (line ≡ Operation (ops.Hold n t x))
+FormOf words.Drop line = (n x : ℕ) × (line ≡ Operation (ops.Drop n x))
+
+form : (line : Line) → FormOf (word_of line) line
+form (Sizes z) = (z, refl)
+form (Declared p) = (p, refl)
+form (Operation (ops.Read n t x w)) = (n, t, x, w, refl)
+form (Operation (ops.Hold n t x)) = (n, t, x, refl)
+form (Operation (ops.Drop n x)) = (n, x, refl)
+
+-- a line that begins with this word is of its form
+pub form-as : (word : Word) (line : Line) → word_of line ≡ word → FormOf word line
+form-as word line e = subst (λ w. FormOf w line) e (form line)
+
+-- what fields that begin with this word say, where they are a line
+pub record IsLineOf (callers : ℕ) (word : Word) (fields : List (List ℕ)) (line : Line) : Type 0 where
+  pub form : FormOf word line
+  pub after : fields ≡ fields_after line
+  pub ranged : IsInRange callers line
+
+pub line-of : (callers : ℕ) (word : Word) (fields : List (List ℕ)) (line : Line) → Spell callers (text_of word ∷ fields) line → IsLineOf callers word fields line
+line-of callers word fields line s =
+    let e = s.spelled in
+    let same : text_of (word_of line) ≡ text_of word = cc in
+    record { form = form-as word line (text_of-injective (word_of line) word same); after = cc; ranged = s.ranged }
+
+-- two lines with one spelling have one word
+pub same-word : (l m : Line) → spelling l ≡ spelling m → word_of l ≡ word_of m
+same-word l m e =
+    let same : text_of (word_of l) ≡ text_of (word_of m) = cc in text_of-injective (word_of l) (word_of m) same
+
+-- the word that a line's fields begin with
+pub begins-word : (config : Option Config) (fields : List (List ℕ)) (word : Word) (line : Line) → BeginsWith config fields word → fields ≡ spelling line → word_of line ≡ word
+begins-word config [] word line begins is = absurd begins
+begins-word config (first ∷ fields) word line begins is =
+    let same : first ≡ text_of (word_of line) = cc in
+    text_of-injective (word_of line) word (sym same ∙ begins.0)
+
+-- fields begin with one word
+pub word-one : (config : Option Config) (fields : List (List ℕ)) (v w : Word) → BeginsWith config fields v → BeginsWith config fields w → v ≡ w
+word-one config [] v w p q = absurd p
+word-one config (first ∷ fields) v w p q = text_of-injective v w (sym p.0 ∙ q.0)
