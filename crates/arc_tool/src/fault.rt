@@ -5,8 +5,8 @@ use trace_run::Status;
 /// Why the program didn't do what it was asked.
 #[derive(Clone, Copy, Debug, Error)]
 pub(crate) enum Fault {
-    /// There are fewer than two words, or one of them is no text.
-    #[error("usage: arc_tool POOL CACHE WORD..., where a file name may be -")]
+    /// There are fewer than two words, or one of the words is no text.
+    #[error("usage: arc_tool POOL CACHE WORD..., where a file name may be -; arc_tool --help says more")]
     Names,
     /// The pool's file can't be opened, is a directory, or is too long.
     #[error("the pool's file can't be had")]
@@ -25,6 +25,9 @@ pub(crate) enum Fault {
 impl Fault {
     /// Memory was refused, in the run or before it.
     pub(crate) const NO_MEMORY: Fault = Fault::Ended(7);
+
+    /// The standard output failed while the help or the version was printed.
+    pub(crate) const SINK: Fault = Fault::Ended(5);
 
     /// What is told of a run that ended with this status, if anything is: a report speaks for itself.
     pub(crate) fn of(status: Status) -> Option<Fault> {

@@ -2,10 +2,14 @@
 #![tactic(auto)]
 
 mod fault;
+mod names;
+#[cfg(test)]
+mod tests;
 
 use crate::fault::Fault;
+use crate::names::{Names, names_of};
 use std::env;
-use std::io::ErrorKind;
+use std::io::{ErrorKind, Print};
 use std::process::ExitCode;
 use std::rt::{Env, Files};
 use trace_run::run;
@@ -13,6 +17,9 @@ use vdev_io::{FilePool, FreeGate, NoCache, OpenFault, StdSink, StdSource};
 
 /// The file name that stands for an empty pool, or for no cache device.
 const NO_FILE: &str = "-";
+
+/// How many words are read here: the program's own name and those of the two files.
+const NAMES: usize = 3;
 
 /// What the program's words name: the files, opened, and the words behind them.
 #[derive(Drop)]
@@ -22,8 +29,9 @@ struct Job<'a, R: Files> {
 }
 
 fn main(rt: HostRuntime) -> ExitCode {
-    let fault = match prepare(&rt) {
-        Ok(Job { mut pool, words }) => {
+    let ended = match prepare(&rt) {
+        Ok(None) => return ExitCode::SUCCESS,
+        Ok(Some(Job { mut pool, words })) => {
             let outcome = run(
                 rt.alloc(),
                 &rt,
@@ -42,27 +50,39 @@ fn main(rt: HostRuntime) -> ExitCode {
         Err(fault) => fault,
     };
     // Where the standard error fails too, nobody is left to tell.
-    let _ = eprintln!(rt; "arc_tool: {fault}");
-    ExitCode::from(fault.code())
+    let _ = eprintln!(rt; "arc_tool: {ended}");
+    ExitCode::from(ended.code())
 }
 
-/// Reads the program's words, and opens the files that the first two name.
-fn prepare<R: AllocGlobal + Env + Files>(rt: &R) -> Result<Job<'_, R>, Fault> {
-    let mut args = env::args(rt).map_err(|error| match error.kind() {
-        ErrorKind::OutOfMemory => Fault::NO_MEMORY,
-        _ => Fault::Names,
-    })?;
-    let (Some(_program), Some(pool), Some(cache)) = (args.next(), args.next(), args.next()) else {
-        return Err(Fault::Names);
-    };
-    let words = args
+/// Reads the program's words, and opens the files that the first two name. There is nothing left to run where they ask for the
+/// help or the version, which are printed.
+fn prepare<R: AllocGlobal + Env + Files + Print>(rt: &R) -> Result<Option<Job<'_, R>>, Fault> {
+    let mut words = env::args(rt)
+        .map_err(|error| match error.kind() {
+            ErrorKind::OutOfMemory => Fault::NO_MEMORY,
+            _ => Fault::Names,
+        })?
         .collect::<Vec<String>>(rt.alloc())
         .map_err(|_| Fault::NO_MEMORY)?;
-    let pool = open_pool(rt, pool.as_str())?;
-    if cache.as_str() != NO_FILE {
-        return Err(Fault::Cache);
+    let behind = words
+        .split_off(words.len().min(NAMES))
+        .map_err(|_| Fault::NO_MEMORY)?;
+    match names_of(rt.alloc(), &words)? {
+        Names::Files { pool, cache } => {
+            let pool = open_pool(rt, pool)?;
+            if cache != NO_FILE {
+                return Err(Fault::Cache);
+            }
+            Ok(Some(Job {
+                pool,
+                words: behind,
+            }))
+        }
+        Names::Shown(text) => {
+            rt.print(text).map_err(|_| Fault::SINK)?;
+            Ok(None)
+        }
     }
-    Ok(Job { pool, words })
 }
 
 /// Opens the pool that a word names.

@@ -10,7 +10,7 @@ use Rattle.trace_text.specs.declared.report.Report.{Report}
 use Rattle.trace_text.specs.declared.trace.Trace.{Trace}
 use Rattle.trace_run.specs.declared.status.Status.{Status}
 use Rattle.trace_run.specs.declared.status.Status.TheVariants as statuses
-use Rattle.trace_run.specs.declared.words.Command.TheVariants.{Run}
+use Rattle.trace_run.specs.declared.words.Command.{Command}
 use Rattle.trace_run.specs.Answers.{AnswersAll, is_pool_fault, is_refusal}
 use Rattle.trace_run.specs.Explaining.{Explain}
 use Rattle.trace_run.specs.Stream.{Gives, AppendsFront}
@@ -31,7 +31,7 @@ pub record StreamState : Type 0 where
 -- the words are a command, but where their first wrong word is told
 abbrev pub AnswersWords : List (List ℕ) → Status → Type 0
 AnswersWords words (statuses.Usage index) = IsFirstWrong words index
-AnswersWords words status = IsCommand words Run
+AnswersWords words status = (command : Command) × IsCommand words command
 
 -- The source was read to its end, and its text is this trace.
 pub record WasRead (before after : StreamState) (trace : Trace) : Type 0 where

@@ -70,7 +70,8 @@ pub fn run<R: Threads + Wait + Sync, S: Source, K: Sink, P: Pool, D: CacheDev, G
     ensures cache { cache.new ≡ cache.old }
 {
     match Command::parse(words) {
-        Ok(Command::Run) => run_source(alloc, source, sink, pool, gate),
+        Ok(Command::Run { .. }) => run_source(alloc, source, sink, pool, gate),
+        Ok(Command::Gen { .. }) => run_source(alloc, source, sink, pool, gate),
         Err(index) => Outcome {
             status: Status::Usage { index },
             report: None,

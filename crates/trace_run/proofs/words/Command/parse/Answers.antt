@@ -1,14 +1,10 @@
-use Rattle.std.proofs.Common.{rules}
-use Rattle.trace_run.proofs.WordLemmas.{wrong_none, wrong_first, wrong_second}
+use Rattle.trace_run.specs.Words.{texts}
+use Rattle.trace_run.proofs.WordLemmas.{no_word, other_word}
 use Rattle.trace_run.proofs.words.Command.parse.Goals as goal
 
-pub returns-in-len1-up : goal.returns-in-len1-up
-returns-in-len1-up c =
-    wrong_first c.args.words.now c.first-item.result c.in-len1-up.len_at_least c.first-item.is (search rules)
+pub returns-in_default-first : goal.returns-in_default-first
+returns-in_default-first c =
+    other_word (texts c.args.words.now) c.in-Some.first.now c.in-Some.ensures c.in_default-first.not-run c.in_default-first.not-gen
 
-pub returns-in-len1-up-2 : goal.returns-in-len1-up-2
-returns-in-len1-up-2 c =
-    wrong_second c.args.words.now c.first-item.result c.in-len1-up-2.len_at_least c.first-item.is (search rules)
-
-pub returns-in-empty : goal.returns-in-empty
-returns-in-empty c = wrong_none c.args.words.now c.in-empty.len_below
+pub returns-in_default : goal.returns-in_default
+returns-in_default c = no_word (texts c.args.words.now) c.in_default.ensures

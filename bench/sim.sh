@@ -1,0 +1,81 @@
+#!/usr/bin/env bash
+# Runs the program and a plain simulation of the same rules (baseline/arc_sim.rs) on the same traces over a pool file of zero bytes, and
+# prints the time and the peak memory of each, their ratios, and whether the two reports are the same, byte for byte.
+# Five traces: 200,000 and 1,000,000 reads drawn over 4,096 and 16,384 blocks, as the word gen draws them; and one of 60 MB, with 100,000
+# blocks, 1,000,000 reads and comments. It needs rustc and python3, and builds the program if that was not done yet.
+set -eu
+here=$(cd "$(dirname "$0")" && pwd)
+tool=$here/../crates/arc_tool/out/arc_tool
+[ -x "$tool" ] || (cd "$here/../crates/arc_tool" && rt run)
+work=$(mktemp -d)
+trap 'rm -rf "$work"' EXIT
+rustc --edition 2024 -O -o "$work/arc_sim" "$here/baseline/arc_sim.rs"
+python3 - "$tool" "$work/arc_sim" "$work" <<'PY'
+import hashlib, os, sys, time
+
+tool, plain, work = sys.argv[1:]
+ZEROS = hashlib.sha256(bytes(512)).hexdigest()
+
+
+def draws(blocks, ops):
+    x = 1
+    for _ in range(ops):
+        x = (x * 1103515245 + 12345) % 2**31
+        yield x // 65536 % blocks
+
+
+def drawn(out, blocks, ops):
+    out.write(f'arc 1 1 256 1 {max(4096, blocks * 128)} 0 0\n')
+    out.writelines(f'block {i * 512} 512 1 {ZEROS}\n' for i in range(blocks))
+    out.writelines(f'read 0 {i + 1} {x} 0 0\n' for i, x in enumerate(draws(blocks, ops)))
+
+
+def long(out):
+    """60 MB: large ticks, windows at the end of a block, and a comment behind each ten reads."""
+    out.write(f'arc 1 1 256 1 {100_000 * 128} 0 0\n')
+    out.writelines(f'block {i * 512} 512 1 {ZEROS}\n' for i in range(100_000))
+    for i, x in enumerate(draws(32_768, 1_000_000)):
+        out.write(f'read 0 {4 * 10**18 + i} {3 * x} 496 16\n')
+        if i % 10 == 9:
+            out.write('#' * 119 + '\n')
+
+
+def run(program, pool, trace, report):
+    """The seconds and the peak kilobytes of one run."""
+    start = time.perf_counter()
+    child = os.fork()
+    if child == 0:
+        os.dup2(os.open(trace, os.O_RDONLY), 0)
+        os.dup2(os.open(report, os.O_WRONLY | os.O_CREAT | os.O_TRUNC, 0o600), 1)
+        os.execv(program, [program, pool, '-', 'run'])
+    _, status, usage = os.wait4(child, 0)
+    assert os.waitstatus_to_exitcode(status) == 0, f'{program} ended with {os.waitstatus_to_exitcode(status)}'
+    return time.perf_counter() - start, usage.ru_maxrss
+
+
+def same(a, b):
+    with open(a, 'rb') as a, open(b, 'rb') as b:
+        return a.read() == b.read()
+
+
+pool, trace = f'{work}/pool', f'{work}/trace'
+with open(pool, 'wb') as out:
+    out.truncate(100_000 * 512)
+cases = [(f'{blocks} blocks, {ops} reads', lambda out, b=blocks, o=ops: drawn(out, b, o))
+         for blocks in (4_096, 16_384) for ops in (200_000, 1_000_000)]
+cases.append(('a trace of 60 MB', long))
+print(f'{"":32}{"arc_tool":>20}{"plain":>20}{"ratios":>14}')
+differing = []
+for name, write in cases:
+    with open(trace, 'w') as out:
+        write(out)
+    run(plain, pool, trace, f'{work}/plain')  # so that the files are in memory for both
+    theirs = min(run(plain, pool, trace, f'{work}/plain') for _ in range(3))
+    ours = min(run(tool, pool, trace, f'{work}/ours') for _ in range(3))
+    if not same(f'{work}/ours', f'{work}/plain'):
+        differing.append(name)
+    print(f'{name:32}{ours[0]:9.2f} s {ours[1] / 1024:5.0f} MB{theirs[0]:9.2f} s {theirs[1] / 1024:5.0f} MB'
+          f'{ours[0] / theirs[0]:7.2f} {ours[1] / theirs[1]:6.2f}')
+if differing:
+    sys.exit('the reports differ: ' + '; '.join(differing))
+PY
