@@ -78,7 +78,7 @@ if_some true o d there = (refl, there)
 if_some false o d there = cc
 
 -- resident bytes have an entry
-resident-entry : (o : Option Entry) (d : Digest) → digest_of_resident o ≡ Some d → (e : Entry) × (o ≡ Some e) × (is_resident e ≡ true) × (e.digest ≡ Some d)
+pub resident-entry : (o : Option Entry) (d : Digest) → digest_of_resident o ≡ Some d → (e : Entry) × (o ≡ Some e) × (is_resident e ≡ true) × (e.digest ≡ Some d)
 resident-entry None d there = cc
 resident-entry (Some e) d there = let parts = if_some (is_resident e) e.digest d there in (e, refl, parts.0, parts.1)
 

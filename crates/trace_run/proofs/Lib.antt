@@ -4,4 +4,5 @@ pub mod DropLemmas
 pub mod HoldLemmas
 pub mod OutcomeLemmas
 pub mod StreamLemmas
+pub mod TellLemmas
 pub mod WordLemmas

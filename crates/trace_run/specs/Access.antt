@@ -23,6 +23,11 @@ found asked (Some kept) = if digest_eq kept asked then Hit else Past kept
 abbrev pub access_of : PlainShard → Ptr → Access
 access_of s ptr = found ptr.digest (resident_digest ptr.key s)
 
+-- the bytes have to come from the pool
+abbrev pub AsksPool : Access → Type 0
+AsksPool Hit = ⊥
+AsksPool _ = Unit {0}
+
 -- where the bytes come from, where the read is answered
 abbrev pub source_of : Access → Served
 source_of Hit = served.Hit

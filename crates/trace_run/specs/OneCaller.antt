@@ -16,7 +16,7 @@ use Rattle.trace_text.specs.declared.reply.Reply.TheVariants.{Read, Kept, Droppe
 use Rattle.trace_text.specs.declared.reply.Refusal.TheVariants.{PoolFault, Mismatch}
 use Rattle.trace_run.specs.declared.access.Access.{Access}
 use Rattle.trace_run.specs.declared.access.KeptRead.{KeptRead}
-use Rattle.trace_run.specs.Access.{access_of, events_of_answered, events_of_drop, events_of_refused, held_key, source_of}
+use Rattle.trace_run.specs.Access.{AsksPool, access_of, events_of_answered, events_of_drop, events_of_refused, held_key, source_of}
 use Rattle.trace_run.specs.PlainCache.{kept_read}
 
 -- ---- the reads that are kept
@@ -84,10 +84,12 @@ events_of blocks s kept (ops.Read n t x window) reply = option_map_or (λ ptr. e
 events_of blocks s kept (ops.Hold n t x) reply = option_map_or (λ ptr. events_of_hold n t s ptr reply) (slice_get blocks x) []
 events_of blocks s kept (ops.Drop n x) reply = events_of_dropping n x kept reply
 
--- an answered read names where its access found the bytes
+-- An answered read names where its access found the bytes, and one that the pool refused had to ask the pool.
 abbrev pub NamesSource : Access → Reply → Type 0
 NamesSource access (Read served digest shown) = served ≡ source_of access
 NamesSource access (Kept served) = served ≡ source_of access
+NamesSource access (Refused PoolFault) = AsksPool access
+NamesSource access (Refused (Mismatch digest)) = AsksPool access
 NamesSource access reply = Unit {0}
 
 abbrev pub IsFoundAs : List Ptr → PlainShard → Op → Reply → Type 0

@@ -1,5 +1,5 @@
 -- What a run answers, status by status.
-use Rattle.std.specs.Prelude.{◌≡◌, ℕ, ◌+◌, ◌^◌, ◌<◌, ◌≤◌, List, Option, Some, count_by, Bool, true, false, if◌then◌else◌}
+use Rattle.std.specs.Prelude.{◌≡◌, ℕ, ◌+◌, ◌*◌, ◌^◌, ◌<◌, ◌≤◌, List, Option, Some, IfSome, count_by, replicate, Bool, true, false, if◌then◌else◌}
 use Rattle.std.specs.List.{list_any}
 use Rattle.std.specs.Io.KnownBytes.{Appends}
 use Rattle.vdev_io.specs.Faults.{Rose}
@@ -11,6 +11,8 @@ use Rattle.trace_text.specs.declared.trace.Trace.{Trace}
 use Rattle.trace_run.specs.declared.status.Status.{Status}
 use Rattle.trace_run.specs.declared.status.Status.TheVariants as statuses
 use Rattle.trace_run.specs.declared.words.Command.{Command}
+use Rattle.trace_run.specs.declared.words.Command.TheVariants.{Run, Gen}
+use Rattle.trace_text.specs.Generator.{IsGenerated}
 use Rattle.trace_run.specs.Answers.{AnswersAll, is_pool_fault, is_refusal}
 use Rattle.trace_run.specs.Explaining.{Explain}
 use Rattle.trace_run.specs.Stream.{Gives, AppendsFront}
@@ -28,10 +30,10 @@ pub record StreamState : Type 0 where
   pub told : Option (List ℕ)
   pub faults : ℕ
 
--- the words are a command, but where their first wrong word is told
-abbrev pub AnswersWords : List (List ℕ) → Status → Type 0
-AnswersWords words (statuses.Usage index) = IsFirstWrong words index
-AnswersWords words status = (command : Command) × IsCommand words command
+-- The words are a command, and this is what it did; or they are none, and their first wrong word is told.
+abbrev pub AnswersWords : List (List ℕ) → (Command → Type 0) → Status → Type 0
+AnswersWords words did (statuses.Usage index) = IsFirstWrong words index
+AnswersWords words did status = (command : Command) × IsCommand words command × did command
 
 -- The source was read to its end, and its text is this trace.
 pub record WasRead (before after : StreamState) (trace : Trace) : Type 0 where
@@ -64,6 +66,20 @@ pub record IsReport (source_before source_after : StreamState) (pool_before pool
   pub status : report.status ≡ report_status report
   pub whole : report.short ≡ false
 
+-- a pool of so many blocks of 512 zero bytes, which was not read yet
+abbrev pub zero_pool : ℕ → PoolState
+zero_pool blocks = record { size = blocks * 512; told = Some (replicate (blocks * 512) 0); reads = 0; faults = 0 }
+
+-- The report is that of a made trace over its own pool of zero bytes, which doesn't fail: no reply is a refusal, and none is printed.
+pub record IsGenReport (seed blocks ops : ℕ) (report : Report) : Type 0 where
+  pub trace : Trace
+  pub made : IsGenerated seed blocks ops trace
+  pub pool_after : PoolState
+  pub never_failed : pool_after.faults ≡ 0
+  pub run : IsRun (zero_pool blocks) pool_after trace report
+  pub status : report.status ≡ 0
+  pub short : report.short ≡ true
+
 -- the report is there exactly where the trace was run
 abbrev pub has_report : Status → Bool
 has_report statuses.Ok = true
@@ -85,13 +101,46 @@ AnswersSource before after statuses.SourceFault = Rose before.faults after.fault
 AnswersSource before after status = Unit {0}
 
 -- What was written behind what the sink had: the report's text where the status is the report's, a front of it where the sink
--- failed, and else nothing.
-abbrev pub AnswersSink : StreamState → StreamState → Status → Option Report → Type 0
-AnswersSink before after statuses.Ok (Some report) = Appends before.told after.told (text_of report false) × (report.status ≡ 0)
-AnswersSink before after statuses.ReadsFailed (Some report) = Appends before.told after.told (text_of report false) × (report.status ≡ 1)
-AnswersSink before after statuses.SinkFault (Some report) =
-    AppendsFront before.told after.told (text_of report false) × Rose before.faults after.faults
-AnswersSink before after status report = after ≡ before
+-- failed, and else nothing. The text has the events where they are asked for.
+abbrev pub AnswersSink : Bool → StreamState → StreamState → Status → Option Report → Type 0
+AnswersSink events before after statuses.Ok (Some report) = Appends before.told after.told (text_of report events) × (report.status ≡ 0)
+AnswersSink events before after statuses.ReadsFailed (Some report) = Appends before.told after.told (text_of report events) × (report.status ≡ 1)
+AnswersSink events before after statuses.SinkFault (Some report) =
+    AppendsFront before.told after.told (text_of report events) × Rose before.faults after.faults
+AnswersSink events before after status report = after ≡ before
+
+-- ---- what each command does
+
+-- the states of what was handed in, before and after
+pub record Handed : Type 0 where
+  pub source : StreamState
+  pub sink : StreamState
+  pub pool : PoolState
+
+-- A run answers by what the source gave. Its report is that of the trace.
+pub record DoesRun (events : Bool) (before after : Handed) (status : Status) (report : Option Report) : Type 0 where
+  pub source : AnswersSource before.source after.source status
+  pub reported : IfSome report (IsReport before.source after.source before.pool after.pool)
+  pub sink : AnswersSink events before.sink after.sink status report
+
+-- the statuses of a made trace
+abbrev pub IsGenStatus : Status → Type 0
+IsGenStatus statuses.Ok = Unit {0}
+IsGenStatus statuses.SinkFault = Unit {0}
+IsGenStatus statuses.NoMemory = Unit {0}
+IsGenStatus status = ⊥
+
+-- A made trace reads no source and leaves the pool that was handed in alone.
+pub record DoesGen (seed blocks ops : ℕ) (before after : Handed) (status : Status) (report : Option Report) : Type 0 where
+  pub fair : IsGenStatus status
+  pub source : after.source ≡ before.source
+  pub pool : after.pool ≡ before.pool
+  pub reported : IfSome report (IsGenReport seed blocks ops)
+  pub sink : AnswersSink false before.sink after.sink status report
+
+abbrev pub Does : (before after : Handed) → Status → Option Report → Command → Type 0
+Does before after status report (Run events) = DoesRun events before after status report
+Does before after status report (Gen seed blocks ops) = DoesGen seed blocks ops before after status report
 
 -- a fact where the words are refused
 abbrev pub IfUsage : Status → Type 0 → Type 0

@@ -7,7 +7,7 @@ use Rattle.trace_run.specs.declared.access.Access.{Access}
 use Rattle.trace_run.specs.declared.read.ReadFault.{ReadFault}
 use Rattle.trace_run.specs.declared.read.ReadFault.TheVariants.{PoolFault, Mismatch, Key, NoMemory}
 use Rattle.trace_run.specs.declared.serve.Given.{Given}
-use Rattle.trace_run.specs.Access.{access_of, events_of_answered, events_of_refused, held_key, source_of}
+use Rattle.trace_run.specs.Access.{AsksPool, access_of, events_of_answered, events_of_refused, held_key, source_of}
 use Rattle.trace_run.specs.Answers.{window_of}
 use Rattle.trace_run.specs.Calls.{CountsReads}
 use Rattle.trace_run.specs.PlainCache.{MakesAll, PlainCache, kept_read}
@@ -35,5 +35,5 @@ MakesRead block t ptr old new before now (Err (Key fault)) = (new ≡ old) × (n
 MakesRead block t ptr old new before now (Err NoMemory) = Unit {0}
 MakesRead block t ptr old new before now (Err fault) =
     let access = access_of old.log.now ptr in
-    MakesAll (events_of_refused old.caller t ptr access) old.kept old new
+    AsksPool access × MakesAll (events_of_refused old.caller t ptr access) old.kept old new
     × CountsReads (events_of_refused old.caller t ptr access) before now

@@ -5,6 +5,7 @@ mod access;
 mod answer;
 mod caller_cache;
 mod read;
+mod run_trace;
 mod serve;
 mod status;
 mod stream;
@@ -12,6 +13,7 @@ mod stream;
 mod tests;
 mod top;
 mod words;
+mod zero_pool;
 
 pub use status::{Outcome, Status};
 pub use top::run;

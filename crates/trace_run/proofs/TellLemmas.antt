@@ -1,0 +1,366 @@
+-- One caller's history holds every call of its operations once.
+use Rattle.std.proofs.Common.{◌≡◌, ◌≢◌, ℕ, zero, suc, ◌+◌, ◌<◌, ◌≤◌, Bool, true, false, not, ◌&&◌, ◌==◌, if◌then◌else◌, IsTrue, List, [], ◌∷◌, ◌++◌, length, map, Option, Some, None, IfSome, ◌⊎◌, inl, inr, refl, sym, ap, subst, ◌∙◌, arith, append_assoc, append-nil}
+use Rattle.std.specs.Prelude.{filter, slice_get, slice_index_or}
+use Rattle.std.specs.List.{AllByRecursion}
+use Rattle.std.specs.Option.{option_map_or}
+use Rattle.std.proofs.lemmas.Bool.{cases_eq, false≢true}
+use Rattle.std.proofs.lemmas.Bool.Decides.{nat_tests}
+use Rattle.std.proofs.lemmas.Slice.Eq.{bytes_eq-Decides}
+use Rattle.blk_ptr.specs.declared.digest.Digest.{Digest}
+use Rattle.blk_ptr.specs.declared.key.Key.{Key}
+use Rattle.blk_ptr.specs.declared.ptr.Ptr.{Ptr}
+use Rattle.blk_ptr.specs.Order.{digest_eq}
+use Rattle.arc_lists.proofs.Tables.{cases_true, some_is}
+use Rattle.arc_core.specs.declared.entry.Entry.{Entry}
+use Rattle.arc_core.specs.declared.event.Event.{Event}
+use Rattle.arc_core.specs.declared.event.Event.TheVariants as event
+use Rattle.arc_core.specs.declared.served.Served.{Served}
+use Rattle.arc_core.specs.declared.served.Served.TheVariants as served
+use Rattle.arc_core.specs.Operations.{Act, Reads, Keeps, GivesBack, Fails, AreEvents, HoldEveryCallOnce, IsHonest, Moment, StandsFor, Tell, act_key, actor_of, acts_in, is_of_feed, is_pass, moments, number_of, own_moments}
+use Rattle.arc_core.specs.PlainShard.{PlainShard, entry_is, entry_of, keeps_digest, resident_digest}
+use Rattle.arc_core.specs.Replay.{replay}
+use Rattle.trace_text.specs.declared.op.Op.{Op}
+use Rattle.trace_text.specs.declared.op.Op.TheVariants as ops
+use Rattle.trace_text.specs.declared.reply.Reply.{Reply}
+use Rattle.trace_text.specs.declared.reply.Reply.TheVariants.{Read, Kept, Dropped, Refused}
+use Rattle.trace_text.specs.declared.reply.Refusal.TheVariants.{PoolFault, Mismatch, Key, NoMemory, Range, NoHold}
+use Rattle.trace_run.specs.declared.access.Access.{Access}
+use Rattle.trace_run.specs.declared.access.Access.TheVariants as access
+use Rattle.trace_run.specs.declared.access.KeptRead.{KeptRead}
+use Rattle.trace_run.specs.Access.{AsksPool, access_of, events_of_answered, events_of_drop, events_of_refused, found, held_key, source_of}
+use Rattle.trace_run.specs.Acts.{acts_of, acts_of_all, acts_of_caller, acts_of_drop, acts_of_dropping, acts_of_drops, acts_of_hold, acts_of_read}
+use Rattle.trace_run.specs.OneCaller.{AreFoundAs, IsFoundAs, NamesSource, events_of, events_of_all, events_of_dropping, events_of_drops, events_of_hold, events_of_read, kept_after, kept_after_all, oldest_key, one_caller_history}
+use Rattle.trace_run.specs.Tally.{caller_of}
+use Rattle.trace_run.proofs.CacheLemmas.{access-hit, resident-entry}
+
+-- ---- lists of acts and of moments
+
+Tell-append : (xs ys : List Act) (ms ns : List Moment) → Tell xs ms → Tell ys ns → Tell (xs ++ ys) (ms ++ ns)
+Tell-append [] ys ms ns first rest = rw first rest
+Tell-append (x ∷ xs) ys ms ns first rest =
+    (first.0, first.1 ++ ns, ap (λ (l : List Moment). l ++ ns) first.2 ∙ append_assoc first.0 first.1 ns, first.3, Tell-append xs ys first.1 ns first.4 rest)
+
+Tell-one : (act : Act) (ms : List Moment) → StandsFor act ms → Tell (act ∷ []) ms
+Tell-one act ms stands = (ms, [], sym (append-nil ms), stands, refl)
+
+pub moments-append : (s : PlainShard) (front rest : List Event) → moments s (front ++ rest) ≡ moments s front ++ moments (replay s front) rest
+moments-append s [] rest = refl
+moments-append s (e ∷ es) rest = ap (λ (ms : List Moment). record { before = s; event = e } ∷ ms) (moments-append _ es rest)
+
+-- ---- what an access says of digests
+
+digest_eq-same : (d : Digest) → digest_eq d d ≡ true
+digest_eq-same d = (bytes_eq-Decides d.0 d.0).1 refl
+
+-- a hit found the digest that is asked for
+hit-keeps : (s : PlainShard) (ptr : Ptr) → access_of s ptr ≡ access.Hit → IsTrue (entry_is (keeps_digest ptr.digest) ptr.key s)
+hit-keeps s ptr is =
+    let some = resident-entry (entry_of ptr.key s) ptr.digest (access-hit s ptr is) in
+    rw (some.1, some.3) (digest_eq-same ptr.digest)
+
+past-differs : (asked kept : Digest) (o : Option Digest) → found asked o ≡ access.Past kept → kept ≢ asked
+past-differs asked kept None is = cc
+past-differs asked kept (Some d) is = elim (cases_true (digest_eq d asked)) [
+  | inl same ↦
+      let hit : access.Hit ≡ access.Past kept = rw same at is in
+      cc
+  | inr differs ↦
+      let past : access.Past d ≡ access.Past kept = rw differs at is in
+      let same : d ≡ kept = cc in
+      λ equal. false≢true (sym differs ∙ ap (λ (x : Digest). digest_eq x asked) (same ∙ equal) ∙ digest_eq-same asked)
+]
+
+-- ---- the moments of one operation
+
+stands-read : (n t : ℕ) (s : PlainShard) (ptr : Ptr) (a : Access) → access_of s ptr ≡ a
+    → StandsFor (Reads n t ptr (source_of a)) (moments s (events_of_answered n t ptr a ++ events_of_drop n (held_key ptr a)))
+stands-read n t s ptr access.Hit is = record { events = refl; digests = (hit-keeps s ptr is, (tt, tt)) }
+stands-read n t s ptr (access.Past kept) is = record { events = (kept, refl); digests = (past-differs ptr.digest kept (resident_digest ptr.key s) is, tt) }
+stands-read n t s ptr access.Miss is = record { events = refl; digests = (tt, (tt, (tt, tt))) }
+
+stands-hold : (n t : ℕ) (s : PlainShard) (ptr : Ptr) (a : Access) → access_of s ptr ≡ a
+    → StandsFor (Keeps n t ptr (source_of a)) (moments s (events_of_answered n t ptr a))
+stands-hold n t s ptr access.Hit is = record { events = refl; digests = (hit-keeps s ptr is, tt) }
+stands-hold n t s ptr (access.Past kept) is = record { events = (kept, refl); digests = (past-differs ptr.digest kept (resident_digest ptr.key s) is, tt) }
+stands-hold n t s ptr access.Miss is = record { events = refl; digests = (tt, (tt, tt)) }
+
+stands-refused : (n t : ℕ) (s : PlainShard) (ptr : Ptr) (a : Access) → access_of s ptr ≡ a → AsksPool a
+    → StandsFor (Fails n t ptr) (moments s (events_of_refused n t ptr a))
+stands-refused n t s ptr access.Hit is asks = absurd asks
+stands-refused n t s ptr (access.Past kept) is asks = record { events = inr (kept, refl); digests = (past-differs ptr.digest kept (resident_digest ptr.key s) is, tt) }
+stands-refused n t s ptr access.Miss is asks = record { events = inl refl; digests = (tt, (tt, tt)) }
+
+tell-drop : (n : ℕ) (held : Option Key) (s : PlainShard) → Tell (acts_of_drop n held) (moments s (events_of_drop n held))
+tell-drop n None s = refl
+tell-drop n (Some key) s = Tell-one (GivesBack n key) _ (record { events = refl; digests = (tt, tt) })
+
+tell-read : (n t : ℕ) (s : PlainShard) (ptr : Ptr) (reply : Reply) → NamesSource (access_of s ptr) reply → Tell (acts_of_read n t ptr reply) (moments s (events_of_read n t s ptr reply))
+tell-read n t s ptr (Read served digest shown) named = Tell-one (Reads n t ptr served) _ (rw named (stands-read n t s ptr (access_of s ptr) refl))
+tell-read n t s ptr (Kept served) named = refl
+tell-read n t s ptr Dropped named = refl
+tell-read n t s ptr (Refused PoolFault) named = Tell-one (Fails n t ptr) _ (stands-refused n t s ptr (access_of s ptr) refl named)
+tell-read n t s ptr (Refused (Mismatch digest)) named = Tell-one (Fails n t ptr) _ (stands-refused n t s ptr (access_of s ptr) refl named)
+tell-read n t s ptr (Refused (Key fault)) named = refl
+tell-read n t s ptr (Refused NoMemory) named = refl
+tell-read n t s ptr (Refused (Range end size)) named = refl
+tell-read n t s ptr (Refused (NoHold block)) named = refl
+
+tell-hold : (n t : ℕ) (s : PlainShard) (ptr : Ptr) (reply : Reply) → NamesSource (access_of s ptr) reply → Tell (acts_of_hold n t ptr reply) (moments s (events_of_hold n t s ptr reply))
+tell-hold n t s ptr (Read served digest shown) named = refl
+tell-hold n t s ptr (Kept served) named = Tell-one (Keeps n t ptr served) _ (rw named (stands-hold n t s ptr (access_of s ptr) refl))
+tell-hold n t s ptr Dropped named = refl
+tell-hold n t s ptr (Refused PoolFault) named = Tell-one (Fails n t ptr) _ (stands-refused n t s ptr (access_of s ptr) refl named)
+tell-hold n t s ptr (Refused (Mismatch digest)) named = Tell-one (Fails n t ptr) _ (stands-refused n t s ptr (access_of s ptr) refl named)
+tell-hold n t s ptr (Refused (Key fault)) named = refl
+tell-hold n t s ptr (Refused NoMemory) named = refl
+tell-hold n t s ptr (Refused (Range end size)) named = refl
+tell-hold n t s ptr (Refused (NoHold block)) named = refl
+
+tell-dropping : (n x : ℕ) (kept : List KeptRead) (s : PlainShard) (reply : Reply) → Tell (acts_of_dropping n x kept reply) (moments s (events_of_dropping n x kept reply))
+tell-dropping n x kept s (Read served digest shown) = refl
+tell-dropping n x kept s (Kept served) = refl
+tell-dropping n x kept s Dropped = tell-drop n (oldest_key x kept) s
+tell-dropping n x kept s (Refused refusal) = refl
+
+tell-of : (blocks : List Ptr) (s : PlainShard) (kept : List KeptRead) (op : Op) (reply : Reply) → IsFoundAs blocks s op reply → Tell (acts_of blocks kept op reply) (moments s (events_of blocks s kept op reply))
+tell-of blocks s kept (ops.Read n t x window) reply named = go (slice_get blocks x) named
+  where
+    go : (o : Option Ptr) → IfSome o (λ ptr. NamesSource (access_of s ptr) reply)
+        → Tell (option_map_or (λ ptr. acts_of_read n t ptr reply) o []) (moments s (option_map_or (λ ptr. events_of_read n t s ptr reply) o []))
+    go None named = refl
+    go (Some ptr) named = tell-read n t s ptr reply named
+tell-of blocks s kept (ops.Hold n t x) reply named = go (slice_get blocks x) named
+  where
+    go : (o : Option Ptr) → IfSome o (λ ptr. NamesSource (access_of s ptr) reply)
+        → Tell (option_map_or (λ ptr. acts_of_hold n t ptr reply) o []) (moments s (option_map_or (λ ptr. events_of_hold n t s ptr reply) o []))
+    go None named = refl
+    go (Some ptr) named = tell-hold n t s ptr reply named
+tell-of blocks s kept (ops.Drop n x) reply named = tell-dropping n x kept s reply
+
+-- ---- the moments of all operations
+
+tell-all : (blocks : List Ptr) (s : PlainShard) (kept : List KeptRead) (os : List Op) (replies : List Reply) → AreFoundAs blocks s kept os replies
+    → Tell (acts_of_all blocks kept os replies) (moments s (events_of_all blocks s kept os replies))
+tell-all blocks s kept [] replies named = refl
+tell-all blocks s kept (op ∷ os) [] named = refl
+tell-all blocks s kept (op ∷ os) (reply ∷ replies) named =
+    let here = events_of blocks s kept op reply in
+    let next = replay s here in
+    rw (moments-append s here (events_of_all blocks next (kept_after blocks op reply kept) os replies))
+    (Tell-append (acts_of blocks kept op reply) (acts_of_all blocks (kept_after blocks op reply kept) os replies) (moments s here) _
+    (tell-of blocks s kept op reply named.0) (tell-all blocks next (kept_after blocks op reply kept) os replies named.1))
+
+tell-drops : (n : ℕ) (kept : List KeptRead) (s : PlainShard) → Tell (acts_of_drops n kept) (moments s (events_of_drops n kept))
+tell-drops n [] s = refl
+tell-drops n (read ∷ reads) s =
+    rw (moments-append s (events_of_drop n read.held) (events_of_drops n reads))
+    (Tell-append (acts_of_drop n read.held) (acts_of_drops n reads) (moments s (events_of_drop n read.held)) _ (tell-drop n read.held s) (tell-drops n reads (replay s (events_of_drop n read.held))))
+
+pub tell-history : (blocks : List Ptr) (n : ℕ) (s : PlainShard) (os : List Op) (replies : List Reply) → AreFoundAs blocks s [] os replies
+    → Tell (acts_of_caller blocks n os replies) (moments s (one_caller_history blocks n s os replies))
+tell-history blocks n s os replies named =
+    let front = events_of_all blocks s [] os replies in
+    let kept = kept_after_all blocks [] os replies in
+    rw (moments-append s front (events_of_drops n kept))
+    (Tell-append (acts_of_all blocks [] os replies) (acts_of_drops n kept) (moments s front) _ (tell-all blocks s [] os replies named) (tell-drops n kept (replay s front)))
+
+-- ---- whose they are
+
+abbrev IsMine : ℕ → Event → Type 0
+IsMine n e = (number_of e ≡ n) × (is_pass e ≡ false)
+
+all-append : {X : Type 0} (P : X → Type 0) (xs ys : List X) → AllByRecursion P xs → AllByRecursion P ys → AllByRecursion P (xs ++ ys)
+all-append P [] ys first rest = rest
+all-append P (x ∷ xs) ys first rest = (first.0, all-append P xs ys first.1 rest)
+
+filter-all : {X : Type 0} (p : X → Bool) (xs : List X) → AllByRecursion (λ x. p x ≡ true) xs → filter p xs ≡ xs
+filter-all p [] all = refl
+filter-all {X} p (x ∷ xs) all = rw all.0 (ap (λ (l : List X). x ∷ l) (filter-all p xs all.1))
+
+filter-none : {X : Type 0} (p : X → Bool) (xs : List X) → AllByRecursion (λ x. p x ≡ false) xs → filter p xs ≡ []
+filter-none p [] all = refl
+filter-none p (x ∷ xs) all = rw all.0 (filter-none p xs all.1)
+
+all-map : {X : Type 0} (P Q : X → Type 0) (xs : List X) → ((x : X) → P x → Q x) → AllByRecursion P xs → AllByRecursion Q xs
+all-map P Q [] f all = tt
+all-map P Q (x ∷ xs) f all = (f x all.0, all-map P Q xs f all.1)
+
+mine-drop : (n : ℕ) (held : Option Key) → AllByRecursion (IsMine n) (events_of_drop n held)
+mine-drop n None = tt
+mine-drop n (Some key) = ((refl, refl), tt)
+
+mine-answered : (n t : ℕ) (ptr : Ptr) (a : Access) → AllByRecursion (IsMine n) (events_of_answered n t ptr a)
+mine-answered n t ptr access.Hit = ((refl, refl), tt)
+mine-answered n t ptr (access.Past kept) = ((refl, refl), tt)
+mine-answered n t ptr access.Miss = ((refl, refl), ((refl, refl), tt))
+
+mine-refused : (n t : ℕ) (ptr : Ptr) (a : Access) → AllByRecursion (IsMine n) (events_of_refused n t ptr a)
+mine-refused n t ptr access.Hit = tt
+mine-refused n t ptr (access.Past kept) = ((refl, refl), tt)
+mine-refused n t ptr access.Miss = ((refl, refl), ((refl, refl), tt))
+
+mine-read : (n t : ℕ) (s : PlainShard) (ptr : Ptr) (reply : Reply) → AllByRecursion (IsMine n) (events_of_read n t s ptr reply)
+mine-read n t s ptr (Read served digest shown) = all-append (IsMine n) (events_of_answered n t ptr (access_of s ptr)) _ (mine-answered n t ptr (access_of s ptr)) (mine-drop n (held_key ptr (access_of s ptr)))
+mine-read n t s ptr (Kept served) = tt
+mine-read n t s ptr Dropped = tt
+mine-read n t s ptr (Refused PoolFault) = mine-refused n t ptr (access_of s ptr)
+mine-read n t s ptr (Refused (Mismatch digest)) = mine-refused n t ptr (access_of s ptr)
+mine-read n t s ptr (Refused (Key fault)) = tt
+mine-read n t s ptr (Refused NoMemory) = tt
+mine-read n t s ptr (Refused (Range end size)) = tt
+mine-read n t s ptr (Refused (NoHold block)) = tt
+
+mine-hold : (n t : ℕ) (s : PlainShard) (ptr : Ptr) (reply : Reply) → AllByRecursion (IsMine n) (events_of_hold n t s ptr reply)
+mine-hold n t s ptr (Read served digest shown) = tt
+mine-hold n t s ptr (Kept served) = mine-answered n t ptr (access_of s ptr)
+mine-hold n t s ptr Dropped = tt
+mine-hold n t s ptr (Refused PoolFault) = mine-refused n t ptr (access_of s ptr)
+mine-hold n t s ptr (Refused (Mismatch digest)) = mine-refused n t ptr (access_of s ptr)
+mine-hold n t s ptr (Refused (Key fault)) = tt
+mine-hold n t s ptr (Refused NoMemory) = tt
+mine-hold n t s ptr (Refused (Range end size)) = tt
+mine-hold n t s ptr (Refused (NoHold block)) = tt
+
+mine-dropping : (n x : ℕ) (kept : List KeptRead) (reply : Reply) → AllByRecursion (IsMine n) (events_of_dropping n x kept reply)
+mine-dropping n x kept (Read served digest shown) = tt
+mine-dropping n x kept (Kept served) = tt
+mine-dropping n x kept Dropped = mine-drop n (oldest_key x kept)
+mine-dropping n x kept (Refused refusal) = tt
+
+mine-of : (blocks : List Ptr) (s : PlainShard) (kept : List KeptRead) (op : Op) (reply : Reply) → AllByRecursion (IsMine (caller_of op)) (events_of blocks s kept op reply)
+mine-of blocks s kept (ops.Read n t x window) reply = go (slice_get blocks x)
+  where
+    go : (o : Option Ptr) → AllByRecursion (IsMine n) (option_map_or (λ ptr. events_of_read n t s ptr reply) o [])
+    go None = tt
+    go (Some ptr) = mine-read n t s ptr reply
+mine-of blocks s kept (ops.Hold n t x) reply = go (slice_get blocks x)
+  where
+    go : (o : Option Ptr) → AllByRecursion (IsMine n) (option_map_or (λ ptr. events_of_hold n t s ptr reply) o [])
+    go None = tt
+    go (Some ptr) = mine-hold n t s ptr reply
+mine-of blocks s kept (ops.Drop n x) reply = mine-dropping n x kept reply
+
+mine-all : (n : ℕ) (blocks : List Ptr) (s : PlainShard) (kept : List KeptRead) (os : List Op) (replies : List Reply) → AllByRecursion (λ op. caller_of op ≡ n) os
+    → AllByRecursion (IsMine n) (events_of_all blocks s kept os replies)
+mine-all n blocks s kept [] replies own = tt
+mine-all n blocks s kept (op ∷ os) [] own = tt
+mine-all n blocks s kept (op ∷ os) (reply ∷ replies) own =
+    all-append (IsMine n) (events_of blocks s kept op reply) _ (rw own.0 at (mine-of blocks s kept op reply)) (mine-all n blocks _ _ os replies own.1)
+
+mine-drops : (n : ℕ) (kept : List KeptRead) → AllByRecursion (IsMine n) (events_of_drops n kept)
+mine-drops n [] = tt
+mine-drops n (read ∷ reads) = all-append (IsMine n) (events_of_drop n read.held) _ (mine-drop n read.held) (mine-drops n reads)
+
+mine-moments : (n : ℕ) (s : PlainShard) (es : List Event) → AllByRecursion (IsMine n) es → AllByRecursion (λ m. IsMine n m.event) (moments s es)
+mine-moments n s [] all = tt
+mine-moments n s (e ∷ es) all = (all.0, mine-moments n _ es all.1)
+
+-- ---- the acts of one caller are its own
+
+act-drop : (n : ℕ) (held : Option Key) → AllByRecursion (λ act. actor_of act ≡ n) (acts_of_drop n held)
+act-drop n None = tt
+act-drop n (Some key) = (refl, tt)
+
+act-read : (n t : ℕ) (ptr : Ptr) (reply : Reply) → AllByRecursion (λ act. actor_of act ≡ n) (acts_of_read n t ptr reply)
+act-read n t ptr (Read served digest shown) = (refl, tt)
+act-read n t ptr (Kept served) = tt
+act-read n t ptr Dropped = tt
+act-read n t ptr (Refused PoolFault) = (refl, tt)
+act-read n t ptr (Refused (Mismatch digest)) = (refl, tt)
+act-read n t ptr (Refused (Key fault)) = tt
+act-read n t ptr (Refused NoMemory) = tt
+act-read n t ptr (Refused (Range end size)) = tt
+act-read n t ptr (Refused (NoHold block)) = tt
+
+act-hold : (n t : ℕ) (ptr : Ptr) (reply : Reply) → AllByRecursion (λ act. actor_of act ≡ n) (acts_of_hold n t ptr reply)
+act-hold n t ptr (Read served digest shown) = tt
+act-hold n t ptr (Kept served) = (refl, tt)
+act-hold n t ptr Dropped = tt
+act-hold n t ptr (Refused PoolFault) = (refl, tt)
+act-hold n t ptr (Refused (Mismatch digest)) = (refl, tt)
+act-hold n t ptr (Refused (Key fault)) = tt
+act-hold n t ptr (Refused NoMemory) = tt
+act-hold n t ptr (Refused (Range end size)) = tt
+act-hold n t ptr (Refused (NoHold block)) = tt
+
+act-dropping : (n x : ℕ) (kept : List KeptRead) (reply : Reply) → AllByRecursion (λ act. actor_of act ≡ n) (acts_of_dropping n x kept reply)
+act-dropping n x kept (Read served digest shown) = tt
+act-dropping n x kept (Kept served) = tt
+act-dropping n x kept Dropped = act-drop n (oldest_key x kept)
+act-dropping n x kept (Refused refusal) = tt
+
+act-of : (blocks : List Ptr) (kept : List KeptRead) (op : Op) (reply : Reply) → AllByRecursion (λ act. actor_of act ≡ caller_of op) (acts_of blocks kept op reply)
+act-of blocks kept (ops.Read n t x window) reply = go (slice_get blocks x)
+  where
+    go : (o : Option Ptr) → AllByRecursion (λ act. actor_of act ≡ n) (option_map_or (λ ptr. acts_of_read n t ptr reply) o [])
+    go None = tt
+    go (Some ptr) = act-read n t ptr reply
+act-of blocks kept (ops.Hold n t x) reply = go (slice_get blocks x)
+  where
+    go : (o : Option Ptr) → AllByRecursion (λ act. actor_of act ≡ n) (option_map_or (λ ptr. acts_of_hold n t ptr reply) o [])
+    go None = tt
+    go (Some ptr) = act-hold n t ptr reply
+act-of blocks kept (ops.Drop n x) reply = act-dropping n x kept reply
+
+act-all : (n : ℕ) (blocks : List Ptr) (kept : List KeptRead) (os : List Op) (replies : List Reply) → AllByRecursion (λ op. caller_of op ≡ n) os
+    → AllByRecursion (λ act. actor_of act ≡ n) (acts_of_all blocks kept os replies)
+act-all n blocks kept [] replies own = tt
+act-all n blocks kept (op ∷ os) [] own = tt
+act-all n blocks kept (op ∷ os) (reply ∷ replies) own =
+    all-append (λ act. actor_of act ≡ n) (acts_of blocks kept op reply) _ (rw own.0 at (act-of blocks kept op reply)) (act-all n blocks _ os replies own.1)
+
+act-drops : (n : ℕ) (kept : List KeptRead) → AllByRecursion (λ act. actor_of act ≡ n) (acts_of_drops n kept)
+act-drops n [] = tt
+act-drops n (read ∷ reads) = all-append (λ act. actor_of act ≡ n) (acts_of_drop n read.held) _ (act-drop n read.held) (act-drops n reads)
+
+act-caller : (blocks : List Ptr) (n : ℕ) (os : List Op) (replies : List Reply) → AllByRecursion (λ op. caller_of op ≡ n) os → AllByRecursion (λ act. actor_of act ≡ n) (acts_of_caller blocks n os replies)
+act-caller blocks n os replies own = all-append (λ act. actor_of act ≡ n) (acts_of_all blocks [] os replies) _ (act-all n blocks [] os replies own) (act-drops n (kept_after_all blocks [] os replies))
+
+mine-history : (blocks : List Ptr) (n : ℕ) (s : PlainShard) (os : List Op) (replies : List Reply) → AllByRecursion (λ op. caller_of op ≡ n) os
+    → AllByRecursion (λ m. IsMine n m.event) (moments s (one_caller_history blocks n s os replies))
+mine-history blocks n s os replies own =
+    mine-moments n s (one_caller_history blocks n s os replies)
+    (all-append (IsMine n) (events_of_all blocks s [] os replies) _ (mine-all n blocks s [] os replies own) (mine-drops n (kept_after_all blocks [] os replies)))
+
+-- ---- each call once
+
+same-test : (m : ℕ) → (m == m) ≡ true
+same-test m = grind (arith, nat_tests)
+
+other-test : (m n : ℕ) → m ≢ n → (m == n) ≡ false
+other-test m n differs = grind (arith, nat_tests)
+
+own-moments : (n : ℕ) (ms : List Moment) → AllByRecursion (λ m. IsMine n m.event) ms → own_moments n ms ≡ ms
+own-moments n ms mine = filter-all _ ms (all-map (λ m. IsMine n m.event) _ ms (λ m is. rw (is.0, is.1, same-test n) refl) mine)
+
+no-moments : (n other : ℕ) (ms : List Moment) → n ≢ other → AllByRecursion (λ m. IsMine n m.event) ms → own_moments other ms ≡ []
+no-moments n other ms differs mine = filter-none _ ms (all-map (λ m. IsMine n m.event) _ ms (λ m is. rw (is.0, other-test n other differs) refl) mine)
+
+own-acts : (n : ℕ) (acts : List Act) → AllByRecursion (λ act. actor_of act ≡ n) acts → acts_in (λ key. 0) 0 n acts ≡ acts
+own-acts n acts own = filter-all _ acts (all-map (λ act. actor_of act ≡ n) _ acts (λ act is. rw (is, same-test n) refl) own)
+
+no-acts : (n other : ℕ) (acts : List Act) → n ≢ other → AllByRecursion (λ act. actor_of act ≡ n) acts → acts_in (λ key. 0) 0 other acts ≡ []
+no-acts n other acts differs own = filter-none _ acts (all-map (λ act. actor_of act ≡ n) _ acts (λ act is. rw (is, other-test n other differs) refl) own)
+
+only-shard : (shard : ℕ) → shard < 1 → shard ≡ 0
+only-shard shard lt = omega arith
+
+pub every-call : (blocks : List Ptr) (callers n : ℕ) (s : PlainShard) (os : List Op) (replies : List Reply) → n ≢ callers → AllByRecursion (λ op. caller_of op ≡ n) os
+    → AreFoundAs blocks s [] os replies
+    → HoldEveryCallOnce callers (λ key. 0) s (acts_of_caller blocks n os replies) (one_caller_history blocks n s os replies ∷ [])
+every-call blocks callers n s os replies feeder own named =
+    let history = one_caller_history blocks n s os replies in
+    let acts = acts_of_caller blocks n os replies in
+    let ms = moments s history in
+    let mine = mine-history blocks n s os replies own in
+    let his = act-caller blocks n os replies own in
+    let told_at : (m : ℕ) → m ≢ callers → Tell (acts_in (λ key. 0) 0 m acts) (own_moments m ms) = λ m differs.
+        elim (cases_eq n m) [
+          | inl same ↦ subst (λ h. Tell (acts_in (λ key. 0) 0 h acts) (own_moments h ms)) same (rw (own-acts n acts his, own-moments n ms mine) (tell-history blocks n s os replies named))
+          | inr other ↦ rw (no-acts n m acts other his) (no-moments n m ms other mine)
+        ] in
+    record {
+      told = λ shard m lt differs. subst (λ i. Tell (acts_in (λ key. 0) i m acts) (own_moments m (moments s (slice_index_or (history ∷ []) i [])))) (sym (only-shard shard lt)) (told_at m differs);
+      fed = λ shard lt. subst (λ i. AllByRecursion (λ m. IsTrue (is_of_feed m.event)) (own_moments callers (moments s (slice_index_or (history ∷ []) i [])))) (sym (only-shard shard lt))
+          (rw (no-moments n callers ms feeder mine) tt);
+    }
