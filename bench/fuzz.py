@@ -1,8 +1,9 @@
 #!/usr/bin/env python3
-"""Feeds the program random bytes, random traces and mutated ones: bench/fuzz.py [SECONDS] [SEED], outside the gate.
+"""Feeds the program random bytes, random traces, mutated ones, and words: bench/fuzz.py [SECONDS] [SEED], outside the gate.
 
-The program has to end with a report (status 0 or 1) or with status 3 and nothing written, and to agree with the plain simulation in
-baseline/arc_sim.rs on the status and on each byte that is written. A trace on which it doesn't is kept, and its place is printed.
+The program has to end with a report (status 0 or 1), or with status 3, or 2 where the words were drawn, and nothing written; and to
+agree with the plain simulation in baseline/arc_sim.rs on the status and on each byte that is written. A trace on which it doesn't is
+kept, and its place is printed.
 Needs rustc. The program has to be built: (cd crates/arc_tool && rt run). ARC_TOOL and ARC_SIM may name other builds of the two.
 """
 import hashlib
@@ -96,6 +97,17 @@ def text(rng):
     return made if kind < 0.6 else mutated(rng, made)
 
 
+def words_of(rng):
+    """The words of a run, or now and then those of a made trace, some of them wrong."""
+    if rng.random() < 0.95:
+        return rng.choice([['run'], ['run', '--events']])
+    words = ['gen', str(rng.choice([0, 1, 7, 2**31 - 1, 2**31])), str(rng.choice([0, 1, 8, 100, 32_768, 32_769])),
+             str(rng.choice([0, 1, 10, 3000, 1_000_001]))]
+    if rng.random() < 0.5:
+        words[rng.randrange(4)] = rng.choice(['run', '--events', *NUMBERS])
+    return words[:rng.choice([4, 4, 4, 4, 3, 2, 1, 0])] + rng.choice([[], [], [], [], ['1']])
+
+
 def run(program, pool, words, given):
     ended = subprocess.run([program, pool, '-', *words], input=given, capture_output=True, timeout=60)
     return ended.returncode, ended.stdout
@@ -117,13 +129,14 @@ def main():
     until, runs, bad, ends = time.time() + seconds, 0, 0, {}
     while time.time() < until:
         given = text(rng)
-        words = rng.choice([['run'], ['run', '--events']])
+        words = words_of(rng)
         ours = run(tool, pool, words, given)
         theirs = run(plain, pool, words, given)
         runs += 1
         ends[ours[0]] = ends.get(ours[0], 0) + 1
         is_report = ours[0] in (0, 1) and ours[1].endswith(b'end %d\n' % ours[0])
-        if ours != theirs or not (is_report or ours == (3, b'')):
+        is_refused = ours == (3, b'') or (ours == (2, b'') and words not in (['run'], ['run', '--events']))
+        if ours != theirs or not (is_report or is_refused):
             bad += 1
             name = f'{work}/bad{bad}'
             with open(name, 'wb') as out:

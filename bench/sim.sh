@@ -1,6 +1,6 @@
 #!/usr/bin/env bash
 # Runs the program and a plain simulation of the same rules (baseline/arc_sim.rs) on the same traces over a pool file of zero bytes, and
-# prints the time and the peak memory of each, their ratios, and whether the two reports are the same, byte for byte.
+# prints the processor time and the peak memory of each, their ratios, and whether the two reports are the same, byte for byte.
 # Five traces: 200,000 and 1,000,000 reads drawn over 4,096 and 16,384 blocks, as the word gen draws them; and one of 60 MB, with 100,000
 # blocks, 1,000,000 reads and comments. It needs rustc and python3, and builds the program if that was not done yet.
 set -eu
@@ -11,7 +11,7 @@ work=$(mktemp -d)
 trap 'rm -rf "$work"' EXIT
 rustc --edition 2024 -O -o "$work/arc_sim" "$here/baseline/arc_sim.rs"
 python3 - "$tool" "$work/arc_sim" "$work" <<'PY'
-import hashlib, os, sys, time
+import hashlib, os, sys
 
 tool, plain, work = sys.argv[1:]
 ZEROS = hashlib.sha256(bytes(512)).hexdigest()
@@ -41,8 +41,7 @@ def long(out):
 
 
 def run(program, pool, trace, report):
-    """The seconds and the peak kilobytes of one run."""
-    start = time.perf_counter()
+    """The seconds of processor time and the peak kilobytes of one run."""
     child = os.fork()
     if child == 0:
         os.dup2(os.open(trace, os.O_RDONLY), 0)
@@ -50,7 +49,7 @@ def run(program, pool, trace, report):
         os.execv(program, [program, pool, '-', 'run'])
     _, status, usage = os.wait4(child, 0)
     assert os.waitstatus_to_exitcode(status) == 0, f'{program} ended with {os.waitstatus_to_exitcode(status)}'
-    return time.perf_counter() - start, usage.ru_maxrss
+    return usage.ru_utime + usage.ru_stime, usage.ru_maxrss
 
 
 def same(a, b):
