@@ -13,11 +13,17 @@ use Rattle.trace_text.specs.declared.reply.Reply.{Reply}
 use Rattle.trace_text.specs.declared.op.Op.TheVariants as ops
 use Rattle.trace_text.specs.declared.reply.Reply.TheVariants.{Read, Kept, Dropped, Refused}
 use Rattle.trace_text.specs.declared.reply.Refusal.TheVariants.{PoolFault, Mismatch, Key, NoMemory, Range, NoHold}
-use Rattle.trace_run.specs.Answers.{Answers, keeps, drops, kept_reads, dropped_reads, is_pool_read, is_pool_fault}
-use Rattle.vdev_io.specs.Faults.{CountsOne, Rose}
-use Rattle.trace_run.specs.Calls.{CountsReads, CountsFaults}
-use Rattle.std.proofs.lemmas.List.Sums.{sum_by-append, count_by-le-length}
-use Rattle.trace_run.specs.Tally.{AnswersNow, IsTally, block_of, caller_of, kept_after}
+use Rattle.trace_run.specs.Answers.{Answers, keeps, drops, kept_reads, dropped_reads, is_pool_fault}
+use Rattle.trace_run.specs.declared.access.KeptRead.{KeptRead}
+use Rattle.trace_run.specs.OneCaller.{is_of_block, kept_after, key_held_by, without_oldest}
+use Rattle.trace_run.specs.PlainCache.{kept_read}
+use Rattle.arc_lists.proofs.Tables.{cases_true}
+use Rattle.std.proofs.lemmas.Bool.{eqb-true, false≢true}
+use Rattle.vdev_io.specs.Faults.{Rose, last_count}
+use Rattle.trace_run.specs.Calls.{CountsFaults}
+use Rattle.std.proofs.lemmas.List.Sums.{sum_by-append, sum_by-cons, count_by-le-length}
+use Rattle.trace_run.specs.Tally.{AnswersNow, IsTally, caller_of, kept_of_block}
+use Rattle.trace_text.specs.Grammar.{block_of}
 
 -- one more element at the end changes none before it
 slice_get_below : {X : Type 0} (xs : List X) (y : X) (k : ℕ) → k < length xs → slice_get (xs ++ y ∷ []) k ≡ slice_get xs k
@@ -56,7 +62,7 @@ more_answers pool_len image blocks ops replies o r here each answer k op reply a
     ]
 
 -- one more element of a list
-take_one : {X : Type 0} (xs : List X) (i : ℕ) (x : X) → slice_get xs i ≡ Some x → take (i + 1) xs ≡ take i xs ++ x ∷ []
+pub take_one : {X : Type 0} (xs : List X) (i : ℕ) (x : X) → slice_get xs i ≡ Some x → take (i + 1) xs ≡ take i xs ++ x ∷ []
 take_one xs i x h =
     rw add-one (take-suc xs i x (slice_get_within xs i x h) ∙ ap (λ (v : _). take i xs ++ v ∷ []) (get_or_from_slice_get xs i x x h))
 
@@ -83,129 +89,12 @@ test_same : (n : ℕ) → test n n ≡ 1
 unfolding test
 test_same n = grind (arith, nat_tests)
 
+test_true : (n : ℕ) → (n == n) ≡ true
+test_true n = grind (arith, nat_tests)
+
 test_other : (m n : ℕ) → m ≢ n → test m n ≡ 0
 unfolding test
 test_other m n ne = grind (arith, nat_tests)
-
--- one more kept read of a block
-raised : (kept : List ℕ) (block x : ℕ) → block < length kept
-    → slice_index (slice_set kept block (slice_index kept block + 1)) x ≡ slice_index kept x + test block x
-raised kept block x h =
-    elim (cases_eq x block) [
-      | inl e ↦
-          let same = get_or-set_same kept block (slice_index kept block + 1) 0 h in
-          let one = test_same block in
-          rw e (omega (arith, same, one))
-      | inr ne ↦
-          let other = get_or-set_other kept block x (slice_index kept block + 1) 0 ne in
-          let none = test_other block x (λ e. ne (sym e)) in
-          omega (arith, other, none)
-    ]
-
--- one kept read less
-lowered : (kept : List ℕ) (block x : ℕ) → block < length kept → 0 < slice_index kept block
-    → slice_index (slice_set kept block (slice_index kept block - 1)) x + test block x ≡ slice_index kept x
-lowered kept block x h some =
-    elim (cases_eq x block) [
-      | inl e ↦
-          let same = get_or-set_same kept block (slice_index kept block - 1) 0 h in
-          let one = test_same block in
-          rw e (omega (arith, same, one))
-      | inr ne ↦
-          let other = get_or-set_other kept block x (slice_index kept block - 1) 0 ne in
-          let none = test_other block x (λ e. ne (sym e)) in
-          omega (arith, other, none)
-    ]
-
--- the caller's own operation counts
-own : (n caller block x : ℕ) → n ≡ caller → (if n == caller && block == x then 1 else 0) ≡ test block x
-unfolding test
-own n caller block x e = grind (arith, nat_tests)
-
--- an operation and its reply change the counts by what they keep and drop
-one_step : (pool_len : ℕ) (image : Option (List ℕ)) (blocks : List Ptr) (caller : ℕ) (kept : List ℕ) (o : Op) (r : Reply) (x : ℕ)
-    → caller_of o ≡ caller → block_of o < length kept → AnswersNow pool_len image blocks kept o r
-    → slice_index (kept_after o r kept) x + drops caller x o r ≡ slice_index kept x + keeps caller x o r
-one_step pool_len image blocks caller kept (ops.Read n t y w) r x same within answer = refl
-one_step pool_len image blocks caller kept (ops.Hold n t y) (Kept served) x same within answer =
-    let more = raised kept y x within in
-    let mine = own n caller y x same in
-    omega (arith, more, mine)
-one_step pool_len image blocks caller kept (ops.Hold n t y) Dropped x same within answer = refl
-one_step pool_len image blocks caller kept (ops.Hold n t y) (Refused refusal) x same within answer = refl
-one_step pool_len image blocks caller kept (ops.Hold n t y) (Read served digest shown) x same within answer = refl
-one_step pool_len image blocks caller kept (ops.Drop n y) Dropped x same within answer =
-    let less = lowered kept y x within answer in
-    let mine = own n caller y x same in
-    omega (arith, less, mine)
-one_step pool_len image blocks caller kept (ops.Drop n y) (Kept served) x same within answer = refl
-one_step pool_len image blocks caller kept (ops.Drop n y) (Refused refusal) x same within answer = refl
-one_step pool_len image blocks caller kept (ops.Drop n y) (Read served digest shown) x same within answer = refl
-
--- there are as many counts as before
-pub length-kept_after : (o : Op) (r : Reply) (kept : List ℕ) → length (kept_after o r kept) ≡ length kept
-length-kept_after (ops.Read n t y w) r kept = refl
-length-kept_after (ops.Hold n t y) (Kept served) kept = length-set kept y _
-length-kept_after (ops.Hold n t y) Dropped kept = refl
-length-kept_after (ops.Hold n t y) (Refused refusal) kept = refl
-length-kept_after (ops.Hold n t y) (Read served digest shown) kept = refl
-length-kept_after (ops.Drop n y) Dropped kept = length-set kept y _
-length-kept_after (ops.Drop n y) (Kept served) kept = refl
-length-kept_after (ops.Drop n y) (Refused refusal) kept = refl
-length-kept_after (ops.Drop n y) (Read served digest shown) kept = refl
-
--- at most one read is kept
-keeps-le : (caller x : ℕ) (o : Op) (r : Reply) → keeps caller x o r ≤ 1
-keeps-le caller x (ops.Read n t y w) r = omega arith
-keeps-le caller x (ops.Hold n t y) (Kept served) = grind (arith, nat_tests)
-keeps-le caller x (ops.Hold n t y) Dropped = omega arith
-keeps-le caller x (ops.Hold n t y) (Refused refusal) = omega arith
-keeps-le caller x (ops.Hold n t y) (Read served digest shown) = omega arith
-keeps-le caller x (ops.Drop n y) r = omega arith
-
-pub more_tally : (pool_len : ℕ) (image : Option (List ℕ)) (blocks : List Ptr) (caller : ℕ) (ops : List Op) (replies : List Reply) (kept : List ℕ) (o : Op) (r : Reply)
-    → slice_get ops (length replies) ≡ Some o → IsTally caller (take (length replies) ops) replies kept
-    → caller_of o ≡ caller → block_of o < length kept → AnswersNow pool_len image blocks kept o r
-    → IsTally caller (take (length replies + 1) ops) (replies ++ r ∷ []) (kept_after o r kept)
-more_tally pool_len image blocks caller ops replies kept o r here tally same within answer = record {
-  each = λ x bound.
-      let below : x < length kept = rw length-kept_after at bound in
-      let inside : length replies < length ops = slice_get_within ops (length replies) o here in
-      let front : take (length replies + 1) ops ≡ take (length replies) ops ++ o ∷ [] = take_one ops (length replies) o here in
-      let size : length replies ≡ length (take (length replies) ops) = sym (length-take-le (length replies) ops (omega arith)) in
-      let was = tally.each x below in
-      let step = one_step pool_len image blocks caller kept o r x same within answer in
-      let more_kept = kept_reads-snoc caller x (take (length replies) ops) replies o r size in
-      let more_dropped = dropped_reads-snoc caller x (take (length replies) ops) replies o r size in
-      rw front (omega (arith, was, step, more_kept, more_dropped));
-}
-
-pub more_few : (pool_len : ℕ) (image : Option (List ℕ)) (blocks : List Ptr) (caller : ℕ) (kept : List ℕ) (i : ℕ) (o : Op) (r : Reply)
-    → ((x : ℕ) → slice_index kept x ≤ i) → caller_of o ≡ caller → block_of o < length kept → AnswersNow pool_len image blocks kept o r
-    → (x : ℕ) → slice_index (kept_after o r kept) x ≤ i + 1
-more_few pool_len image blocks caller kept i o r few same within answer x =
-    let step = one_step pool_len image blocks caller kept o r x same within answer in
-    let one = keeps-le caller x o r in
-    let was = few x in
-    omega (arith, step, one, was)
-
--- an answer by the counts is one by the operations and replies before it
-pub to_answer : (pool_len : ℕ) (image : Option (List ℕ)) (blocks : List Ptr) (caller : ℕ) (earlier : List Op) (replies : List Reply) (kept : List ℕ) (o : Op) (r : Reply)
-    → IsTally caller earlier replies kept → caller_of o ≡ caller → block_of o < length kept → AnswersNow pool_len image blocks kept o r
-    → Answers pool_len image blocks earlier replies o r
-to_answer pool_len image blocks caller earlier replies kept (ops.Read n t y w) r tally same within answer = answer
-to_answer pool_len image blocks caller earlier replies kept (ops.Hold n t y) r tally same within answer = answer
-to_answer pool_len image blocks caller earlier replies kept (ops.Drop n y) Dropped tally same within answer =
-    let here = tally.each y within in rw same (omega (arith, here, answer))
-to_answer pool_len image blocks caller earlier replies kept (ops.Drop n y) (Refused (NoHold missing)) tally same within answer =
-    let here = tally.each y within in rw same (answer.0, omega (arith, here, answer.1))
-to_answer pool_len image blocks caller earlier replies kept (ops.Drop n y) (Refused PoolFault) tally same within answer = answer
-to_answer pool_len image blocks caller earlier replies kept (ops.Drop n y) (Refused (Mismatch found)) tally same within answer = answer
-to_answer pool_len image blocks caller earlier replies kept (ops.Drop n y) (Refused (Key fault)) tally same within answer = answer
-to_answer pool_len image blocks caller earlier replies kept (ops.Drop n y) (Refused NoMemory) tally same within answer = answer
-to_answer pool_len image blocks caller earlier replies kept (ops.Drop n y) (Refused (Range end size)) tally same within answer = answer
-to_answer pool_len image blocks caller earlier replies kept (ops.Drop n y) (Kept served) tally same within answer = answer
-to_answer pool_len image blocks caller earlier replies kept (ops.Drop n y) (Read served digest shown) tally same within answer = answer
 
 cond_le_one : (b : Bool) → cond b 1 0 ≤ 1
 cond_le_one true = omega arith
@@ -217,23 +106,101 @@ count_by-snoc p xs y =
     let parts : count_by p (xs ++ y ∷ []) ≡ count_by p xs + (0 + cond (p y) 1 0) = sum_by-append (λ x. cond (p x) 1 0) xs (y ∷ []) in
     omega (arith, parts)
 
-reads_by : (b : Bool) (before now : ℕ) → MatchBool b (CountsOne before now) (now ≡ before) → before < 2 ^ 63 + 2 ^ 32 → now ≡ before + cond b 1 0
-reads_by true before now h low = let one = h.more (omega arith) in omega (arith, one)
-reads_by false before now h low = omega (arith, h)
+-- the caller's own operation counts
+own : (n caller block x : ℕ) → n ≡ caller → (if n == caller && block == x then 1 else 0) ≡ test block x
+unfolding test
+own n caller block x e = grind (arith, nat_tests)
+
+-- a read that is kept is one more of its block
+kept_one : (read : KeptRead) (x : ℕ) → cond (is_of_block x read) 1 0 ≡ test read.block x
+unfolding test
+kept_one read x = refl
+
+raised : (kept : List KeptRead) (read : KeptRead) (x : ℕ) → kept_of_block x (kept ++ read ∷ []) ≡ kept_of_block x kept + test read.block x
+raised kept read x = count_by-snoc (is_of_block x) kept read ∙ ap (λ n. kept_of_block x kept + n) (kept_one read x)
+
+kept-cons : (read : KeptRead) (reads : List KeptRead) (x : ℕ) → kept_of_block x (read ∷ reads) ≡ test read.block x + kept_of_block x reads
+kept-cons read reads x = sum_by-cons (λ r. cond (is_of_block x r) 1 0) read reads ∙ ap (λ n. n + kept_of_block x reads) (kept_one read x)
+
+-- the oldest read of a block that is given back is one less
+lowered : (kept : List KeptRead) (block x : ℕ) → 0 < kept_of_block block kept → kept_of_block x (without_oldest block kept) + test block x ≡ kept_of_block x kept
+lowered [] block x some = absurd (omega arith)
+lowered (read ∷ reads) block x some = elim (cases_true (is_of_block block read)) [
+  | inl here ↦
+      let is : read.block ≡ block = eqb-true read.block block here in
+      let one : test read.block x ≡ test block x = ap (λ b. test b x) is in
+      rw here (omega (arith, kept-cons read reads x, one))
+  | inr later ↦
+      let none : test read.block block ≡ 0 = test_other read.block block (λ e. false≢true (sym later ∙ ap (λ b. b == block) e ∙ test_true block)) in
+      let rest = lowered reads block x (omega (arith, kept-cons read reads block, none, some)) in
+      rw later (omega (arith, kept-cons read (without_oldest block reads) x, kept-cons read reads x, rest))
+]
+
+-- an operation and its reply change the kept reads by what they keep and drop
+one_step : (pool_len : ℕ) (image : Option (List ℕ)) (blocks : List Ptr) (caller : ℕ) (kept : List KeptRead) (o : Op) (r : Reply) (x : ℕ)
+    → caller_of o ≡ caller → block_of o < length blocks → AnswersNow pool_len image blocks kept o r
+    → kept_of_block x (kept_after blocks o r kept) + drops caller x o r ≡ kept_of_block x kept + keeps caller x o r
+one_step pool_len image blocks caller kept (ops.Read n t y w) r x same within answer = refl
+one_step pool_len image blocks caller kept (ops.Hold n t y) (Kept served) x same within answer =
+    let more = raised kept (kept_read y (key_held_by answer.0 served)) x in
+    let mine = own n caller y x same in
+    rw answer.1 (omega (arith, more, mine))
+one_step pool_len image blocks caller kept (ops.Hold n t y) Dropped x same within answer = rw answer.1 refl
+one_step pool_len image blocks caller kept (ops.Hold n t y) (Refused refusal) x same within answer = rw answer.1 refl
+one_step pool_len image blocks caller kept (ops.Hold n t y) (Read served digest shown) x same within answer = rw answer.1 refl
+one_step pool_len image blocks caller kept (ops.Drop n y) Dropped x same within answer =
+    let less = lowered kept y x answer in
+    let mine = own n caller y x same in
+    omega (arith, less, mine)
+one_step pool_len image blocks caller kept (ops.Drop n y) (Kept served) x same within answer = refl
+one_step pool_len image blocks caller kept (ops.Drop n y) (Refused refusal) x same within answer = refl
+one_step pool_len image blocks caller kept (ops.Drop n y) (Read served digest shown) x same within answer = refl
+
+pub more_tally : (pool_len : ℕ) (image : Option (List ℕ)) (blocks : List Ptr) (caller : ℕ) (ops : List Op) (replies : List Reply) (kept : List KeptRead) (o : Op) (r : Reply)
+    → slice_get ops (length replies) ≡ Some o → IsTally caller (take (length replies) ops) replies kept
+    → caller_of o ≡ caller → block_of o < length blocks → AnswersNow pool_len image blocks kept o r
+    → IsTally caller (take (length replies + 1) ops) (replies ++ r ∷ []) (kept_after blocks o r kept)
+more_tally pool_len image blocks caller ops replies kept o r here tally same within answer = record {
+  each = λ x.
+      let inside : length replies < length ops = slice_get_within ops (length replies) o here in
+      let front : take (length replies + 1) ops ≡ take (length replies) ops ++ o ∷ [] = take_one ops (length replies) o here in
+      let size : length replies ≡ length (take (length replies) ops) = sym (length-take-le (length replies) ops (omega arith)) in
+      let was = tally.each x in
+      let step = one_step pool_len image blocks caller kept o r x same within answer in
+      let more_kept = kept_reads-snoc caller x (take (length replies) ops) replies o r size in
+      let more_dropped = dropped_reads-snoc caller x (take (length replies) ops) replies o r size in
+      rw front (omega (arith, was, step, more_kept, more_dropped));
+}
+
+-- an answer by the counts is one by the operations and replies before it
+pub to_answer : (pool_len : ℕ) (image : Option (List ℕ)) (blocks : List Ptr) (caller : ℕ) (earlier : List Op) (replies : List Reply) (kept : List KeptRead) (o : Op) (r : Reply)
+    → IsTally caller earlier replies kept → caller_of o ≡ caller → AnswersNow pool_len image blocks kept o r
+    → Answers pool_len image blocks earlier replies o r
+to_answer pool_len image blocks caller earlier replies kept (ops.Read n t y w) r tally same answer = answer
+to_answer pool_len image blocks caller earlier replies kept (ops.Hold n t y) r tally same answer = answer
+to_answer pool_len image blocks caller earlier replies kept (ops.Drop n y) Dropped tally same answer =
+    let here = tally.each y in rw same (omega (arith, here, answer))
+to_answer pool_len image blocks caller earlier replies kept (ops.Drop n y) (Refused (NoHold missing)) tally same answer =
+    let here = tally.each y in rw same (answer.0, omega (arith, here, answer.1))
+to_answer pool_len image blocks caller earlier replies kept (ops.Drop n y) (Refused PoolFault) tally same answer = answer
+to_answer pool_len image blocks caller earlier replies kept (ops.Drop n y) (Refused (Mismatch found)) tally same answer = answer
+to_answer pool_len image blocks caller earlier replies kept (ops.Drop n y) (Refused (Key fault)) tally same answer = answer
+to_answer pool_len image blocks caller earlier replies kept (ops.Drop n y) (Refused NoMemory) tally same answer = answer
+to_answer pool_len image blocks caller earlier replies kept (ops.Drop n y) (Refused (Range end size)) tally same answer = answer
+to_answer pool_len image blocks caller earlier replies kept (ops.Drop n y) (Kept served) tally same answer = answer
+to_answer pool_len image blocks caller earlier replies kept (ops.Drop n y) (Read served digest shown) tally same answer = answer
 
 faults_by : (b : Bool) (before now : ℕ) → MatchBool b (Rose before now) (before ≤ now) → before < 2 ^ 64 - 1 → before + cond b 1 0 ≤ now
 faults_by true before now h low = omega (arith, h)
 faults_by false before now h low = omega (arith, h)
 
-pub more_reads : (start before now : ℕ) (replies : List Reply) (reply : Reply) → length replies < 2 ^ 32
-    → (start < 2 ^ 63 → before ≡ start + count_by is_pool_read replies) → CountsReads reply before now
-    → start < 2 ^ 63 → now ≡ start + count_by is_pool_read (replies ++ reply ∷ [])
-more_reads start before now replies reply few was step low =
+-- at most one read of the pool stands behind an operation's events
+pub more_reads : (start before now done more most : ℕ) → most < 2 ^ 32 → done ≤ most → (start < 2 ^ 63 → before ≡ start + done)
+    → (before < last_count → now ≡ before + more) → start < 2 ^ 63 → now ≡ start + (done + more)
+more_reads start before now done more most few within was step low =
     let here = was low in
-    let most = count_by-le-length is_pool_read replies in
-    let more = reads_by (is_pool_read reply) before now step (omega arith) in
-    let counted = count_by-snoc is_pool_read replies reply in
-    omega (arith, here, more, counted)
+    let after = step (omega (arith, here)) in
+    omega (arith, here, after)
 
 -- a count that has come to its last value has risen by more than there are replies
 pub more_faults : (start before now : ℕ) (replies : List Reply) (reply : Reply) → length replies < 2 ^ 32

@@ -10,6 +10,7 @@ use Rattle.arc_core.specs.declared.event.Event.{Event}
 use Rattle.arc_core.proofs.Stepping.{replay-append}
 use Rattle.trace_run.specs.OneCaller.{events_of_drops, is_of_block, oldest_key, oldest_kept, without_oldest}
 use Rattle.trace_run.specs.PlainCache.{MakesAll, PlainCache}
+use Rattle.trace_run.specs.Tally.{kept_of_block}
 use Rattle.std.specs.Option.{option_map_or}
 use Rattle.std.proofs.lemmas.Bool.{false≢true}
 use Rattle.std.proofs.lemmas.Bool.Decides.{nat_tests}
@@ -285,3 +286,31 @@ makes-oldest block i read old new at is made =
     let place = oldest-at block old.kept i at in
     let found : find (is_of_block block) old.kept ≡ Some read = place.found read ∙ ap (λ (r : KeptRead). Some r) (sym is) in
     rw (found, place.removed) made
+
+-- ---- whether a read of the block is kept
+
+pub found-counted : (block : ℕ) (kept : List KeptRead) → is_some (oldest_kept block kept) ≡ true → 0 < kept_of_block block kept
+found-counted block [] there = absurd (false≢true there)
+found-counted block (read ∷ reads) there = elim (cases_true (is_of_block block read)) [
+  | inl here ↦
+      let one : ◌≡◌ {A = ℕ} (cond (is_of_block block read) 1 0) 1 = rw here refl in
+      omega (arith, sum_by-cons (λ r. cond (is_of_block block r) 1 0) read reads, one)
+  | inr later ↦ omega (arith, sum_by-cons (λ r. cond (is_of_block block r) 1 0) read reads, found-counted block reads (rw later at there))
+]
+
+pub absent-counted : (block : ℕ) (kept : List KeptRead) → is_some (oldest_kept block kept) ≡ false
+    → (kept_of_block block kept ≡ 0) × (oldest_kept block kept ≡ None) × (without_oldest block kept ≡ kept)
+absent-counted block [] absent = (refl, refl, refl)
+absent-counted block (read ∷ reads) absent = elim (cases_true (is_of_block block read)) [
+  | inl here ↦ absurd (false≢true (sym (rw here at absent)))
+  | inr later ↦
+      let none : ◌≡◌ {A = ℕ} (cond (is_of_block block read) 1 0) 0 = rw later refl in
+      let rest = absent-counted block reads (rw later at absent) in
+      (omega (arith, sum_by-cons (λ r. cond (is_of_block block r) 1 0) read reads, none, rest.0), rw later rest.1, rw later (ap (λ (rs : List KeptRead). read ∷ rs) rest.2))
+]
+
+pub makes-nothing : (block : ℕ) (old new : PlainCache) → is_some (oldest_kept block old.kept) ≡ false
+    → MakesAll (events_of_drop old.caller (oldest_key block old.kept)) (without_oldest block old.kept) old new → MakesAll [] old.kept old new
+makes-nothing block old new absent made =
+    let parts = absent-counted block old.kept absent in
+    rw (parts.1, parts.2) at made

@@ -3,6 +3,9 @@ pub mod CacheLemmas
 pub mod DropLemmas
 pub mod HoldLemmas
 pub mod OutcomeLemmas
+pub mod ReportLemmas
+pub mod RunLemmas
+pub mod ServeLemmas
 pub mod StreamLemmas
 pub mod TellLemmas
 pub mod WordLemmas

@@ -19,11 +19,12 @@ use Rattle.arc_core.specs.declared.served.Served.TheVariants as served
 use Rattle.arc_core.specs.Operations.{Act, Reads, Keeps, GivesBack, Fails, AreEvents, HoldEveryCallOnce, IsHonest, Moment, StandsFor, Tell, act_key, actor_of, acts_in, is_of_feed, is_pass, moments, number_of, own_moments}
 use Rattle.arc_core.specs.PlainShard.{PlainShard, entry_is, entry_of, keeps_digest, resident_digest}
 use Rattle.arc_core.specs.Replay.{replay}
+use Rattle.arc_core.specs.Step.{after}
 use Rattle.trace_text.specs.declared.op.Op.{Op}
 use Rattle.trace_text.specs.declared.op.Op.TheVariants as ops
 use Rattle.trace_text.specs.declared.reply.Reply.{Reply}
 use Rattle.trace_text.specs.declared.reply.Reply.TheVariants.{Read, Kept, Dropped, Refused}
-use Rattle.trace_text.specs.declared.reply.Refusal.TheVariants.{PoolFault, Mismatch, Key, NoMemory, Range, NoHold}
+use Rattle.trace_text.specs.declared.reply.Refusal.TheVariants as refusal
 use Rattle.trace_run.specs.declared.access.Access.{Access}
 use Rattle.trace_run.specs.declared.access.Access.TheVariants as access
 use Rattle.trace_run.specs.declared.access.KeptRead.{KeptRead}
@@ -45,7 +46,7 @@ Tell-one act ms stands = (ms, [], sym (append-nil ms), stands, refl)
 
 pub moments-append : (s : PlainShard) (front rest : List Event) → moments s (front ++ rest) ≡ moments s front ++ moments (replay s front) rest
 moments-append s [] rest = refl
-moments-append s (e ∷ es) rest = ap (λ (ms : List Moment). record { before = s; event = e } ∷ ms) (moments-append _ es rest)
+moments-append s (e ∷ es) rest = ap (λ (ms : List Moment). record { before = s; event = e } ∷ ms) (moments-append (after s e) es rest)
 
 -- ---- what an access says of digests
 
@@ -98,29 +99,29 @@ tell-read : (n t : ℕ) (s : PlainShard) (ptr : Ptr) (reply : Reply) → NamesSo
 tell-read n t s ptr (Read served digest shown) named = Tell-one (Reads n t ptr served) _ (rw named (stands-read n t s ptr (access_of s ptr) refl))
 tell-read n t s ptr (Kept served) named = refl
 tell-read n t s ptr Dropped named = refl
-tell-read n t s ptr (Refused PoolFault) named = Tell-one (Fails n t ptr) _ (stands-refused n t s ptr (access_of s ptr) refl named)
-tell-read n t s ptr (Refused (Mismatch digest)) named = Tell-one (Fails n t ptr) _ (stands-refused n t s ptr (access_of s ptr) refl named)
-tell-read n t s ptr (Refused (Key fault)) named = refl
-tell-read n t s ptr (Refused NoMemory) named = refl
-tell-read n t s ptr (Refused (Range end size)) named = refl
-tell-read n t s ptr (Refused (NoHold block)) named = refl
+tell-read n t s ptr (Refused refusal.PoolFault) named = Tell-one (Fails n t ptr) _ (stands-refused n t s ptr (access_of s ptr) refl named)
+tell-read n t s ptr (Refused (refusal.Mismatch digest)) named = Tell-one (Fails n t ptr) _ (stands-refused n t s ptr (access_of s ptr) refl named)
+tell-read n t s ptr (Refused (refusal.Key fault)) named = refl
+tell-read n t s ptr (Refused refusal.NoMemory) named = refl
+tell-read n t s ptr (Refused (refusal.Range end size)) named = refl
+tell-read n t s ptr (Refused (refusal.NoHold block)) named = refl
 
 tell-hold : (n t : ℕ) (s : PlainShard) (ptr : Ptr) (reply : Reply) → NamesSource (access_of s ptr) reply → Tell (acts_of_hold n t ptr reply) (moments s (events_of_hold n t s ptr reply))
 tell-hold n t s ptr (Read served digest shown) named = refl
 tell-hold n t s ptr (Kept served) named = Tell-one (Keeps n t ptr served) _ (rw named (stands-hold n t s ptr (access_of s ptr) refl))
 tell-hold n t s ptr Dropped named = refl
-tell-hold n t s ptr (Refused PoolFault) named = Tell-one (Fails n t ptr) _ (stands-refused n t s ptr (access_of s ptr) refl named)
-tell-hold n t s ptr (Refused (Mismatch digest)) named = Tell-one (Fails n t ptr) _ (stands-refused n t s ptr (access_of s ptr) refl named)
-tell-hold n t s ptr (Refused (Key fault)) named = refl
-tell-hold n t s ptr (Refused NoMemory) named = refl
-tell-hold n t s ptr (Refused (Range end size)) named = refl
-tell-hold n t s ptr (Refused (NoHold block)) named = refl
+tell-hold n t s ptr (Refused refusal.PoolFault) named = Tell-one (Fails n t ptr) _ (stands-refused n t s ptr (access_of s ptr) refl named)
+tell-hold n t s ptr (Refused (refusal.Mismatch digest)) named = Tell-one (Fails n t ptr) _ (stands-refused n t s ptr (access_of s ptr) refl named)
+tell-hold n t s ptr (Refused (refusal.Key fault)) named = refl
+tell-hold n t s ptr (Refused refusal.NoMemory) named = refl
+tell-hold n t s ptr (Refused (refusal.Range end size)) named = refl
+tell-hold n t s ptr (Refused (refusal.NoHold block)) named = refl
 
 tell-dropping : (n x : ℕ) (kept : List KeptRead) (s : PlainShard) (reply : Reply) → Tell (acts_of_dropping n x kept reply) (moments s (events_of_dropping n x kept reply))
 tell-dropping n x kept s (Read served digest shown) = refl
 tell-dropping n x kept s (Kept served) = refl
 tell-dropping n x kept s Dropped = tell-drop n (oldest_key x kept) s
-tell-dropping n x kept s (Refused refusal) = refl
+tell-dropping n x kept s (Refused why) = refl
 
 tell-of : (blocks : List Ptr) (s : PlainShard) (kept : List KeptRead) (op : Op) (reply : Reply) → IsFoundAs blocks s op reply → Tell (acts_of blocks kept op reply) (moments s (events_of blocks s kept op reply))
 tell-of blocks s kept (ops.Read n t x window) reply named = go (slice_get blocks x) named
@@ -203,29 +204,29 @@ mine-read : (n t : ℕ) (s : PlainShard) (ptr : Ptr) (reply : Reply) → AllByRe
 mine-read n t s ptr (Read served digest shown) = all-append (IsMine n) (events_of_answered n t ptr (access_of s ptr)) _ (mine-answered n t ptr (access_of s ptr)) (mine-drop n (held_key ptr (access_of s ptr)))
 mine-read n t s ptr (Kept served) = tt
 mine-read n t s ptr Dropped = tt
-mine-read n t s ptr (Refused PoolFault) = mine-refused n t ptr (access_of s ptr)
-mine-read n t s ptr (Refused (Mismatch digest)) = mine-refused n t ptr (access_of s ptr)
-mine-read n t s ptr (Refused (Key fault)) = tt
-mine-read n t s ptr (Refused NoMemory) = tt
-mine-read n t s ptr (Refused (Range end size)) = tt
-mine-read n t s ptr (Refused (NoHold block)) = tt
+mine-read n t s ptr (Refused refusal.PoolFault) = mine-refused n t ptr (access_of s ptr)
+mine-read n t s ptr (Refused (refusal.Mismatch digest)) = mine-refused n t ptr (access_of s ptr)
+mine-read n t s ptr (Refused (refusal.Key fault)) = tt
+mine-read n t s ptr (Refused refusal.NoMemory) = tt
+mine-read n t s ptr (Refused (refusal.Range end size)) = tt
+mine-read n t s ptr (Refused (refusal.NoHold block)) = tt
 
 mine-hold : (n t : ℕ) (s : PlainShard) (ptr : Ptr) (reply : Reply) → AllByRecursion (IsMine n) (events_of_hold n t s ptr reply)
 mine-hold n t s ptr (Read served digest shown) = tt
 mine-hold n t s ptr (Kept served) = mine-answered n t ptr (access_of s ptr)
 mine-hold n t s ptr Dropped = tt
-mine-hold n t s ptr (Refused PoolFault) = mine-refused n t ptr (access_of s ptr)
-mine-hold n t s ptr (Refused (Mismatch digest)) = mine-refused n t ptr (access_of s ptr)
-mine-hold n t s ptr (Refused (Key fault)) = tt
-mine-hold n t s ptr (Refused NoMemory) = tt
-mine-hold n t s ptr (Refused (Range end size)) = tt
-mine-hold n t s ptr (Refused (NoHold block)) = tt
+mine-hold n t s ptr (Refused refusal.PoolFault) = mine-refused n t ptr (access_of s ptr)
+mine-hold n t s ptr (Refused (refusal.Mismatch digest)) = mine-refused n t ptr (access_of s ptr)
+mine-hold n t s ptr (Refused (refusal.Key fault)) = tt
+mine-hold n t s ptr (Refused refusal.NoMemory) = tt
+mine-hold n t s ptr (Refused (refusal.Range end size)) = tt
+mine-hold n t s ptr (Refused (refusal.NoHold block)) = tt
 
 mine-dropping : (n x : ℕ) (kept : List KeptRead) (reply : Reply) → AllByRecursion (IsMine n) (events_of_dropping n x kept reply)
 mine-dropping n x kept (Read served digest shown) = tt
 mine-dropping n x kept (Kept served) = tt
 mine-dropping n x kept Dropped = mine-drop n (oldest_key x kept)
-mine-dropping n x kept (Refused refusal) = tt
+mine-dropping n x kept (Refused why) = tt
 
 mine-of : (blocks : List Ptr) (s : PlainShard) (kept : List KeptRead) (op : Op) (reply : Reply) → AllByRecursion (IsMine (caller_of op)) (events_of blocks s kept op reply)
 mine-of blocks s kept (ops.Read n t x window) reply = go (slice_get blocks x)
@@ -245,7 +246,7 @@ mine-all : (n : ℕ) (blocks : List Ptr) (s : PlainShard) (kept : List KeptRead)
 mine-all n blocks s kept [] replies own = tt
 mine-all n blocks s kept (op ∷ os) [] own = tt
 mine-all n blocks s kept (op ∷ os) (reply ∷ replies) own =
-    all-append (IsMine n) (events_of blocks s kept op reply) _ (rw own.0 at (mine-of blocks s kept op reply)) (mine-all n blocks _ _ os replies own.1)
+    all-append (IsMine n) (events_of blocks s kept op reply) _ (rw own.0 at (mine-of blocks s kept op reply)) (mine-all n blocks (replay s (events_of blocks s kept op reply)) (kept_after blocks op reply kept) os replies own.1)
 
 mine-drops : (n : ℕ) (kept : List KeptRead) → AllByRecursion (IsMine n) (events_of_drops n kept)
 mine-drops n [] = tt
@@ -253,7 +254,7 @@ mine-drops n (read ∷ reads) = all-append (IsMine n) (events_of_drop n read.hel
 
 mine-moments : (n : ℕ) (s : PlainShard) (es : List Event) → AllByRecursion (IsMine n) es → AllByRecursion (λ m. IsMine n m.event) (moments s es)
 mine-moments n s [] all = tt
-mine-moments n s (e ∷ es) all = (all.0, mine-moments n _ es all.1)
+mine-moments n s (e ∷ es) all = (all.0, mine-moments n (after s e) es all.1)
 
 -- ---- the acts of one caller are its own
 
@@ -265,29 +266,29 @@ act-read : (n t : ℕ) (ptr : Ptr) (reply : Reply) → AllByRecursion (λ act. a
 act-read n t ptr (Read served digest shown) = (refl, tt)
 act-read n t ptr (Kept served) = tt
 act-read n t ptr Dropped = tt
-act-read n t ptr (Refused PoolFault) = (refl, tt)
-act-read n t ptr (Refused (Mismatch digest)) = (refl, tt)
-act-read n t ptr (Refused (Key fault)) = tt
-act-read n t ptr (Refused NoMemory) = tt
-act-read n t ptr (Refused (Range end size)) = tt
-act-read n t ptr (Refused (NoHold block)) = tt
+act-read n t ptr (Refused refusal.PoolFault) = (refl, tt)
+act-read n t ptr (Refused (refusal.Mismatch digest)) = (refl, tt)
+act-read n t ptr (Refused (refusal.Key fault)) = tt
+act-read n t ptr (Refused refusal.NoMemory) = tt
+act-read n t ptr (Refused (refusal.Range end size)) = tt
+act-read n t ptr (Refused (refusal.NoHold block)) = tt
 
 act-hold : (n t : ℕ) (ptr : Ptr) (reply : Reply) → AllByRecursion (λ act. actor_of act ≡ n) (acts_of_hold n t ptr reply)
 act-hold n t ptr (Read served digest shown) = tt
 act-hold n t ptr (Kept served) = (refl, tt)
 act-hold n t ptr Dropped = tt
-act-hold n t ptr (Refused PoolFault) = (refl, tt)
-act-hold n t ptr (Refused (Mismatch digest)) = (refl, tt)
-act-hold n t ptr (Refused (Key fault)) = tt
-act-hold n t ptr (Refused NoMemory) = tt
-act-hold n t ptr (Refused (Range end size)) = tt
-act-hold n t ptr (Refused (NoHold block)) = tt
+act-hold n t ptr (Refused refusal.PoolFault) = (refl, tt)
+act-hold n t ptr (Refused (refusal.Mismatch digest)) = (refl, tt)
+act-hold n t ptr (Refused (refusal.Key fault)) = tt
+act-hold n t ptr (Refused refusal.NoMemory) = tt
+act-hold n t ptr (Refused (refusal.Range end size)) = tt
+act-hold n t ptr (Refused (refusal.NoHold block)) = tt
 
 act-dropping : (n x : ℕ) (kept : List KeptRead) (reply : Reply) → AllByRecursion (λ act. actor_of act ≡ n) (acts_of_dropping n x kept reply)
 act-dropping n x kept (Read served digest shown) = tt
 act-dropping n x kept (Kept served) = tt
 act-dropping n x kept Dropped = act-drop n (oldest_key x kept)
-act-dropping n x kept (Refused refusal) = tt
+act-dropping n x kept (Refused why) = tt
 
 act-of : (blocks : List Ptr) (kept : List KeptRead) (op : Op) (reply : Reply) → AllByRecursion (λ act. actor_of act ≡ caller_of op) (acts_of blocks kept op reply)
 act-of blocks kept (ops.Read n t x window) reply = go (slice_get blocks x)
@@ -307,7 +308,7 @@ act-all : (n : ℕ) (blocks : List Ptr) (kept : List KeptRead) (os : List Op) (r
 act-all n blocks kept [] replies own = tt
 act-all n blocks kept (op ∷ os) [] own = tt
 act-all n blocks kept (op ∷ os) (reply ∷ replies) own =
-    all-append (λ act. actor_of act ≡ n) (acts_of blocks kept op reply) _ (rw own.0 at (act-of blocks kept op reply)) (act-all n blocks _ os replies own.1)
+    all-append (λ act. actor_of act ≡ n) (acts_of blocks kept op reply) _ (rw own.0 at (act-of blocks kept op reply)) (act-all n blocks (kept_after blocks op reply kept) os replies own.1)
 
 act-drops : (n : ℕ) (kept : List KeptRead) → AllByRecursion (λ act. actor_of act ≡ n) (acts_of_drops n kept)
 act-drops n [] = tt

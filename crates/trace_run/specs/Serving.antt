@@ -14,10 +14,10 @@ use Rattle.trace_run.specs.PlainCache.{MakesAll, PlainCache, kept_read}
 use Rattle.trace_run.specs.Read.{IsServed}
 
 -- the window of bytes that are of the pointer
-pub record ShowsWindow (image : Option (List ℕ)) (ptr : Ptr) (window : Window) (shown : List ℕ) : Type 0 where
+pub record ShowsWindow (image : Option (List ℕ)) (ptr : Ptr) (window : Window) (answer : List ℕ) : Type 0 where
   pub bytes : List ℕ
   pub served : IsServed image ptr bytes
-  pub shown : shown ≡ window_of window bytes
+  pub window_is : answer ≡ window_of window bytes
 
 -- What is given names where the access found the bytes, and shows them.
 pub record IsGiven (image : Option (List ℕ)) (ptr : Ptr) (window : Window) (access : Access) (given : Given) : Type 0 where

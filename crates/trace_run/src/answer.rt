@@ -7,7 +7,8 @@ ghost use Rattle.trace_run.specs.Calls.{CountsReads, CountsFaults, IsRefusalOf};
 ghost use Rattle.trace_run.specs.Access.{access_of};
 ghost use Rattle.trace_run.specs.OneCaller.{AreFoundAs, NamesSource, events_of_all, events_of_dropping, events_of_hold, events_of_read, kept_after_all, kept_after_drop, kept_after_hold};
 ghost use Rattle.trace_run.specs.PlainCache.{MakesAll};
-ghost use Rattle.trace_run.specs.Tally.{AnswersNow, IsOfCaller, block_of, caller_of, kept_of_block};
+ghost use Rattle.trace_text.specs.Grammar.{block_of};
+ghost use Rattle.trace_run.specs.Tally.{AnswersNow, IsOfCaller, caller_of, kept_of_block};
 
 use crate::caller_cache::CallerCache;
 use crate::read::ReadFault;

@@ -1,5 +1,5 @@
 //! The top call: from the words and the source to the report on the sink.
-ghost use Rattle.std.specs.Prelude.{◌≡◌, ◌≤◌, ◌<◌, ◌^◌, IfSome, IfOk, IfErr, is_some};
+ghost use Rattle.std.specs.Prelude.{◌≡◌, ◌≤◌, ◌<◌, ◌^◌, IfSome, IfOk, IfErr, false, is_some};
 ghost use Rattle.std.specs.Bool.{OnFalse};
 ghost use Rattle.trace_text.specs.Grammar.{IsFormed};
 ghost use Rattle.trace_run.specs.Outcome.{AnswersWords, AnswersSource, AnswersSink, Does, DoesRun, IfUsage, IsDelivered, IsGenReport, IsGenStatus, IsReadStatus, WasRead, has_report, ran};

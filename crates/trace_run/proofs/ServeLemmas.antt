@@ -1,0 +1,24 @@
+-- What a read of bytes that are of the pointer gives.
+use Rattle.std.proofs.Common.{◌≡◌, ℕ, Bool, true, false, List, Option, Some, None, Ok, IfSome, ◌⊎◌, inl, inr, sym, ◌∙◌}
+use Rattle.std.proofs.lemmas.Bool.{false≢true}
+use Rattle.std.proofs.lemmas.Slice.Eq.{bytes_eq-Decides}
+use Rattle.std.specs.Str.{bytes_eq}
+use Rattle.blk_ptr.specs.declared.ptr.Ptr.{Ptr}
+use Rattle.blk_ptr.specs.Ptr.{IsOf, IsPlainRead, IsSameOrCollides}
+use Rattle.arc_lists.proofs.Tables.{cases_true}
+use Rattle.trace_run.specs.Read.{IsServed}
+
+-- two contents of one pointer are the same, or they share a digest
+same-or-collides : (ptr : Ptr) (a b : List ℕ) → IsOf a ptr → IsOf b ptr → IsSameOrCollides a b
+same-or-collides ptr a b one other = elim (cases_true (bytes_eq a b)) [
+  | inl same ↦ inl ((bytes_eq-Decides a b).0 same)
+  | inr differs ↦ inr (λ equal. false≢true (sym differs ∙ (bytes_eq-Decides a b).1 equal), one.digest ∙ sym other.digest)
+]
+
+-- bytes that are of the pointer serve it, wherever they come from
+pub served-of : (image : Option (List ℕ)) (ptr : Ptr) (bytes : List ℕ) → IsOf bytes ptr → IsServed image ptr bytes
+served-of image ptr bytes one = record { of = one; plain = go image }
+  where
+    go : (o : Option (List ℕ)) → IfSome o (λ told. (others : List ℕ) → IsPlainRead told ptr (Ok others) → IsSameOrCollides bytes others)
+    go None = tt
+    go (Some told) = λ others plain. same-or-collides ptr bytes others one plain.1
