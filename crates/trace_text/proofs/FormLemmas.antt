@@ -1,5 +1,5 @@
 -- The lines of each word, from their fields.
-use Rattle.std.proofs.Common.{◌≡◌, ℕ, List, [], ◌∷◌, codes, length, Result, Err, refl, ap, ◌∙◌, sym, arith}
+use Rattle.std.proofs.Common.{◌≡◌, ℕ, List, [], ◌∷◌, length, Result, Err, refl, ap, ◌∙◌, sym, arith}
 use Rattle.std.specs.Prelude.{decimal}
 use Rattle.hex.specs.Hex.{encode_lower}
 use Rattle.blk_ptr.specs.declared.ptr.Ptr.{Ptr}

@@ -1,5 +1,5 @@
 -- What text is a trace, line by line, and for a text that is none the first line at fault.
-use Rattle.std.specs.Prelude.{All, filter, map, not, ◌≡◌, ℕ, ◌+◌, ◌*◌, ◌^◌, ◌<◌, ◌≤◌, ◌==◌, ◌↔◌, ◌⊎◌, Bool, true, false, List, [], ◌∷◌, ◌++◌, length, take, codes, decimal, count_by, Option, Some, None, IsSome, IsNone, MatchBool}
+use Rattle.std.specs.Prelude.{All, filter, map, not, ◌≡◌, ℕ, ◌+◌, ◌^◌, ◌<◌, ◌≤◌, ◌==◌, ◌↔◌, ◌⊎◌, Bool, true, false, List, [], ◌∷◌, ◌++◌, length, take, codes, decimal, count_by, Option, Some, None, IsSome, IsNone, MatchBool}
 use Rattle.std.specs.List.{slice_split, AllByRecursion}
 use Rattle.hex.specs.Hex.{IsBytes, encode_lower}
 use Rattle.blk_ptr.specs.declared.digest.Digest.{Digest}

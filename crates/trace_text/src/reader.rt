@@ -12,8 +12,9 @@ use std::alloc::Global;
 /// The most bytes of a text.
 const LONGEST_TEXT: usize = 67_108_864;
 
-/// Reads a trace. Its text and its faults are those of `specs/Grammar.antt`: an `Ok` is the one trace that the
-/// text is, and a `Bad` names the first line at fault and what is wrong with it.
+/// Reads a trace, which for now has one caller and one shard. Its text and its faults are those of `specs/Grammar.antt`:
+/// an `Ok` is the one trace that the text is, and a `Bad` names the first line at fault and what is wrong with it.
+/// Each line is looked at once for its shape and once for its fields, and none is copied.
 pub fn read_trace(alloc: Global, bytes: &[u8]) -> Result<Trace, TraceFault>
     ensures read { IfOk result (IsTraceText bytes.now) }
     ensures formed { IfOk result IsFormed }
