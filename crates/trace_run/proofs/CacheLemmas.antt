@@ -1,8 +1,6 @@
 -- What one caller's cache keeps through the events of its reads.
 use Rattle.std.proofs.Common.{◌≡◌, ℕ, zero, suc, ◌+◌, ◌-◌, ◌<◌, ◌≤◌, Bool, true, false, cond, not, ◌&&◌, ◌||◌, ◌==◌, if◌then◌else◌, nat_lt, IsTrue, List, [], ◌∷◌, ◌++◌, length, Option, Some, None, is_some, IsSome, IfSome, Bor, ◌⊎◌, inl, inr, refl, sym, ap, subst, ◌∙◌, arith}
 use Rattle.std.specs.Prelude.{count_by}
-use Rattle.std.specs.BTreeMap.{BTreeMap, get, is_at}
-use Rattle.std.specs.Map.{lookup}
 use Rattle.std.specs.List.{list_all}
 use Rattle.std.specs.Option.{option_and_then, option_copied, option_map_or}
 use Rattle.std.proofs.lemmas.Bool.{false≢true}
@@ -37,6 +35,7 @@ use Rattle.trace_run.specs.declared.access.Access.TheVariants as access
 use Rattle.trace_run.specs.declared.access.KeptRead.{KeptRead}
 use Rattle.trace_run.specs.declared.caller_cache.CallerCache.TheInside.{Inside}
 use Rattle.trace_run.specs.Access.{access_of, events_of_drop, found}
+use Rattle.trace_run.specs.Blocks.{Blocks, block_of}
 use Rattle.trace_run.specs.CallerCache.{HasBlock, IsKept}
 use Rattle.trace_run.specs.PlainCache.{AreHeld, HasHolds, holds_key, holds_of_one, kept_read}
 use Rattle.trace_run.proofs.HoldLemmas.{HasHolds-arrive, HasHolds-drop, HasHolds-hit, HasHolds-spared, digest_of_resident, holds-more, none-of_one, index-of_one, resident-spared}
@@ -132,15 +131,15 @@ AreHeld-after n k kept reads s u lt held spared counts own j = elim (cases_true 
 ]
 
 -- the blocks of what is resident are there
-abbrev pub AreCached : BTreeMap Key (List ℕ) → PlainShard → Type 0
+abbrev pub AreCached : Blocks → PlainShard → Type 0
 AreCached blocks s = (k : Key) (d : Digest) → resident_digest k s ≡ Some d → HasBlock k d blocks
 
-HasBlock-same : (k : Key) (d : Digest) (blocks others : BTreeMap Key (List ℕ)) → get key_cmp others k ≡ get key_cmp blocks k → HasBlock k d blocks → HasBlock k d others
+HasBlock-same : (k : Key) (d : Digest) (blocks others : Blocks) → block_of k others ≡ block_of k blocks → HasBlock k d blocks → HasBlock k d others
 HasBlock-same k d blocks others same has = record { bytes = has.bytes; there = same ∙ has.there; size = has.size; digest = has.digest }
 
-pub AreCached-after : (k : Key) (blocks others : BTreeMap Key (List ℕ)) (s u : PlainShard) → AreCached blocks s
+pub AreCached-after : (k : Key) (blocks others : Blocks) (s u : PlainShard) → AreCached blocks s
     → ((j : Key) → key_eq j k ≡ false → IsSpared (entry_of j s) (entry_of j u))
-    → ((j : Key) → key_eq j k ≡ false → get key_cmp others j ≡ get key_cmp blocks j)
+    → ((j : Key) → key_eq j k ≡ false → block_of j others ≡ block_of j blocks)
     → ((d : Digest) → resident_digest k u ≡ Some d → HasBlock k d others) → AreCached others u
 AreCached-after k blocks others s u cached spared gets own j d there = elim (cases_true (key_eq j k)) [
   | inl same ↦
@@ -192,7 +191,7 @@ IsKept-hit c u k t block d keeps there caller blocks now kept =
 
 pub IsKept-arrive : (c u : Inside) (k : Key) (t block : ℕ) (d : Digest) (bytes : List ℕ) (mid : PlainShard) → IsKept c → IsSound c.shard.now → IsWellFormed k → resident_digest k c.shard.now ≡ None
     → mid ≡ after c.shard.now (Miss c.caller k t) → u.caller ≡ c.caller → u.shard.now ≡ after mid (Arrive c.caller k d origin.Pool)
-    → HasBlock k d u.blocks → ((j : Key) → key_eq j k ≡ false → get key_cmp u.blocks j ≡ get key_cmp c.blocks j)
+    → HasBlock k d u.blocks → ((j : Key) → key_eq j k ≡ false → block_of j u.blocks ≡ block_of j c.blocks)
     → u.kept.items ≡ c.kept.items ++ kept_read block (Some k) ∷ [] → IsKept u
 IsKept-arrive c u k t block d bytes mid keeps sound formed none missed caller now has gets kept =
     let s = c.shard.now in
@@ -273,18 +272,15 @@ IsKept-same c u keeps caller now kept cached = record {
 }
 
 -- the blocks with a block of a key that is not resident
-pub AreCached-inserted : (k : Key) (blocks others : BTreeMap Key (List ℕ)) (s : PlainShard) → AreCached blocks s → resident_digest k s ≡ None
-    → ((j : Key) → key_eq j k ≡ false → get key_cmp others j ≡ get key_cmp blocks j) → AreCached others s
+pub AreCached-inserted : (k : Key) (blocks others : Blocks) (s : PlainShard) → AreCached blocks s → resident_digest k s ≡ None
+    → ((j : Key) → key_eq j k ≡ false → block_of j others ≡ block_of j blocks) → AreCached others s
 AreCached-inserted k blocks others s cached none gets =
     AreCached-after k blocks others s s cached (λ j differs. spared-same (entry_of j s)) gets (λ d here. let nothing : None ≡ Some d = sym none ∙ here in cc)
 
-pub AreCached-unchanged : (blocks others : BTreeMap Key (List ℕ)) (s : PlainShard) → AreCached blocks s → others.entries ≡ blocks.entries → AreCached others s
-AreCached-unchanged blocks others s cached same k d there =
-    HasBlock-same k d blocks others (ap (λ (es : List (Key × List ℕ)). lookup (is_at (key_cmp k)) es) same) (cached k d there)
-
--- keys that differ compare as unequal
-pub key_cmp-differs : (j k : Key) → key_eq j k ≡ false → is_at (key_cmp k) j ≡ false
-key_cmp-differs j k differs = grind (arith, nat_tests)
+-- the blocks of what is resident, where others may be gone
+pub AreCached-swept : (blocks others : Blocks) (s : PlainShard) → AreCached blocks s
+    → ((k : Key) → IsSome (resident_digest k s) → block_of k others ≡ block_of k blocks) → AreCached others s
+AreCached-swept blocks others s cached keeps k d there = HasBlock-same k d blocks others (keeps k (ap is_some there)) (cached k d there)
 
 -- what is behind a reference that was found
 pub copied-some : {X : Type 0} (o : Option (Bor X)) (x : X) → option_copied o ≡ Some x → IsSome o

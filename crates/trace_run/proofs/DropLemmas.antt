@@ -2,7 +2,6 @@
 use Rattle.std.proofs.Common.{◌≡◌, ℕ, zero, suc, ◌+◌, ◌-◌, ◌<◌, ◌≤◌, Bool, true, false, cond, not, ◌&&◌, ◌==◌, if◌then◌else◌, nat_lt, IsTrue, List, [], ◌∷◌, ◌++◌, length, Option, Some, None, is_some, IsSome, IfSome, option_map, ◌⊎◌, inl, inr, refl, sym, ap, subst, ◌∙◌, arith, take, drop, get_or, append_assoc, append-nil, add-one, drop-cons}
 use Rattle.std.proofs.Math.Seq.{take-suc}
 use Rattle.std.specs.Prelude.{count_by}
-use Rattle.std.specs.BTreeMap.{BTreeMap, get}
 use Rattle.std.specs.List.{AllByRecursion, find, list_all, position, position_or_len, remove}
 use borrow.Author.Tests.{ltb-true}
 use Rattle.std.proofs.lemmas.List.Sums.{sum_by-cons}
@@ -36,6 +35,7 @@ use Rattle.arc_core.proofs.Sparing.{spared-same}
 use Rattle.trace_run.specs.declared.access.KeptRead.{KeptRead}
 use Rattle.trace_run.specs.declared.caller_cache.CallerCache.TheInside.{Inside}
 use Rattle.trace_run.specs.Access.{events_of_drop}
+use Rattle.trace_run.specs.Blocks.{Blocks, block_of}
 use Rattle.trace_run.specs.CallerCache.{HasBlock, IsKept}
 use Rattle.trace_run.specs.PlainCache.{AreHeld, HasHolds, holds_key, holds_of_one, kept_read}
 use Rattle.trace_run.proofs.CacheLemmas.{AreCached, AreCached-after, AreHeld-after, entry_is-at, number-test}
@@ -157,7 +157,7 @@ drops-legal n (Some k) kept reads s lt held less = drop-legal n k kept reads s l
 -- ---- a read is given back
 
 -- what is said of a cache's shard, where these reads are kept
-pub record IsStanding (n : ℕ) (kept : List KeptRead) (blocks : BTreeMap Key (List ℕ)) (s : PlainShard) : Type 0 where
+pub record IsStanding (n : ℕ) (kept : List KeptRead) (blocks : Blocks) (s : PlainShard) : Type 0 where
   pub cached : AreCached blocks s
   pub held : AreHeld n kept s
   pub idle : s.phase ≡ Idle
@@ -181,7 +181,7 @@ held-drop n k kept reads s lt held less =
     AreHeld-after n k kept reads s (after s (Drop n k)) lt held (spared-drop n k s) (λ j differs. uncounted k j kept reads less differs)
     (rw at (HasHolds-drop n (count_by (holds_key k) reads) e lt had))
 
-cached-drop : (n : ℕ) (k : Key) (kept reads : List KeptRead) (blocks : BTreeMap Key (List ℕ)) (s : PlainShard) → AreHeld n kept s → AreLess (Some k) kept reads → AreCached blocks s
+cached-drop : (n : ℕ) (k : Key) (kept reads : List KeptRead) (blocks : Blocks) (s : PlainShard) → AreHeld n kept s → AreLess (Some k) kept reads → AreCached blocks s
     → AreCached blocks (after s (Drop n k))
 cached-drop n k kept reads blocks s held less cached =
     let some : 0 < count_by (holds_key k) kept = omega (arith, counted k kept reads less) in
@@ -198,7 +198,7 @@ pub held-given : (n : ℕ) (given : Option Key) (kept reads : List KeptRead) (s 
 held-given n None kept reads s lt held less = λ j. rw (same_counts kept reads less j) (held j)
 held-given n (Some k) kept reads s lt held less = held-drop n k kept reads s lt held less
 
-pub standing-given : (n : ℕ) (given : Option Key) (kept reads : List KeptRead) (blocks : BTreeMap Key (List ℕ)) (s : PlainShard) → n < numbers → IsStanding n kept blocks s
+pub standing-given : (n : ℕ) (given : Option Key) (kept reads : List KeptRead) (blocks : Blocks) (s : PlainShard) → n < numbers → IsStanding n kept blocks s
     → AreLess given kept reads → IsStanding n reads blocks (replay s (events_of_drop n given))
 standing-given n None kept reads blocks s lt standing less =
     record { cached = standing.cached; held = held-given n None kept reads s lt standing.held less; idle = standing.idle }
@@ -232,7 +232,7 @@ drops-more n kept i d within =
     ap (events_of_drops n) more ∙ drops-snoc n (take i kept) (get_or kept i d)
 
 -- all of them are given back
-pub standing-all : (n : ℕ) (kept : List KeptRead) (blocks : BTreeMap Key (List ℕ)) (s : PlainShard) → n < numbers → IsStanding n kept blocks s → IsStanding n [] blocks (replay s (events_of_drops n kept))
+pub standing-all : (n : ℕ) (kept : List KeptRead) (blocks : Blocks) (s : PlainShard) → n < numbers → IsStanding n kept blocks s → IsStanding n [] blocks (replay s (events_of_drops n kept))
 standing-all n [] blocks s lt standing = standing
 standing-all n (read ∷ reads) blocks s lt standing =
     let next = replay s (events_of_drop n read.held) in
@@ -267,7 +267,7 @@ all-items P (x ∷ xs) rising each =
           each k e (rw differs item)),
     )
 
-pub at_rest : (n : ℕ) (blocks : BTreeMap Key (List ℕ)) (s : PlainShard) → IsSound s → IsStanding n [] blocks s → IsAtRest s
+pub at_rest : (n : ℕ) (blocks : Blocks) (s : PlainShard) → IsSound s → IsStanding n [] blocks s → IsAtRest s
 at_rest n blocks s sound standing = record {
   free = all-items (λ e. IsTrue (is_free e)) s.entries sound.tidy.once (λ k e item. free-entry n e (rw item at (standing.held k)));
   idle = standing.idle;

@@ -1,4 +1,5 @@
 pub mod AnswerLemmas
+pub mod BlockLemmas
 pub mod CacheLemmas
 pub mod DropLemmas
 pub mod GenLemmas

@@ -1,10 +1,8 @@
 -- What the parts of one caller's cache mean, and what they keep.
 use Rattle.std.specs.Prelude.{◌≡◌, ℕ, ◌<◌, List, length, Some}
-use Rattle.std.specs.BTreeMap.{BTreeMap, get}
-use Rattle.std.specs.Global.{Global}
+use Rattle.trace_run.specs.Blocks.{Blocks, block_of}
 use Rattle.blk_ptr.specs.declared.digest.Digest.{Digest}
 use Rattle.blk_ptr.specs.declared.key.Key.{Key}
-use Rattle.blk_ptr.specs.Order.{key_cmp}
 use Rattle.blk_ptr.specs.Ptr.{sha256_of}
 use Rattle.arc_core.specs.PlainShard.{PlainShard, numbers, resident_digest}
 use Rattle.arc_core.specs.declared.entry.Phase.TheVariants.{Idle}
@@ -15,9 +13,9 @@ abbrev pub plain_cache : Inside → PlainCache
 plain_cache c = record { caller = c.caller; log = c.shard; kept = c.kept.items }
 
 -- the block of this key is there, with this digest
-pub record HasBlock (k : Key) (d : Digest) (blocks : BTreeMap Key (List ℕ)) : Type 0 where
+pub record HasBlock (k : Key) (d : Digest) (blocks : Blocks) : Type 0 where
   pub bytes : List ℕ
-  pub there : get key_cmp blocks k ≡ Some bytes
+  pub there : block_of k blocks ≡ Some bytes
   pub size : length bytes ≡ k.size
   pub digest : sha256_of bytes ≡ d
 

@@ -2,6 +2,7 @@ pub mod Access
 pub mod Acts
 pub mod Answering
 pub mod Answers
+pub mod Blocks
 pub mod CallerCache
 pub mod Calls
 pub mod Explaining

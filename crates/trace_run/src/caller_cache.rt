@@ -15,10 +15,10 @@ ghost use Rattle.trace_run.specs.OneCaller.{events_of_drops, is_of_block, oldest
 ghost use Rattle.trace_run.specs.PlainCache.{kept_read, AreHeld, MakesAll};
 
 use crate::access::{Access, KeptRead};
+use crate::block_map::BlockMap;
 use arc_core::{Bounds, Event, FailedAt, Origin, Shard};
 use blk_ptr::{Block, Digest, Key, NoMemory, Ptr, State};
 use std::alloc::Global;
-use std::collections::BTreeMap;
 use std::marker::Model;
 use trace_text::ShardEnd;
 
@@ -27,7 +27,7 @@ use trace_text::ShardEnd;
 pub(crate) struct CallerCache {
     caller: u32,
     shard: Shard,
-    blocks: BTreeMap<Key, Block>,
+    blocks: BlockMap,
     kept: Vec<KeptRead>,
 }
 
@@ -105,7 +105,7 @@ impl CallerCache {
         CallerCache {
             caller,
             shard: Shard::new(alloc, c, mintime, bounds),
-            blocks: BTreeMap::new(alloc),
+            blocks: BlockMap::new(alloc),
             kept: Vec::new(alloc),
         }
     }
@@ -128,7 +128,7 @@ impl CallerCache {
         requires { access_of self.now.log.now ptr.now ≡ Access.Hit }
         ensures { IsOf result.now ptr.now }
     {
-        self.blocks.get(&ptr.key).unwrap()
+        self.blocks.get(ptr.key).unwrap()
     }
 
     /// Keeps a read that found its block cached.
@@ -162,12 +162,25 @@ impl CallerCache {
         let (key, digest) = (ptr.key, ptr.digest);
         let held = Some(key);
         self.shard.reserve(3, 1)?;
-        self.blocks.insert(key, bytes)?;
+        self.blocks.put(key, bytes)?;
         self.kept.push(KeptRead { block, held })?;
         let _events = self.shard.history();
         self.shard.miss(self.caller, key, t);
         self.shard.arrive(self.caller, key, digest, Origin::Pool);
         Ok(())
+    }
+
+    /// Lets the blocks of evicted entries go, once they have as many bytes as those that are cached.
+    pub(crate) fn sweep(&mut self)
+        ensures { self.new ≡ self.old }
+    {
+        let cached = self
+            .shard
+            .size(State::Mru)
+            .saturating_add(self.shard.size(State::Mfu));
+        if self.blocks.bytes() / 2 >= cached {
+            self.blocks.keep_resident(&self.shard);
+        }
     }
 
     /// Ends a read that did not find its block cached, and for which the pool failed or gave other bytes.

@@ -3,6 +3,7 @@
 
 mod access;
 mod answer;
+mod block_map;
 mod caller_cache;
 mod read;
 mod run_trace;

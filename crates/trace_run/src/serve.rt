@@ -119,6 +119,7 @@ fn serve_missing<P: Pool>(
     match read_block(alloc, pool, ptr) {
         Ok(bytes) => {
             let shown = window_of(&bytes, window);
+            cache.sweep();
             cache.arrive(block, ptr, t, bytes)?;
             let served = Served::Pool;
             Ok(Given { served, shown })

@@ -6,14 +6,16 @@ use Rattle.arc_core.specs.declared.event.Event.TheVariants.{Miss, Arrive}
 use Rattle.arc_core.specs.declared.event.Origin.TheVariants as origin
 use Rattle.arc_core.specs.Sound.{IsSound}
 use Rattle.trace_run.specs.CallerCache.{HasBlock}
-use Rattle.trace_run.proofs.CacheLemmas.{AreCached-inserted, AreCached-unchanged, IsKept-arrive, IsKept-same, access-missing, arrive-legal, key_cmp-differs, miss-legal}
+use Rattle.trace_run.proofs.CacheLemmas.{AreCached-inserted, IsKept-arrive, IsKept-same, access-missing, arrive-legal, miss-legal}
 use Rattle.trace_run.proofs.caller_cache.CallerCache.arrive.Goals as goal
 
-pub invariant_of-self-in_err-insert : goal.invariant_of-self-in_err-insert
-invariant_of-self-in_err-insert c =
+pub invariant_of-self-in_err-put : goal.invariant_of-self-in_err-put
+invariant_of-self-in_err-put c =
+    let k = c.args.ptr.now.key in
     let same : c.reserve.new.self.now ≡ c.self.inside.shard.now = ap (λ (log : ShardLog). log.now) c.reserve.ensures.log in
+    let none = access-missing c.self.inside.shard.now c.args.ptr.now (rw (sym c.self.view_is) at c.requires.missing) in
     IsKept-same c.self.inside _ c.self.invariant refl same refl
-    (AreCached-unchanged c.self.inside.blocks c.insert.new.self c.self.inside.shard.now c.self.invariant.cached c.in_err-insert.ensures.err)
+    (AreCached-inserted k c.self.inside.blocks c.put.new.self c.self.inside.shard.now c.self.invariant.cached none c.put.ensures.others)
 
 pub invariant_of-self-in_err-push : goal.invariant_of-self-in_err-push
 invariant_of-self-in_err-push c =
@@ -21,7 +23,7 @@ invariant_of-self-in_err-push c =
     let same : c.reserve.new.self.now ≡ c.self.inside.shard.now = ap (λ (log : ShardLog). log.now) c.reserve.ensures.log in
     let none = access-missing c.self.inside.shard.now c.args.ptr.now (rw (sym c.self.view_is) at c.requires.missing) in
     IsKept-same c.self.inside _ c.self.invariant refl same c.in_err-push.ensures.items
-    (AreCached-inserted k c.self.inside.blocks c.insert.new.self c.self.inside.shard.now c.self.invariant.cached none (λ j differs. c.in_ok-insert.ensures.updates.2 j (key_cmp-differs j k differs)))
+    (AreCached-inserted k c.self.inside.blocks c.put.new.self c.self.inside.shard.now c.self.invariant.cached none c.put.ensures.others)
 
 pub miss-requires-clause-legal : goal.miss-requires-clause-legal
 miss-requires-clause-legal c =
@@ -45,8 +47,7 @@ invariant_of-self-2 c =
     let none = access-missing c.self.inside.shard.now c.args.ptr.now (rw (sym c.self.view_is) at c.requires.missing) in
     let sound : IsSound c.self.inside.shard.now = subst IsSound same c.history-events.ensures.replayed.sound in
     let k = c.args.ptr.now.key in
-    let updates = c.in_ok-insert.ensures.updates in
     let missed : c.miss.new.self.now ≡ after c.self.inside.shard.now (Miss c.self.inside.caller k c.args.t) = c.miss.ensures.makes.now ∙ ap (λ (s : PlainShard). after s (Miss c.self.inside.caller k c.args.t)) same in
-    let block : HasBlock k c.args.ptr.now.digest c.insert.new.self = record { bytes = c.args.bytes; there = updates.1; size = c.requires.of.size; digest = c.requires.of.digest } in
+    let block : HasBlock k c.args.ptr.now.digest c.put.new.self = record { bytes = c.args.bytes; there = c.in_ok-put.ensures.here; size = c.requires.of.size; digest = c.requires.of.digest } in
     IsKept-arrive c.self.inside _ k c.args.t c.args.block c.args.ptr.now.digest c.args.bytes c.miss.new.self.now c.self.invariant sound c.requires.formed none missed refl
-    c.arrive.ensures.makes.now block (λ j differs. updates.2 j (key_cmp-differs j k differs)) c.in_ok-push.ensures.items
+    c.arrive.ensures.makes.now block c.put.ensures.others c.in_ok-push.ensures.items
