@@ -122,7 +122,6 @@ miss-legal n t k kept s lt sound held formed none =
 
 -- ---- one key's entry changes, and the others are spared
 
-
 pub AreHeld-after : (n : ℕ) (k : Key) (kept reads : List KeptRead) (s u : PlainShard) → n < numbers → AreHeld n kept s
     → ((j : Key) → key_eq j k ≡ false → IsSpared (entry_of j s) (entry_of j u))
     → ((j : Key) → key_eq j k ≡ false → count_by (holds_key j) reads ≡ count_by (holds_key j) kept)
@@ -176,12 +175,12 @@ IsKept-hit c u k t block d keeps there caller blocks now kept =
     let spared : (j : Key) → key_eq j k ≡ false → IsSpared (entry_of j s) (entry_of j next) = λ j differs. rw (entry_of-hit_other s n t k j differs) (spared-same (entry_of j s)) in
     let had : HasHolds n (count_by (holds_key k) c.kept.items) (Some e) = subst (λ o. HasHolds n (count_by (holds_key k) c.kept.items) o) item (keeps.held k) in
     let own : HasHolds n (count_by (holds_key k) (c.kept.items ++ kept_read block (Some k) ∷ [])) (entry_of k next) =
-        rw (count-own k block c.kept.items, at) (HasHolds-hit n s.mintime t (count_by (holds_key k) c.kept.items) e keeps.number had) in
+    rw (count-own k block c.kept.items, at) (HasHolds-hit n s.mintime t (count_by (holds_key k) c.kept.items) e keeps.number had) in
     let digest : (x : Digest) → resident_digest k next ≡ Some x → HasBlock k x c.blocks = λ x here.
-        let parts = resident-entry (Some (hit_entry n s.mintime t e)) x (rw at at here) in
-        let f_is : hit_entry n s.mintime t e ≡ parts.0 = some_is parts.1 in
-        let dx : Some d ≡ Some x = sym some.3 ∙ sym (accessed-keeps e.state s.mintime t e).digest ∙ ap (λ (f : Entry). f.digest) f_is ∙ parts.3 in
-        subst (λ y. HasBlock k y c.blocks) (some_is dx) (keeps.cached k d there) in
+    let parts = resident-entry (Some (hit_entry n s.mintime t e)) x (rw at at here) in
+    let f_is : hit_entry n s.mintime t e ≡ parts.0 = some_is parts.1 in
+    let dx : Some d ≡ Some x = sym some.3 ∙ sym (accessed-keeps e.state s.mintime t e).digest ∙ ap (λ (f : Entry). f.digest) f_is ∙ parts.3 in
+    subst (λ y. HasBlock k y c.blocks) (some_is dx) (keeps.cached k d there) in
     record {
       number = rw caller keeps.number;
       cached = rw (blocks, now) (AreCached-after k c.blocks c.blocks s next keeps.cached spared (λ j differs. refl) digest);
@@ -204,15 +203,15 @@ IsKept-arrive c u k t block d bytes mid keeps sound formed none missed caller no
     let last_is : u.shard.now ≡ last = now ∙ ap (λ (m : PlainShard). after m (Arrive n k d origin.Pool)) missed in
     let at : entry_of k last ≡ Some (arrived d (read_entry n k t s)) = entry_of-arrive next n k d origin.Pool (read_entry n k t s) (entry_of-miss s n t k sound ok) in
     let spared : (j : Key) → key_eq j k ≡ false → IsSpared (entry_of j s) (entry_of j last) = λ j differs.
-        subst (λ o. IsSpared (entry_of j s) o) (sym (entry_of-arrive_other next n k j d origin.Pool differs)) (spared-miss s n t k j sound ok differs) in
+    subst (λ o. IsSpared (entry_of j s) o) (sym (entry_of-arrive_other next n k j d origin.Pool differs)) (spared-miss s n t k j sound ok differs) in
     let zero_is = (missing n k c.kept.items s keeps.number sound keeps.held none).1 in
     let one : count_by (holds_key k) (c.kept.items ++ kept_read block (Some k) ∷ []) ≡ 1 = omega (arith, count-own k block c.kept.items, zero_is) in
     let own : HasHolds n (count_by (holds_key k) (c.kept.items ++ kept_read block (Some k) ∷ [])) (entry_of k last) = rw (one, at) (HasHolds-arrive n t k d (entry_of k s)) in
     let digest : (x : Digest) → resident_digest k last ≡ Some x → HasBlock k x u.blocks = λ x here.
-        let parts = resident-entry (Some (arrived d (read_entry n k t s))) x (rw at at here) in
-        let f_is : arrived d (read_entry n k t s) ≡ parts.0 = some_is parts.1 in
-        let dx : Some d ≡ Some x = ap (λ (f : Entry). f.digest) f_is ∙ parts.3 in
-        subst (λ y. HasBlock k y u.blocks) (some_is dx) has in
+    let parts = resident-entry (Some (arrived d (read_entry n k t s))) x (rw at at here) in
+    let f_is : arrived d (read_entry n k t s) ≡ parts.0 = some_is parts.1 in
+    let dx : Some d ≡ Some x = ap (λ (f : Entry). f.digest) f_is ∙ parts.3 in
+    subst (λ y. HasBlock k y u.blocks) (some_is dx) has in
     record {
       number = rw caller keeps.number;
       cached = rw last_is (AreCached-after k c.blocks u.blocks s last keeps.cached spared gets digest);
@@ -231,12 +230,12 @@ IsKept-fail c u k t mid keeps sound formed none missed caller now blocks kept =
     let last_is : u.shard.now ≡ last = now ∙ ap (λ (m : PlainShard). after m (Fail n k failed_at.Pool)) missed in
     let at : entry_of k last ≡ None = entry_of-fail next n k failed_at.Pool (IsSound-after s (Miss n k t) refl sound ok) in
     let spared : (j : Key) → key_eq j k ≡ false → IsSpared (entry_of j s) (entry_of j last) = λ j differs.
-        subst (λ o. IsSpared (entry_of j s) o) (sym (entry_of-fail_other next n k j failed_at.Pool differs)) (spared-miss s n t k j sound ok differs) in
+    subst (λ o. IsSpared (entry_of j s) o) (sym (entry_of-fail_other next n k j failed_at.Pool differs)) (spared-miss s n t k j sound ok differs) in
     let zero_is = (missing n k c.kept.items s keeps.number sound keeps.held none).1 in
     let own : HasHolds n (count_by (holds_key k) c.kept.items) (entry_of k last) = rw at zero_is in
     let digest : (x : Digest) → resident_digest k last ≡ Some x → HasBlock k x c.blocks = λ x here.
-        let nothing : None ≡ Some x = rw at at here in
-        cc in
+    let nothing : None ≡ Some x = rw at at here in
+    cc in
     record {
       number = rw caller keeps.number;
       cached = rw (blocks, last_is) (AreCached-after k c.blocks c.blocks s last keeps.cached spared (λ j differs. refl) digest);

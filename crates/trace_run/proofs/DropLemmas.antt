@@ -259,11 +259,13 @@ free-entry n e has = rw (has.0, has.1) (both _ _ (unheld-of_one n) refl)
 all-items : (P : Entry → Type 0) (es : List Entry) → IsRising entry_key es → ((k : Key) (e : Entry) → item_at entry_key k es ≡ Some e → P e) → AllByRecursion P es
 all-items P [] rising each = tt
 all-items P (x ∷ xs) rising each =
-    let first : item_at entry_key x.key (x ∷ xs) ≡ Some x = rw (key_eq-same x.key) refl in
-    (each x.key x first, all-items P xs rising.1 (λ k e item.
-        let lt = item-above entry_key x.key k xs e rising.0 item in
-        let differs : key_eq x.key k ≡ false = key_eq-lt x.key k lt in
-        each k e (rw differs item)))
+    let first : item_at entry_key x.key (x ∷ xs) ≡ Some x = rw (key_eq-same x.key) refl in (
+      each x.key x first,
+      all-items P xs rising.1 (λ k e item.
+          let lt = item-above entry_key x.key k xs e rising.0 item in
+          let differs : key_eq x.key k ≡ false = key_eq-lt x.key k lt in
+          each k e (rw differs item)),
+    )
 
 pub at_rest : (n : ℕ) (blocks : BTreeMap Key (List ℕ)) (s : PlainShard) → IsSound s → IsStanding n [] blocks s → IsAtRest s
 at_rest n blocks s sound standing = record {

@@ -1,6 +1,7 @@
 pub mod AnswerLemmas
 pub mod CacheLemmas
 pub mod DropLemmas
+pub mod GenLemmas
 pub mod HoldLemmas
 pub mod OutcomeLemmas
 pub mod ReportLemmas

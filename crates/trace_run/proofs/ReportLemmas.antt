@@ -19,6 +19,7 @@ use Rattle.trace_text.specs.declared.reply.Reply.{Reply}
 use Rattle.trace_text.specs.declared.trace.Trace.{Trace}
 use Rattle.trace_text.specs.Grammar.{IsFormed, IsPossible, block_of}
 use Rattle.trace_run.specs.declared.access.KeptRead.{KeptRead}
+use Rattle.trace_run.specs.Access.{events_of_drop}
 use Rattle.trace_run.specs.Explaining.{Explain, end_of, opening_of}
 use Rattle.trace_run.specs.OneCaller.{AreFoundAs, events_of_all, events_of_drops, kept_after_all, one_caller_history}
 use Rattle.trace_run.specs.PlainCache.{MakesAll, PlainCache}
@@ -50,7 +51,7 @@ all-own n (op ∷ os) own = (own 0 op refl, all-own n os (λ k o at. own (suc k)
 
 reads-drops : (n : ℕ) (kept : List KeptRead) → pool_reads (events_of_drops n kept) ≡ 0
 reads-drops n [] = refl
-reads-drops n (read ∷ reads) = omega (arith, pool_reads-append _ (events_of_drops n reads), reads-drop n read.held, reads-drops n reads)
+reads-drops n (read ∷ reads) = omega (arith, pool_reads-append (events_of_drop n read.held) (events_of_drops n reads), reads-drop n read.held, reads-drops n reads)
 
 -- what is left to know of the parts of a report
 pub record IsReported (trace : Trace) (replies : List Reply) (start done end : PlainCache) : Type 0 where

@@ -58,9 +58,11 @@ found-snoc blocks s kept (o ∷ os) [] op reply same before now = absurd (omega 
 found-snoc blocks s kept (o ∷ os) (r ∷ rs) op reply same before now =
     let first = events_of blocks s kept o r in
     let next = replay s first in
-    let left = kept_after blocks o r kept in
-    (before.0, found-snoc blocks next left os rs op reply (omega arith) before.1
-        (subst (λ (t : PlainShard). IsFoundAs blocks t op reply) (replay-append s first (events_of_all blocks next left os rs)) now))
+    let left = kept_after blocks o r kept in (
+      before.0,
+      found-snoc blocks next left os rs op reply (omega arith) before.1
+          (subst (λ (t : PlainShard). IsFoundAs blocks t op reply) (replay-append s first (events_of_all blocks next left os rs)) now),
+    )
 
 -- ---- at most one read of the pool stands behind an operation
 
@@ -153,9 +155,9 @@ run-more blocks os replies old mid new op reply before now same run answer =
     let kept = kept_after_all blocks [] os replies in
     let here = events_of blocks mid.log.now mid.kept op reply in
     let all : events_of_all blocks old.log.now [] (os ++ op ∷ []) (replies ++ reply ∷ []) ≡ front ++ here =
-        events-snoc blocks old.log.now [] os replies op reply same ∙ ap (λ (es : List Event). front ++ es) (sym (events-here blocks os replies old mid op reply run)) in
+    events-snoc blocks old.log.now [] os replies op reply same ∙ ap (λ (es : List Event). front ++ es) (sym (events-here blocks os replies old mid op reply run)) in
     let left : kept_after_all blocks [] (os ++ op ∷ []) (replies ++ reply ∷ []) ≡ kept_after blocks op reply mid.kept =
-        kept-snoc blocks [] os replies op reply same ∙ ap (λ (ks : List KeptRead). kept_after blocks op reply ks) (sym run.made.kept) in
+    kept-snoc blocks [] os replies op reply same ∙ ap (λ (ks : List KeptRead). kept_after blocks op reply ks) (sym run.made.kept) in
     record {
       made = rw (all, left) (made-then front here kept (kept_after blocks op reply mid.kept) old mid new run.made answer.made);
       found = found-snoc blocks old.log.now [] os replies op reply same run.found (subst (λ (s : PlainShard). IsFoundAs blocks s op reply) run.made.now answer.found);

@@ -356,10 +356,10 @@ every-call blocks callers n s os replies feeder own named =
     let mine = mine-history blocks n s os replies own in
     let his = act-caller blocks n os replies own in
     let told_at : (m : ℕ) → m ≢ callers → Tell (acts_in (λ key. 0) 0 m acts) (own_moments m ms) = λ m differs.
-        elim (cases_eq n m) [
-          | inl same ↦ subst (λ h. Tell (acts_in (λ key. 0) 0 h acts) (own_moments h ms)) same (rw (own-acts n acts his, own-moments n ms mine) (tell-history blocks n s os replies named))
-          | inr other ↦ rw (no-acts n m acts other his) (no-moments n m ms other mine)
-        ] in
+    elim (cases_eq n m) [
+      | inl same ↦ subst (λ h. Tell (acts_in (λ key. 0) 0 h acts) (own_moments h ms)) same (rw (own-acts n acts his, own-moments n ms mine) (tell-history blocks n s os replies named))
+      | inr other ↦ rw (no-acts n m acts other his) (no-moments n m ms other mine)
+    ] in
     record {
       told = λ shard m lt differs. subst (λ i. Tell (acts_in (λ key. 0) i m acts) (own_moments m (moments s (slice_index_or (history ∷ []) i [])))) (sym (only-shard shard lt)) (told_at m differs);
       fed = λ shard lt. subst (λ i. AllByRecursion (λ m. IsTrue (is_of_feed m.event)) (own_moments callers (moments s (slice_index_or (history ∷ []) i [])))) (sym (only-shard shard lt))

@@ -27,7 +27,6 @@ caller_of (ops.Read n t x window) = n
 caller_of (ops.Hold n t x) = n
 caller_of (ops.Drop n x) = n
 
-
 -- the kept reads are those that this caller has kept and not dropped
 pub record IsTally (caller : ℕ) (ops : List Op) (replies : List Reply) (kept : List KeptRead) : Type 0 where
   pub each : (x : ℕ) → kept_of_block x kept + dropped_reads caller x ops replies ≡ kept_reads caller x ops replies

@@ -106,7 +106,11 @@ fn answer_read<P: Pool>(
         Ok(Given { served, shown }) => {
             cache.give_back_newest();
             let digest = ptr.digest;
-            Ok(Reply::Read { served, digest, shown })
+            Ok(Reply::Read {
+                served,
+                digest,
+                shown,
+            })
         }
         Err(fault) => Ok(Reply::Refused(refusal_of(fault)?)),
     }

@@ -17,10 +17,10 @@ ghost use Rattle.trace_run.specs.PlainCache.{kept_read, AreHeld, MakesAll};
 use crate::access::{Access, KeptRead};
 use arc_core::{Bounds, Event, FailedAt, Origin, Shard};
 use blk_ptr::{Block, Digest, Key, NoMemory, Ptr, State};
-use trace_text::ShardEnd;
 use std::alloc::Global;
 use std::collections::BTreeMap;
 use std::marker::Model;
+use trace_text::ShardEnd;
 
 /// The cache of one caller. Contracts see a plain shard with its history, and the reads that the caller keeps.
 #[derive(Drop)]
@@ -87,7 +87,13 @@ fn oldest_of(kept: &[KeptRead], block: u32) -> Option<usize>
 
 impl CallerCache {
     /// An empty cache.
-    pub(crate) fn new(alloc: Global, caller: u32, c: u64, mintime: u64, bounds: Bounds) -> CallerCache
+    pub(crate) fn new(
+        alloc: Global,
+        caller: u32,
+        c: u64,
+        mintime: u64,
+        bounds: Bounds,
+    ) -> CallerCache
         requires caller { caller < numbers }
         requires capacity { IsCapacity c }
         ensures caller { result.caller ≡ caller }
@@ -140,7 +146,13 @@ impl CallerCache {
     }
 
     /// Keeps a read that did not find its block cached, and whose bytes the pool gave.
-    pub(crate) fn arrive(&mut self, block: u32, ptr: &Ptr, t: u64, bytes: Block) -> Result<(), NoMemory>
+    pub(crate) fn arrive(
+        &mut self,
+        block: u32,
+        ptr: &Ptr,
+        t: u64,
+        bytes: Block,
+    ) -> Result<(), NoMemory>
         requires missing { access_of self.old.log.now ptr.now ≡ Access.Miss }
         requires formed { IsWellFormed ptr.now.key }
         requires of { IsOf bytes ptr.now }

@@ -12,9 +12,7 @@ use crate::caller_cache::CallerCache;
 use crate::zero_pool::ZeroPool;
 use blk_ptr::{NoMemory, SECTOR};
 use std::alloc::Global;
-use trace_text::{
-    Config, Ends, Histories, History, Replies, Reply, Report, Trace, gen_trace,
-};
+use trace_text::{Config, Ends, Histories, History, Replies, Reply, Report, Trace, gen_trace};
 use vdev_io::{Gate, Pool};
 
 /// The number of the one caller.
@@ -37,7 +35,10 @@ pub(crate) fn run_trace<P: Pool, G: Gate>(
     ensures size { P.size pool.new ≡ P.size pool.old }
 {
     let Config {
-        c, mintime, bounds, ..
+        c,
+        mintime,
+        bounds,
+        ..
     } = trace.config;
     let mut cache = CallerCache::new(alloc, CALLER, c, mintime, bounds);
     let blocks = trace.blocks.as_slice();

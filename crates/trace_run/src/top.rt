@@ -64,7 +64,9 @@ pub fn run<R: Threads + Wait + Sync, S: Source, K: Sink, P: Pool, D: CacheDev, G
 {
     match Command::parse(words) {
         Ok(Command::Run { events }) => run_source(alloc, events, source, sink, pool, gate),
-        Ok(Command::Gen { seed, blocks, ops }) => run_generated(alloc, seed, blocks, ops, sink, gate),
+        Ok(Command::Gen { seed, blocks, ops }) => run_generated(
+            alloc, seed, blocks, ops, sink, gate,
+        ),
         Err(index) => Outcome {
             status: Status::Usage { index },
             report: None,
