@@ -90,7 +90,9 @@ fn outcome_of<R: AllocGlobal + Threads + Wait + Sync, S: Source>(
     for word in words {
         all.push(String::from_str(alloc, word)?)?;
     }
-    let mut sink = MemSink::new(alloc, most, 1_048_576, sink_fails.to_vec(alloc)?)?;
+    let Ok(mut sink) = MemSink::new(alloc, most, 1_048_576, sink_fails.to_vec(alloc)?) else {
+        return Err(Fail::from("no memory"));
+    };
     let outcome = run(
         alloc,
         rt,
