@@ -6,7 +6,7 @@
 set -eu
 here=$(cd "$(dirname "$0")" && pwd)
 tool=$here/../crates/arc_tool/out/arc_tool
-[ -x "$tool" ] || (cd "$here/../crates/arc_tool" && rt run)
+[ -x "$tool" ] || (cd "$here/../crates/arc_tool" && rt run -- --version)
 work=$(mktemp -d)
 trap 'rm -rf "$work"' EXIT
 rustc --edition 2024 -O -o "$work/arc_sim" "$here/baseline/arc_sim.rs"

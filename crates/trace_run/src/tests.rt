@@ -11,6 +11,7 @@ use std::alloc::{AllocError, Global};
 use std::sync::Wait;
 use std::test::Fail;
 use std::thread::Threads;
+use trace_text::report_text;
 use vdev_io::{FreeGate, MemPool, MemSink, MemSource, NoCache, Source};
 
 /// A read of the only block.
@@ -105,4 +106,14 @@ fn outcome_of<R: AllocGlobal + Threads + Wait + Sync, S: Source>(
     );
     let text = sink.bytes().to_vec(alloc)?;
     Ok((outcome, text))
+}
+
+/// The text of the report that a run gave, with its events.
+fn report_of(alloc: Global, outcome: &Outcome) -> Result<Vec<u8>, Fail> {
+    let mut text = Vec::new(alloc);
+    let Some(report) = &outcome.report else {
+        return Err(Fail::from("no report"));
+    };
+    report_text(alloc, report, true, &mut text)?;
+    Ok(text)
 }

@@ -1,11 +1,12 @@
 //! A history is all that a shard is: replayed on a shard of its own it ends the same.
 use super::{outcome_of, source_of, zeros};
-use crate::Status;
 use arc_core::{Bounds, Event, Shard};
 use blk_ptr::{NoMemory, State};
 use std::alloc::{AllocError, Global};
+use std::sync::Wait;
 use std::test::Fail;
-use trace_text::{ShardEnd, counts_of};
+use std::thread::Threads;
+use trace_text::{Report, ShardEnd, counts_of};
 
 /// What a trace has without a line of its own.
 const BOUNDS: Bounds = Bounds {
@@ -68,24 +69,42 @@ fn make(shard: &mut Shard, event: Event) -> Result<bool, NoMemory> {
     Ok(true)
 }
 
-#[test]
-fn replayed_history(rt: HostRuntime) -> Result<(), Fail> {
+/// What a shard of its own ends with when it makes the events of a history.
+fn replay(alloc: Global, history: &[Event]) -> Result<ShardEnd, Fail> {
+    let mut shard = Shard::new(alloc, 16_384, 3, BOUNDS);
+    for event in history {
+        if !make(&mut shard, *event)? {
+            return Err(Fail::from("an event that may not come"));
+        }
+    }
+    Ok(ShardEnd {
+        c: shard.c(),
+        p: shard.p(),
+        sizes: STATES.map(|state| shard.size(state)),
+    })
+}
+
+/// The report of a run of the trace by chance, of which some reads are refused.
+fn run_by_chance<R: AllocGlobal + Threads + Wait + Sync>(rt: &R) -> Result<Report, Fail> {
     let alloc = rt.alloc();
     let mut source = source_of(alloc, &trace_by_chance(alloc)?, &[])?;
     let mut pool = zeros(alloc, 126_976, &[])?;
-    let (outcome, _) = outcome_of(&rt, &["run"], &mut source, &mut pool, 65_536, &[])?;
-    assert_eq!(rt; outcome.status, Status::ReadsFailed);
-    let report = outcome.report.ok_or("a report")?;
-    let histories = report.histories.as_slice();
-    let mut again = Shard::new(alloc, 16_384, 3, BOUNDS);
-    for event in histories.first().ok_or("a shard")?.as_slice() {
-        assert!(rt; make(&mut again, *event)?);
+    let (outcome, _) = outcome_of(rt, &["run"], &mut source, &mut pool, 65_536, &[])?;
+    match outcome.report {
+        Some(report) => Ok(report),
+        None => Err(Fail::from("no report")),
     }
-    let end = ShardEnd {
-        c: again.c(),
-        p: again.p(),
-        sizes: STATES.map(|state| again.size(state)),
+}
+
+#[test]
+fn replayed_history(rt: HostRuntime) -> Result<(), Fail> {
+    let report = run_by_chance(&rt)?;
+    assert_eq!(rt; report.status, 1);
+    let histories = report.histories.as_slice();
+    let Some(history) = histories.first() else {
+        return Err(Fail::from("no shard"));
     };
+    let end = replay(rt.alloc(), history.as_slice())?;
     assert_eq!(rt; report.ends.as_slice(), [end].as_slice());
     let counts = counts_of(histories);
     assert!(rt; counts.hit > 0 && counts.past > 0 && counts.miss > 500);

@@ -1,8 +1,8 @@
 //! The words, the source and the sink at fault, and texts that are no trace.
-use super::{ONE_READ, ONE_READ_REPORT, outcome_of, source_of, spelled, zeros};
+use super::{ONE_READ, ONE_READ_REPORT, outcome_of, report_of, source_of, spelled, zeros};
 use crate::Status;
 use std::test::Fail;
-use trace_text::{Kind, report_text};
+use trace_text::Kind;
 
 /// The status where nothing is run: no report, and nothing written.
 #[test]
@@ -72,19 +72,13 @@ fn statuses(rt: HostRuntime) -> Result<(), Fail> {
 /// Where the sink fails the report is there all the same, and tells the status of the run.
 #[test]
 fn sink_fault(rt: HostRuntime) -> Result<(), Fail> {
-    let alloc = rt.alloc();
-    let mut source = source_of(alloc, ONE_READ, &[])?;
-    let mut pool = zeros(alloc, 512, &[])?;
+    let mut source = source_of(rt.alloc(), ONE_READ, &[])?;
+    let mut pool = zeros(rt.alloc(), 512, &[])?;
     let (outcome, text) = outcome_of(&rt, &["run"], &mut source, &mut pool, 4096, &[0])?;
     assert_eq!(rt; outcome.status, Status::SinkFault);
     assert_eq!(rt; text.len(), 0);
-    let report = outcome.report.ok_or("a report")?;
-    assert_eq!(rt; report.status, 0);
-    let mut told = Vec::new(alloc);
-    report_text(alloc, &report, true, &mut told)?;
-    assert_eq!(rt;
-        str::from_utf8(&told)?,
-        spelled(alloc, ONE_READ_REPORT)?.as_str()
-    );
+    let told = report_of(rt.alloc(), &outcome)?;
+    let wanted = spelled(rt.alloc(), ONE_READ_REPORT)?;
+    assert_eq!(rt; told.as_slice(), wanted.as_bytes());
     Ok(())
 }
