@@ -1,7 +1,6 @@
 //! Runs over a source, a sink and a pool in memory, with values from outside.
 
 mod histories;
-mod made;
 mod rows;
 mod statuses;
 mod streams;
