@@ -32,10 +32,10 @@ def drawn(out, blocks, ops):
 
 def long(out):
     """60 MB: large ticks, windows at the end of a block, and a comment behind each ten reads."""
-    out.write(f'arc 1 1 256 1 {100_000 * 128} 0 0\n')
+    out.write(f'arc 1 1 256 1 {4_096 * 128} 0 0\n')
     out.writelines(f'block {i * 512} 512 1 {ZEROS}\n' for i in range(100_000))
-    for i, x in enumerate(draws(32_768, 1_000_000)):
-        out.write(f'read 0 {4 * 10**18 + i} {3 * x} 496 16\n')
+    for i, x in enumerate(draws(4_096, 1_000_000)):
+        out.write(f'read 0 {4 * 10**18 + i} {24 * x} 496 16\n')
         if i % 10 == 9:
             out.write('#' * 119 + '\n')
 
