@@ -7,9 +7,10 @@ use Rattle.atomic_table.specs.Table.{Splits, opening as table_opening}
 use Rattle.atomic_table.specs.Seated.{TableId}
 use Rattle.atomic_table.proofs.Lists.{set_again}
 use Rattle.turn_table.specs.Board.{Turn, free, taken, Board, numbered, opening}
+use Rattle.turn_table.specs.Standings.{kept_from, whole, whole_place, AllApart, AllKept, StandsAt, Sits, IsKept, left_with, leaving}
+use Rattle.turn_table.specs.Places.{newcomer, newcomers, Place, Apart, IsLast, stayed, parted}
 use Rattle.turn_table.specs.declared.standing.Kept.{Kept}
 use Rattle.turn_table.specs.declared.standing.Standing.{Standing}
-use Rattle.turn_table.specs.Standings.{kept_from, whole, whole_place, newcomer, newcomers, Place, Apart, AllApart, AllKept, StandsAt, Sits, IsKept, left_with, leaving, IsLast, stayed, parted}
 use Rattle.turn_table.proofs.Seats.{parts}
 
 length_map : {A B : Type 0} (f : A → B) (l : List A) → length (map f l) ≡ length l

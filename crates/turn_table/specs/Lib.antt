@@ -1,3 +1,5 @@
 pub mod Board
+pub mod Moments
+pub mod Places
 pub mod Standings
 pub mod Taken
