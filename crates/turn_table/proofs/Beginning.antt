@@ -22,12 +22,12 @@ length_replicate zero a = refl
 length_replicate (suc n) a = ap suc (length_replicate n a)
 
 module _ {W : Type 0} (f : ℕ → W) where
-  numbered_at : (n k j : ℕ) → j < k → get_elem? (numbered f n k) j ≡ some (f (n + j))
+  pub numbered_at : (n k j : ℕ) → j < k → get_elem? (numbered f n k) j ≡ some (f (n + j))
   numbered_at n zero j h = absurd (omega arith)
   numbered_at n (suc k) zero h = ap (λ m. some (f m)) (let e : n ≡ n + 0 = omega arith in e)
   numbered_at n (suc k) (suc j) h = numbered_at (suc n) k j (omega arith) ∙ ap (λ m. some (f m)) (let e : suc n + j ≡ n + suc j = omega arith in e)
 
-  numbered_length : (n k : ℕ) → length (numbered f n k) ≡ k
+  pub numbered_length : (n k : ℕ) → length (numbered f n k) ≡ k
   numbered_length n zero = refl
   numbered_length n (suc k) = ap suc (numbered_length (suc n) k)
 

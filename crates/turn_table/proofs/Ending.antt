@@ -5,7 +5,6 @@ use mathlib.Core.Option as maybe
 use mathlib.Core.List.{map-append}
 use lib.ListN.{get_elem?}
 use Rattle.atomic_table.specs.Table.{Final, Seen}
-use Rattle.atomic_table.specs.Seated.{TableId}
 use Rattle.turn_table.specs.Board.{Turn, free, taken, Board, opening, IsAmong}
 use Rattle.turn_table.specs.Standings.{AllKept, IsKept}
 use Rattle.turn_table.specs.Places.{Place, met, entries, IsIn, HasNumber, SomeHas, AreFree, AllShow, Shows, ShowAll, Row, IsPartyOf}

@@ -1,5 +1,5 @@
 -- Tries that were lost one after the other.
-use Rattle.std.proofs.Common.{◌≡◌, ℕ, List, [], ◌∷◌, ◌++◌, refl, sym, ap, ◌∙◌, subst}
+use Rattle.std.proofs.Common.{◌≡◌, ℕ, List, [], ◌∷◌, ◌++◌, sym, ap, subst}
 use Rattle.turn_table.specs.Board.{Board}
 use Rattle.turn_table.specs.Places.{Place, saw}
 use Rattle.turn_table.specs.Moments.{WasTaken, Loses}

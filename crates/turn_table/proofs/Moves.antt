@@ -46,7 +46,7 @@ module _ {V : Type 0} where
 module _ {V W : Type 0} (holds : Board V W → Type 0) (parties : ℕ) where
   -- a seat that is not spent is a party that is so
   sits_so : (s : State (Option V) (Standing W)) (r : IsKept holds parties s) (id : ℕ) (x : Standing W) → Sits parties r.turns r.views r.seat id x → (z : TableId) → Stands record { turns = r.turns; views = r.views } (place_of z x)
-  sits_so s r id x own z = record { count = r.count ∙ sym own.all; shows = (own.own_is, kept_show r.views r.seat id x.joined own.joined); held = own.held; once = own.once }
+  sits_so s r id x own z = record { count = r.count ∙ sym own.all; shows = (own.own_is, kept_show r.views r.seat id x.joined own.joined); apart = own.own_apart; held = own.held; once = own.once }
 
   -- A step of the seat id, whose standing is x, from the turns r.turns to the turns us. What other parties have stays theirs
   moved : (s : State (Option V) (Standing W)) (r : IsKept holds parties s) (id : ℕ) (x : Standing W) → get_elem? s.views id ≡ some x → x.live ≡ true

@@ -1,4 +1,5 @@
 pub mod Board
+pub mod Histories
 pub mod Moments
 pub mod Places
 pub mod Standings

@@ -1,13 +1,14 @@
 -- What one moment shows to a party, and what a party owes at a give.
 use Rattle.std.specs.Prelude.{◌≡◌, ℕ, List, [], ◌∷◌, length}
 use Rattle.turn_table.specs.Board.{free, Board, changed, IsFree, IsTaken}
-use Rattle.turn_table.specs.Places.{Place, saw, IsOther, Shows, AllHeld, AllOnce}
+use Rattle.turn_table.specs.Places.{Place, saw, Apart, IsOther, Shows, AllHeld, AllOnce}
 
 module _ {V W : Type 0} where
-  -- The party p is so on this board: there are as many views as parties, what p knows is among them, and so is what each party knows that p keeps by a join; and the turns that p holds are its own, each once
+  -- The party p is so on this board: there are as many views as parties, what p knows is among them, and so is what each other party knows that p keeps by a join; and the turns that p holds are its own, each once
   pub record Stands (b : Board V W) (p : Place W) : Type 0 where
     pub count : length b.views ≡ p.parties
     pub shows : Shows b.views p
+    pub apart : Apart p.number p.joined
     pub held : AllHeld b.turns p.number p.held
     pub once : AllOnce p.held
 

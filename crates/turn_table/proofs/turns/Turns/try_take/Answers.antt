@@ -2,7 +2,7 @@ use Rattle.std.proofs.Common.{rules, ◌≡◌, ◌≢◌, ◌<◌, ◌+◌, ◌
 use Rattle.atomic_table.specs.Table.{rest}
 use Rattle.turn_table.specs.Board.{IsAmong}
 use Rattle.turn_table.specs.Places.{Row, Place, Apart, IsOther}
-use Rattle.turn_table.specs.Moments.{WasFree, WasTaken}
+use Rattle.turn_table.specs.Moments.{WasTaken}
 use Rattle.turn_table.specs.Standings.{IsParty}
 use Rattle.turn_table.proofs.Moves.{tries}
 use Rattle.turn_table.proofs.Parties.{is_seeing}
