@@ -13,7 +13,7 @@ struct Row {
     status: u8,
 }
 
-const ROWS: [Row; 17] = [
+const ROWS: [Row; 18] = [
     Row {
         shows: "one block is read",
         pool: 512,
