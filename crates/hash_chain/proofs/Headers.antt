@@ -47,6 +47,14 @@ found (g ∷ gs) (suc i) h once at =
     (λ f. there h.key g gs f ∙ rest)
     (cases (key_eq g.key h.key))
 
+-- what a key has is a header of that key
+pub has_key : (k : Key) (hs : List Header) (o : Option Header) → header_at k hs ≡ o → IfSome o (λ h. h.key ≡ k)
+has_key k [] o e = subst (λ (z : Option Header). IfSome z (λ h. h.key ≡ k)) e tt
+has_key k (g ∷ gs) o e = ⊎_elim
+    (λ t. subst (λ (z : Option Header). IfSome z (λ h. h.key ≡ k)) (sym (here k g gs t) ∙ e) (key_eq-is g.key k t))
+    (λ f. has_key k gs o (sym (there k g gs f) ∙ e))
+    (cases (key_eq g.key k))
+
 -- one more header, of a key that has none
 pub map_add : (hs : List Header) (h : Header) → header_at h.key hs ≡ None → IsWith h.key (Some h) hs (hs ++ h ∷ [])
 map_add [] h none j = refl
@@ -287,12 +295,12 @@ find_none (h ∷ hs) n k e = ⊎_elim
     (λ f. there k h hs f ∙ find_none hs (n + 1) k (subst (λ b. cond b (Some n) (position_from (is_key k) (n + 1) (keys_of hs)) ≡ None) f e))
     (cases (key_eq h.key k))
 
-pub finds : (hs : List Header) (ks : List Key) (k : Key) (r : Option ℕ) → ks ≡ keys_of hs → r ≡ position (is_key k) ks → IfSome r (λ i. (i < length hs) × (header_at k hs ≡ slice_get hs i)) × IfNone r (header_at k hs ≡ None)
+pub finds : (hs : List Header) (ks : List Key) (k : Key) (r : Option ℕ) → ks ≡ keys_of hs → r ≡ position (is_key k) ks → IfSome r (λ i. (i < length hs) × (header_at k hs ≡ slice_get hs i)) × IfSome r (λ i. IfSome (slice_get hs i) (λ h. h.key ≡ k)) × IfNone r (header_at k hs ≡ None)
 finds hs ks k (Some m) is e =
     let f = find_some hs 0 m k (sym (position_from-zero (is_key k) (keys_of hs)) ∙ (ap (position (is_key k)) (sym is) ∙ sym e)) in
     let same : m ≡ f.0 = let a = f.1 in omega arith in
-    (subst (λ (i : ℕ). (i < length hs) × (header_at k hs ≡ slice_get hs i)) (sym same) (f.2, f.3), tt)
-finds hs ks k None is e = (tt, find_none hs 0 k (sym (position_from-zero (is_key k) (keys_of hs)) ∙ (ap (position (is_key k)) (sym is) ∙ sym e)))
+    (subst (λ (i : ℕ). (i < length hs) × (header_at k hs ≡ slice_get hs i)) (sym same) (f.2, f.3), subst (λ (i : ℕ). IfSome (slice_get hs i) (λ h. h.key ≡ k)) (sym same) (has_key k hs (slice_get hs f.0) f.3), tt)
+finds hs ks k None is e = (tt, tt, find_none hs 0 k (sym (position_from-zero (is_key k) (keys_of hs)) ∙ (ap (position (is_key k)) (sym is) ∙ sym e)))
 
 -- the header that stands at a place
 pub get_value : (hs : List Header) (i : ℕ) (h : Header) → i < length hs → h ≡ get_or hs i h → slice_get hs i ≡ Some h

@@ -52,6 +52,7 @@ impl Bucket {
     /// Where the header of this key stands, until a header is removed.
     pub fn find(&self, key: Key) -> Option<usize>
         ensures found { IfSome result (λ i. (i < length self.now.headers) × (header_at key self.now.headers ≡ slice_get self.now.headers i)) }
+        ensures key { IfSome result (λ i. IfSome (slice_get self.now.headers i) (λ h. h.key ≡ key)) }
         ensures absent { IfNone result (header_at key self.now.headers ≡ None) }
     {
         place_of(&self.keys, key)

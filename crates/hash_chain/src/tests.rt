@@ -1,10 +1,14 @@
-// Each call once, with ample memory, and a block that is shared.
+// Each call once, with ample memory.
+ghost use Rattle.std.specs.Prelude.{◌≡◌};
+
 use crate::{Bucket, Header};
-use blk_ptr::{Block, Key, State};
+use blk_ptr::{Block, Key, NoMemory, State};
 use std::sync::Arc;
 use std::test::Fail;
 
-fn key(offset: u64) -> Key {
+fn key(offset: u64) -> Key
+    ensures { result ≡ record { offset = offset; size = 512; birth = 1 } }
+{
     Key {
         offset,
         size: 512,
@@ -12,35 +16,55 @@ fn key(offset: u64) -> Key {
     }
 }
 
-fn header(offset: u64, block: Option<Arc<Block>>) -> Header {
+fn header(offset: u64, block: Option<Arc<Block>>) -> Header
+    ensures { result.key ≡ record { offset = offset; size = 512; birth = 1 } }
+{
     Header {
         key: key(offset),
         state: State::Mru,
         reading: false,
         place: None,
-        digest: block.as_ref().map(|b| b.digest()),
+        digest: None,
         block,
     }
+}
+
+// Adds a header, where its key has none.
+fn put(bucket: &mut Bucket, header: Header) -> Result<(), NoMemory> {
+    bucket.reserve(1)?;
+    if bucket.find(header.key).is_none() {
+        bucket.add(header);
+    }
+    Ok(())
+}
+
+// Puts another header in the place of its key's.
+fn replace(bucket: &mut Bucket, header: Header) {
+    if let Some(at) = bucket.find(header.key) {
+        bucket.change(at, header);
+    }
+}
+
+// The header that the key has.
+fn header_of(bucket: &Bucket, offset: u64) -> Option<&Header> {
+    let at = bucket.find(key(offset))?;
+    Some(bucket.at(at))
 }
 
 #[test]
 fn headers_are_found_by_their_keys(rt: HostRuntime) -> Result<(), Fail> {
     let mut bucket = Bucket::new(rt.alloc());
     assert!(rt; bucket.find(key(0)).is_none());
-    assert!(rt; bucket.reserve(1).is_ok() && bucket.reserve(3).is_ok());
-    bucket.add(header(0, None));
     let bytes = vec![in rt.alloc(); 0u8; 512]?;
     let block = Arc::new(rt.alloc(), Block::seal(bytes))?;
-    bucket.add(header(512, Some(Arc::try_clone(&block)?)));
-    bucket.add(header(1024, None));
+    put(&mut bucket, header(0, None)).ok().ok_or("memory")?;
+    put(&mut bucket, header(512, None)).ok().ok_or("memory")?;
+    put(&mut bucket, header(1024, None)).ok().ok_or("memory")?;
     let first = bucket.find(key(0)).ok_or("the first key")?;
     let gone = bucket.remove(first);
     assert!(rt; gone.key == key(0) && bucket.find(key(0)).is_none());
-    let last = bucket.find(key(1024)).ok_or("the last key")?;
-    bucket.change(last, header(1024, Some(block)));
-    let at = bucket.find(key(1024)).ok_or("the changed key")?;
-    assert!(rt; bucket.at(at).block.is_some());
-    let other = bucket.find(key(512)).ok_or("the other key")?;
-    assert!(rt; bucket.at(other).key == key(512) && bucket.at(other).block.is_some());
+    replace(&mut bucket, header(1024, Some(block)));
+    assert!(rt; header_of(&bucket, 1024).is_some_and(|h| h.block.is_some()));
+    assert!(rt; header_of(&bucket, 512).is_some_and(|h| h.block.is_none()));
     Ok(())
 }
