@@ -15,5 +15,7 @@ pub mod LoggedLaws
 pub mod PassedLaws
 pub mod RuleLaws
 pub mod Cache
+pub mod Giving
+pub mod Looking
 pub mod Opening
 pub mod OpeningLaws
