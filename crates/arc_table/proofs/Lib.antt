@@ -1,0 +1,5 @@
+pub mod Begun
+pub mod Appending
+pub mod Boards
+pub mod CellGives
+pub mod Ranges
