@@ -6,7 +6,7 @@ use Rattle.blk_ptr.specs.declared.digest.Digest.{Digest}
 use Rattle.arc_lists.proofs.Standing.{and_right}
 use Rattle.arc_core.specs.declared.entry.Entry.{Entry}
 use Rattle.arc_core.specs.declared.event.Event.{Event}
-use Rattle.arc_core.specs.declared.event.Event.TheVariants.{Pass, Hit, Miss, Arrive, Fail, Drop, Past, Hand, Insert, Release, Pick, FeedEnd, Set, Leave, Clear, Restore}
+use Rattle.arc_core.specs.declared.event.Event.TheVariants.{Pass, Hit, Miss, Arrive, Fail, Drop, Past, Hand, Insert, Release, Pick, FeedEnd, Set, Leave, Clear, Restore, Resize}
 use Rattle.arc_core.specs.declared.event.FailedAt.{FailedAt}
 use Rattle.arc_core.specs.declared.event.Origin.{Origin}
 use Rattle.arc_core.specs.PlainShard.{PlainShard, is_number, is_resident}
@@ -84,4 +84,5 @@ IsSound-after s (FeedEnd n) built sound ok = absurd (false≢true built)
 IsSound-after s (Set n k place) built sound ok = absurd (false≢true built)
 IsSound-after s (Leave n k why) built sound ok = absurd (false≢true built)
 IsSound-after s (Clear n k) built sound ok = absurd (false≢true built)
-IsSound-after s (Restore n k place) built sound ok = absurd (false≢true built)
+IsSound-after s (Restore n k place d) built sound ok = absurd (false≢true built)
+IsSound-after s (Resize n c) built sound ok = absurd (false≢true built)

@@ -3,6 +3,7 @@ pub mod Changes
 pub mod Config
 pub mod Edits
 pub mod Ending
+pub mod Keeps
 pub mod Operations
 pub mod Owed
 pub mod PlainShard

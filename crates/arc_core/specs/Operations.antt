@@ -6,7 +6,7 @@ use Rattle.blk_ptr.specs.declared.digest.Digest.{Digest}
 use Rattle.blk_ptr.specs.declared.ptr.Ptr.{Ptr}
 use Rattle.arc_core.specs.declared.entry.Phase.TheVariants.{Idle}
 use Rattle.arc_core.specs.declared.event.Event.{Event}
-use Rattle.arc_core.specs.declared.event.Event.TheVariants.{Pass, Hit, Miss, Arrive, Fail, Drop, Past, Hand, Insert, Release, Pick, FeedEnd, Set, Leave, Clear, Restore}
+use Rattle.arc_core.specs.declared.event.Event.TheVariants.{Pass, Hit, Miss, Arrive, Fail, Drop, Past, Hand, Insert, Release, Pick, FeedEnd, Set, Leave, Clear, Restore, Resize}
 use Rattle.arc_core.specs.declared.event.Origin.TheVariants as origin
 use Rattle.arc_core.specs.declared.event.FailedAt.{FailedAt}
 use Rattle.arc_core.specs.declared.event.FailedAt.TheVariants as failed
@@ -34,7 +34,8 @@ number_of (FeedEnd n) = n
 number_of (Set n k place) = n
 number_of (Leave n k why) = n
 number_of (Clear n k) = n
-number_of (Restore n k place) = n
+number_of (Restore n k place d) = n
+number_of (Resize n c) = n
 
 abbrev pub is_pass : Event → Bool
 is_pass (Pass n k owner) = true
@@ -47,7 +48,8 @@ is_of_feed (FeedEnd n) = true
 is_of_feed (Set n k place) = true
 is_of_feed (Leave n k why) = true
 is_of_feed (Clear n k) = true
-is_of_feed (Restore n k place) = true
+is_of_feed (Restore n k place d) = true
+is_of_feed (Resize n c) = true
 is_of_feed _ = false
 
 -- an event that stands for one read of the pool: bytes that came from it, a read of it that failed, or one past the cache

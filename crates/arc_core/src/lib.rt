@@ -5,6 +5,7 @@ mod config;
 mod entries;
 mod entry;
 mod event;
+mod keeps;
 mod laws;
 mod served;
 mod shard;
@@ -13,6 +14,7 @@ mod table;
 pub use config::{Bounds, Config};
 pub use entry::{Entry, NUMBERS, Phase, Picked};
 pub use event::{Event, FailedAt, Origin, Why};
+pub use keeps::Keeps;
 pub use laws::{
     a_miss_spares_others, events_keep_soundness, prefixes_are_legal, replay_goes_on,
     room_and_trim_end,

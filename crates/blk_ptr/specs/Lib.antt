@@ -1,3 +1,4 @@
+pub mod Hash
 pub mod Key
 pub mod Order
 pub mod Ptr

@@ -7,7 +7,7 @@ sector = 512
 
 -- the most bytes that a block has
 abbrev pub largest_block : ℕ
-largest_block = 1048576
+largest_block = 16777216
 
 -- a size that a block may have
 abbrev pub IsBlockSize : ℕ → Type 0

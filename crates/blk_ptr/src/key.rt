@@ -7,7 +7,7 @@ use std::fmt;
 pub const SECTOR: u64 = 512;
 
 /// The most bytes that a block has.
-pub const LARGEST_BLOCK: u64 = 1_048_576;
+pub const LARGEST_BLOCK: u64 = 16_777_216;
 
 /// The name of a block: where it lies in the pool, how many bytes it has, and in which transaction group it was born.
 #[derive(Clone, Copy, Debug, PartialEq, Eq, PartialOrd, Ord)]

@@ -7,16 +7,23 @@
 
 mod block;
 mod digest;
+mod hash;
 mod hex_text;
 mod key;
 mod memory;
 mod ptr;
+mod shows;
 mod state;
 
 pub use block::Block;
 pub use digest::{Digest, digest_of};
+pub use hash::hash_of;
 pub use hex_text::Hex;
 pub use key::{Key, KeyFault, LARGEST_BLOCK, SECTOR, is_block_size};
 pub use memory::NoMemory;
 pub use ptr::Ptr;
+pub use shows::Shows;
 pub use state::State;
+
+#[cfg(test)]
+mod tests;
