@@ -7,7 +7,11 @@ pub mod Feeding
 pub mod Frames
 pub mod Keeping
 pub mod Legal
+pub mod Making
 pub mod Others
+pub mod Owing
+pub mod Placing
+pub mod Scanning
 pub mod Soundness
 pub mod Sparing
 pub mod Stepping
