@@ -17,5 +17,6 @@ pub mod Sparing
 pub mod Stepping
 pub mod Tables
 pub mod Tidy
+pub mod Unpicking
 pub mod Victims
 mod WorkedRows

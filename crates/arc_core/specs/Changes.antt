@@ -85,3 +85,7 @@ without_pick k picks = without (λ pick. pick.key) k picks
 -- the key leaves the picked list, and where it was the last one, the feed has ended
 abbrev pub settled : Key → PlainShard → PlainShard
 settled k s = record s { picked = without_pick k s.picked; phase = writing_phase (without_pick k s.picked) }
+
+-- no feed, and no passed key
+abbrev pub unpicked : PlainShard → PlainShard
+unpicked s = record s { passed = []; phase = Idle; picked = [] }

@@ -2,7 +2,7 @@
 ghost use Rattle.std.specs.Prelude.{◌≡◌, IsTrue};
 ghost use Rattle.arc_core.specs.declared.event.Event.{Event};
 ghost use Rattle.arc_core.specs.Candidate.{candidate};
-ghost use Rattle.arc_core.specs.ShardLog.{HasRoom, Makes};
+ghost use Rattle.arc_core.specs.ShardLog.{HasRoom, IsUnpicked, Makes, MayUnpick};
 ghost use Rattle.arc_core.specs.Step.{legal};
 
 use super::{Shard, append};
@@ -172,5 +172,15 @@ impl Shard {
         ensures { result ≡ candidate self.now.now }
     {
         self.table.candidate()
+    }
+
+    /// Takes back the events from this place on, which are picks and passes alone, made since there was no feed and no passed key. The
+    /// shard is as it was before them.
+    pub fn unpick(&mut self, len: usize)
+        requires { MayUnpick len self.old }
+        ensures { IsUnpicked len self.old self.new }
+    {
+        self.history.truncate(len);
+        self.table.unpick();
     }
 }

@@ -5,7 +5,7 @@ ghost use Rattle.arc_lists.specs.Sequences.{stands, stands_on};
 ghost use Rattle.arc_lists.specs.Walks.{oldest_first};
 ghost use Rattle.arc_core.specs.declared.event.Event.{Event};
 ghost use Rattle.arc_core.specs.Candidate.{candidate, chosen, may_be_picked, walk};
-ghost use Rattle.arc_core.specs.Changes.{changed, may_have, pick_of, settled, with_place, writing_phase};
+ghost use Rattle.arc_core.specs.Changes.{changed, may_have, pick_of, settled, unpicked, with_place, writing_phase};
 ghost use Rattle.blk_ptr.specs.State.{is_same_state};
 ghost use Rattle.arc_core.specs.PlainShard.{entry_is, entry_of, is_passed, no_holds};
 ghost use Rattle.arc_core.specs.Step.{cleared, effect, fitted, legal, may_set, restored_entry};
@@ -271,5 +271,16 @@ impl Table {
         ensures { self.new ≡ record self.old { shard = resized c self.old.shard } }
     {
         self.lists.resize(c);
+    }
+
+    /// There is no feed and no passed key.
+    pub fn unpick(&mut self)
+        ensures now { self.new ≡ record self.old { shard = unpicked self.old.shard } }
+        ensures tidy { IsTidy self.new.shard }
+    {
+        self.passed.clear();
+        self.picked.clear();
+        self.picked_bytes = 0;
+        self.phase = Phase::Idle;
     }
 }
