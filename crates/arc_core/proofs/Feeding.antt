@@ -147,19 +147,25 @@ pick-from : (k : Key) (n : ℕ) (picks : List Picked) (m : ℕ) → position_fro
 pick-from k n [] m is = cc
 pick-from k n (x ∷ xs) m is = elim (cases_true (key_eq x.key k)) [
   | inl same ↦
-      let here : n ≡ m = some_is (rw same at is) in
-      (0, omega (arith, here), record {
-        within = omega arith;
-        removed = rw same refl;
-        size = λ d. rw same (omega (arith, sum_by-cons (λ (pick : Picked). pick.key.size) x xs));
-      })
+      let here : n ≡ m = some_is (rw same at is) in (
+        0,
+        omega (arith, here),
+        record {
+          within = omega arith;
+          removed = rw same refl;
+          size = λ d. rw same (omega (arith, sum_by-cons (λ (pick : Picked). pick.key.size) x xs));
+        },
+      )
   | inr differs ↦
-      let rest = pick-from k (n + 1) xs m (rw differs at is) in
-      (suc rest.0, omega (arith, rest.1), record {
-        within = omega (arith, rest.2.within);
-        removed = rw differs (ap (λ l. x ∷ l) rest.2.removed);
-        size = λ d. rw differs (omega (arith, rest.2.size d, sum_by-cons (λ (pick : Picked). pick.key.size) x xs, sum_by-cons (λ (pick : Picked). pick.key.size) x (without_pick k xs)));
-      })
+      let rest = pick-from k (n + 1) xs m (rw differs at is) in (
+        suc rest.0,
+        omega (arith, rest.1),
+        record {
+          within = omega (arith, rest.2.within);
+          removed = rw differs (ap (λ l. x ∷ l) rest.2.removed);
+          size = λ d. rw differs (omega (arith, rest.2.size d, sum_by-cons (λ (pick : Picked). pick.key.size) x xs, sum_by-cons (λ (pick : Picked). pick.key.size) x (without_pick k xs)));
+        },
+      )
 ]
 
 pub pick-at : (k : Key) (picks : List Picked) (i : ℕ) → pick_place k picks ≡ Some i → PickAt k picks i

@@ -144,7 +144,12 @@ impl Shard {
         ensures event { result ≡ Event.Restore n key place digest }
         ensures makes { Makes (Event.Restore n key place digest) self.old self.new }
     {
-        let event = Event::Restore { n, key, place, digest };
+        let event = Event::Restore {
+            n,
+            key,
+            place,
+            digest,
+        };
         self.table.restore(n, key, place, digest);
         self.table.forget_passed();
         append(&mut self.history, event);

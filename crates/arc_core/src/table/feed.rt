@@ -13,8 +13,8 @@ ghost use Rattle.arc_core.specs.Rules.{resized};
 ghost use Rattle.arc_core.specs.Sound.{IsTidy};
 ghost use Rattle.arc_lists.specs.Adapting.{IsCapacity};
 
-use super::{Table, is_unheld};
 use super::room::stands_on;
+use super::{Table, is_unheld};
 use crate::entries;
 use crate::entry::{Entry, NUMBERS, Phase, Picked};
 use blk_ptr::{Digest, Key, State};

@@ -54,7 +54,7 @@ loop-next-preserved c =
     let there = c.loop-next.invariant.stands key c.in-Some.is in
     let here = ap (λ o. from_next o all) c.in-Some.is ∙ from-next key all (distinct-oldest c.args.state s tidy) there in
     let next : c.newer-next.result ≡ next_to key all = subst (λ t. stands_on key (sequence_of c.args.state t.shard.sequences) ≡ true → c.newer-next.result ≡ next_to key (oldest_first c.args.state t.shard.sequences)) c.self.view_is
-        (c.newer-next.ensures c.args.state) (oldest-in c.args.state s key there) in
+    (c.newer-next.ensures c.args.state) (oldest-in c.args.state s key there) in
     let within : c.loop-next.met + key.size ≤ c.args.limit = omega (arith, c.if-met-limit.false, c.from-met.ensures) in
     record {
       rest = ap (λ n. walk c.args.limit (c.loop-next.met + n) (may_be_picked s) (from_next c.newer-next.result all)) c.from-met.ensures
@@ -74,5 +74,5 @@ loop-next-smaller c =
     let there = c.loop-next.invariant.stands key c.in-Some.is in
     let here = ap (λ o. from_next o all) c.in-Some.is ∙ from-next key all (distinct-oldest c.args.state s tidy) there in
     let next : c.newer-next.result ≡ next_to key all = subst (λ t. stands_on key (sequence_of c.args.state t.shard.sequences) ≡ true → c.newer-next.result ≡ next_to key (oldest_first c.args.state t.shard.sequences)) c.self.view_is
-        (c.newer-next.ensures c.args.state) (oldest-in c.args.state s key there) in
+    (c.newer-next.ensures c.args.state) (oldest-in c.args.state s key there) in
     omega (arith, ap length here, ap (λ o. length (from_next o all)) next)
