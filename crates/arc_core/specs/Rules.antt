@@ -1,13 +1,13 @@
 -- The rules of the cache: what an access does to an entry, how a ghost that is asked for moves the target, how room is made, and
 -- which ghosts are dropped (arc.c of OpenZFS 2.1; Megiddo and Modha, FAST 2003).
-use Rattle.std.specs.Prelude.{ℕ, zero, suc, ◌+◌, ◌-◌, min, max, if◌then◌else◌, nat_lt, length, Option, Some, None, is_some, option_and_then}
+use Rattle.std.specs.Prelude.{ℕ, zero, suc, ◌+◌, if◌then◌else◌, nat_lt, length, Option, Some, None, is_some, option_and_then}
 use Rattle.std.specs.Option.{option_map_or}
 use Rattle.blk_ptr.specs.declared.key.Key.{Key}
 use Rattle.blk_ptr.specs.declared.state.State.{State}
 use Rattle.blk_ptr.specs.declared.state.State.TheVariants.{Anon, Mru, MruGhost, Mfu, MfuGhost, L2Only}
 use Rattle.arc_lists.specs.declared.ghost_list.Ghost.{Ghost}
 use Rattle.arc_lists.specs.declared.ghost_list.Ghost.TheVariants as ghosts
-use Rattle.arc_lists.specs.Adapting.{adapted, least_target}
+use Rattle.arc_lists.specs.Adapting.{adapted, clamped_target}
 use Rattle.arc_lists.specs.Room.{next_eviction, next_drop}
 use Rattle.arc_core.specs.declared.entry.Entry.{Entry}
 use Rattle.arc_core.specs.PlainShard.{PlainShard, entry_of, is_passed, place_of, size_in}
@@ -54,7 +54,7 @@ with_target_for k s = record s { p = target_after k s }
 -- A new capacity: the target goes no lower than a sixteenth of it, and no higher than what that leaves. (In arc.c the target
 -- starts anew; that it stays as far as it may is this project's choice.)
 abbrev pub resized : ℕ → PlainShard → PlainShard
-resized c s = record s { c = c; p = min (max s.p (least_target c)) (c - least_target c) }
+resized c s = record s { c = c; p = clamped_target c s.p }
 
 -- ---- room (arc_adjust, arc_evict_state)
 

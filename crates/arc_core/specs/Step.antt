@@ -8,6 +8,7 @@ use Rattle.blk_ptr.specs.declared.state.State.TheVariants.{Anon, Mru, MruGhost, 
 use Rattle.blk_ptr.specs.Key.{is_well_formed}
 use Rattle.blk_ptr.specs.Order.{key_eq, digest_eq}
 use Rattle.blk_ptr.specs.State.{is_cached, is_ghost, is_same_state}
+use Rattle.arc_lists.specs.ByKey.{with_item}
 use Rattle.arc_lists.specs.Sequences.{stands}
 use Rattle.arc_core.specs.Config.{is_capacity_of}
 use Rattle.arc_core.specs.declared.entry.Entry.{Entry}
@@ -163,7 +164,7 @@ cleared k s = if entry_is (λ e. is_same_state e.state L2Only) k s then gone k s
 
 -- the change of each event, but for the passed keys
 abbrev pub effect : PlainShard → Event → PlainShard
-effect s (Pass n k owner) = record s { passed = s.passed ++ k ∷ [] }
+effect s (Pass n k owner) = record s { passed = with_item (λ x. x) k s.passed }
 effect s (Hit n k t) = changed k (hit_entry n s.mintime t) (off_sequence k s)
 effect s (Miss n k t) = taken_in (read_entry n k t s) (with_target_for k s)
 effect s (Arrive n k d from) = changed k (arrived d) s

@@ -168,10 +168,7 @@ const EVENTS: [(Event, &str); 22] = [
         },
         "e 3 12 restore 1 1024 512 7 70144 abababababababababababababababababababababababababababababababab\n",
     ),
-    (
-        Event::Resize { n: 1, c: 4096 },
-        "e 3 12 resize 1 4096\n",
-    ),
+    (Event::Resize { n: 1, c: 4096 }, "e 3 12 resize 1 4096\n"),
 ];
 
 #[test]
