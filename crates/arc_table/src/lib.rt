@@ -1,0 +1,15 @@
+//! The shared cache: cells, buckets and shards, each behind a turn of one row, under one rule.
+#![tactic(auto)]
+
+mod about;
+mod arcs;
+mod item;
+mod opening;
+mod pact;
+mod view;
+
+pub use about::About;
+pub use arcs::{Arcs, Party};
+pub use item::Item;
+pub use pact::{Pact, Settled};
+pub use view::{Known, Ledger, Line, Mine, Note};
