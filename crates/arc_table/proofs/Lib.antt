@@ -3,3 +3,4 @@ pub mod Appending
 pub mod Boards
 pub mod CellGives
 pub mod Ranges
+pub mod Bookings

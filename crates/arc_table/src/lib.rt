@@ -18,3 +18,6 @@ pub use item::Item;
 pub use look::{BucketTurn, Look};
 pub use pact::{Pact, Settled};
 pub use view::{Known, Ledger, Line, Mine, Note};
+
+#[cfg(test)]
+mod tests;
