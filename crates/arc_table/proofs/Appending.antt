@@ -1,25 +1,22 @@
 -- Lines are appended to the history of one turn: what the pact says of histories and of passes stays so.
-use Rattle.std.proofs.Common.{◌≡◌, ◌≢◌, ◌⊎◌, ◌==◌, if◌then◌else◌, ℕ, zero, suc, ◌+◌, ◌-◌, ◌<◌, ◌≤◌, List, [], ◌∷◌, ◌++◌, length, Bool, true, false, Option, Some, None, refl, sym, ap, ◌∙◌, subst, inl, inr, ⊎_elim, eq-eqb, ne_eqb, arith, length-append, lt_of_not-le}
+use Rattle.std.proofs.Common.{◌≡◌, ◌≢◌, ◌==◌, if◌then◌else◌, ℕ, zero, suc, ◌+◌, ◌-◌, ◌<◌, ◌≤◌, List, [], ◌∷◌, ◌++◌, length, true, false, Some, refl, sym, ap, ◌∙◌, subst, eq-eqb, ne_eqb, arith, length-append, lt_of_not-le}
 use Rattle.std.specs.Prelude.{nat_lt}
-use mathlib.Core.Option.{some, some-injective, some-ne-none}
+use mathlib.Core.Option.{some}
 use mathlib.Core.Logic.{dite}
 use native.Mathlib.Decide.{dec_le, ℕ_discrete}
 use lib.ListN.{get_elem?}
-use Rattle.arc_core.specs.declared.config.Config.{Config}
-use Rattle.arc_core.specs.declared.event.Event.{Event}
 use Rattle.arc_core.specs.declared.event.Event.TheVariants.{Pass}
 use Rattle.arc_table.specs.declared.item.Item.{Item}
 use Rattle.arc_table.specs.declared.view.Line.{Line}
 use Rattle.arc_table.specs.declared.view.Line.TheVariants as line
 use Rattle.arc_table.specs.declared.view.Mine.{Mine}
-use Rattle.arc_table.specs.declared.view.Note.{Note}
 use Rattle.arc_table.specs.Fronts.{with_at, front_of, put, StartsWith}
 use Rattle.arc_table.specs.Geometry.{parties_of}
 use Rattle.arc_table.specs.Items.{Meanings, lines_in}
 use Rattle.arc_table.specs.Logged.{HasPlace, IsOwn, IsSoundItem, Logged}
-use Rattle.arc_table.specs.Passed.{IsNoted, IsPassNoted, Passed}
+use Rattle.arc_table.specs.Passed.{IsPassNoted, Passed}
 use Rattle.arc_table.specs.Scene.{Scene}
-use Rattle.arc_table.specs.TableLaws.{at_here, at_else, front_here, front_else, get_front, same_at, starts_more, starts_whole, there, within}
+use Rattle.arc_table.specs.TableLaws.{at_here, at_else, front_here, front_else, get_front, starts_more, starts_whole, there, within}
 use Rattle.arc_table.proofs.Begun.{InEither, front, rest, in_either}
 
 -- the party of a line, once the lines of the turn i from this place on are n's
@@ -211,14 +208,17 @@ module _ {C : Type 0} (m : Meanings C) where
       pub rise : (q q' y y' : ℕ) (x x' : Mine) → q < q' → get_elem? news q ≡ some x → get_elem? news q' ≡ some x' → x.note ≡ Some y → x'.note ≡ Some y' → y < y'
 
     keep_noted : (k : ℕ) (x : Mine) (l : Line) → (x.turn ≡ i → x.place < from) → IsPassNoted s.about.config (s.notes k) (s.owner x.turn) k x l → IsPassNoted s.about.config (s.notes k) (t.owner x.turn) k x l
-    keep_noted k x (line.Event (Pass by key other)) near h = let d = h.1 in (h.0, record {
-      index = d.index;
-      length = d.length;
-      noted = d.noted;
-      there = d.there;
-      before = d.before;
-      between = λ p above below. owned_below s.owner i from n x.turn p (λ q. let g = near q in omega arith) ∙ d.between p above below;
-    })
+    keep_noted k x (line.Event (Pass by key other)) near h = let d = h.1 in (
+      h.0,
+      record {
+        index = d.index;
+        length = d.length;
+        noted = d.noted;
+        there = d.there;
+        before = d.before;
+        between = λ p above below. owned_below s.owner i from n x.turn p (λ q. let g = near q in omega arith) ∙ d.between p above below;
+      },
+    )
     keep_noted k x (line.Event _) near h = h
     keep_noted k x (line.Entry ns) near h = h
 

@@ -1,5 +1,5 @@
 -- The cells, the buckets and the shards of a cache that is being made.
-use Rattle.std.proofs.Common.{◌≡◌, ◌≢◌, ◌⊎◌, ℕ, zero, suc, ◌+◌, ◌*◌, ◌<◌, ◌≤◌, List, [], ◌∷◌, ◌++◌, length, map, replicate, refl, sym, ap, ◌∙◌, subst, inl, inr, ⊎_elim, arith, length-append}
+use Rattle.std.proofs.Common.{◌≡◌, ℕ, zero, suc, ◌+◌, ◌*◌, ◌<◌, List, [], ◌∷◌, ◌++◌, length, map, replicate, refl, sym, ap, ◌∙◌, subst, ⊎_elim, arith, length-append}
 use Rattle.std.proofs.lemmas.List.{length-map, length-replicate}
 use mathlib.Core.Option.{some, some-injective, some-ne-none}
 use mathlib.Core.List.{append_assoc}
@@ -8,7 +8,7 @@ use Rattle.arc_core.specs.declared.config.Config.{Config}
 use Rattle.arc_core.specs.ShardLog.{ShardLog}
 use Rattle.arc_table.specs.declared.item.Item.{Item}
 use Rattle.arc_table.specs.declared.item.Item.TheVariants as item
-use Rattle.arc_table.specs.Geometry.{turns_of, IsBucket, IsShard}
+use Rattle.arc_table.specs.Geometry.{turns_of}
 use Rattle.arc_table.specs.Items.{no_chain}
 use Rattle.arc_table.specs.Opening.{AreFresh, AreOpeningLogs, IsFresh, IsOpeningLog}
 use Rattle.arc_table.specs.TableLaws.{get_more, within}

@@ -1,2 +1,6 @@
 pub mod Begun
 pub mod Appending
+pub mod Boards
+pub mod CellGives
+pub mod Ranges
+pub mod Bookings

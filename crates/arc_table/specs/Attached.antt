@@ -1,7 +1,5 @@
 -- The first part of the pact: the turns and what each party knows are those of the scene.
 use Rattle.std.specs.Prelude.{◌≡◌, ℕ, ◌<◌, length, Some}
-use mathlib.Core.Option.{some}
-use lib.ListN.{get_elem?}
 use Rattle.turn_table.specs.Board.{Board, IsFree, IsTaken, Knows}
 use Rattle.arc_core.specs.declared.config.Config.{Config}
 use Rattle.arc_table.specs.declared.item.Item.{Item}

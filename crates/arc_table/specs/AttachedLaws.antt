@@ -1,11 +1,9 @@
 -- The turns and the views stay those of the scene.
-use Rattle.std.proofs.Common.{◌≡◌, ◌≢◌, ◌⊎◌, ℕ, ◌<◌, List, [], ◌∷◌, ◌++◌, length, set, Option, Some, None, refl, sym, ap, ◌∙◌, subst, inl, inr, ⊎_elim, length-set}
-use mathlib.Core.Option.{some, some-injective}
-use mathlib.Core.Logic.{dite}
-use native.Mathlib.Decide.{ℕ_discrete}
+use Rattle.std.proofs.Common.{◌≡◌, ◌≢◌, ℕ, ◌<◌, List, length, set, Some, sym, ap, ◌∙◌, subst, ⊎_elim, length-set}
+use mathlib.Core.Option.{some}
 use lib.ListN.{get_elem?}
 use Rattle.atomic_table.proofs.Lists.{at_set, set_here, set_else}
-use Rattle.turn_table.specs.Board.{Turn, free, taken, Board, IsFree, IsTaken, Knows}
+use Rattle.turn_table.specs.Board.{Turn, free, taken, Board, IsTaken, Knows}
 use Rattle.arc_table.specs.declared.item.Item.{Item}
 use Rattle.arc_table.specs.declared.view.Known.{Known}
 use Rattle.arc_table.specs.Attached.{Attached, IsKind, IsShown}
@@ -13,7 +11,7 @@ use Rattle.arc_table.specs.Fronts.{item_at, list_at}
 use Rattle.arc_table.specs.Geometry.{turns_of}
 use Rattle.arc_table.specs.Items.{Meanings, holds_in}
 use Rattle.arc_table.specs.Scene.{Scene}
-use Rattle.arc_table.specs.TableLaws.{within, same_at}
+use Rattle.arc_table.specs.TableLaws.{within}
 
 module _ {C : Type 0} where
   pub free_taken : (v : Item C) (k : ℕ) → free v ≢ taken k

@@ -1,5 +1,5 @@
 -- The third part of the pact: the headers of the buckets and the entries of the shards agree.
-use Rattle.std.specs.Prelude.{◌≡◌, ℕ, length, true, false, Option, Some, None, IsSome, MatchOption}
+use Rattle.std.specs.Prelude.{◌≡◌, ℕ, length, true, false, Option, Some, None, MatchOption}
 use Rattle.blk_ptr.specs.declared.key.Key.{Key}
 use Rattle.blk_ptr.specs.Ptr.{sha256_of}
 use Rattle.arc_core.specs.declared.entry.Entry.{Entry}

@@ -1,5 +1,5 @@
 -- What the turns have when the cache is made.
-use Rattle.std.specs.Prelude.{◌≡◌, ℕ, ◌<◌, List, [], length, map}
+use Rattle.std.specs.Prelude.{◌≡◌, ℕ, List, [], length, map}
 use mathlib.Core.Option.{some}
 use lib.ListN.{get_elem?}
 use Rattle.arc_core.specs.declared.config.Config.{Config}

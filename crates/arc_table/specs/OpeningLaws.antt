@@ -1,38 +1,33 @@
 -- A cache that is made of fresh cells, empty buckets and shards at their start meets the pact.
-use Rattle.std.proofs.Common.{◌≡◌, ◌≢◌, ◌⊎◌, ℕ, zero, suc, ◌+◌, ◌-◌, ◌*◌, ◌/◌, ◌^◌, ◌<◌, ◌≤◌, List, [], ◌∷◌, ◌++◌, length, map, get_or, Option, Some, None, IsSome, refl, sym, ap, ◌∙◌, subst, inl, inr, ⊎_elim, arith}
+use Rattle.std.proofs.Common.{◌≡◌, ◌⊎◌, ℕ, zero, suc, ◌+◌, ◌-◌, ◌/◌, ◌<◌, ◌≤◌, List, [], ◌∷◌, length, map, get_or, Option, None, refl, sym, ap, ◌∙◌, subst, inl, inr, ⊎_elim, arith}
 use Rattle.std.proofs.lemmas.List.{length-map}
 use Rattle.std.proofs.lemmas.Option.{none-some}
 use Rattle.std.specs.Prelude.{IsTrue, slice_index_or}
 use mathlib.Core.Option.{some, some-injective, some-ne-none}
 use lib.ListN.{get_elem?}
 use Rattle.blk_ptr.specs.declared.key.Key.{Key}
-use Rattle.blk_ptr.specs.declared.ptr.Ptr.{Ptr}
 use Rattle.arc_lists.specs.Adapting.{IsCapacity, least_target}
 use Rattle.arc_core.specs.declared.config.Bounds.{Bounds}
 use Rattle.arc_core.specs.declared.config.Config.{Config}
-use Rattle.arc_core.specs.PlainShard.{PlainShard, opening_shard, entry_of}
+use Rattle.arc_core.specs.PlainShard.{PlainShard, count_of, opening_shard, entry_of}
 use Rattle.arc_core.specs.ShardLog.{ShardLog, IsReplayed, opening_log}
 use Rattle.arc_core.specs.declared.entry.Entry.{Entry}
 use Rattle.arc_core.specs.declared.event.Event.{Event}
 use Rattle.arc_core.specs.Replay.{is_legal_history, replay}
-use Rattle.arc_core.specs.Sound.{IsSound, IsTidy}
+use Rattle.arc_core.specs.Sound.{IsSound}
 use Rattle.hash_chain.specs.declared.header.Header.{Header}
 use Rattle.hash_chain.specs.Chain.{Chain, header_at}
-use Rattle.turn_table.specs.Board.{Turn, free, taken, Board, Knows, numbered, opening}
-use Rattle.arc_table.specs.declared.about.About.{About}
+use Rattle.turn_table.specs.Board.{free, taken, numbered, opening}
 use Rattle.arc_table.specs.declared.item.Item.{Item}
 use Rattle.arc_table.specs.declared.item.Item.TheVariants as item
-use Rattle.arc_table.specs.declared.view.Known.{Known}
 use Rattle.arc_table.specs.declared.view.Line.{Line}
 use Rattle.arc_table.specs.declared.view.Line.TheVariants as line
-use Rattle.arc_table.specs.Attached.{Attached, IsKind, IsShown}
-use Rattle.arc_table.specs.Counted.{Counted, count_of}
-use Rattle.arc_table.specs.Geometry.{bucket_turn, cell_number, parties_of, shard_turn, turns_of, IsBucket, IsShard}
-use Rattle.arc_table.specs.Headed.{Headed, IsHead}
+use Rattle.arc_table.specs.Attached.{IsKind, IsShown}
+use Rattle.arc_table.specs.Geometry.{bucket_turn, cell_number, parties_of, shard_turn, turns_of}
+use Rattle.arc_table.specs.Headed.{IsHead}
 use Rattle.arc_table.specs.Items.{Meanings, headers_in, claims_in, holds_in, lines_in, shard_in}
-use Rattle.arc_table.specs.Logged.{IsSoundItem, IsSoundLog, Logged}
-use Rattle.arc_table.specs.Opening.{AreFresh, AreFreshCells, IsFresh, IsFreshCell, IsOpeningLog, about_of}
-use Rattle.arc_table.specs.Passed.{Passed}
+use Rattle.arc_table.specs.Logged.{IsSoundItem, IsSoundLog}
+use Rattle.arc_table.specs.Opening.{AreFresh, AreFreshCells, IsFresh, IsOpeningLog, about_of}
 use Rattle.arc_table.specs.Rule.{Pact}
 use Rattle.arc_table.specs.Scene.{Scene}
 use Rattle.arc_table.specs.Views.{newcomer, no_ledger}

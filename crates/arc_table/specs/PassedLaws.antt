@@ -1,19 +1,16 @@
 -- Passes keep their notes while notes are added.
-use Rattle.std.proofs.Common.{◌≡◌, ◌≢◌, ℕ, ◌<◌, List, [], ◌∷◌, ◌++◌, refl, sym, ap, ◌∙◌, subst}
-use mathlib.Core.Option.{some}
+use Rattle.std.proofs.Common.{ℕ, List, [], ◌∷◌, ◌++◌, sym, ap, ◌∙◌, subst}
 use mathlib.Core.Logic.{dite}
 use native.Mathlib.Decide.{ℕ_discrete}
-use lib.ListN.{get_elem?}
 use Rattle.blk_ptr.specs.declared.key.Key.{Key}
 use Rattle.arc_core.specs.declared.config.Config.{Config}
-use Rattle.arc_core.specs.declared.event.Event.{Event}
 use Rattle.arc_core.specs.declared.event.Event.TheVariants.{Pass}
 use Rattle.arc_table.specs.declared.view.Line.{Line}
 use Rattle.arc_table.specs.declared.view.Line.TheVariants as line
 use Rattle.arc_table.specs.declared.view.Mine.{Mine}
 use Rattle.arc_table.specs.declared.view.Note.{Note}
 use Rattle.arc_table.specs.Fronts.{with_at}
-use Rattle.arc_table.specs.Items.{Meanings, lines_in}
+use Rattle.arc_table.specs.Items.{Meanings}
 use Rattle.arc_table.specs.Passed.{IsNoted, IsPassNoted, Passed}
 use Rattle.arc_table.specs.Scene.{Scene}
 use Rattle.arc_table.specs.TableLaws.{at_here, at_else, get_front}

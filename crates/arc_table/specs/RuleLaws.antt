@@ -1,17 +1,17 @@
 -- A try and a telling keep the pact.
-use Rattle.std.proofs.Common.{◌≡◌, ◌≢◌, ◌⊎◌, ℕ, ◌<◌, List, [], ◌∷◌, ◌++◌, length, set, Option, Some, None, refl, sym, ap, ◌∙◌, subst, inl, inr, ⊎_elim, length-set}
+use Rattle.std.proofs.Common.{◌≡◌, ◌≢◌, ℕ, List, [], ◌∷◌, ◌++◌, set, Some, refl, sym, ap, ◌∙◌, subst, ⊎_elim, length-set}
 use mathlib.Core.Option.{some}
 use mathlib.Core.Logic.{dite}
 use native.Mathlib.Decide.{ℕ_discrete}
 use lib.ListN.{get_elem?}
 use Rattle.atomic_table.proofs.Lists.{at_set}
-use Rattle.turn_table.specs.Board.{Turn, free, taken, Board, IsFree, IsTaken, Knows, KeepsWon, KeepsLost, KeepsLearned}
+use Rattle.turn_table.specs.Board.{free, taken, Board, IsTaken, Knows, KeepsWon, KeepsLost, KeepsLearned}
 use Rattle.arc_table.specs.declared.item.Item.{Item}
 use Rattle.arc_table.specs.declared.view.Known.{Known}
 use Rattle.arc_table.specs.declared.view.Line.{Line}
 use Rattle.arc_table.specs.declared.view.Note.{Note}
 use Rattle.arc_table.specs.Attached.{Attached, IsShown}
-use Rattle.arc_table.specs.Fronts.{with_at, item_at, list_at, put, seen_by_both, front_of, StartsWith}
+use Rattle.arc_table.specs.Fronts.{item_at, list_at, put, seen_by_both, front_of, StartsWith}
 use Rattle.arc_table.specs.Items.{Meanings, holds_in, lines_in}
 use Rattle.arc_table.specs.Rule.{Pact}
 use Rattle.arc_table.specs.Scene.{Scene}

@@ -1,5 +1,6 @@
 -- How what a party knows changes: at a won try, at a lost one, and where it learns what another has seen.
-use Rattle.std.specs.Prelude.{◌≡◌, ℕ, List, [], ◌∷◌, ◌++◌, length, Option, Some, None}
+use Rattle.std.specs.Prelude.{◌≡◌, ℕ, zero, suc, ◌-◌, List, [], ◌∷◌, ◌++◌, length, Option, Some, None}
+use Rattle.std.specs.Option.{option_map_or}
 use Rattle.arc_core.specs.declared.config.Config.{Config}
 use Rattle.arc_table.specs.declared.about.About.{About}
 use Rattle.arc_table.specs.declared.item.Item.{Item}
@@ -7,8 +8,10 @@ use Rattle.arc_table.specs.declared.item.Item.TheVariants as item
 use Rattle.arc_table.specs.declared.view.Note.{Note}
 use Rattle.arc_table.specs.declared.view.Ledger.{Ledger}
 use Rattle.arc_table.specs.declared.view.Known.{Known}
-use Rattle.arc_table.specs.Fronts.{put, seen_by_both}
-use Rattle.arc_table.specs.Items.{Meanings, holds_in, lines_in}
+use Rattle.arc_table.specs.declared.view.Line.{Line}
+use Rattle.arc_table.specs.declared.view.Mine.{Mine}
+use Rattle.arc_table.specs.Fronts.{item_at, put, seen_by_both, without_item}
+use Rattle.arc_table.specs.Items.{Meanings, claims_in, holds_in, lines_in}
 
 -- a party that has begun nothing
 abbrev pub no_ledger : Ledger
@@ -56,3 +59,29 @@ module _ {C : Type 0} (m : Meanings C) where
   -- a party that has taken the turn i with this value: it has the record of it, has seen its history, and lists what a cell keeps
   abbrev pub after_won : ℕ → Item C → Known C → Known C
   after_won i v w = record w { records = (i, v) ∷ w.records; listed = (i, holds_in m v) ∷ w.listed; seen = put i (lines_in m v) w.seen }
+
+-- ---- what a party knows once it has given a turn back
+
+-- the lines of a turn from this place on, so many, none of which is a pass
+abbrev pub mines_from : (turn place count : ℕ) → List Mine
+mines_from turn place zero = []
+mines_from turn place (suc count) = record { turn = turn; place = place; note = None } ∷ mines_from turn (suc place) count
+
+module _ {C : Type 0} where
+  -- a party that has given the turn i back as it found it
+  abbrev pub after_same : ℕ → Known C → Known C
+  after_same i w = record w { records = without_item i w.records }
+
+module _ {C : Type 0} (m : Meanings C) where
+  -- the history that a turn in hand had when it was taken
+  abbrev pub recorded : ℕ → Known C → List Line
+  recorded i w = option_map_or (lines_in m) (item_at i w.records) []
+
+  -- A party that has given a cell back with this value: the entries made since it was taken are its own, and its claim there is the value's
+  abbrev pub after_cell : ℕ → Item C → Known C → Known C
+  after_cell i v w = record w {
+    records = without_item i w.records;
+    seen = put i (lines_in m v) w.seen;
+    mine = w.mine ++ mines_from i (length (recorded i w)) (length (lines_in m v) - length (recorded i w));
+    ledger = record w.ledger { claims = (i, claims_in m v w.number) ∷ w.ledger.claims };
+  }

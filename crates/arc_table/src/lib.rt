@@ -3,7 +3,11 @@
 
 mod about;
 mod arcs;
+mod cells;
+mod gives;
 mod item;
+mod look;
+mod looks;
 mod opening;
 mod pact;
 mod view;
@@ -11,5 +15,9 @@ mod view;
 pub use about::About;
 pub use arcs::{Arcs, Party};
 pub use item::Item;
+pub use look::{BucketTurn, Look};
 pub use pact::{Pact, Settled};
 pub use view::{Known, Ledger, Line, Mine, Note};
+
+#[cfg(test)]
+mod tests;

@@ -1,4 +1,4 @@
-use Rattle.std.proofs.Common.{◌≡◌, ◌++◌, ◌*◌, [], List, map, replicate, ap, ◌∙◌}
+use Rattle.std.proofs.Common.{◌++◌, ◌*◌, List, map, replicate, ap, ◌∙◌}
 use Rattle.arc_table.specs.declared.item.Item.{Item}
 use Rattle.arc_table.specs.declared.item.Item.TheVariants as item
 use Rattle.arc_table.specs.Items.{no_chain}
@@ -12,4 +12,4 @@ returns g c =
     let empty : List (Item g.row.C.Denot) = replicate (c.args.config.now.shards * c.args.config.now.buckets) one in
     let shards : List (Item g.row.C.Denot) = map item.Shard h.0 in
     all_fresh c.args.config.now c.args.cells.items c.requires.cells h.0 h.2 c.add_shards.new.values.items
-        (h.1 ∙ ap (λ (l : List (Item g.row.C.Denot)). l ++ shards) (c.in_ok-add_buckets.ensures ∙ ap (λ (l : List (Item g.row.C.Denot)). l ++ empty) c.in_ok-values.ensures))
+    (h.1 ∙ ap (λ (l : List (Item g.row.C.Denot)). l ++ shards) (c.in_ok-add_buckets.ensures ∙ ap (λ (l : List (Item g.row.C.Denot)). l ++ empty) c.in_ok-values.ensures))

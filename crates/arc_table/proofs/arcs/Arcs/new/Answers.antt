@@ -1,4 +1,4 @@
-use Rattle.std.proofs.Common.{◌≡◌, List, sym, subst}
+use Rattle.std.proofs.Common.{List, sym, subst}
 use Rattle.turn_table.specs.Board.{opening, numbered}
 use Rattle.arc_table.specs.Geometry.{parties_of}
 use Rattle.arc_table.specs.Items.{Meanings, meanings}
@@ -14,4 +14,4 @@ new-made-requires-clause-rule g c =
     let cells : List g.row.C.Denot = c.args.cells.items in
     let here = opens m c.args.config.now cells c.in_ok-values.values.items c.requires.config.amounts.c c.requires.cells c.in_ok-values.ensures in
     subst (λ (moved : List g.row.C.Denot). Pact m (opening c.in_ok-values.values.items (numbered (newcomer (about_of m c.args.config.now moved)) 0 (parties_of c.args.config.now))))
-        (λ k. (sym c.of.ensures k).items) here
+    (λ k. (sym c.of.ensures k).items) here
