@@ -4,3 +4,4 @@ pub mod Boards
 pub mod CellGives
 pub mod Ranges
 pub mod Bookings
+pub mod Ends
