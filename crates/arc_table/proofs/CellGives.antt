@@ -12,7 +12,7 @@ use Rattle.blk_ptr.specs.declared.ptr.Ptr.{Ptr}
 use Rattle.arc_core.specs.declared.config.Config.{Config}
 use Rattle.arc_core.specs.declared.event.Event.TheVariants.{Pass}
 use Rattle.arc_core.specs.Keeps.{holds_on}
-use Rattle.arc_core.specs.PlainShard.{PlainShard, entry_of}
+use Rattle.arc_core.specs.PlainShard.{PlainShard, count_of, entry_of}
 use Rattle.hash_chain.specs.Chain.{header_at}
 use Rattle.turn_table.specs.Board.{free, taken, Board, IsTaken, Knows}
 use Rattle.turn_table.specs.Moments.{MayGive, Stands}
@@ -26,7 +26,7 @@ use Rattle.arc_table.specs.declared.view.Line.{Line}
 use Rattle.arc_table.specs.declared.view.Line.TheVariants as line
 use Rattle.arc_table.specs.declared.view.Mine.{Mine}
 use Rattle.arc_table.specs.Attached.{Attached, IsKind, IsShown}
-use Rattle.arc_table.specs.Counted.{Counted, IsRead, Rests, begun, count_of, readings_of, shard_at}
+use Rattle.arc_table.specs.Counted.{Counted, IsRead, Rests, begun, readings_of, shard_at}
 use Rattle.arc_table.specs.Fronts.{list_at, put, with_at}
 use Rattle.arc_table.specs.Geometry.{IsCell, bucket_turn, cell_number, parties_of, shard_turn}
 use Rattle.arc_table.specs.Giving.{IsGivenCell}

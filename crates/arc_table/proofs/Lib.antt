@@ -3,3 +3,5 @@ pub mod Appending
 pub mod Boards
 pub mod CellGives
 pub mod Ranges
+pub mod Bookings
+pub mod Ends

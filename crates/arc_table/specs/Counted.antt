@@ -1,6 +1,5 @@
 -- The fourth part of the pact: the counts of the entries agree with what the parties and the cells hold, read, have picked and claim.
 use Rattle.std.specs.Prelude.{◌≡◌, ℕ, ◌+◌, ◌<◌, ◌≤◌, true, false, List, [], count_by, Some}
-use Rattle.std.specs.Option.{option_map_or}
 use mathlib.Core.Option.{some}
 use lib.ListN.{get_elem?}
 use Rattle.blk_ptr.specs.declared.key.Key.{Key}
@@ -8,16 +7,12 @@ use Rattle.blk_ptr.specs.declared.ptr.Ptr.{Ptr}
 use Rattle.blk_ptr.specs.Order.{key_eq}
 use Rattle.arc_core.specs.declared.entry.Entry.{Entry}
 use Rattle.arc_core.specs.Keeps.{holds_on}
-use Rattle.arc_core.specs.PlainShard.{PlainShard, entry_of, held_by}
+use Rattle.arc_core.specs.PlainShard.{PlainShard, count_of, entry_of}
 use Rattle.arc_table.specs.declared.view.Ledger.{Ledger}
 use Rattle.arc_table.specs.Fronts.{list_at}
 use Rattle.arc_table.specs.Geometry.{IsCell, IsShard, cell_number, numbers_of, parties_of, shard_turn}
 use Rattle.arc_table.specs.Items.{Meanings, claims_in, shard_in}
 use Rattle.arc_table.specs.Scene.{Scene}
-
--- how many holds a number has on a key in a shard
-abbrev pub count_of : ℕ → Key → PlainShard → ℕ
-count_of n k s = option_map_or (held_by n) (entry_of k s) 0
 
 -- how many of these readings are of the key
 abbrev pub readings_of : Key → List Key → ℕ

@@ -14,8 +14,11 @@ pub mod AttachedLaws
 pub mod LoggedLaws
 pub mod PassedLaws
 pub mod RuleLaws
+pub mod Booking
 pub mod Cache
 pub mod Giving
 pub mod Looking
+pub mod ShardGiving
 pub mod Opening
 pub mod OpeningLaws
+pub mod Ended

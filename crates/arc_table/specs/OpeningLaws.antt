@@ -9,7 +9,7 @@ use Rattle.blk_ptr.specs.declared.key.Key.{Key}
 use Rattle.arc_lists.specs.Adapting.{IsCapacity, least_target}
 use Rattle.arc_core.specs.declared.config.Bounds.{Bounds}
 use Rattle.arc_core.specs.declared.config.Config.{Config}
-use Rattle.arc_core.specs.PlainShard.{PlainShard, opening_shard, entry_of}
+use Rattle.arc_core.specs.PlainShard.{PlainShard, count_of, opening_shard, entry_of}
 use Rattle.arc_core.specs.ShardLog.{ShardLog, IsReplayed, opening_log}
 use Rattle.arc_core.specs.declared.entry.Entry.{Entry}
 use Rattle.arc_core.specs.declared.event.Event.{Event}
@@ -23,7 +23,6 @@ use Rattle.arc_table.specs.declared.item.Item.TheVariants as item
 use Rattle.arc_table.specs.declared.view.Line.{Line}
 use Rattle.arc_table.specs.declared.view.Line.TheVariants as line
 use Rattle.arc_table.specs.Attached.{IsKind, IsShown}
-use Rattle.arc_table.specs.Counted.{count_of}
 use Rattle.arc_table.specs.Geometry.{bucket_turn, cell_number, parties_of, shard_turn, turns_of}
 use Rattle.arc_table.specs.Headed.{IsHead}
 use Rattle.arc_table.specs.Items.{Meanings, headers_in, claims_in, holds_in, lines_in, shard_in}

@@ -21,6 +21,7 @@ use turn_table::Turns;
 pub type Party<C> = turn_table::Party<Item<C>, Pact<C>>;
 
 /// The shared cache: cells, buckets and shards, each behind a turn. Contracts see its row of turns and its numbers.
+#[derive(Drop)]
 pub struct Arcs<C: Keeps> {
     pub(crate) turns: Turns<Item<C>, Pact<C>>,
     pub(crate) config: Config,

@@ -4,6 +4,7 @@
 mod about;
 mod arcs;
 mod cells;
+mod closed;
 mod gives;
 mod item;
 mod look;
@@ -14,7 +15,11 @@ mod view;
 
 pub use about::About;
 pub use arcs::{Arcs, Party};
+pub use closed::Closed;
 pub use item::Item;
 pub use look::{BucketTurn, Look};
 pub use pact::{Pact, Settled};
 pub use view::{Known, Ledger, Line, Mine, Note};
+
+#[cfg(test)]
+mod tests;

@@ -6,6 +6,7 @@ use blk_ptr::Key;
 use hash_chain::{Bucket, Header};
 
 /// A bucket whose turn a party keeps. Contracts see its turn, the key that was asked for, and its headers.
+#[derive(Drop)]
 pub struct BucketTurn {
     pub(crate) turn: u32,
     pub(crate) key: Key,
@@ -13,6 +14,7 @@ pub struct BucketTurn {
 }
 
 /// What `try_look` gave.
+#[derive(Drop)]
 pub enum Look {
     /// The bucket's turn was free.
     Seen(BucketTurn),
