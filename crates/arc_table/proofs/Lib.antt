@@ -4,3 +4,5 @@ pub mod Boards
 pub mod CellGives
 pub mod Ranges
 pub mod Bookings
+pub mod PassMines
+pub mod ShardGives
