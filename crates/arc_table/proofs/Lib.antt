@@ -5,3 +5,5 @@ pub mod CellGives
 pub mod Ranges
 pub mod Bookings
 pub mod Ends
+pub mod PassMines
+pub mod ShardGives
