@@ -43,13 +43,17 @@ abbrev pub IsInPart : Plan → LogPtr → Type 0
 IsInPart numbers ptr =
     IsWithin ring_start numbers.hand (log_range ptr 0) ⊎ IsWithin numbers.evict numbers.top (log_range ptr 0)
 
--- the walk does not stop at this log block for what the header and the block say: it lies in the ring, in the part that its
--- lap asks for; it is of no later version than the header; and it has as many entries as the pointer tells
-pub record IsPassed (header : DevHeader) (visit : Visit) : Type 0 where
-  pub ring : IsInRing header.end visit.ptr
-  pub part : Stays (numbers_in header) (log_range visit.ptr visit.block.lap)
-  pub version : visit.block.version ≤ header.version
+-- it lies in the ring with this end, in the part that its lap asks for, and it has as many entries as the pointer tells
+pub record IsPlaced (end : ℕ) (numbers : Plan) (visit : Visit) : Type 0 where
+  pub ring : IsInRing end visit.ptr
+  pub part : Stays numbers (log_range visit.ptr visit.block.lap)
   pub count : length visit.block.entries ≡ visit.ptr.count
+
+-- the walk does not stop at this log block for what the header and the block say: it is placed, and of no later version
+-- than the header
+pub record IsPassed (header : DevHeader) (visit : Visit) : Type 0 where
+  pub placed : IsPlaced header.end (numbers_in header) visit
+  pub version : visit.block.version ≤ header.version
 
 -- the image has the log block at its place, with the pointer's digest
 pub record IsHeld (image : List ℕ) (visit : Visit) : Type 0 where

@@ -31,9 +31,9 @@ no_misfit : (header : DevHeader) (visit : Visit) (block : LogBlock) (f : LogFaul
 no_misfit header visit block (fault.Field at) same passed (inl late) =
     let v = passed.version in let l = late.1 in let e : visit.block.version ≡ block.version = ap (λ (b : LogBlock). b.version) same in omega arith
 no_misfit header visit block (fault.Field at) same passed (inr (inl lap)) =
-    lap.2 (subst (λ (b : LogBlock). Stays (numbers_in header) (log_range visit.ptr b.lap)) same passed.part)
+    lap.2 (subst (λ (b : LogBlock). Stays (numbers_in header) (log_range visit.ptr b.lap)) same passed.placed.part)
 no_misfit header visit block (fault.Field at) same passed (inr (inr count)) =
-    count.3 (ap (λ (b : LogBlock). length b.entries) (sym same) ∙ passed.count)
+    count.3 (ap (λ (b : LogBlock). length b.entries) (sym same) ∙ passed.placed.count)
 no_misfit header visit block fault.Magic same passed m = m
 no_misfit header visit block fault.Version same passed m = m
 no_misfit header visit block (fault.Digest kept found) same passed m = m
@@ -59,9 +59,9 @@ goes_on : (image : List ℕ) (header : DevHeader) (walked : ℕ) (pointer : Opti
     → IsPassed header visit → IsHeld image visit → walked + log_len ≤ ring_len header → why ≢ stop.DevFault → IsStop image header walked pointer why → ⊥
 goes_on image header walked pointer visit stop.Zero at passed held room well s = no_some visit.ptr pointer at s
 goes_on image header walked pointer visit (stop.Outside place) at passed held room well s =
-    s.3 (subst (λ (p : LogPtr). IsInRing header.end p) (same_some visit.ptr s.0 pointer at s.1) passed.ring)
+    s.3 (subst (λ (p : LogPtr). IsInRing header.end p) (same_some visit.ptr s.0 pointer at s.1) passed.placed.ring)
 goes_on image header walked pointer visit (stop.Evicted place) at passed held room well s =
-    s.4 (subst (λ (p : LogPtr). IsInPart (numbers_in header) p) (same_some visit.ptr s.0 pointer at s.1) (in_part header visit.ptr visit.block.lap passed.part))
+    s.4 (subst (λ (p : LogPtr). IsInPart (numbers_in header) p) (same_some visit.ptr s.0 pointer at s.1) (in_part header visit.ptr visit.block.lap passed.placed.part))
 goes_on image header walked pointer visit (stop.Length bytes) at passed held room well s = let long = s.5 in omega arith
 goes_on image header walked pointer visit (stop.Block f) at passed held room well s =
     no_block_fault image header visit f passed held

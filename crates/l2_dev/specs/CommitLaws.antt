@@ -148,7 +148,7 @@ pub record IsNewBlock (numbers : Plan) (hand : ℕ) (v : Visit) : Type 0 where
   pub start : ring_start ≤ numbers.hand
   pub row : IsRow numbers.hand hand (told_by v)
 
-new_laps : (numbers : Plan) (hand : ℕ) (v : Visit) → IsNewBlock numbers hand v → AllByRecursion (λ (w : Written). w.lap ≡ numbers.lap) (told_by v)
+pub new_laps : (numbers : Plan) (hand : ℕ) (v : Visit) → IsNewBlock numbers hand v → AllByRecursion (λ (w : Written). w.lap ≡ numbers.lap) (told_by v)
 new_laps numbers hand v new =
     all_weaker (λ (w : Written). w.lap ≡ v.block.lap) (λ (w : Written). w.lap ≡ numbers.lap) (told_by v) (λ w e. e ∙ new.lap) (told_lap v)
 

@@ -1,8 +1,14 @@
 pub mod Chain
 pub mod ChainLaws
 pub mod CommitLaws
+pub mod Cursor
 pub mod ListLaws
+pub mod Promise
+pub mod PromiseLaws
 pub mod RebuildLaws
 pub mod Restoring
 pub mod Standing
 pub mod StandingLaws
+pub mod StepLaws
+pub mod Steps
+pub mod TornLaws

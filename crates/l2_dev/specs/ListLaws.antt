@@ -1,8 +1,9 @@
 -- Lists that are filtered, and the first entry of each key.
-use Rattle.std.specs.Prelude.{◌≡◌, ℕ, List, [], ◌∷◌, ◌++◌, Bool, true, false, not, cond, map, ◌&&◌}
+use Rattle.std.specs.Prelude.{◌≡◌, ℕ, List, [], ◌∷◌, ◌++◌, Bool, true, false, not, cond, map, reverse, ◌&&◌}
 use Rattle.std.proofs.Common.{refl, sym, ap, ◌∙◌, append_assoc}
 use Rattle.std.proofs.lemmas.Bool.{false≢true}
 use Rattle.std.proofs.lemmas.List.Elements.{filter-append}
+use Rattle.std.proofs.lemmas.List.{reverse-append, append-nil, map-append}
 use Rattle.std.specs.List.{AllByRecursion, filter}
 use Rattle.l2_ring.specs.declared.live.Written.{Written}
 use Rattle.l2_dev.specs.Restoring.{firsts, is_same_key}
@@ -155,3 +156,40 @@ firsts_prefix (x ∷ xs) ys =
 pub firsts_behind : (xs ys zs : List Written) → firsts ys ≡ firsts zs → firsts (xs ++ ys) ≡ firsts (xs ++ zs)
 firsts_behind [] ys zs e = e
 firsts_behind (x ∷ xs) ys zs e = ap (λ us. x ∷ filter (λ y. not (is_same_key y x)) us) (firsts_behind xs ys zs e)
+
+front_if : {X : Type 0} (p : X → Bool) (x : X) (xs : List X) (b : Bool) → p x ≡ b → (p x ≡ false → AllByRecursion (λ y. p y ≡ false) xs)
+    → (rest : List X) × (xs ≡ filter p xs ++ rest) → (rest : List X) × (x ∷ xs ≡ filter p (x ∷ xs) ++ rest)
+front_if p x xs true e on rest =
+    (rest.0, ap (λ ys. x ∷ ys) rest.1 ∙ ap (λ ys. ys ++ rest.0) (sym (filter_yes p x xs e)))
+front_if p x xs false e on rest =
+    (x ∷ xs, ap (λ ys. ys ++ (x ∷ xs)) (sym (filter_no p x xs e ∙ filter_none p xs (on e))))
+
+-- what passes is the front of the list
+pub filter_front : {X : Type 0} (p : X → Bool) (xs : List X) → FailsOn p xs → (rest : List X) × (xs ≡ filter p xs ++ rest)
+filter_front p [] on = ([], refl)
+filter_front p (x ∷ xs) on = front_if p x xs (p x) refl on.0 (filter_front p xs on.1)
+
+pub fails_unmap : {X Y : Type 0} (p : Y → Bool) (f : X → Y) (xs : List X) → FailsOn p (map f xs) → FailsOn (λ x. p (f x)) xs
+fails_unmap p f [] on = tt
+fails_unmap p f (x ∷ xs) on = (λ gone. all_unmap (λ y. p y ≡ false) f xs (on.0 gone), fails_unmap p f xs on.1)
+
+filter_last_if : {X : Type 0} (p : X → Bool) (xs : List X) (x : X) (b : Bool) → p x ≡ b → filter p (xs ++ x ∷ []) ≡ filter p xs ++ cond b (x ∷ []) []
+filter_last_if p xs x b e = filter-append p xs (x ∷ []) ∙ ap (λ ys. filter p xs ++ ys) (ap (λ (t : Bool). cond t (x ∷ []) []) e)
+
+reverse_if : {X : Type 0} (p : X → Bool) (x : X) (xs : List X) (b : Bool) → p x ≡ b → filter p (reverse xs) ≡ reverse (filter p xs)
+    → filter p (reverse xs ++ x ∷ []) ≡ reverse (filter p (x ∷ xs))
+reverse_if p x xs true e rest =
+    filter_last_if p (reverse xs) x true e ∙ ap (λ ys. ys ++ x ∷ []) rest ∙ sym (reverse-append (x ∷ []) (filter p xs)) ∙ ap (λ ys. reverse ys) (sym (filter_yes p x xs e))
+reverse_if p x xs false e rest =
+    filter_last_if p (reverse xs) x false e ∙ append-nil (filter p (reverse xs)) ∙ rest ∙ ap (λ ys. reverse ys) (sym (filter_no p x xs e))
+
+-- a filter of the list from its end
+pub filter_reverse : {X : Type 0} (p : X → Bool) (xs : List X) → filter p (reverse xs) ≡ reverse (filter p xs)
+filter_reverse p [] = refl
+filter_reverse p (x ∷ xs) = ap (λ ys. filter p ys) (reverse-append (x ∷ []) xs) ∙ reverse_if p x xs (p x) refl (filter_reverse p xs)
+
+pub map_reverse : {X Y : Type 0} (f : X → Y) (xs : List X) → map f (reverse xs) ≡ reverse (map f xs)
+map_reverse f [] = refl
+map_reverse f (x ∷ xs) =
+    ap (λ ys. map f ys) (reverse-append (x ∷ []) xs) ∙ map-append f (reverse xs) (x ∷ []) ∙ ap (λ ys. ys ++ f x ∷ []) (map_reverse f xs)
+    ∙ sym (reverse-append (f x ∷ []) (map f xs))

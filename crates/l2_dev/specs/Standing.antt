@@ -2,7 +2,7 @@
 use Rattle.std.specs.Prelude.{◌≡◌, ◌≢◌, ℕ, ◌+◌, ◌*◌, ◌<◌, ◌≤◌, ◌⊎◌, List, [], ◌∷◌, ◌++◌, Bool, cond, map, reverse, Option, None, Some, length}
 use Rattle.std.specs.List.{AllByRecursion, filter, flat_map}
 use Rattle.blk_ptr.specs.Ptr.{sha256_of}
-use Rattle.l2_log.specs.Rules.{log_len}
+use Rattle.l2_log.specs.Rules.{ring_start, log_len}
 use Rattle.l2_log.specs.declared.pointer.LogPtr.{LogPtr}
 use Rattle.l2_log.specs.declared.log_block.LogBlock.{LogBlock}
 use Rattle.l2_log.specs.declared.header.DevHeader.{DevHeader}
@@ -62,6 +62,7 @@ pub record IsNamed (end : ℕ) (candidate : Candidate) (header : DevHeader) : Ty
   pub named : IsHeaderOf end candidate.sector header
   pub standing : IsStanding header candidate.blocks
   pub same : firsts (found_in (numbers_in header) candidate.blocks) ≡ firsts (map written_of candidate.kept)
+  pub inside : AllByRecursion (λ (k : Kept). ring_start ≤ k.written.live.place) candidate.kept
 
 -- a candidate is a header with its list; or it is the sector that was there at the start and promises nothing, since it is
 -- no header or could not be read

@@ -256,4 +256,22 @@ standing_fits header vs here ordered =
 
 -- the log blocks that a header passes lie where their laps ask for
 pub block_stays : (header : DevHeader) (vs : List Visit) → AllByRecursion (IsPassed header) vs → BlocksStay (numbers_in header) vs
-block_stays header vs passed = all_weaker (IsPassed header) (λ (v : Visit). Stays (numbers_in header) (block_range v)) vs (λ v p. p.part) passed
+block_stays header vs passed = all_weaker (IsPassed header) (λ (v : Visit). Stays (numbers_in header) (block_range v)) vs (λ v p. p.placed.part) passed
+
+map_append_ordered : (xs : List Written) (rs : List Range) → IsInOrder (map range_of xs ++ rs) → (ys : List Written) → ((P : Range → Type 0) → AllByRecursion P rs → AllByRecursion (λ (w : Written). P (range_of w)) ys)
+    → IsInOrder (map range_of ys) → IsInOrder (map range_of (xs ++ ys))
+map_append_ordered [] rs ordered ys among rest = rest
+map_append_ordered (x ∷ xs) rs ordered ys among rest = (
+  all_map (IsOlder (range_of x)) range_of (xs ++ ys)
+  (all_append (λ (w : Written). IsOlder (range_of x) (range_of w)) xs ys
+  (all_unmap (IsOlder (range_of x)) range_of xs (all_left (IsOlder (range_of x)) (map range_of xs) rs ordered.0))
+  (among (IsOlder (range_of x)) (all_right (IsOlder (range_of x)) (map range_of xs) rs ordered.0))),
+  map_append_ordered xs rs ordered.1 ys among rest,
+)
+
+-- the valid entries are in order
+pub found_ordered : (numbers : Plan) (vs : List Visit) → IsOrderly numbers vs → IsInOrder (map range_of (found_in numbers vs))
+found_ordered numbers [] ordered = tt
+found_ordered numbers (v ∷ vs) ordered =
+    map_append_ordered (valid_of numbers v) (passed_ranges numbers vs) ordered.1 (found_in numbers vs) (λ P all. found_among P numbers vs all)
+    (found_ordered numbers vs (ordered_right (block_range v ∷ map range_of (valid_of numbers v)) (passed_ranges numbers vs) ordered))

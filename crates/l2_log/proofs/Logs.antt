@@ -24,21 +24,21 @@ pub broken_entries : (bytes : List ℕ) (count : ℕ) (r : LogReadFault) → cou
     → ((k : ℕ) → PointerRule bytes 64 k) → IsEntryRefusal (tells_digests bytes) bytes count r → IsLogRefusal bytes r
 broken_entries bytes count (refusal.Fault (fault.Field at)) same front zeros prev b =
     let span : entry_len (tells_digests bytes) * count ≡ entry_len (tells_digests bytes) * word bytes 16 = ap (λ (n : ℕ). entry_len (tells_digests bytes) * n) same in (
-  front.whole,
-  front.magic,
-  record {
-    broken = λ rule. b.first.broken (λ i lt. rule.entries i (omega arith));
-    kept = λ k lt. let below = b.below in record {
-      lap = λ e. front.lap;
-      count = λ e. front.count;
-      version = λ e. front.version;
-      zeros = zeros k;
-      prev = prev k;
-      entries = λ i ilt. b.first.kept k lt i (omega arith);
-      zeros_behind = λ ge klt. absurd (omega arith);
-    };
-  },
-)
+      front.whole,
+      front.magic,
+      record {
+        broken = λ rule. b.first.broken (λ i lt. rule.entries i (omega arith));
+        kept = λ k lt. let below = b.below in record {
+          lap = λ e. front.lap;
+          count = λ e. front.count;
+          version = λ e. front.version;
+          zeros = zeros k;
+          prev = prev k;
+          entries = λ i ilt. b.first.kept k lt i (omega arith);
+          zeros_behind = λ ge klt. absurd (omega arith);
+        };
+      },
+    )
 broken_entries bytes count (refusal.Fault _) same front zeros prev b = absurd b
 broken_entries bytes count refusal.NoMemory same front zeros prev b = tt
 
