@@ -1,8 +1,11 @@
+pub mod CallLaws
+pub mod Calls
 pub mod Chain
 pub mod ChainLaws
 pub mod CommitLaws
 pub mod Cursor
 pub mod ListLaws
+pub mod Planned
 pub mod Promise
 pub mod PromiseLaws
 pub mod RebuildLaws

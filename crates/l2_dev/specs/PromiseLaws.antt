@@ -78,7 +78,7 @@ inside_if : (numbers : Plan) (r : Range) → ring_start ≤ numbers.evict → St
 inside_if numbers r far (inl low) = low.0.begins
 inside_if numbers r far (inr up) = let b = up.0.begins in omega arith
 
-kept_inside : (numbers : Plan) (ks : List Kept) → ring_start ≤ numbers.evict → AllByRecursion (λ (k : Kept). Stays numbers (kept_range k)) ks → AllByRecursion (λ (k : Kept). ring_start ≤ k.written.live.place) ks
+pub kept_inside : (numbers : Plan) (ks : List Kept) → ring_start ≤ numbers.evict → AllByRecursion (λ (k : Kept). Stays numbers (kept_range k)) ks → AllByRecursion (λ (k : Kept). ring_start ≤ k.written.live.place) ks
 kept_inside numbers ks far stays =
     all_weaker (λ (k : Kept). Stays numbers (kept_range k)) (λ (k : Kept). ring_start ≤ k.written.live.place) ks (λ k s. inside_if numbers (kept_range k) far s) stays
 

@@ -1,5 +1,6 @@
 //! Worked values of the format, computed by hand from its tables.
-ghost use Rattle.std.specs.Prelude.{◌≡◌, [], ◌∷◌};
+ghost use Rattle.std.specs.Prelude.{◌≡◌, true};
+ghost use Rattle.l2_log.specs.Rules.{is_there};
 
 use super::*;
 use crate::words::{digest_before, put_digest};
@@ -140,7 +141,9 @@ fn bytes_that_are_no_log_block(rt: HostRuntime) -> Result<(), Fail> {
 }
 
 /// The entry of the third of three blocks of 512 bytes, with this digest.
-fn third_entry(digest: Option<Digest>) -> Entry {
+fn third_entry(digest: Option<Digest>) -> Entry
+    ensures { result.digest ≡ digest }
+{
     Entry {
         key: Key {
             offset: 1024,
@@ -152,28 +155,28 @@ fn third_entry(digest: Option<Digest>) -> Entry {
     }
 }
 
-fn entries_of(rt: &impl Abort, alloc: Global, entry: Entry) -> Vec<Entry>
-    ensures { result.items ≡ entry ∷ [] }
+/// The log block of version 2 of one entry.
+fn log_block(rt: &impl Abort, alloc: Global, prev: Option<LogPtr>, entry: Entry) -> LogBlock
+    requires { is_there entry.digest ≡ true }
 {
     let mut list = Vec::new(alloc);
     assert!(rt; list.push(entry).is_ok());
-    list
+    LogBlock {
+        version: VERSION,
+        lap: 1,
+        prev,
+        entries: Entries::new(list),
+    }
 }
 
 #[test]
 fn the_log_block_of_a_third_feed(rt: HostRuntime) -> Result<(), Fail> {
-    let list = entries_of(&rt, rt.alloc(), third_entry(Some(Digest([5; 32]))));
     let prev = Some(LogPtr {
         place: 4608,
         count: 1,
         digest: Digest([3; 32]),
     });
-    let block = LogBlock {
-        version: VERSION,
-        lap: 1,
-        prev,
-        entries: Entries::new(list),
-    };
+    let block = log_block(&rt, rt.alloc(), prev, third_entry(Some(Digest([5; 32]))));
     let mut bytes = vec![in rt.alloc(); 5u8; LOG_LEN]?;
     let ptr = block.write(&mut bytes);
     assert_eq!(rt; ptr.place, 0);

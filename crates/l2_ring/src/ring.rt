@@ -92,6 +92,7 @@ impl Ring {
     pub fn hand(&self) -> u64
         ensures hand { result ≡ self.now.hand }
         ensures sound { IsSound self.now }
+        ensures placed { AreLive (numbers_of self.now) self.now.live }
     {
         self.hand
     }
@@ -178,6 +179,7 @@ impl Ring {
         ensures live { self.new.live ≡ filter (stays plan) self.old.live }
         ensures dropped { dropped.new.items ≡ dropped.old.items ++ map live_of (filter (falls plan) self.old.live) }
         ensures spare { self.old.spare ≤ self.new.spare }
+        ensures sound { IsSound self.new × AreLive (numbers_of self.new) self.new.live }
     {
         keep(&mut self.live, plan, dropped);
         self.hand = plan.hand;
@@ -224,6 +226,7 @@ impl Ring {
         ensures same { (self.new.end ≡ self.old.end) × (self.new.evict ≡ self.old.evict) × (self.new.top ≡ self.old.top) × (self.new.lap ≡ self.old.lap) }
         ensures live { self.new.live ≡ self.old.live }
         ensures spare { self.new.spare ≡ self.old.spare }
+        ensures sound { IsSound self.new × AreLive (numbers_of self.new) self.new.live }
     {
         self.hand += n;
     }
@@ -239,6 +242,7 @@ impl Ring {
         ensures same { (self.new.end ≡ self.old.end) × (self.new.evict ≡ self.old.evict) × (self.new.top ≡ self.old.top) × (self.new.lap ≡ self.old.lap) }
         ensures live { self.new.live ≡ self.old.live }
         ensures spare { self.new.spare ≡ self.old.spare }
+        ensures sound { IsSound self.new }
     {
         self.hand = hand;
     }
