@@ -1,5 +1,6 @@
 pub mod Candidate
 pub mod Changes
+pub mod Changing
 pub mod Config
 pub mod Edits
 pub mod Ending

@@ -27,7 +27,7 @@ count hit 0 miss 1 past 0 pool 1 l2 0 pass 0 set 0
 end 0
 ";
 
-/// The letters that stand for digests in the texts of these tests: of 512, 1,024, 2,048 and 1,048,576 zero bytes, of the numbers
+/// The letters that stand for digests in the texts of these tests: of 512, 1,024, 2,048 and 16,777,216 zero bytes, of the numbers
 /// from 0 to 255 twice, and one of no bytes that are known.
 const DIGESTS: [(char, &str); 6] = [
     (
@@ -44,7 +44,7 @@ const DIGESTS: [(char, &str); 6] = [
     ),
     (
         'M',
-        "30e14955ebf1352266dc2ff8067e68104607e750abb9d3b36582b8af909fcb58",
+        "080acf35a507ac9849cfcba47dc2ad83e01b75663a516279c8b9d243b719643e",
     ),
     (
         'N',

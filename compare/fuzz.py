@@ -1,8 +1,8 @@
 #!/usr/bin/env python3
-"""Feeds the program random bytes, random traces, mutated ones, and words: bench/fuzz.py [SECONDS] [SEED], outside the gate.
+"""Feeds the program random bytes, random traces, mutated ones, and words: compare/fuzz.py [SECONDS] [SEED], outside the gate.
 
 The program has to end with a report (status 0 or 1), or with status 3, or 2 where the words were drawn, and nothing written; and to
-agree with the plain simulation in baseline/arc_sim.rs on the status and on each byte that is written. A trace on which it doesn't is
+agree with the plain simulation in arc_sim.rs on the status and on each byte that is written. A trace on which it doesn't is
 kept, and its place is printed.
 Needs rustc. The program has to be built: (cd crates/arc_tool && rt run). ARC_TOOL and ARC_SIM may name other builds of the two.
 """
@@ -122,7 +122,7 @@ def main():
     plain = os.environ.get('ARC_SIM')
     if plain is None:
         plain = f'{work}/arc_sim'
-        subprocess.run(['rustc', '--edition', '2024', '-O', '-o', plain, f'{HERE}/baseline/arc_sim.rs'], check=True)
+        subprocess.run(['rustc', '--edition', '2024', '-O', '-o', plain, f'{HERE}/arc_sim.rs'], check=True)
     pool = f'{work}/pool'
     with open(pool, 'wb') as out:
         out.truncate(8192)

@@ -18,7 +18,7 @@ const MOST_BLOCKS: usize = 100_000;
 const MOST_OPS: usize = 1_000_000;
 const LAST: u64 = 1 << 62;
 const MOST: u64 = 1 << 32;
-const LARGEST_BLOCK: u64 = 1_048_576;
+const LARGEST_BLOCK: u64 = 16_777_216;
 const LONGEST_POOL: u64 = 1 << 40;
 
 // ---- SHA-256 ----------------------------------------------------------------------------------------------------------------
