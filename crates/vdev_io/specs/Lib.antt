@@ -2,6 +2,8 @@ pub mod Device
 pub mod Faults
 pub mod Memory
 pub mod MemoryLaws
+pub mod Place
+pub mod Pool
 pub mod SectorDisk
 pub mod SectorLaws
 pub mod Untold

@@ -9,6 +9,7 @@ mod device;
 mod fault;
 mod file;
 mod file_cache;
+mod file_pool;
 mod gate;
 mod memory;
 mod pool;
@@ -18,8 +19,9 @@ mod stream;
 
 pub use device::{CacheDev, NoCache};
 pub use fault::{Failed, IoFault};
-pub use file::{FilePool, LONGEST_POOL, OpenFault};
+pub use file::OpenFault;
 pub use file_cache::{FileCache, LONGEST_CACHE};
+pub use file_pool::{FilePool, LONGEST_POOL};
 pub use gate::{FreeGate, Gate};
 pub use memory::{MemCache, MemPool, MemSink, MemSource};
 pub use pool::Pool;

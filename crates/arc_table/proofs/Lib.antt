@@ -1,0 +1,9 @@
+pub mod Begun
+pub mod Appending
+pub mod Boards
+pub mod CellGives
+pub mod Ranges
+pub mod Bookings
+pub mod Ends
+pub mod PassMines
+pub mod ShardGives
