@@ -1,9 +1,9 @@
 -- The bounds hold after any pages.
-use Rattle.std.proofs.Common.{◌≡◌, ℕ, ◌+◌, ◌-◌, ◌*◌, ◌<◌, ◌≤◌, min, Bool, true, false, ◌&&◌, ◌||◌, eqb, ltb, leb, List, [], ◌∷◌, length, ◌⊎◌, inl, inr, refl, sym, ◌∙◌, ap, subst, arith, length-append}
+use Rattle.std.proofs.Common.{◌≡◌, ℕ, ◌+◌, ◌*◌, ◌<◌, ◌≤◌, Bool, true, false, ◌&&◌, eqb, ltb, leb, List, [], ◌∷◌, length, ◌⊎◌, inl, inr, refl, sym, ◌∙◌, subst, arith, length-append}
 use Rattle.std.proofs.lemmas.Bool.{cases_Bool, cases_lt, cases_eq, eqb-true, eqb-false, ltb-true, ltb-false, leb-true, leb-false, false≢true, cond-true, cond-false, and_parts, and_cases, or_cases, or_parts}
-use Rattle.arc_paper.specs.Arc.{Arc, after, but_last, case_b1, case_b2, case_cached, case_new, demote_t1, demote_t2, fresh, from_b1, from_b2, is_hit, last_of, lowered, move_of, raised, replace, room_in_all, room_in_recent, room_made, stands_in, step, takes_t1, to_t1, total, without}
+use Rattle.arc_paper.specs.Arc.{Arc, after, but_last, case_cached, demote_t1, demote_t2, fresh, from_b1, from_b2, is_hit, last_of, lowered, raised, replace, room_in_all, room_in_recent, room_made, stands_in, step, takes_t1, to_t1, total, without}
 use Rattle.arc_paper.specs.Bounds.{AreBoundsKept, IsBounded, times, times_in}
-use Rattle.arc_paper.proofs.Counting.{absent_of_times, length-but_last, length-last_of, length-without, one_if, one_if-other, one_if-same, times-append, times-cons, times-split, times-without_other, times-without_same, times_of_absent, times_of_standing}
+use Rattle.arc_paper.proofs.Counting.{length-but_last, length-last_of, length-without, one_if-other, one_if-same, times-append, times-cons, times-split, times-without_other, times-without_same, times_of_absent, times_of_standing}
 
 -- ---- REPLACE
 

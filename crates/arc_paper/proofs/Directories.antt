@@ -1,12 +1,12 @@
 -- What the directory's calls keep: no page stands twice, and there is room for all.
-use Rattle.std.proofs.Common.{◌≡◌, ℕ, ◌+◌, ◌-◌, ◌<◌, ◌≤◌, true, false, List, [], ◌∷◌, ◌++◌, length, ◌⊎◌, inl, inr, refl, sym, ◌∙◌, ap, subst, arith, length-append}
+use Rattle.std.proofs.Common.{◌≡◌, ℕ, ◌+◌, ◌<◌, ◌≤◌, true, List, length, inl, inr, sym, subst, arith, length-append}
 use Rattle.std.proofs.lemmas.Bool.{cases_eq}
-use Rattle.arc_paper.specs.Arc.{but_last, last_of, stands_in, without}
+use Rattle.arc_paper.specs.Arc.{last_of, stands_in, without}
 use Rattle.arc_paper.specs.Bounds.{times_in}
 use Rattle.arc_paper.specs.Directory.{IsDirectory, Lists, admitted, copies, count_of, demoted, pages_in, promoted, shortened}
 use Rattle.arc_paper.specs.declared.queue.Queue.{Queue}
 use Rattle.arc_paper.specs.declared.queue.Queue.TheVariants.{T1, T2, B1, B2}
-use Rattle.arc_paper.proofs.Counting.{length-but_last, length-last_of, length-without, one_if, one_if-other, one_if-same, times-append, times-cons, times-split, times-without_other, times-without_same, times_of_standing}
+use Rattle.arc_paper.proofs.Counting.{length-but_last, length-last_of, length-without, one_if-other, one_if-same, times-append, times-cons, times-split, times-without_other, times-without_same, times_of_standing}
 
 at-most-one : (x y a : ℕ) → (y ≡ x → a ≤ 1) → ((y ≡ x → ⊥) → a ≤ 1) → a ≤ 1
 at-most-one x y a same other = elim (cases_eq y x) [ inl e ↦ same e | inr differs ↦ other differs ]

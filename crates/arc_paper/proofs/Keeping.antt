@@ -1,5 +1,5 @@
 -- What a page leaves of the cache.
-use Rattle.std.proofs.Common.{◌≡◌, ℕ, ◌+◌, ◌*◌, ◌<◌, ◌≤◌, Bool, refl, sym, ◌∙◌, ap, subst, arith}
+use Rattle.std.proofs.Common.{◌≡◌, ℕ, Bool, sym, ◌∙◌, ap, subst, arith}
 use Rattle.arc_paper.specs.Arc.{Arc, is_hit, step}
 use Rattle.arc_paper.specs.Bounds.{IsBounded}
 use Rattle.arc_paper.specs.Cache.{Cache}

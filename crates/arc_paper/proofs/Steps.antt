@@ -1,8 +1,8 @@
 -- The code's parts of a step are the publication's.
-use Rattle.std.proofs.Common.{◌≡◌, ℕ, ◌+◌, ◌-◌, ◌*◌, ◌<◌, ◌≤◌, min, Bool, true, false, cond, ◌&&◌, ◌||◌, eqb, ltb, leb, List, [], ◌∷◌, length, ◌⊎◌, inl, inr, refl, sym, ◌∙◌, ap, subst, arith}
+use Rattle.std.proofs.Common.{◌≡◌, ℕ, ◌+◌, ◌-◌, ◌*◌, ◌<◌, min, Bool, true, false, cond, ◌&&◌, eqb, ltb, leb, List, ◌∷◌, length, inl, inr, sym, ◌∙◌, ap, subst, arith}
 use Rattle.std.proofs.lemmas.Bool.{cases_Bool, cond-true, cond-false, or_left, or_right, or_from}
-use Rattle.arc_paper.specs.Arc.{Arc, but_last, case_b1, case_b2, case_cached, case_new, demote_t1, demote_t2, from_b1, from_b2, is_hit, lowered, move_of, raised, replace, room_in_all, room_in_recent, room_made, stands_in, step, takes_t1, to_t1, total, without}
-use Rattle.arc_paper.specs.Bounds.{IsBounded, times, times_in}
+use Rattle.arc_paper.specs.Arc.{Arc, but_last, demote_t1, demote_t2, from_b1, from_b2, is_hit, move_of, replace, room_in_all, room_in_recent, room_made, stands_in, step, takes_t1, to_t1, without}
+use Rattle.arc_paper.specs.Bounds.{IsBounded, times_in}
 use Rattle.arc_paper.specs.Directory.{Lists, admitted, arc_of, copies, count_of, demoted, promoted, shortened}
 use Rattle.arc_paper.specs.Stepping.{replaced, roomed, roomed_in_all, roomed_in_recent}
 use Rattle.arc_paper.specs.declared.queue.Queue.TheVariants.{T1, T2, B1, B2}

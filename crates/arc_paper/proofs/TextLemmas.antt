@@ -1,5 +1,5 @@
 -- The lines of pages, one after the other.
-use Rattle.std.proofs.Common.{◌≡◌, ℕ, ◌+◌, Bool, cond, List, [], ◌∷◌, ◌++◌, append_assoc, refl, sym, ◌∙◌, ap, subst, arith}
+use Rattle.std.proofs.Common.{◌≡◌, ℕ, ◌+◌, cond, List, ◌∷◌, ◌++◌, append_assoc, sym, ◌∙◌, ap, arith}
 use Rattle.arc_paper.specs.Arc.{Arc, after, hits, is_hit, step}
 use Rattle.arc_paper.specs.Text.{page_line, page_lines}
 

@@ -1,22 +1,25 @@
-//! The directory: the four lists of pages.
-ghost use Rattle.std.specs.Option.{option_to_list};
-ghost use Rattle.std.specs.Prelude.{◌≡◌, ℕ, ◌+◌, ◌<◌, ◌≤◌, ◌^◌, ◌∷◌, [], true, length, IfOk, OnOk, vec_len, vec_capacity, ◌++◌};
-ghost use Rattle.arc_paper.specs.Arc.{stands_in, without, but_last, last_of};
-ghost use Rattle.arc_paper.specs.Vectors.{taken};
-ghost use Rattle.arc_paper.specs.Directory.{IsAbsent, IsDirectory, IsFound, admitted, count_of, demoted, no_pages, pages_in, promoted, shortened};
+//! The directory: the four lists of pages, and where each page stands.
+ghost use Rattle.std.specs.Prelude.{◌≡◌, ℕ, ◌+◌, ◌<◌, ◌≤◌, ◌^◌, true, length, IfOk, IfNone, IfSome, IsSome};
+ghost use Rattle.arc_links.specs.PlainLinks.{element_at};
+ghost use Rattle.key_table.specs.PlainTable.{HasKey, IsAmong, no_rows, row};
+ghost use Rattle.arc_paper.specs.Indexed.{IsIndex, IsMoved, without_node};
+ghost use Rattle.arc_paper.specs.Queues.{links_in, nodes_in};
+ghost use Rattle.arc_paper.specs.Arc.{stands_in};
+ghost use Rattle.arc_paper.specs.Directory.{IsAbsent, IsFound, admitted, count_of, demoted, no_pages, pages_in, promoted, shortened};
 
 use crate::memory::NoMemory;
 use crate::queue::Queue;
+use crate::queues::Queues;
+use crate::spot::Spot;
+use key_table::Table;
 use std::alloc::Global;
 use std::marker::Model;
 
-/// The four lists. All memory that they ever need is taken by `new`.
+/// The four lists, and a table from each page to its list and its place there. All memory that they ever need is taken by `new`.
 #[derive(Debug, Drop)]
 pub(crate) struct Directory {
-    t1: Vec<u64>,
-    t2: Vec<u64>,
-    b1: Vec<u64>,
-    b2: Vec<u64>,
+    queues: Queues,
+    table: Table<u64, Spot>,
     room: usize,
 }
 
@@ -25,54 +28,42 @@ impl Model for Directory {
 
     ghost Value = { Lists };
 
-    ghost use Rattle.arc_paper.specs.Vectors.{IsRoomy, lists_in};
+    ghost use Rattle.arc_paper.specs.Indexed.{IsRoomy, lists_in};
 
     ghost view = { lists_in };
 
     ghost invariant = { IsRoomy };
 }
 
-/// Whether the page stands in the list.
-fn stands(pages: &[u64], x: u64) -> bool
-    ensures { result ≡ stands_in pages.now x }
+/// Where a page stands, by the table.
+fn spot_of(table: &Table<u64, Spot>, x: u64) -> Option<Spot>
+    ensures some { IfSome result (λ spot. IsAmong (row x spot) table.now.rows) }
+    ensures none { IfNone result (HasKey x table.now.rows → ⊥) }
 {
-    pages.iter().any(|y| *y == x)
+    table.get(&x).copied()
 }
 
-/// Puts a page at the head of a list that has room for it.
-fn push_head(pages: &mut Vec<u64>, x: u64)
-    requires { vec_len pages.old < vec_capacity pages.old }
-    ensures items { pages.new.items ≡ x ∷ pages.old.items }
-    ensures capacity { vec_capacity pages.new ≡ vec_capacity pages.old }
+/// Takes the page at a spot off its list, and puts it at the head of a list.
+fn move_to(queues: &mut Queues, table: &mut Table<u64, Spot>, spot: Spot, to: Queue)
+    requires index { IsIndex queues.old table.old.rows }
+    requires there { IsSome (element_at spot.at (nodes_in spot.queue queues.old)) }
+    requires room { 0 < (links_in to (without_node spot queues.old)).spare }
+    ensures moved { IsMoved spot to queues.old queues.new }
+    ensures index { IsIndex queues.new table.new.rows }
+    ensures spare { table.new.spare ≡ table.old.spare }
 {
-    let _ = pages.insert(0, x);
+    let x = queues.remove(spot.queue, spot.at);
+    let at = queues.push_head(to, x);
+    table.set(&x, Spot { queue: to, at });
 }
 
-/// Takes a page off a list.
-fn remove(pages: &mut Vec<u64>, x: u64)
-    ensures items { pages.new.items ≡ without x pages.old.items }
-    ensures capacity { vec_capacity pages.new ≡ vec_capacity pages.old }
+/// A table with room for so many pages.
+fn with_room(alloc: Global, room: usize) -> Result<Table<u64, Spot>, NoMemory>
+    ensures { IfOk result (λ table. table ≡ record no_rows { spare = room }) }
 {
-    pages.retain(|y| *y != x);
-}
-
-/// Takes the last page off a list.
-fn take_last(pages: &mut Vec<u64>) -> Option<u64>
-    ensures items { pages.new.items ≡ but_last pages.old.items }
-    ensures last { option_to_list result ≡ last_of pages.old.items }
-    ensures capacity { vec_capacity pages.new ≡ vec_capacity pages.old }
-{
-    pages.pop()
-}
-
-/// A list with room for so many pages.
-fn with_room(alloc: Global, room: usize) -> Result<Vec<u64>, NoMemory>
-    ensures empty { IfOk result (λ pages. pages.items ≡ []) }
-    ensures room { IfOk result (λ pages. room ≤ vec_capacity pages) }
-{
-    let mut pages = Vec::new(alloc);
-    pages.reserve(room)?;
-    Ok(pages)
+    let mut table = Table::new(alloc);
+    table.reserve(room)?;
+    Ok(table)
 }
 
 impl Directory {
@@ -83,10 +74,8 @@ impl Directory {
     {
         let room = room as usize;
         Ok(Directory {
-            t1: with_room(alloc, room)?,
-            t2: with_room(alloc, room)?,
-            b1: with_room(alloc, room)?,
-            b2: with_room(alloc, room)?,
+            queues: Queues::new(alloc, room)?,
+            table: with_room(alloc, room)?,
             room,
         })
     }
@@ -97,28 +86,16 @@ impl Directory {
         ensures fits { count_of self.now ≤ self.now.room }
         ensures room { self.now.room ≤ 2 ^ 31 }
     {
-        match queue {
-            Queue::T1 => self.t1.len() as u32,
-            Queue::T2 => self.t2.len() as u32,
-            Queue::B1 => self.b1.len() as u32,
-            Queue::B2 => self.b2.len() as u32,
-        }
+        self.queues.len(queue)
     }
 
     /// The list in which a page stands.
     pub(crate) fn find(&self, x: u64) -> Option<Queue>
         ensures { IsFound x self.now result }
     {
-        if stands(&self.t1, x) {
-            Some(Queue::T1)
-        } else if stands(&self.t2, x) {
-            Some(Queue::T2)
-        } else if stands(&self.b1, x) {
-            Some(Queue::B1)
-        } else if stands(&self.b2, x) {
-            Some(Queue::B2)
-        } else {
-            None
+        match spot_of(&self.table, x) {
+            Some(spot) => Some(spot.queue),
+            None => None,
         }
     }
 
@@ -127,21 +104,8 @@ impl Directory {
         requires { stands_in (pages_in from self.old) x ≡ true }
         ensures { self.new ≡ promoted from x self.old }
     {
-        self.take_off(from, x);
-        push_head(&mut self.t2, x);
-    }
-
-    /// Takes a page off a list.
-    fn take_off(&mut self, from: Queue, x: u64)
-        requires { stands_in (pages_in from self.old) x ≡ true }
-        ensures lists { self.new ≡ taken from x self.old }
-        ensures room { IsDirectory (record self.new { t2 = x ∷ self.new.t2 }) }
-    {
-        match from {
-            Queue::T1 => remove(&mut self.t1, x),
-            Queue::T2 => remove(&mut self.t2, x),
-            Queue::B1 => remove(&mut self.b1, x),
-            Queue::B2 => remove(&mut self.b2, x),
+        if let Some(spot) = spot_of(&self.table, x) {
+            move_to(&mut self.queues, &mut self.table, spot, Queue::T2);
         }
     }
 
@@ -151,15 +115,26 @@ impl Directory {
         requires room { count_of self.old < self.old.room }
         ensures { self.new ≡ admitted x self.old }
     {
-        push_head(&mut self.t1, x);
+        let at = self.queues.push_head(Queue::T1, x);
+        self.table.insert(
+            x,
+            Spot {
+                queue: Queue::T1,
+                at,
+            },
+        );
     }
 
     /// Puts the last page of T1 at the head of B1.
     pub(crate) fn demote_recent(&mut self)
         ensures { self.new ≡ demoted Queue.T1 self.old }
     {
-        if let Some(x) = take_last(&mut self.t1) {
-            push_head(&mut self.b1, x);
+        if let Some(at) = self.queues.last(Queue::T1) {
+            let spot = Spot {
+                queue: Queue::T1,
+                at,
+            };
+            move_to(&mut self.queues, &mut self.table, spot, Queue::B1);
         }
     }
 
@@ -167,8 +142,12 @@ impl Directory {
     pub(crate) fn demote_frequent(&mut self)
         ensures { self.new ≡ demoted Queue.T2 self.old }
     {
-        if let Some(x) = take_last(&mut self.t2) {
-            push_head(&mut self.b2, x);
+        if let Some(at) = self.queues.last(Queue::T2) {
+            let spot = Spot {
+                queue: Queue::T2,
+                at,
+            };
+            move_to(&mut self.queues, &mut self.table, spot, Queue::B2);
         }
     }
 
@@ -176,11 +155,9 @@ impl Directory {
     pub(crate) fn shorten(&mut self, queue: Queue)
         ensures { self.new ≡ shortened queue self.old }
     {
-        match queue {
-            Queue::T1 => take_last(&mut self.t1),
-            Queue::T2 => take_last(&mut self.t2),
-            Queue::B1 => take_last(&mut self.b1),
-            Queue::B2 => take_last(&mut self.b2),
-        };
+        if let Some(at) = self.queues.last(queue) {
+            let x = self.queues.remove(queue, at);
+            self.table.remove(&x);
+        }
     }
 }

@@ -7,8 +7,11 @@
 mod directory;
 mod laws;
 mod memory;
+mod pages;
 mod paper;
 mod queue;
+mod queues;
+mod spot;
 #[cfg(test)]
 mod tests;
 mod text;

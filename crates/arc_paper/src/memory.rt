@@ -17,3 +17,15 @@ impl<T: Drop> From<AllocFailed<T>> for NoMemory {
         NoMemory
     }
 }
+
+impl From<arc_links::NoMemory> for NoMemory {
+    fn from(_refused: arc_links::NoMemory) -> Self {
+        NoMemory
+    }
+}
+
+impl From<key_table::NoMemory> for NoMemory {
+    fn from(_refused: key_table::NoMemory) -> Self {
+        NoMemory
+    }
+}

@@ -1,5 +1,5 @@
-use Rattle.std.proofs.Common.{◌≡◌, ℕ, ◌≤◌, ◌+◌, ◌++◌, ◌∷◌, Bool, cond, drop, get_or, string_bytes, refl, sym, ◌∙◌, ap, subst, arith, drop-cons, add-one, add-zero}
-use Rattle.arc_paper.specs.Arc.{Arc, is_hit, step}
+use Rattle.std.proofs.Common.{◌≡◌, ℕ, ◌+◌, ◌++◌, ◌∷◌, cond, drop, get_or, string_bytes, sym, ◌∙◌, ap, arith, drop-cons, add-one, add-zero}
+use Rattle.arc_paper.specs.Arc.{is_hit, step}
 use Rattle.arc_paper.specs.Cache.{Cache}
 use Rattle.arc_paper.specs.Text.{page_line}
 use Rattle.arc_paper.proofs.TextLemmas.{after-more, hits-more, page_lines-more}

@@ -1,6 +1,5 @@
 use Rattle.std.proofs.Common.{◌≡◌, ◌≤◌, ◌+◌, ◌++◌, drop, string_bytes}
 use Rattle.arc_paper.specs.Arc.{after, hits}
-use Rattle.arc_paper.specs.Cache.{Cache}
 use Rattle.arc_paper.specs.Text.{page_lines}
 use Rattle.arc_paper.proofs.text.write_pages.Given as goal
 

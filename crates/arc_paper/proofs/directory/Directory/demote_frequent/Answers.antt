@@ -1,23 +1,37 @@
-use Rattle.std.proofs.Common.{◌≡◌, ◌++◌, List, ℕ, [], ◌∷◌, Some, sym, ap, refl, ◌∙◌}
-use Rattle.arc_paper.specs.Arc.{last_of}
-use Rattle.std.specs.Option.{option_to_list}
+use Rattle.std.proofs.Common.{◌≡◌, [], is_some, refl, sym, ap, subst, ◌∙◌}
 use Rattle.arc_paper.specs.Directory.{Lists, demoted}
-use Rattle.arc_paper.specs.Vectors.{lists_in}
-use Rattle.arc_paper.specs.declared.queue.Queue.TheVariants.{T1, T2}
+use Rattle.arc_paper.specs.Indexed.{lists_in, spot}
+use Rattle.arc_paper.specs.Queues.{nodes_in, pages_of}
+use Rattle.arc_paper.specs.declared.queue.Queue.TheVariants.{T2, B2}
 use Rattle.arc_paper.proofs.Directories.{IsDirectory-demoted}
-use Rattle.arc_paper.proofs.Roomy.{IsRoomy-with}
+use Rattle.arc_paper.proofs.Placing.{last-none, last-some}
+use Rattle.arc_paper.proofs.Roomy.{IsRoomy-moved, count-demoted, demoted-empty_t2, lists-demoted_t2, spare-removed}
 use Rattle.arc_paper.proofs.directory.Directory.demote_frequent.Goals as goal
 
-pub invariant_of-self : goal.invariant_of-self
-invariant_of-self c = IsRoomy-with c.self.inside _ (demoted T2 (lists_in c.self.inside)) c.self.invariant (IsDirectory-demoted T2 _ c.self.invariant.lists)
-    (let last : c.in-Some.x ∷ [] ≡ last_of c.self.inside.t2.items = c.in-Some.ensures.last in
-    ap (λ pages. let d : Lists = record (lists_in c.self.inside) { t2 = pages; b2 = c.push_head.new.pages.items } in d) c.take_last.ensures.items
-    ∙ ap (λ pages. let d : Lists = record (demoted T2 (lists_in c.self.inside)) { b2 = pages } in d) (c.push_head.ensures.items ∙ ap (λ l. l ++ c.self.inside.b2.items) last)) refl
-    refl c.take_last.ensures.capacity refl c.push_head.ensures.capacity
+pub move_to-requires-clause-there : goal.move_to-requires-clause-there
+move_to-requires-clause-there c =
+    let last = last-some c.in-Some.at (nodes_in T2 c.self.inside.queues) (c.self.invariant.index.places T2) (sym c.in-Some.ensures) in
+    ap is_some last.1.there
 
-pub invariant_of-self-in_default : goal.invariant_of-self-in_default
-invariant_of-self-in_default c = IsRoomy-with c.self.inside _ (demoted T2 (lists_in c.self.inside)) c.self.invariant (IsDirectory-demoted T2 _ c.self.invariant.lists)
-    (let none : last_of c.self.inside.t2.items ≡ [] = sym c.in_default.ensures.last in
-    ap (λ pages. let d : Lists = record (lists_in c.self.inside) { t2 = pages } in d) c.take_last.ensures.items
-    ∙ ap (λ l. let d : Lists = record (demoted T2 (lists_in c.self.inside)) { b2 = l ++ c.self.inside.b2.items } in d) (sym none)) refl
-    refl c.take_last.ensures.capacity refl refl
+pub move_to-requires-clause-room : goal.move_to-requires-clause-room
+move_to-requires-clause-room c =
+    let last = last-some c.in-Some.at (nodes_in T2 c.self.inside.queues) (c.self.invariant.index.places T2) (sym c.in-Some.ensures) in
+    spare-removed c.self.inside (spot T2 c.in-Some.at) B2 last.0 c.self.invariant last.1.there
+
+pub invariant_of-self : goal.invariant_of-self
+invariant_of-self c =
+    let last = last-some c.in-Some.at (nodes_in T2 c.self.inside.queues) (c.self.invariant.index.places T2) (sym c.in-Some.ensures) in
+    IsRoomy-moved c.self.inside _ (spot T2 c.in-Some.at) B2 (demoted T2 (lists_in c.self.inside)) c.self.invariant c.move_to.ensures.moved c.move_to.ensures.index
+    c.move_to.ensures.spare refl (lists-demoted_t2 c.self.inside (record { queues = c.move_to.new.queues; table = c.move_to.new.table; room = c.self.inside.room }) c.in-Some.at last.0 refl c.move_to.ensures.moved last.1)
+    (IsDirectory-demoted T2 _ c.self.invariant.lists) (count-demoted T2 (lists_in c.self.inside))
+
+pub returns-in-Some : goal.returns-in-Some
+returns-in-Some c =
+    let last = last-some c.in-Some.at (nodes_in T2 c.self.inside.queues) (c.self.invariant.index.places T2) (sym c.in-Some.ensures) in
+    lists-demoted_t2 c.self.inside (record { queues = c.move_to.new.queues; table = c.move_to.new.table; room = c.self.inside.room }) c.in-Some.at last.0 refl c.move_to.ensures.moved last.1
+    ∙ ap (demoted T2) c.self.view_is
+
+pub returns-in_default : goal.returns-in_default
+returns-in_default c =
+    let none : nodes_in T2 c.self.inside.queues ≡ [] = last-none _ (sym c.last.ensures ∙ c.in_default.is) in
+    subst (λ (l : Lists). l ≡ demoted T2 l) c.self.view_is (sym (demoted-empty_t2 (lists_in c.self.inside) (ap pages_of none)))

@@ -1,16 +1,12 @@
-use Rattle.std.proofs.Common.{sym, ◌∙◌, ap, subst, ◌≡◌, false, arith}
+use Rattle.std.proofs.Common.{◌≡◌, true, subst}
 use Rattle.arc_paper.specs.Arc.{stands_in}
-use Rattle.arc_paper.specs.Directory.{Lists, copies}
-use Rattle.arc_paper.proofs.Counting.{times_of_absent}
+use Rattle.arc_paper.specs.Directory.{Lists, copies, pages_in}
+use Rattle.arc_paper.proofs.Roomy.{absent-from, found-in}
 use Rattle.arc_paper.proofs.directory.Directory.find.Goals as goal
 
-pub returns-else-stands-4 : goal.returns-else-stands-4
-returns-else-stands-4 c =
-    let d = c.self.inside in
-    let x = c.args.x in
-    let t1 : stands_in d.t1.items x ≡ false = ap (λ l. stands_in l x) (sym c.deref.ensures.value) ∙ sym c.stands.ensures ∙ c.if-stands.false in
-    let t2 : stands_in d.t2.items x ≡ false = ap (λ l. stands_in l x) (sym c.deref-else-stands.ensures.value) ∙ sym c.stands-else-stands.ensures ∙ c.if-stands-2.false in
-    let b1 : stands_in d.b1.items x ≡ false = ap (λ l. stands_in l x) (sym c.deref-else-stands-2.ensures.value) ∙ sym c.stands-else-stands-2.ensures ∙ c.if-stands-3.false in
-    let b2 : stands_in d.b2.items x ≡ false = ap (λ l. stands_in l x) (sym c.deref-else-stands-3.ensures.value) ∙ sym c.stands-else-stands-3.ensures ∙ c.if-stands-4.false in
-    subst (λ (l : Lists). copies x l ≡ 0) c.self.view_is
-    (omega (arith, times_of_absent x d.t1.items t1, times_of_absent x d.t2.items t2, times_of_absent x d.b1.items b1, times_of_absent x d.b2.items b2))
+pub returns-in-Some : goal.returns-in-Some
+returns-in-Some c = subst (λ (l : Lists). stands_in (pages_in c.in-Some.spot.queue l) c.args.x ≡ true) c.self.view_is
+    (found-in c.self.inside c.args.x c.in-Some.spot c.self.invariant c.in-Some.ensures.some)
+
+pub returns-in-None : goal.returns-in-None
+returns-in-None c = subst (λ (l : Lists). copies c.args.x l ≡ 0) c.self.view_is (absent-from c.self.inside c.args.x c.self.invariant c.in-None.ensures.none)

@@ -1,12 +1,10 @@
-use Rattle.std.proofs.Common.{◌≡◌, ℕ, ◌+◌, ◌*◌, ◌<◌, ◌≤◌, true, false, length, refl, sym, ◌∙◌, ap, subst, arith}
-use Rattle.arc_paper.specs.Arc.{Arc, is_hit, stands_in, step}
-use Rattle.arc_paper.specs.Bounds.{IsBounded}
-use Rattle.arc_paper.specs.Directory.{Lists, admitted, arc_of, copies, count_of, promoted}
-use Rattle.arc_paper.specs.Stepping.{replaced, roomed}
-use Rattle.arc_paper.specs.declared.queue.Queue.TheVariants.{T1, T2, B1, B2}
-use Rattle.arc_paper.proofs.Counting.{length-without, times_of_standing}
+use Rattle.std.proofs.Common.{◌≡◌, ℕ, true, false, sym, ◌∙◌, ap, subst, arith}
+use Rattle.arc_paper.specs.Arc.{stands_in, step}
+use Rattle.arc_paper.specs.Directory.{Lists, admitted, arc_of, copies, promoted}
+use Rattle.arc_paper.specs.Stepping.{replaced}
+use Rattle.arc_paper.specs.declared.queue.Queue.TheVariants.{B1, B2}
 use Rattle.arc_paper.proofs.Keeping.{IsKept-step, cache-step, is_hit-seen}
-use Rattle.arc_paper.proofs.Steps.{absent-roomed, count-roomed, hit-t1, hit-t2, miss-b1, miss-b2, miss-new, room-replaced, room-roomed, step-b1, step-b2, step-new, step-t1, step-t2, still-b1, still-b2, target_b1, target_b2}
+use Rattle.arc_paper.proofs.Steps.{absent-roomed, hit-t1, hit-t2, miss-b1, miss-b2, miss-new, room-replaced, room-roomed, step-b1, step-b2, step-new, step-t1, step-t2}
 use Rattle.arc_paper.proofs.paper.Paper.page.Goals as goal
 
 pub invariant_of-self : goal.invariant_of-self
