@@ -461,11 +461,11 @@ module _ {C : Type 0} (m : Meanings C) (law : IsBookedAfter) (b : Board (Item C)
           (λ q. let h = att.taken j k e in let same : h.0 ≡ w = same_at b.views n h.0 w (subst (λ (x : ℕ). get_elem? b.views x ≡ some h.0) q h.1) at in
           let recorded : item_at j w.records ≡ Some (s.now j) = ap (λ (y : Known C). item_at j y.records) (sym same) ∙ h.2 in
           mine q
-              (⊎_elim
-              (λ z. past_items j hand (without_item i w.records) z ∙ (without_else i j w.records far ∙ (recorded ∙ ap Some (sym (now_far j far z)))))
-              (λ z. front_items j hand z.0 (without_item i w.records) z.1 ∙ ap Some (sym (now_hand j z.0 z.1)))
-              (option_case (item_at j hand)))
-              (listed_at g before.now es j w.records (s.now j) w.listed w.listed recorded ∙ ap (listed_after g before.now es j) (ap (λ (y : Known C). list_at j y.listed) (sym same) ∙ h.3)))
+          (⊎_elim
+          (λ z. past_items j hand (without_item i w.records) z ∙ (without_else i j w.records far ∙ (recorded ∙ ap Some (sym (now_far j far z)))))
+          (λ z. front_items j hand z.0 (without_item i w.records) z.1 ∙ ap Some (sym (now_hand j z.0 z.1)))
+          (option_case (item_at j hand)))
+          (listed_at g before.now es j w.records (s.now j) w.listed w.listed recorded ∙ ap (listed_after g before.now es j) (ap (λ (y : Known C). list_at j y.listed) (sym same) ∙ h.3)))
           (λ q. let other : taken k ≢ taken n = λ r. q (let z : ◌≡◌ {A = Turn (Item C)} (taken k) (taken n) = r in cc) in theirs q e (now_far j far (away j (taken k) e other)) (kept_away j (taken k) e other))
 
   -- ---- headers
