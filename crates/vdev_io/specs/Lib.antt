@@ -1,5 +1,7 @@
 pub mod Device
+pub mod DiskLaws
 pub mod Faults
+pub mod Journal
 pub mod Memory
 pub mod MemoryLaws
 pub mod Place

@@ -23,7 +23,7 @@ pub use file::OpenFault;
 pub use file_cache::{FileCache, LONGEST_CACHE};
 pub use file_pool::{FilePool, LONGEST_POOL};
 pub use gate::{FreeGate, Gate};
-pub use memory::{MemCache, MemPool, MemSink, MemSource};
+pub use memory::{MemCache, MemPool, MemSink, MemSource, SectorDisk, every_crash_has_its_flags};
 pub use pool::Pool;
 pub use sink::Sink;
 pub use source::Source;
