@@ -6,3 +6,4 @@ pub mod Ranges
 pub mod Bookings
 pub mod PassMines
 pub mod ShardGives
+pub mod BookedAfter

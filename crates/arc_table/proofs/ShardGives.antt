@@ -133,7 +133,7 @@ head_alike (Some e) (Some e') (Some h) same head = record {
 
 -- ---- numbers past all that a shard knows
 
-entry_sound : (k : Key) (xs : List Entry) (e : Entry) → AllByRecursion IsSoundEntry xs → by_key.item_at entry_key k xs ≡ Some e → IsSoundEntry e
+pub entry_sound : (k : Key) (xs : List Entry) (e : Entry) → AllByRecursion IsSoundEntry xs → by_key.item_at entry_key k xs ≡ Some e → IsSoundEntry e
 entry_sound k [] e all h = absurd (none-some e h)
 entry_sound k (x ∷ xs) e all h = by_test (entry_sound k xs e all.1) (key_eq x.key k) h
   where
