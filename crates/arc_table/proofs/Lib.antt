@@ -7,3 +7,4 @@ pub mod Bookings
 pub mod PassMines
 pub mod ShardGives
 pub mod BookedAfter
+pub mod Ends

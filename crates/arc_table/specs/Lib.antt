@@ -21,3 +21,4 @@ pub mod Looking
 pub mod ShardGiving
 pub mod Opening
 pub mod OpeningLaws
+pub mod Ended
