@@ -1,5 +1,5 @@
 -- Each event keeps the lists of holds and readings in agreement with the shard.
-use Rattle.std.proofs.Common.{◌≡◌, ◌≢◌, ◌⊎◌, ◌==◌, if◌then◌else◌, ℕ, zero, suc, ◌+◌, ◌<◌, ◌≤◌, List, [], ◌∷◌, ◌++◌, length, sum, get_or, Bool, true, false, not, cond, Option, Some, None, refl, sym, ap, ◌∙◌, subst, inl, inr, ⊎_elim, eq-eqb, ne_eqb, arith, lt_of_not-le}
+use Rattle.std.proofs.Common.{◌≡◌, ◌≢◌, ◌⊎◌, ◌==◌, if◌then◌else◌, ℕ, zero, suc, ◌+◌, ◌<◌, ◌≤◌, List, [], ◌∷◌, sum, get_or, Bool, true, false, not, cond, Option, Some, None, refl, sym, ap, ◌∙◌, subst, inl, inr, ⊎_elim, eq-eqb, ne_eqb, arith}
 use Rattle.std.specs.Prelude.{IsTrue, ◌&&◌, ◌||◌, is_none, is_some, nat_lt, IsSomeAnd}
 use Rattle.std.specs.Option.{option_map, option_map_or, option_and_then}
 use Rattle.std.proofs.lemmas.Bool.Decides.{nat_tests}
@@ -17,7 +17,7 @@ use Rattle.blk_ptr.proofs.Keys.{key_eq-is, key_eq-same}
 use Rattle.arc_core.specs.declared.entry.Entry.{Entry}
 use Rattle.arc_core.specs.declared.event.Event.{Event}
 use Rattle.arc_core.specs.declared.event.Event.TheVariants.{Pass, Hit, Miss, Arrive, Fail, Drop, Past, Hand, Insert, Release, Pick, FeedEnd, Set, Leave, Clear, Restore, Resize}
-use Rattle.arc_core.specs.Changing.{entry_after, gained, handed, hold_for, lost, without_place}
+use Rattle.arc_core.specs.Changing.{gained, handed, hold_for, lost, without_place}
 use Rattle.arc_core.specs.Changes.{pick_of}
 use Rattle.arc_core.specs.declared.entry.Picked.{Picked}
 use Rattle.blk_ptr.specs.Key.{is_well_formed}
@@ -28,7 +28,7 @@ use Rattle.blk_ptr.specs.State.{is_cached, is_ghost, is_same_state}
 use Rattle.blk_ptr.specs.declared.state.State.{State}
 use Rattle.blk_ptr.specs.declared.state.State.TheVariants.{Anon, Mru, MruGhost, Mfu, MfuGhost, L2Only}
 use Rattle.arc_core.specs.Sparing.{IsSpared}
-use Rattle.arc_core.specs.Sound.{IsSound, IsSoundEntry, fits_state}
+use Rattle.arc_core.specs.Sound.{IsSound, fits_state}
 use Rattle.arc_core.specs.Step.{after, agree, arrived, entry_to_read, hit_entry, holds, is_missing, is_new_here, is_without_bytes, is_writing, legal, may_be_placed, may_come_from, may_set, reads, same_digest, written_entry}
 use Rattle.arc_core.proofs.Accesses.{accessed-keeps}
 use Rattle.arc_core.proofs.Counting.{counting, held-cached, held-kept}
@@ -36,7 +36,7 @@ use Rattle.arc_core.proofs.Others.{own-entry, sparing}
 use Rattle.arc_core.proofs.Sparing.{spared-held}
 use Rattle.arc_table.specs.Booking.{AreBooked, IsBookedAfter, digest_at, holds_after, readings_after, with_hold, without_hold, without_reading}
 use Rattle.arc_table.specs.Counted.{IsRead, Rests, readings_of}
-use Rattle.arc_table.proofs.Bookings.{begun_reading, from_without, holds_cons, readings_cons, reading_without, with_else, without_else, reading_else}
+use Rattle.arc_table.proofs.Bookings.{begun_reading, from_without, holds_cons, readings_cons, reading_without, without_else, reading_else}
 use Rattle.arc_table.proofs.ShardGives.{entry_sound, option_case}
 
 -- ---- tests
@@ -220,7 +220,7 @@ new_or_old m s (Hand n k to) hs q h =
     let left : List Ptr = if m == n then without_hold k hs else hs in
     let was : (r : ℕ) → get_elem? left r ≡ some h → (t : ℕ) × (get_elem? hs t ≡ some h) = λ r. choose (m == n) (λ (l : List Ptr). get_elem? l r ≡ some h → (t : ℕ) × (get_elem? hs t ≡ some h)) (without_hold k hs) hs (λ e. from_without k hs r h e) (λ e. (r, e)) in
     choose (m == to) (λ (l : List Ptr). get_elem? l q ≡ some h → NewOrOld s (Hand n k to) hs h) (with_hold k (digest_at k s) left) left
-        (λ e. ⊎_elim inl (λ r. inr (was r.0 r.1)) (from_with k (digest_at k s) left q h e)) (λ e. inr (was q e))
+    (λ e. ⊎_elim inl (λ r. inr (was r.0 r.1)) (from_with k (digest_at k s) left q h e)) (λ e. inr (was q e))
 new_or_old m s (Pass n k owner) hs q h = λ e. inr (q, e)
 new_or_old m s (Miss n k t) hs q h = λ e. inr (q, e)
 new_or_old m s (Fail n k at) hs q h = λ e. inr (q, e)

@@ -1,5 +1,5 @@
 -- What events do to the lists of holds and readings of a number, and that they go on to agree with the shard.
-use Rattle.std.proofs.Common.{◌≡◌, ◌≢◌, ◌⊎◌, ◌==◌, if◌then◌else◌, ℕ, zero, suc, ◌+◌, ◌<◌, List, [], ◌∷◌, ◌++◌, length, Bool, true, false, cond, Option, Some, None, refl, sym, ap, ◌∙◌, subst, inl, inr, ⊎_elim, ne_eqb, arith}
+use Rattle.std.proofs.Common.{◌≡◌, ◌≢◌, ◌⊎◌, ◌==◌, if◌then◌else◌, ℕ, zero, suc, ◌+◌, List, [], ◌∷◌, Bool, true, false, cond, Option, Some, None, refl, sym, ap, ◌∙◌, subst, inl, inr, ⊎_elim, ne_eqb, arith}
 use Rattle.std.specs.Prelude.{IsTrue, ◌&&◌}
 use Rattle.std.proofs.lemmas.List.Sums.{sum_by-cons}
 use mathlib.Core.Option.{some, some-injective, some-ne-none}
@@ -261,7 +261,7 @@ holds_come m s (Hand n k to) hs q h =
     let left : List Ptr = if m == n then without_hold k hs else hs in
     let was : (r : ℕ) → get_elem? left r ≡ some h → (t : ℕ) × (get_elem? hs t ≡ some h) = λ r. there_both (m == n) (λ (l : List Ptr). get_elem? l r ≡ some h → (t : ℕ) × (get_elem? hs t ≡ some h)) (without_hold k hs) hs (λ e. from_without k hs r h e) (λ e. (r, e)) in
     there_both (m == to) (λ (l : List Ptr). get_elem? l q ≡ some h → ComesOf (Hand n k to) hs h) (with_hold k (digest_at k s) left) left
-        (λ e. ⊎_elim (λ p. inl (ap Some p)) (λ r. inr (was r.0 r.1)) (from_with k (digest_at k s) left q h e)) (λ e. inr (was q e))
+    (λ e. ⊎_elim (λ p. inl (ap Some p)) (λ r. inr (was r.0 r.1)) (from_with k (digest_at k s) left q h e)) (λ e. inr (was q e))
 holds_come m s (Pass n k owner) hs q h = λ e. inr (q, e)
 holds_come m s (Miss n k t) hs q h = λ e. inr (q, e)
 holds_come m s (Fail n k at) hs q h = λ e. inr (q, e)

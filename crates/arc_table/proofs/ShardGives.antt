@@ -1,5 +1,5 @@
 -- A shard is given back, with buckets in hand.
-use Rattle.std.proofs.Common.{◌≡◌, ◌≢◌, ◌⊎◌, ◌==◌, if◌then◌else◌, ℕ, zero, suc, ◌+◌, ◌-◌, ◌*◌, ◌<◌, ◌≤◌, List, [], ◌∷◌, ◌++◌, length, map, set, Bool, true, false, Option, Some, None, refl, sym, ap, ◌∙◌, subst, inl, inr, ⊎_elim, eq-eqb, ne_eqb, arith, length-set, length-append, lt_of_not-le}
+use Rattle.std.proofs.Common.{◌≡◌, ◌≢◌, ◌⊎◌, ◌==◌, if◌then◌else◌, ℕ, zero, suc, ◌+◌, ◌-◌, ◌<◌, ◌≤◌, List, [], ◌∷◌, ◌++◌, length, map, set, Bool, true, false, Option, Some, None, refl, sym, ap, ◌∙◌, subst, inl, inr, ⊎_elim, eq-eqb, ne_eqb, arith, length-set, lt_of_not-le}
 use Rattle.std.specs.Prelude.{IsTrue, MatchOption, nat_lt, not, ◌&&◌}
 use Rattle.blk_ptr.specs.declared.digest.Digest.{Digest}
 use Rattle.blk_ptr.specs.Ptr.{sha256_of}
@@ -27,18 +27,17 @@ use Rattle.arc_core.specs.declared.entry.Entry.{Entry}
 use Rattle.arc_core.specs.declared.event.Event.{Event}
 use Rattle.arc_core.specs.declared.event.Event.TheVariants.{Pass, Hit, Miss, Arrive, Fail, Drop, Past, Hand, Insert, Release, Pick, FeedEnd, Set, Leave, Clear, Restore, Resize}
 use Rattle.arc_core.specs.Keeps.{holds_on}
-use Rattle.arc_core.specs.Operations.{event_key, is_of_feed, number_of}
-use Rattle.arc_core.specs.PlainShard.{PlainShard, count_of, entry_key, entry_of, held_by, is_resident, numbers, opening_shard}
+use Rattle.arc_core.specs.Operations.{is_of_feed, number_of}
+use Rattle.arc_core.specs.PlainShard.{PlainShard, count_of, entry_key, entry_of, held_by, is_resident, numbers}
 use Rattle.arc_core.specs.Replay.{is_legal_history, replay}
-use Rattle.arc_core.specs.ShardLog.{ShardLog, IsReplayed}
+use Rattle.arc_core.specs.ShardLog.{ShardLog}
 use Rattle.arc_core.specs.Step.{after, legal}
 use Rattle.hash_chain.specs.Chain.{Chain, header_at}
 use Rattle.hash_chain.specs.declared.header.Header.{Header}
-use Rattle.turn_table.specs.Board.{Turn, free, taken, Board, IsAmong, IsFree, IsTaken, Knows}
+use Rattle.turn_table.specs.Board.{Turn, free, taken, Board, IsAmong, IsTaken, Knows}
 use Rattle.turn_table.specs.Moments.{MayGive, Stands}
 use Rattle.turn_table.specs.Places.{Place}
 use Rattle.turn_table.proofs.Moments.{taken_at}
-use Rattle.arc_table.specs.declared.about.About.{About}
 use Rattle.arc_table.specs.declared.item.Item.{Item}
 use Rattle.arc_table.specs.declared.item.Item.TheVariants as item
 use Rattle.arc_table.specs.declared.view.Known.{Known}
@@ -52,16 +51,16 @@ use Rattle.arc_table.specs.Booking.{AreBooked, IsBookedAfter}
 use Rattle.arc_table.specs.Counted.{Counted, IsRead, Rests, begun, readings_of, shard_at}
 use Rattle.arc_table.specs.Fronts.{item_at, list_at, put, with_at, without_item}
 use Rattle.arc_table.specs.Geometry.{IsBucket, IsCell, IsShard, bucket_turn, cell_number, parties_of, numbers_of, shard_turn, turns_of}
-use Rattle.arc_table.specs.Headed.{HasBlock, Headed, IsHead, Says}
+use Rattle.arc_table.specs.Headed.{HasBlock, Headed, IsHead}
 use Rattle.arc_table.specs.Items.{Meanings, claims_in, headers_in, holds_in, lines_in, shard_in}
 use Rattle.arc_table.specs.Logged.{IsOwn, IsSoundItem, IsSoundLog, Logged}
 use Rattle.arc_table.specs.Passed.{IsPassNoted, Passed}
 use Rattle.arc_table.specs.Rule.{Pact}
 use Rattle.arc_table.specs.Scene.{Scene}
-use Rattle.arc_table.specs.ShardGiving.{ActsFor, AreAlike, ArePassesNoted, IsActor, IsGivenShard, SameHead, after_shard, buckets_in, holds_through, ledger_through, listed_after, listed_through, mines_of, passes_in, readings_through}
+use Rattle.arc_table.specs.ShardGiving.{ActsFor, AreAlike, ArePassesNoted, IsActor, IsGivenShard, SameHead, after_shard, buckets_in, holds_through, ledger_through, listed_after, mines_of, passes_in, readings_through}
 use Rattle.arc_table.specs.AttachedLaws.{StillTaken, mine, theirs, attached_moved, free_taken, free_same}
-use Rattle.arc_table.specs.TableLaws.{at_here, at_else, item_here, list_here, list_else, same_at, there, within, without_else}
-use Rattle.arc_table.proofs.Appending.{AreMines, Appends, NewNoted, append_logged, append_passed, appended, owned, owned_new}
+use Rattle.arc_table.specs.TableLaws.{at_here, at_else, list_here, list_else, same_at, within, without_else}
+use Rattle.arc_table.proofs.Appending.{AreMines, Appends, append_logged, append_passed, appended, owned, owned_new}
 use Rattle.arc_table.proofs.Boards.{bucket_of, in_hand}
 use Rattle.arc_table.proofs.Bookings.{AllFar, AllNoMiss, AllNotOf, AllOwn, IsNoMiss, IsNotGiven, booked_through, holds_through_come, holds_through_else, holds_through_far, readings_through_come, readings_through_else, readings_through_far, readings_through_none}
 use Rattle.arc_table.proofs.Ranges.{bucket_range}
@@ -461,11 +460,11 @@ module _ {C : Type 0} (m : Meanings C) (law : IsBookedAfter) (b : Board (Item C)
           (λ q. let h = att.taken j k e in let same : h.0 ≡ w = same_at b.views n h.0 w (subst (λ (x : ℕ). get_elem? b.views x ≡ some h.0) q h.1) at in
           let recorded : item_at j w.records ≡ Some (s.now j) = ap (λ (y : Known C). item_at j y.records) (sym same) ∙ h.2 in
           mine q
-              (⊎_elim
-              (λ z. past_items j hand (without_item i w.records) z ∙ (without_else i j w.records far ∙ (recorded ∙ ap Some (sym (now_far j far z)))))
-              (λ z. front_items j hand z.0 (without_item i w.records) z.1 ∙ ap Some (sym (now_hand j z.0 z.1)))
-              (option_case (item_at j hand)))
-              (listed_at g before.now es j w.records (s.now j) w.listed w.listed recorded ∙ ap (listed_after g before.now es j) (ap (λ (y : Known C). list_at j y.listed) (sym same) ∙ h.3)))
+          (⊎_elim
+          (λ z. past_items j hand (without_item i w.records) z ∙ (without_else i j w.records far ∙ (recorded ∙ ap Some (sym (now_far j far z)))))
+          (λ z. front_items j hand z.0 (without_item i w.records) z.1 ∙ ap Some (sym (now_hand j z.0 z.1)))
+          (option_case (item_at j hand)))
+          (listed_at g before.now es j w.records (s.now j) w.listed w.listed recorded ∙ ap (listed_after g before.now es j) (ap (λ (y : Known C). list_at j y.listed) (sym same) ∙ h.3)))
           (λ q. let other : taken k ≢ taken n = λ r. q (let z : ◌≡◌ {A = Turn (Item C)} (taken k) (taken n) = r in cc) in theirs q e (now_far j far (away j (taken k) e other)) (kept_away j (taken k) e other))
 
   -- ---- headers
