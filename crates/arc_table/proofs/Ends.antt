@@ -1,22 +1,25 @@
 -- The values of a cache at its end: cells, then buckets, then shards.
-use Rattle.std.proofs.Common.{◌≡◌, ℕ, zero, suc, ◌+◌, ◌*◌, ◌<◌, ◌≤◌, List, [], ◌∷◌, ◌++◌, length, map, refl, sym, ap, ◌∙◌, subst, arith, length-append}
+use Rattle.std.proofs.Common.{◌≡◌, ℕ, zero, suc, ◌+◌, ◌*◌, ◌<◌, ◌≤◌, List, [], ◌∷◌, ◌++◌, length, map, refl, sym, ap, ◌∙◌, subst, inl, inr, arith, length-append}
+use mathlib.Core.Logic.{dite}
 use mathlib.Core.Option.{some, some-injective}
+use native.Mathlib.Decide.{ℕ_discrete}
 use lib.ListN.{get_elem?}
 use Rattle.hash_chain.specs.Chain.{Chain}
 use Rattle.arc_core.specs.ShardLog.{ShardLog}
 use Rattle.arc_core.specs.declared.config.Config.{Config}
 use Rattle.turn_table.specs.Board.{free, opening}
-use Rattle.turn_table.specs.Places.{Place, Row, AreFree, SomeHas, ShowAll}
-use Rattle.turn_table.specs.Places as places
+use Rattle.turn_table.specs.Places.{Place, AreFree, SomeHas, ShowAll, newcomers}
 use Rattle.arc_table.specs.declared.item.Item.{Item}
 use Rattle.arc_table.specs.declared.item.Item.TheVariants as item
 use Rattle.arc_table.specs.declared.view.Known.{Known}
 use Rattle.arc_table.specs.Attached.{IsKind}
-use Rattle.arc_table.specs.Cache.{Cache, IsCache, IsPartyOf}
+use Rattle.arc_table.specs.Cache.{Cache, all_newcomers}
 use Rattle.arc_table.specs.Ended.{Ended, AreAtRest, Ends, cells_in, chains_in, shards_in}
 use Rattle.arc_table.specs.Geometry.{parties_of, turns_of}
 use Rattle.arc_table.specs.Items.{Meanings}
 use Rattle.arc_table.specs.Rule.{Pact}
+use Rattle.arc_table.specs.Views.{newcomer}
+use Rattle.arc_table.specs.declared.about.About.{About}
 
 module _ {C : Type 0} (g : Config) where
   -- from the turn n on, each value is of its turn's kind
@@ -170,3 +173,19 @@ shards_long {C} g vs a long =
     let n_chains = a.chains in
     let total : length vs ≡ length (cells_in vs) + (length (chains_in vs) + length (shards_in vs)) = ap length a.are ∙ long_all (cells_in vs) (chains_in vs) (shards_in vs) in
     omega arith
+
+-- the parties of a new cache are at rest, and all are there
+module _ (C : Type 0) (cache : Cache) (about : About) (is : about.config ≡ cache.config) (row : cache.row.parties ≡ parties_of cache.config) where
+  rest_from : (n k : ℕ) → AreAtRest cache (newcomers cache.row.table (parties_of cache.config) (newcomer {C = C} about) n k)
+  rest_from n zero = tt
+  rest_from n (suc k) = (record { row = (refl, sym row); config = is }, refl, rest_from (suc n) k)
+
+  pub new_at_rest : AreAtRest cache (all_newcomers {C = C} cache about)
+  new_at_rest = rest_from 0 (parties_of cache.config)
+
+  has_from : (m n k : ℕ) → n ≤ m → m < n + k → SomeHas m (newcomers cache.row.table (parties_of cache.config) (newcomer {C = C} about) n k)
+  has_from m n zero from to = absurd (omega arith)
+  has_from m n (suc k) from to = dite (ℕ_discrete n m) (λ e. inl (inl e)) (λ ne. inr (has_from m (suc n) k (omega arith) (omega arith)))
+
+  pub new_all : (m : ℕ) → m < parties_of cache.config → SomeHas m (all_newcomers {C = C} cache about)
+  new_all m below = has_from m 0 (parties_of cache.config) (omega arith) (omega arith)

@@ -4,6 +4,7 @@ pub mod Boards
 pub mod CellGives
 pub mod Ranges
 pub mod Bookings
-pub mod Ends
 pub mod PassMines
 pub mod ShardGives
+pub mod BookedAfter
+pub mod Ends

@@ -1,5 +1,5 @@
 -- The lines that a party lists for events made, and the notes of its passes.
-use Rattle.std.proofs.Common.{◌≡◌, ◌≢◌, ◌⊎◌, ℕ, zero, suc, ◌+◌, ◌-◌, ◌<◌, ◌≤◌, List, [], ◌∷◌, ◌++◌, length, map, Bool, true, false, Option, Some, None, refl, sym, ap, ◌∙◌, subst, arith}
+use Rattle.std.proofs.Common.{◌≡◌, ℕ, zero, suc, ◌+◌, ◌<◌, ◌≤◌, List, [], ◌∷◌, length, Option, Some, None, refl, sym, ap, ◌∙◌, subst, arith}
 use Rattle.std.proofs.lemmas.Option.{none-some}
 use mathlib.Core.Option.{some, some-injective, some-ne-none}
 use lib.ListN.{get_elem?}
@@ -7,13 +7,11 @@ use Rattle.blk_ptr.specs.declared.key.Key.{Key}
 use Rattle.arc_core.specs.declared.config.Config.{Config}
 use Rattle.arc_core.specs.declared.event.Event.{Event}
 use Rattle.arc_core.specs.declared.event.Event.TheVariants.{Pass}
-use Rattle.arc_core.specs.Operations.{is_pass}
-use Rattle.arc_table.specs.declared.view.Line.{Line}
 use Rattle.arc_table.specs.declared.view.Line.TheVariants as line
 use Rattle.arc_table.specs.declared.view.Mine.{Mine}
 use Rattle.arc_table.specs.declared.view.Note.{Note}
 use Rattle.arc_table.specs.Geometry.{bucket_turn}
-use Rattle.arc_table.specs.Passed.{IsNoted, IsPassNoted}
+use Rattle.arc_table.specs.Passed.{IsPassNoted}
 use Rattle.arc_table.specs.ShardGiving.{ArePassesNoted, mines_of}
 use Rattle.arc_table.specs.Views.{note}
 use Rattle.arc_table.proofs.Appending.{AreMines}

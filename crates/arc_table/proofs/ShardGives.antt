@@ -1,5 +1,5 @@
 -- A shard is given back, with buckets in hand.
-use Rattle.std.proofs.Common.{◌≡◌, ◌≢◌, ◌⊎◌, ◌==◌, if◌then◌else◌, ℕ, zero, suc, ◌+◌, ◌-◌, ◌*◌, ◌<◌, ◌≤◌, List, [], ◌∷◌, ◌++◌, length, map, set, Bool, true, false, Option, Some, None, refl, sym, ap, ◌∙◌, subst, inl, inr, ⊎_elim, eq-eqb, ne_eqb, arith, length-set, length-append, lt_of_not-le}
+use Rattle.std.proofs.Common.{◌≡◌, ◌≢◌, ◌⊎◌, ◌==◌, if◌then◌else◌, ℕ, zero, suc, ◌+◌, ◌-◌, ◌<◌, ◌≤◌, List, [], ◌∷◌, ◌++◌, length, map, set, Bool, true, false, Option, Some, None, refl, sym, ap, ◌∙◌, subst, inl, inr, ⊎_elim, eq-eqb, ne_eqb, arith, length-set, lt_of_not-le}
 use Rattle.std.specs.Prelude.{IsTrue, MatchOption, nat_lt, not, ◌&&◌}
 use Rattle.blk_ptr.specs.declared.digest.Digest.{Digest}
 use Rattle.blk_ptr.specs.Ptr.{sha256_of}
@@ -27,18 +27,17 @@ use Rattle.arc_core.specs.declared.entry.Entry.{Entry}
 use Rattle.arc_core.specs.declared.event.Event.{Event}
 use Rattle.arc_core.specs.declared.event.Event.TheVariants.{Pass, Hit, Miss, Arrive, Fail, Drop, Past, Hand, Insert, Release, Pick, FeedEnd, Set, Leave, Clear, Restore, Resize}
 use Rattle.arc_core.specs.Keeps.{holds_on}
-use Rattle.arc_core.specs.Operations.{event_key, is_of_feed, number_of}
-use Rattle.arc_core.specs.PlainShard.{PlainShard, count_of, entry_key, entry_of, held_by, is_resident, numbers, opening_shard}
+use Rattle.arc_core.specs.Operations.{is_of_feed, number_of}
+use Rattle.arc_core.specs.PlainShard.{PlainShard, count_of, entry_key, entry_of, held_by, is_resident, numbers}
 use Rattle.arc_core.specs.Replay.{is_legal_history, replay}
-use Rattle.arc_core.specs.ShardLog.{ShardLog, IsReplayed}
+use Rattle.arc_core.specs.ShardLog.{ShardLog}
 use Rattle.arc_core.specs.Step.{after, legal}
 use Rattle.hash_chain.specs.Chain.{Chain, header_at}
 use Rattle.hash_chain.specs.declared.header.Header.{Header}
-use Rattle.turn_table.specs.Board.{Turn, free, taken, Board, IsAmong, IsFree, IsTaken, Knows}
+use Rattle.turn_table.specs.Board.{Turn, free, taken, Board, IsAmong, IsTaken, Knows}
 use Rattle.turn_table.specs.Moments.{MayGive, Stands}
 use Rattle.turn_table.specs.Places.{Place}
 use Rattle.turn_table.proofs.Moments.{taken_at}
-use Rattle.arc_table.specs.declared.about.About.{About}
 use Rattle.arc_table.specs.declared.item.Item.{Item}
 use Rattle.arc_table.specs.declared.item.Item.TheVariants as item
 use Rattle.arc_table.specs.declared.view.Known.{Known}
@@ -52,16 +51,16 @@ use Rattle.arc_table.specs.Booking.{AreBooked, IsBookedAfter}
 use Rattle.arc_table.specs.Counted.{Counted, IsRead, Rests, begun, readings_of, shard_at}
 use Rattle.arc_table.specs.Fronts.{item_at, list_at, put, with_at, without_item}
 use Rattle.arc_table.specs.Geometry.{IsBucket, IsCell, IsShard, bucket_turn, cell_number, parties_of, numbers_of, shard_turn, turns_of}
-use Rattle.arc_table.specs.Headed.{HasBlock, Headed, IsHead, Says}
+use Rattle.arc_table.specs.Headed.{HasBlock, Headed, IsHead}
 use Rattle.arc_table.specs.Items.{Meanings, claims_in, headers_in, holds_in, lines_in, shard_in}
 use Rattle.arc_table.specs.Logged.{IsOwn, IsSoundItem, IsSoundLog, Logged}
 use Rattle.arc_table.specs.Passed.{IsPassNoted, Passed}
 use Rattle.arc_table.specs.Rule.{Pact}
 use Rattle.arc_table.specs.Scene.{Scene}
-use Rattle.arc_table.specs.ShardGiving.{ActsFor, AreAlike, ArePassesNoted, IsActor, IsGivenShard, SameHead, after_shard, buckets_in, holds_through, ledger_through, listed_after, listed_through, mines_of, passes_in, readings_through}
+use Rattle.arc_table.specs.ShardGiving.{ActsFor, AreAlike, ArePassesNoted, IsActor, IsGivenShard, SameHead, after_shard, buckets_in, holds_through, ledger_through, listed_after, mines_of, passes_in, readings_through}
 use Rattle.arc_table.specs.AttachedLaws.{StillTaken, mine, theirs, attached_moved, free_taken, free_same}
-use Rattle.arc_table.specs.TableLaws.{at_here, at_else, item_here, list_here, list_else, same_at, there, within, without_else}
-use Rattle.arc_table.proofs.Appending.{AreMines, Appends, NewNoted, append_logged, append_passed, appended, owned, owned_new}
+use Rattle.arc_table.specs.TableLaws.{at_here, at_else, list_here, list_else, same_at, within, without_else}
+use Rattle.arc_table.proofs.Appending.{AreMines, Appends, append_logged, append_passed, appended, owned, owned_new}
 use Rattle.arc_table.proofs.Boards.{bucket_of, in_hand}
 use Rattle.arc_table.proofs.Bookings.{AllFar, AllNoMiss, AllNotOf, AllOwn, IsNoMiss, IsNotGiven, booked_through, holds_through_come, holds_through_else, holds_through_far, readings_through_come, readings_through_else, readings_through_far, readings_through_none}
 use Rattle.arc_table.proofs.Ranges.{bucket_range}
@@ -133,7 +132,7 @@ head_alike (Some e) (Some e') (Some h) same head = record {
 
 -- ---- numbers past all that a shard knows
 
-entry_sound : (k : Key) (xs : List Entry) (e : Entry) → AllByRecursion IsSoundEntry xs → by_key.item_at entry_key k xs ≡ Some e → IsSoundEntry e
+pub entry_sound : (k : Key) (xs : List Entry) (e : Entry) → AllByRecursion IsSoundEntry xs → by_key.item_at entry_key k xs ≡ Some e → IsSoundEntry e
 entry_sound k [] e all h = absurd (none-some e h)
 entry_sound k (x ∷ xs) e all h = by_test (entry_sound k xs e all.1) (key_eq x.key k) h
   where

@@ -61,3 +61,19 @@ fn a_new_cache_has_no_headers(rt: HostRuntime) -> Result<(), Fail> {
     assert!(rt; look.header().is_none());
     Ok(())
 }
+
+#[test]
+fn a_new_cache_is_closed_without_events(rt: HostRuntime) -> Result<(), Fail> {
+    let cells = vec![in rt.alloc(); Plain]?;
+    let made = Arcs::new(rt.alloc(), &SMALL, cells);
+    let (arcs, parties) = made.ok().ok_or("memory")?;
+    let closed = arcs.close(parties).ok().ok_or("memory")?;
+    assert!(rt; closed.shards().len() == 1 && closed.cells().len() == 1);
+    assert!(rt;
+        closed
+            .shards()
+            .iter()
+            .all(|shard| shard.history().is_empty())
+    );
+    Ok(())
+}

@@ -1,6 +1,5 @@
-use Rattle.std.proofs.Common.{◌≡◌, ◌++◌, ◌+◌, ◌≤◌, ℕ, ◌<◌, length, vec_len, vec_capacity, List, [], ◌∷◌, sym, ap, ◌∙◌, subst, arith}
+use Rattle.std.proofs.Common.{◌≡◌, ◌++◌, ◌+◌, ◌≤◌, length, vec_len, vec_capacity, List, [], ◌∷◌, sym, ap, ◌∙◌, subst, arith}
 use mathlib.Core.List.{append_assoc, append-nil}
-use Rattle.arc_core.specs.ShardLog.{ShardLog}
 use Rattle.arc_table.specs.declared.item.Item.{Item}
 use Rattle.arc_table.specs.declared.item.Item.TheVariants as item
 use Rattle.arc_table.specs.Ended.{cells_in, shards_in}

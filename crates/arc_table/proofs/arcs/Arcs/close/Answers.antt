@@ -1,9 +1,6 @@
-use Rattle.std.proofs.Common.{◌≡◌, ◌++◌, ◌+◌, ◌≤◌, ℕ, ◌<◌, length, vec_len, vec_capacity, List, [], sym, ap, ◌∙◌, subst, arith}
-use Rattle.turn_table.specs.Places.{Place, SomeHas}
-use Rattle.arc_core.specs.declared.config.Config.{Config}
-use Rattle.arc_table.specs.declared.view.Known.{Known}
+use Rattle.std.proofs.Common.{◌≡◌, ◌++◌, ◌+◌, ◌≤◌, ℕ, ◌<◌, length, vec_len, vec_capacity, sym, ap, ◌∙◌, subst, arith}
 use Rattle.arc_table.specs.Cache.{Cache}
-use Rattle.arc_table.specs.Ended.{AreAtRest, Ended, Ends, cells_in, shards_in}
+use Rattle.arc_table.specs.Ended.{AreAtRest, Ends, cells_in, shards_in}
 use Rattle.arc_table.specs.Geometry.{parties_of, turns_of}
 use Rattle.arc_table.specs.Items.{Meanings, meanings}
 use Rattle.arc_table.proofs.Ends.{AreAll, rest_free, values_are, shards_long, ends}
