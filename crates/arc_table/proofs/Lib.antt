@@ -5,3 +5,4 @@ pub mod CellGives
 pub mod Ranges
 pub mod Bookings
 pub mod Ends
+pub mod Rows
