@@ -89,7 +89,7 @@ module _ {C : Type 0} (m : Meanings C) where
   cell_of g i (item.Bucket b) kind h = let k = kind.0 in absurd (omega arith)
   cell_of g i (item.Shard l) kind h = let k = kind.0 in absurd (omega arith)
 
-  bucket_of : (g : Config) (i : ℕ) (v : Item C) → IsKind g i v → IsBucket g i → (b : Chain) × (v ≡ item.Bucket b)
+  pub bucket_of : (g : Config) (i : ℕ) (v : Item C) → IsKind g i v → IsBucket g i → (b : Chain) × (v ≡ item.Bucket b)
   bucket_of g i (item.Cell cell) kind h = let k = h.0 in absurd (omega arith)
   bucket_of g i (item.Bucket b) kind h = (b, refl)
   bucket_of g i (item.Shard l) kind h = let k = h.1 in let k' = kind.0 in absurd (omega arith)

@@ -1,5 +1,5 @@
 -- What events do to the lists of holds and readings of a number, and that they go on to agree with the shard.
-use Rattle.std.proofs.Common.{◌≡◌, ◌≢◌, ◌⊎◌, ◌==◌, if◌then◌else◌, ℕ, zero, suc, ◌+◌, ◌<◌, List, [], ◌∷◌, ◌++◌, length, Bool, true, false, cond, Option, Some, None, refl, sym, ap, ◌∙◌, subst, inl, inr, ⊎_elim, ne_eqb, arith}
+use Rattle.std.proofs.Common.{◌≡◌, ◌≢◌, ◌⊎◌, ◌==◌, if◌then◌else◌, ℕ, zero, suc, ◌+◌, List, [], ◌∷◌, Bool, true, false, cond, Option, Some, None, refl, sym, ap, ◌∙◌, subst, inl, inr, ⊎_elim, ne_eqb, arith}
 use Rattle.std.specs.Prelude.{IsTrue, ◌&&◌}
 use Rattle.std.proofs.lemmas.List.Sums.{sum_by-cons}
 use mathlib.Core.Option.{some, some-injective, some-ne-none}
@@ -135,14 +135,14 @@ readings_cons k x ks = sum_by-cons (λ (j : Key). cond (key_eq k j) 1 0) x ks
 nothing : (b : Bool) (n : ℕ) → b ≡ false → cond b 1 0 + n ≡ n
 nothing b n h = subst (λ c. cond c 1 0 + n ≡ n) (sym h) (omega arith)
 
-with_else : (k j : Key) (o : Option Digest) (hs : List Ptr) → key_eq k j ≡ false → holds_on k (with_hold j o hs) ≡ holds_on k hs
+pub with_else : (k j : Key) (o : Option Digest) (hs : List Ptr) → key_eq k j ≡ false → holds_on k (with_hold j o hs) ≡ holds_on k hs
 with_else k j None hs h = refl
 with_else k j (Some d) hs h = holds_cons k record { key = j; digest = d } hs ∙ nothing (key_eq k j) (holds_on k hs) h
 
 far_same : (k j i : Key) → key_eq j i ≡ true → key_eq k j ≡ false → key_eq k i ≡ false
 far_same k j i e h = subst (λ (x : Key). key_eq k x ≡ false) (key_eq-is j i e) h
 
-without_else : (k j : Key) (hs : List Ptr) → key_eq k j ≡ false → holds_on k (without_hold j hs) ≡ holds_on k hs
+pub without_else : (k j : Key) (hs : List Ptr) → key_eq k j ≡ false → holds_on k (without_hold j hs) ≡ holds_on k hs
 without_else k j [] h = refl
 without_else k j (x ∷ hs) h = by_test (without_else k j hs h) (key_eq j x.key) refl
   where
@@ -150,7 +150,7 @@ without_else k j (x ∷ hs) h = by_test (without_else k j hs h) (key_eq j x.key)
     by_test ih true e = let f = far_same k j x.key e h in sym (holds_cons k x hs ∙ nothing (key_eq k x.key) (holds_on k hs) f)
     by_test ih false e = holds_cons k x (without_hold j hs) ∙ (ap (λ n. cond (key_eq k x.key) 1 0 + n) ih ∙ sym (holds_cons k x hs))
 
-reading_else : (k j : Key) (ks : List Key) → key_eq k j ≡ false → readings_of k (without_reading j ks) ≡ readings_of k ks
+pub reading_else : (k j : Key) (ks : List Key) → key_eq k j ≡ false → readings_of k (without_reading j ks) ≡ readings_of k ks
 reading_else k j [] h = refl
 reading_else k j (x ∷ ks) h = by_test (reading_else k j ks h) (key_eq j x) refl
   where
@@ -229,7 +229,7 @@ from_with j None hs q h e = inr (q, e)
 from_with j (Some d) hs zero h e = inl (ap (λ (x : Ptr). x.key) (some-injective record { key = j; digest = d } h e))
 from_with j (Some d) hs (suc q) h e = inr (q, e)
 
-from_without : (j : Key) (hs : List Ptr) (q : ℕ) (h : Ptr) → get_elem? (without_hold j hs) q ≡ some h → (r : ℕ) × (get_elem? hs r ≡ some h)
+pub from_without : (j : Key) (hs : List Ptr) (q : ℕ) (h : Ptr) → get_elem? (without_hold j hs) q ≡ some h → (r : ℕ) × (get_elem? hs r ≡ some h)
 from_without j [] q h e = absurd (some-ne-none h (sym e))
 from_without j (x ∷ hs) q h e = by_test (λ r f. from_without j hs r h f) (key_eq j x.key) q e
   where
@@ -238,7 +238,7 @@ from_without j (x ∷ hs) q h e = by_test (λ r f. from_without j hs r h f) (key
     by_test ih false zero f = (0, f)
     by_test ih false (suc q) f = let r = ih q f in (suc r.0, r.1)
 
-reading_without : (j : Key) (ks : List Key) (q : ℕ) (k : Key) → get_elem? (without_reading j ks) q ≡ some k → (r : ℕ) × (get_elem? ks r ≡ some k)
+pub reading_without : (j : Key) (ks : List Key) (q : ℕ) (k : Key) → get_elem? (without_reading j ks) q ≡ some k → (r : ℕ) × (get_elem? ks r ≡ some k)
 reading_without j [] q k e = absurd (some-ne-none k (sym e))
 reading_without j (x ∷ ks) q k e = by_test (λ r f. reading_without j ks r k f) (key_eq j x) q e
   where
@@ -261,7 +261,7 @@ holds_come m s (Hand n k to) hs q h =
     let left : List Ptr = if m == n then without_hold k hs else hs in
     let was : (r : ℕ) → get_elem? left r ≡ some h → (t : ℕ) × (get_elem? hs t ≡ some h) = λ r. there_both (m == n) (λ (l : List Ptr). get_elem? l r ≡ some h → (t : ℕ) × (get_elem? hs t ≡ some h)) (without_hold k hs) hs (λ e. from_without k hs r h e) (λ e. (r, e)) in
     there_both (m == to) (λ (l : List Ptr). get_elem? l q ≡ some h → ComesOf (Hand n k to) hs h) (with_hold k (digest_at k s) left) left
-        (λ e. ⊎_elim (λ p. inl (ap Some p)) (λ r. inr (was r.0 r.1)) (from_with k (digest_at k s) left q h e)) (λ e. inr (was q e))
+    (λ e. ⊎_elim (λ p. inl (ap Some p)) (λ r. inr (was r.0 r.1)) (from_with k (digest_at k s) left q h e)) (λ e. inr (was q e))
 holds_come m s (Pass n k owner) hs q h = λ e. inr (q, e)
 holds_come m s (Miss n k t) hs q h = λ e. inr (q, e)
 holds_come m s (Fail n k at) hs q h = λ e. inr (q, e)
@@ -274,7 +274,7 @@ holds_come m s (Clear n k) hs q h = λ e. inr (q, e)
 holds_come m s (Restore n k place d) hs q h = λ e. inr (q, e)
 holds_come m s (Resize n c) hs q h = λ e. inr (q, e)
 
-begun_reading : (j : Key) (ks : List Key) (q : ℕ) (k : Key) → get_elem? (j ∷ ks) q ≡ some k → (j ≡ k) ⊎ ((r : ℕ) × (get_elem? ks r ≡ some k))
+pub begun_reading : (j : Key) (ks : List Key) (q : ℕ) (k : Key) → get_elem? (j ∷ ks) q ≡ some k → (j ≡ k) ⊎ ((r : ℕ) × (get_elem? ks r ≡ some k))
 begun_reading j ks zero k e = inl (some-injective j k e)
 begun_reading j ks (suc q) k e = inr (q, e)
 

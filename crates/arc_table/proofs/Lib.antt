@@ -4,5 +4,8 @@ pub mod Boards
 pub mod CellGives
 pub mod Ranges
 pub mod Bookings
+pub mod PassMines
+pub mod ShardGives
+pub mod BookedAfter
 pub mod Ends
 pub mod Rows

@@ -1,5 +1,5 @@
 -- What a party knows once it has given a shard back, and what it owes for that.
-use Rattle.std.specs.Prelude.{◌≡◌, ◌⊎◌, ℕ, zero, suc, ◌+◌, ◌-◌, ◌<◌, ◌≤◌, ◌==◌, if◌then◌else◌, nat_lt, IsTrue, List, [], ◌∷◌, ◌++◌, drop, length, map, count_by, Option, Some, None}
+use Rattle.std.specs.Prelude.{◌≡◌, ◌⊎◌, ℕ, suc, ◌-◌, ◌<◌, ◌==◌, if◌then◌else◌, nat_lt, IsTrue, List, [], ◌∷◌, ◌++◌, length, map, count_by, Option, Some, None}
 use mathlib.Core.Option.{some}
 use lib.ListN.{get_elem?}
 use Rattle.blk_ptr.specs.declared.key.Key.{Key}
@@ -122,19 +122,23 @@ ArePassesNoted g i len q notes (Pass n k owner ∷ es) = (get_elem? notes q ≡ 
 ArePassesNoted g i len q notes (_ ∷ es) = ArePassesNoted g i len q notes es
 
 module _ {C : Type 0} where
-  pub record IsGivenShard (p : Place (Known C)) (i : ℕ) (hand : List (ℕ × Chain)) (before : ShardLog) (es : List Event) (l : ShardLog) : Type 0 where
+  -- The party p, of a cache with this configuration, may give back the shard of the turn i, which was before and has made these events since, with these buckets in hand
+  pub record IsGivenShard (g : Config) (p : Place (Known C)) (i : ℕ) (hand : List (ℕ × Chain)) (before : ShardLog) (es : List Event) (l : ShardLog) : Type 0 where
     pub recorded : item_at i p.own.records ≡ Some (item.Shard before)
+    pub listed : list_at i p.own.listed ≡ []
     pub history : l.history ≡ before.history ++ es
     pub opening : l.opening ≡ before.opening
     pub replayed : IsReplayed l
     pub passed : l.now.passed ≡ []
-    pub actors : (j : ℕ) (e : Event) → get_elem? es j ≡ some e → IsActor p.own.about.config p.number p.held i e
-    -- the buckets in hand are the party's, and have the headers of their keys; other keys' entries look as they did
-    pub in_hand : (j : ℕ) (b : Chain) → item_at j hand ≡ Some b → IsAmong j p.held × IsBucket p.own.about.config j
-    pub heads_in : (k : Key) (b : Chain) → i ≡ shard_turn p.own.about.config k → item_at (bucket_turn p.own.about.config k) hand ≡ Some b → IsHead (entry_of k l.now) (header_at k b.headers)
-    pub heads_out : (k : Key) → i ≡ shard_turn p.own.about.config k → item_at (bucket_turn p.own.about.config k) hand ≡ None → SameHead (entry_of k before.now) (entry_of k l.now)
-    pub own_headers : (j : ℕ) (b : Chain) (k : Key) (h : Header) → item_at j hand ≡ Some b → header_at k b.headers ≡ Some h → j ≡ bucket_turn p.own.about.config k
+    pub actors : (j : ℕ) (e : Event) → get_elem? es j ≡ some e → IsActor g p.number p.held i e
+    -- the shard has entries of its own keys alone
+    pub own_entries : (k : Key) (e : Entry) → entry_of k l.now ≡ Some e → i ≡ shard_turn g k
+    -- the buckets in hand are the party's, are of this shard, and have the headers of their keys; other keys' entries look as they did
+    pub in_hand : (j : ℕ) (b : Chain) → item_at j hand ≡ Some b → IsAmong j p.held × IsBucket g j
+    pub in_shard : (k : Key) (b : Chain) → item_at (bucket_turn g k) hand ≡ Some b → i ≡ shard_turn g k
+    pub heads_in : (k : Key) (b : Chain) → item_at (bucket_turn g k) hand ≡ Some b → IsHead (entry_of k l.now) (header_at k b.headers)
+    pub heads_out : (k : Key) → i ≡ shard_turn g k → item_at (bucket_turn g k) hand ≡ None → SameHead (entry_of k before.now) (entry_of k l.now)
+    pub own_headers : (j : ℕ) (b : Chain) (k : Key) (h : Header) → item_at j hand ≡ Some b → header_at k b.headers ≡ Some h → j ≡ bucket_turn g k
     -- the passes have the notes that were taken last, and no earlier pass has one of them
-    pub enough : passes_in es ≤ length p.own.notes
-    pub noted : ArePassesNoted p.own.about.config i (length before.history) (length p.own.notes - passes_in es) p.own.notes es
+    pub noted : ArePassesNoted g i (length before.history) (length p.own.notes - passes_in es) p.own.notes es
     pub fresh : (j y : ℕ) (a : Mine) → get_elem? p.own.mine j ≡ some a → a.note ≡ Some y → y < length p.own.notes - passes_in es
