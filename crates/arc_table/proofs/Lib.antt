@@ -8,3 +8,4 @@ pub mod PassMines
 pub mod ShardGives
 pub mod BookedAfter
 pub mod Ends
+pub mod Rows
