@@ -106,5 +106,5 @@ module _ {D : Type 0} (tells : D → Option (List ℕ)) (has_sectors : D → Boo
         record { sector = w.sector; blocks = leading h.plan p.blocks; kept = staying h.plan p.kept },
         begun_leaves tells has_sectors leaves moment since n h.plan old new cursor after p header w.sector b,
         begun_kept tells has_sectors leaves moment since n h.plan old new cursor after p header w.sector b kept.image kept.told
-        (flushed_of (tells old) kept.image (λ image. HasFlushed tells leaves new (put 0 w.sector image)) kept.told done),
+            (flushed_of (tells old) kept.image (λ image. HasFlushed tells leaves new (put 0 w.sector image)) kept.told done),
       )

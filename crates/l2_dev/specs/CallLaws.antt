@@ -179,7 +179,7 @@ module _ {D : Type 0} (tells : D → Option (List ℕ)) (has_sectors : D → Boo
         pending = (
           subst (λ (n : ℕ). bytes_at (put at k.bytes image) at n ≡ k.bytes) len (put_there at k.bytes image inside),
           all_kept_aside at (length k.bytes) image (put at k.bytes image) p.pending (put_torn at k.bytes image inside) aside
-          (subst (λ (bytes : List ℕ). AllByRecursion (IsKeptIn bytes) p.pending) same kept.pending),
+              (subst (λ (bytes : List ℕ). AllByRecursion (IsKeptIn bytes) p.pending) same kept.pending),
         );
         backed = λ c left. (λ (b : IsBacked p c). let r : IsBacked (with_put k p) c = record { left = b.left; blocks = b.blocks; kept = b.kept } in r) (torn_in_ring old cursor p at k.bytes kept writes c (wrote.torn kept.sectors c left));
         good = subst (λ (e : ℕ). AreGood e p.kept p.candidates) (sym f.end) kept.good;
@@ -245,7 +245,7 @@ module _ {D : Type 0} (tells : D → Option (List ℕ)) (has_sectors : D → Boo
       cover = (
         ([], [], sym (append-nil (staying plan p.kept))),
         all_weaker (λ (k : Candidate). Covers k.kept p.kept) (λ (k : Candidate). Covers k.kept (staying plan p.kept)) p.candidates
-        (λ k c. taken_covers n plan cursor after p k.kept b.taken b.kept.upheld c) b.kept.good.cover,
+            (λ k c. taken_covers n plan cursor after p k.kept b.taken b.kept.upheld c) b.kept.good.cover,
       );
     }
 

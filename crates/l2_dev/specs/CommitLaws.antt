@@ -78,7 +78,7 @@ passed_stay numbers [] here = tt
 passed_stay numbers (v ∷ vs) here = (
   here.0,
   all_append (Stays numbers) (map range_of (valid_of numbers v)) (passed_ranges numbers vs)
-  (all_map (Stays numbers) range_of (valid_of numbers v) (valid_stay_if numbers v.ptr.place (told_by v))) (passed_stay numbers vs here.1),
+      (all_map (Stays numbers) range_of (valid_of numbers v) (valid_stay_if numbers v.ptr.place (told_by v))) (passed_stay numbers vs here.1),
 )
 
 -- ranges in their order behind others that are all newer
@@ -158,8 +158,8 @@ new_valid numbers hand place further [] start at le new = tt
 new_valid numbers hand place further (w ∷ ws) start at le new =
     let f = new.0.from in let t = new.0.to in (
       and_from (stays (with_hand numbers further) w) (leb (w.live.place + w.live.key.size) place)
-      (tells_stays (with_hand numbers further) (range_of w) (inl (record { begins = omega arith; ends = omega arith }, new.0.lap)))
-      (le-leb (w.live.place + w.live.key.size) place (omega arith)),
+          (tells_stays (with_hand numbers further) (range_of w) (inl (record { begins = omega arith; ends = omega arith }, new.0.lap)))
+          (le-leb (w.live.place + w.live.key.size) place (omega arith)),
       new_valid numbers hand place further ws start at le new.1,
     )
 

@@ -136,9 +136,9 @@ taken_covers n plan old new p restored t up covers =
       covers.0,
       front.0 ++ covers.1,
       covers.2 ∙ ap (λ (ks : List Kept). covers.0 ++ ks ++ covers.1) front.1
-      ∙ append_assoc covers.0 (staying plan p.kept ++ front.0) covers.1
-      ∙ ap (λ (ks : List Kept). covers.0 ++ ks) (append_assoc (staying plan p.kept) front.0 covers.1)
-      ∙ sym (append_assoc covers.0 (staying plan p.kept) (front.0 ++ covers.1)),
+          ∙ append_assoc covers.0 (staying plan p.kept ++ front.0) covers.1
+          ∙ ap (λ (ks : List Kept). covers.0 ++ ks) (append_assoc (staying plan p.kept) front.0 covers.1)
+          ∙ sym (append_assoc covers.0 (staying plan p.kept) (front.0 ++ covers.1)),
     )
 
 -- a header of version 2 with the cursor's numbers and pointers
@@ -223,9 +223,11 @@ committed_upheld v old new p candidates h up =
     record {
       linked = (h.newest, subst (λ (o : Option LogPtr). IsLinked o v.block.prev p.blocks) (sym h.second) (subst (λ (o : Option LogPtr). IsLinked old.newest o p.blocks) (sym h.prev) up.linked));
       placed = subst (λ (e : ℕ). AllByRecursion (IsPlaced e (numbers_from new)) (v ∷ p.blocks)) (sym h.end)
-          (subst (λ (q : Plan). AllByRecursion (IsPlaced old.ring.end q) (v ∷ p.blocks)) to
-          (h.ring, all_weaker (IsPlaced old.ring.end base) (IsPlaced old.ring.end (with_hand base further)) p.blocks
-          (λ u was. record { ring = was.ring; part = stays_further base further (block_range u) le was.part; count = was.count }) up.placed));
+          (subst (λ (q : Plan). AllByRecursion (IsPlaced old.ring.end q) (v ∷ p.blocks)) to (
+            h.ring,
+            all_weaker (IsPlaced old.ring.end base) (IsPlaced old.ring.end (with_hand base further)) p.blocks
+                (λ u was. record { ring = was.ring; part = stays_further base further (block_range u) le was.part; count = was.count }) up.placed,
+          ));
       ordered = subst (λ (q : Plan). IsOrderly q (v ∷ p.blocks)) to (orderly_with base hand further v p.blocks (omega arith) h.fresh blocks up.ordered);
       same = subst (λ (q : Plan). firsts (found_in q (v ∷ p.blocks)) ≡ firsts (map written_of (p.pending ++ p.kept))) to
           (ap (λ (ws : List Written). firsts ws) (found_with base hand further v p.blocks (omega arith) h.fresh blocks)

@@ -31,8 +31,8 @@ restored_front numbers vs rest =
     let p = firsts_prefix (found_in numbers vs) (found_in numbers rest) in (
       map restored_of p.0,
       ap (λ (ws : List Written). map restored_of (firsts ws)) (flat_map-append (valid_of numbers) vs rest)
-      ∙ ap (λ (ws : List Written). map restored_of ws) p.1
-      ∙ map-append restored_of (firsts (found_in numbers vs)) p.0,
+          ∙ ap (λ (ws : List Written). map restored_of ws) p.1
+          ∙ map-append restored_of (firsts (found_in numbers vs)) p.0,
     )
 
 header_of_both : (end : ℕ) (sector : List ℕ) (a b : DevHeader) → IsHeaderOf end sector a → IsHeaderOf end sector b → a ≡ b

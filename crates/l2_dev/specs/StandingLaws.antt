@@ -99,7 +99,7 @@ passed_bytes_of : (numbers : Plan) (v : Visit) → HaveBytes (block_range v ∷ 
 passed_bytes_of numbers v = (
   omega arith,
   all_map (λ (r : Range). 0 < r.size) range_of (valid_of numbers v)
-  (filter_all (λ (w : Written). 0 < w.live.key.size) (is_valid numbers v.ptr.place) (told_by v) (told_bytes v)),
+      (filter_all (λ (w : Written). 0 < w.live.key.size) (is_valid numbers v.ptr.place) (told_by v) (told_bytes v)),
 )
 
 pub passed_bytes : (numbers : Plan) (vs : List Visit) → HaveBytes (passed_ranges numbers vs)
@@ -129,7 +129,7 @@ valid_alike : (ring : RingState) (n : ℕ) (plan : Plan) (place : ℕ) (ws : Lis
 valid_alike ring n plan place [] for below some = tt
 valid_alike ring n plan place (w ∷ ws) for below some = (
   and_if (stays plan w) (stays (numbers_of ring) w) (leb (w.live.place + w.live.key.size) place)
-  (λ e. tells_stays (numbers_of ring) (range_of w) (stayed_before ring n plan (range_of w) for below some.0 (stays_tells plan (range_of w) e))),
+      (λ e. tells_stays (numbers_of ring) (range_of w) (stayed_before ring n plan (range_of w) for below some.0 (stays_tells plan (range_of w) e))),
   valid_alike ring n plan place ws for below some.1,
 )
 
@@ -263,9 +263,9 @@ map_append_ordered : (xs : List Written) (rs : List Range) → IsInOrder (map ra
 map_append_ordered [] rs ordered ys among rest = rest
 map_append_ordered (x ∷ xs) rs ordered ys among rest = (
   all_map (IsOlder (range_of x)) range_of (xs ++ ys)
-  (all_append (λ (w : Written). IsOlder (range_of x) (range_of w)) xs ys
-  (all_unmap (IsOlder (range_of x)) range_of xs (all_left (IsOlder (range_of x)) (map range_of xs) rs ordered.0))
-  (among (IsOlder (range_of x)) (all_right (IsOlder (range_of x)) (map range_of xs) rs ordered.0))),
+      (all_append (λ (w : Written). IsOlder (range_of x) (range_of w)) xs ys
+      (all_unmap (IsOlder (range_of x)) range_of xs (all_left (IsOlder (range_of x)) (map range_of xs) rs ordered.0))
+      (among (IsOlder (range_of x)) (all_right (IsOlder (range_of x)) (map range_of xs) rs ordered.0))),
   map_append_ordered xs rs ordered.1 ys among rest,
 )
 
