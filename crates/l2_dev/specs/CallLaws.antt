@@ -20,7 +20,7 @@ use Rattle.l2_dev.specs.Standing.{Candidate, Kept, written_of, IsNamed, IsCandid
 use Rattle.l2_dev.specs.Cursor.{CursorState, numbers_from}
 use Rattle.l2_dev.specs.Promise.{Promise, IsUpheld, IsBacked, IsOf, AreGood, IsKept, LeftAmong, LeavesOnlyWith, Covers, kept_range}
 use Rattle.l2_dev.specs.PromiseLaws.{left_by, with_block, HasTaken, taken_upheld, taken_covers, HasCommitted, committed_upheld, IsHeaderFrom, upheld_named, kept_inside}
-use Rattle.l2_dev.specs.Steps.{TornFrom, Wrote}
+use Rattle.l2_dev.specs.Steps.{TornFrom, Wrote, HasFlushed}
 use Rattle.l2_dev.specs.StepLaws.{any_two, backed_in_ring, backed_by_header, blocks_behind, entries_behind, left_among, leaves_from, leaves_on, leaves_wider}
 use Rattle.l2_dev.specs.StandingLaws.{leading_all}
 use Rattle.l2_ring.specs.Stays.{stays}
@@ -36,6 +36,34 @@ told_written at bytes (Some old) (Some new) result w image e = (new, refl)
 
 some_same : (a b : List ℕ) (o : Option (List ℕ)) → o ≡ Some a → o ≡ Some b → a ≡ b
 some_same a b o x y = let e : Some a ≡ Some b = sym x ∙ y in cc
+
+-- a write in the ring, while blocks may be put
+pub record WritesInRing (cursor : CursorState) (at : ℕ) (bytes : List ℕ) : Type 0 where
+  pub ready : cursor.ready ≡ true
+  pub from : cursor.base ≤ at
+  pub to : at + length bytes ≤ cursor.ring.evict
+  pub far : header_len ≤ at
+
+-- what is pending is forgotten, with the hand as it was at the base
+pub record HasForgotten (old new : CursorState) : Type 0 where
+  pub end : new.ring.end ≡ old.ring.end
+  pub numbers : numbers_from new ≡ numbers_from old
+  pub live : new.ring.live ≡ old.ring.live
+  pub newest : new.newest ≡ old.newest
+  pub second : new.second ≡ old.second
+  pub pending : new.pending ≡ []
+  pub ready : new.ready ≡ false
+
+-- one more entry is pending, behind the others
+pub record HasPut (k : Kept) (old new : CursorState) : Type 0 where
+  pub end : new.ring.end ≡ old.ring.end
+  pub numbers : numbers_from new ≡ numbers_from old
+  pub lap : new.ring.lap ≡ old.ring.lap
+  pub live : new.ring.live ≡ old.ring.live
+  pub newest : new.newest ≡ old.newest
+  pub second : new.second ≡ old.second
+  pub ready : new.ready ≡ old.ready
+  pub pending : map (written_in old.ring.lap) (reverse new.pending) ≡ k.written ∷ map (written_in old.ring.lap) (reverse old.pending)
 
 module _ {D : Type 0} (tells : D → Option (List ℕ)) (has_sectors : D → Bool) (leaves : D → List ℕ → Type 0) (moment : D → ℕ) (since : D → ℕ → List ℕ → Type 0) where
   -- one write
@@ -74,13 +102,6 @@ module _ {D : Type 0} (tells : D → Option (List ℕ)) (has_sectors : D → Boo
   kept_among : (device : D) (cursor : CursorState) (p : Promise) → IsKept tells has_sectors leaves device cursor p → (c : List ℕ) → leaves device c → LeftAmong cursor.ring.end p.candidates c
   kept_among device cursor p kept c left = left_among cursor.ring.end p.candidates c kept.good.each (kept.backed c left).left
 
-  -- a write in the ring, while blocks may be put
-  pub record WritesInRing (cursor : CursorState) (at : ℕ) (bytes : List ℕ) : Type 0 where
-    pub ready : cursor.ready ≡ true
-    pub from : cursor.base ≤ at
-    pub to : at + length bytes ≤ cursor.ring.evict
-    pub far : header_len ≤ at
-
   torn_in_ring : (old : D) (cursor : CursorState) (p : Promise) (at : ℕ) (bytes : List ℕ) → IsKept tells has_sectors leaves old cursor p → WritesInRing cursor at bytes
       → (c : List ℕ) → TornFrom (leaves old) at bytes c → IsBacked p c
   torn_in_ring old cursor p at bytes kept writes c torn =
@@ -92,16 +113,6 @@ module _ {D : Type 0} (tells : D → Option (List ℕ)) (has_sectors : D → Boo
       leaves_from tells has_sectors leaves moment since at bytes old new (LeftAmong cursor.ring.end p.candidates) wrote kept.sectors
       (λ c left. kept_among old cursor p kept c (plain.now_only c kept.sectors left))
       (λ c torn. left_among cursor.ring.end p.candidates c kept.good.each (torn_in_ring old cursor p at bytes kept writes c torn).left)
-
-  -- what is pending is forgotten, with the hand as it was at the base
-  pub record HasForgotten (old new : CursorState) : Type 0 where
-    pub end : new.ring.end ≡ old.ring.end
-    pub numbers : numbers_from new ≡ numbers_from old
-    pub live : new.ring.live ≡ old.ring.live
-    pub newest : new.newest ≡ old.newest
-    pub second : new.second ≡ old.second
-    pub pending : new.pending ≡ []
-    pub ready : new.ready ≡ false
 
   forgotten_upheld : (old new : CursorState) (p : Promise) (candidates : List Candidate) → HasForgotten old new → IsUpheld old p → IsUpheld new (forgotten p candidates)
   forgotten_upheld old new p candidates f up =
@@ -136,17 +147,6 @@ module _ {D : Type 0} (tells : D → Option (List ℕ)) (has_sectors : D → Boo
         good = subst (λ (e : ℕ). AreGood e p.kept p.candidates) (sym f.end) kept.good;
         begun = λ yes. not_ready after (AllByRecursion (IsOf p.blocks p.kept) p.candidates) f.ready yes;
       }
-
-  -- one more entry is pending, behind the others
-  pub record HasPut (k : Kept) (old new : CursorState) : Type 0 where
-    pub end : new.ring.end ≡ old.ring.end
-    pub numbers : numbers_from new ≡ numbers_from old
-    pub lap : new.ring.lap ≡ old.ring.lap
-    pub live : new.ring.live ≡ old.ring.live
-    pub newest : new.newest ≡ old.newest
-    pub second : new.second ≡ old.second
-    pub ready : new.ready ≡ old.ready
-    pub pending : map (written_in old.ring.lap) (reverse new.pending) ≡ k.written ∷ map (written_in old.ring.lap) (reverse old.pending)
 
   put_upheld : (k : Kept) (old new : CursorState) (p : Promise) → HasPut k old new → IsUpheld old p → IsUpheld new (with_put k p)
   put_upheld k old new p f up =
@@ -205,11 +205,6 @@ module _ {D : Type 0} (tells : D → Option (List ℕ)) (has_sectors : D → Boo
 
   header_there : (image sector : List ℕ) → length sector ≡ header_len → header_len ≤ length image → first_sector (put 0 sector image) ≡ sector
   header_there image sector len long = subst (λ (n : ℕ). bytes_at (put 0 sector image) 0 n ≡ sector) len (put_there 0 sector image (omega arith))
-
-  -- the device after the header was flushed: it leaves one image
-  pub record HasFlushed (new : D) (image : List ℕ) : Type 0 where
-    pub told : tells new ≡ Some image
-    pub only : LeavesOnly image (leaves new)
 
   -- the one image that is left has the header in its first sector
   one_candidate : (q : Promise) (k : Candidate) (c : List ℕ) → first_sector c ≡ k.sector → k.blocks ≡ q.blocks → k.kept ≡ q.kept → IsBacked q c → IsLeftBy c k
@@ -287,7 +282,7 @@ module _ {D : Type 0} (tells : D → Option (List ℕ)) (has_sectors : D → Boo
           begun = λ yes. not_ready after (AllByRecursion (IsOf (leading plan p.blocks) (staying plan p.kept)) (begun_candidate plan p sector ∷ p.candidates)) shut yes;
         }
 
-    pub begun_kept : (image : List ℕ) → tells old ≡ Some image → HasFlushed new (put 0 sector image) → IsKept tells has_sectors leaves new after (left_by plan p (begun_candidate plan p sector ∷ []))
+    pub begun_kept : (image : List ℕ) → tells old ≡ Some image → HasFlushed tells leaves new (put 0 sector image) → IsKept tells has_sectors leaves new after (left_by plan p (begun_candidate plan p sector ∷ []))
     begun_kept image was flushed =
         let k : Candidate = begun_candidate plan p sector in
         let long = b.writes.plain.long image (b.writes.plain.told_left image was) in
@@ -321,7 +316,7 @@ module _ {D : Type 0} (tells : D → Option (List ℕ)) (has_sectors : D → Boo
     pub aside : EntriesAside cursor.ring.hand (length bytes) p.pending
     pub held : IsHeld (put cursor.ring.hand bytes image) v
     pub first : Wrote tells has_sectors leaves moment since cursor.ring.hand bytes old mid
-    pub flushed : HasFlushed mid (put cursor.ring.hand bytes image)
+    pub flushed : HasFlushed tells leaves mid (put cursor.ring.hand bytes image)
     pub committed : HasCommitted v cursor after
     pub header_from : IsHeaderFrom after header
     pub is : IsHeader sector header
@@ -413,7 +408,7 @@ module _ {D : Type 0} (tells : D → Option (List ℕ)) (has_sectors : D → Boo
         }
 
     -- where it was written and flushed
-    pub com_kept : HasFlushed new (put 0 sector com_image) → header_len ≤ length com_image → IsKept tells has_sectors leaves new after (with_block v p (committed_candidate v p sector ∷ []))
+    pub com_kept : HasFlushed tells leaves new (put 0 sector com_image) → header_len ≤ length com_image → IsKept tells has_sectors leaves new after (with_block v p (committed_candidate v p sector ∷ []))
     com_kept flushed long =
         let k : Candidate = committed_candidate v p sector in
         let there : first_sector (put 0 sector com_image) ≡ sector = header_there com_image sector b.writes.len long in

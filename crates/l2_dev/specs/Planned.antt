@@ -1,5 +1,6 @@
 -- What the steps of a cursor do.
-use Rattle.std.specs.Prelude.{◌≡◌, ℕ, ◌+◌, ◌<◌, ◌≤◌, List, [], ◌++◌, map, length, Option, Some}
+use Rattle.l2_log.specs.declared.entry.Entry.{Entry}
+use Rattle.std.specs.Prelude.{◌≡◌, ℕ, ◌+◌, ◌<◌, ◌≤◌, List, [], ◌∷◌, ◌++◌, false, map, length, Option, Some}
 use Rattle.std.specs.List.{filter}
 use Rattle.blk_ptr.specs.Ptr.{sha256_of}
 use Rattle.l2_log.specs.Rules.{log_len}
@@ -57,3 +58,31 @@ pub record HasSettled (ptr : LogPtr) (old new : CursorState) : Type 0 where
   pub second : new.second ≡ old.newest
   pub pending : new.pending ≡ []
   pub ready : new.ready ≡ old.ready
+
+-- one more entry is pending, and the hand has passed its block
+pub record HasPushed (entry : Entry) (old new : CursorState) : Type 0 where
+  pub pending : new.pending ≡ old.pending ++ entry ∷ []
+  pub hand : new.ring.hand ≡ old.ring.hand + entry.key.size
+  pub end : new.ring.end ≡ old.ring.end
+  pub evict : new.ring.evict ≡ old.ring.evict
+  pub top : new.ring.top ≡ old.ring.top
+  pub lap : new.ring.lap ≡ old.ring.lap
+  pub live : new.ring.live ≡ old.ring.live
+  pub base : new.base ≡ old.base
+  pub newest : new.newest ≡ old.newest
+  pub second : new.second ≡ old.second
+  pub ready : new.ready ≡ old.ready
+
+-- nothing is pending, and the hand stands at the base
+pub record IsForgotten (old new : CursorState) : Type 0 where
+  pub pending : new.pending ≡ []
+  pub hand : new.ring.hand ≡ old.base
+  pub end : new.ring.end ≡ old.ring.end
+  pub evict : new.ring.evict ≡ old.ring.evict
+  pub top : new.ring.top ≡ old.ring.top
+  pub lap : new.ring.lap ≡ old.ring.lap
+  pub live : new.ring.live ≡ old.ring.live
+  pub base : new.base ≡ old.base
+  pub newest : new.newest ≡ old.newest
+  pub second : new.second ≡ old.second
+  pub ready : new.ready ≡ false

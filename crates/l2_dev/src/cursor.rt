@@ -1,9 +1,10 @@
 //! Where the device is written: the ring, the pointers of the next header, and the entries that no log block tells of yet.
 ghost use Rattle.std.specs.Prelude.{◌≡◌, ℕ, ◌+◌, ◌<◌, ◌≤◌, ◌++◌, [], ◌∷◌, length, map, true, false, vec_len, OnOk, OnErr, Some};
-ghost use Rattle.std.specs.List.{filter};
+ghost use Rattle.std.specs.List.{All, filter};
+ghost use Rattle.l2_dev.specs.Restoring.{written_in};
 ghost use Rattle.std.specs.Vec.{vec_capacity};
 ghost use Rattle.l2_log.specs.Rules.{ring_start, log_len, is_there, most_with};
-ghost use Rattle.l2_ring.specs.Ring.{IsRoom, IsPlan, IsPlanFor, HasPlan, IsSameRing, IsSound, with_hand};
+ghost use Rattle.l2_ring.specs.Ring.{IsRoom, IsPlan, IsPlanFor, HasPlan, IsLower, IsSameRing, IsSound, with_hand};
 ghost use Rattle.l2_ring.specs.Stays.{stays, falls, live_of};
 
 use blk_ptr::NoMemory;
@@ -11,6 +12,7 @@ use l2_log::{DevHeader, Entries, Entry, LOG_LEN, LogBlock, LogPtr, VERSION};
 use l2_ring::{Live, Ring};
 use std::alloc::Global;
 use std::marker::Model;
+use std::mem;
 
 /// The ring and what is to be written to it. Contracts see them as one record.
 #[derive(Debug, Drop)]
@@ -42,10 +44,22 @@ impl Model for Cursor {
     ghost invariant = { λ cursor. IsCursor cursor.ring cursor.base cursor.pending.items cursor.ready };
 }
 
+/// Adds the entries, which lie in the lower part, to the live ones.
+fn add_all(ring: &mut Ring, entries: &[Entry])
+    requires room { length entries.now ≤ ring.old.spare }
+    requires lower { All (λ entry. IsLower ring.old entry.place entry.key.size) entries.now }
+    ensures numbers { IsSameRing ring.old ring.new }
+    ensures live { ring.new.live ≡ ring.old.live ++ map (written_in ring.old.lap) entries.now }
+{
+    for entry in entries {
+        let Entry { key, place, digest } = *entry;
+        ring.add(Live { key, place, digest });
+    }
+}
+
 impl Cursor {
     ghost use Rattle.l2_dev.specs.Cursor.{numbers_from, IsCursor};
-    ghost use Rattle.l2_dev.specs.Restoring.{written_in};
-    ghost use Rattle.l2_dev.specs.Planned.{HasPlanned, IsHeaderWith, IsBlockOf, HasSettled};
+    ghost use Rattle.l2_dev.specs.Planned.{HasPlanned, IsHeaderWith, IsBlockOf, HasPushed, IsForgotten, HasSettled};
     ghost use Rattle.l2_dev.specs.PromiseLaws.{IsHeaderFrom};
 
     /// The cursor of this ring with these pointers: nothing is pending.
@@ -144,11 +158,8 @@ impl Cursor {
         requires digest { is_there entry.digest ≡ true }
         requires room { self.old.ring.hand + entry.key.size + log_len ≤ self.old.ring.evict }
         requires few { length self.old.pending < most_with true }
-        ensures pushed { OnOk result (self.new.pending ≡ self.old.pending ++ entry ∷ []) }
-        ensures hand { OnOk result (self.new.ring.hand ≡ self.old.ring.hand + entry.key.size) }
-        ensures numbers { (self.new.ring.end ≡ self.old.ring.end) × (self.new.ring.evict ≡ self.old.ring.evict) × (self.new.ring.top ≡ self.old.ring.top) × (self.new.ring.lap ≡ self.old.ring.lap) }
-        ensures live { self.new.ring.live ≡ self.old.ring.live }
-        ensures same { (self.new.base ≡ self.old.base) × (self.new.newest ≡ self.old.newest) × (self.new.second ≡ self.old.second) × (self.new.ready ≡ self.old.ready) }
+        ensures kept { OnErr result (self.new ≡ self.old) }
+        ensures pushed { OnOk result (HasPushed entry self.old self.new) }
     {
         self.pending.push(entry)?;
         self.ring.advance(entry.key.size);
@@ -157,15 +168,57 @@ impl Cursor {
 
     /// Forgets what is pending: the hand goes back to where the last commit, or else the last begin, left it.
     pub(crate) fn forget(&mut self)
-        ensures pending { self.new.pending ≡ [] }
-        ensures hand { self.new.ring.hand ≡ self.old.base }
-        ensures ready { self.new.ready ≡ false }
-        ensures numbers { (self.new.ring.end ≡ self.old.ring.end) × (self.new.ring.evict ≡ self.old.ring.evict) × (self.new.ring.top ≡ self.old.ring.top) × (self.new.ring.lap ≡ self.old.ring.lap) }
-        ensures live { self.new.ring.live ≡ self.old.ring.live }
-        ensures same { (self.new.base ≡ self.old.base) × (self.new.newest ≡ self.old.newest) × (self.new.second ≡ self.old.second) }
+        ensures forgotten { IsForgotten self.old self.new }
     {
         self.pending.clear();
         self.ready = false;
         self.ring.rewind(self.base);
+    }
+
+    /// Takes the room that the pending entries will want among the live ones.
+    pub(crate) fn reserve(&mut self) -> Result<(), NoMemory>
+        ensures ring { IsSameRing self.old.ring self.new.ring }
+        ensures live { self.new.ring.live ≡ self.old.ring.live }
+        ensures same { (self.new.base ≡ self.old.base) × (self.new.newest ≡ self.old.newest) × (self.new.second ≡ self.old.second) × (self.new.pending ≡ self.old.pending) × (self.new.ready ≡ self.old.ready) }
+        ensures room { OnOk result (length self.old.pending ≤ self.new.ring.spare) }
+    {
+        self.ring.reserve(self.pending.len())
+    }
+
+    /// Writes the log block of the pending entries, and answers the pointer to it, for the place behind their blocks.
+    pub(crate) fn write_block(&mut self, alloc: Global, out: &mut [u8]) -> LogPtr
+        requires len { length out.old ≡ log_len }
+        requires some { 0 < length self.old.pending }
+        ensures same { self.new ≡ self.old }
+        ensures block { (block : _) × IsBlockOf self.old out.new result block }
+    {
+        let pending = mem::replace(&mut self.pending, Vec::new(alloc));
+        let block = LogBlock {
+            version: VERSION,
+            lap: self.ring.lap(),
+            prev: self.second,
+            entries: Entries::new(pending),
+        };
+        let written = block.write(out);
+        self.pending = block.entries.into_vec();
+        LogPtr {
+            place: self.ring.hand(),
+            count: written.count,
+            digest: written.digest,
+        }
+    }
+
+    /// Makes the pending entries live, once their log block stands behind their blocks.
+    pub(crate) fn settle(&mut self, ptr: LogPtr)
+        requires some { 0 < length self.old.pending }
+        requires room { length self.old.pending ≤ self.old.ring.spare }
+        ensures settled { HasSettled ptr self.old self.new }
+    {
+        self.ring.advance(LOG_LEN as u64);
+        add_all(&mut self.ring, &self.pending);
+        self.pending.clear();
+        self.base = self.ring.hand();
+        self.second = self.newest;
+        self.newest = Some(ptr);
     }
 }

@@ -2,11 +2,14 @@
 #![tactic(auto)]
 
 mod cursor;
+mod device;
 mod fault;
 mod report;
 mod restored;
 mod stop;
+mod write;
 
+pub use device::L2Dev;
 pub use fault::DevErr;
 pub use report::{FeedReport, FeedStop};
 pub use restored::Restored;

@@ -2,7 +2,6 @@
 use Rattle.std.proofs.Common.{◌≡◌, ℕ, ◌+◌, ◌*◌, ◌<◌, ◌≤◌, zero, suc, refl, inl, inr, List, [], ◌∷◌, ◌++◌, length, Bool, true, false, Option, None, Some, ap, subst, sym, ◌∙◌, arith}
 use Rattle.std.proofs.lemmas.Bool.{cases_lt, cases_order, false≢true}
 use Rattle.std.proofs.lemmas.List.Elements.{All-head, All-tail}
-use Rattle.std.specs.List.{All}
 use Rattle.blk_ptr.specs.declared.digest.Digest.{Digest}
 use Rattle.l2_log.specs.declared.entry.Entry.{Entry}
 use Rattle.l2_log.specs.declared.fault.LogFault.{LogFault}

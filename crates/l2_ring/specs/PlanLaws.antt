@@ -6,7 +6,7 @@ use Rattle.std.proofs.lemmas.Bool.{cases_lt, false≢true, leb-true, le-leb, eqb
 use Rattle.std.specs.List.{AllByRecursion}
 use Rattle.l2_log.specs.Rules.{ring_start, log_len}
 use Rattle.l2_ring.specs.declared.plan.Plan.{Plan}
-use Rattle.l2_ring.specs.Ring.{RingState, IsSound, IsPlanFor, numbers_of, with_hand, last_lap, straight_plan, wrapped_plan}
+use Rattle.l2_ring.specs.Ring.{RingState, IsPlanFor, numbers_of, with_hand, last_lap}
 use Rattle.l2_ring.specs.Stays.{lies_within, stays_at}
 use Rattle.l2_ring.specs.Ranges.{Range, IsWithin, Stays, IsOlder, IsInOrder}
 

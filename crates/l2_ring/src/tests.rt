@@ -125,6 +125,7 @@ fn room_for_one_entry(rt: HostRuntime) {
 #[test]
 fn parts_of_a_ring_of_a_header(rt: HostRuntime) {
     let header = l2_log::DevHeader {
+        version: 2,
         end: END,
         hand: 70_144,
         evict: 136_192,

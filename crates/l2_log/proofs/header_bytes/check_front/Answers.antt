@@ -1,4 +1,4 @@
-use Rattle.std.proofs.Common.{sym, ◌∙◌}
+use Rattle.std.proofs.Common.{◌∙◌}
 use Rattle.l2_log.proofs.header_bytes.check_front.Goals as goal
 
 pub returns-then-word_at-ne-MAGIC : goal.returns-then-word_at-ne-MAGIC

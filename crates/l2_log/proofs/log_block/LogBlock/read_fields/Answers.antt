@@ -1,4 +1,4 @@
-use Rattle.std.proofs.Common.{arith, ◌∙◌}
+use Rattle.std.proofs.Common.{◌∙◌}
 use Rattle.std.proofs.lemmas.Result.{err_from_is_err_and}
 use Rattle.l2_log.proofs.Pointers.{pointer_rule}
 use Rattle.l2_log.proofs.Logs.{broken_entries, broken_log_end}
