@@ -9,3 +9,4 @@ pub mod ShardGives
 pub mod BookedAfter
 pub mod Ends
 pub mod Rows
+pub mod HandHeads
