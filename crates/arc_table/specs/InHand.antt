@@ -1,0 +1,7 @@
+-- The buckets that a call has in hand, each by its turn.
+use Rattle.std.specs.Prelude.{ℕ, List, ◌∷◌, map}
+use Rattle.hash_chain.specs.Chain.{Chain}
+use Rattle.arc_table.specs.declared.hand.Hand.{Hand}
+
+abbrev pub buckets_of : Hand → List (ℕ × Chain)
+buckets_of hand = (hand.own.turn, hand.own.bucket) ∷ map (λ t. (t.turn, t.bucket)) hand.victims.items
