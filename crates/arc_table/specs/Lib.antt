@@ -17,6 +17,7 @@ pub mod RuleLaws
 pub mod Booking
 pub mod Cache
 pub mod Giving
+pub mod InHand
 pub mod Looking
 pub mod ShardGiving
 pub mod Opening

@@ -6,6 +6,7 @@ mod arcs;
 mod cells;
 mod closed;
 mod gives;
+mod hand;
 mod item;
 mod look;
 mod looks;
