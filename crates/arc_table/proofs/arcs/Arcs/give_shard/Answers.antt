@@ -15,5 +15,5 @@ give_with-requires-clause-rule g c =
     let hand = c.args.hand.now in
     let same = ap (λ (x : Cache). x.config) c.self.view_is in
     given_shard m booked_after c.args.party.now c.args.turn (buckets_of hand) hand.before.value (made_since hand.before.value c.args.shard) c.args.shard c.requires.given
-        (subst (λ (x : Config). IsShard x c.args.turn) (sym c.requires.party.config) c.requires.range)
-        (subst IsConfig (same ∙ sym c.requires.party.config) c.self.invariant.valid)
+    (subst (λ (x : Config). IsShard x c.args.turn) (sym c.requires.party.config) c.requires.range)
+    (subst IsConfig (same ∙ sym c.requires.party.config) c.self.invariant.valid)
