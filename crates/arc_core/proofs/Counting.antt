@@ -1,5 +1,5 @@
 -- How many holds each event takes and gives back, and that what is held keeps its bytes.
-use Rattle.std.proofs.Common.{◌≡◌, ℕ, zero, suc, ◌+◌, ◌-◌, ◌<◌, ◌≤◌, Bool, true, false, not, ◌&&◌, ◌||◌, if◌then◌else◌, ◌==◌, nat_lt, IsTrue, List, [], ◌∷◌, length, sum, set, get_or, Option, Some, None, is_some, is_none, inl, inr, refl, sym, ap, subst, ◌∙◌, arith, get_or-set_other, get_or-set_same}
+use Rattle.std.proofs.Common.{◌≡◌, ℕ, zero, suc, ◌+◌, ◌-◌, ◌<◌, ◌≤◌, ◌^◌, Bool, true, false, not, ◌&&◌, ◌||◌, if◌then◌else◌, ◌==◌, nat_lt, IsTrue, List, [], ◌∷◌, length, sum, set, get_or, Option, Some, None, is_some, is_none, inl, inr, refl, sym, ap, subst, ◌∙◌, arith, get_or-set_other, get_or-set_same}
 use Rattle.std.specs.List.{list_all}
 use Rattle.std.specs.Option.{option_and_then, option_map, option_map_or}
 use Rattle.std.proofs.lemmas.Bool.{eqb-true, false≢true}
@@ -24,12 +24,13 @@ use Rattle.arc_core.specs.Changes.{one_less, one_more}
 use Rattle.arc_core.specs.Changing.{HasBytes, entry_after, gained, handed, hold_for, lost, placed_at, without_place}
 use Rattle.arc_core.specs.Operations.{event_key, is_about}
 use Rattle.arc_core.specs.Rules.{access, accessed}
-use Rattle.arc_core.specs.Sound.{IsSound, IsSoundEntry, fits_state}
+use Rattle.arc_core.specs.Sound.{IsSound, IsSoundEntry, IsTidy, fits_state}
 use Rattle.arc_core.specs.Sparing.{IsSpared, may_go}
 use Rattle.arc_core.specs.Step.{after, agree, arrived, entry_to_read, hit_entry, holds, is_missing, is_new_here, is_without_bytes, legal, may_come_from, reads, restored_entry, written_entry}
 use Rattle.arc_core.proofs.Accesses.{accessed-keeps, unheld-held}
 use Rattle.arc_core.proofs.Evictions.{entry_of-is, or_other, passes}
-use Rattle.arc_core.proofs.Legal.{cell-lt, entry_is-and, number-lt}
+use Rattle.arc_core.specs.Owed.{owed_of}
+use Rattle.arc_core.proofs.Legal.{Holding, cell-lt, entry_is-and, held-le, holding, number-lt, owed-item}
 use Rattle.arc_core.proofs.Others.{own-entry, sparing}
 use Rattle.arc_core.proofs.Sparing.{spared-held}
 
@@ -80,6 +81,15 @@ held-one_less m n e lt some = elim (cases_true (m == n)) [
       let none : one_if m n ≡ 0 = rw differs refl in
       omega (arith, get_or-set_other e.holds n m (get_or e.holds n 0 - 1) 0 apart, none)
 ]
+
+-- a count of which a hold is handed over has room to rise
+pub hand-count : (n : ℕ) (k : Key) (to : ℕ) (s : PlainShard) (e : Entry) → IsTidy s → Some e ≡ entry_of k s → IsTrue (legal s (Hand n k to)) → owed_of s < 2 ^ 63 → held_by to (one_less n e) + 1 < 2 ^ 64
+hand-count n k to s e tidy is ok few =
+    let rest = and_right (is_number n) _ ok in
+    let h = holding n k s e tidy is (and_left _ _ ok) (and_right (is_cell to) _ rest) in
+    let lt = cell-lt to (and_left (is_cell to) _ rest) in
+    let less = held-one_less to n e (omega (arith, h.at.sound.numbers, h.lt)) h.some in
+    omega (arith, less, held-le to e (omega (arith, h.at.sound.numbers, lt)), owed-item k s.entries e h.at.item, few)
 
 -- the one hold that there is
 held-sole : (m n : ℕ) (e : Entry) → n < length e.holds → m < length e.holds → holds_of e ≡ 1 → 0 < held_by n e → held_by m e ≡ one_if m n

@@ -1,12 +1,16 @@
 -- The picks of a feed, and the passed keys of a scan: what is chosen is wanted, and no key is picked twice.
-use Rattle.std.proofs.Common.{◌≡◌, ℕ, ◌+◌, ◌*◌, Bool, true, false, not, ◌&&◌, if◌then◌else◌, nat_le, IsTrue, List, [], ◌∷◌, ◌++◌, reverse, Option, Some, None, is_some, inl, inr, refl, sym, ap, subst, ◌∙◌}
-use Rattle.std.specs.List.{list_all}
+use Rattle.std.proofs.Common.{◌≡◌, ℕ, suc, ◌+◌, ◌*◌, ◌<◌, ◌≤◌, length, get_or, arith, Bool, true, false, not, ◌&&◌, if◌then◌else◌, nat_le, IsTrue, List, [], ◌∷◌, ◌++◌, reverse, Option, Some, None, is_some, inl, inr, refl, sym, ap, subst, ◌∙◌}
+use Rattle.std.specs.List.{list_all, position_from}
+use Rattle.std.specs.Prelude.{sum_by, remove}
+use Rattle.std.proofs.lemmas.List.Sums.{sum_by-cons}
+use Rattle.std.proofs.lemmas.Bool.Decides.{nat_tests}
 use Rattle.std.specs.Option.{option_map_or, option_and_then}
 use Rattle.std.proofs.lemmas.Bool.{false≢true}
 use Rattle.blk_ptr.specs.declared.key.Key.{Key}
 use Rattle.blk_ptr.specs.Order.{key_eq, key_lt}
 use Rattle.blk_ptr.proofs.Keys.{key_eq-is, key_eq-sym}
-use Rattle.arc_lists.specs.ByKey.{item_at, with_item, without}
+use Rattle.arc_lists.specs.ByKey.{has_key, item_at, with_item, without}
+use Rattle.arc_lists.specs.Sequences.{stands_on}
 use Rattle.arc_lists.specs.Room.{or_else}
 use Rattle.arc_lists.proofs.Standing.{and_left, and_right, both, not_true, not_true_is}
 use Rattle.arc_lists.proofs.Tables.{cases_true, some_is}
@@ -15,7 +19,7 @@ use Rattle.arc_core.specs.declared.entry.Phase.{Phase}
 use Rattle.arc_core.specs.declared.entry.Phase.TheVariants.{Idle, Picking, Writing}
 use Rattle.arc_core.specs.PlainShard.{PlainShard, is_passed, place_of}
 use Rattle.arc_core.specs.Candidate.{candidate, chosen, may_be_picked, picked_bytes, walk}
-use Rattle.arc_core.specs.Changes.{pick_of, without_pick, writing_phase}
+use Rattle.arc_core.specs.Changes.{pick_of, pick_place, without_pick, writing_phase}
 use Rattle.arc_core.specs.Sound.{are_distinct_picks, fits_phase}
 
 -- ---- what is chosen is wanted
@@ -123,3 +127,79 @@ all-with_key test k (x ∷ xs) passes all = elim (cases_true (key_lt k x)) [
   | inl below ↦ rw below (both (test k) _ passes all)
   | inr other ↦ rw other (both (test x) _ (and_left _ _ all) (all-with_key test k xs passes (and_right (test x) _ all)))
 ]
+
+-- ---- where a pick stands
+
+pub has_key-stands : (k : Key) (ks : List Key) → has_key (λ x. x) k ks ≡ stands_on k ks
+has_key-stands k [] = refl
+has_key-stands k (x ∷ xs) = elim (cases_true (key_eq x k)) [
+  | inl same ↦ rw same refl
+  | inr differs ↦ rw differs (has_key-stands k xs)
+]
+
+-- the pick of the key stands here
+pub record PickAt (k : Key) (picks : List Picked) (i : ℕ) : Type 0 where
+  pub within : i < length picks
+  pub removed : remove picks i ≡ without_pick k picks
+  pub size : (d : Picked) → sum_by (λ (pick : Picked). pick.key.size) (without_pick k picks) + (get_or picks i d).key.size ≡ sum_by (λ (pick : Picked). pick.key.size) picks
+
+pick-from : (k : Key) (n : ℕ) (picks : List Picked) (m : ℕ) → position_from (λ (pick : Picked). key_eq pick.key k) n picks ≡ Some m → (i : ℕ) × (m ≡ n + i) × PickAt k picks i
+pick-from k n [] m is = cc
+pick-from k n (x ∷ xs) m is = elim (cases_true (key_eq x.key k)) [
+  | inl same ↦
+      let here : n ≡ m = some_is (rw same at is) in (
+        0,
+        omega (arith, here),
+        record {
+          within = omega arith;
+          removed = rw same refl;
+          size = λ d. rw same (omega (arith, sum_by-cons (λ (pick : Picked). pick.key.size) x xs));
+        },
+      )
+  | inr differs ↦
+      let rest = pick-from k (n + 1) xs m (rw differs at is) in (
+        suc rest.0,
+        omega (arith, rest.1),
+        record {
+          within = omega (arith, rest.2.within);
+          removed = rw differs (ap (λ l. x ∷ l) rest.2.removed);
+          size = λ d. rw differs (omega (arith, rest.2.size d, sum_by-cons (λ (pick : Picked). pick.key.size) x xs, sum_by-cons (λ (pick : Picked). pick.key.size) x (without_pick k xs)));
+        },
+      )
+]
+
+pub pick-at : (k : Key) (picks : List Picked) (i : ℕ) → pick_place k picks ≡ Some i → PickAt k picks i
+pick-at k picks i is =
+    let at = pick-from k 0 picks i is in
+    subst (PickAt k picks) (let same : at.0 ≡ i = omega (arith, at.1) in same) at.2
+
+nowhere-from : (k : Key) (n : ℕ) (picks : List Picked) → position_from (λ (pick : Picked). key_eq pick.key k) n picks ≡ None → without_pick k picks ≡ picks
+nowhere-from k n [] is = refl
+nowhere-from k n (x ∷ xs) is = elim (cases_true (key_eq x.key k)) [
+  | inl same ↦ let none : Some n ≡ None = rw same at is in cc
+  | inr differs ↦ rw differs (ap (λ l. x ∷ l) (nowhere-from k (n + 1) xs (rw differs at is)))
+]
+
+pub pick-nowhere : (k : Key) (picks : List Picked) → pick_place k picks ≡ None → without_pick k picks ≡ picks
+pick-nowhere k picks is = nowhere-from k 0 picks is
+
+-- what a candidate and the picks have together is within the bound of one feed
+pub candidate-within : (s : PlainShard) (k : Key) → candidate s ≡ Some k → picked_bytes s + k.size ≤ s.bounds.write_max
+candidate-within s k is = go (chosen s) is
+  where
+    inside : (x : Key) → (if nat_le (picked_bytes s + x.size) s.bounds.write_max then Some x else None) ≡ Some k → picked_bytes s + k.size ≤ s.bounds.write_max
+    inside x h = elim (cases_true (nat_le (picked_bytes s + x.size) s.bounds.write_max)) [
+      | inl fits ↦
+          let le : picked_bytes s + x.size ≤ s.bounds.write_max = grind (arith, nat_tests) in
+          subst (λ j. picked_bytes s + j.size ≤ s.bounds.write_max) (some_is (rw fits at h)) le
+      | inr over ↦ let none : None ≡ Some k = rw over at h in cc
+    ]
+
+    go : (o : Option Key) → option_and_then (λ x. if nat_le (picked_bytes s + x.size) s.bounds.write_max then Some x else None) o ≡ Some k → picked_bytes s + k.size ≤ s.bounds.write_max
+    go None h = cc
+    go (Some x) h = inside x h
+
+pub bytes-append : (picks : List Picked) (pick : Picked) → sum_by (λ (p : Picked). p.key.size) (picks ++ pick ∷ []) ≡ sum_by (λ (p : Picked). p.key.size) picks + pick.key.size
+bytes-append [] pick = refl
+bytes-append (x ∷ xs) pick =
+    omega (arith, bytes-append xs pick, sum_by-cons (λ (p : Picked). p.key.size) x xs, sum_by-cons (λ (p : Picked). p.key.size) x (xs ++ pick ∷ []))

@@ -173,7 +173,7 @@ owed-dropped k s = go (is_some (place_of k s))
     go true = omega (arith, owed-kept k (λ e. record e { state = L2Only }) s.entries (λ e. refl))
     go false = owed-without_le k s.entries
 
-owed-evicting : (n z : ℕ) (s : PlainShard) → owed_in (evicting n z s).entries ≡ owed_in s.entries
+pub owed-evicting : (n z : ℕ) (s : PlainShard) → owed_in (evicting n z s).entries ≡ owed_in s.entries
 owed-evicting zero z s = refl
 owed-evicting (suc n) z s = go (next_evicted z s) (λ k. owed-evicting n z (evicted k s) ∙ owed-evicted k s)
   where
@@ -181,7 +181,7 @@ owed-evicting (suc n) z s = go (next_evicted z s) (λ k. owed-evicting n z (evic
     go None rest = refl
     go (Some k) rest = rest k
 
-owed-trimming : (n : ℕ) (s : PlainShard) → owed_in (trimming n s).entries ≤ owed_in s.entries
+pub owed-trimming : (n : ℕ) (s : PlainShard) → owed_in (trimming n s).entries ≤ owed_in s.entries
 owed-trimming zero s = omega arith
 owed-trimming (suc n) s = go (next_dropped s) (λ k. both (owed-trimming n (dropped k s)) (owed-dropped k s))
   where

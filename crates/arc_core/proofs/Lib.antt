@@ -7,11 +7,16 @@ pub mod Feeding
 pub mod Frames
 pub mod Keeping
 pub mod Legal
+pub mod Making
 pub mod Others
+pub mod Owing
+pub mod Placing
+pub mod Scanning
 pub mod Soundness
 pub mod Sparing
 pub mod Stepping
 pub mod Tables
 pub mod Tidy
+pub mod Unpicking
 pub mod Victims
 mod WorkedRows

@@ -28,7 +28,7 @@ use Rattle.arc_core.proofs.Tidy.{IsTidy-gone}
 
 -- ---- a key stands on a sequence exactly where nobody holds its entry and its state has one
 
-abbrev standing : Entry → Bool
+abbrev pub standing : Entry → Bool
 standing e = is_unheld e && has_sequence e.state
 
 on_one : (u : Bool) (state : State) → ((u && is_same_state state Mru) || ((u && is_same_state state MruGhost) || ((u && is_same_state state Mfu) || (u && is_same_state state MfuGhost)))) ≡ (u && has_sequence state)

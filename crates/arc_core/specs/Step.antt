@@ -6,7 +6,7 @@ use Rattle.blk_ptr.specs.declared.digest.Digest.{Digest}
 use Rattle.blk_ptr.specs.declared.state.State.{State}
 use Rattle.blk_ptr.specs.declared.state.State.TheVariants.{Anon, Mru, MruGhost, Mfu, MfuGhost, L2Only}
 use Rattle.blk_ptr.specs.Key.{is_well_formed}
-use Rattle.blk_ptr.specs.Order.{key_eq, digest_eq}
+use Rattle.blk_ptr.specs.Order.{key_eq}
 use Rattle.blk_ptr.specs.State.{is_cached, is_ghost, is_same_state}
 use Rattle.arc_lists.specs.ByKey.{with_item}
 use Rattle.arc_lists.specs.Sequences.{stands}
@@ -25,6 +25,7 @@ use Rattle.arc_core.specs.PlainShard.{PlainShard, entry_of, entry_is, held_by, h
 use Rattle.arc_core.specs.Changes.{changed, come, given_back, gone, off_sequence, one_less, one_more, pick_of, settled, with_none_passed, writing_phase}
 use Rattle.arc_core.specs.Rules.{accessed, arrived_state, resized, trimmed, with_room, with_target_for}
 use Rattle.arc_core.specs.Candidate.{candidate}
+use Rattle.arc_core.specs.Digests.{same_digest}
 
 -- ---- words of the table
 
@@ -76,12 +77,6 @@ agree false b = not b
 -- it is this key
 abbrev pub is_key : Key → Key → Bool
 is_key k x = key_eq x k
-
--- two kept digests are one
-abbrev pub same_digest : Option Digest → Option Digest → Bool
-same_digest None None = true
-same_digest (Some a) (Some b) = digest_eq a b
-same_digest _ _ = false
 
 -- a picked key may gain a place: its entry is MRU, MFU or a ghost, at rest, has the digest that it was picked with, and no place
 abbrev pub may_be_placed : Picked → Entry → Bool

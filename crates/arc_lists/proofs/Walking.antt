@@ -19,7 +19,7 @@ use Rattle.arc_lists.specs.Queues.{AreSequencesOf, sequences_in}
 use Rattle.arc_lists.specs.Sequences.{Sequences, is_distinct, sequence_of, stands_on}
 use Rattle.arc_lists.specs.Walks.{ahead_of, first_of, next_to, oldest_first}
 use Rattle.arc_lists.proofs.Placing.{member-at}
-use Rattle.arc_lists.proofs.Standing.{and_left, and_right, not_true_is, or_left_false, or_right_false}
+use Rattle.arc_lists.proofs.Standing.{and_left, and_right, both, not_true, not_true_is, or_left_false, or_right_false}
 use Rattle.arc_lists.proofs.Tables.{cases_true, some_is}
 
 -- a key stands on a list turned round exactly where it stands on the list
@@ -110,3 +110,19 @@ newer-is l k s r t kept item is there =
     let at : item_at member_key k (members_of l.members.posts) ≡ Some (member k s.state) = member-at k l.members.posts s item in
     let same : s.state ≡ t = ap (λ m. m.state) (some_is (sym at ∙ kept.stated t k there)) in
     is ∙ ap (λ u. ahead_of None k (sequence_of u q)) same ∙ ahead-is-next k (sequence_of t q) (distinct-sequence t (members_of l.members.posts) q kept.listed) there
+
+-- no key stands twice on a list turned round
+distinct-end : (xs : List Key) (y : Key) → is_distinct xs ≡ true → stands_on y xs ≡ false → is_distinct (xs ++ y ∷ []) ≡ true
+distinct-end [] y once off = refl
+distinct-end (x ∷ xs) y once off =
+    let apart : key_eq y x ≡ false = key_eq-sym y x ∙ or_left_false (key_eq x y) _ off in
+    let rest = distinct-end xs y (and_right (not (stands_on x xs)) _ once) (or_right_false (key_eq x y) _ off) in
+    let alone : stands_on x xs ≡ false = not_true_is _ (and_left _ _ once) in
+    let absent : stands_on x (xs ++ y ∷ []) ≡ false = stands_on-end x xs y ∙ rw (alone, apart) refl in
+    both _ _ (not_true _ absent) rest
+
+pub distinct-reversed : (xs : List Key) → is_distinct xs ≡ true → is_distinct (reverse xs) ≡ true
+distinct-reversed [] once = refl
+distinct-reversed (x ∷ xs) once =
+    ap is_distinct (reverse-append (x ∷ []) xs)
+    ∙ distinct-end (reverse xs) x (distinct-reversed xs (and_right (not (stands_on x xs)) _ once)) (stands_on-reversed x xs ∙ not_true_is _ (and_left _ _ once))

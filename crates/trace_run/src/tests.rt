@@ -1,6 +1,7 @@
 //! Runs over a source, a sink and a pool in memory, with values from outside.
 
 mod histories;
+mod pages;
 mod rows;
 mod statuses;
 mod streams;
@@ -72,8 +73,9 @@ fn source_of(alloc: Global, text: &str, fail: &[u64]) -> Result<MemSource, Alloc
 }
 
 /// A pool of zero bytes, of which these calls fail.
-fn zeros(alloc: Global, len: usize, fail: &[u64]) -> Result<MemPool, AllocError> {
-    Ok(MemPool::new(vec![in alloc; 0; len]?, fail.to_vec(alloc)?))
+fn zeros(alloc: Global, len: usize, fail: &[u64]) -> Result<MemPool, Fail> {
+    let bytes = vec![in alloc; 0; len]?;
+    Ok(MemPool::new(alloc, bytes, fail.to_vec(alloc)?, Vec::new(alloc))?)
 }
 
 /// Does what the words ask, and gives what came of it and what was written. The sink takes at most `most` bytes a call.

@@ -1,6 +1,5 @@
 use Rattle.std.proofs.Common.{◌≡◌, ◌<◌, Some, length, sym, subst}
 use Rattle.std.specs.Prelude.{slice_get}
-use Rattle.hash_chain.specs.declared.header.Header.{Header}
 use Rattle.hash_chain.specs.Chain.{Chain, header_at}
 use Rattle.hash_chain.proofs.Headers.{found, get_value}
 use Rattle.hash_chain.proofs.bucket.Bucket.at.Goals as goal

@@ -1,9 +1,6 @@
-use Rattle.std.proofs.Common.{rules, ◌≡◌, ◌+◌, ◌≤◌, ℕ, ◌<◌, List, length, Some, None, IfSome, inl, sym, ap, ◌∙◌, subst, arith}
-use Rattle.std.specs.Prelude.{slice_get, slice_set, vec_len, vec_capacity}
-use Rattle.blk_ptr.specs.declared.key.Key.{Key}
-use Rattle.hash_chain.specs.declared.header.Header.{Header}
-use Rattle.hash_chain.specs.Chain.{Chain, header_at, IsWith}
-use Rattle.hash_chain.specs.Kept.{keys_of, AreOnce}
+use Rattle.std.proofs.Common.{◌≡◌, ◌<◌, length, Some, IfSome, sym, ◌∙◌, subst}
+use Rattle.std.specs.Prelude.{slice_get, slice_set}
+use Rattle.hash_chain.specs.Chain.{Chain, IsWith}
 use Rattle.hash_chain.proofs.Headers.{changed}
 use Rattle.hash_chain.proofs.bucket.Bucket.change.Goals as goal
 

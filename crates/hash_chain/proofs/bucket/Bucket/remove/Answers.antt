@@ -1,11 +1,9 @@
-use Rattle.std.proofs.Common.{rules, ◌≡◌, ◌+◌, ◌<◌, ◌≤◌, ℕ, List, length, get_or, Some, None, sym, ap, ◌∙◌, subst, arith}
+use Rattle.std.proofs.Common.{◌≡◌, ◌<◌, List, length, Some, None, sym, ap, ◌∙◌, subst, arith}
 use Rattle.std.specs.Prelude.{slice_get}
-use Rattle.std.specs.List.{swap_remove}
-use Rattle.blk_ptr.specs.declared.key.Key.{Key}
 use Rattle.hash_chain.specs.declared.header.Header.{Header}
-use Rattle.hash_chain.specs.Chain.{Chain, header_at, IsWith}
+use Rattle.hash_chain.specs.Chain.{Chain, IsWith}
 use Rattle.hash_chain.specs.Kept.{keys_of, AreOnce}
-use Rattle.hash_chain.proofs.Headers.{Left, left_of, get_value}
+use Rattle.hash_chain.proofs.Headers.{left_of, get_value}
 use Rattle.hash_chain.proofs.bucket.Bucket.remove.Goals as goal
 
 pub invariant_of-self : goal.invariant_of-self

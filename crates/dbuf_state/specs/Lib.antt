@@ -1,0 +1,16 @@
+pub mod CellLog
+pub mod CellModel
+pub mod Dbufs
+pub mod Faults
+pub mod History
+pub mod Index
+pub mod IndexRow
+pub mod Numbers
+pub mod Objects
+pub mod Oids
+pub mod Pins
+pub mod Ranks
+pub mod Soundness
+pub mod Standings
+pub mod Steps
+pub mod Windows

@@ -1,0 +1,76 @@
+-- Laws of histories and of cells: what a cell's calls do is what its events say.
+use Rattle.std.specs.Prelude.{◌≡◌, ℕ, true, List, [], ◌∷◌, ◌++◌, replicate, map}
+use Rattle.blk_ptr.specs.declared.ptr.Ptr.{Ptr}
+use Rattle.dbuf_state.specs.declared.dbuf.Content.TheVariants.{Dirty}
+use Rattle.dbuf_state.specs.declared.dbuf.Dbuf.{Dbuf}
+use Rattle.dbuf_state.specs.declared.event.CellEvent.{CellEvent}
+use Rattle.dbuf_state.specs.declared.event.CellEvent.TheVariants.{Get, Put, Patch, Pin, Unpin, Load, Evict, Synced, End}
+use Rattle.dbuf_state.specs.declared.oid.Oid.{Oid}
+use Rattle.dbuf_state.specs.declared.state.DbState.TheVariants as state
+use Rattle.dbuf_state.specs.CellLog.{CellLog, fresh, noted}
+use Rattle.dbuf_state.specs.Dbufs.{DbufHas, cached_with, cleared, dbuf_at, dbuf_is, dbuf_oid, dirty_with, is_clean_in, is_cached, is_reading, is_uncached, pinned_by, reading_by, synced_to, unpinned_by, unread, with_dbuf, without_kept, written_at}
+use Rattle.dbuf_state.specs.History.{Leads}
+use Rattle.dbuf_state.specs.Objects.{Evicting, IsBase, IsLegal, PlainCell, after, evicting_after}
+use Rattle.dbuf_state.specs.Oids.{with_item}
+use Rattle.dbuf_state.specs.Soundness.{plain_cell}
+
+-- a legal event more leads on
+abbrev pub GoesOn : Type 0
+GoesOn = (c end : PlainCell) (es : List CellEvent) (e : CellEvent) (base : List ℕ)
+    → Leads c es end → IsLegal end e → IsBase base end e → Leads c (es ++ e ∷ []) (after base end e)
+
+-- the cell after these changes of its dbufs and this event is what the event leads to from the cell before
+abbrev pub Follows : {H : Type 0} → List ℕ → CellLog H → CellEvent → List (Dbuf H) → Type 0
+Follows base c e ds = (evicting : Evicting)
+    → plain_cell (evicting_after evicting e) (noted e (record c { dbufs = ds })) ≡ after base (plain_cell evicting c) e
+
+-- a get changes no dbuf
+abbrev pub GetFollows : Type 0 → Type 0
+GetFollows H = (c : CellLog H) (n : ℕ) (at : Oid) → Follows [] c (Get n at) c.dbufs
+
+-- what was brought is kept
+abbrev pub LoadFollows : Type 0 → Type 0
+LoadFollows H = (c : CellLog H) (n : ℕ) (at : Oid) (kept : H) → dbuf_is (is_clean_in is_reading) at c.dbufs ≡ true
+    → Follows [] c (Load n at) (with_dbuf at (cached_with kept) c.dbufs)
+
+-- what is evicted is taken out
+abbrev pub EvictFollows : Type 0 → Type 0
+EvictFollows H = (c : CellLog H) (n : ℕ) (at : Oid) → dbuf_is (is_clean_in is_cached) at c.dbufs ≡ true
+    → Follows [] c (Evict n at) (with_dbuf at (without_kept state.Uncached) c.dbufs)
+
+-- a put is a write of a whole block
+abbrev pub PutFollows : Type 0 → Type 0
+PutFollows H = (c : CellLog H) (n : ℕ) (at : Oid) (size fill : ℕ)
+    → Follows [] c (Put n at size fill) (with_item dbuf_oid at (dirty_with (replicate size fill)) (fresh at (Dirty (replicate size fill)) state.Cached) c.dbufs)
+
+-- a patch is a write over the bytes that it starts from: those of the dirty block, or those that a clean one kept
+abbrev pub PatchFollows : Type 0 → Type 0
+PatchFollows H = (c : CellLog H) (n : ℕ) (at : Oid) (from : ℕ) (bytes base : List ℕ)
+    → DbufHas (λ d. d.content ≡ Dirty base) (dbuf_at at c.dbufs)
+    → Follows base c (Patch n at from bytes) (with_dbuf at (written_at from bytes) c.dbufs)
+
+abbrev pub PatchOfCleanFollows : Type 0 → Type 0
+PatchOfCleanFollows H = (c : CellLog H) (n : ℕ) (at : Oid) (from : ℕ) (bytes base : List ℕ)
+    → Follows base c (Patch n at from bytes) (with_dbuf at (written_at from bytes) (with_dbuf at (dirty_with base) c.dbufs))
+
+abbrev pub PinFollows : Type 0 → Type 0
+PinFollows H = (c : CellLog H) (n : ℕ) (at : Oid) → Follows [] c (Pin n at) (with_dbuf at (pinned_by n) c.dbufs)
+
+abbrev pub UnpinFollows : Type 0 → Type 0
+UnpinFollows H = (c : CellLog H) (n : ℕ) (at : Oid) → Follows [] c (Unpin n at) (with_dbuf at (unpinned_by n) c.dbufs)
+
+abbrev pub SyncedFollows : Type 0 → Type 0
+SyncedFollows H = (c : CellLog H) (n : ℕ) (at : Oid) (ptr : Ptr) (kept : H)
+    → Follows [] c (Synced n at ptr) (with_dbuf at (synced_to ptr kept) c.dbufs)
+
+abbrev pub EndFollows : Type 0 → Type 0
+EndFollows H = (c : CellLog H) (n : ℕ) → Follows [] c (End n) (map cleared c.dbufs)
+
+-- while a clean block is being brought, or is on its way out and back, it counts as it did
+abbrev pub ReadingAlike : Type 0 → Type 0
+ReadingAlike H = (c : CellLog H) (n : ℕ) (at : Oid) (evicting : Evicting) → dbuf_is (is_clean_in is_uncached) at c.dbufs ≡ true
+    → plain_cell evicting (record c { dbufs = with_dbuf at (reading_by n) c.dbufs }) ≡ plain_cell evicting c
+
+abbrev pub UnreadAlike : Type 0 → Type 0
+UnreadAlike H = (c : CellLog H) (at : Oid) (evicting : Evicting) → dbuf_is (is_clean_in is_reading) at c.dbufs ≡ true
+    → plain_cell evicting (record c { dbufs = with_dbuf at unread c.dbufs }) ≡ plain_cell evicting c

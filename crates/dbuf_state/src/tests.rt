@@ -1,0 +1,179 @@
+ghost use Rattle.std.specs.Prelude.{IsTrue};
+ghost use Rattle.dbuf_state.specs.Dbufs.{IsKeptOf};
+ghost use Rattle.dbuf_state.specs.declared.tests.Plain.{Plain};
+
+use crate::cell::Cell;
+use crate::event::CellEvent;
+use crate::oid::Oid;
+use crate::state::{DbState, Mapped};
+use arc_core::Keeps;
+use blk_ptr::{Block, Digest, Key, NoMemory, Ptr, Shows};
+use std::alloc::Global;
+use std::test::Fail;
+
+// A block that is kept, as a hold or not.
+#[derive(Debug, Drop)]
+struct Plain {
+    key: Key,
+    block: Block,
+    held: bool,
+}
+
+impl Shows for Plain {
+    ghost key_of = { λ plain. plain.key };
+
+    ghost bytes_of = { λ plain. plain.block };
+
+    ghost is_held = { λ plain. plain.held };
+
+    fn key(&self) -> Key {
+        self.key
+    }
+
+    fn block(&self) -> &Block {
+        &self.block
+    }
+
+    fn held(&self) -> bool {
+        self.held
+    }
+}
+
+// The i-th block of object 7.
+fn oid(i: u64) -> Oid {
+    Oid {
+        object: 7,
+        block: i,
+    }
+}
+
+// The i-th block of 512 zero bytes.
+fn zeros(alloc: Global, i: u64) -> Result<(Ptr, Plain), NoMemory> {
+    let block = Block::seal(vec![in alloc; 0; 512]?);
+    let key = Key {
+        offset: i.wrapping_mul(512),
+        size: 512,
+        birth: 1,
+    };
+    let ptr = Ptr {
+        key,
+        digest: block.digest(),
+    };
+    Ok((
+        ptr,
+        Plain {
+            key,
+            block,
+            held: true,
+        },
+    ))
+}
+
+// Maps the i-th block.
+fn map_zeros(alloc: Global, cell: &mut Cell<Plain>, i: u64) -> Result<(), NoMemory> {
+    let (ptr, _) = zeros(alloc, i)?;
+    let at = oid(i);
+    let None = cell.mapped(at) else {
+        return Ok(());
+    };
+    if cell.history().is_empty() {
+        cell.map(at, ptr)?;
+    }
+    Ok(())
+}
+
+// Brings a clean block into its dbuf for `n`, and notes it.
+fn bring(cell: &mut Cell<Plain>, n: u32, at: Oid, kept: Plain) -> Result<(), NoMemory> {
+    cell.reserve(0, 1)?;
+    let (Some(Mapped::Clean(_)), DbState::Uncached) = (cell.mapped(at), cell.state(at)) else {
+        return Ok(());
+    };
+    cell.reading(n, at);
+    let (Some(Mapped::Clean(ptr)), DbState::Read { .. }) = (cell.mapped(at), cell.state(at)) else {
+        return Ok(());
+    };
+    if is_of(&kept, ptr) {
+        cell.loaded(at, kept);
+        cell.note(CellEvent::Load { n, at });
+    }
+    Ok(())
+}
+
+// Whether a kept block is of a pointer.
+fn is_of(kept: &Plain, ptr: Ptr) -> bool
+    ensures { IsTrue result → IsKeptOf (λ (plain : Plain). plain.key) (λ (plain : Plain). plain.block) kept.now ptr }
+{
+    kept.key == ptr.key
+        && kept.block.bytes().len() as u64 == ptr.key.size
+        && kept.block.digest() == ptr.digest
+}
+
+// Reads a block for `n`: brings it where it isn't there, notes the read, and evicts what is to be evicted.
+fn get(
+    alloc: Global,
+    cell: &mut Cell<Plain>,
+    n: u32,
+    at: Oid,
+    kept: Plain,
+) -> Result<Vec<Oid>, NoMemory> {
+    bring(cell, n, at, kept)?;
+    cell.reserve(0, 1)?;
+    cell.note(CellEvent::Get { n, at });
+    settle(alloc, cell, n)
+}
+
+// Evicts what is to be evicted.
+fn settle(alloc: Global, cell: &mut Cell<Plain>, n: u32) -> Result<Vec<Oid>, NoMemory> {
+    let mut evicted = Vec::new(alloc);
+    for _ in 0..cell.len() {
+        cell.reserve(0, 1)?;
+        let Some(at) = cell.evictable() else {
+            return Ok(evicted);
+        };
+        cell.evict(at);
+        cell.note(CellEvent::Evict { n, at });
+        evicted.push(at)?;
+    }
+    Ok(evicted)
+}
+
+#[test]
+fn a_fresh_cell_with_one_block(rt: HostRuntime) -> Result<(), Fail> {
+    let (ptr, _) = zeros(rt.alloc(), 0)?;
+    let mut cell: Cell<Plain> = Cell::new(rt.alloc(), 512);
+    assert_eq!(rt; cell.map(oid(0), ptr), Ok(()));
+    assert_eq!(rt; cell.reserve(1, 1), Ok(()));
+    assert_eq!(rt; cell.pin(0, oid(0)), Ok(()));
+    assert_eq!(rt; cell.dirty()?.len(), 0);
+    assert_eq!(rt; cell.mapped(oid(0)), Some(Mapped::Clean(ptr)));
+    assert_eq!(rt; cell.mapped(oid(1)), None);
+    assert_eq!(rt;
+        (cell.evictable(), cell.first_kept(), cell.keeps(ptr.key)),
+        (None, None, 0)
+    );
+    assert_eq!(rt;
+        (
+            cell.unpin(1, oid(0)),
+            cell.unpin(0, oid(0)),
+            cell.unpin(0, oid(0))
+        ),
+        (false, true, false)
+    );
+    Ok(())
+}
+
+#[test]
+fn two_blocks_in_turn_under_a_limit_of_one(rt: HostRuntime) -> Result<(), Fail> {
+    let mut cell: Cell<Plain> = Cell::new(rt.alloc(), 512);
+    for i in 0..2 {
+        map_zeros(rt.alloc(), &mut cell, i)?;
+    }
+    for (i, out) in [(0, None), (1, Some(oid(0))), (0, Some(oid(1)))] {
+        let (ptr, kept) = zeros(rt.alloc(), i)?;
+        let evicted = get(rt.alloc(), &mut cell, 0, oid(i), kept)?;
+        assert_eq!(rt; evicted.first().copied(), out);
+        assert_eq!(rt; (cell.first_kept(), cell.keeps(ptr.key)), (Some(oid(i)), 1));
+    }
+    assert_eq!(rt; cell.history().len(), 8);
+    Ok(())
+}
