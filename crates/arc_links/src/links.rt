@@ -60,6 +60,13 @@ impl<T: Copy> Links<T> {
         Ok(())
     }
 
+    /// For how many more nodes there is room.
+    pub fn spare(&self) -> usize
+        ensures { result ≡ self.now.spare }
+    {
+        self.spare
+    }
+
     /// Puts an element at the head, and answers the place of its node. No other node stood there.
     pub fn push_head(&mut self, element: T) -> usize
         requires { 0 < self.old.spare }

@@ -1,59 +1,465 @@
--- What putting a key in and taking one out keep of the vectors' invariant.
-use Rattle.std.proofs.Common.{◌≡◌, ℕ, ◌+◌, ◌-◌, ◌<◌, ◌≤◌, ◌^◌, false, length, Some, sym, ap, subst, ◌∙◌, arith, vec_len, vec_capacity}
+-- What a key that comes, goes, is put on its sequence or taken off keeps of the lists' invariant.
+use Rattle.std.proofs.Common.{◌≡◌, ℕ, suc, ◌+◌, ◌-◌, ◌<◌, ◌≤◌, ◌^◌, Bool, true, false, List, [], ◌∷◌, length, map, Option, Some, None, IsTrue, IsSome, IsSomeAnd, MatchOption, OnErr, OnOk, Result, Ok, Err, max, is_some, option_map, if◌then◌else◌, ◌⊎◌, inl, inr, refl, sym, ap, subst, ◌∙◌, arith}
 use Rattle.std.specs.List.{AllByRecursion}
+use Rattle.std.proofs.lemmas.Bool.{false≢true}
 use Rattle.blk_ptr.specs.Size.{largest_block}
 use Rattle.blk_ptr.specs.declared.key.Key.{Key}
 use Rattle.blk_ptr.specs.declared.state.State.{State}
+use Rattle.blk_ptr.specs.declared.state.State.TheVariants.{Anon, Mru, MruGhost, Mfu, MfuGhost, L2Only}
+use Rattle.blk_ptr.specs.Order.{key_eq}
+use Rattle.blk_ptr.proofs.Keys.{key_eq-is, key_eq-same, key_eq-sym}
+use Rattle.arc_links.specs.PlainLinks.{AreApart, element_at}
 use Rattle.arc_lists.specs.declared.lists.Lists.TheInside.{Inside}
 use Rattle.arc_lists.specs.declared.member.Member.{Member}
-use Rattle.arc_lists.specs.ByKey.{IsRising, has_key, item_at, with_item, without}
-use Rattle.arc_lists.specs.Kept.{IsKept}
-use Rattle.arc_lists.specs.PlainLists.{member, member_key, share_of, size_of}
-use Rattle.arc_lists.specs.Queues.{AreInState, AreSequencesOf, HaveCapacity, sequences_in, size_at}
-use Rattle.arc_lists.specs.Sequences.{taken_off}
-use Rattle.arc_lists.proofs.InState.{AreInState-without}
+use Rattle.arc_lists.specs.declared.post.Post.{Post}
+use Rattle.arc_lists.specs.declared.post.Standing.{Standing}
+use Rattle.arc_lists.specs.declared.queues.Queues.{Queues}
+use Rattle.arc_lists.specs.ByKey.{IsAbove, IsRising, has_key, item_at, with_change, with_item, without}
+use Rattle.arc_lists.specs.Kept.{IsKept, plain}
+use Rattle.arc_lists.specs.PlainLists.{IsBound, PlainLists, member, member_key, share_of, size_of}
+use Rattle.arc_lists.specs.Posts.{Posts, member_of, members_of, post, post_key, standing}
+use Rattle.arc_lists.specs.Queues.{AreInState, AreNodesApart, ArePlaced, AreSequencesOf, HaveCapacity, HaveRoom, HaveSameNodes, IsEntered, IsOn, IsOnlyOn, IsPlaced, IsPushed, left, nodes_of, pushed, removed, sequences_in, size_at}
+use Rattle.arc_lists.specs.Sequences.{Sequences, has_sequence, is_distinct, put_at_head, sequence_of, stands, stands_on, taken_off}
+use Rattle.arc_lists.proofs.InState.{AreInState-head, AreInState-off, AreInState-with_item, AreInState-without, only_on}
+use Rattle.arc_lists.proofs.Placing.{apart-pushed, apart-removed, at-stands, member-at, members-come, members-go, members-stay, placed-new, room-pushed, room-removed, sequences-pushed, sequences-removed, stays-pushed, stays-removed}
 use Rattle.arc_lists.proofs.SizeSums.{size_of-with_item, size_of-without, size_of-le}
-use Rattle.arc_lists.proofs.Standing.{AreSequencesOf-without, HaveCapacity-le}
-use Rattle.arc_lists.proofs.Tables.{All-with_item, All-without, IsRising-with_item, IsRising-without, length-with_item, length-without}
+use Rattle.arc_lists.proofs.Standing.{AreSequencesOf-head, AreSequencesOf-off, AreSequencesOf-with_item, AreSequencesOf-without, HaveCapacity-le, IsOff, off_absent, off_each, stands_on-without_same, without_key-absent}
+use Rattle.arc_lists.proofs.Tables.{cases_true, some_is, item_at-map, All-with_item, All-without, IsRising-with_change, IsRising-with_item, IsRising-without, item_at-with_change_other, item_at-with_change_same, item_at-with_item_other, item_at-with_item_same, item_at-without_other, item_at-without_same, length-with_change, length-with_item, length-without, map-with_item}
+
+pub length-members : (posts : List Post) → length (members_of posts) ≡ length posts
+length-members [] = refl
+length-members (p ∷ posts) = ap (λ n. suc n) (length-members posts)
 
 -- every size is far from the end of its type
 pub size_at-lt : (l : Inside) (s : State) (z : ℕ) → IsKept l → z < 2 ^ 64 → size_at s l.sizes + z < 2 ^ 90
-size_at-lt l s z kept small = omega (arith, kept.sizes s, size_of-le s l.members.items kept.small, l.members.ok.0, l.members.small)
+size_at-lt l s z kept small =
+    omega (arith, kept.sizes s, size_of-le s (members_of l.members.posts) kept.small, length-members l.members.posts, kept.few)
 
--- a key that comes in keeps it
-pub IsKept-put : (l n : Inside) (m : Member) → IsKept l → 0 < l.spare → has_key member_key m.key l.members.items ≡ false → m.key.size ≤ largest_block
-    → n.members.items ≡ with_item member_key m l.members.items → vec_capacity n.members ≡ vec_capacity l.members
-    → ((t : State) → size_at t n.sizes ≡ size_at t l.sizes + share_of t m)
-    → HaveCapacity (vec_len l.members + l.spare) n.queues → AreSequencesOf (with_item member_key m l.members.items) (sequences_in n.queues)
-    → AreInState (with_item member_key m l.members.items) (sequences_in n.queues) → n.spare ≡ l.spare - 1 → IsKept n
-IsKept-put l n m kept some absent small items capacity sizes queues listed stated spare =
-    let more = length-with_item member_key m l.members.items in
-    let count : vec_len n.members ≡ vec_len l.members + 1 = omega (arith, n.members.ok.0, l.members.ok.0, ap length items) in
+pub rising-members : (posts : List Post) → IsRising post_key posts → IsRising member_key (members_of posts)
+rising-members [] rising = tt
+rising-members (p ∷ posts) rising = (above p.key posts rising.0, rising-members posts rising.1)
+  where
+    above : (k : Key) (posts : List Post) → IsAbove post_key k posts → IsAbove member_key k (members_of posts)
+    above k [] up = tt
+    above k (p ∷ posts) up = (up.0, above k posts up.1)
+
+pub no-member : (posts : List Post) (k : Key) → has_key post_key k posts ≡ false → has_key member_key k (members_of posts) ≡ false
+no-member posts k absent = ap is_some (item_at-map post_key member_key member_of (λ p. refl) k posts) ∙ none (item_at post_key k posts) absent
+  where
+    none : (o : Option Post) → is_some o ≡ false → is_some (option_map member_of o) ≡ false
+    none None off = refl
+    none (Some p) off = off
+
+pub no-post : (posts : List Post) (k : Key) → has_key member_key k (members_of posts) ≡ false → has_key post_key k posts ≡ false
+no-post posts k absent = some (item_at post_key k posts) (sym (ap is_some (item_at-map post_key member_key member_of (λ p. refl) k posts)) ∙ absent)
+  where
+    some : (o : Option Post) → is_some (option_map member_of o) ≡ false → is_some o ≡ false
+    some None off = refl
+    some (Some p) off = off
+
+-- a key that is a member has a post
+pub post-of : (posts : List Post) (k : Key) → IsSome (item_at member_key k (members_of posts)) → IsSome (item_at post_key k posts)
+post-of posts k there = some (item_at post_key k posts) (sym (ap is_some (item_at-map post_key member_key member_of (λ p. refl) k posts)) ∙ there)
+  where
+    some : (o : Option Post) → IsSome (option_map member_of o) → IsSome o
+    some None off = off
+    some (Some p) off = refl
+
+-- the invariant, from what the members are
+kept-of : (n : Inside) (posts : List Post) (spare : ℕ) → n.members ≡ record { posts = posts; spare = spare } → IsRising post_key posts
+    → AllByRecursion (λ m. m.key.size ≤ largest_block) (members_of posts) → ((s : State) → size_at s n.sizes ≡ size_of s (members_of posts)) → length posts + spare < 2 ^ 64
+    → HaveCapacity (length posts + spare) n.queues → AreSequencesOf (members_of posts) (sequences_in n.queues) → AreInState (members_of posts) (sequences_in n.queues)
+    → ArePlaced posts n.queues → AreNodesApart n.queues → IsKept n
+kept-of n posts spare is rising small sizes few queues listed stated placed apart =
+    let p : posts ≡ n.members.posts = ap (λ m. m.posts) (sym is) in
+    let s : spare ≡ n.members.spare = ap (λ m. m.spare) (sym is) in
     record {
-      rising = subst (IsRising member_key) (sym items) (IsRising-with_item member_key m l.members.items kept.rising absent);
-      small = subst (AllByRecursion (λ m. m.key.size ≤ largest_block)) (sym items) (All-with_item member_key _ m l.members.items small kept.small);
-      sizes = λ s. sizes s ∙ subst (λ ms. size_at s l.sizes + share_of s m ≡ size_of s ms) (sym items) (omega (arith, kept.sizes s, size_of-with_item s m l.members.items));
-      room = omega (arith, kept.room);
-      queues = HaveCapacity-le _ _ n.queues (omega arith) queues;
-      listed = subst (λ ms. AreSequencesOf ms (sequences_in n.queues)) (sym items) listed;
-      stated = subst (λ ms. AreInState ms (sequences_in n.queues)) (sym items) stated;
+      rising = subst (IsRising post_key) p rising;
+      small = subst (λ ps. AllByRecursion (λ m. m.key.size ≤ largest_block) (members_of ps)) p small;
+      sizes = λ t. subst (λ ps. size_at t n.sizes ≡ size_of t (members_of ps)) p (sizes t);
+      few = subst (λ z. length n.members.posts + z < 2 ^ 64) s (subst (λ ps. length ps + spare < 2 ^ 64) p few);
+      queues = subst (λ z. HaveCapacity (length n.members.posts + z) n.queues) s (subst (λ ps. HaveCapacity (length ps + spare) n.queues) p queues);
+      listed = subst (λ ps. AreSequencesOf (members_of ps) (sequences_in n.queues)) p listed;
+      stated = subst (λ ps. AreInState (members_of ps) (sequences_in n.queues)) p stated;
+      placed = subst (λ ps. ArePlaced ps n.queues) p placed;
+      apart = apart;
     }
 
--- and so does one that leaves
-pub IsKept-take_out : (l n : Inside) (k : Key) (s : State) → IsKept l → item_at member_key k l.members.items ≡ Some (member k s)
-    → n.members.items ≡ without member_key k l.members.items → vec_capacity n.members ≡ vec_capacity l.members
-    → ((t : State) → size_at t n.sizes + share_of t (member k s) ≡ size_at t l.sizes)
-    → ((m : ℕ) → HaveCapacity m l.queues → HaveCapacity m n.queues) → sequences_in n.queues ≡ taken_off k (sequences_in l.queues)
-    → n.spare ≡ l.spare + 1 → IsKept n
-IsKept-take_out l n k s kept item items capacity sizes queues listed spare =
-    let fewer = length-without member_key k l.members.items (member k s) item in
-    let count : vec_len n.members + 1 ≡ vec_len l.members = omega (arith, n.members.ok.0, l.members.ok.0, ap length items) in
-    record {
-      rising = subst (IsRising member_key) (sym items) (IsRising-without member_key k l.members.items kept.rising);
-      small = subst (AllByRecursion (λ m. m.key.size ≤ largest_block)) (sym items) (All-without member_key _ k l.members.items kept.small);
-      sizes = λ t. subst (λ ms. size_at t n.sizes ≡ size_of t ms) (sym items) (omega (arith, kept.sizes t, sizes t, size_of-without t k l.members.items (member k s) item));
-      room = omega (arith, kept.room);
-      queues = HaveCapacity-le _ _ n.queues (omega arith) (queues _ kept.queues);
-      listed = subst (λ q. AreSequencesOf n.members.items q) (sym listed) (subst (λ ms. AreSequencesOf ms (taken_off k (sequences_in l.queues))) (sym items) (AreSequencesOf-without k l.members.items (sequences_in l.queues) kept.listed));
-      stated = subst (λ q. AreInState n.members.items q) (sym listed) (subst (λ ms. AreInState ms (taken_off k (sequences_in l.queues))) (sym items) (AreInState-without k l.members.items (sequences_in l.queues) kept.stated));
+-- the posts where one comes, goes or changes: who else is there
+module _ (k : Key) (posts : List Post) where
+  placed-come : (r : Standing) (q q' : Queues) → has_key post_key k posts ≡ false → ((j : Key) (s : Standing) → key_eq k j ≡ false → IsPlaced j s q → IsPlaced j s q') → IsPlaced k r q'
+      → ArePlaced posts q → ArePlaced (with_item post_key (post k r) posts) q'
+  placed-come r q q' absent stays here placed j s item = elim (cases_true (key_eq k j)) [
+    | inl same ↦
+        let is = key_eq-is k j same in
+        let at : post k r ≡ post j s = some_is (sym (item_at-with_item_same post_key (post k r) posts absent) ∙ ap (λ h. item_at post_key h (with_item post_key (post k r) posts)) is ∙ item) in
+        subst (λ (p : Post). IsPlaced p.key p.standing q') at here
+    | inr differs ↦ stays j s differs (placed j s (sym (item_at-with_item_other post_key j (post k r) posts differs) ∙ item))
+  ]
+
+  placed-go : (q q' : Queues) → IsRising post_key posts → ((j : Key) (s : Standing) → key_eq k j ≡ false → IsPlaced j s q → IsPlaced j s q') → ArePlaced posts q → ArePlaced (without post_key k posts) q'
+  placed-go q q' rising stays placed j s item = elim (cases_true (key_eq j k)) [
+    | inl same ↦ absurd (cc (sym (subst (λ h. item_at post_key h (without post_key k posts) ≡ None) (sym (key_eq-is j k same)) (item_at-without_same post_key k posts rising)) ∙ item))
+    | inr differs ↦ stays j s (key_eq-sym k j ∙ differs) (placed j s (sym (item_at-without_other post_key j k posts differs) ∙ item))
+  ]
+
+  placed-change : (r before : Standing) (q q' : Queues) → item_at post_key k posts ≡ Some (post k before) → ((j : Key) (s : Standing) → key_eq k j ≡ false → IsPlaced j s q → IsPlaced j s q') → IsPlaced k r q'
+      → ArePlaced posts q → ArePlaced (with_change post_key k (λ _. post k r) posts) q'
+  placed-change r before q q' was stays here placed j s item = elim (cases_true (key_eq j k)) [
+    | inl same ↦
+        let is = key_eq-is j k same in
+        let at : post k r ≡ post j s =
+        some_is (sym (item_at-with_change_same post_key k (λ _. post k r) posts (post k before) (key_eq-same k) was) ∙ ap (λ h. item_at post_key h (with_change post_key k (λ _. post k r) posts)) (sym is) ∙ item) in
+        subst (λ (p : Post). IsPlaced p.key p.standing q') at here
+    | inr differs ↦
+        let keeps : (p : Post) → key_eq (post_key p) k ≡ true → k ≡ post_key p = λ p same. sym (key_eq-is (post_key p) k same) in
+        stays j s (key_eq-sym k j ∙ differs) (placed j s (sym (item_at-with_change_other post_key j k (λ _. post k r) posts keeps differs) ∙ item))
+  ]
+
+  change-rising : (r : Standing) → IsRising post_key posts → IsRising post_key (with_change post_key k (λ _. post k r) posts)
+  change-rising r rising = IsRising-with_change post_key k (λ _. post k r) posts (λ p same. sym (key_eq-is (post_key p) k same)) rising
+
+off-each : (s : State) (q : Sequences) {k : Key} → IsOff k q → stands_on k (sequence_of s q) ≡ false
+off-each Anon q off = refl
+off-each Mru q off = off.mru
+off-each MruGhost q off = off.mru_ghost
+off-each Mfu q off = off.mfu
+off-each MfuGhost q off = off.mfu_ghost
+off-each L2Only q off = refl
+
+-- ---- a key comes
+
+-- and stands on no sequence
+pub IsKept-put_held : (l n : Inside) (k : Key) (s : State) → IsKept l → 0 < l.members.spare → has_key post_key k l.members.posts ≡ false → k.size ≤ largest_block
+    → n.members ≡ record { posts = with_item post_key (post k (standing s None)) l.members.posts; spare = l.members.spare - 1 }
+    → ((t : State) → size_at t n.sizes ≡ size_at t l.sizes + share_of t (member k s)) → n.queues ≡ l.queues → IsKept n
+IsKept-put_held l n k s kept some absent small is sizes queues =
+    let posts = l.members.posts in
+    let ms = members_of posts in
+    let r = standing s None in
+    let come = members-come k r posts in
+    let more = length-with_item post_key (post k r) posts in
+    let absent' = no-member posts k absent in
+    let off = off_absent ms k (sequences_in l.queues) absent' kept.listed in
+    let here : IsPlaced k r l.queues = off-each s (sequences_in l.queues) off in
+    kept-of n (with_item post_key (post k r) posts) (l.members.spare - 1) is (IsRising-with_item post_key (post k r) posts kept.rising absent)
+    (subst (AllByRecursion (λ m. m.key.size ≤ largest_block)) (sym come) (All-with_item member_key _ (member k s) ms small kept.small))
+    (λ t. sizes t ∙ subst (λ z. size_at t l.sizes + share_of t (member k s) ≡ size_of t z) (sym come) (omega (arith, kept.sizes t, size_of-with_item t (member k s) ms)))
+    (omega (arith, kept.few, more, some))
+    (subst (HaveCapacity _) (sym queues) (HaveCapacity-le _ _ l.queues (omega (arith, more, some)) kept.queues))
+    (subst (λ q. AreSequencesOf (members_of (with_item post_key (post k r) posts)) (sequences_in q)) (sym queues) (subst (λ z. AreSequencesOf z (sequences_in l.queues)) (sym come) (AreSequencesOf-with_item (member k s) ms (sequences_in l.queues) absent' kept.listed)))
+    (subst (λ q. AreInState (members_of (with_item post_key (post k r) posts)) (sequences_in q)) (sym queues) (subst (λ z. AreInState z (sequences_in l.queues)) (sym come) (AreInState-with_item (member k s) ms (sequences_in l.queues) absent' kept.stated)))
+    (subst (ArePlaced (with_item post_key (post k r) posts)) (sym queues) (placed-come k posts r l.queues l.queues absent (λ j t differs placed. placed) here kept.placed))
+    (subst AreNodesApart (sym queues) kept.apart)
+
+-- and stands at the head of its state's
+pub IsKept-put_free : (l n : Inside) (k : Key) (s : State) (p : ℕ) → IsKept l → 0 < l.members.spare → has_key post_key k l.members.posts ≡ false → k.size ≤ largest_block
+    → n.members ≡ record { posts = with_item post_key (post k (standing s (Some p))) l.members.posts; spare = l.members.spare - 1 }
+    → ((t : State) → size_at t n.sizes ≡ size_at t l.sizes + share_of t (member k s)) → n.queues ≡ pushed s k p l.queues
+    → has_sequence s ≡ true → element_at p (nodes_of s l.queues) ≡ None → HaveRoom l.queues → IsKept n
+IsKept-put_free l n k s p kept some absent small is sizes queues has free room =
+    let posts = l.members.posts in
+    let ms = members_of posts in
+    let r = standing s (Some p) in
+    let come = members-come k r posts in
+    let more = length-with_item post_key (post k r) posts in
+    let absent' = no-member posts k absent in
+    let q = pushed s k p l.queues in
+    let seq = sequences-pushed s k p l.queues in
+    let off = off_absent ms k (sequences_in l.queues) absent' kept.listed in
+    let item = item_at-with_item_same member_key (member k s) ms absent' in
+    let there : IsTrue (has_key member_key k (with_item member_key (member k s) ms)) = ap is_some item in
+    let listed : AreSequencesOf (with_item member_key (member k s) ms) (sequences_in q) =
+    subst (AreSequencesOf (with_item member_key (member k s) ms)) (sym seq) (AreSequencesOf-head s _ k (sequences_in l.queues) there off (AreSequencesOf-with_item (member k s) ms (sequences_in l.queues) absent' kept.listed)) in
+    let stated : AreInState (with_item member_key (member k s) ms) (sequences_in q) =
+    subst (AreInState (with_item member_key (member k s) ms)) (sym seq) (AreInState-head s _ k (sequences_in l.queues) item (AreInState-with_item (member k s) ms (sequences_in l.queues) absent' kept.stated)) in
+    kept-of n (with_item post_key (post k r) posts) (l.members.spare - 1) is (IsRising-with_item post_key (post k r) posts kept.rising absent)
+    (subst (AllByRecursion (λ m. m.key.size ≤ largest_block)) (sym come) (All-with_item member_key _ (member k s) ms small kept.small))
+    (λ t. sizes t ∙ subst (λ z. size_at t l.sizes + share_of t (member k s) ≡ size_of t z) (sym come) (omega (arith, kept.sizes t, size_of-with_item t (member k s) ms)))
+    (omega (arith, kept.few, more, some))
+    (subst (HaveCapacity _) (sym queues) (HaveCapacity-le _ _ q (omega (arith, more, some)) (room-pushed s k p _ l.queues room kept.queues)))
+    (subst (λ z. AreSequencesOf (members_of (with_item post_key (post k r) posts)) (sequences_in z)) (sym queues) (subst (λ z. AreSequencesOf z (sequences_in q)) (sym come) listed))
+    (subst (λ z. AreInState (members_of (with_item post_key (post k r) posts)) (sequences_in z)) (sym queues) (subst (λ z. AreInState z (sequences_in q)) (sym come) stated))
+    (subst (ArePlaced (with_item post_key (post k r) posts)) (sym queues)
+    (placed-come k posts r l.queues q absent (λ j t differs placed. stays-pushed s j k t p l.queues free differs placed) (placed-new s k p l.queues has) kept.placed))
+    (subst AreNodesApart (sym queues) (apart-pushed s k p l.queues free kept.apart))
+
+-- what entering the lists did
+pub record Stayed (unheld : Bool) (s : State) (at : Option ℕ) (old new : Queues) : Type 0 where
+  pub at_is : at ≡ None
+  pub same : new ≡ old
+  pub head : (k : Key) (q : Sequences) → (if unheld then put_at_head s k q else q) ≡ q
+
+pub record Came (unheld : Bool) (s : State) (k : Key) (at : Option ℕ) (old new : Queues) : Type 0 where
+  pub place : ℕ
+  pub at_is : at ≡ Some place
+  pub free : element_at place (nodes_of s old) ≡ None
+  pub new_is : new ≡ pushed s k place old
+  pub has : has_sequence s ≡ true
+  pub head : (q : Sequences) → (if unheld then put_at_head s k q else q) ≡ put_at_head s k q
+
+pub entered-cases : (unheld : Bool) (s : State) (k : Key) (at : Option ℕ) (old new : Queues) → IsEntered unheld s k at old new → Stayed unheld s at old new ⊎ Came unheld s k at old new
+entered-cases false s k at old new entered = inl (record { at_is = entered.0; same = entered.1; head = λ j q. refl })
+entered-cases true Anon k at old new entered = inl (record { at_is = entered.0; same = entered.1; head = λ j q. refl })
+entered-cases true L2Only k at old new entered = inl (record { at_is = entered.0; same = entered.1; head = λ j q. refl })
+entered-cases true Mru k at old new entered = inr (record { place = entered.0; at_is = entered.1; free = entered.2; new_is = entered.3; has = refl; head = λ q. refl })
+entered-cases true MruGhost k at old new entered = inr (record { place = entered.0; at_is = entered.1; free = entered.2; new_is = entered.3; has = refl; head = λ q. refl })
+entered-cases true Mfu k at old new entered = inr (record { place = entered.0; at_is = entered.1; free = entered.2; new_is = entered.3; has = refl; head = λ q. refl })
+entered-cases true MfuGhost k at old new entered = inr (record { place = entered.0; at_is = entered.1; free = entered.2; new_is = entered.3; has = refl; head = λ q. refl })
+
+pub sequences-entered : (unheld : Bool) (s : State) (k : Key) (at : Option ℕ) (old new : Queues) → IsEntered unheld s k at old new
+    → sequences_in new ≡ (if unheld then put_at_head s k (sequences_in old) else sequences_in old)
+sequences-entered unheld s k at old new entered = elim (entered-cases unheld s k at old new entered) [
+  | inl stayed ↦ ap sequences_in stayed.same ∙ sym (stayed.head k (sequences_in old))
+  | inr came ↦ ap sequences_in came.new_is ∙ sequences-pushed s k came.place old ∙ sym (came.head (sequences_in old))
+]
+
+pub IsKept-put : (l n : Inside) (k : Key) (s : State) (at : Option ℕ) (unheld : Bool) → IsKept l → 0 < l.members.spare → has_key post_key k l.members.posts ≡ false → k.size ≤ largest_block
+    → n.members ≡ record { posts = with_item post_key (post k (standing s at)) l.members.posts; spare = l.members.spare - 1 }
+    → ((t : State) → size_at t n.sizes ≡ size_at t l.sizes + share_of t (member k s)) → IsEntered unheld s k at l.queues n.queues → HaveRoom l.queues → IsKept n
+IsKept-put l n k s at unheld kept some absent small is sizes entered room = elim (entered-cases unheld s k at l.queues n.queues entered) [
+  | inl stayed ↦ IsKept-put_held l n k s kept some absent small
+      (subst (λ o. n.members ≡ record { posts = with_item post_key (post k (standing s o)) l.members.posts; spare = l.members.spare - 1 }) stayed.at_is is) sizes stayed.same
+  | inr came ↦ IsKept-put_free l n k s came.place kept some absent small
+      (subst (λ o. n.members ≡ record { posts = with_item post_key (post k (standing s o)) l.members.posts; spare = l.members.spare - 1 }) came.at_is is) sizes came.new_is came.has came.free room
+]
+
+-- ---- where a member stands
+
+on_some : (k : Key) (q : Sequences) → stands k q ≡ true → (t : State) × (stands_on k (sequence_of t q) ≡ true)
+on_some k q there = elim (cases_true (stands_on k q.mru)) [
+  | inl on ↦ (Mru, on)
+  | inr a ↦ elim (cases_true (stands_on k q.mru_ghost)) [
+    | inl on ↦ (MruGhost, on)
+    | inr b ↦ elim (cases_true (stands_on k q.mfu)) [
+      | inl on ↦ (Mfu, on)
+      | inr d ↦
+          let last : stands_on k q.mfu_ghost ≡ true = rw (a, b, d) at there in
+          (MfuGhost, last)
+    ]
+  ]
+]
+
+-- a member that stands on a sequence does so on its state's, at its place
+pub record OnPlace (l : Inside) (k : Key) (s : Standing) : Type 0 where
+  pub place : ℕ
+  pub at_is : s.at ≡ Some place
+  pub node : element_at place (nodes_of s.state l.queues) ≡ Some k
+  pub on : stands_on k (sequence_of s.state (sequences_in l.queues)) ≡ true
+
+abbrev OnPlaceAt : Inside → Key → Standing → Option ℕ → Type 0
+OnPlaceAt l k s at = (p : ℕ) × (at ≡ Some p) × (element_at p (nodes_of s.state l.queues) ≡ Some k) × (stands_on k (sequence_of s.state (sequences_in l.queues)) ≡ true)
+
+pub on-place : (l : Inside) (k : Key) (s : Standing) → IsKept l → item_at post_key k l.members.posts ≡ Some (post k s) → stands k (sequences_in l.queues) ≡ true → OnPlace l k s
+on-place l k s kept item there =
+    let some = on_some k (sequences_in l.queues) there in
+    let same : s.state ≡ some.0 = ap (λ (m : Member). m.state) (some_is (sym (member-at k l.members.posts s item) ∙ kept.stated some.0 k some.1)) in
+    let on : stands_on k (sequence_of s.state (sequences_in l.queues)) ≡ true = subst (λ t. stands_on k (sequence_of t (sequences_in l.queues)) ≡ true) (sym same) some.1 in
+    let found = go s.at on (kept.placed k s item) in
+    record { place = found.0; at_is = found.1; node = found.2; on = found.3 }
+  where
+    go : (at : Option ℕ) → stands_on k (sequence_of s.state (sequences_in l.queues)) ≡ true
+        → MatchOption at (stands_on k (sequence_of s.state (sequences_in l.queues)) ≡ false) (λ p. element_at p (nodes_of s.state l.queues) ≡ Some k) → OnPlaceAt l k s at
+    go None on off = absurd (false≢true (sym off ∙ on))
+    go (Some p) on node = (p, refl, node, on)
+
+pub is-on : (l : Inside) (k : Key) (s : Standing) → IsKept l → item_at post_key k l.members.posts ≡ Some (post k s) → IsOn s.state s.at l.queues
+is-on l k s kept item = go s.at (kept.placed k s item)
+  where
+    go : (at : Option ℕ) → MatchOption at (stands_on k (sequence_of s.state (sequences_in l.queues)) ≡ false) (λ p. element_at p (nodes_of s.state l.queues) ≡ Some k) → IsOn s.state at l.queues
+    go None off = tt
+    go (Some p) node = ap is_some node
+
+pub distinct-of : (s : State) (ms : List Member) (q : Sequences) → AreSequencesOf ms q → is_distinct (sequence_of s q) ≡ true
+distinct-of Anon ms q listed = refl
+distinct-of Mru ms q listed = listed.mru.once
+distinct-of MruGhost ms q listed = listed.mru_ghost.once
+distinct-of Mfu ms q listed = listed.mfu.once
+distinct-of MfuGhost ms q listed = listed.mfu_ghost.once
+distinct-of L2Only ms q listed = refl
+
+off-all : (k : Key) (q : Sequences) → IsOff k q → q ≡ taken_off k q
+off-all k q off = rw (without_key-absent k q.mru off.mru, without_key-absent k q.mru_ghost off.mru_ghost, without_key-absent k q.mfu off.mfu, without_key-absent k q.mfu_ghost off.mfu_ghost) refl
+
+off-of : (k : Key) (s : State) (q : Sequences) → IsOnlyOn s k q → stands_on k (sequence_of s q) ≡ false → IsOff k q
+off-of k Anon q only off = record { mru = only Mru refl; mru_ghost = only MruGhost refl; mfu = only Mfu refl; mfu_ghost = only MfuGhost refl }
+off-of k L2Only q only off = record { mru = only Mru refl; mru_ghost = only MruGhost refl; mfu = only Mfu refl; mfu_ghost = only MfuGhost refl }
+off-of k Mru q only off = record { mru = off; mru_ghost = only MruGhost refl; mfu = only Mfu refl; mfu_ghost = only MfuGhost refl }
+off-of k MruGhost q only off = record { mru = only Mru refl; mru_ghost = off; mfu = only Mfu refl; mfu_ghost = only MfuGhost refl }
+off-of k Mfu q only off = record { mru = only Mru refl; mru_ghost = only MruGhost refl; mfu = off; mfu_ghost = only MfuGhost refl }
+off-of k MfuGhost q only off = record { mru = only Mru refl; mru_ghost = only MruGhost refl; mfu = only Mfu refl; mfu_ghost = off }
+
+-- the lists after a member's node went, where it had one
+pub record Left (l : Inside) (k : Key) (s : Standing) (q : Queues) : Type 0 where
+  pub sequences : sequences_in q ≡ taken_off k (sequences_in l.queues)
+  pub stays : (j : Key) (r : Standing) → key_eq k j ≡ false → IsPlaced j r l.queues → IsPlaced j r q
+  pub apart : AreNodesApart q
+  pub room : (n : ℕ) → HaveCapacity n l.queues → HaveCapacity n q
+
+pub left-of : (l : Inside) (k : Key) (s : Standing) → IsKept l → item_at post_key k l.members.posts ≡ Some (post k s) → Left l k s (left s.state s.at l.queues)
+left-of l k s kept item = go s.at (kept.placed k s item)
+  where
+    only : IsOnlyOn s.state k (sequences_in l.queues)
+    only = only_on s.state (members_of l.members.posts) k (sequences_in l.queues) (member-at k l.members.posts s item) kept.stated
+
+    go : (at : Option ℕ) → MatchOption at (stands_on k (sequence_of s.state (sequences_in l.queues)) ≡ false) (λ p. element_at p (nodes_of s.state l.queues) ≡ Some k) → Left l k s (left s.state at l.queues)
+    go None off = record {
+      sequences = off-all k (sequences_in l.queues) (off-of k s.state (sequences_in l.queues) only off);
+      stays = λ j r differs placed. placed;
+      apart = kept.apart;
+      room = λ n had. had;
     }
+    go (Some p) node = record {
+      sequences = sequences-removed s.state k p l.queues kept.apart (distinct-of s.state (members_of l.members.posts) (sequences_in l.queues) kept.listed) only node;
+      stays = λ j r differs placed. stays-removed s.state j k r p l.queues node differs placed;
+      apart = apart-removed s.state p l.queues kept.apart;
+      room = λ n had. room-removed s.state k p n l.queues kept.apart node had;
+    }
+
+-- ---- a key goes
+
+pub IsKept-take_out : (l n : Inside) (k : Key) (s : Standing) → IsKept l → item_at post_key k l.members.posts ≡ Some (post k s)
+    → n.members ≡ record { posts = without post_key k l.members.posts; spare = l.members.spare + 1 }
+    → ((t : State) → size_at t n.sizes + share_of t (member k s.state) ≡ size_at t l.sizes) → n.queues ≡ left s.state s.at l.queues → IsKept n
+IsKept-take_out l n k s kept item is sizes queues =
+    let posts = l.members.posts in
+    let ms = members_of posts in
+    let q = left s.state s.at l.queues in
+    let gone = left-of l k s kept item in
+    let go = members-go k posts in
+    let fewer = length-without post_key k posts (post k s) item in
+    let at = member-at k posts s item in
+    kept-of n (without post_key k posts) (l.members.spare + 1) is (IsRising-without post_key k posts kept.rising)
+    (subst (AllByRecursion (λ m. m.key.size ≤ largest_block)) (sym go) (All-without member_key _ k ms kept.small))
+    (λ t. subst (λ z. size_at t n.sizes ≡ size_of t z) (sym go) (omega (arith, kept.sizes t, sizes t, size_of-without t k ms (member k s.state) at)))
+    (omega (arith, kept.few, fewer))
+    (subst (HaveCapacity _) (sym queues) (HaveCapacity-le _ _ q (omega (arith, fewer)) (gone.room _ kept.queues)))
+    (subst (λ z. AreSequencesOf (members_of (without post_key k posts)) (sequences_in z)) (sym queues)
+    (subst (λ z. AreSequencesOf z (sequences_in q)) (sym go) (subst (AreSequencesOf (without member_key k ms)) (sym gone.sequences) (AreSequencesOf-without k ms (sequences_in l.queues) kept.listed))))
+    (subst (λ z. AreInState (members_of (without post_key k posts)) (sequences_in z)) (sym queues)
+    (subst (λ z. AreInState z (sequences_in q)) (sym go) (subst (AreInState (without member_key k ms)) (sym gone.sequences) (AreInState-without k ms (sequences_in l.queues) kept.stated))))
+    (subst (ArePlaced (without post_key k posts)) (sym queues) (placed-go k posts l.queues q kept.rising gone.stays kept.placed))
+    (subst AreNodesApart (sym queues) gone.apart)
+
+-- ---- a member is put on its sequence, or taken off
+
+kept-change : (l n : Inside) (k : Key) (s : Standing) (at : Option ℕ) (q : Queues) → IsKept l → item_at post_key k l.members.posts ≡ Some (post k s)
+    → n.members ≡ record { posts = with_change post_key k (λ _. post k (standing s.state at)) l.members.posts; spare = l.members.spare } → n.sizes ≡ l.sizes → n.queues ≡ q
+    → HaveCapacity (length l.members.posts + l.members.spare) q → AreSequencesOf (members_of l.members.posts) (sequences_in q) → AreInState (members_of l.members.posts) (sequences_in q)
+    → ((j : Key) (r : Standing) → key_eq k j ≡ false → IsPlaced j r l.queues → IsPlaced j r q) → IsPlaced k (standing s.state at) q → AreNodesApart q → IsKept n
+kept-change l n k s at q kept item is sizes queues room listed stated stays here apart =
+    let posts = l.members.posts in
+    let after = with_change post_key k (λ _. post k (standing s.state at)) posts in
+    let same = members-stay k s.state s.at at posts item in
+    let count = length-with_change post_key k (λ _. post k (standing s.state at)) posts in
+    kept-of n after l.members.spare is (change-rising k posts (standing s.state at) kept.rising)
+    (subst (AllByRecursion (λ m. m.key.size ≤ largest_block)) (sym same) kept.small)
+    (λ t. ap (size_at t) sizes ∙ kept.sizes t ∙ ap (size_of t) (sym same))
+    (omega (arith, kept.few, count))
+    (subst (HaveCapacity _) (sym queues) (HaveCapacity-le _ _ q (omega (arith, count)) room))
+    (subst (λ z. AreSequencesOf (members_of after) (sequences_in z)) (sym queues) (subst (λ z. AreSequencesOf z (sequences_in q)) (sym same) listed))
+    (subst (λ z. AreInState (members_of after) (sequences_in z)) (sym queues) (subst (λ z. AreInState z (sequences_in q)) (sym same) stated))
+    (subst (ArePlaced after) (sym queues) (placed-change k posts (standing s.state at) s l.queues q item stays here kept.placed))
+    (subst AreNodesApart (sym queues) apart)
+
+pub IsKept-free : (l n : Inside) (k : Key) (s : Standing) (at : Option ℕ) → IsKept l → item_at post_key k l.members.posts ≡ Some (post k s) → stands k (sequences_in l.queues) ≡ false
+    → n.members ≡ record { posts = with_change post_key k (λ _. post k (standing s.state at)) l.members.posts; spare = l.members.spare } → n.sizes ≡ l.sizes
+    → IsPushed s.state k at l.queues n.queues → HaveRoom l.queues → IsKept n
+IsKept-free l n k s at kept item off is sizes entered room = elim (entered-cases true s.state k at l.queues n.queues entered) [
+  | inl stayed ↦
+      kept-change l n k s at l.queues kept item is sizes stayed.same kept.queues kept.listed kept.stated (λ j r differs placed. placed)
+      (subst (λ o. IsPlaced k (standing s.state o) l.queues) (sym stayed.at_is) (off-each s.state (sequences_in l.queues) away)) kept.apart
+  | inr came ↦
+      let q = pushed s.state k came.place l.queues in
+      let seq = sequences-pushed s.state k came.place l.queues in
+      let at_member = member-at k l.members.posts s item in
+      let there : IsTrue (has_key member_key k (members_of l.members.posts)) = ap is_some at_member in
+      kept-change l n k s at q kept item is sizes came.new_is (room-pushed s.state k came.place _ l.queues room kept.queues)
+      (subst (AreSequencesOf (members_of l.members.posts)) (sym seq) (AreSequencesOf-head s.state _ k (sequences_in l.queues) there away kept.listed))
+      (subst (AreInState (members_of l.members.posts)) (sym seq) (AreInState-head s.state _ k (sequences_in l.queues) at_member kept.stated))
+      (λ j r differs placed. stays-pushed s.state j k r came.place l.queues came.free differs placed)
+      (subst (λ o. IsPlaced k (standing s.state o) q) (sym came.at_is) (placed-new s.state k came.place l.queues came.has))
+      (apart-pushed s.state k came.place l.queues came.free kept.apart)
+]
+  where
+    away : IsOff k (sequences_in l.queues)
+    away = off_each k (sequences_in l.queues) off
+
+pub IsKept-bind : (l n : Inside) (k : Key) (s : Standing) → IsKept l → item_at post_key k l.members.posts ≡ Some (post k s)
+    → n.members ≡ record { posts = with_change post_key k (λ _. post k (standing s.state None)) l.members.posts; spare = l.members.spare } → n.sizes ≡ l.sizes
+    → n.queues ≡ left s.state s.at l.queues → IsKept n
+IsKept-bind l n k s kept item is sizes queues =
+    let q = left s.state s.at l.queues in
+    let gone = left-of l k s kept item in
+    let ms = members_of l.members.posts in
+    let off : stands_on k (sequence_of s.state (sequences_in q)) ≡ false = ap (λ z. stands_on k (sequence_of s.state z)) gone.sequences ∙ taken s.state (sequences_in l.queues) in
+    kept-change l n k s None q kept item is sizes queues (gone.room _ kept.queues)
+    (subst (AreSequencesOf ms) (sym gone.sequences) (AreSequencesOf-off ms k (sequences_in l.queues) kept.listed))
+    (subst (AreInState ms) (sym gone.sequences) (AreInState-off ms k (sequences_in l.queues) kept.stated)) gone.stays off gone.apart
+  where
+    taken : (t : State) (q : Sequences) → stands_on k (sequence_of t (taken_off k q)) ≡ false
+    taken Anon q = refl
+    taken Mru q = stands_on-without_same k q.mru
+    taken MruGhost q = stands_on-without_same k q.mru_ghost
+    taken Mfu q = stands_on-without_same k q.mfu
+    taken MfuGhost q = stands_on-without_same k q.mfu_ghost
+    taken L2Only q = refl
+
+-- ---- the view
+
+abbrev pub lists : List Member → Sequences → ℕ → ℕ → ℕ → PlainLists
+lists ms q p c spare = record { members = ms; sequences = q; p = p; c = c; spare = spare }
+
+pub lists-same : (ms ms' : List Member) (q q' : Sequences) (p c spare : ℕ) → ms ≡ ms' → q ≡ q'
+    → lists ms q p c spare ≡ lists ms' q' p c spare
+lists-same ms ms' q q' p c spare one two = ap (λ z. lists z q p c spare) one ∙ ap (λ z. lists ms' z p c spare) two
+
+-- a key that may be freed has a post
+pub bound-post : (l : Inside) (k : Key) → IsBound k (plain l) → IsSome (item_at post_key k l.members.posts)
+bound-post l k bound = post-of l.members.posts k (some (item_at member_key k (members_of l.members.posts)) bound.has_sequence)
+  where
+    some : (o : Option Member) → IsSomeAnd o (λ m. IsTrue (has_sequence m.state)) → IsSome o
+    some None none = absurd none
+    some (Some m) has = refl
+
+-- ---- more room
+
+same-sequences : (old new : Queues) → HaveSameNodes old new → sequences_in new ≡ sequences_in old
+same-sequences old new same = rw (same.mru, same.mru_ghost, same.mfu, same.mfu_ghost) refl
+
+same-nodes : (s : State) (old new : Queues) → HaveSameNodes old new → nodes_of s new ≡ nodes_of s old
+same-nodes Anon old new same = refl
+same-nodes Mru old new same = same.mru
+same-nodes MruGhost old new same = same.mru_ghost
+same-nodes Mfu old new same = same.mfu
+same-nodes MfuGhost old new same = same.mfu_ghost
+same-nodes L2Only old new same = refl
+
+pub IsKept-reserve : (l : Inside) (m : Posts) (q : Queues) (n : ℕ) → IsKept l → m.posts ≡ l.members.posts → m.spare ≤ n → length l.members.posts + n < 2 ^ 64
+    → HaveSameNodes l.queues q → HaveCapacity (length l.members.posts + n) q → IsKept record { members = m; queues = q; sizes = l.sizes; p = l.p; c = l.c }
+IsKept-reserve l m q n kept is spare few same room =
+    let seq = sym (same-sequences l.queues q same) in
+    let after : Inside = record { members = m; queues = q; sizes = l.sizes; p = l.p; c = l.c } in
+    kept-of after l.members.posts m.spare (ap (λ ps. record { posts = ps; spare = m.spare }) is) kept.rising kept.small kept.sizes (omega (arith, few, spare))
+    (HaveCapacity-le _ _ q (omega (arith, spare)) room)
+    (subst (AreSequencesOf (members_of l.members.posts)) seq kept.listed) (subst (AreInState (members_of l.members.posts)) seq kept.stated)
+    (λ k s item. moved k s (kept.placed k s item))
+    (record {
+      mru = subst AreApart (sym same.mru) kept.apart.mru;
+      mru_ghost = subst AreApart (sym same.mru_ghost) kept.apart.mru_ghost;
+      mfu = subst AreApart (sym same.mfu) kept.apart.mfu;
+      mfu_ghost = subst AreApart (sym same.mfu_ghost) kept.apart.mfu_ghost;
+    })
+  where
+    moved : (k : Key) (s : Standing) → IsPlaced k s l.queues → IsPlaced k s q
+    moved k s placed = go s.at placed
+      where
+        go : (at : Option ℕ) → MatchOption at (stands_on k (sequence_of s.state (sequences_in l.queues)) ≡ false) (λ p. element_at p (nodes_of s.state l.queues) ≡ Some k)
+            → MatchOption at (stands_on k (sequence_of s.state (sequences_in q)) ≡ false) (λ p. element_at p (nodes_of s.state q) ≡ Some k)
+        go None off = ap (λ z. stands_on k (sequence_of s.state z)) (same-sequences l.queues q same) ∙ off
+        go (Some p) node = ap (element_at p) (same-nodes s.state l.queues q same) ∙ node
+
+-- a reserve leaves at most the room that was asked for
+pub reserved-le : {A E : Type 0} (r : Result A E) (old new : Posts) (n : ℕ) → old.spare ≤ n → OnOk r (new.spare ≡ max old.spare n) → OnErr r (new ≡ old) → new.spare ≤ n
+reserved-le (Ok a) old new n le ok err = omega (arith, ok)
+reserved-le (Err e) old new n le ok err = omega (arith, ap (λ (z : Posts). z.spare) err)

@@ -1,6 +1,9 @@
+pub mod Enrolled
 pub mod InState
 pub mod Keeping
-pub mod Members
+pub mod Oldest
+pub mod Placing
+pub mod Rising
 pub mod SizeSums
 pub mod Standing
 pub mod Tables

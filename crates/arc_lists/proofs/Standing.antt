@@ -1,5 +1,5 @@
 -- Sequences that name members, each once.
-use Rattle.std.proofs.Common.{◌≡◌, ℕ, suc, ◌≤◌, Bool, true, false, not, ◌&&◌, ◌||◌, IsTrue, List, [], ◌∷◌, length, Some, Option, is_some, inl, inr, refl, sym, ap, subst, ◌∙◌, arith}
+use Rattle.std.proofs.Common.{◌≡◌, ℕ, suc, ◌≤◌, Bool, true, false, not, ◌&&◌, ◌||◌, IsTrue, List, [], ◌∷◌, length, map, Some, Option, is_some, inl, inr, refl, sym, ap, subst, ◌∙◌, arith}
 use Rattle.std.specs.List.{AllByRecursion}
 use Rattle.std.proofs.lemmas.Bool.{false≢true}
 use Rattle.blk_ptr.specs.declared.key.Key.{Key}
@@ -7,6 +7,7 @@ use Rattle.blk_ptr.specs.declared.state.State.{State}
 use Rattle.blk_ptr.specs.declared.state.State.TheVariants.{Anon, Mru, MruGhost, Mfu, MfuGhost, L2Only}
 use Rattle.blk_ptr.specs.Order.{key_eq}
 use Rattle.blk_ptr.proofs.Keys.{key_eq-is, key_eq-sym}
+use Rattle.arc_links.specs.PlainLinks.{Placed, PlainLinks, elements}
 use Rattle.arc_lists.specs.declared.member.Member.{Member}
 use Rattle.arc_lists.specs.ByKey.{IsRising, has_key, item_at, with_item, without}
 use Rattle.arc_lists.specs.PlainLists.{member_key}
@@ -14,6 +15,14 @@ use Rattle.arc_lists.specs.declared.queues.Queues.{Queues}
 use Rattle.arc_lists.specs.Queues.{AreSequencesOf, HaveCapacity, HaveRoom, IsSequenceOf, sequences_in}
 use Rattle.arc_lists.specs.Sequences.{Sequences, is_distinct, put_at_head, stands, stands_on, taken_off, without_key}
 use Rattle.arc_lists.proofs.Tables.{cases_true, is_some_of, IsRising-without, item_at-with_item_other, item_at-without_other, length-without}
+
+-- there are as many elements as nodes
+pub length-elements : (l : PlainLinks Key) → length (elements l) ≡ length l.nodes
+length-elements l = go l.nodes
+  where
+    go : (ns : List (Placed Key)) → length (map (λ (n : Placed Key). n.element) ns) ≡ length ns
+    go [] = refl
+    go (n ∷ ns) = ap (λ k. suc k) (go ns)
 
 pub and_left : (a b : Bool) → (a && b) ≡ true → a ≡ true
 and_left true b h = refl
@@ -223,18 +232,18 @@ length-lt ms k ks rising there off listed = length-le ms (k ∷ ks) rising (IsSe
 pub HaveRoom-free : (ms : List Member) (k : Key) (n : ℕ) (q : Queues) → IsRising member_key ms → IsTrue (has_key member_key k ms) → IsOff k (sequences_in q) → AreSequencesOf ms (sequences_in q)
     → length ms ≤ n → HaveCapacity n q → HaveRoom q
 HaveRoom-free ms k n q rising there off listed le room = record {
-  mru = omega (arith, length-lt ms k q.mru.items rising there off.mru listed.mru, room.mru);
-  mru_ghost = omega (arith, length-lt ms k q.mru_ghost.items rising there off.mru_ghost listed.mru_ghost, room.mru_ghost);
-  mfu = omega (arith, length-lt ms k q.mfu.items rising there off.mfu listed.mfu, room.mfu);
-  mfu_ghost = omega (arith, length-lt ms k q.mfu_ghost.items rising there off.mfu_ghost listed.mfu_ghost, room.mfu_ghost);
+  mru = omega (arith, length-lt ms k (elements q.mru) rising there off.mru listed.mru, length-elements q.mru, room.mru);
+  mru_ghost = omega (arith, length-lt ms k (elements q.mru_ghost) rising there off.mru_ghost listed.mru_ghost, length-elements q.mru_ghost, room.mru_ghost);
+  mfu = omega (arith, length-lt ms k (elements q.mfu) rising there off.mfu listed.mfu, length-elements q.mfu, room.mfu);
+  mfu_ghost = omega (arith, length-lt ms k (elements q.mfu_ghost) rising there off.mfu_ghost listed.mfu_ghost, length-elements q.mfu_ghost, room.mfu_ghost);
 }
 
 pub HaveRoom-more : (ms : List Member) (n : ℕ) (q : Queues) → IsRising member_key ms → AreSequencesOf ms (sequences_in q) → suc (length ms) ≤ n → HaveCapacity n q → HaveRoom q
 HaveRoom-more ms n q rising listed le room = record {
-  mru = omega (arith, length-le ms q.mru.items rising listed.mru, room.mru);
-  mru_ghost = omega (arith, length-le ms q.mru_ghost.items rising listed.mru_ghost, room.mru_ghost);
-  mfu = omega (arith, length-le ms q.mfu.items rising listed.mfu, room.mfu);
-  mfu_ghost = omega (arith, length-le ms q.mfu_ghost.items rising listed.mfu_ghost, room.mfu_ghost);
+  mru = omega (arith, length-le ms (elements q.mru) rising listed.mru, length-elements q.mru, room.mru);
+  mru_ghost = omega (arith, length-le ms (elements q.mru_ghost) rising listed.mru_ghost, length-elements q.mru_ghost, room.mru_ghost);
+  mfu = omega (arith, length-le ms (elements q.mfu) rising listed.mfu, length-elements q.mfu, room.mfu);
+  mfu_ghost = omega (arith, length-le ms (elements q.mfu_ghost) rising listed.mfu_ghost, length-elements q.mfu_ghost, room.mfu_ghost);
 }
 
 pub HaveCapacity-le : (m n : ℕ) (q : Queues) → m ≤ n → HaveCapacity n q → HaveCapacity m q

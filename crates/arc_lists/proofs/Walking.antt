@@ -10,12 +10,15 @@ use Rattle.blk_ptr.specs.declared.state.State.{State}
 use Rattle.blk_ptr.specs.declared.state.State.TheVariants.{Anon, Mru, MruGhost, Mfu, MfuGhost, L2Only}
 use Rattle.arc_lists.specs.declared.lists.Lists.TheInside.{Inside}
 use Rattle.arc_lists.specs.declared.member.Member.{Member}
+use Rattle.arc_lists.specs.declared.post.Standing.{Standing}
 use Rattle.arc_lists.specs.ByKey.{item_at}
 use Rattle.arc_lists.specs.Kept.{IsKept, plain}
 use Rattle.arc_lists.specs.PlainLists.{member, member_key}
+use Rattle.arc_lists.specs.Posts.{members_of, post, post_key}
 use Rattle.arc_lists.specs.Queues.{AreSequencesOf, sequences_in}
 use Rattle.arc_lists.specs.Sequences.{Sequences, is_distinct, sequence_of, stands_on}
 use Rattle.arc_lists.specs.Walks.{ahead_of, first_of, next_to, oldest_first}
+use Rattle.arc_lists.proofs.Placing.{member-at}
 use Rattle.arc_lists.proofs.Standing.{and_left, and_right, both, not_true, not_true_is, or_left_false, or_right_false}
 use Rattle.arc_lists.proofs.Tables.{cases_true, some_is}
 
@@ -100,12 +103,13 @@ distinct-sequence Mfu ms q listed = listed.mfu.once
 distinct-sequence MfuGhost ms q listed = listed.mfu_ghost.once
 distinct-sequence L2Only ms q listed = refl
 
-pub newer-is : (l : Inside) (k : Key) (here : State) (r : Option Key) (s : State) → IsKept l → item_at member_key k l.members.items ≡ Some (member k here)
-    → r ≡ ahead_of None k (sequence_of here (sequences_in l.queues)) → stands_on k (sequence_of s (plain l).sequences) ≡ true → r ≡ next_to k (oldest_first s (plain l).sequences)
-newer-is l k here r s kept item is there =
+pub newer-is : (l : Inside) (k : Key) (s : Standing) (r : Option Key) (t : State) → IsKept l → item_at post_key k l.members.posts ≡ Some (post k s)
+    → r ≡ ahead_of None k (sequence_of s.state (sequences_in l.queues)) → stands_on k (sequence_of t (plain l).sequences) ≡ true → r ≡ next_to k (oldest_first t (plain l).sequences)
+newer-is l k s r t kept item is there =
     let q = sequences_in l.queues in
-    let same : here ≡ s = ap (λ m. m.state) (some_is (sym item ∙ kept.stated s k there)) in
-    is ∙ ap (λ t. ahead_of None k (sequence_of t q)) same ∙ ahead-is-next k (sequence_of s q) (distinct-sequence s l.members.items q kept.listed) there
+    let at : item_at member_key k (members_of l.members.posts) ≡ Some (member k s.state) = member-at k l.members.posts s item in
+    let same : s.state ≡ t = ap (λ m. m.state) (some_is (sym at ∙ kept.stated t k there)) in
+    is ∙ ap (λ u. ahead_of None k (sequence_of u q)) same ∙ ahead-is-next k (sequence_of t q) (distinct-sequence t (members_of l.members.posts) q kept.listed) there
 
 -- no key stands twice on a list turned round
 distinct-end : (xs : List Key) (y : Key) → is_distinct xs ≡ true → stands_on y xs ≡ false → is_distinct (xs ++ y ∷ []) ≡ true

@@ -42,3 +42,8 @@ module _ {X : Type 0} (key_of : X → Key) where
   -- how many items have smaller keys: where the key stands in a rising table, or would stand
   abbrev pub rank : Key → List X → ℕ
   rank k = prefix_len (λ x. key_lt (key_of x) k)
+
+  -- the items of a list as a table
+  abbrev pub in_order : List X → List X
+  in_order [] = []
+  in_order (x ∷ xs) = with_item x (in_order xs)

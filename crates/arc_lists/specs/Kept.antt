@@ -1,27 +1,31 @@
--- What the vectors of the lists keep.
-use Rattle.std.specs.Prelude.{◌≡◌, ◌+◌, ◌≤◌, vec_len, vec_capacity}
+-- What the members and the linked lists keep.
+use Rattle.std.specs.Prelude.{◌≡◌, ◌+◌, ◌^◌, ◌<◌, ◌≤◌, length}
 use Rattle.std.specs.List.{AllByRecursion}
 use Rattle.blk_ptr.specs.Size.{largest_block}
 use Rattle.blk_ptr.specs.declared.state.State.{State}
 use Rattle.arc_lists.specs.declared.lists.Lists.TheInside.{Inside}
 use Rattle.arc_lists.specs.ByKey.{IsRising}
-use Rattle.arc_lists.specs.PlainLists.{PlainLists, member_key, size_of}
-use Rattle.arc_lists.specs.Queues.{AreInState, AreSequencesOf, HaveCapacity, sequences_in, size_at}
+use Rattle.arc_lists.specs.PlainLists.{PlainLists, size_of}
+use Rattle.arc_lists.specs.Posts.{members_of, post_key}
+use Rattle.arc_lists.specs.Queues.{AreInState, AreNodesApart, ArePlaced, AreSequencesOf, HaveCapacity, sequences_in, size_at}
 
--- the plain lists that the vectors hold
+-- the plain lists that they hold
 abbrev pub plain : Inside → PlainLists
-plain l = record { members = l.members.items; sequences = sequences_in l.queues; p = l.p; c = l.c; spare = l.spare }
+plain l = record { members = members_of l.members.posts; sequences = sequences_in l.queues; p = l.p; c = l.c; spare = l.members.spare }
 
 pub record IsKept (l : Inside) : Type 0 where
   -- the members rise by their keys, and none is larger than a block
-  pub rising : IsRising member_key l.members.items
-  pub small : AllByRecursion (λ m. m.key.size ≤ largest_block) l.members.items
+  pub rising : IsRising post_key l.members.posts
+  pub small : AllByRecursion (λ m. m.key.size ≤ largest_block) (members_of l.members.posts)
   -- each size that is counted along the way is the sum that it stands for
-  pub sizes : (s : State) → size_at s l.sizes ≡ size_of s l.members.items
-  -- there is room for the members that may come, in the table and on each sequence
-  pub room : vec_len l.members + l.spare ≤ vec_capacity l.members
-  pub queues : HaveCapacity (vec_len l.members + l.spare) l.queues
+  pub sizes : (s : State) → size_at s l.sizes ≡ size_of s (members_of l.members.posts)
+  -- there is room for the members that may come on each sequence
+  pub few : length l.members.posts + l.members.spare < 2 ^ 64
+  pub queues : HaveCapacity (length l.members.posts + l.members.spare) l.queues
   -- the sequences name members alone, each once
-  pub listed : AreSequencesOf l.members.items (sequences_in l.queues)
+  pub listed : AreSequencesOf (members_of l.members.posts) (sequences_in l.queues)
   -- and each member on the sequence of its own state alone
-  pub stated : AreInState l.members.items (sequences_in l.queues)
+  pub stated : AreInState (members_of l.members.posts) (sequences_in l.queues)
+  -- each member's node is found at its place, and no other node stands there
+  pub placed : ArePlaced l.members.posts l.queues
+  pub apart : AreNodesApart l.queues

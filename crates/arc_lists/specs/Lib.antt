@@ -1,8 +1,11 @@
 pub mod Adapting
 pub mod ByKey
 pub mod Kept
+pub mod LastKeys
 pub mod PlainLists
+pub mod Posts
 pub mod Queues
 pub mod Room
+pub mod Rows
 pub mod Sequences
 pub mod Walks

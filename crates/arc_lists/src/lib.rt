@@ -4,11 +4,16 @@
 mod ghost_list;
 mod lists;
 mod member;
+mod members;
+mod name;
+mod post;
 mod queues;
 mod sizes;
-mod table;
 mod target;
 
 pub use ghost_list::Ghost;
 pub use lists::Lists;
 pub use member::Member;
+
+#[cfg(test)]
+mod tests;

@@ -11,10 +11,11 @@ ghost use Rattle.arc_lists.specs.Sequences.{stands, taken_off};
 mod walks;
 
 use crate::ghost_list::Ghost;
-use crate::member::Member;
+use crate::members::Members;
+use crate::post::Standing;
 use crate::queues::{Queues, oldest};
 use crate::sizes::Sizes;
-use crate::{table, target};
+use crate::target;
 use blk_ptr::{Key, NoMemory, State};
 use std::alloc::Global;
 use std::marker::Model;
@@ -22,12 +23,11 @@ use std::marker::Model;
 /// Who is there and in which state, the four sequences, the sizes, and the target. Contracts see plain lists.
 #[derive(Debug, Drop)]
 pub struct Lists {
-    members: Vec<Member>,
+    members: Members,
     queues: Queues,
     sizes: Sizes,
     p: u64,
     c: u64,
-    spare: usize,
 }
 
 impl Model for Lists {
@@ -49,12 +49,11 @@ impl Lists {
         ensures { result ≡ opening_lists (c / 2) c }
     {
         Lists {
-            members: Vec::new(alloc),
+            members: Members::new(alloc),
             queues: Queues::new(alloc),
             sizes: Sizes::zero(),
             p: c / 2,
             c,
-            spare: 0,
         }
     }
 
@@ -64,14 +63,15 @@ impl Lists {
         ensures ok { OnOk result (self.new.spare ≡ max self.old.spare n) }
         ensures err { OnErr result (self.new ≡ self.old) }
     {
-        if n <= self.spare {
+        let spare = self.members.spare();
+        if n <= spare {
             return Ok(());
         }
-        let all = self.members.len().checked_add(n).ok_or(NoMemory)?;
-        self.queues.reserve_all(all)?;
-        self.members.reserve(n)?;
-        self.spare = n;
-        Ok(())
+        if n > usize::MAX - self.members.len() {
+            return Err(NoMemory);
+        }
+        self.queues.widen(n - spare)?;
+        self.members.reserve(n)
     }
 
     /// Moves the target, since `z` bytes of a ghost were asked for.
@@ -97,12 +97,9 @@ impl Lists {
         requires size { IsBlockSize key.size }
         ensures { self.new ≡ put key s unheld self.old }
     {
-        table::add(&mut self.members, key, s);
+        let at = self.queues.enter(s, key, unheld);
+        self.members.add(key, Standing { state: s, at });
         self.sizes.add(s, key.size);
-        if unheld {
-            self.queues.put_at_head(s, key);
-        }
-        self.spare -= 1;
     }
 
     /// Removes a key: its size no longer counts, and it stands on no sequence.
@@ -110,10 +107,9 @@ impl Lists {
         requires { IsSome (item_at member_key key self.old.members) }
         ensures { self.new ≡ take_out key self.old }
     {
-        let s = table::remove(&mut self.members, key);
-        self.sizes.take(s, key.size);
-        self.queues.take_off(s, key);
-        self.spare += 1;
+        let Standing { state, at } = self.members.remove(key);
+        self.sizes.take(state, key.size);
+        self.queues.leave(state, at);
     }
 
     /// Puts a key that stands on no sequence at the head of its state's sequence.
@@ -121,8 +117,9 @@ impl Lists {
         requires { IsBound key self.old }
         ensures { self.new ≡ freed key self.old }
     {
-        let s = table::state_of(&self.members, key);
-        self.queues.put_at_head(s, key);
+        let Standing { state, at: _ } = self.members.find(key);
+        let at = self.queues.put_at_head(state, key);
+        self.members.set(key, Standing { state, at });
     }
 
     /// Takes a key off its sequence.
@@ -130,8 +127,9 @@ impl Lists {
         requires { IsTrue (stands key self.old.sequences) }
         ensures { self.new ≡ record self.old { sequences = taken_off key self.old.sequences } }
     {
-        let s = table::state_of(&self.members, key);
-        self.queues.take_off(s, key);
+        let Standing { state, at } = self.members.find(key);
+        self.queues.leave(state, at);
+        self.members.set(key, Standing { state, at: None });
     }
 
     /// The size of a state in bytes: the sum of the sizes of all its keys, those on no sequence included.

@@ -1,118 +1,152 @@
-ghost use Rattle.std.specs.Prelude.{◌≡◌, ℕ, ◌+◌, ◌<◌, ◌≤◌, ◌∷◌, Bool, vec_len, vec_capacity, OnOk};
+//! The four sequences, each a linked list with the newest key first.
+ghost use Rattle.std.specs.Prelude.{◌≡◌, ℕ, ◌+◌, ◌<◌, ◌≤◌, Bool, IsSome, OnOk};
 ghost use Rattle.blk_ptr.specs.declared.key.Key.{Key};
-ghost use Rattle.arc_lists.specs.Sequences.{without_key, oldest_unskipped};
+ghost use Rattle.arc_links.specs.PlainLinks.{AreApart, element_at, elements, in_front};
+ghost use Rattle.arc_lists.specs.LastKeys.{last_key};
+ghost use Rattle.arc_lists.specs.Sequences.{oldest_unskipped};
 
+use arc_links::Links;
 use blk_ptr::{Key, NoMemory, State};
 use std::alloc::Global;
 
-/// The four sequences, each a vector with the newest key first.
+/// The four sequences.
 #[derive(Debug, Drop)]
 pub struct Queues {
-    pub mru: Vec<Key>,
-    pub mru_ghost: Vec<Key>,
-    pub mfu: Vec<Key>,
-    pub mfu_ghost: Vec<Key>,
+    pub mru: Links<Key>,
+    pub mru_ghost: Links<Key>,
+    pub mfu: Links<Key>,
+    pub mfu_ghost: Links<Key>,
 }
 
-// Puts a key at the head of a sequence that has room for it.
-fn push_head(sequence: &mut Vec<Key>, key: Key)
-    requires { vec_len sequence.old < vec_capacity sequence.old }
-    ensures items { sequence.new.items ≡ key ∷ sequence.old.items }
-    ensures capacity { vec_capacity sequence.new ≡ vec_capacity sequence.old }
+// Makes room for `n` keys more than there was.
+fn widen(sequence: &mut Links<Key>, n: usize) -> Result<(), NoMemory>
+    ensures nodes { sequence.new.nodes ≡ sequence.old.nodes }
+    ensures ok { OnOk result (sequence.old.spare + n ≤ sequence.new.spare) }
+    ensures spare { sequence.old.spare ≤ sequence.new.spare }
 {
-    let _ = sequence.insert(0, key);
-}
-
-// Takes a key off a sequence, wherever it stands.
-fn remove(sequence: &mut Vec<Key>, key: Key)
-    ensures items { sequence.new.items ≡ without_key key sequence.old.items }
-    ensures capacity { vec_capacity sequence.new ≡ vec_capacity sequence.old }
-{
-    sequence.retain(|k| *k != key);
-}
-
-// Makes room for `n` keys in all.
-fn reserve_all(sequence: &mut Vec<Key>, n: usize) -> Result<(), NoMemory>
-    ensures items { sequence.new.items ≡ sequence.old.items }
-    ensures ok { OnOk result (n ≤ vec_capacity sequence.new) }
-    ensures capacity { vec_capacity sequence.old ≤ vec_capacity sequence.new }
-{
-    let more = n.saturating_sub(sequence.len());
-    sequence.reserve(more)?;
+    let all = sequence.spare().checked_add(n).ok_or(NoMemory)?;
+    if sequence.reserve(all).is_err() {
+        return Err(NoMemory);
+    }
     Ok(())
 }
 
-/// The oldest key of a sequence that `skip` doesn't pass over.
-pub fn oldest<F: Fn(Key) -> bool>(sequence: &[Key], skip: &F) -> Option<Key>
-    requires { F.IsAlwaysCallable skip.now }
-    ensures { (skips : Key → Bool) → ((key : Key) (answer : Bool) → F.post skip.now key answer → answer ≡ skips key)
-        → result ≡ oldest_unskipped skips sequence.now }
+// The key in front of the node at a place, toward the head.
+fn key_ahead(sequence: &Links<Key>, at: usize) -> Option<Key>
+    requires there { IsSome (element_at at sequence.now.nodes) }
+    requires apart { AreApart sequence.now.nodes }
+    ensures { result ≡ last_key (in_front at sequence.now.nodes) }
 {
-    let mut at = sequence.len();
-    while at > 0 {
-        at -= 1;
-        let key = sequence[at];
+    let ahead = sequence.toward_head(at)?;
+    Some(sequence.key_at(ahead))
+}
+
+/// The oldest key of a sequence that `skip` doesn't pass over.
+pub fn oldest<F: Fn(Key) -> bool>(sequence: &Links<Key>, skip: &F) -> Option<Key>
+    requires callable { F.IsAlwaysCallable skip.now }
+    requires apart { AreApart sequence.now.nodes }
+    ensures { (skips : Key → Bool) → ((key : Key) (answer : Bool) → F.post skip.now key answer → answer ≡ skips key)
+        → result ≡ oldest_unskipped skips (elements sequence.now) }
+{
+    let mut at = sequence.last();
+    while let Some(place) = at {
+        let key = sequence.key_at(place);
         if !skip(key) {
             return Some(key);
         }
+        at = sequence.toward_head(place);
     }
     None
 }
 
 impl Queues {
-    ghost use Rattle.arc_lists.specs.Queues.{sequences_in, HaveCapacity, HaveRoom, IsOnlyOn};
-    ghost use Rattle.arc_lists.specs.Sequences.{no_keys, put_at_head, taken_off};
+    ghost use Rattle.arc_lists.specs.Queues.{AreNodesApart, HaveCapacity, HaveRoom, HaveSameNodes, IsEntered, IsOn, IsPushed, left, no_queues, nodes_of, removed};
 
     pub fn new(alloc: Global) -> Queues
-        ensures { sequences_in result ≡ no_keys }
+        ensures { result ≡ no_queues }
     {
         Queues {
-            mru: Vec::new(alloc),
-            mru_ghost: Vec::new(alloc),
-            mfu: Vec::new(alloc),
-            mfu_ghost: Vec::new(alloc),
+            mru: Links::new(alloc),
+            mru_ghost: Links::new(alloc),
+            mfu: Links::new(alloc),
+            mfu_ghost: Links::new(alloc),
         }
     }
 
-    /// Makes room for `n` keys in all on each sequence.
-    pub fn reserve_all(&mut self, n: usize) -> Result<(), NoMemory>
-        ensures items { sequences_in self.new ≡ sequences_in self.old }
-        ensures ok { OnOk result (HaveCapacity n self.new) }
+    /// Makes room for `n` keys more than there was on each sequence.
+    pub fn widen(&mut self, n: usize) -> Result<(), NoMemory>
+        ensures nodes { HaveSameNodes self.old self.new }
+        ensures ok { OnOk result ((m : ℕ) → HaveCapacity m self.old → HaveCapacity (m + n) self.new) }
         ensures kept { (m : ℕ) → HaveCapacity m self.old → HaveCapacity m self.new }
     {
-        reserve_all(&mut self.mru, n)?;
-        reserve_all(&mut self.mru_ghost, n)?;
-        reserve_all(&mut self.mfu, n)?;
-        reserve_all(&mut self.mfu_ghost, n)
+        widen(&mut self.mru, n)?;
+        widen(&mut self.mru_ghost, n)?;
+        widen(&mut self.mfu, n)?;
+        widen(&mut self.mfu_ghost, n)
     }
 
-    /// Puts a key at the head of the sequence of a state, where that state has one.
-    pub fn put_at_head(&mut self, state: State, key: Key)
+    /// Puts a key at the head of the sequence of a state, where that state has one, and answers its node's place.
+    pub fn put_at_head(&mut self, state: State, key: Key) -> Option<usize>
         requires { HaveRoom self.old }
-        ensures items { sequences_in self.new ≡ put_at_head state key (sequences_in self.old) }
-        ensures kept { (m : ℕ) → HaveCapacity m self.old → HaveCapacity m self.new }
+        ensures { IsPushed state key result self.old self.new }
     {
         match state {
-            State::Mru => push_head(&mut self.mru, key),
-            State::MruGhost => push_head(&mut self.mru_ghost, key),
-            State::Mfu => push_head(&mut self.mfu, key),
-            State::MfuGhost => push_head(&mut self.mfu_ghost, key),
-            State::Anon | State::L2Only => {}
+            State::Mru => Some(self.mru.push_head(key)),
+            State::MruGhost => Some(self.mru_ghost.push_head(key)),
+            State::Mfu => Some(self.mfu.push_head(key)),
+            State::MfuGhost => Some(self.mfu_ghost.push_head(key)),
+            State::Anon | State::L2Only => None,
         }
     }
 
-    /// Takes a key off the sequence of its state, the only one on which it may stand.
-    pub fn take_off(&mut self, state: State, key: Key)
-        requires { IsOnlyOn state key (sequences_in self.old) }
-        ensures items { sequences_in self.new ≡ taken_off key (sequences_in self.old) }
-        ensures kept { (m : ℕ) → HaveCapacity m self.old → HaveCapacity m self.new }
+    /// Puts a key at the head of the sequence of a state only where it is unheld.
+    pub fn enter(&mut self, state: State, key: Key, unheld: bool) -> Option<usize>
+        requires { HaveRoom self.old }
+        ensures { IsEntered unheld state key result self.old self.new }
+    {
+        if unheld {
+            self.put_at_head(state, key)
+        } else {
+            None
+        }
+    }
+
+    /// Takes the node at a place off the sequence of a state, where there is one.
+    pub fn leave(&mut self, state: State, at: Option<usize>)
+        requires { IsOn state at self.old }
+        ensures { self.new ≡ left state at self.old }
+    {
+        if let Some(place) = at {
+            self.take_off(state, place);
+        }
+    }
+
+    // Takes the node at a place off the sequence of a state.
+    fn take_off(&mut self, state: State, at: usize)
+        requires { IsSome (element_at at (nodes_of state self.old)) }
+        ensures { self.new ≡ removed state at self.old }
+    {
+        let _ = match state {
+            State::Mru => self.mru.remove(at),
+            State::MruGhost => self.mru_ghost.remove(at),
+            State::Mfu => self.mfu.remove(at),
+            State::MfuGhost => self.mfu_ghost.remove(at),
+            State::Anon | State::L2Only => unreachable!(),
+        };
+    }
+
+    /// The key in front of the node at a place of a state's sequence, toward the head.
+    pub fn key_ahead(&self, state: State, at: usize) -> Option<Key>
+        requires there { IsSome (element_at at (nodes_of state self.now)) }
+        requires apart { AreNodesApart self.now }
+        ensures { result ≡ last_key (in_front at (nodes_of state self.now)) }
     {
         match state {
-            State::Mru => remove(&mut self.mru, key),
-            State::MruGhost => remove(&mut self.mru_ghost, key),
-            State::Mfu => remove(&mut self.mfu, key),
-            State::MfuGhost => remove(&mut self.mfu_ghost, key),
-            State::Anon | State::L2Only => {}
+            State::Mru => key_ahead(&self.mru, at),
+            State::MruGhost => key_ahead(&self.mru_ghost, at),
+            State::Mfu => key_ahead(&self.mfu, at),
+            State::MfuGhost => key_ahead(&self.mfu_ghost, at),
+            State::Anon | State::L2Only => None,
         }
     }
 }

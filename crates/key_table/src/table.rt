@@ -52,6 +52,13 @@ impl<K: Hashed + Drop, V> Table<K, V> {
         self.slots.len()
     }
 
+    /// For how many more rows there is room.
+    pub fn spare(&self) -> usize
+        ensures { result ≡ self.now.spare }
+    {
+        self.spare
+    }
+
     /// Makes room for `n` more rows. After want of memory the rows and the room are as before.
     pub fn reserve(&mut self, n: usize) -> Result<(), NoMemory>
         ensures rows { self.new ≡ record self.old { spare = self.new.spare } }

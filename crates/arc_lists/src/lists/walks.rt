@@ -1,33 +1,24 @@
 //! Walks over the sequences from the oldest key on, and a new capacity.
-ghost use Rattle.std.specs.Prelude.{◌≡◌, IsTrue, reverse};
+ghost use Rattle.std.specs.Prelude.{◌≡◌, IsTrue};
 ghost use Rattle.blk_ptr.specs.declared.state.State.{State};
+ghost use Rattle.arc_links.specs.PlainLinks.{AreApart};
+ghost use Rattle.arc_lists.specs.LastKeys.{last_key};
 ghost use Rattle.arc_lists.specs.Adapting.{IsCapacity, clamped_target};
 ghost use Rattle.arc_lists.specs.Sequences.{sequence_of, stands, stands_on};
-ghost use Rattle.arc_lists.specs.Walks.{ahead_of, first_of, next_to, oldest_first};
+ghost use Rattle.arc_lists.specs.Walks.{first_of, next_to, oldest_first};
 
 use super::Lists;
-use crate::table;
+use crate::post::Standing;
+use arc_links::Links;
 use blk_ptr::{Key, State};
 
-// The key in front of a key, toward the head.
-fn ahead_of(sequence: &[Key], key: Key) -> Option<Key>
-    ensures { result ≡ ahead_of None key sequence.now }
-{
-    let mut last = None;
-    for k in sequence {
-        if *k == key {
-            return last;
-        }
-        last = Some(*k);
-    }
-    None
-}
-
 // The last key of a sequence.
-fn last_of(sequence: &[Key]) -> Option<Key>
-    ensures { result ≡ first_of (reverse sequence.now) }
+fn last_of(sequence: &Links<Key>) -> Option<Key>
+    requires { AreApart sequence.now.nodes }
+    ensures { result ≡ last_key sequence.now.nodes }
 {
-    sequence.last().copied()
+    let last = sequence.last()?;
+    Some(sequence.key_at(last))
 }
 
 impl Lists {
@@ -49,13 +40,8 @@ impl Lists {
         requires { IsTrue (stands key self.now.sequences) }
         ensures { (s : State) → IsTrue (stands_on key (sequence_of s self.now.sequences)) → result ≡ next_to key (oldest_first s self.now.sequences) }
     {
-        match table::state_of(&self.members, key) {
-            State::Mru => ahead_of(&self.queues.mru, key),
-            State::MruGhost => ahead_of(&self.queues.mru_ghost, key),
-            State::Mfu => ahead_of(&self.queues.mfu, key),
-            State::MfuGhost => ahead_of(&self.queues.mfu_ghost, key),
-            State::Anon | State::L2Only => None,
-        }
+        let Standing { state, at } = self.members.find(key);
+        self.queues.key_ahead(state, at.unwrap())
     }
 
     /// Gives the lists a new capacity in bytes, from 4,096 to 2^32. The target goes no lower than a sixteenth of it, and no higher

@@ -1,28 +1,30 @@
-use Rattle.std.proofs.Common.{◌≡◌, true, sym, subst}
-use Rattle.arc_lists.specs.Queues.{AreInState, AreSequencesOf, sequences_in}
+use Rattle.std.proofs.Common.{◌≡◌, IsSome, None, ap, is_some, refl, sym, subst, true}
+use Rattle.arc_lists.specs.Posts.{members_of}
+use Rattle.arc_lists.specs.Queues.{sequences_in}
 use Rattle.arc_lists.specs.Sequences.{stands}
-use Rattle.arc_lists.proofs.InState.{AreInState-off, only_on, stands-member}
-use Rattle.arc_lists.proofs.Standing.{AreSequencesOf-off}
+use Rattle.arc_lists.proofs.InState.{stands-member}
+use Rattle.arc_lists.proofs.Keeping.{IsKept-bind, is-on, left-of, lists-same, post-of}
+use Rattle.arc_lists.proofs.Placing.{members-stay}
 use Rattle.arc_lists.proofs.lists.Lists.bind.Goals as goal
 
-pub state_of-s-requires-clause-there : goal.state_of-s-requires-clause-there
-state_of-s-requires-clause-there c =
-    stands-member c.self.inside.members.items c.args.key (sequences_in c.self.inside.queues) c.self.invariant.stated
-    (subst (λ l. stands c.args.key l.sequences ≡ true) (sym c.self.view_is) c.requires)
+pub find-state-requires : goal.find-state-requires
+find-state-requires c =
+    let l = c.self.inside in
+    post-of l.members.posts c.args.key
+    (stands-member (members_of l.members.posts) c.args.key (sequences_in l.queues) c.self.invariant.stated (subst (λ z. stands c.args.key z.sequences ≡ true) (sym c.self.view_is) c.requires))
 
-pub take_off-requires : goal.take_off-requires
-take_off-requires c = only_on c.state_of-s.result c.self.inside.members.items c.args.key (sequences_in c.self.inside.queues) c.state_of-s.ensures c.self.invariant.stated
+pub leave-requires : goal.leave-requires
+leave-requires c = is-on c.self.inside c.args.key c.find-state.result c.self.invariant c.find-state.ensures
+
+pub set-requires : goal.set-requires
+set-requires c = rw c.find-state.ensures refl
 
 pub invariant_of-self : goal.invariant_of-self
-invariant_of-self c =
-    let kept = c.self.invariant in
-    let q = sequences_in c.self.inside.queues in
-    record {
-      rising = kept.rising;
-      small = kept.small;
-      sizes = kept.sizes;
-      room = kept.room;
-      queues = c.take_off.ensures.kept _ kept.queues;
-      listed = subst (AreSequencesOf c.self.inside.members.items) (sym c.take_off.ensures.items) (AreSequencesOf-off _ c.args.key _ kept.listed);
-      stated = subst (AreInState c.self.inside.members.items) (sym c.take_off.ensures.items) (AreInState-off c.self.inside.members.items c.args.key q kept.stated);
-    }
+invariant_of-self c = IsKept-bind c.self.inside _ c.args.key c.find-state.result c.self.invariant c.find-state.ensures c.set.ensures refl c.leave.ensures
+
+pub returns : goal.returns
+returns c =
+    let l = c.self.inside in
+    let s = c.find-state.result in
+    rw (← c.self.view_is, c.set.ensures, c.leave.ensures)
+    (lists-same _ _ _ _ _ _ _ (members-stay c.args.key s.state s.at None l.members.posts c.find-state.ensures) (left-of l c.args.key s c.self.invariant c.find-state.ensures).sequences)

@@ -1,17 +1,14 @@
-use Rattle.std.proofs.Common.{sym, subst}
-use Rattle.arc_lists.specs.Queues.{AreInState, AreSequencesOf}
+use Rattle.std.proofs.Common.{◌+◌, ap, arith, length}
+use Rattle.arc_lists.specs.Posts.{Posts}
+use Rattle.arc_lists.specs.Queues.{HaveCapacity}
+use Rattle.arc_lists.proofs.Keeping.{IsKept-reserve, reserved-le}
+use Rattle.arc_lists.proofs.Standing.{HaveCapacity-le}
 use Rattle.arc_lists.proofs.lists.Lists.reserve.Goals as goal
 
--- the members didn't get their room, and the sequences have more than they need
-pub invariant_of-self : goal.invariant_of-self
-invariant_of-self c =
-    let kept = c.self.invariant in
-    record {
-      rising = kept.rising;
-      small = kept.small;
-      sizes = kept.sizes;
-      room = kept.room;
-      queues = c.reserve_all.ensures.kept _ kept.queues;
-      listed = subst (AreSequencesOf c.self.inside.members.items) (sym c.reserve_all.ensures.items) kept.listed;
-      stated = subst (AreInState c.self.inside.members.items) (sym c.reserve_all.ensures.items) kept.stated;
-    }
+pub invariant_of-self-2 : goal.invariant_of-self-2
+invariant_of-self-2 c =
+    let l = c.self.inside in
+    let spare = reserved-le c.reserve.result l.members c.reserve.new.self c.args.n (omega (arith, c.if-n-spare.false, c.spare-spare.ensures)) c.reserve.ensures.ok c.reserve.ensures.err in
+    let room : HaveCapacity (length l.members.posts + c.args.n) c.widen.new.self =
+    HaveCapacity-le _ _ c.widen.new.self (omega (arith, c.spare-spare.ensures, c.if-n-spare.false)) (c.in_ok-widen.ensures.ok _ c.self.invariant.queues) in
+    IsKept-reserve l c.reserve.new.self c.widen.new.self c.args.n c.self.invariant (ap (λ (m : Posts). m.posts) c.reserve.ensures.posts) spare (omega (arith, c.len.ensures)) c.in_ok-widen.ensures.nodes room

@@ -1,17 +1,30 @@
-use Rattle.arc_lists.specs.Queues.{sequences_in}
-use Rattle.arc_lists.proofs.InState.{only_on}
-use Rattle.arc_lists.proofs.Keeping.{IsKept-take_out}
+use Rattle.std.proofs.Common.{IsSome, arith, refl, sym, subst, ◌∙◌}
+use Rattle.arc_lists.specs.ByKey.{item_at}
+use Rattle.arc_lists.specs.PlainLists.{member_key}
+use Rattle.arc_lists.specs.Posts.{members_of}
+use Rattle.arc_lists.proofs.Keeping.{IsKept-take_out, is-on, left-of, lists-same, post-of}
+use Rattle.arc_lists.proofs.Placing.{member-at, members-go}
 use Rattle.arc_lists.proofs.SizeSums.{member-le}
-use Rattle.std.proofs.Common.{refl}
 use Rattle.arc_lists.proofs.lists.Lists.take_out.Goals as goal
 
+pub remove-state-requires : goal.remove-state-requires
+remove-state-requires c = post-of c.self.inside.members.posts c.args.key (subst (λ z. IsSome (item_at member_key c.args.key z.members)) (sym c.self.view_is) c.requires)
+
 pub take-requires : goal.take-requires
-take-requires c = rw (c.self.invariant.sizes c.remove-s.result) (member-le c.args.key c.remove-s.result c.self.inside.members.items c.remove-s.ensures.state)
+take-requires c =
+    let posts = c.self.inside.members.posts in
+    let s = c.remove-state.result in
+    rw (c.self.invariant.sizes s.state) (member-le c.args.key s.state (members_of posts) (member-at c.args.key posts s c.remove-state.ensures.standing))
+
+pub leave-requires : goal.leave-requires
+leave-requires c = is-on c.self.inside c.args.key c.remove-state.result c.self.invariant c.remove-state.ensures.standing
 
 pub invariant_of-self : goal.invariant_of-self
 invariant_of-self c =
-    IsKept-take_out c.self.inside _ c.args.key c.remove-s.result c.self.invariant c.remove-s.ensures.state c.remove-s.ensures.items c.remove-s.ensures.capacity
-    c.take.ensures c.take_off.ensures.kept c.take_off.ensures.items refl
+    IsKept-take_out c.self.inside _ c.args.key c.remove-state.result c.self.invariant c.remove-state.ensures.standing c.remove-state.ensures.posts c.take.ensures c.leave.ensures
 
-pub take_off-requires : goal.take_off-requires
-take_off-requires c = only_on c.remove-s.result c.self.inside.members.items c.args.key (sequences_in c.self.inside.queues) c.remove-s.ensures.state c.self.invariant.stated
+pub returns : goal.returns
+returns c =
+    let l = c.self.inside in
+    rw (← c.self.view_is, c.remove-state.ensures.posts, c.leave.ensures)
+    (lists-same _ _ _ _ _ _ _ (members-go c.args.key l.members.posts) (left-of l c.args.key c.remove-state.result c.self.invariant c.remove-state.ensures.standing).sequences)

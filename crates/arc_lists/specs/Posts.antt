@@ -1,0 +1,33 @@
+-- Who is there, with the places of their nodes, as plain data.
+use Rattle.std.specs.Prelude.{ℕ, List, [], map, Option}
+use Rattle.blk_ptr.specs.declared.key.Key.{Key}
+use Rattle.blk_ptr.specs.declared.state.State.{State}
+use Rattle.arc_lists.specs.declared.member.Member.{Member}
+use Rattle.arc_lists.specs.declared.post.Post.{Post}
+use Rattle.arc_lists.specs.declared.post.Standing.{Standing}
+
+pub record Posts : Type 0 where
+  -- each key that is there, with its state and the place of its node, in rising order of keys
+  pub posts : List Post
+  -- for how many more there is room
+  pub spare : ℕ
+
+-- nobody is there, and there is no room
+abbrev pub no_posts : Posts
+no_posts = record { posts = []; spare = 0 }
+
+abbrev pub post_key : Post → Key
+post_key p = p.key
+
+abbrev pub post : Key → Standing → Post
+post k s = record { key = k; standing = s }
+
+abbrev pub standing : State → Option ℕ → Standing
+standing s at = record { state = s; at = at }
+
+-- a post without its place
+abbrev pub member_of : Post → Member
+member_of p = record { key = p.key; state = p.standing.state }
+
+abbrev pub members_of : List Post → List Member
+members_of = map member_of
