@@ -56,7 +56,7 @@ with_target_for k s = record s { p = target_after k s }
 abbrev pub resized : ℕ → PlainShard → PlainShard
 resized c s = record s { c = c; p = clamped_target c s.p }
 
--- ---- room (arc_adjust, arc_evict_state)
+-- ---- room (arc_evict, arc_evict_state)
 
 -- an evicted entry is a ghost of its kind
 abbrev pub evicted_state : State → State

@@ -8,7 +8,7 @@ abbrev pub or_else : Option Key → Option Key → Option Key
 or_else None second = second
 or_else (Some k) second = Some k
 
--- Which key is evicted next so that z bytes fit, where anonymous, MRU and MFU blocks have these sizes (arc_adjust of arc.c).
+-- Which key is evicted next so that z bytes fit, where anonymous, MRU and MFU blocks have these sizes (arc_evict of arc.c).
 -- None where they fit, or where no key may go: then the cache overshoots. Else the oldest of MRU where anonymous and MRU blocks
 -- are above their target, else the oldest of MFU, else the oldest of MRU.
 abbrev pub next_eviction : (c p z anon mru mfu : ℕ) → (Key → Bool) → Sequences → Option Key
@@ -21,7 +21,7 @@ next_eviction c p z anon mru mfu skips q =
 
 -- Which ghost is dropped next, where MRU and the two ghosts have these sizes: the oldest MRU ghost while MRU and its ghost are
 -- above the capacity, then the oldest MFU ghost while the two ghosts are (Megiddo and Modha's bounds on T1 + B1 and on the whole
--- directory, in bytes; arc_adjust of arc.c). That room goes first and trim after it is this project's choice.
+-- directory, in bytes; arc_evict of arc.c). That room goes first and trim after it is this project's choice.
 abbrev pub next_drop : (c mru mru_ghost mfu_ghost : ℕ) → (Key → Bool) → Sequences → Option Key
 next_drop c mru mru_ghost mfu_ghost skips q =
     or_else

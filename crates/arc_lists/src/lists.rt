@@ -155,7 +155,7 @@ impl Lists {
 
     /// The next key that room for `z` bytes evicts with this `c` and `p`, where so many bytes of MRU and of MFU count as
     /// evicted already, and no key is chosen that `skip` passes over. None where the bytes fit or no key may go
-    /// (`arc_adjust` of OpenZFS's `arc.c`).
+    /// (`arc_evict_state` of OpenZFS's `arc.c`).
     pub fn pick<F: Fn(Key) -> bool>(
         &self,
         c: u64,
