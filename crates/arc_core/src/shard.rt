@@ -134,15 +134,17 @@ impl Shard {
         ensures kept_entries { self.old.entry_room ≤ self.new.entry_room }
         ensures err { OnErr result (self.new ≡ self.old) }
     {
+        let before = self.history.capacity();
         if self.spare_events < events {
-            let free = self.history.capacity() - self.history.len();
+            let free = before - self.history.len();
             let more = free
                 .checked_add(events - self.spare_events)
                 .ok_or(NoMemory)?;
             self.history.reserve(more)?;
         }
-        self.table.reserve(entries, events)?;
-        self.spare_events = self.spare_events.max(events);
+        let spare = self.spare_events + (self.history.capacity() - before);
+        self.table.reserve(entries, spare)?;
+        self.spare_events = spare;
         Ok(())
     }
 
