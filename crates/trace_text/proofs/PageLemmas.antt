@@ -33,7 +33,7 @@ ArePages-more lines line old new are adds =
           let one : counted_lines (line ∷ []) ≡ line ∷ [] = rw counted refl in
           subst (ArePages (lines ++ line ∷ [])) (sym page.4) (record {
             spelled = split ∙ ap (λ l. counted_lines lines ++ l) one ∙ ap (λ l. l ++ line ∷ []) are.spelled
-              ∙ ap (λ l. map decimal old ++ l ∷ []) page.1 ∙ sym (map-append decimal old (x ∷ []));
+                ∙ ap (λ l. map decimal old ++ l ∷ []) page.1 ∙ sym (map-append decimal old (x ∷ []));
             ranged = All-push IsPage old x are.ranged page.2;
             few = omega (arith, page.3, length-append old (x ∷ []));
           })
