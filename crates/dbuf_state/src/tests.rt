@@ -5,9 +5,11 @@ ghost use Rattle.dbuf_state.specs.declared.tests.Plain.{Plain};
 use crate::cell::Cell;
 use crate::event::CellEvent;
 use crate::oid::Oid;
+use crate::shown::Shown;
 use crate::state::{DbState, Mapped};
+use crate::window::Window;
 use arc_core::Keeps;
-use blk_ptr::{Block, Digest, Key, NoMemory, Ptr, Shows};
+use blk_ptr::{Block, Key, NoMemory, Ptr, Shows, is_block_size};
 use std::alloc::Global;
 use std::test::Fail;
 
@@ -137,6 +139,70 @@ fn settle(alloc: Global, cell: &mut Cell<Plain>, n: u32) -> Result<Vec<Oid>, NoM
     Ok(evicted)
 }
 
+// Writes a whole block that isn't mapped yet.
+fn put(cell: &mut Cell<Plain>, n: u32, at: Oid, bytes: Vec<u8>) -> Result<(), NoMemory> {
+    cell.reserve(1, 1)?;
+    let size = bytes.len() as u64;
+    let None = cell.mapped(at) else {
+        return Ok(());
+    };
+    if is_block_size(size) {
+        cell.dirty_with(at, bytes);
+        cell.note(CellEvent::Put {
+            n,
+            at,
+            size: size as u32,
+            fill: 0,
+        });
+    }
+    Ok(())
+}
+
+// Writes one byte over the first one of a dirty block.
+fn patch(cell: &mut Cell<Plain>, n: u32, at: Oid, byte: u8) -> Result<(), NoMemory> {
+    cell.reserve(0, 1)?;
+    let Some(Mapped::Dirty { size }) = cell.mapped(at) else {
+        return Ok(());
+    };
+    if size >= 1 {
+        let bytes = Shown::of(&[byte]);
+        cell.write_at(at, 0, &bytes);
+        cell.note(CellEvent::Patch {
+            n,
+            at,
+            from: 0,
+            bytes,
+        });
+    }
+    Ok(())
+}
+
+// The bytes of a window of a dirty block, where the window is inside.
+fn window(cell: &Cell<Plain>, at: Oid, w: Window) -> Option<Shown> {
+    let (Some(Mapped::Dirty { size }), DbState::Cached) = (cell.mapped(at), cell.state(at)) else {
+        return None;
+    };
+    if u64::from(w.at) + u64::from(w.len) > u64::from(size) {
+        return None;
+    }
+    let mut out = Shown::of(&[]);
+    cell.shown(at, w, &mut out);
+    Some(out)
+}
+
+// Takes what is kept of a clean block out, and puts it back.
+fn out_and_back(cell: &mut Cell<Plain>, at: Oid) {
+    let (Some(Mapped::Clean(_)), DbState::Cached) = (cell.mapped(at), cell.state(at)) else {
+        return;
+    };
+    let kept = cell.unkeep(at);
+    if let (Some(Mapped::Clean(ptr)), DbState::Evicting) = (cell.mapped(at), cell.state(at)) {
+        if is_of(&kept, ptr) {
+            cell.rekeep(at, kept);
+        }
+    }
+}
+
 #[test]
 fn a_fresh_cell_with_one_block(rt: HostRuntime) -> Result<(), Fail> {
     let (ptr, _) = zeros(rt.alloc(), 0)?;
@@ -173,7 +239,26 @@ fn two_blocks_in_turn_under_a_limit_of_one(rt: HostRuntime) -> Result<(), Fail> 
         let evicted = get(rt.alloc(), &mut cell, 0, oid(i), kept)?;
         assert_eq!(rt; evicted.first().copied(), out);
         assert_eq!(rt; (cell.first_kept(), cell.keeps(ptr.key)), (Some(oid(i)), 1));
+        out_and_back(&mut cell, oid(i));
+        assert_eq!(rt; (cell.first_kept(), cell.keeps(ptr.key)), (Some(oid(i)), 1));
     }
     assert_eq!(rt; cell.history().len(), 8);
+    Ok(())
+}
+
+#[test]
+fn a_block_is_put_and_patched(rt: HostRuntime) -> Result<(), Fail> {
+    let mut cell: Cell<Plain> = Cell::new(rt.alloc(), 512);
+    put(&mut cell, 0, oid(0), vec![in rt.alloc(); 0; 512]?)?;
+    patch(&mut cell, 0, oid(0), 255)?;
+    let Some(shown) = window(&cell, oid(0), Window { at: 0, len: 2 }) else {
+        return Err("no window")?;
+    };
+    assert_eq!(rt; shown.bytes(), [255, 0].as_slice());
+    assert_eq!(rt; cell.dirty()?.as_slice(), [oid(0)].as_slice());
+    assert_eq!(rt;
+        (cell.evictable(), cell.first_kept(), cell.history().len()),
+        (None, None, 2)
+    );
     Ok(())
 }
