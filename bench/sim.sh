@@ -1,5 +1,5 @@
 #!/usr/bin/env bash
-# Runs the program and a plain simulation of the same rules (baseline/arc_sim.rs) on the same traces over a pool file of zero bytes, and
+# Runs the program and a plain simulation of the same rules (../compare/arc_sim.rs) on the same traces over a pool file of zero bytes, and
 # prints the processor time and the peak memory of each, their ratios, and whether the two reports are the same, byte for byte.
 # Five traces: 200,000 and 1,000,000 reads drawn over 4,096 and 16,384 blocks, as the word gen draws them; and one of 60 MB, with 100,000
 # blocks, 1,000,000 reads and comments. It needs rustc and python3, and builds the program if that was not done yet.
@@ -9,7 +9,7 @@ tool=$here/../crates/arc_tool/out/arc_tool
 [ -x "$tool" ] || (cd "$here/../crates/arc_tool" && rt run -- --version)
 work=$(mktemp -d)
 trap 'rm -rf "$work"' EXIT
-rustc --edition 2024 -O -o "$work/arc_sim" "$here/baseline/arc_sim.rs"
+rustc --edition 2024 -O -o "$work/arc_sim" "$here/../compare/arc_sim.rs"
 python3 - "$tool" "$work/arc_sim" "$work" <<'PY'
 import hashlib, os, sys
 

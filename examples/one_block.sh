@@ -1,5 +1,5 @@
 #!/usr/bin/env bash
-# Reads the first block of a file as a pool: examples/one_block.sh FILE [BYTES], with BYTES a multiple of 512, at most 1048576.
+# Reads the first block of a file as a pool: examples/one_block.sh FILE [BYTES], with BYTES a multiple of 512, at most 16777216.
 set -eu
 file=$1
 bytes=${2:-512}

@@ -1,5 +1,5 @@
 -- The entries that events write are sound, and writing them is what the events do.
-use Rattle.std.proofs.Common.{◌≡◌, ℕ, zero, suc, ◌+◌, ◌<◌, Bool, true, false, not, ◌&&◌, ◌||◌, if◌then◌else◌, nat_lt, ◌==◌, IsTrue, List, [], ◌∷◌, length, sum, set, get_or, Some, is_some, inl, inr, refl, sym, ap, subst, ◌∙◌, arith}
+use Rattle.std.proofs.Common.{◌≡◌, ℕ, zero, suc, ◌+◌, ◌<◌, Bool, true, false, not, ◌&&◌, ◌||◌, if◌then◌else◌, nat_lt, ◌==◌, IsTrue, List, [], ◌∷◌, length, sum, set, get_or, Option, Some, is_some, inl, inr, refl, sym, ap, subst, ◌∙◌, arith}
 use Rattle.std.specs.List.{list_all}
 use Rattle.std.specs.Option.{option_map_or}
 use Rattle.std.proofs.lemmas.Bool.{false≢true}
@@ -218,5 +218,5 @@ IsSoundEntry-read n k t s lt formed = record {
 pub IsSoundEntry-written : (n : ℕ) (k : Key) (d : Digest) (t : ℕ) → IsTrue (is_well_formed k) → IsSoundEntry (written_entry n k d t)
 IsSoundEntry-written n k d t formed = record { key = formed; state = refl; reading = refl; numbers = length-one_hold n }
 
-pub IsSoundEntry-restored : (k : Key) (place : ℕ) → IsTrue (is_well_formed k) → IsSoundEntry (restored_entry k place)
-IsSoundEntry-restored k place formed = record { key = formed; state = refl; reading = refl; numbers = refl }
+pub IsSoundEntry-restored : (k : Key) (place : ℕ) (d : Option Digest) → IsTrue (is_well_formed k) → IsSoundEntry (restored_entry k place d)
+IsSoundEntry-restored k place d formed = record { key = formed; state = refl; reading = refl; numbers = refl }

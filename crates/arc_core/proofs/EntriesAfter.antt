@@ -1,5 +1,6 @@
 -- What each of the simple events leaves at its own key and at every other, and that they leave the feed as it was.
-use Rattle.std.proofs.Common.{◌≡◌, ℕ, Bool, true, false, if◌then◌else◌, Some, None, refl, sym, ap, subst, ◌∙◌}
+use Rattle.std.proofs.Common.{◌≡◌, ℕ, Bool, true, false, if◌then◌else◌, Option, Some, None, refl, sym, ap, subst, ◌∙◌}
+use Rattle.std.specs.Option.{option_map}
 use Rattle.blk_ptr.specs.declared.key.Key.{Key}
 use Rattle.blk_ptr.specs.declared.digest.Digest.{Digest}
 use Rattle.blk_ptr.specs.Order.{key_eq}
@@ -16,29 +17,37 @@ use Rattle.arc_core.specs.Rules.{with_target_for}
 use Rattle.arc_core.specs.Sound.{IsSound}
 use Rattle.arc_core.specs.Step.{after, arrived, hit_entry, read_entry}
 use Rattle.arc_core.proofs.Accesses.{accessed-keeps}
-use Rattle.arc_core.proofs.Evictions.{at_head-entries}
+use Rattle.arc_core.proofs.Evictions.{absent-changed, at_head-entries}
 use Rattle.arc_core.proofs.Frames.{frame-given_back, frame-taken_in}
 
 -- ---- a change of one entry that keeps its key
 
 module _ (change : Entry → Entry) (keeps : (x : Entry) → (change x).key ≡ x.key) where
-  changed-same : (k : Key) (s : PlainShard) (e : Entry) → entry_of k s ≡ Some e → entry_of k (changed k change s) ≡ Some (change e)
+  pub changed-same : (k : Key) (s : PlainShard) (e : Entry) → entry_of k s ≡ Some e → entry_of k (changed k change s) ≡ Some (change e)
   changed-same k s e item =
       let is : (change e).key ≡ k = keeps e ∙ item_at-key entry_key k s.entries e item in
       item_at-with_change_same entry_key k change s.entries e (subst (λ h. key_eq h k ≡ true) (sym is) (key_eq-same k)) item
 
-  changed-other : (j k : Key) (s : PlainShard) → key_eq j k ≡ false → entry_of j (changed k change s) ≡ entry_of j s
+  pub changed-other : (j k : Key) (s : PlainShard) → key_eq j k ≡ false → entry_of j (changed k change s) ≡ entry_of j s
   changed-other j k s apart = item_at-with_change_other entry_key j k change s.entries (λ x same. keeps x) apart
 
+  -- the same, whether there is an entry or not
+  pub own-changed : (k : Key) (s : PlainShard) → entry_of k (changed k change s) ≡ option_map change (entry_of k s)
+  own-changed k s = go (entry_of k s) refl
+    where
+      go : (o : Option Entry) → entry_of k s ≡ o → entry_of k (changed k change s) ≡ option_map change o
+      go None is = absent-changed k k change s.entries keeps is
+      go (Some e) is = changed-same k s e is
+
 -- giving a hold back changes the entry as one hold less does, wherever the key then stands
-given_back-entries : (n : ℕ) (k : Key) (s : PlainShard) → (given_back n k s).entries ≡ (changed k (one_less n) s).entries
+pub given_back-entries : (n : ℕ) (k : Key) (s : PlainShard) → (given_back n k s).entries ≡ (changed k (one_less n) s).entries
 given_back-entries n k s = go (entry_is is_unheld k (changed k (one_less n) s))
   where
     go : (b : Bool) → (if b then at_head k (changed k (one_less n) s) else changed k (one_less n) s).entries ≡ (changed k (one_less n) s).entries
     go true = at_head-entries k (changed k (one_less n) s)
     go false = refl
 
-hit-key : (n mintime t : ℕ) (e : Entry) → (hit_entry n mintime t e).key ≡ e.key
+pub hit-key : (n mintime t : ℕ) (e : Entry) → (hit_entry n mintime t e).key ≡ e.key
 hit-key n mintime t e = (accessed-keeps e.state mintime t e).key
 
 -- ---- at the event's key, and at every other

@@ -282,7 +282,7 @@ gone-absent k s tidy absent =
     let sequences = off_sequences s k tidy (λ state has. absent_fails (belongs_on state) k s.entries (ap is_some absent)) in
     ap (λ es. record s { entries = es; sequences = taken_off k s.sequences }) entries ∙ ap (λ q. record s { sequences = q }) sequences
 
-absent-changed : (j k : Key) (change : Entry → Entry) (es : List Entry) → ((x : Entry) → (change x).key ≡ x.key) → item_at entry_key j es ≡ None → item_at entry_key j (with_change entry_key k change es) ≡ None
+pub absent-changed : (j k : Key) (change : Entry → Entry) (es : List Entry) → ((x : Entry) → (change x).key ≡ x.key) → item_at entry_key j es ≡ None → item_at entry_key j (with_change entry_key k change es) ≡ None
 absent-changed j k change [] keeps absent = refl
 absent-changed j k change (x ∷ xs) keeps absent =
     let other = head_differs entry_key j x xs (ap is_some absent) in

@@ -15,7 +15,8 @@ use Rattle.arc_core.specs.Changes.{at_head, changed, come, given_back, gone, off
 use Rattle.arc_core.specs.Owed.{owed_by, owed_in}
 use Rattle.blk_ptr.specs.declared.state.State.TheVariants.{L2Only, MruGhost, MfuGhost}
 use Rattle.arc_core.specs.Rules.{ghost_of, dropped, evicted, evicted_entry, evicting, next_dropped, next_evicted, target_after, trimming, with_room}
-use Rattle.arc_core.specs.Step.{taken_in}
+use Rattle.arc_core.specs.Step.{cleared, fitted, taken_in}
+use Rattle.blk_ptr.specs.State.{is_same_state}
 use Rattle.arc_core.proofs.Evictions.{at_head-entries}
 
 -- ---- what stays
@@ -81,6 +82,9 @@ frame-taken_in e s =
     (frame-evicting (length (gone e.key s).entries) e.key.size (gone e.key s)).picked)
     (frame-trimming (length into.entries) into)
 
+pub frame-fitted : (s : PlainShard) → SameFrame s (fitted s)
+frame-fitted s = frames s (with_room 0 s) (fitted s) (frame-evicting (length s.entries) 0 s) (frame-trimming (length (with_room 0 s).entries) (with_room 0 s))
+
 frame-if : (s t u : PlainShard) (b : Bool) → SameFrame s t → SameFrame s u → SameFrame s (if b then t else u)
 frame-if s t u true first second = first
 frame-if s t u false first second = second
@@ -89,6 +93,11 @@ pub frame-given_back : (n : ℕ) (k : Key) (s : PlainShard) → SameFrame s (giv
 frame-given_back n k s =
     let less = changed k (one_less n) s in
     frame-if s (at_head k less) less (entry_is is_unheld k less) (frame-of s less (at_head k less) (frame-at_head k less) refl refl refl refl) (record { p = refl; c = refl; phase = refl; picked = refl })
+
+pub frame-cleared : (k : Key) (s : PlainShard) → SameFrame s (cleared k s)
+frame-cleared k s =
+    frame-if s (gone k s) (changed k (λ e. record e { place = None }) s) (entry_is (λ e. is_same_state e.state L2Only) k s)
+    (record { p = refl; c = refl; phase = refl; picked = refl }) (record { p = refl; c = refl; phase = refl; picked = refl })
 
 -- ---- the target stays between its floor and its ceiling
 
@@ -100,6 +109,9 @@ raised-within c p x low high = (omega (arith, floor-le c), omega arith)
 
 lowered-within : (c p x : ℕ) → least_target c ≤ p → p ≤ c - least_target c → (least_target c ≤ max (least_target c) (p - min x p)) × (max (least_target c) (p - min x p) ≤ c - least_target c)
 lowered-within c p x low high = (omega arith, omega (arith, floor-le c))
+
+pub resized-within : (c p : ℕ) → (least_target c ≤ min (max p (least_target c)) (c - least_target c)) × (min (max p (least_target c)) (c - least_target c) ≤ c - least_target c)
+resized-within c p = (omega (arith, floor-le c), omega arith)
 
 adapted-within : (ghost : Ghost) (z a b p c : ℕ) → least_target c ≤ p → p ≤ c - least_target c → (least_target c ≤ adapted ghost z a b p c) × (adapted ghost z a b p c ≤ c - least_target c)
 adapted-within ghosts.Mru z a b p c low high = raised-within c p _ low high
@@ -161,7 +173,7 @@ owed-dropped k s = go (is_some (place_of k s))
     go true = omega (arith, owed-kept k (λ e. record e { state = L2Only }) s.entries (λ e. refl))
     go false = owed-without_le k s.entries
 
-owed-evicting : (n z : ℕ) (s : PlainShard) → owed_in (evicting n z s).entries ≡ owed_in s.entries
+pub owed-evicting : (n z : ℕ) (s : PlainShard) → owed_in (evicting n z s).entries ≡ owed_in s.entries
 owed-evicting zero z s = refl
 owed-evicting (suc n) z s = go (next_evicted z s) (λ k. owed-evicting n z (evicted k s) ∙ owed-evicted k s)
   where
@@ -169,7 +181,7 @@ owed-evicting (suc n) z s = go (next_evicted z s) (λ k. owed-evicting n z (evic
     go None rest = refl
     go (Some k) rest = rest k
 
-owed-trimming : (n : ℕ) (s : PlainShard) → owed_in (trimming n s).entries ≤ owed_in s.entries
+pub owed-trimming : (n : ℕ) (s : PlainShard) → owed_in (trimming n s).entries ≤ owed_in s.entries
 owed-trimming zero s = omega arith
 owed-trimming (suc n) s = go (next_dropped s) (λ k. both (owed-trimming n (dropped k s)) (owed-dropped k s))
   where

@@ -1,5 +1,5 @@
 -- Worked traces, computed from the definitions alone: the ends of a shard after a history.
-use Rattle.std.proofs.Common.{◌≡◌, ℕ, ◌*◌, true, false, List, [], ◌∷◌, ◌++◌, refl}
+use Rattle.std.proofs.Common.{◌≡◌, ℕ, ◌*◌, true, false, List, [], ◌∷◌, ◌++◌, None, refl}
 use Rattle.blk_ptr.specs.declared.key.Key.{Key}
 use Rattle.blk_ptr.specs.declared.digest.Digest.{Digest}
 use Rattle.blk_ptr.specs.declared.state.State.TheVariants.{Anon, Mru, MruGhost, Mfu, MfuGhost, L2Only}
@@ -92,6 +92,6 @@ empty_feed : (is_legal_history (shard 0) (FeedEnd 1 ∷ []) ≡ true) × ((repla
 empty_feed = (refl, refl)
 
 -- a restored key loses its place once, and then it is gone
-restored : (is_legal_history (shard 0) (Restore 1 (block 512 0) 4096 ∷ (Clear 1 (block 512 0) ∷ [])) ≡ true)
-    × (is_legal_history (shard 0) (Restore 1 (block 512 0) 4096 ∷ (Clear 1 (block 512 0) ∷ (Clear 1 (block 512 0) ∷ []))) ≡ false)
+restored : (is_legal_history (shard 0) (Restore 1 (block 512 0) 4096 None ∷ (Clear 1 (block 512 0) ∷ [])) ≡ true)
+    × (is_legal_history (shard 0) (Restore 1 (block 512 0) 4096 None ∷ (Clear 1 (block 512 0) ∷ (Clear 1 (block 512 0) ∷ []))) ≡ false)
 restored = (refl, refl)

@@ -1,6 +1,10 @@
 -- The small changes of which the events are made.
-use Rattle.std.specs.Prelude.{ℕ, ◌+◌, ◌-◌, if◌then◌else◌, List, [], ◌∷◌, slice_index, slice_set, Option}
+use Rattle.std.specs.Prelude.{ℕ, ◌+◌, ◌-◌, Bool, not, ◌||◌, if◌then◌else◌, List, [], ◌∷◌, slice_index, slice_set, Option, is_some}
+use Rattle.blk_ptr.specs.declared.state.State.TheVariants.{L2Only}
+use Rattle.blk_ptr.specs.State.{is_same_state}
+use Rattle.std.specs.List.{position_from}
 use Rattle.std.specs.Option.{option_map_or}
+use Rattle.blk_ptr.specs.Order.{key_eq}
 use Rattle.blk_ptr.specs.declared.key.Key.{Key}
 use Rattle.arc_lists.specs.ByKey.{item_at, with_item, without, with_change}
 use Rattle.arc_lists.specs.Sequences.{put_at_head, taken_off}
@@ -49,11 +53,25 @@ given_back n k s =
     let less = changed k (one_less n) s in
     if entry_is is_unheld k less then at_head k less else less
 
+-- ---- a place on the cache device
+
+-- an entry with this place, or none
+abbrev pub with_place : Option ℕ → Entry → Entry
+with_place place e = record e { place = place }
+
+-- an entry may have this place: an L2-only one has a place
+abbrev pub may_have : Option ℕ → Entry → Bool
+may_have place e = is_some place || not (is_same_state e.state L2Only)
+
 -- ---- the picked list
 
 -- the pick of the key
 abbrev pub pick_of : Key → List Picked → Option Picked
 pick_of = item_at (λ pick. pick.key)
+
+-- where the pick of the key stands in the list
+abbrev pub pick_place : Key → List Picked → Option ℕ
+pick_place k picks = position_from (λ pick. key_eq pick.key k) 0 picks
 
 -- a feed that writes goes on as long as a picked key is unsettled
 abbrev pub writing_phase : List Picked → Phase
@@ -67,3 +85,7 @@ without_pick k picks = without (λ pick. pick.key) k picks
 -- the key leaves the picked list, and where it was the last one, the feed has ended
 abbrev pub settled : Key → PlainShard → PlainShard
 settled k s = record s { picked = without_pick k s.picked; phase = writing_phase (without_pick k s.picked) }
+
+-- no feed, and no passed key
+abbrev pub unpicked : PlainShard → PlainShard
+unpicked s = record s { passed = []; phase = Idle; picked = [] }

@@ -1,5 +1,5 @@
 -- The ranges of the numbers with which a cache is made (this project's own limits).
-use Rattle.std.specs.Prelude.{ℕ, ◌*◌, ◌^◌, ◌≤◌}
+use Rattle.std.specs.Prelude.{ℕ, ◌*◌, ◌^◌, ◌≤◌, Bool, ◌&&◌, nat_le}
 use Rattle.arc_lists.specs.Adapting.{IsCapacity}
 use Rattle.arc_core.specs.declared.config.Bounds.{Bounds}
 use Rattle.arc_core.specs.declared.config.Config.{Config}
@@ -7,6 +7,10 @@ use Rattle.arc_core.specs.declared.config.Config.{Config}
 -- the number is at least low and at most high
 abbrev pub IsFromTo : (low high n : ℕ) → Type 0
 IsFromTo low high n = (low ≤ n) × (n ≤ high)
+
+-- a capacity that a shard may have, as a test
+abbrev pub is_capacity_of : ℕ → Bool
+is_capacity_of c = nat_le 4096 c && nat_le c (2 ^ 32)
 
 pub record AreBounds (bounds : Bounds) : Type 0 where
   pub write_max : IsFromTo 512 (2 ^ 32) bounds.write_max

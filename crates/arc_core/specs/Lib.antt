@@ -1,6 +1,8 @@
 pub mod Candidate
 pub mod Changes
+pub mod Changing
 pub mod Config
+pub mod Digests
 pub mod Edits
 pub mod Ending
 pub mod Keeps

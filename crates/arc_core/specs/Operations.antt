@@ -1,12 +1,15 @@
 -- Which events an operation stands for, and what it means that histories hold every call once.
-use Rattle.std.specs.Prelude.{◌≡◌, ℕ, ◌<◌, ◌≢◌, Bool, true, false, not, ◌&&◌, ◌==◌, IsTrue, ◌⊎◌, List, [], ◌∷◌, ◌++◌, length, map, filter, count_by, slice_index_or, Option, Some, None}
+use Rattle.std.specs.Prelude.{◌≡◌, ℕ, ◌+◌, ◌<◌, ◌≢◌, nat_le, nat_lt, Bool, true, false, not, ◌&&◌, ◌||◌, ◌==◌, IsTrue, ◌⊎◌, List, [], ◌∷◌, ◌++◌, length, map, filter, count_by, slice_index_or, Option, Some, None}
 use Rattle.std.specs.List.{AllByRecursion}
+use Rattle.std.specs.Option.{option_map_or}
 use Rattle.blk_ptr.specs.declared.key.Key.{Key}
 use Rattle.blk_ptr.specs.declared.digest.Digest.{Digest}
 use Rattle.blk_ptr.specs.declared.ptr.Ptr.{Ptr}
+use Rattle.blk_ptr.specs.Order.{key_eq}
+use Rattle.arc_core.specs.declared.config.Config.{Config}
 use Rattle.arc_core.specs.declared.entry.Phase.TheVariants.{Idle}
 use Rattle.arc_core.specs.declared.event.Event.{Event}
-use Rattle.arc_core.specs.declared.event.Event.TheVariants.{Pass, Hit, Miss, Arrive, Fail, Drop, Past, Hand, Insert, Release, Pick, FeedEnd, Set, Leave, Clear, Restore}
+use Rattle.arc_core.specs.declared.event.Event.TheVariants.{Pass, Hit, Miss, Arrive, Fail, Drop, Past, Hand, Insert, Release, Pick, FeedEnd, Set, Leave, Clear, Restore, Resize}
 use Rattle.arc_core.specs.declared.event.Origin.TheVariants as origin
 use Rattle.arc_core.specs.declared.event.FailedAt.{FailedAt}
 use Rattle.arc_core.specs.declared.event.FailedAt.TheVariants as failed
@@ -34,7 +37,31 @@ number_of (FeedEnd n) = n
 number_of (Set n k place) = n
 number_of (Leave n k why) = n
 number_of (Clear n k) = n
-number_of (Restore n k place) = n
+number_of (Restore n k place d) = n
+number_of (Resize n c) = n
+
+-- the key that it is about, where it is about one
+abbrev pub event_key : Event → Option Key
+event_key (Pass n k owner) = Some k
+event_key (Hit n k t) = Some k
+event_key (Miss n k t) = Some k
+event_key (Arrive n k d from) = Some k
+event_key (Fail n k at) = Some k
+event_key (Drop n k) = Some k
+event_key (Past n k kept) = Some k
+event_key (Hand n k to) = Some k
+event_key (Insert n k d t) = Some k
+event_key (Release n k sole) = Some k
+event_key (Pick n k) = Some k
+event_key (FeedEnd n) = None
+event_key (Set n k place) = Some k
+event_key (Leave n k why) = Some k
+event_key (Clear n k) = Some k
+event_key (Restore n k place d) = Some k
+event_key (Resize n c) = None
+
+abbrev pub is_about : Key → Event → Bool
+is_about j e = option_map_or (key_eq j) (event_key e) false
 
 abbrev pub is_pass : Event → Bool
 is_pass (Pass n k owner) = true
@@ -47,7 +74,8 @@ is_of_feed (FeedEnd n) = true
 is_of_feed (Set n k place) = true
 is_of_feed (Leave n k why) = true
 is_of_feed (Clear n k) = true
-is_of_feed (Restore n k place) = true
+is_of_feed (Restore n k place d) = true
+is_of_feed (Resize n c) = true
 is_of_feed _ = false
 
 -- an event that stands for one read of the pool: bytes that came from it, a read of it that failed, or one past the cache
@@ -191,6 +219,59 @@ abbrev pub Tell : List Act → List Moment → Type 0
 Tell [] ms = ms ≡ []
 Tell (act ∷ acts) ms = (front : List Moment) × (rest : List Moment) × (ms ≡ front ++ rest) × StandsFor act front × Tell acts rest
 
+-- ---- which number may stand on which event: callers are numbered from 0, the feeder's number is theirs, and the cells' come after it
+
+abbrev pub is_caller : (callers : ℕ) → ℕ → Bool
+is_caller callers n = nat_lt n callers
+
+abbrev pub is_feeder : (callers : ℕ) → ℕ → Bool
+is_feeder callers n = n == callers
+
+abbrev pub is_cell_of : (callers cells : ℕ) → ℕ → Bool
+is_cell_of callers cells n = nat_lt callers n && nat_le n (callers + cells)
+
+-- Callers read, and hand holds to cells; cells insert, and make blocks private; both give holds back; and the feeder makes the feed's
+-- events. A pass names a caller or the feeder as the owner.
+abbrev pub has_its_number : (callers cells : ℕ) → Event → Bool
+has_its_number callers cells (Pass n k owner) = nat_le n (callers + cells) && nat_le owner callers
+has_its_number callers cells (Hit n k t) = is_caller callers n
+has_its_number callers cells (Miss n k t) = is_caller callers n
+has_its_number callers cells (Arrive n k d from) = is_caller callers n
+has_its_number callers cells (Fail n k at) = is_caller callers n
+has_its_number callers cells (Drop n k) = is_caller callers n || is_cell_of callers cells n
+has_its_number callers cells (Past n k kept) = is_caller callers n
+has_its_number callers cells (Hand n k to) = is_caller callers n && is_cell_of callers cells to
+has_its_number callers cells (Insert n k d t) = is_cell_of callers cells n
+has_its_number callers cells (Release n k sole) = is_cell_of callers cells n
+has_its_number callers cells (Pick n k) = is_feeder callers n
+has_its_number callers cells (FeedEnd n) = is_feeder callers n
+has_its_number callers cells (Set n k place) = is_feeder callers n
+has_its_number callers cells (Leave n k why) = is_feeder callers n
+has_its_number callers cells (Clear n k) = is_feeder callers n
+has_its_number callers cells (Restore n k place d) = is_feeder callers n
+has_its_number callers cells (Resize n c) = is_feeder callers n
+
+-- ---- where a pass may stand: in front of a miss, an insertion, a pick, the end of a feed's picks or a resize of the same number, with
+-- nothing but passes of that number between
+
+abbrev pub goes_on : ℕ → Event → Bool
+goes_on n (Pass m k owner) = m == n
+goes_on n (Miss m k t) = m == n
+goes_on n (Insert m k d t) = m == n
+goes_on n (Pick m k) = m == n
+goes_on n (FeedEnd m) = m == n
+goes_on n (Resize m c) = m == n
+goes_on n _ = false
+
+-- the scan of a number goes on with the first of these events
+abbrev pub scan_goes_on : ℕ → List Event → Bool
+scan_goes_on n [] = false
+scan_goes_on n (e ∷ es) = goes_on n e
+
+abbrev pub are_passes_placed : List Event → Bool
+are_passes_placed [] = true
+are_passes_placed (e ∷ es) = (not (is_pass e) || scan_goes_on (number_of e) es) && are_passes_placed es
+
 -- ---- every call once
 
 -- the acts of one number in one shard, in their order
@@ -198,9 +279,12 @@ abbrev pub acts_in : (shard_of : Key → ℕ) → (shard n : ℕ) → List Act �
 acts_in shard_of shard n = filter (λ act. actor_of act == n && shard_of (act_key act) == shard)
 
 -- The histories hold every call once: in each shard, the events of each caller and each cell, passes left out, are those of its acts
--- in their order; and the feeder makes the feed's events alone. The callers are numbered from 0, and the feeder's number is theirs.
-pub record HoldEveryCallOnce (callers : ℕ) (shard_of : Key → ℕ) (opening : PlainShard) (acts : List Act) (histories : List (List Event)) : Type 0 where
-  pub told : (shard n : ℕ) → shard < length histories → n ≢ callers
+-- in their order; the feeder makes the feed's events alone; each event has a number that it may have by the configuration; and each
+-- pass stands in front of what it was passed for.
+pub record HoldEveryCallOnce (config : Config) (shard_of : Key → ℕ) (opening : PlainShard) (acts : List Act) (histories : List (List Event)) : Type 0 where
+  pub told : (shard n : ℕ) → shard < length histories → n ≢ config.callers
       → Tell (acts_in shard_of shard n acts) (own_moments n (moments opening (slice_index_or histories shard [])))
   pub fed : (shard : ℕ) → shard < length histories
-      → AllByRecursion (λ m. IsTrue (is_of_feed m.event)) (own_moments callers (moments opening (slice_index_or histories shard [])))
+      → AllByRecursion (λ m. IsTrue (is_of_feed m.event)) (own_moments config.callers (moments opening (slice_index_or histories shard [])))
+  pub numbers : AllByRecursion (λ history. AllByRecursion (λ e. IsTrue (has_its_number config.callers config.cells e)) history) histories
+  pub passes : AllByRecursion (λ history. IsTrue (are_passes_placed history)) histories

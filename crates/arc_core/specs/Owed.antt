@@ -2,7 +2,7 @@
 use Rattle.std.specs.Prelude.{ℕ, ◌+◌, if◌then◌else◌, List, [], ◌∷◌, length}
 use Rattle.arc_core.specs.declared.entry.Entry.{Entry}
 use Rattle.arc_core.specs.declared.event.Event.{Event}
-use Rattle.arc_core.specs.declared.event.Event.TheVariants.{Pass, Hit, Miss, Arrive, Fail, Drop, Past, Hand, Insert, Release, Pick, FeedEnd, Set, Leave, Clear, Restore}
+use Rattle.arc_core.specs.declared.event.Event.TheVariants.{Pass, Hit, Miss, Arrive, Fail, Drop, Past, Hand, Insert, Release, Pick, FeedEnd, Set, Leave, Clear, Restore, Resize}
 use Rattle.arc_core.specs.PlainShard.{PlainShard, holds_of, is_absent}
 
 -- what is owed for an entry
@@ -35,11 +35,12 @@ room_for (FeedEnd n) = 1
 room_for (Set n k place) = 0
 room_for (Leave n k why) = 0
 room_for (Clear n k) = 1
-room_for (Restore n k place) = 1
+room_for (Restore n k place d) = 1
+room_for (Resize n c) = 1
 
 -- whether an event makes an entry
 abbrev pub entries_for : PlainShard → Event → ℕ
 entries_for s (Miss n k t) = if is_absent k s then 1 else 0
 entries_for s (Insert n k d t) = if is_absent k s then 1 else 0
-entries_for s (Restore n k place) = 1
+entries_for s (Restore n k place d) = 1
 entries_for s _ = 0

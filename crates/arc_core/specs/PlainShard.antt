@@ -29,7 +29,7 @@ pub record PlainShard : Type 0 where
   pub mintime : ℕ
   -- how much a feed of the cache device may take
   pub bounds : Bounds
-  -- the keys that the scan in hand has passed, since another party held their buckets
+  -- the keys that the scan in hand has passed, since another party held their buckets, in rising order
   pub passed : List Key
   -- how far a feed of the cache device has come, and what it has picked, in the order of its picks
   pub phase : Phase
@@ -129,6 +129,10 @@ resident_digest k s = option_and_then (λ e. if is_resident e then e.digest else
 -- the scan in hand has passed the key
 abbrev pub is_passed : PlainShard → Key → Bool
 is_passed s k = stands_on k s.passed
+
+-- how many holds a number has on a key
+abbrev pub count_of : (n : ℕ) → Key → PlainShard → ℕ
+count_of n k s = option_map_or (held_by n) (entry_of k s) 0
 
 -- ---- sizes: sums over all entries, those that are held included
 

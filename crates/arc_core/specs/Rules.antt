@@ -7,7 +7,7 @@ use Rattle.blk_ptr.specs.declared.state.State.{State}
 use Rattle.blk_ptr.specs.declared.state.State.TheVariants.{Anon, Mru, MruGhost, Mfu, MfuGhost, L2Only}
 use Rattle.arc_lists.specs.declared.ghost_list.Ghost.{Ghost}
 use Rattle.arc_lists.specs.declared.ghost_list.Ghost.TheVariants as ghosts
-use Rattle.arc_lists.specs.Adapting.{adapted}
+use Rattle.arc_lists.specs.Adapting.{adapted, clamped_target}
 use Rattle.arc_lists.specs.Room.{next_eviction, next_drop}
 use Rattle.arc_core.specs.declared.entry.Entry.{Entry}
 use Rattle.arc_core.specs.PlainShard.{PlainShard, entry_of, is_passed, place_of, size_in}
@@ -48,6 +48,13 @@ target_after k s = option_map_or
 
 abbrev pub with_target_for : Key → PlainShard → PlainShard
 with_target_for k s = record s { p = target_after k s }
+
+-- ---- capacity (arc_tuning_update)
+
+-- A new capacity: the target goes no lower than a sixteenth of it, and no higher than what that leaves. (In arc.c the target
+-- starts anew; that it stays as far as it may is this project's choice.)
+abbrev pub resized : ℕ → PlainShard → PlainShard
+resized c s = record s { c = c; p = clamped_target c s.p }
 
 -- ---- room (arc_adjust, arc_evict_state)
 

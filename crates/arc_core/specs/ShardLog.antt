@@ -1,7 +1,9 @@
 -- A shard with its history.
-use Rattle.std.specs.Prelude.{◌≡◌, ℕ, ◌+◌, ◌≤◌, Bool, true, false, IsTrue, List, [], ◌∷◌, ◌++◌}
+use Rattle.std.specs.Prelude.{◌≡◌, ℕ, ◌+◌, ◌≤◌, Bool, true, false, IsTrue, List, [], ◌∷◌, ◌++◌, length, take, drop}
+use Rattle.std.specs.List.{AllByRecursion}
 use Rattle.arc_core.specs.declared.event.Event.{Event}
-use Rattle.arc_core.specs.declared.event.Event.TheVariants.{Hit, Miss, Arrive, Fail, Drop, Past}
+use Rattle.arc_core.specs.declared.event.Event.TheVariants.{Pass, Pick}
+use Rattle.arc_core.specs.declared.entry.Phase.TheVariants.{Idle}
 use Rattle.arc_core.specs.declared.config.Bounds.{Bounds}
 use Rattle.arc_core.specs.Owed.{entries_for, room_for}
 use Rattle.arc_core.specs.PlainShard.{PlainShard, opening_shard}
@@ -41,12 +43,25 @@ pub record IsReplayed (log : ShardLog) : Type 0 where
   pub replayed : replay log.opening log.history ≡ log.now
   pub legal : IsTrue (is_legal_history log.opening log.history)
 
--- the events that `legal` and `step` know so far: those of one caller's reads
-abbrev pub is_built : Event → Bool
-is_built (Hit n k t) = true
-is_built (Miss n k t) = true
-is_built (Arrive n k d from) = true
-is_built (Fail n k at) = true
-is_built (Drop n k) = true
-is_built (Past n k kept) = true
-is_built _ = false
+-- ---- a feed's picks taken back
+
+-- an event of a feed's scan
+abbrev pub is_scan : Event → Bool
+is_scan (Pass n k owner) = true
+is_scan (Pick n k) = true
+is_scan _ = false
+
+-- from this place on the history has nothing but picks and passes, made since there was no feed and no passed key
+pub record MayUnpick (len : ℕ) (log : ShardLog) : Type 0 where
+  pub within : len ≤ length log.history
+  pub idle : (replay log.opening (take len log.history)).phase ≡ Idle
+  pub unpassed : (replay log.opening (take len log.history)).passed ≡ []
+  pub scan : AllByRecursion (λ e. IsTrue (is_scan e)) (drop len log.history)
+
+-- the events from this place on are gone, and the shard is as it was before them
+pub record IsUnpicked (len : ℕ) (old new : ShardLog) : Type 0 where
+  pub now : new.now ≡ replay old.opening (take len old.history)
+  pub history : new.history ≡ take len old.history
+  pub opening : new.opening ≡ old.opening
+  pub event_room : old.event_room ≤ new.event_room
+  pub entry_room : old.entry_room ≤ new.entry_room

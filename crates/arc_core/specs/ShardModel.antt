@@ -18,3 +18,5 @@ pub record IsKept (s : Inside) : Type 0 where
   pub replayed : IsReplayed (log_in s)
   -- the history has room for the events that are owed and for the spare ones
   pub room : owed_of s.table.shard + s.spare_events + vec_len s.history ≤ vec_capacity s.history
+  -- and the table for as many picks and passed keys
+  pub marks : s.spare_events ≤ s.table.marks

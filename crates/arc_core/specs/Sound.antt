@@ -8,7 +8,7 @@ use Rattle.blk_ptr.specs.Key.{is_well_formed}
 use Rattle.blk_ptr.specs.State.{is_same_state}
 use Rattle.arc_lists.specs.Adapting.{least_target}
 use Rattle.arc_lists.specs.ByKey.{IsRising}
-use Rattle.arc_lists.specs.Sequences.{sequence_of, stands, stands_on}
+use Rattle.arc_lists.specs.Sequences.{is_distinct, sequence_of, stands, stands_on}
 use Rattle.arc_core.specs.declared.entry.Entry.{Entry}
 use Rattle.arc_core.specs.declared.entry.Picked.{Picked}
 use Rattle.arc_core.specs.declared.entry.Phase.{Phase}
@@ -39,11 +39,6 @@ pub record IsSoundEntry (e : Entry) : Type 0 where
   pub numbers : length e.holds ≡ numbers
 
 -- ---- the sequences
-
--- no key stands twice
-abbrev pub is_distinct : List Key → Bool
-is_distinct [] = true
-is_distinct (k ∷ ks) = not (stands_on k ks) && is_distinct ks
 
 -- it has this state and no hold
 abbrev pub belongs_on : State → Entry → Bool

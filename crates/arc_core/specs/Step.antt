@@ -6,9 +6,11 @@ use Rattle.blk_ptr.specs.declared.digest.Digest.{Digest}
 use Rattle.blk_ptr.specs.declared.state.State.{State}
 use Rattle.blk_ptr.specs.declared.state.State.TheVariants.{Anon, Mru, MruGhost, Mfu, MfuGhost, L2Only}
 use Rattle.blk_ptr.specs.Key.{is_well_formed}
-use Rattle.blk_ptr.specs.Order.{key_eq, digest_eq}
+use Rattle.blk_ptr.specs.Order.{key_eq}
 use Rattle.blk_ptr.specs.State.{is_cached, is_ghost, is_same_state}
+use Rattle.arc_lists.specs.ByKey.{with_item}
 use Rattle.arc_lists.specs.Sequences.{stands}
+use Rattle.arc_core.specs.Config.{is_capacity_of}
 use Rattle.arc_core.specs.declared.entry.Entry.{Entry}
 use Rattle.arc_core.specs.declared.entry.Picked.{Picked}
 use Rattle.arc_core.specs.declared.entry.Phase.{Phase}
@@ -18,11 +20,12 @@ use Rattle.arc_core.specs.declared.event.Origin.TheVariants as origin
 use Rattle.arc_core.specs.declared.event.Why.{Why}
 use Rattle.arc_core.specs.declared.event.Why.TheVariants as why
 use Rattle.arc_core.specs.declared.event.Event.{Event}
-use Rattle.arc_core.specs.declared.event.Event.TheVariants.{Pass, Hit, Miss, Arrive, Fail, Drop, Past, Hand, Insert, Release, Pick, FeedEnd, Set, Leave, Clear, Restore}
+use Rattle.arc_core.specs.declared.event.Event.TheVariants.{Pass, Hit, Miss, Arrive, Fail, Drop, Past, Hand, Insert, Release, Pick, FeedEnd, Set, Leave, Clear, Restore, Resize}
 use Rattle.arc_core.specs.PlainShard.{PlainShard, entry_of, entry_is, held_by, holds_of, is_absent, is_at_rest, is_cell, is_number, is_party, is_passed, is_resident, keeps_digest, no_holds, one_hold, place_of}
 use Rattle.arc_core.specs.Changes.{changed, come, given_back, gone, off_sequence, one_less, one_more, pick_of, settled, with_none_passed, writing_phase}
-use Rattle.arc_core.specs.Rules.{accessed, arrived_state, trimmed, with_room, with_target_for}
+use Rattle.arc_core.specs.Rules.{accessed, arrived_state, resized, trimmed, with_room, with_target_for}
 use Rattle.arc_core.specs.Candidate.{candidate}
+use Rattle.arc_core.specs.Digests.{same_digest}
 
 -- ---- words of the table
 
@@ -75,12 +78,6 @@ agree false b = not b
 abbrev pub is_key : Key → Key → Bool
 is_key k x = key_eq x k
 
--- two kept digests are one
-abbrev pub same_digest : Option Digest → Option Digest → Bool
-same_digest None None = true
-same_digest (Some a) (Some b) = digest_eq a b
-same_digest _ _ = false
-
 -- a picked key may gain a place: its entry is MRU, MFU or a ghost, at rest, has the digest that it was picked with, and no place
 abbrev pub may_be_placed : Picked → Entry → Bool
 may_be_placed pick e =
@@ -108,7 +105,8 @@ legal s (FeedEnd n) = is_number n && (may_pick s.phase && is_none (candidate s))
 legal s (Set n k place) = is_number n && (is_writing s.phase && may_set k s)
 legal s (Leave n k why) = is_number n && (is_writing s.phase && (is_some (pick_of k s.picked) && agree (is_gone why) (not (may_set k s))))
 legal s (Clear n k) = is_number n && is_some (place_of k s)
-legal s (Restore n k place) = is_number n && (is_well_formed k && is_absent k s)
+legal s (Restore n k place d) = is_number n && (is_well_formed k && is_absent k s)
+legal s (Resize n c) = is_number n && is_capacity_of c
 
 -- ---- what an event changes
 
@@ -132,13 +130,17 @@ read_entry n k t s = entry_to_read n k t (entry_of k s)
 abbrev pub written_entry : (n : ℕ) → Key → Digest → (t : ℕ) → Entry
 written_entry n k d t = record { key = k; state = Mru; holds = one_hold n; reading = false; last = t; place = None; digest = Some d }
 
--- what an earlier run left on the cache device
-abbrev pub restored_entry : Key → (place : ℕ) → Entry
-restored_entry k place = record { key = k; state = L2Only; holds = no_holds; reading = false; last = 0; place = Some place; digest = None }
+-- what an earlier run left on the cache device, with its digest where that is told
+abbrev pub restored_entry : Key → (place : ℕ) → Option Digest → Entry
+restored_entry k place d = record { key = k; state = L2Only; holds = no_holds; reading = false; last = 0; place = Some place; digest = d }
 
 -- an entry comes in: the key is taken out, room is made for its bytes, the entry is put in, and the ghosts are trimmed
 abbrev pub taken_in : Entry → PlainShard → PlainShard
 taken_in e s = trimmed (come e (with_room e.key.size (gone e.key s)))
+
+-- a shard is fitted to its capacity: room is made for nothing more, and the ghosts are trimmed
+abbrev pub fitted : PlainShard → PlainShard
+fitted s = trimmed (with_room 0 s)
 
 -- the bytes of a read have arrived
 abbrev pub arrived : Digest → Entry → Entry
@@ -157,7 +159,7 @@ cleared k s = if entry_is (λ e. is_same_state e.state L2Only) k s then gone k s
 
 -- the change of each event, but for the passed keys
 abbrev pub effect : PlainShard → Event → PlainShard
-effect s (Pass n k owner) = record s { passed = s.passed ++ k ∷ [] }
+effect s (Pass n k owner) = record s { passed = with_item (λ x. x) k s.passed }
 effect s (Hit n k t) = changed k (hit_entry n s.mintime t) (off_sequence k s)
 effect s (Miss n k t) = taken_in (read_entry n k t s) (with_target_for k s)
 effect s (Arrive n k d from) = changed k (arrived d) s
@@ -172,7 +174,8 @@ effect s (FeedEnd n) = record s { phase = writing_phase s.picked }
 effect s (Set n k place) = settled k (changed k (λ e. record e { place = Some place }) s)
 effect s (Leave n k why) = settled k s
 effect s (Clear n k) = cleared k s
-effect s (Restore n k place) = come (restored_entry k place) s
+effect s (Restore n k place d) = come (restored_entry k place d) s
+effect s (Resize n c) = fitted (resized c s)
 
 -- passed keys stand only within one scan: every event but a pass and a pick forgets them
 abbrev pub after : PlainShard → Event → PlainShard

@@ -1,6 +1,8 @@
 -- What the vectors of a shard's table mean, and what they keep.
 use Rattle.std.specs.Prelude.{◌≡◌, ◌+◌, ◌≤◌, map, vec_len, vec_capacity}
 use Rattle.arc_core.specs.declared.table.Table.TheInside.{Inside}
+use Rattle.arc_lists.specs.ByKey.{IsRising}
+use Rattle.arc_core.specs.Candidate.{picked_bytes}
 use Rattle.arc_core.specs.PlainShard.{PlainShard, member_of}
 use Rattle.arc_core.specs.PlainTable.{PlainTable}
 use Rattle.arc_core.specs.Sound.{IsTidy}
@@ -30,3 +32,6 @@ pub record IsKept (t : Inside) : Type 0 where
   pub room : vec_len t.entries + t.lists.spare ≤ vec_capacity t.entries
   pub passed_room : vec_len t.passed + t.marks ≤ vec_capacity t.passed
   pub picked_room : vec_len t.picked + t.marks ≤ vec_capacity t.picked
+  -- the passed keys rise, and what is picked is counted
+  pub passed_rising : IsRising (λ k. k) t.passed.items
+  pub bytes : t.picked_bytes ≡ picked_bytes (shard_in t)

@@ -1,4 +1,5 @@
 ghost use Rattle.std.specs.Prelude.{◌≡◌, ◌+◌, ◌^◌, ◌<◌, length};
+ghost use Rattle.arc_core.specs.Digests.{same_digest};
 
 use blk_ptr::{Digest, Key, State};
 
@@ -22,11 +23,25 @@ pub struct Entry {
     pub digest: Option<Digest>,
 }
 
+// Whether two kept digests are one.
+fn same_digest(a: Option<Digest>, b: Option<Digest>) -> bool
+    ensures { result ≡ same_digest a b }
+{
+    match a {
+        Some(x) => match b {
+            Some(y) => x == y,
+            None => false,
+        },
+        None => b.is_none(),
+    }
+}
+
 impl Entry {
+    ghost use Rattle.arc_lists.specs.Sequences.{has_sequence};
     ghost use Rattle.arc_core.specs.PlainShard.{held_by, is_resident, keeps_digest, numbers};
     ghost use Rattle.arc_core.specs.Changes.{one_less, one_more};
     ghost use Rattle.arc_core.specs.Rules.{accessed};
-    ghost use Rattle.arc_core.specs.Step.{holds, reads};
+    ghost use Rattle.arc_core.specs.Step.{holds, may_be_placed, reads};
 
     /// The entry with one hold of `n` more.
     pub fn one_more(mut self, n: u32) -> Entry
@@ -63,6 +78,26 @@ impl Entry {
             Some(kept) => kept == digest,
             None => false,
         }
+    }
+
+    /// Whether entries of its state stand on a sequence.
+    pub fn has_sequence(&self) -> bool
+        ensures { result ≡ has_sequence self.now.state }
+    {
+        match self.state {
+            State::Mru | State::MruGhost | State::Mfu | State::MfuGhost => true,
+            State::Anon | State::L2Only => false,
+        }
+    }
+
+    /// Whether it is as it was when it was picked, and may gain a place on the cache device.
+    pub fn may_be_placed(&self, pick: &Picked) -> bool
+        ensures { result ≡ may_be_placed pick.now self.now }
+    {
+        self.has_sequence()
+            && !self.reading
+            && same_digest(self.digest, pick.digest)
+            && self.place.is_none()
     }
 
     /// Whether it is being read, and `n` holds it.

@@ -120,10 +120,16 @@ pub enum Event {
         n: u32,
         key: Key,
     },
-    /// The key stands at this place of the cache device since an earlier run.
+    /// The key stands at this place of the cache device since an earlier run, with this digest where the device tells one.
     Restore {
         n: u32,
         key: Key,
         place: u64,
+        digest: Option<Digest>,
+    },
+    /// The capacity becomes `c` bytes.
+    Resize {
+        n: u32,
+        c: u64,
     },
 }

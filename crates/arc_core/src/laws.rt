@@ -1,31 +1,52 @@
+//! The laws of a shard and its events, over the definitions alone: each is the contract of a function with nothing to do.
+ghost use Rattle.arc_core.specs.Changing.{IsCounted, IsFrameKept, IsHeldCached, IsHeldKept, IsOwnEntry};
 ghost use Rattle.arc_core.specs.Ending.{IsRoomEnding, IsTrimEnding};
 ghost use Rattle.arc_core.specs.Replay.{IsPrefixLegal, IsReplayInParts};
 ghost use Rattle.arc_core.specs.Soundness.{IsSoundAfter};
-ghost use Rattle.arc_core.specs.Sparing.{IsMissEntering, IsMissSparing};
+ghost use Rattle.arc_core.specs.Sparing.{IsSparing, IsSparingOthers, IsSparingUnmarked, IsStandingVictim};
 
-/// A law of histories: what stands at the front of a legal history is a legal history.
+/// What stands at the front of a legal history is a legal history.
 pub fn prefixes_are_legal()
     ensures { IsPrefixLegal }
 {}
 
-/// A law of histories: replaying one in two parts is replaying it at once.
+/// Replaying a history in two parts is replaying it at once.
 pub fn replay_goes_on()
     ensures { IsReplayInParts }
 {}
 
-/// A law of misses: a miss spares what others hold or read, and leaves the entry that it put in.
-pub fn a_miss_spares_others()
-    ensures sparing { IsMissSparing }
-    ensures entering { IsMissEntering }
+/// Each event keeps a sound shard sound where it is legal.
+pub fn events_keep_soundness()
+    ensures { IsSoundAfter }
 {}
 
-/// A law of room and trim: each goes on until there is nothing more to evict or to drop.
+/// What an event makes of the entry of its own key, and what it leaves of the rest of the shard.
+pub fn events_change_their_own_key()
+    ensures own { IsOwnEntry }
+    ensures frame { IsFrameKept }
+{}
+
+/// What an event may do to the entry of another key: nothing, unless the key is a victim of a miss, an insertion or a resize.
+pub fn events_spare_other_keys()
+    ensures sparing { IsSparing }
+    ensures others { IsSparingOthers }
+    ensures unmarked { IsSparingUnmarked }
+    ensures victims { IsStandingVictim }
+{}
+
+/// Who holds what after an event.
+pub fn events_count_holds()
+    ensures { IsCounted }
+{}
+
+/// What is held at rest has bytes with a digest, and keeps them as long as anyone holds it.
+pub fn held_blocks_stay()
+    ensures cached { IsHeldCached }
+    ensures kept { IsHeldKept }
+{}
+
+/// Room goes on until there is nothing more to evict, and trim until there is nothing more to drop.
 pub fn room_and_trim_end()
     ensures room { IsRoomEnding }
     ensures trim { IsTrimEnding }
-{}
-
-/// A law of soundness: each event that has a call keeps a sound shard sound where it is legal.
-pub fn events_keep_soundness()
-    ensures { IsSoundAfter }
 {}

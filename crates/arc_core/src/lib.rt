@@ -16,7 +16,8 @@ pub use entry::{Entry, NUMBERS, Phase, Picked};
 pub use event::{Event, FailedAt, Origin, Why};
 pub use keeps::Keeps;
 pub use laws::{
-    a_miss_spares_others, events_keep_soundness, prefixes_are_legal, replay_goes_on,
+    events_change_their_own_key, events_count_holds, events_keep_soundness,
+    events_spare_other_keys, held_blocks_stay, prefixes_are_legal, replay_goes_on,
     room_and_trim_end,
 };
 pub use served::{ReadFault, Restored, Served};

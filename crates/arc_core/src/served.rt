@@ -1,4 +1,4 @@
-use blk_ptr::{Digest, KeyFault};
+use blk_ptr::{Digest, Key, KeyFault};
 
 /// Where the bytes of an answered read came from.
 #[derive(Clone, Copy, Debug, PartialEq, Eq)]
@@ -26,9 +26,13 @@ pub enum ReadFault {
     NoMemory,
 }
 
-/// A key that stands on the cache device since an earlier run, and its place there.
+/// A key that stands on the cache device since an earlier run.
 #[derive(Clone, Copy, Debug, PartialEq, Eq)]
 pub struct Restored {
-    pub key: blk_ptr::Key,
+    /// The key.
+    pub key: Key,
+    /// The place of its bytes on the device, in bytes from the device's start.
     pub place: u64,
+    /// The SHA-256 of its bytes, where the device tells it.
+    pub digest: Option<Digest>,
 }

@@ -6,6 +6,7 @@ ghost use Rattle.arc_core.specs.ShardLog.{HasRoom, IsReplayed, Makes, opening_lo
 ghost use Rattle.arc_core.specs.Step.{legal};
 ghost use Rattle.arc_core.specs.View.{first_holder, view_of};
 
+mod feeding;
 mod rules;
 
 use crate::config::Bounds;
@@ -133,16 +134,15 @@ impl Shard {
         ensures kept_entries { self.old.entry_room ≤ self.new.entry_room }
         ensures err { OnErr result (self.new ≡ self.old) }
     {
-        let before = self.history.capacity();
         if self.spare_events < events {
-            let free = before - self.history.len();
+            let free = self.history.capacity() - self.history.len();
             let more = free
                 .checked_add(events - self.spare_events)
                 .ok_or(NoMemory)?;
             self.history.reserve(more)?;
         }
-        self.table.reserve(entries)?;
-        self.spare_events += self.history.capacity() - before;
+        self.table.reserve(entries, events)?;
+        self.spare_events = self.spare_events.max(events);
         Ok(())
     }
 

@@ -7,6 +7,7 @@ ghost use Rattle.arc_core.specs.Edits.{amended, is_off, placed, HasAlike};
 ghost use Rattle.arc_core.specs.Sound.{IsSoundEntry, IsTidy};
 
 mod events;
+mod feed;
 mod room;
 
 use crate::config::Bounds;
@@ -27,6 +28,7 @@ pub struct Table {
     passed: Vec<Key>,
     phase: Phase,
     picked: Vec<Picked>,
+    picked_bytes: u64,
     marks: usize,
 }
 
@@ -62,18 +64,25 @@ impl Table {
             passed: Vec::new(alloc),
             phase: Phase::Idle,
             picked: Vec::new(alloc),
+            picked_bytes: 0,
             marks: 0,
         }
     }
 
-    /// Makes room for `entries` more entries.
-    pub fn reserve(&mut self, entries: usize) -> Result<(), NoMemory>
-        ensures table { self.new ≡ record self.old { spare = self.new.spare } }
+    /// Makes room for `entries` more entries, and for `marks` more picks and passed keys.
+    pub fn reserve(&mut self, entries: usize, marks: usize) -> Result<(), NoMemory>
+        ensures table { self.new ≡ record self.old { spare = self.new.spare; marks = self.new.marks } }
         ensures ok { OnOk result (self.new.spare ≡ max self.old.spare entries) }
+        ensures marks { OnOk result (self.new.marks ≡ max self.old.marks marks) }
         ensures err { OnErr result (self.new ≡ self.old) }
     {
+        let all = self.marks.max(marks);
+        self.passed.reserve(all)?;
+        self.picked.reserve(all)?;
         self.entries.reserve(entries)?;
-        self.lists.reserve(entries)
+        self.lists.reserve(entries)?;
+        self.marks = all;
+        Ok(())
     }
 
     /// How many entries there are.

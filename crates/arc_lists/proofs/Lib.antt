@@ -4,3 +4,4 @@ pub mod Members
 pub mod SizeSums
 pub mod Standing
 pub mod Tables
+pub mod Walking

@@ -19,6 +19,11 @@ state_of Mfu = state.MfuGhost
 abbrev pub least_target : ℕ → ℕ
 least_target c = c / 16
 
+-- The target under a new capacity: no lower than its least, and no higher than what that leaves. (In arc.c a change of the capacity
+-- leaves the target where it may stay; so here.)
+abbrev pub clamped_target : (c p : ℕ) → ℕ
+clamped_target c p = min (max p (least_target c)) (c - least_target c)
+
 -- How much a byte of the one ghost weighs, where the two ghosts have these sizes: 1 where it is the larger one, else how many
 -- times the other is larger, but no more than 10 (the limit is optional in arc.c, and here it is always applied).
 abbrev pub weight : ℕ → ℕ → ℕ

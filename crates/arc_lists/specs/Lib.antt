@@ -5,3 +5,4 @@ pub mod PlainLists
 pub mod Queues
 pub mod Room
 pub mod Sequences
+pub mod Walks

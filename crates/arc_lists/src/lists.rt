@@ -8,6 +8,8 @@ ghost use Rattle.arc_lists.specs.PlainLists.{IsBound, freed, member_key, opening
 ghost use Rattle.arc_lists.specs.Room.{next_drop, next_eviction};
 ghost use Rattle.arc_lists.specs.Sequences.{stands, taken_off};
 
+mod walks;
+
 use crate::ghost_list::Ghost;
 use crate::member::Member;
 use crate::queues::{Queues, oldest};

@@ -86,11 +86,11 @@ fn prepare<R: AllocGlobal + Env + Files + Print>(rt: &R) -> Result<Option<Job<'_
 }
 
 /// Opens the pool that a word names.
-fn open_pool<'a, R: Files>(rt: &'a R, name: &str) -> Result<FilePool<'a, R>, Fault> {
+fn open_pool<'a, R: AllocGlobal + Files>(rt: &'a R, name: &str) -> Result<FilePool<'a, R>, Fault> {
     if name == NO_FILE {
         return Ok(FilePool::empty(rt));
     }
-    FilePool::open(rt, name).map_err(|fault| match fault {
+    FilePool::open(rt.alloc(), rt, name).map_err(|fault| match fault {
         OpenFault::File => Fault::Pool,
         OpenFault::NoMemory => Fault::NO_MEMORY,
     })

@@ -56,6 +56,9 @@ Words:
   gen SEED BLOCKS OPS  Makes a trace of OPS reads over BLOCKS blocks of zero bytes
                        and runs it; SEED is below 2147483648, BLOCKS from 1 to
                        32768, OPS at most 1000000
+  paper C              Reads page numbers from the standard input, one a line,
+                       and tells which are hits of ARC for C pages; C is from
+                       1 to 65536
 
 The report goes to the standard output.
 

@@ -122,7 +122,7 @@ header_rule bytes header is k = record {
     evict = λ e. (rw (is.end, is.evict) header.evict_in, rw (is.hand, is.evict) header.order);
     top = λ e. rw (is.end, is.top) header.top_in;
     lap = λ e. rw is.lap header.lapped;
-    most = λ e. is.most;
+    most = λ e. rw is.version is.most;
   };
   zeros = is.zeros k;
   newest = pointer_rule bytes 128 header.newest is.newest k;
@@ -134,7 +134,7 @@ header_rule bytes header is k = record {
 pub header_not_refused : (bytes : List ℕ) (header : DevHeader) (f : LogFault) → IsHeader bytes header → IsFirstRefusal bytes f → ⊥
 header_not_refused bytes header (fault.Length len) is r = r.1 is.whole
 header_not_refused bytes header fault.Magic is r = r.1 is.magic
-header_not_refused bytes header fault.Version is r = r.2 is.version
+header_not_refused bytes header fault.Version is r = r.2 (rw is.version header.versioned)
 header_not_refused bytes header (fault.Digest kept found) is r = r.3 is.sealed
 header_not_refused bytes header (fault.Field at) is r = r.2.broken (header_rule bytes header is at)
 

@@ -2,7 +2,7 @@
 use Rattle.std.specs.Prelude.{◌≡◌, ◌≢◌, ℕ, ◌≤◌, List, take, length}
 use Rattle.blk_ptr.specs.Ptr.{sha256_of}
 use Rattle.l2_log.specs.Bytes.{word, digest_at, IsZeroIn, AreZero}
-use Rattle.l2_log.specs.Rules.{header_magic, header_len, format_version, ring_start, most_entries, IsRingEnd, IsRingPlace}
+use Rattle.l2_log.specs.Rules.{header_magic, header_len, ring_start, most_with, has_digests, IsVersion, IsRingEnd, IsRingPlace}
 use Rattle.l2_log.specs.Places.{IsFirstBroken}
 use Rattle.l2_log.specs.PointerBytes.{IsPointerOrNone, PointerRule}
 use Rattle.l2_log.specs.declared.header.DevHeader.{DevHeader}
@@ -17,14 +17,14 @@ IsSealed bytes = digest_at bytes 480 ≡ sha256_of (take 480 bytes)
 pub record IsHeader (bytes : List ℕ) (header : DevHeader) : Type 0 where
   pub whole : length bytes ≡ header_len
   pub magic : word bytes 0 ≡ header_magic
-  pub version : word bytes 8 ≡ format_version
+  pub version : word bytes 8 ≡ header.version
   pub start : word bytes 16 ≡ ring_start
   pub end : word bytes 24 ≡ header.end
   pub hand : word bytes 32 ≡ header.hand
   pub evict : word bytes 40 ≡ header.evict
   pub top : word bytes 48 ≡ header.top
   pub lap : word bytes 56 ≡ header.lap
-  pub most : word bytes 64 ≡ most_entries
+  pub most : word bytes 64 ≡ most_with (has_digests header.version)
   pub zeros : AreZero 72 128 bytes
   pub newest : IsPointerOrNone bytes 128 header.newest
   pub second : IsPointerOrNone bytes 192 header.second
@@ -39,7 +39,7 @@ pub record NumberRule (bytes : List ℕ) (k : ℕ) : Type 0 where
   pub evict : k ≡ 40 → IsRingPlace (word bytes 24) (word bytes 40) × (word bytes 32 ≤ word bytes 40)
   pub top : k ≡ 48 → IsRingPlace (word bytes 24) (word bytes 48)
   pub lap : k ≡ 56 → 1 ≤ word bytes 56
-  pub most : k ≡ 64 → word bytes 64 ≡ most_entries
+  pub most : k ≡ 64 → word bytes 64 ≡ most_with (has_digests (word bytes 8))
 
 -- what the field at place k of a header must be, behind the magic and the version and before the digest
 pub record HeaderRule (bytes : List ℕ) (k : ℕ) : Type 0 where
@@ -53,14 +53,14 @@ pub record HeaderRule (bytes : List ℕ) (k : ℕ) : Type 0 where
 pub record IsHeaderFront (bytes : List ℕ) : Type 0 where
   pub whole : length bytes ≡ header_len
   pub magic : word bytes 0 ≡ header_magic
-  pub version : word bytes 8 ≡ format_version
+  pub version : IsVersion (word bytes 8)
 
 -- this refusal is the first of the order: length, magic, version, digest, and then the first field at fault
 abbrev pub IsFirstRefusal : List ℕ → LogFault → Type 0
 IsFirstRefusal bytes (fault.Length len) = (len ≡ length bytes) × (length bytes ≢ header_len)
 IsFirstRefusal bytes fault.Magic = (length bytes ≡ header_len) × (word bytes 0 ≢ header_magic)
 IsFirstRefusal bytes fault.Version =
-    (length bytes ≡ header_len) × (word bytes 0 ≡ header_magic) × (word bytes 8 ≢ format_version)
+    (length bytes ≡ header_len) × (word bytes 0 ≡ header_magic) × ¬ IsVersion (word bytes 8)
 IsFirstRefusal bytes (fault.Digest kept found) =
     IsHeaderFront bytes × (kept ≡ digest_at bytes 480) × (found ≡ sha256_of (take 480 bytes)) × ¬ IsSealed bytes
 IsFirstRefusal bytes (fault.Field at) = IsHeaderFront bytes × IsSealed bytes × IsFirstBroken (HeaderRule bytes) at

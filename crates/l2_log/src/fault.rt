@@ -10,7 +10,7 @@ use std::alloc::{AllocError, AllocFailed};
 pub enum LogFault {
     /// The first eight bytes are not the magic.
     Magic,
-    /// The version is not the one that this crate reads.
+    /// The version is neither of the two that there are.
     Version,
     /// The digest at the end, `kept`, is not the one of the bytes before it, `found`.
     Digest {

@@ -1,9 +1,9 @@
 ghost use Rattle.std.specs.Prelude.{◌≤◌};
-ghost use Rattle.l2_log.specs.Rules.{IsRingEnd, IsRingPlace};
+ghost use Rattle.l2_log.specs.Rules.{IsVersion, IsRingEnd, IsRingPlace};
 
 use crate::fault::LogFault;
 use crate::header_bytes::{check_front, check_numbers};
-use crate::log_block::MOST_ENTRIES;
+use crate::log_block::most_of;
 use crate::pointer::LogPtr;
 use crate::pointer_bytes::{pointer_at, put_pointer};
 use crate::words::{check_zeros, clear, digest_before, put_digest, put_words, word_at};
@@ -19,12 +19,17 @@ pub const LEAST_RING_END: u64 = 266_240;
 
 pub(crate) const MAGIC: u64 = 0x5a46_5343_4143_4845;
 
-pub(crate) const VERSION: u64 = 1;
+/// The version of the format that is written. Version 1 is read beside it.
+pub const VERSION: u64 = 2;
+
+pub(crate) const OLD_VERSION: u64 = 1;
 
 /// The header of the device, in its first 512 bytes (`l2arc_dev_hdr_phys_t`). Its places are multiples of
 /// [`SECTOR`](blk_ptr::SECTOR) from [`RING_START`] to `end`.
 #[derive(Clone, Copy, Debug, PartialEq, Eq)]
 pub struct DevHeader {
+    /// The version of the format, 1 or 2. A chain of version 1 has log blocks of version 1 alone.
+    pub version: u64,
     /// The place at which the ring ends, at least [`LEAST_RING_END`].
     pub end: u64,
     /// The place that is written next.
@@ -39,6 +44,7 @@ pub struct DevHeader {
     pub newest: Option<LogPtr>,
     /// The second newest log block.
     pub second: Option<LogPtr>,
+    pub ghost versioned: { IsVersion version },
     pub ghost ends: { IsRingEnd end },
     pub ghost hand_in: { IsRingPlace end hand },
     pub ghost evict_in: { IsRingPlace end evict },
@@ -73,6 +79,7 @@ impl DevHeader {
         let second = pointer_at(bytes, 192)?;
         check_zeros(bytes, 256, 480)?;
         Ok(DevHeader {
+            version: word_at(bytes, 8),
             end: word_at(bytes, 24),
             hand: word_at(bytes, 32),
             evict: word_at(bytes, 40),
@@ -91,14 +98,14 @@ impl DevHeader {
         clear(out);
         let numbers = [
             MAGIC,
-            VERSION,
+            self.version,
             RING_START,
             self.end,
             self.hand,
             self.evict,
             self.top,
             self.lap,
-            MOST_ENTRIES as u64,
+            most_of(self.version == VERSION),
         ];
         put_words(out, &numbers);
         put_pointer(out, 128, self.newest);

@@ -4,8 +4,8 @@ ghost use Rattle.l2_log.specs.Places.{IsFieldFault};
 ghost use Rattle.l2_log.specs.HeaderBytes.{IsHeaderFront, IsSealed, IsFirstRefusal, NumberRule};
 
 use crate::fault::LogFault;
-use crate::header::{HEADER_LEN, LEAST_RING_END, MAGIC, RING_START, VERSION};
-use crate::log_block::MOST_ENTRIES;
+use crate::header::{HEADER_LEN, LEAST_RING_END, MAGIC, OLD_VERSION, RING_START, VERSION};
+use crate::log_block::most_of;
 use crate::words::{digest_before, is_same, read_digest, word_at};
 use blk_ptr::SECTOR;
 
@@ -22,7 +22,8 @@ pub(crate) fn check_front(bytes: &[u8]) -> Result<(), LogFault>
     if word_at(bytes, 0) != MAGIC {
         return Err(LogFault::Magic);
     }
-    if word_at(bytes, 8) != VERSION {
+    let version = word_at(bytes, 8);
+    if version != OLD_VERSION && version != VERSION {
         return Err(LogFault::Version);
     }
     let kept = read_digest(bytes, 480);
@@ -68,7 +69,7 @@ pub(crate) fn check_numbers(bytes: &[u8]) -> Result<(), LogFault>
     if word_at(bytes, 56) == 0 {
         return Err(LogFault::Field { at: 56 });
     }
-    if word_at(bytes, 64) != MOST_ENTRIES as u64 {
+    if word_at(bytes, 64) != most_of(word_at(bytes, 8) == VERSION) {
         return Err(LogFault::Field { at: 64 });
     }
     Ok(())

@@ -1,9 +1,11 @@
 ghost use Rattle.std.specs.Prelude.{◌≡◌, ◌≤◌, length};
-ghost use Rattle.l2_log.specs.Rules.{IsCount};
+ghost use Rattle.std.specs.List.{All};
+ghost use Rattle.l2_log.specs.Rules.{IsVersion, IsCount, IsCountWith, has_digests, most_with, stored_version, is_there};
 
 use crate::entry::Entry;
 use crate::fault::LogReadFault;
-use crate::log_bytes::{check_log_front, put_entries, read_entries};
+use crate::header::{OLD_VERSION, VERSION};
+use crate::log_bytes::{check_log_front, entry_place, put_entries, read_entries};
 use crate::pointer::LogPtr;
 use crate::pointer_bytes::{pointer_at, put_pointer};
 use crate::words::{check_zeros, clear, put_words, word_at};
@@ -14,12 +16,33 @@ use std::marker::Model;
 /// The bytes of a log block.
 pub const LOG_LEN: usize = 65_536;
 
-/// The most entries of a log block.
-pub const MOST_ENTRIES: usize = 1022;
+/// The most entries of a log block that is written. One of version 1 may have up to [`MOST_OLD_ENTRIES`].
+pub const MOST_ENTRIES: usize = 681;
+
+/// The most entries of a log block of version 1, and the most that a pointer may tell of.
+pub const MOST_OLD_ENTRIES: usize = 1022;
 
 pub(crate) const LOG_MAGIC: u64 = 0x4c4f_4742_4c4b_4844;
 
-/// The entries of a log block, from 1 to [`MOST_ENTRIES`]. Contracts see the list.
+/// The most entries of a log block, with digests and without.
+pub(crate) fn most_of(digests: bool) -> u64
+    ensures { result ≡ most_with digests }
+{
+    if digests {
+        MOST_ENTRIES as u64
+    } else {
+        MOST_OLD_ENTRIES as u64
+    }
+}
+
+/// The number at place 24 of a log block, with digests and without.
+fn stored_of(digests: bool) -> u64
+    ensures { result ≡ stored_version digests }
+{
+    if digests { VERSION } else { 0 }
+}
+
+/// The entries of a log block, from 1 to [`MOST_OLD_ENTRIES`]. Contracts see the list.
 #[derive(Debug, Drop)]
 pub struct Entries {
     entries: Vec<Entry>,
@@ -67,6 +90,8 @@ impl Entries {
 /// A log block: the entries of one run of blocks that were written one behind the other (`l2arc_log_blk_phys_t`).
 #[derive(Debug, Drop)]
 pub struct LogBlock {
+    /// The version of the format: 2, or 1, in which no entry has a digest.
+    pub version: u64,
     /// The lap of the ring in which it was written, at least 1.
     pub lap: u64,
     /// The log block before the one before.
@@ -74,7 +99,9 @@ pub struct LogBlock {
     /// The entries, in the order in which their blocks were written.
     pub entries: Entries,
     pub ghost lapped: { 1 ≤ lap },
-    pub ghost counted: { IsCount (length entries) },
+    pub ghost versioned: { IsVersion version },
+    pub ghost counted: { IsCountWith (has_digests version) (length entries) },
+    pub ghost told: { All (λ entry. is_there entry.digest ≡ has_digests version) entries },
 }
 
 impl LogBlock {
@@ -100,11 +127,13 @@ impl LogBlock {
         ensures { MatchResult result (λ block. IsLogBlock bytes.now block) (λ fault. IsLogRefusal bytes.now fault) }
     {
         let count = word_at(bytes, 16) as usize;
-        check_zeros(bytes, 24, 64)?;
+        let digests = word_at(bytes, 24) == VERSION;
+        check_zeros(bytes, 32, 64)?;
         let prev = pointer_at(bytes, 64)?;
-        let entries = read_entries(alloc, bytes, count)?;
-        check_zeros(bytes, 128 + 64 * count, LOG_LEN)?;
+        let entries = read_entries(alloc, bytes, count, digests)?;
+        check_zeros(bytes, entry_place(digests, count), LOG_LEN)?;
         Ok(LogBlock {
+            version: if digests { VERSION } else { OLD_VERSION },
             lap: word_at(bytes, 8),
             prev,
             entries: Entries::new(entries),
@@ -123,9 +152,10 @@ impl LogBlock {
         clear(out);
         let entries = self.entries.as_slice();
         let count = entries.len() as u64;
-        put_words(out, &[LOG_MAGIC, self.lap, count]);
+        let digests = self.version == VERSION;
+        put_words(out, &[LOG_MAGIC, self.lap, count, stored_of(digests)]);
         put_pointer(out, 64, self.prev);
-        put_entries(out, entries);
+        put_entries(out, entries, digests);
         LogPtr {
             place: 0,
             count,

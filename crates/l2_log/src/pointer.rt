@@ -7,7 +7,7 @@ use blk_ptr::Digest;
 pub struct LogPtr {
     /// The place of its first byte on the device.
     pub place: u64,
-    /// How many entries it has, from 1 to [`MOST_ENTRIES`](crate::MOST_ENTRIES).
+    /// How many entries it has, from 1 to [`MOST_OLD_ENTRIES`](crate::MOST_OLD_ENTRIES).
     pub count: u64,
     /// The SHA-256 of its bytes.
     pub digest: Digest,

@@ -4,7 +4,7 @@ ghost use Rattle.l2_log.specs.Places.{IsFieldFault};
 ghost use Rattle.l2_log.specs.PointerBytes.{IsPointerOrNone, PointerRule};
 
 use crate::fault::LogFault;
-use crate::log_block::{LOG_LEN, MOST_ENTRIES};
+use crate::log_block::{LOG_LEN, MOST_OLD_ENTRIES};
 use crate::pointer::LogPtr;
 use crate::words::{check_zeros, is_zero, put_digest, put_word, read_digest, word_at};
 
@@ -23,7 +23,7 @@ pub(crate) fn pointer_at(bytes: &[u8], at: usize) -> Result<Option<LogPtr>, LogF
         return Err(LogFault::Field { at: at as u32 + 8 });
     }
     let count = word_at(bytes, at + 16);
-    if !(1..=MOST_ENTRIES as u64).contains(&count) {
+    if !(1..=MOST_OLD_ENTRIES as u64).contains(&count) {
         return Err(LogFault::Field { at: at as u32 + 16 });
     }
     check_zeros(bytes, at + 24, at + 32)?;

@@ -1,12 +1,16 @@
 //! Worked values of the format, computed by hand from its tables.
+ghost use Rattle.std.specs.Prelude.{◌≡◌, true};
+ghost use Rattle.l2_log.specs.Rules.{is_there};
+
 use super::*;
 use crate::words::{digest_before, put_digest};
 use blk_ptr::{Digest, Key, digest_of};
+use std::alloc::Global;
 use std::process::Abort;
 use std::test::Fail;
 
 const FIRST_BYTES: [u8; 64] = [
-    0x45, 0x48, 0x43, 0x41, 0x43, 0x53, 0x46, 0x5a, 1, 0, 0, 0, 0, 0, 0, 0, 0, 0x10, 0, 0, 0, 0, 0,
+    0x45, 0x48, 0x43, 0x41, 0x43, 0x53, 0x46, 0x5a, 2, 0, 0, 0, 0, 0, 0, 0, 0, 0x10, 0, 0, 0, 0, 0,
     0, 0, 0x10, 4, 0, 0, 0, 0, 0, 0, 0x12, 1, 0, 0, 0, 0, 0, 0, 0x12, 1, 0, 0, 0, 0, 0, 0, 0x10, 0,
     0, 0, 0, 0, 0, 1, 0, 0, 0, 0, 0, 0, 0,
 ];
@@ -21,6 +25,7 @@ fn has_at(bytes: &[u8], at: usize, expected: &[u8]) -> bool {
 /// The header after the first feed of one block of 512 bytes to a device of 266,240.
 fn header_after_one_feed() -> DevHeader {
     DevHeader {
+        version: VERSION,
         end: 266_240,
         hand: 70_144,
         evict: 70_144,
@@ -135,41 +140,56 @@ fn bytes_that_are_no_log_block(rt: HostRuntime) -> Result<(), Fail> {
     Ok(())
 }
 
+/// The entry of the third of three blocks of 512 bytes, with this digest.
+fn third_entry(digest: Option<Digest>) -> Entry
+    ensures { result.digest ≡ digest }
+{
+    Entry {
+        key: Key {
+            offset: 1024,
+            size: 512,
+            birth: 1,
+        },
+        place: 136_192,
+        digest,
+    }
+}
+
+/// The log block of version 2 of one entry.
+fn log_block(rt: &impl Abort, alloc: Global, prev: Option<LogPtr>, entry: Entry) -> LogBlock
+    requires { is_there entry.digest ≡ true }
+{
+    let mut list = Vec::new(alloc);
+    assert!(rt; list.push(entry).is_ok());
+    LogBlock {
+        version: VERSION,
+        lap: 1,
+        prev,
+        entries: Entries::new(list),
+    }
+}
+
 #[test]
 fn the_log_block_of_a_third_feed(rt: HostRuntime) -> Result<(), Fail> {
-    let key = Key {
-        offset: 1024,
-        size: 512,
-        birth: 1,
-    };
-    let mut list = Vec::new(rt.alloc());
-    list.push(Entry {
-        key,
-        place: 136_192,
-    })
-    .ok()
-    .ok_or("memory")?;
-    assert_eq!(rt; list.len(), 1);
     let prev = Some(LogPtr {
         place: 4608,
         count: 1,
         digest: Digest([3; 32]),
     });
-    let block = LogBlock {
-        lap: 1,
-        prev,
-        entries: Entries::new(list),
-    };
+    let block = log_block(&rt, rt.alloc(), prev, third_entry(Some(Digest([5; 32]))));
     let mut bytes = vec![in rt.alloc(); 5u8; LOG_LEN]?;
     let ptr = block.write(&mut bytes);
     assert_eq!(rt; ptr.place, 0);
     assert_eq!(rt; ptr.count, 1);
     assert_eq!(rt; ptr.digest, digest_of(&bytes));
     assert!(rt; has_at(&bytes, 0, &[0x44, 0x48, 0x4b, 0x4c, 0x42, 0x47, 0x4f, 0x4c]));
+    assert!(rt; has_at(&bytes, 24, &[2, 0, 0, 0, 0, 0, 0, 0]));
     assert!(rt; has_at(&bytes, 128, &THIRD_ENTRY));
+    assert!(rt; has_at(&bytes, 160, &[5; 32]));
     let read = LogBlock::read(rt.alloc(), &bytes)
         .ok()
         .ok_or("the bytes are a log block")?;
+    assert_eq!(rt; read.version, VERSION);
     assert_eq!(rt; read.lap, 1);
     assert_eq!(rt; read.prev, prev);
     assert_eq!(rt; read.entries.as_slice(), block.entries.as_slice());
@@ -177,8 +197,114 @@ fn the_log_block_of_a_third_feed(rt: HostRuntime) -> Result<(), Fail> {
     Ok(())
 }
 
-// offset 1,024, size 512, birth 1, place 136,192, and the first zeros behind them
-const THIRD_ENTRY: [u8; 40] = [
+// offset 1,024, size 512, birth 1, place 136,192
+const THIRD_ENTRY: [u8; 32] = [
     0, 4, 0, 0, 0, 0, 0, 0, 0, 2, 0, 0, 0, 0, 0, 0, 1, 0, 0, 0, 0, 0, 0, 0, 0, 0x14, 2, 0, 0, 0, 0,
-    0, 0, 0, 0, 0, 0, 0, 0, 0,
+    0,
 ];
+
+// magic, lap 1, count 1, and nothing at place 24
+const OLD_FRONT: [u8; 32] = [
+    0x44, 0x48, 0x4b, 0x4c, 0x42, 0x47, 0x4f, 0x4c, 1, 0, 0, 0, 0, 0, 0, 0, 1, 0, 0, 0, 0, 0, 0, 0,
+    0, 0, 0, 0, 0, 0, 0, 0,
+];
+
+fn put_at(bytes: &mut [u8], at: usize, part: &[u8]) {
+    for (byte, new) in bytes.iter_mut().skip(at).zip(part) {
+        *byte = *new;
+    }
+}
+
+/// What a log block of these bytes, spelled by hand, is refused for, once the byte at `at` is `value`.
+fn refusal(alloc: Global, bytes: &mut [u8], at: usize, value: u8) -> Option<LogFault> {
+    put_at(bytes, at, &[value]);
+    match LogBlock::read(alloc, bytes) {
+        Err(LogReadFault::Fault(fault)) => Some(fault),
+        _ => None,
+    }
+}
+
+#[test]
+fn a_log_block_of_version_1(rt: HostRuntime) -> Result<(), Fail> {
+    let mut bytes = vec![in rt.alloc(); 0u8; LOG_LEN]?;
+    put_at(&mut bytes, 0, &OLD_FRONT);
+    put_at(&mut bytes, 128, &THIRD_ENTRY);
+    let read = LogBlock::read(rt.alloc(), &bytes)
+        .ok()
+        .ok_or("the bytes are a log block")?;
+    assert_eq!(rt; read.version, 1);
+    assert_eq!(rt; read.entries.as_slice(), [third_entry(None)].as_slice());
+    let mut again = vec![in rt.alloc(); 5u8; LOG_LEN]?;
+    read.write(&mut again);
+    assert!(rt; again == bytes);
+    Ok(())
+}
+
+#[test]
+fn place_24_decides_what_an_entry_is(rt: HostRuntime) -> Result<(), Fail> {
+    // the place of a byte, its value, and the field that is refused then; each row begins with the old log block
+    let rows = [
+        (24, 1, Some(24)),
+        (25, 2, Some(24)),
+        (24, 2, None),
+        (32, 1, Some(32)),
+        (17, 4, Some(16)),
+        (160, 7, Some(160)),
+        (138, 16, Some(136)),
+        (8, 0, Some(8)),
+    ];
+    for (at, value, refused) in rows {
+        let mut bytes = vec![in rt.alloc(); 0u8; LOG_LEN]?;
+        put_at(&mut bytes, 0, &OLD_FRONT);
+        put_at(&mut bytes, 128, &THIRD_ENTRY);
+        let found = refusal(rt.alloc(), &mut bytes, at, value);
+        assert_eq!(rt; found, refused.map(|at| LogFault::Field { at }), "at {at}");
+    }
+    Ok(())
+}
+
+#[test]
+fn a_large_block_needs_a_digest(rt: HostRuntime) -> Result<(), Fail> {
+    let mut bytes = vec![in rt.alloc(); 0u8; LOG_LEN]?;
+    put_at(&mut bytes, 0, &OLD_FRONT);
+    put_at(&mut bytes, 24, &[2]);
+    put_at(&mut bytes, 128, &THIRD_ENTRY);
+    // 16,777,216 bytes
+    put_at(&mut bytes, 137, &[0]);
+    assert!(rt; refusal(rt.alloc(), &mut bytes, 139, 1).is_none());
+    assert_eq!(rt;
+        refusal(rt.alloc(), &mut bytes, 24, 0),
+        Some(LogFault::Field { at: 136 })
+    );
+    Ok(())
+}
+
+#[test]
+fn a_header_of_version_1(rt: HostRuntime) -> Result<(), Fail> {
+    let newer = header_after_one_feed();
+    let header = DevHeader {
+        version: 1,
+        end: newer.end,
+        hand: newer.hand,
+        evict: newer.evict,
+        top: newer.top,
+        lap: newer.lap,
+        newest: newer.newest,
+        second: newer.second,
+    };
+    let mut bytes = [9; 512];
+    header.write(&mut bytes);
+    assert!(rt; has_at(&bytes, 8, &[1, 0, 0, 0, 0, 0, 0, 0]));
+    // 1,022
+    assert!(rt; has_at(&bytes, 64, &[0xfe, 3, 0, 0, 0, 0, 0, 0]));
+    assert_eq!(rt; DevHeader::read(&bytes).ok(), Some(header));
+    bytes[8] = 2;
+    seal(&mut bytes);
+    assert_eq!(rt;
+        DevHeader::read(&bytes).err(),
+        Some(LogFault::Field { at: 64 })
+    );
+    bytes[8] = 3;
+    assert_eq!(rt; DevHeader::read(&bytes).err(), Some(LogFault::Version));
+    Ok(())
+}

@@ -1,2 +1,4 @@
+pub mod PlanLaws
+pub mod Ranges
 pub mod Ring
 pub mod Stays

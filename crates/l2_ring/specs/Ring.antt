@@ -76,6 +76,14 @@ IsPlan ring plan = (n : ℕ) × IsPlanFor ring n plan
 abbrev pub numbers_of : RingState → Plan
 numbers_of ring = record { hand = ring.hand; evict = ring.evict; top = ring.top; lap = ring.lap }
 
+-- the same numbers with another hand
+abbrev pub with_hand : Plan → ℕ → Plan
+with_hand plan hand = record { hand = hand; evict = plan.evict; top = plan.top; lap = plan.lap }
+
+-- the numbers of a ring are sound
+abbrev pub IsSound : RingState → Type 0
+IsSound ring = IsRing ring.end ring.hand ring.evict ring.top ring.lap
+
 -- the ring has the plan's numbers
 pub record HasPlan (plan : Plan) (old new : RingState) : Type 0 where
   pub end : new.end ≡ old.end

@@ -10,12 +10,16 @@ use Rattle.l2_ring.specs.declared.plan.Plan.{Plan}
 abbrev pub lies_within : ℕ → ℕ → ℕ → ℕ → Bool
 lies_within from to place size = nat_le from place && nat_le (place + size) to
 
--- the entry's range lies in the part of the plan that its own lap asks for: the lower part for the plan's lap, and the
--- upper part for the lap before
+-- a range that was written in this lap lies in the part of the plan that the lap asks for: the lower part for the plan's
+-- lap, and the upper part for the lap before
+abbrev pub stays_at : Plan → ℕ → ℕ → ℕ → Bool
+stays_at plan lap place size =
+    (lies_within ring_start plan.hand place size && (lap == plan.lap))
+    || (lies_within plan.evict plan.top place size && (lap + 1 == plan.lap))
+
+-- the entry's range lies in the part of the plan that its own lap asks for
 abbrev pub stays : Plan → Written → Bool
-stays plan written =
-    (lies_within ring_start plan.hand written.live.place written.live.key.size && (written.lap == plan.lap))
-    || (lies_within plan.evict plan.top written.live.place written.live.key.size && (written.lap + 1 == plan.lap))
+stays plan written = stays_at plan written.lap written.live.place written.live.key.size
 
 -- it does not
 abbrev pub falls : Plan → Written → Bool

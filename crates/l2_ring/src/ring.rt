@@ -3,7 +3,7 @@ ghost use Rattle.std.specs.List.{filter};
 ghost use Rattle.std.specs.Vec.{vec_capacity};
 ghost use Rattle.blk_ptr.specs.Size.{sector};
 ghost use Rattle.l2_log.specs.Rules.{ring_start, IsRingEnd};
-ghost use Rattle.l2_ring.specs.Ring.{IsLower, IsUpper, IsInPart, IsRoom, IsPlanFor, IsPlan, HasPlan, IsSameRing, numbers_of};
+ghost use Rattle.l2_ring.specs.Ring.{IsLower, IsUpper, IsInPart, IsRoom, IsPlanFor, IsPlan, HasPlan, IsSameRing, IsSound, numbers_of, with_hand};
 ghost use Rattle.l2_ring.specs.Stays.{stays, falls, live_of, AreLive};
 
 use crate::live::{Live, Written};
@@ -82,14 +82,17 @@ impl Ring {
 
     /// The place at which the ring ends.
     pub fn end(&self) -> u64
-        ensures { result ≡ self.now.end }
+        ensures end { result ≡ self.now.end }
+        ensures sound { IsSound self.now }
     {
         self.end
     }
 
     /// The place that is written next.
     pub fn hand(&self) -> u64
-        ensures { result ≡ self.now.hand }
+        ensures hand { result ≡ self.now.hand }
+        ensures sound { IsSound self.now }
+        ensures placed { AreLive (numbers_of self.now) self.now.live }
     {
         self.hand
     }
@@ -119,6 +122,7 @@ impl Ring {
     pub fn live(&self) -> &[Written]
         ensures entries { result.now ≡ self.now.live }
         ensures placed { AreLive (numbers_of self.now) self.now.live }
+        ensures sound { IsSound self.now }
     {
         &self.live
     }
@@ -175,6 +179,7 @@ impl Ring {
         ensures live { self.new.live ≡ filter (stays plan) self.old.live }
         ensures dropped { dropped.new.items ≡ dropped.old.items ++ map live_of (filter (falls plan) self.old.live) }
         ensures spare { self.old.spare ≤ self.new.spare }
+        ensures sound { IsSound self.new × AreLive (numbers_of self.new) self.new.live }
     {
         keep(&mut self.live, plan, dropped);
         self.hand = plan.hand;
@@ -188,6 +193,7 @@ impl Ring {
         ensures numbers { IsSameRing self.old self.new }
         ensures live { self.new.live ≡ self.old.live }
         ensures room { MatchResult result (λ _. n ≤ self.new.spare) (λ _. self.new.spare ≡ self.old.spare) }
+        ensures kept { self.old.spare ≤ self.new.spare }
     {
         self.live.reserve(n)?;
         Ok(())
@@ -220,7 +226,24 @@ impl Ring {
         ensures same { (self.new.end ≡ self.old.end) × (self.new.evict ≡ self.old.evict) × (self.new.top ≡ self.old.top) × (self.new.lap ≡ self.old.lap) }
         ensures live { self.new.live ≡ self.old.live }
         ensures spare { self.new.spare ≡ self.old.spare }
+        ensures sound { IsSound self.new × AreLive (numbers_of self.new) self.new.live }
     {
         self.hand += n;
+    }
+
+    /// Moves the hand back to where it stood before some bytes, which are not to count. The live entries of the lower
+    /// part end at or before that place.
+    pub fn rewind(&mut self, hand: u64)
+        requires aligned { hand % sector ≡ 0 }
+        requires from { ring_start ≤ hand }
+        requires back { hand ≤ self.old.hand }
+        requires live { AreLive (with_hand (numbers_of self.old) hand) self.old.live }
+        ensures hand { self.new.hand ≡ hand }
+        ensures same { (self.new.end ≡ self.old.end) × (self.new.evict ≡ self.old.evict) × (self.new.top ≡ self.old.top) × (self.new.lap ≡ self.old.lap) }
+        ensures live { self.new.live ≡ self.old.live }
+        ensures spare { self.new.spare ≡ self.old.spare }
+        ensures sound { IsSound self.new }
+    {
+        self.hand = hand;
     }
 }

@@ -18,7 +18,7 @@ fn lies_within(from: u64, to: u64, place: u64, size: u64) -> bool
 fn stays(plan: Plan, written: Written) -> bool
     ensures { result ≡ stays plan written }
 {
-    let Live { key, place } = written.live;
+    let Live { key, place, .. } = written.live;
     let lower = lies_within(RING_START, plan.hand, place, key.size) && written.lap == plan.lap;
     let upper = lies_within(plan.evict, plan.top, place, key.size)
         && written.lap < u64::MAX

@@ -38,7 +38,11 @@ fn feed(rt: &impl Abort, ring: &mut Ring, dropped: &mut Vec<Live>, key: Key) -> 
     assert!(rt; ring.live().len() <= 4 && dropped.len() <= 4 && 8 <= dropped.capacity());
     ring.take(plan, dropped);
     let (place, log_place) = advance(rt, ring);
-    let live = Live { key, place };
+    let live = Live {
+        key,
+        place,
+        digest: None,
+    };
     assert!(rt; ring.reserve(1).is_ok());
     assert!(rt; 0 < key.size);
     assert!(rt; matches!(ring.part(place, key.size), Part::Lower));
@@ -64,6 +68,7 @@ fn four_feeds_of_one_block_each(rt: HostRuntime) -> Result<(), Fail> {
     let first = Live {
         key: key(0),
         place: 4096,
+        digest: None,
     };
     assert_eq!(rt; dropped.as_slice(), [first].as_slice());
     let left = [
@@ -71,6 +76,7 @@ fn four_feeds_of_one_block_each(rt: HostRuntime) -> Result<(), Fail> {
             live: Live {
                 key: key(512),
                 place: 70_144,
+                digest: None,
             },
             lap: 1,
         },
@@ -78,6 +84,7 @@ fn four_feeds_of_one_block_each(rt: HostRuntime) -> Result<(), Fail> {
             live: Live {
                 key: key(1024),
                 place: 136_192,
+                digest: None,
             },
             lap: 1,
         },
@@ -85,6 +92,7 @@ fn four_feeds_of_one_block_each(rt: HostRuntime) -> Result<(), Fail> {
             live: Live {
                 key: key(1536),
                 place: 4096,
+                digest: None,
             },
             lap: 2,
         },
@@ -117,6 +125,7 @@ fn room_for_one_entry(rt: HostRuntime) {
 #[test]
 fn parts_of_a_ring_of_a_header(rt: HostRuntime) {
     let header = l2_log::DevHeader {
+        version: 2,
         end: END,
         hand: 70_144,
         evict: 136_192,

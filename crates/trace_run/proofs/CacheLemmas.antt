@@ -227,7 +227,7 @@ IsKept-fail c u k t mid keeps sound formed none missed caller now blocks kept =
     let next = after s (Miss n k t) in
     let last = after next (Fail n k failed_at.Pool) in
     let last_is : u.shard.now ≡ last = now ∙ ap (λ (m : PlainShard). after m (Fail n k failed_at.Pool)) missed in
-    let at : entry_of k last ≡ None = entry_of-fail next n k failed_at.Pool (IsSound-after s (Miss n k t) refl sound ok) in
+    let at : entry_of k last ≡ None = entry_of-fail next n k failed_at.Pool (IsSound-after s (Miss n k t) sound ok) in
     let spared : (j : Key) → key_eq j k ≡ false → IsSpared (entry_of j s) (entry_of j last) = λ j differs.
     subst (λ o. IsSpared (entry_of j s) o) (sym (entry_of-fail_other next n k j failed_at.Pool differs)) (spared-miss s n t k j sound ok differs) in
     let zero_is = (missing n k c.kept.items s keeps.number sound keeps.held none).1 in

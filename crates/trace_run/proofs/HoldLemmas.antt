@@ -81,10 +81,10 @@ free-none n count e lt holds free =
 
 pub HasHolds-spared : (n count : ℕ) (old new : Option Entry) → n < numbers → IsSpared old new → HasHolds n count old → HasHolds n count new
 HasHolds-spared n count None new lt spared holds = rw spared holds
-HasHolds-spared n count (Some e) None lt spared holds = free-none n count e lt holds spared
+HasHolds-spared n count (Some e) None lt spared holds = free-none n count e lt holds (and_left (is_free e) _ spared.0)
 HasHolds-spared n count (Some e) (Some f) lt spared holds = elim spared [
   | inl same ↦ rw same holds
-  | inr changed ↦ (changed.3 ∙ holds.0, changed.2 ∙ holds.1)
+  | inr changed ↦ (ap (λ (x : Entry). x.reading) changed.2 ∙ holds.0, ap (λ (x : Entry). x.holds) changed.2 ∙ holds.1)
 ]
 
 -- the digest of an entry whose bytes are cached and at rest

@@ -86,7 +86,7 @@ explains trace replies start done end history ends before after formed told same
     let is : history ≡ whole = same ∙ the-history trace replies start done end told in
     let opens : end.log.opening ≡ opening = told.dropped.opening ∙ told.ran.opening ∙ told.opening in
     let now : replay opening history ≡ end.log.now = rw (same, sym opens) told.replayed.replayed in
-    let callers : 0 ≢ trace.config.callers = λ e. absurd (omega (arith, formed.config.ranged.counts.callers.0)) in
+    let callers : 0 < trace.config.callers = omega (arith, formed.config.ranged.counts.callers.0) in
     let found : AreFoundAs trace.blocks opening [] trace.ops replies = rw told.opened at told.found in
     let own = all-own 0 trace.ops (λ k op at. (own-ops trace formed k op at).0) in
     let front = events_of_all trace.blocks opening [] trace.ops replies in
@@ -97,7 +97,7 @@ explains trace replies start done end history ends before after formed told same
       legal = (rw (same, sym opens) told.replayed.legal, tt);
       ends = ended ∙ ap (λ (s : PlainShard). end_of s ∷ []) (sym now);
       at_rest = (rw now told.at_rest, tt);
-      every_call = rw is (every-call trace.blocks trace.config.callers 0 opening trace.ops replies callers own found);
+      every_call = rw is (every-call trace.blocks trace.config 0 opening trace.ops replies callers own found);
       one_caller = ap (λ (h : List Event). h ∷ []) is;
       found = found;
       reads = λ low. rw (is, reads) (rw told.opened at (read low));

@@ -1,5 +1,5 @@
 -- One caller's history holds every call of its operations once.
-use Rattle.std.proofs.Common.{◌≡◌, ◌≢◌, ℕ, zero, suc, ◌+◌, ◌<◌, ◌≤◌, Bool, true, false, not, ◌&&◌, ◌==◌, if◌then◌else◌, IsTrue, List, [], ◌∷◌, ◌++◌, length, map, Option, Some, None, IfSome, ◌⊎◌, inl, inr, refl, sym, ap, subst, ◌∙◌, arith, append_assoc, append-nil}
+use Rattle.std.proofs.Common.{◌≡◌, ◌≢◌, ℕ, zero, suc, ◌+◌, ◌<◌, ◌≤◌, Bool, true, false, not, ◌&&◌, ◌==◌, ◌||◌, nat_lt, if◌then◌else◌, IsTrue, List, [], ◌∷◌, ◌++◌, length, map, Option, Some, None, IfSome, ◌⊎◌, inl, inr, refl, sym, ap, subst, ◌∙◌, arith, append_assoc, append-nil}
 use Rattle.std.specs.Prelude.{filter, slice_get, slice_index_or}
 use Rattle.std.specs.List.{AllByRecursion}
 use Rattle.std.specs.Option.{option_map_or}
@@ -14,9 +14,10 @@ use Rattle.arc_lists.proofs.Tables.{cases_true, some_is}
 use Rattle.arc_core.specs.declared.entry.Entry.{Entry}
 use Rattle.arc_core.specs.declared.event.Event.{Event}
 use Rattle.arc_core.specs.declared.event.Event.TheVariants as event
+use Rattle.arc_core.specs.declared.config.Config.{Config}
 use Rattle.arc_core.specs.declared.served.Served.{Served}
 use Rattle.arc_core.specs.declared.served.Served.TheVariants as served
-use Rattle.arc_core.specs.Operations.{Act, Reads, Keeps, GivesBack, Fails, AreEvents, HoldEveryCallOnce, IsHonest, Moment, StandsFor, Tell, act_key, actor_of, acts_in, is_of_feed, is_pass, moments, number_of, own_moments}
+use Rattle.arc_core.specs.Operations.{Act, Reads, Keeps, GivesBack, Fails, AreEvents, HoldEveryCallOnce, IsHonest, Moment, StandsFor, Tell, act_key, actor_of, acts_in, are_passes_placed, has_its_number, is_of_feed, is_pass, moments, number_of, own_moments}
 use Rattle.arc_core.specs.PlainShard.{PlainShard, entry_is, entry_of, keeps_digest, resident_digest}
 use Rattle.arc_core.specs.Replay.{replay}
 use Rattle.arc_core.specs.Step.{after}
@@ -167,8 +168,18 @@ tell-history blocks n s os replies named =
 
 -- ---- whose they are
 
+-- an event that reads make
+abbrev is_of_reads : Event → Bool
+is_of_reads (event.Hit n k t) = true
+is_of_reads (event.Miss n k t) = true
+is_of_reads (event.Arrive n k d from) = true
+is_of_reads (event.Fail n k at) = true
+is_of_reads (event.Drop n k) = true
+is_of_reads (event.Past n k kept) = true
+is_of_reads _ = false
+
 abbrev IsMine : ℕ → Event → Type 0
-IsMine n e = (number_of e ≡ n) × (is_pass e ≡ false)
+IsMine n e = (number_of e ≡ n) × (is_pass e ≡ false) × (is_of_reads e ≡ true)
 
 all-append : {X : Type 0} (P : X → Type 0) (xs ys : List X) → AllByRecursion P xs → AllByRecursion P ys → AllByRecursion P (xs ++ ys)
 all-append P [] ys first rest = rest
@@ -188,17 +199,17 @@ all-map P Q (x ∷ xs) f all = (f x all.0, all-map P Q xs f all.1)
 
 mine-drop : (n : ℕ) (held : Option Key) → AllByRecursion (IsMine n) (events_of_drop n held)
 mine-drop n None = tt
-mine-drop n (Some key) = ((refl, refl), tt)
+mine-drop n (Some key) = ((refl, refl, refl), tt)
 
 mine-answered : (n t : ℕ) (ptr : Ptr) (a : Access) → AllByRecursion (IsMine n) (events_of_answered n t ptr a)
-mine-answered n t ptr access.Hit = ((refl, refl), tt)
-mine-answered n t ptr (access.Past kept) = ((refl, refl), tt)
-mine-answered n t ptr access.Miss = ((refl, refl), ((refl, refl), tt))
+mine-answered n t ptr access.Hit = ((refl, refl, refl), tt)
+mine-answered n t ptr (access.Past kept) = ((refl, refl, refl), tt)
+mine-answered n t ptr access.Miss = ((refl, refl, refl), ((refl, refl, refl), tt))
 
 mine-refused : (n t : ℕ) (ptr : Ptr) (a : Access) → AllByRecursion (IsMine n) (events_of_refused n t ptr a)
 mine-refused n t ptr access.Hit = tt
-mine-refused n t ptr (access.Past kept) = ((refl, refl), tt)
-mine-refused n t ptr access.Miss = ((refl, refl), ((refl, refl), tt))
+mine-refused n t ptr (access.Past kept) = ((refl, refl, refl), tt)
+mine-refused n t ptr access.Miss = ((refl, refl, refl), ((refl, refl, refl), tt))
 
 mine-read : (n t : ℕ) (s : PlainShard) (ptr : Ptr) (reply : Reply) → AllByRecursion (IsMine n) (events_of_read n t s ptr reply)
 mine-read n t s ptr (Read served digest shown) = all-append (IsMine n) (events_of_answered n t ptr (access_of s ptr)) _ (mine-answered n t ptr (access_of s ptr)) (mine-drop n (held_key ptr (access_of s ptr)))
@@ -317,11 +328,15 @@ act-drops n (read ∷ reads) = all-append (λ act. actor_of act ≡ n) (acts_of_
 act-caller : (blocks : List Ptr) (n : ℕ) (os : List Op) (replies : List Reply) → AllByRecursion (λ op. caller_of op ≡ n) os → AllByRecursion (λ act. actor_of act ≡ n) (acts_of_caller blocks n os replies)
 act-caller blocks n os replies own = all-append (λ act. actor_of act ≡ n) (acts_of_all blocks [] os replies) _ (act-all n blocks [] os replies own) (act-drops n (kept_after_all blocks [] os replies))
 
+mine-events : (blocks : List Ptr) (n : ℕ) (s : PlainShard) (os : List Op) (replies : List Reply) → AllByRecursion (λ op. caller_of op ≡ n) os
+    → AllByRecursion (IsMine n) (one_caller_history blocks n s os replies)
+mine-events blocks n s os replies own =
+    all-append (IsMine n) (events_of_all blocks s [] os replies) _ (mine-all n blocks s [] os replies own) (mine-drops n (kept_after_all blocks [] os replies))
+
 mine-history : (blocks : List Ptr) (n : ℕ) (s : PlainShard) (os : List Op) (replies : List Reply) → AllByRecursion (λ op. caller_of op ≡ n) os
     → AllByRecursion (λ m. IsMine n m.event) (moments s (one_caller_history blocks n s os replies))
 mine-history blocks n s os replies own =
-    mine-moments n s (one_caller_history blocks n s os replies)
-    (all-append (IsMine n) (events_of_all blocks s [] os replies) _ (mine-all n blocks s [] os replies own) (mine-drops n (kept_after_all blocks [] os replies)))
+    mine-moments n s (one_caller_history blocks n s os replies) (mine-events blocks n s os replies own)
 
 -- ---- each call once
 
@@ -346,11 +361,48 @@ no-acts n other acts differs own = filter-none _ acts (all-map (λ act. actor_of
 only-shard : (shard : ℕ) → shard < 1 → shard ≡ 0
 only-shard shard lt = omega arith
 
-pub every-call : (blocks : List Ptr) (callers n : ℕ) (s : PlainShard) (os : List Op) (replies : List Reply) → n ≢ callers → AllByRecursion (λ op. caller_of op ≡ n) os
+-- a caller's number is one that an event of reads may have
+caller-number : (callers cells n : ℕ) (e : Event) → n < callers → IsMine n e → IsTrue (has_its_number callers cells e)
+caller-number callers cells n e lt mine = go e mine.2 (subst (λ m. nat_lt m callers ≡ true) (sym mine.0) is_caller)
+  where
+    is_caller : nat_lt n callers ≡ true
+    is_caller = grind (arith, nat_tests)
+
+    either : (a b : Bool) → a ≡ true → (a || b) ≡ true
+    either a b h = rw h refl
+
+    go : (e : Event) → is_of_reads e ≡ true → nat_lt (number_of e) callers ≡ true → has_its_number callers cells e ≡ true
+    go (event.Hit n k t) of lt = lt
+    go (event.Miss n k t) of lt = lt
+    go (event.Arrive n k d from) of lt = lt
+    go (event.Fail n k at) of lt = lt
+    go (event.Drop n k) of lt = either (nat_lt n callers) _ lt
+    go (event.Past n k kept) of lt = lt
+    go (event.Pass n k owner) of lt = absurd (false≢true of)
+    go (event.Hand n k to) of lt = absurd (false≢true of)
+    go (event.Insert n k d t) of lt = absurd (false≢true of)
+    go (event.Release n k sole) of lt = absurd (false≢true of)
+    go (event.Pick n k) of lt = absurd (false≢true of)
+    go (event.FeedEnd n) of lt = absurd (false≢true of)
+    go (event.Set n k place) of lt = absurd (false≢true of)
+    go (event.Leave n k why) of lt = absurd (false≢true of)
+    go (event.Clear n k) of lt = absurd (false≢true of)
+    go (event.Restore n k place d) of lt = absurd (false≢true of)
+    go (event.Resize n c) of lt = absurd (false≢true of)
+
+-- without passes each stands where it may
+no-passes : (n : ℕ) (es : List Event) → AllByRecursion (IsMine n) es → are_passes_placed es ≡ true
+no-passes n [] mine = refl
+no-passes n (e ∷ es) mine = rw mine.0.1 (no-passes n es mine.1)
+
+pub every-call : (blocks : List Ptr) (config : Config) (n : ℕ) (s : PlainShard) (os : List Op) (replies : List Reply) → n < config.callers → AllByRecursion (λ op. caller_of op ≡ n) os
     → AreFoundAs blocks s [] os replies
-    → HoldEveryCallOnce callers (λ key. 0) s (acts_of_caller blocks n os replies) (one_caller_history blocks n s os replies ∷ [])
-every-call blocks callers n s os replies feeder own named =
+    → HoldEveryCallOnce config (λ key. 0) s (acts_of_caller blocks n os replies) (one_caller_history blocks n s os replies ∷ [])
+every-call blocks config n s os replies lt_callers own named =
+    let callers = config.callers in
+    let feeder : n ≢ callers = λ e. absurd (omega (arith, lt_callers, e)) in
     let history = one_caller_history blocks n s os replies in
+    let all = mine-events blocks n s os replies own in
     let acts = acts_of_caller blocks n os replies in
     let ms = moments s history in
     let mine = mine-history blocks n s os replies own in
@@ -364,4 +416,6 @@ every-call blocks callers n s os replies feeder own named =
       told = λ shard m lt differs. subst (λ i. Tell (acts_in (λ key. 0) i m acts) (own_moments m (moments s (slice_index_or (history ∷ []) i [])))) (sym (only-shard shard lt)) (told_at m differs);
       fed = λ shard lt. subst (λ i. AllByRecursion (λ m. IsTrue (is_of_feed m.event)) (own_moments callers (moments s (slice_index_or (history ∷ []) i [])))) (sym (only-shard shard lt))
           (rw (no-moments n callers ms feeder mine) tt);
+      numbers = (all-map (IsMine n) _ history (λ e is. caller-number callers config.cells n e lt_callers is) all, tt);
+      passes = (no-passes n history all, tt);
     }

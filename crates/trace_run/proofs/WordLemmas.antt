@@ -2,7 +2,7 @@
 use Rattle.std.proofs.Common.{◌≡◌, ℕ, suc, ◌<◌, ◌≤◌, ◌⊎◌, true, false, List, [], ◌∷◌, ◌++◌, length, take, Some, None, codes, refl, sym, ◌∙◌, ap, subst, add-one, arith, inl, inr}
 use Rattle.std.specs.Prelude.{slice_get, slice_index, decimal, Result, Ok, Err, IsErrAnd, MatchResult}
 use Rattle.trace_run.specs.declared.words.Command.{Command}
-use Rattle.trace_run.specs.declared.words.Command.TheVariants.{Run, Gen}
+use Rattle.trace_run.specs.declared.words.Command.TheVariants.{Run, Gen, Paper}
 use Rattle.trace_run.specs.Words.{IsCommand, Begins, IsFirstWrong}
 
 same_head : (a b : List ℕ) (rest others : List (List ℕ)) → a ∷ rest ≡ b ∷ others → a ≡ b
@@ -23,16 +23,25 @@ no_words a rest e = cc
 gen_is_not_run : codes "gen" ≡ codes "run" → ⊥
 gen_is_not_run e = let bad : 103 ≡ 114 = ap (λ word. slice_index word 0) e in omega (arith, bad)
 
+paper_is_not_run : codes "paper" ≡ codes "run" → ⊥
+paper_is_not_run e = let bad : 112 ≡ 114 = ap (λ word. slice_index word 0) e in omega (arith, bad)
+
+paper_is_not_gen : codes "paper" ≡ codes "gen" → ⊥
+paper_is_not_gen e = let bad : 112 ≡ 103 = ap (λ word. slice_index word 0) e in omega (arith, bad)
+
 -- the words of each command behind its first
 
-pub first_word : (word : List ℕ) (rest : List (List ℕ)) (command : Command) → IsCommand (word ∷ rest) command → (word ≡ codes "run") ⊎ (word ≡ codes "gen")
+pub first_word : (word : List ℕ) (rest : List (List ℕ)) (command : Command) → IsCommand (word ∷ rest) command
+    → (word ≡ codes "run") ⊎ ((word ≡ codes "gen") ⊎ (word ≡ codes "paper"))
 first_word word rest (Run events) whole = inl (same_head word _ rest _ whole.0)
-first_word word rest (Gen seed blocks ops) whole = inr (same_head word _ rest _ whole.0)
+first_word word rest (Gen seed blocks ops) whole = inr (inl (same_head word _ rest _ whole.0))
+first_word word rest (Paper c) whole = inr (inr (same_head word _ rest _ whole.0))
 
 run_words : (rest : List (List ℕ)) (command : Command) → IsCommand (codes "run" ∷ rest) command → (rest ≡ []) ⊎ (rest ≡ codes "--events" ∷ [])
 run_words rest (Run true) whole = inr (same_tail _ _ rest _ whole.0)
 run_words rest (Run false) whole = inl (same_tail _ _ rest _ whole.0)
 run_words rest (Gen seed blocks ops) whole = absurd (gen_is_not_run (sym (same_head _ _ rest _ whole.0)))
+run_words rest (Paper c) whole = absurd (paper_is_not_run (sym (same_head _ _ rest _ whole.0)))
 
 record IsGen (rest : List (List ℕ)) : Type 0 where
   seed : ℕ
@@ -46,6 +55,7 @@ record IsGen (rest : List (List ℕ)) : Type 0 where
 
 gen_words : (rest : List (List ℕ)) (command : Command) → IsCommand (codes "gen" ∷ rest) command → IsGen rest
 gen_words rest (Run events) whole = absurd (gen_is_not_run (same_head _ _ rest _ whole.0))
+gen_words rest (Paper c) whole = absurd (paper_is_not_gen (sym (same_head _ _ rest _ whole.0)))
 gen_words rest (Gen s b o) whole = record {
   seed = s;
   blocks = b;
@@ -56,6 +66,17 @@ gen_words rest (Gen s b o) whole = record {
   blocks_in = whole.1.2;
   ops_in = whole.1.3;
 }
+
+record IsPaper (rest : List (List ℕ)) : Type 0 where
+  c : ℕ
+  words : rest ≡ decimal c ∷ []
+  some : 1 ≤ c
+  most : c ≤ 65536
+
+paper_words : (rest : List (List ℕ)) (command : Command) → IsCommand (codes "paper" ∷ rest) command → IsPaper rest
+paper_words rest (Run events) whole = absurd (paper_is_not_run (same_head _ _ rest _ whole.0))
+paper_words rest (Gen seed blocks ops) whole = absurd (paper_is_not_gen (same_head _ _ rest _ whole.0))
+paper_words rest (Paper k) whole = record { c = k; words = same_tail _ _ rest _ whole.0; some = whole.1.0; most = whole.1.1 }
 
 -- what begins a command
 
@@ -74,6 +95,12 @@ begins_gen = record {
   command = Gen 0 1 0;
   whole = (refl, (omega arith, omega arith, omega arith, omega arith));
 }
+
+begins_paper : Begins (codes "paper" ∷ [])
+begins_paper = record { rest = decimal 1 ∷ []; command = Paper 1; whole = (refl, (omega arith, omega arith)) }
+
+begins_capacity : (c : ℕ) → 1 ≤ c → c ≤ 65536 → Begins (codes "paper" ∷ decimal c ∷ [])
+begins_capacity c some most = record { rest = []; command = Paper c; whole = (refl, (some, most)) }
 
 begins_seed : (s : ℕ) → s ≤ 2147483647 → Begins (codes "gen" ∷ decimal s ∷ [])
 begins_seed s h = record {
@@ -130,17 +157,20 @@ wrong_at before (word ∷ rest) begins wrong more =
 no_command : (command : Command) → IsCommand [] command → ⊥
 no_command (Run events) whole = no_words _ _ (sym whole.0)
 no_command (Gen seed blocks ops) whole = no_words _ _ (sym whole.0)
+no_command (Paper c) whole = no_words _ _ (sym whole.0)
 
-wrong_first : (ws : List (List ℕ)) → ((word : List ℕ) → slice_get ws 0 ≡ Some word → (word ≡ codes "run") ⊎ (word ≡ codes "gen") → ⊥) → IsFirstWrong ws 0
+wrong_first : (ws : List (List ℕ)) → ((word : List ℕ) → slice_get ws 0 ≡ Some word → (word ≡ codes "run") ⊎ ((word ≡ codes "gen") ⊎ (word ≡ codes "paper")) → ⊥)
+    → IsFirstWrong ws 0
 wrong_first ws neither =
     wrong_at [] ws begins_nothing
     (λ word is goes_on. neither word is (first_word word goes_on.rest goes_on.command goes_on.whole))
     (λ empty. no_command)
 
-pub other_word : (ws : List (List ℕ)) (text : List ℕ) → Some text ≡ slice_get ws 0 → (text ≡ codes "run" → ⊥) → (text ≡ codes "gen" → ⊥) → IsFirstWrong ws 0
-other_word ws text there not_run not_gen = wrong_first ws (λ word is which.
+pub other_word : (ws : List (List ℕ)) (text : List ℕ) → Some text ≡ slice_get ws 0 → (text ≡ codes "run" → ⊥) → (text ≡ codes "gen" → ⊥) → (text ≡ codes "paper" → ⊥)
+    → IsFirstWrong ws 0
+other_word ws text there not_run not_gen not_paper = wrong_first ws (λ word is which.
     let same : text ≡ word = same_some text word (there ∙ is) in
-    elim which [ inl e ↦ not_run (same ∙ e) | inr e ↦ not_gen (same ∙ e) ])
+    elim which [ inl e ↦ not_run (same ∙ e) | inr other ↦ elim other [ inl e ↦ not_gen (same ∙ e) | inr e ↦ not_paper (same ∙ e) ] ])
 
 pub no_word : (ws : List (List ℕ)) → None ≡ slice_get ws 0 → IsFirstWrong ws 0
 no_word ws none = wrong_first ws (λ word is which. no_some word (none ∙ is))
@@ -248,6 +278,33 @@ gen_fifth (w ∷ x ∷ y ∷ z ∷ rest) s b o more first second fits third some
     let behind = same_tail _ _ (decimal o ∷ word ∷ goes_on.rest) _ (same_tail _ _ (decimal b ∷ decimal o ∷ word ∷ goes_on.rest) _ g.words) in
     no_words _ _ (same_tail _ _ (word ∷ goes_on.rest) _ behind))
     (λ empty. absurd (is_more rest more fifth empty)))
+
+-- the words behind `paper`
+
+pub paper_capacity : (ws : List (List ℕ)) → slice_get ws 0 ≡ Some (codes "paper") → ((n : ℕ) → 1 ≤ n → n ≤ 65536 → slice_get ws 1 ≡ Some (decimal n) → ⊥)
+    → IsFirstWrong ws 1
+paper_capacity [] first none = absurd (no_some _ first)
+paper_capacity (w ∷ rest) first none = rw (same_some w _ first) (wrong_at (codes "paper" ∷ []) rest begins_paper
+    (λ word is goes_on. let p = paper_words (word ∷ goes_on.rest) goes_on.command goes_on.whole in
+    none p.c p.some p.most (is ∙ ap Some (same_head word _ _ _ p.words)))
+    (λ empty command whole. let p = paper_words [] command whole in no_words _ _ (sym p.words)))
+
+pub paper_whole : (ws : List (List ℕ)) (c : ℕ) → slice_get ws 0 ≡ Some (codes "paper") → slice_get ws 1 ≡ Some (decimal c) → None ≡ slice_get ws 2
+    → ws ≡ codes "paper" ∷ decimal c ∷ []
+paper_whole [] c first second end = absurd (no_some _ first)
+paper_whole (w ∷ []) c first second end = absurd (no_some _ second)
+paper_whole (w ∷ x ∷ []) c first second end = rw (same_some w _ first, same_some x _ second) refl
+paper_whole (w ∷ x ∷ y ∷ rest) c first second end = absurd (no_some y end)
+
+pub paper_third : (ws : List (List ℕ)) (c : ℕ) (more : List ℕ) → slice_get ws 0 ≡ Some (codes "paper") → slice_get ws 1 ≡ Some (decimal c) → 1 ≤ c → c ≤ 65536
+    → Some more ≡ slice_get ws 2 → IsFirstWrong ws 2
+paper_third [] c more first second some most third = absurd (no_some _ first)
+paper_third (w ∷ []) c more first second some most third = absurd (no_some _ second)
+paper_third (w ∷ x ∷ rest) c more first second some most third =
+    rw (same_some w _ first, same_some x _ second) (wrong_at (codes "paper" ∷ decimal c ∷ []) rest (begins_capacity c some most)
+    (λ word is goes_on. let p = paper_words (decimal c ∷ word ∷ goes_on.rest) goes_on.command goes_on.whole in
+    no_words _ _ (same_tail _ _ (word ∷ goes_on.rest) [] p.words))
+    (λ empty. absurd (is_more rest more third empty)))
 
 -- an error that is handed on tells the first wrong word
 pub hands_on : (ws : List (List ℕ)) (r : Result Command ℕ) (e : ℕ) → IsErrAnd r (λ told. told ≡ e) → IsFirstWrong ws e

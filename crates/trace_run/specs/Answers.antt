@@ -38,9 +38,9 @@ AnswersRead pool_len image ptr window (Refused (Range end size)) =
 AnswersRead pool_len image ptr window (Refused refusal) = IsInside window ptr.key.size × IsReadRefusal pool_len image ptr refusal
 AnswersRead pool_len image ptr window reply = ⊥
 
--- the answers to a read that is kept
+-- the answers to a read that is kept: one that is answered has the bytes of its block, though it shows none
 abbrev pub AnswersHold : ℕ → Option (List ℕ) → Ptr → Reply → Type 0
-AnswersHold pool_len image ptr (Kept served) = IsValid pool_len ptr.key
+AnswersHold pool_len image ptr (Kept served) = IsValid pool_len ptr.key × ((bytes : List ℕ) × IsServed image ptr bytes)
 AnswersHold pool_len image ptr (Refused refusal) = IsReadRefusal pool_len image ptr refusal
 AnswersHold pool_len image ptr reply = ⊥
 

@@ -39,7 +39,7 @@ pub record Explain (trace : Trace) (replies : List Reply) (shard_ends : List Sha
   pub ends : shard_ends ≡ map (λ history. end_of (replay (opening_of trace.config) history)) histories
   pub at_rest : AllByRecursion (λ history. IsAtRest (replay (opening_of trace.config) history)) histories
   -- each call of the caller stands in them once, in the order of the lines, and with one caller there is nothing else
-  pub every_call : HoldEveryCallOnce trace.config.callers (shard_of trace.config) (opening_of trace.config) (acts_of_caller trace.blocks 0 trace.ops replies) histories
+  pub every_call : HoldEveryCallOnce trace.config (shard_of trace.config) (opening_of trace.config) (acts_of_caller trace.blocks 0 trace.ops replies) histories
   pub one_caller : histories ≡ one_caller_history trace.blocks 0 (opening_of trace.config) trace.ops replies ∷ []
   pub found : AreFoundAs trace.blocks (opening_of trace.config) [] trace.ops replies
   -- the pool was read once for each event that stands for a read of it

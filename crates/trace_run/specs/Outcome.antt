@@ -1,21 +1,23 @@
 -- What a run answers, status by status.
-use Rattle.std.specs.Prelude.{◌≡◌, ℕ, ◌+◌, ◌*◌, ◌^◌, ◌<◌, ◌≤◌, List, Option, Some, IfSome, count_by, replicate, Bool, true, false, if◌then◌else◌}
+use Rattle.std.specs.Prelude.{◌≡◌, ℕ, ◌+◌, ◌*◌, ◌^◌, ◌<◌, ◌≤◌, List, Option, Some, None, IfSome, is_some, count_by, replicate, Bool, true, false, if◌then◌else◌}
 use Rattle.std.specs.List.{list_any}
 use Rattle.std.specs.Io.KnownBytes.{Appends}
 use Rattle.vdev_io.specs.Faults.{Rose}
 use Rattle.trace_text.specs.Grammar.{IsTraceText, IsFirstFault, longest_text}
+use Rattle.trace_text.specs.Pages.{IsFirstPageFault, IsPageText}
 use Rattle.trace_text.specs.ReportText.{text_of}
+use Rattle.arc_paper.specs.Text.{text_of as paper_text_of}
 use Rattle.trace_text.specs.declared.fault.Kind.{Kind}
 use Rattle.trace_text.specs.declared.report.Report.{Report}
 use Rattle.trace_text.specs.declared.trace.Trace.{Trace}
 use Rattle.trace_run.specs.declared.status.Status.{Status}
 use Rattle.trace_run.specs.declared.status.Status.TheVariants as statuses
 use Rattle.trace_run.specs.declared.words.Command.{Command}
-use Rattle.trace_run.specs.declared.words.Command.TheVariants.{Run, Gen}
+use Rattle.trace_run.specs.declared.words.Command.TheVariants.{Run, Gen, Paper}
 use Rattle.trace_text.specs.Generator.{IsGenerated}
 use Rattle.trace_run.specs.Answers.{AnswersAll, is_pool_fault, is_refusal}
 use Rattle.trace_run.specs.Explaining.{Explain}
-use Rattle.trace_run.specs.Stream.{Gives, AppendsFront}
+use Rattle.trace_run.specs.Stream.{Gives, AppendsFront, TakesAtMost}
 use Rattle.trace_run.specs.Words.{IsCommand, IsFirstWrong}
 
 -- what a pool is for a run: its length, the bytes that it tells, and its counts of reads and of faults
@@ -109,6 +111,40 @@ AnswersSink events before after statuses.SinkFault (Some report) =
     AppendsFront before.told after.told (text_of report events) × Rose before.faults after.faults
 AnswersSink events before after status report = after ≡ before
 
+-- The source was read to its end, and its text is these pages.
+pub record WerePagesRead (before after : StreamState) (pages : List ℕ) : Type 0 where
+  pub text : List ℕ
+  pub given : Gives before.told after.told longest_text text
+  pub are_pages : IsPageText text pages
+
+-- The source was read, to its end or past the longest text, and this is the first fault of what it gave.
+pub record AreBadPages (before after : StreamState) (line : ℕ) (kind : Kind) : Type 0 where
+  pub text : List ℕ
+  pub given : Gives before.told after.told longest_text text
+  pub fault : IsFirstPageFault text line kind
+
+-- what a source must have done for a status at which no pages were read
+abbrev pub AnswersPageSource : StreamState → StreamState → Status → Type 0
+AnswersPageSource before after (statuses.BadTrace line kind) = AreBadPages before after line kind
+AnswersPageSource before after statuses.SourceFault = Rose before.faults after.faults
+AnswersPageSource before after status = Unit {0}
+
+-- What was read and written for a list of pages, with room for c of them: the text of the pages, a front of it where the sink failed,
+-- and else nothing.
+abbrev pub AnswersPages : ℕ → (source_before source_after sink_before sink_after : StreamState) → Status → Type 0
+AnswersPages c source_before source_after sink_before sink_after statuses.Ok =
+    (pages : List ℕ) × WerePagesRead source_before source_after pages × Appends sink_before.told sink_after.told (paper_text_of c pages)
+AnswersPages c source_before source_after sink_before sink_after statuses.SinkFault =
+    (pages : List ℕ) × WerePagesRead source_before source_after pages × AppendsFront sink_before.told sink_after.told (paper_text_of c pages)
+    × Rose sink_before.faults sink_after.faults
+AnswersPages c source_before source_after sink_before sink_after (statuses.BadTrace line kind) =
+    AreBadPages source_before source_after line kind × (sink_after ≡ sink_before)
+AnswersPages c source_before source_after sink_before sink_after statuses.SourceFault =
+    Rose source_before.faults source_after.faults × (sink_after ≡ sink_before)
+AnswersPages c source_before source_after sink_before sink_after statuses.NoMemory = sink_after ≡ sink_before
+AnswersPages c source_before source_after sink_before sink_after statuses.ReadsFailed = ⊥
+AnswersPages c source_before source_after sink_before sink_after (statuses.Usage index) = ⊥
+
 -- ---- what each command does
 
 -- the states of what was handed in, before and after
@@ -117,11 +153,13 @@ pub record Handed : Type 0 where
   pub sink : StreamState
   pub pool : PoolState
 
--- A run answers by what the source gave. Its report is that of the trace.
+-- A run answers by what the source gave, and takes at most one byte past the longest text. Its report is that of the trace.
 pub record DoesRun (events : Bool) (before after : Handed) (status : Status) (report : Option Report) : Type 0 where
   pub source : AnswersSource before.source after.source status
+  pub took : TakesAtMost before.source.told after.source.told (longest_text + 1)
   pub reported : IfSome report (IsReport before.source after.source before.pool after.pool)
   pub sink : AnswersSink events before.sink after.sink status report
+  pub present : is_some report ≡ has_report status
 
 -- the statuses of a made trace
 abbrev pub IsGenStatus : Status → Type 0
@@ -137,10 +175,19 @@ pub record DoesGen (seed blocks ops : ℕ) (before after : Handed) (status : Sta
   pub pool : after.pool ≡ before.pool
   pub reported : IfSome report (IsGenReport seed blocks ops)
   pub sink : AnswersSink false before.sink after.sink status report
+  pub present : is_some report ≡ has_report status
+
+-- A list of pages is told from what the source gave, of which at most one byte past the longest text is taken. There is no report, and the pool is left alone.
+pub record DoesPaper (c : ℕ) (before after : Handed) (status : Status) (report : Option Report) : Type 0 where
+  pub answers : AnswersPages c before.source after.source before.sink after.sink status
+  pub took : TakesAtMost before.source.told after.source.told (longest_text + 1)
+  pub pool : after.pool ≡ before.pool
+  pub none : report ≡ None
 
 abbrev pub Does : (before after : Handed) → Status → Option Report → Command → Type 0
 Does before after status report (Run events) = DoesRun events before after status report
 Does before after status report (Gen seed blocks ops) = DoesGen seed blocks ops before after status report
+Does before after status report (Paper c) = DoesPaper c before after status report
 
 -- a fact where the words are refused
 abbrev pub IfUsage : Status → Type 0 → Type 0

@@ -8,6 +8,12 @@ pub record Gives (before after : Option (List ℕ)) (most : ℕ) (text : List �
   pub ended : length text ≤ most → IsAtEnd after
   pub short : length text ≤ most + 1
 
+-- of what the source tells, at most so many bytes were taken
+pub record TakesAtMost (before after : Option (List ℕ)) (most : ℕ) : Type 0 where
+  pub taken : List ℕ
+  pub consumed : Consumes before after taken
+  pub few : length taken ≤ most
+
 -- the sink has a front of the text behind what it had
 pub record AppendsFront (before after : Option (List ℕ)) (text : List ℕ) : Type 0 where
   pub len : ℕ

@@ -5,6 +5,7 @@ mod access;
 mod answer;
 mod block_map;
 mod caller_cache;
+mod paper;
 mod read;
 mod run_trace;
 mod serve;

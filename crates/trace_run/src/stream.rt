@@ -2,7 +2,7 @@
 ghost use Rattle.std.specs.Prelude.{◌≡◌, ◌≤◌, ◌+◌, ◌^◌, ◌<◌, Err, length, IfOk, OnOk, OnErr};
 ghost use Rattle.std.specs.Io.KnownBytes.{Appends};
 ghost use Rattle.vdev_io.specs.Faults.{Rose};
-ghost use Rattle.trace_run.specs.Stream.{Gives, GivesPiece, AppendsFront};
+ghost use Rattle.trace_run.specs.Stream.{Gives, GivesPiece, AppendsFront, TakesAtMost};
 
 use std::alloc::{AllocError, Global};
 use vdev_io::{Failed, Sink, Source};
@@ -41,13 +41,14 @@ impl From<Failed> for ReadAllFault {
     }
 }
 
-/// Reads a source to its end, or up to the first byte past `most`.
+/// Reads a source to its end, or up to the first byte past `most`. However it ends, no more was taken.
 pub(crate) fn read_all<S: Source>(
     alloc: Global,
     source: &mut S,
     most: usize,
 ) -> Result<Vec<u8>, ReadAllFault>
     requires { most < 2 ^ 32 }
+    ensures took { TakesAtMost (S.left source.old) (S.left source.new) (most + 1) }
     ensures ok { IfOk result (λ text. Gives (S.left source.old) (S.left source.new) most text.items) }
     ensures failed { result ≡ Err ReadAllFault.SourceFault → Rose (S.faults source.old) (S.faults source.new) }
     ensures kept { S.faults source.old ≤ S.faults source.new }
@@ -71,6 +72,7 @@ fn read_piece<S: Source>(
     piece: &mut [u8],
 ) -> Result<usize, ReadAllFault>
     requires { 0 < length piece.old }
+    ensures took { TakesAtMost (S.left source.old) (S.left source.new) (length piece.old) }
     ensures read { IfOk result (GivesPiece (S.left source.old) (S.left source.new) text.old.items text.new.items) }
     ensures bound { IfOk result (λ n. n ≤ length piece.old) }
     ensures failed { result ≡ Err ReadAllFault.SourceFault → Rose (S.faults source.old) (S.faults source.new) }

@@ -1,6 +1,7 @@
 //! Runs over a source, a sink and a pool in memory, with values from outside.
 
 mod histories;
+mod pages;
 mod rows;
 mod statuses;
 mod streams;
@@ -27,7 +28,7 @@ count hit 0 miss 1 past 0 pool 1 l2 0 pass 0 set 0
 end 0
 ";
 
-/// The letters that stand for digests in the texts of these tests: of 512, 1,024, 2,048 and 1,048,576 zero bytes, of the numbers
+/// The letters that stand for digests in the texts of these tests: of 512, 1,024, 2,048 and 16,777,216 zero bytes, of the numbers
 /// from 0 to 255 twice, and one of no bytes that are known.
 const DIGESTS: [(char, &str); 6] = [
     (
@@ -44,7 +45,7 @@ const DIGESTS: [(char, &str); 6] = [
     ),
     (
         'M',
-        "30e14955ebf1352266dc2ff8067e68104607e750abb9d3b36582b8af909fcb58",
+        "080acf35a507ac9849cfcba47dc2ad83e01b75663a516279c8b9d243b719643e",
     ),
     (
         'N',
@@ -72,8 +73,9 @@ fn source_of(alloc: Global, text: &str, fail: &[u64]) -> Result<MemSource, Alloc
 }
 
 /// A pool of zero bytes, of which these calls fail.
-fn zeros(alloc: Global, len: usize, fail: &[u64]) -> Result<MemPool, AllocError> {
-    Ok(MemPool::new(vec![in alloc; 0; len]?, fail.to_vec(alloc)?))
+fn zeros(alloc: Global, len: usize, fail: &[u64]) -> Result<MemPool, Fail> {
+    let bytes = vec![in alloc; 0; len]?;
+    Ok(MemPool::new(alloc, bytes, fail.to_vec(alloc)?, Vec::new(alloc))?)
 }
 
 /// Does what the words ask, and gives what came of it and what was written. The sink takes at most `most` bytes a call.

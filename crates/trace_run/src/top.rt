@@ -1,11 +1,13 @@
 //! The top call: from the words and the source to the report on the sink.
-ghost use Rattle.std.specs.Prelude.{◌≡◌, ◌≤◌, ◌<◌, ◌^◌, IfSome, IfOk, IfErr, false, is_some};
+ghost use Rattle.std.specs.Prelude.{◌≡◌, ◌≤◌, ◌<◌, ◌^◌, IfSome, IfOk, IfErr, None, false, is_some, ◌+◌};
 ghost use Rattle.std.specs.Bool.{OnFalse};
-ghost use Rattle.trace_text.specs.Grammar.{IsFormed};
+ghost use Rattle.trace_text.specs.Grammar.{IsFormed, longest_text};
+ghost use Rattle.trace_run.specs.Stream.{TakesAtMost};
 ghost use Rattle.trace_run.specs.Outcome.{AnswersWords, AnswersSource, AnswersSink, Does, DoesRun, IfUsage, IsDelivered, IsGenReport, IsGenStatus, IsReadStatus, WasRead, has_report, ran};
 ghost use Rattle.trace_run.specs.Words.{IsInRange, texts};
 ghost use Rattle.trace_run.specs.declared.words.Command.TheVariants as command;
 
+use crate::paper::run_paper;
 use crate::run_trace::{run_generated_trace, run_trace};
 use crate::status::{Outcome, Status};
 use crate::stream::{ReadAllFault, read_all, write_all};
@@ -18,10 +20,11 @@ use trace_text::{Report, Trace, TraceFault, read_trace, report_text};
 use vdev_io::{CacheDev, Failed, Gate, Pool, Sink, Source};
 
 /// The most bytes of a trace.
-const LONGEST_TRACE: usize = 67_108_864;
+pub(crate) const LONGEST_TRACE: usize = 67_108_864;
 
 /// Does what the words ask: `run` reads a trace from the source and runs it over the pool, `gen` makes a trace and runs it
-/// over a pool of its own. Both write the report to the sink.
+/// over a pool of its own. Both write the report to the sink. `paper` reads a list of pages from the source, and writes to the sink
+/// which of them are hits.
 ///
 /// The words are looked at first, then the source, then the trace in it. At [`Status::Usage`] nothing is touched; at
 /// [`Status::BadTrace`] and [`Status::SourceFault`] nothing is run and nothing written. At [`Status::SinkFault`] the report is
@@ -52,11 +55,9 @@ pub fn run<R: Threads + Wait + Sync, S: Source, K: Sink, P: Pool, D: CacheDev, G
         result.status result.report) result.status }
 
     // Where the words are refused nothing is touched, and where nothing is run the pool isn't.
-    ensures untouched { IfUsage result.status ((source.new ≡ source.old) × (sink.new ≡ sink.old) × (pool.new ≡ pool.old)) }
+    ensures untouched { IfUsage result.status
+        ((source.new ≡ source.old) × (sink.new ≡ sink.old) × (pool.new ≡ pool.old) × (result.report ≡ None)) }
     ensures unrun { OnFalse (ran result.status) (pool.new ≡ pool.old) }
-
-    // The report is there exactly where a trace was run.
-    ensures present { is_some result.report ≡ has_report result.status }
 
     // The pool holds what it held.
     ensures pool { (P.told pool.new ≡ P.told pool.old) × (P.size pool.new ≡ P.size pool.old) }
@@ -67,6 +68,10 @@ pub fn run<R: Threads + Wait + Sync, S: Source, K: Sink, P: Pool, D: CacheDev, G
         Ok(Command::Gen { seed, blocks, ops }) => run_generated(
             alloc, seed, blocks, ops, sink, gate,
         ),
+        Ok(Command::Paper { c }) => Outcome {
+            status: run_paper(alloc, c, source, sink),
+            report: None,
+        },
         Err(index) => Outcome {
             status: Status::Usage { index },
             report: None,
@@ -148,6 +153,7 @@ fn run_generated<K: Sink, G: Gate>(
 
 /// Reads the trace that a source holds.
 fn read_source<S: Source>(alloc: Global, source: &mut S) -> Result<Trace, Status>
+    ensures took { TakesAtMost (S.left source.old) (S.left source.new) (longest_text + 1) }
     ensures read { IfOk result (WasRead
         (record { told = S.left source.old; faults = S.faults source.old })
         (record { told = S.left source.new; faults = S.faults source.new })) }

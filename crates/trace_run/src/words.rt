@@ -12,6 +12,9 @@ const MOST_BLOCKS: u32 = 32_768;
 /// The most operations of a made trace.
 const MOST_OPS: u32 = 1_000_000;
 
+/// The most pages that may be cached.
+const MOST_CAPACITY: u32 = 65_536;
+
 /// What the program is asked to do.
 #[derive(Clone, Copy, Debug, PartialEq, Eq)]
 pub(crate) enum Command {
@@ -19,6 +22,8 @@ pub(crate) enum Command {
     Run { events: bool },
     /// `gen SEED BLOCKS OPS`: makes a trace of reads over this many blocks of zero bytes, and runs it.
     Gen { seed: u32, blocks: u32, ops: u32 },
+    /// `paper C`: tells of each page of the source whether ARC for C pages has it.
+    Paper { c: u32 },
 }
 
 impl Command {
@@ -33,6 +38,7 @@ impl Command {
         match first {
             "run" => parse_run(words),
             "gen" => parse_gen(words),
+            "paper" => parse_paper(words),
             _ => Err(0),
         }
     }
@@ -64,6 +70,18 @@ fn parse_gen(words: &[String]) -> Result<Command, u32>
     match word_at(words, 4) {
         None => Ok(Command::Gen { seed, blocks, ops }),
         Some(_) => Err(4),
+    }
+}
+
+/// The command that begins with the word `paper`.
+fn parse_paper(words: &[String]) -> Result<Command, u32>
+    requires { slice_get (texts words.now) 0 ≡ Some (codes "paper") }
+    ensures { MatchResult result (IsCommand (texts words.now)) (IsFirstWrong (texts words.now)) }
+{
+    let c = number_at(words, 1, 1, MOST_CAPACITY)?;
+    match word_at(words, 2) {
+        None => Ok(Command::Paper { c }),
+        Some(_) => Err(2),
     }
 }
 

@@ -1,10 +1,14 @@
 //! The pool of a made trace.
+ghost use Rattle.std.proofs.Common.{◌∙◌};
+ghost use Rattle.std.proofs.lemmas.List.{length-replicate};
 ghost use Rattle.std.specs.Prelude.{◌≡◌, ◌+◌, ◌≤◌, OnOk, IfSome, Some, drop, length, replicate, take};
 ghost use Rattle.vdev_io.specs.Faults.{CountsOne, HasCause};
+ghost use Rattle.vdev_io.specs.MemoryLaws.{some_has_len};
 
-use vdev_io::{Failed, Pool};
+use std::alloc::Global;
+use vdev_io::{Failed, IoFault, Pool};
 
-/// A pool of zero bytes, which never fails. It keeps none of them in memory.
+/// A pool of zero bytes, which never fails. It keeps none of them in memory, so it has no memory for other ones.
 #[derive(Debug, Drop)]
 pub(crate) struct ZeroPool {
     len: u64,
@@ -39,4 +43,18 @@ impl Pool for ZeroPool {
         buf.fill(0);
         Ok(())
     }
+
+    fn write(&mut self, _offset: u64, _bytes: &[u8]) -> Result<(), IoFault> {
+        Err(IoFault::NoMemory)
+    }
+
+    fn fork(&mut self, _alloc: Global) -> Result<ZeroPool, IoFault> {
+        Ok(ZeroPool::new(self.len))
+    }
+
+    fn absorb(&mut self, other: ZeroPool) {
+        self.reads = self.reads.saturating_add(other.reads);
+    }
+
+    ghost told_len = { λ pool image told. some_has_len (replicate pool.len 0) image told ∙ length-replicate pool.len 0 };
 }

@@ -5,6 +5,7 @@ pub mod FormLemmas
 pub mod DigestLemmas
 pub mod DraftLemmas
 pub mod LinesLemmas
+pub mod PageLemmas
 pub mod SameLemmas
 pub mod LawLemmas
 pub mod FormedLemmas

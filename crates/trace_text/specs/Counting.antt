@@ -1,9 +1,9 @@
 -- What the events of all shards are counted as.
 use Rattle.std.specs.Prelude.{ℕ, Bool, true, false, List, count_by, sum_by}
 use Rattle.arc_core.specs.declared.event.Event.{Event}
-use Rattle.arc_core.specs.declared.event.Event.TheVariants.{Pass, Hit, Miss, Arrive, Fail, Past, Set}
-use Rattle.arc_core.specs.declared.event.FailedAt.TheVariants as failed
+use Rattle.arc_core.specs.declared.event.Event.TheVariants.{Hit, Miss, Arrive, Past, Set}
 use Rattle.arc_core.specs.declared.event.Origin.TheVariants as origins
+use Rattle.arc_core.specs.Operations.{is_pass, is_pool_read}
 use Rattle.trace_text.specs.declared.counts.Counted.{Counted}
 use Rattle.trace_text.specs.declared.counts.Counted.TheVariants.{Hits, Misses, PastReads, PoolReads, DeviceReads, Passes, Places}
 use Rattle.trace_text.specs.declared.counts.Counts.{Counts}
@@ -23,22 +23,10 @@ abbrev pub is_past : Event → Bool
 is_past (Past n key kept) = true
 is_past event = false
 
--- a read of the pool: bytes that it gave to the cache, a read that failed there, and a read past the cache
-abbrev pub is_pool_read : Event → Bool
-is_pool_read (Arrive n key digest origins.Pool) = true
-is_pool_read (Fail n key failed.Pool) = true
-is_pool_read (Past n key kept) = true
-is_pool_read event = false
-
 -- bytes that the cache device gave
 abbrev pub is_device_read : Event → Bool
 is_device_read (Arrive n key digest origins.L2) = true
 is_device_read event = false
-
--- a key that a scan passed
-abbrev pub is_pass : Event → Bool
-is_pass (Pass n key owner) = true
-is_pass event = false
 
 -- a key that got a place on the cache device
 abbrev pub is_set : Event → Bool

@@ -1,10 +1,11 @@
 -- The line of an event in a report.
-use Rattle.std.specs.Prelude.{ℕ, ◌+◌, Bool, true, false, List, [], ◌∷◌, ◌++◌, codes, decimal}
+use Rattle.std.specs.Prelude.{ℕ, ◌+◌, Bool, true, false, List, [], ◌∷◌, ◌++◌, Option, Some, None, codes, decimal}
 use Rattle.std.specs.List.{join_with_byte}
 use Rattle.hex.specs.Hex.{encode_lower}
 use Rattle.blk_ptr.specs.declared.key.Key.{Key}
+use Rattle.blk_ptr.specs.declared.digest.Digest.{Digest}
 use Rattle.arc_core.specs.declared.event.Event.{Event}
-use Rattle.arc_core.specs.declared.event.Event.TheVariants.{Pass, Hit, Miss, Arrive, Fail, Drop, Past, Hand, Insert, Release, Pick, FeedEnd, Set, Leave, Clear, Restore}
+use Rattle.arc_core.specs.declared.event.Event.TheVariants.{Pass, Hit, Miss, Arrive, Fail, Drop, Past, Hand, Insert, Release, Pick, FeedEnd, Set, Leave, Clear, Restore, Resize}
 use Rattle.arc_core.specs.declared.event.FailedAt.{FailedAt}
 use Rattle.arc_core.specs.declared.event.FailedAt.TheVariants as failed
 use Rattle.arc_core.specs.declared.event.Origin.{Origin}
@@ -33,6 +34,11 @@ abbrev pub sole_word : Bool → List ℕ
 sole_word true = codes "sole"
 sole_word false = codes "shared"
 
+-- a digest, where one is told
+abbrev pub told_words : Option Digest → List ℕ
+told_words (Some digest) = encode_lower digest.0
+told_words None = codes "-"
+
 -- words with a space between each two
 abbrev pub spaced : List (List ℕ) → List ℕ
 spaced words = join_with_byte 32 words
@@ -58,7 +64,8 @@ event_words (FeedEnd n) = spaced (codes "feedend" ∷ decimal n ∷ [])
 event_words (Set n key place) = spaced (codes "set" ∷ decimal n ∷ key_words key ∷ decimal place ∷ [])
 event_words (Leave n key why) = spaced (codes "leave" ∷ decimal n ∷ key_words key ∷ why_word why ∷ [])
 event_words (Clear n key) = spaced (codes "clear" ∷ decimal n ∷ key_words key ∷ [])
-event_words (Restore n key place) = spaced (codes "restore" ∷ decimal n ∷ key_words key ∷ decimal place ∷ [])
+event_words (Restore n key place told) = spaced (codes "restore" ∷ decimal n ∷ key_words key ∷ decimal place ∷ told_words told ∷ [])
+event_words (Resize n c) = spaced (codes "resize" ∷ decimal n ∷ decimal c ∷ [])
 
 -- the line of the event of this number, counted from 0, in this shard
 abbrev pub event_line : ℕ → ℕ → Event → List ℕ

@@ -1,8 +1,9 @@
 ghost use Rattle.std.specs.Prelude.{◌≡◌, ◌≤◌, count_by, length};
-ghost use Rattle.trace_text.specs.Counting.{count_all, counts_in, is_pool_read, test_of};
+ghost use Rattle.arc_core.specs.Operations.{is_pool_read};
+ghost use Rattle.trace_text.specs.Counting.{count_all, counts_in, test_of};
 
 use crate::counts::{Counted, Counts};
-use crate::history::History;
+use crate::items::History;
 use arc_core::{Event, FailedAt, Origin};
 
 /// Counts the events of all shards.

@@ -2,12 +2,11 @@ ghost use Rattle.std.specs.Prelude.{◌≡◌, ◌≤◌, IfErr, MatchOption, No
 ghost use Rattle.trace_text.specs.Grammar.{Adds, Content, content_of, fields_of, nothing};
 ghost use Rattle.trace_text.specs.Reading.{IsBegun, IsLineCause, IsLineRead, IsPlaced, IsSeenOf};
 
-use crate::blocks::Blocks;
 use crate::fault::Kind;
 use crate::fields::word_of;
+use crate::items::{Blocks, Ops};
 use crate::line::{has_shape, line_after};
 use crate::op::Op;
-use crate::ops::Ops;
 use crate::parts::Parts;
 use crate::trace::Trace;
 use crate::words::{Line, LineFault, Seen, Word};

@@ -1,7 +1,6 @@
-ghost use Rattle.std.specs.Prelude.{◌≡◌, Some};
+ghost use Rattle.std.specs.Prelude.{Some};
 
 use std::fmt;
-use std::marker::Model;
 
 /// What a shard ends with.
 #[derive(Clone, Copy, Debug, PartialEq, Eq)]
@@ -40,36 +39,5 @@ impl fmt::Display for SizesWords {
             f,
             "anon {anon} mru {mru} mrug {mrug} mfu {mfu} mfug {mfug} l2 {l2}"
         )
-    }
-}
-
-/// What the shards end with, in the order of their numbers. Contracts see the list.
-#[derive(Debug, Drop)]
-pub struct Ends {
-    ends: Vec<ShardEnd>,
-}
-
-impl Model for Ends {
-    ghost use Rattle.std.specs.Prelude.{List};
-    ghost use Rattle.trace_text.specs.declared.ends.ShardEnd.{ShardEnd};
-
-    ghost Value = { List ShardEnd };
-
-    ghost view = { λ all. all.ends.items };
-}
-
-impl Ends {
-    /// Takes the list as it is. It takes no memory.
-    pub fn from_vec(ends: Vec<ShardEnd>) -> Ends
-        ensures { result ≡ ends.items }
-    {
-        Ends { ends }
-    }
-
-    /// What each shard ends with.
-    pub fn as_slice(&self) -> &[ShardEnd]
-        ensures { result.now ≡ self.now }
-    {
-        &self.ends
     }
 }

@@ -1,8 +1,8 @@
 ghost use Rattle.std.specs.Prelude.{◌≡◌, Some};
-ghost use Rattle.trace_text.specs.EventText.{event_words, failed_word, key_words, origin_word, sole_word, why_word};
+ghost use Rattle.trace_text.specs.EventText.{event_words, failed_word, key_words, origin_word, sole_word, told_words, why_word};
 
 use arc_core::{Event, FailedAt, Origin, Why};
-use blk_ptr::Key;
+use blk_ptr::{Digest, Key};
 use std::fmt;
 
 /// A key as its offset, its size and its birth.
@@ -19,6 +19,21 @@ impl fmt::Display for KeyWords {
             birth,
         } = self.0;
         write!(f, "{offset} {size} {birth}")
+    }
+}
+
+/// A digest, or `-` where none is told.
+#[derive(Clone, Copy)]
+pub(crate) struct ToldDigest(pub(crate) Option<Digest>);
+
+impl fmt::Display for ToldDigest {
+    ghost output = { λ told. Some (told_words told.0) };
+
+    fn fmt<W: fmt::Write>(&self, f: &mut fmt::Formatter<W>) -> fmt::Result {
+        match self.0 {
+            Some(digest) => write!(f, "{digest}"),
+            None => write!(f, "-"),
+        }
     }
 }
 
@@ -75,7 +90,18 @@ impl fmt::Display for EventWords {
                 word_of_cause(why)
             ),
             Event::Clear { n, key } => write!(f, "clear {n} {}", KeyWords(key)),
-            Event::Restore { n, key, place } => write!(f, "restore {n} {} {place}", KeyWords(key)),
+            Event::Restore {
+                n,
+                key,
+                place,
+                digest,
+            } => write!(
+                f,
+                "restore {n} {} {place} {}",
+                KeyWords(key),
+                ToldDigest(digest)
+            ),
+            Event::Resize { n, c } => write!(f, "resize {n} {c}"),
         }
     }
 }

@@ -3,10 +3,9 @@ ghost use Rattle.std.specs.List.{range_with_len};
 ghost use Rattle.trace_text.specs.Generator.{IsGenerated, next_draw, generated_block, generated_read, zero_digest};
 ghost use Rattle.trace_text.specs.Grammar.{IsFormed};
 
-use crate::blocks::Blocks;
 use crate::bounds::DEFAULT_BOUNDS;
+use crate::items::{Blocks, Ops};
 use crate::op::Op;
-use crate::ops::Ops;
 use crate::trace::Trace;
 use crate::window::Window;
 use arc_core::Config;

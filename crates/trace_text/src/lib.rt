@@ -6,7 +6,6 @@
 //! `specs/ReportText.antt`.
 #![tactic(auto)]
 
-mod blocks;
 mod bounds;
 mod counting;
 mod counts;
@@ -18,12 +17,11 @@ mod fault;
 mod fields;
 mod forms;
 mod generator;
-mod histories;
-mod history;
+mod items;
 mod laws;
 mod line;
 mod op;
-mod ops;
+mod pages;
 mod parts;
 mod print;
 mod print_events;
@@ -36,21 +34,19 @@ mod window;
 mod words;
 
 pub use arc_core::{Bounds, Config, Served};
-pub use blocks::Blocks;
 pub use counting::counts_of;
 pub use counts::Counts;
-pub use ends::{Ends, ShardEnd};
+pub use ends::ShardEnd;
 pub use events::event_text;
 pub use fault::{Kind, TraceFault};
 pub use generator::{MOST_GENERATED_BLOCKS, MOST_GENERATED_READS, gen_trace};
-pub use histories::Histories;
-pub use history::History;
+pub use items::{Blocks, Ends, Histories, History, Items, Ops, Replies};
 pub use laws::{one_fault, one_trace, written_lines};
 pub use op::Op;
-pub use ops::Ops;
+pub use pages::read_pages;
 pub use print::report_text;
 pub use reader::read_trace;
-pub use reply::{Refusal, Replies, Reply};
+pub use reply::{Refusal, Reply};
 pub use report::Report;
 pub use shown::{MOST_SHOWN, Shown};
 pub use trace::Trace;

@@ -4,7 +4,7 @@ ghost use Rattle.trace_text.specs.EventText.{event_lines, history_lines};
 
 use crate::ends::ShardEnd;
 use crate::event_words::EventWords;
-use crate::history::History;
+use crate::items::History;
 use arc_core::Event;
 use std::alloc::AllocError;
 use std::fmt::Write;

@@ -10,7 +10,7 @@ use crate::words::LineFault;
 use std::alloc::Global;
 
 /// The most bytes of a text.
-const LONGEST_TEXT: usize = 67_108_864;
+pub(crate) const LONGEST_TEXT: usize = 67_108_864;
 
 /// Reads a trace, which for now has one caller and one shard. Its text and its faults are those of `specs/Grammar.antt`:
 /// an `Ok` is the one trace that the text is, and a `Bad` names the first line at fault and what is wrong with it.
@@ -36,7 +36,7 @@ pub fn read_trace(alloc: Global, bytes: &[u8]) -> Result<Trace, TraceFault>
 }
 
 /// The number of the line that holds the first byte past the longest text.
-fn line_past(bytes: &[u8]) -> u32
+pub(crate) fn line_past(bytes: &[u8]) -> u32
     requires { longest_text ≤ length bytes.now }
     ensures { result ≡ count_by (λ b. b == 10) (take longest_text bytes.now) + 1 }
 {
@@ -70,7 +70,7 @@ fn read_lines(alloc: Global, text: &[u8]) -> Result<Draft, TraceFault>
 }
 
 /// A line's fault, with the line's number.
-fn fault_at(line: u32, fault: LineFault) -> TraceFault
+pub(crate) fn fault_at(line: u32, fault: LineFault) -> TraceFault
     ensures { IsFaultAt line fault result }
 {
     match fault {

@@ -5,7 +5,6 @@ use crate::shown::Shown;
 use arc_core::Served;
 use blk_ptr::{Digest, KeyFault};
 use std::fmt;
-use std::marker::Model;
 
 /// Why an operation was refused.
 #[derive(Clone, Copy, Debug, PartialEq, Eq)]
@@ -88,36 +87,5 @@ fn word_of_served(served: Served) -> &'static str
         Served::Pool => "pool",
         Served::L2 => "l2",
         Served::Past => "past",
-    }
-}
-
-/// The replies of a run, in the order of the operations. Contracts see the list.
-#[derive(Debug, Drop)]
-pub struct Replies {
-    replies: Vec<Reply>,
-}
-
-impl Model for Replies {
-    ghost use Rattle.std.specs.Prelude.{List};
-    ghost use Rattle.trace_text.specs.declared.reply.Reply.{Reply};
-
-    ghost Value = { List Reply };
-
-    ghost view = { λ replies. replies.replies.items };
-}
-
-impl Replies {
-    /// These replies.
-    pub fn from_vec(replies: Vec<Reply>) -> Replies
-        ensures { result ≡ replies.items }
-    {
-        Replies { replies }
-    }
-
-    /// The replies.
-    pub fn as_slice(&self) -> &[Reply]
-        ensures { result.now ≡ self.now }
-    {
-        &self.replies
     }
 }

@@ -1,6 +1,4 @@
-use crate::ends::Ends;
-use crate::histories::Histories;
-use crate::reply::Replies;
+use crate::items::{Ends, Histories, Replies};
 
 /// What a run reports.
 #[derive(Debug, Drop)]

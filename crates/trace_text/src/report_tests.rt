@@ -16,7 +16,7 @@ const KEY: Key = Key {
 const DIGEST: Digest = Digest([0xab; 32]);
 
 /// Each event, and its line as event 12 of shard 3.
-const EVENTS: [(Event, &str); 20] = [
+const EVENTS: [(Event, &str); 22] = [
     (
         Event::Pass {
             n: 0,
@@ -155,9 +155,20 @@ const EVENTS: [(Event, &str); 20] = [
             n: 1,
             key: KEY,
             place: 70144,
+            digest: None,
         },
-        "e 3 12 restore 1 1024 512 7 70144\n",
+        "e 3 12 restore 1 1024 512 7 70144 -\n",
     ),
+    (
+        Event::Restore {
+            n: 1,
+            key: KEY,
+            place: 70144,
+            digest: Some(DIGEST),
+        },
+        "e 3 12 restore 1 1024 512 7 70144 abababababababababababababababababababababababababababababababab\n",
+    ),
+    (Event::Resize { n: 1, c: 4096 }, "e 3 12 resize 1 4096\n"),
 ];
 
 #[test]

@@ -1,5 +1,4 @@
-use crate::blocks::Blocks;
-use crate::ops::Ops;
+use crate::items::{Blocks, Ops};
 use arc_core::Config;
 
 /// What a trace's text says.

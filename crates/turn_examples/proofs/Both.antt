@@ -2,18 +2,21 @@
 use Rattle.std.proofs.Common.{◌≡◌, ℕ, zero, suc, List, [], ◌∷◌, map, length, Option, Some, None, Result, Ok, Err, IfOk, refl, sym, ap, ◌∙◌, subst, arith}
 use mathlib.Core.Option.{some, some-injective, some-ne-none}
 use lib.ListN.{get_elem?}
-use Rattle.turn_table.specs.Board.{Turn, free, taken, opening, WasFree, MayGive}
-use Rattle.turn_table.specs.Standings.{Place, took, gave_back}
+use Rattle.turn_table.specs.Board.{Turn, free, taken, opening}
+use Rattle.turn_table.specs.Places.{Place, took, gave_back}
+use Rattle.turn_table.specs.Moments.{WasFree, MayGive}
 use Rattle.turn_examples.specs.declared.twins.Copies.{Copies}
 use Rattle.turn_examples.specs.Twins.{copy_of, copies, renewed, NowIs, Agrees}
 use Rattle.turn_examples.specs.TwinLaws.{gives_both, gives_same}
 
 -- the copy that a party has taken is the one that it finds free
-pub same_copy : (n a s : ℕ) (w : Copies) → copy_of 0 w.held ≡ Some a → WasFree Agrees n 1 s w → a ≡ s
-same_copy n a s w c f =
+pub same_copy : (p : Place Copies) (a s : ℕ) → copy_of 0 p.own.held ≡ Some a → WasFree Agrees p 1 s → a ≡ s
+same_copy p a s c f =
+    let n : ℕ = p.number in
+    let w : Copies = p.own in
     let h = f.held in
-    let mine = h.now 0 (taken n) (h.known n 0 a w f.view c) in
-    let one : mine.0 ≡ w = some-injective mine.0 w (sym mine.1 ∙ f.view) in
+    let mine = h.now 0 (taken n) (h.known n 0 a w f.stands.shows.0 c) in
+    let one : mine.0 ≡ w = some-injective mine.0 w (sym mine.1 ∙ f.stands.shows.0) in
     let first : a ≡ h.number = some_same a h.number (sym c ∙ subst (λ (z : Copies). copy_of 0 z.held ≡ Some h.number) one mine.2) in
     first ∙ sym (h.now 1 (free s) f.turn)
   where
@@ -31,11 +34,11 @@ module _ (a s x : ℕ) (p0 p1 p2 : Place Copies) (one : p1 ≡ took p0 0 (copies
   second_known : copy_of 1 p2.own.held ≡ Some s
   second_known = ap (copy_of 1) both_held
 
-  pub gives_first : MayGive Agrees p2.number 0 x p2.own (copies (renewed 0 x p2.own.held))
-  gives_first = gives_both p2.number 0 1 x s p2.own (λ e. absurd (omega arith)) (omega arith) (omega arith) second_known
+  pub gives_first : MayGive Agrees p2 0 x (copies (renewed 0 x p2.own.held))
+  gives_first = gives_both p2 0 1 x s (λ e. absurd (omega arith)) (omega arith) (omega arith) second_known
 
-  pub gives_second : (p3 : Place Copies) → p3 ≡ gave_back p2 0 (copies (renewed 0 x p2.own.held)) → MayGive Agrees p3.number 1 x p3.own (copies (renewed 1 x p3.own.held))
-  gives_second p3 three = gives_same p3.number 1 x p3.own (ap (λ (p : Place Copies). copy_of 1 p.own.held) three ∙ ap (λ l. copy_of 1 (renewed 0 x l)) both_held)
+  pub gives_second : (p3 : Place Copies) → p3 ≡ gave_back p2 0 (copies (renewed 0 x p2.own.held)) → MayGive Agrees p3 1 x (copies (renewed 1 x p3.own.held))
+  gives_second p3 three = gives_same p3 1 x (ap (λ (p : Place Copies). copy_of 1 p.own.held) three ∙ ap (λ l. copy_of 1 (renewed 0 x l)) both_held)
 
 -- two copies that nobody has taken
 pub agree_at_first : (x : ℕ) → Agrees (opening (x ∷ x ∷ []) (copies [] ∷ copies [] ∷ []))

@@ -1,3 +1,4 @@
 pub mod Both
 pub mod Tries
 pub mod Settled
+pub mod Tallies

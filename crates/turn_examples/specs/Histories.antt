@@ -1,8 +1,9 @@
 -- Each turn's value is a history that only grows, and each of its entries is one party's.
-use Rattle.std.specs.Prelude.{◌≡◌, ◌⊎◌, ◌==◌, if◌then◌else◌, ℕ, zero, suc, ◌+◌, ◌<◌, List, [], ◌∷◌, ◌++◌, length, nat_lt, slice_get, Some, None}
+use Rattle.std.specs.Prelude.{◌≡◌, ◌⊎◌, ℕ, ◌<◌, List, [], ◌∷◌, length, slice_get, slice_index_or, Some}
 use mathlib.Core.Option.{some}
 use lib.ListN.{get_elem?}
 use Rattle.turn_table.specs.Board.{Turn, free, taken, Board, opening, IsAmong}
+use Rattle.turn_table.specs.Histories.{front_of, Logged}
 use Rattle.turn_examples.specs.declared.histories.Spot.{Spot}
 use Rattle.turn_examples.specs.declared.histories.Writer.{Writer}
 
@@ -12,64 +13,37 @@ spot i p x = record { turn = i; place = p; entry = x }
 abbrev pub writer : List (List ℕ) → List Spot → Writer
 writer seen mine = record { seen = seen; mine = mine }
 
--- what was seen of the history of the turn i
-abbrev pub front_of : ℕ → List (List ℕ) → List ℕ
-front_of i [] = []
-front_of zero (x ∷ xs) = x
-front_of (suc i) (x ∷ xs) = front_of i xs
+-- what a party has written down of an entry of its own
+abbrev pub turn_of : Spot → ℕ
+turn_of s = s.turn
 
--- h was seen of the turn i
-abbrev pub put : ℕ → List ℕ → List (List ℕ) → List (List ℕ)
-put zero h [] = h ∷ []
-put zero h (x ∷ xs) = h ∷ xs
-put (suc i) h [] = [] ∷ put i h []
-put (suc i) h (x ∷ xs) = x ∷ put i h xs
+abbrev pub place_of : Spot → ℕ
+place_of s = s.place
 
-abbrev pub longer : List ℕ → List ℕ → List ℕ
-longer x y = if nat_lt (length x) (length y) then y else x
+abbrev pub IsOf : Spot → ℕ → Type 0
+IsOf s x = s.entry ≡ x
 
--- of each history the longer of what two have seen
-abbrev pub seen_by_both : List (List ℕ) → List (List ℕ) → List (List ℕ)
-seen_by_both [] ys = ys
-seen_by_both (x ∷ xs) [] = x ∷ xs
-seen_by_both (x ∷ xs) (y ∷ ys) = longer x y ∷ seen_by_both xs ys
+-- what the party n has seen of the history of the turn i, and its own entries
+abbrev pub view_at : List Writer → ℕ → Writer
+view_at views n = slice_index_or views n (writer [] [])
 
-abbrev pub StartsWith : List ℕ → List ℕ → Type 0
-StartsWith h front = (rest : List ℕ) × (h ≡ front ++ rest)
+abbrev pub seen_of : List Writer → ℕ → ℕ → List ℕ
+seen_of views n i = front_of i (view_at views n).seen
 
--- one of these entries stands at the place p of the turn i
-abbrev pub HasPlace : ℕ → ℕ → List Spot → Type 0
-HasPlace i p [] = ⊥
-HasPlace i p (s ∷ ss) = ((s.turn ≡ i) × (s.place ≡ p)) ⊎ HasPlace i p ss
-
--- each of these entries stands where it says, and that place belongs to n
-abbrev pub AllStandAt : (ℕ → List ℕ) → (ℕ → ℕ → ℕ) → ℕ → List Spot → Type 0
-AllStandAt history owner n [] = Unit {0}
-AllStandAt history owner n (s ∷ ss) = ((slice_get (history s.turn) s.place ≡ Some s.entry) × (owner s.turn s.place ≡ n)) × AllStandAt history owner n ss
-
--- entries of one turn stand in the order in which they were made
-abbrev pub IsAfterAll : Spot → List Spot → Type 0
-IsAfterAll s [] = Unit {0}
-IsAfterAll s (t ∷ ts) = (t.turn ≡ s.turn → s.place < t.place) × IsAfterAll s ts
-
-abbrev pub Rises : List Spot → Type 0
-Rises [] = Unit {0}
-Rises (s ∷ ss) = IsAfterAll s ss × Rises ss
+abbrev pub mine_of : List Writer → ℕ → List Spot
+mine_of views n = (view_at views n).mine
 
 -- the history of a turn now: its value while it is free, and else what its holder has seen of it
 abbrev pub NowIs : List Writer → ℕ → Turn (List ℕ) → List ℕ → Type 0
 NowIs views i (free v) h = v ≡ h
 NowIs views i (taken n) h = (w : Writer) × (get_elem? views n ≡ some w) × (front_of i w.seen ≡ h)
 
--- Each history begins with what each party has seen of it. Each place of it belongs to one party, in whose list it stands, in rising order
+-- each turn has a history now, and of these histories each entry is one party's
 pub record Kept (b : Board (List ℕ) Writer) : Type 0 where
   pub history : ℕ → List ℕ
   pub owner : ℕ → ℕ → ℕ
   pub now : (i : ℕ) (t : Turn (List ℕ)) → get_elem? b.turns i ≡ some t → NowIs b.views i t (history i)
-  pub seen : (n i : ℕ) (w : Writer) → get_elem? b.views n ≡ some w → StartsWith (history i) (front_of i w.seen)
-  pub places : (i p : ℕ) → p < length (history i) → (w : Writer) × (get_elem? b.views (owner i p) ≡ some w) × HasPlace i p w.mine
-  pub stand : (n : ℕ) (w : Writer) → get_elem? b.views n ≡ some w → AllStandAt history owner n w.mine
-  pub rises : (n : ℕ) (w : Writer) → get_elem? b.views n ≡ some w → Rises w.mine
+  pub logged : Logged turn_of place_of IsOf (length b.views) history owner (seen_of b.views) (mine_of b.views)
 
 -- the entries xs stand at these places of h
 abbrev pub Stand : List ℕ → List ℕ → List ℕ → Type 0

@@ -3,3 +3,5 @@ pub mod TwinLaws
 pub mod Histories
 pub mod HistoryLaws
 pub mod Made
+pub mod Refusals
+pub mod RefusalLaws

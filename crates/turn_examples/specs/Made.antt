@@ -1,7 +1,7 @@
 -- What a party made of the history of the turn 0.
 use Rattle.std.specs.Prelude.{◌≡◌, ℕ, List, length, Vec}
 use Rattle.std.specs.declared.alloc.Global.{Global}
-use Rattle.turn_table.specs.Standings.{Place, saw}
+use Rattle.turn_table.specs.Places.{Place, saw}
 use Rattle.turn_examples.specs.declared.histories.Writer.{Writer}
 use Rattle.turn_examples.specs.Histories.{spots_at}
 

@@ -1,11 +1,13 @@
 -- The steps of the two copies keep their rule.
-use Rattle.std.proofs.Common.{◌≡◌, ◌≢◌, ◌⊎◌, ◌==◌, if◌then◌else◌, ℕ, zero, suc, ◌+◌, ◌<◌, List, [], ◌∷◌, length, set, eqb, Bool, true, false, Option, Some, None, refl, sym, ap, ◌∙◌, subst, inl, inr, ⊎_elim, eq-eqb, ne_eqb, arith, length-set}
+use Rattle.std.proofs.Common.{◌≡◌, ◌≢◌, if◌then◌else◌, ℕ, zero, suc, ◌<◌, List, [], ◌∷◌, length, set, Option, Some, None, refl, sym, ap, ◌∙◌, subst, ⊎_elim, eq-eqb, ne_eqb, arith, length-set}
 use mathlib.Core.Option.{some, some-injective}
 use mathlib.Core.Logic.{dite}
 use native.Mathlib.Decide.{ℕ_discrete}
 use lib.ListN.{get_elem?}
 use Rattle.atomic_table.proofs.Lists.{at_set, set_here, set_else}
-use Rattle.turn_table.specs.Board.{Turn, free, taken, Board, KeepsWon, KeepsLost, KeepsLearned, MayGive, Loses}
+use Rattle.turn_table.specs.Board.{Turn, free, taken, Board, KeepsWon, KeepsLost, KeepsLearned}
+use Rattle.turn_table.specs.Places.{Place}
+use Rattle.turn_table.specs.Moments.{MayGive}
 use Rattle.turn_examples.specs.declared.twins.Copies.{Copies}
 use Rattle.turn_examples.specs.Twins.{copy_of, renewed, copies, NowIs, Agrees}
 
@@ -95,10 +97,14 @@ pub keeps_learned : KeepsLearned Agrees (λ w u. w)
 keeps_learned b n m w u h ne at at' = view_again b n w h at
 
 -- A party gives the turn i back with x, where it has the other turn too, or where x is the copy that it took
-gives_any : (n i x : ℕ) (w : Copies)
-    → ((b : Board ℕ Copies) (h : Agrees b) → get_elem? b.turns i ≡ some (taken n) → get_elem? b.views n ≡ some w → (j : ℕ) (t : Turn ℕ) → j ≢ i → get_elem? b.turns j ≡ some t → NowIs (set b.views n (copies (renewed i x w.held))) j t x)
-    → MayGive Agrees n i x w (copies (renewed i x w.held))
-gives_any n i x w others b h e at =
+gives_any : (p : Place Copies) (i x : ℕ)
+    → ((b : Board ℕ Copies) (h : Agrees b) → get_elem? b.turns i ≡ some (taken p.number) → get_elem? b.views p.number ≡ some p.own → (j : ℕ) (t : Turn ℕ) → j ≢ i → get_elem? b.turns j ≡ some t
+    → NowIs (set b.views p.number (copies (renewed i x p.own.held))) j t x)
+    → MayGive Agrees p i x (copies (renewed i x p.own.held))
+gives_any p i x others b h s e =
+    let n : ℕ = p.number in
+    let w : Copies = p.own in
+    let at : get_elem? b.views n ≡ some w = s.shows.0 in
     let u : Copies = copies (renewed i x w.held) in
     let near = within b.turns i (taken n) e in record {
       number = x;
@@ -115,16 +121,20 @@ gives_any n i x w others b h e at =
           (at_set b.views n m u z f);
     }
 
-pub gives_both : (n i k x y : ℕ) (w : Copies) → k ≢ i → i < 2 → k < 2 → copy_of k w.held ≡ Some y → MayGive Agrees n i x w (copies (renewed i x w.held))
-gives_both n i k x y w ne ib kb c = gives_any n i x w (λ b h e at j t far f.
+pub gives_both : (p : Place Copies) (i k x y : ℕ) → k ≢ i → i < 2 → k < 2 → copy_of k p.own.held ≡ Some y → MayGive Agrees p i x (copies (renewed i x p.own.held))
+gives_both p i k x y ne ib kb c = gives_any p i x (λ b h e at j t far f.
+    let n : ℕ = p.number in
+    let w : Copies = p.own in
     let one : j ≡ k = let a : j < length b.turns = within b.turns j t f in let d : length b.turns ≡ 2 = h.two in omega arith in
     let held : get_elem? b.turns j ≡ some (taken n) = subst (λ (z : ℕ). get_elem? b.turns z ≡ some (taken n)) (sym one) (h.known n k y w at c) in
     let is : taken n ≡ t = same_at b.turns j (taken n) t held f in
     subst (λ s. NowIs (set b.views n (copies (renewed i x w.held))) j s x) is
     (copies (renewed i x w.held), set_here b.views n (copies (renewed i x w.held)) (within b.views n w at), renewed_at i j x y w.held far (subst (λ (z : ℕ). copy_of z w.held ≡ Some y) (sym one) c)))
 
-pub gives_same : (n i x : ℕ) (w : Copies) → copy_of i w.held ≡ Some x → MayGive Agrees n i x w (copies (renewed i x w.held))
-gives_same n i x w c = gives_any n i x w (λ b h e at j t far f.
+pub gives_same : (p : Place Copies) (i x : ℕ) → copy_of i p.own.held ≡ Some x → MayGive Agrees p i x (copies (renewed i x p.own.held))
+gives_same p i x c = gives_any p i x (λ b h e at j t far f.
+    let n : ℕ = p.number in
+    let w : Copies = p.own in
     let mine : NowIs b.views i (taken n) h.number = h.now i (taken n) e in
     let one : mine.0 ≡ w = same_at b.views n mine.0 w mine.1 at in
     let is : h.number ≡ x = some_same h.number x (sym (subst (λ (z : Copies). copy_of i z.held ≡ Some h.number) one mine.2) ∙ c) in

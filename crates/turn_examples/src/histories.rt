@@ -1,7 +1,8 @@
 //! Histories that only grow, each behind a turn. Each entry is one party's, and each party knows where its own stand.
 ghost use Rattle.std.specs.Prelude.{◌≡◌, ◌<◌, [], ◌∷◌, ◌++◌, length, IfOk, OnOk, OnErr};
-ghost use Rattle.turn_table.specs.Standings.{took, saw};
-ghost use Rattle.turn_examples.specs.Histories.{writer, spot, put, StandIn, Shared, IsSettled};
+ghost use Rattle.turn_table.specs.Places.{IsPartyOf, took, saw};
+ghost use Rattle.turn_table.specs.Histories.{put};
+ghost use Rattle.turn_examples.specs.Histories.{writer, spot, StandIn, Shared, IsSettled};
 ghost use Rattle.turn_examples.specs.Made.{HasMade};
 
 use std::alloc::Global;
@@ -80,8 +81,9 @@ impl Log {
 pub struct Grows;
 
 impl TurnRule<Log> for Grows {
-    ghost use Rattle.std.specs.Prelude.{[]};
-    ghost use Rattle.turn_examples.specs.Histories.{Kept, writer, put, seen_by_both};
+    ghost use Rattle.std.specs.Prelude.{[], ⊤};
+    ghost use Rattle.turn_table.specs.Histories.{put, seen_by_both};
+    ghost use Rattle.turn_examples.specs.Histories.{Kept, writer};
     ghost use Rattle.turn_examples.specs.HistoryLaws.{keeps_won as logs_won, keeps_lost as logs_lost, keeps_learned as logs_learned};
 
     type View = Writer;
@@ -95,6 +97,8 @@ impl TurnRule<Log> for Grows {
     ghost won = { λ _ i v w. writer (put i v w.seen) w.mine };
 
     ghost lost = { λ _ _ _ w. w };
+
+    ghost gives = { λ _ _. ⊤ };
 
     ghost learned = { λ w u. writer (seen_by_both w.seen u.seen) w.mine };
 
@@ -112,7 +116,8 @@ struct Appends;
 
 impl GivenView<Log, Writer, u64> for Appends {
     ghost use Rattle.std.specs.Prelude.{[], ◌∷◌, ◌++◌, length};
-    ghost use Rattle.turn_examples.specs.Histories.{writer, put, spot, front_of};
+    ghost use Rattle.turn_table.specs.Histories.{put, front_of};
+    ghost use Rattle.turn_examples.specs.Histories.{writer, spot};
 
     ghost given = { λ made w i v. writer (put i v w.seen) (w.mine ++ spot i (length (front_of i w.seen)) made ∷ []) };
 }
@@ -130,7 +135,7 @@ pub type Hand = Party<Log, Grows>;
 
 // Takes the turn 0. What a lost try tells is nothing here.
 fn take_log<R: Wait>(rt: &R, logs: &Logs, party: &mut Hand) -> Log
-    requires { (party.old.table ≡ logs.now.table) × (0 < logs.now.turns) × (party.old.held ≡ []) }
+    requires { IsPartyOf logs.now party.old × (0 < logs.now.turns) × (party.old.held ≡ []) }
     ensures { party.new ≡ took party.old 0 (writer (put 0 result party.old.own.seen) party.old.own.mine) }
 {
     logs.take(rt, party, 0)
@@ -138,7 +143,7 @@ fn take_log<R: Wait>(rt: &R, logs: &Logs, party: &mut Hand) -> Log
 
 /// Adds an entry to the history of the turn 0, and answers where it stands.
 pub fn append<R: Wait>(rt: &R, logs: &Logs, party: &mut Hand, entry: u64) -> Result<u64, NoMemory>
-    requires { (party.old.table ≡ logs.now.table) × (0 < logs.now.turns) × (party.old.held ≡ []) }
+    requires { IsPartyOf logs.now party.old × (0 < logs.now.turns) × (party.old.held ≡ []) }
     ensures party { party.new ≡ saw party.old party.new.own }
     ensures ok { IfOk result (λ p. party.new.own.mine ≡ party.old.own.mine ++ spot 0 p entry ∷ []) }
     ensures err { OnErr result (party.new.own.mine ≡ party.old.own.mine) }
@@ -161,7 +166,7 @@ fn append_all<R: Wait>(
     mut party: Hand,
     entries: &[u64],
 ) -> Result<(Hand, Vec<u64>), NoMemory>
-    requires row { (party.table ≡ logs.now.table) × (0 < logs.now.turns) × (party.held ≡ []) }
+    requires row { IsPartyOf logs.now party × (0 < logs.now.turns) × (party.held ≡ []) }
     requires new { party.own.mine ≡ [] }
     ensures { IfOk result (HasMade party entries.now) }
 {
@@ -187,19 +192,19 @@ fn both_append<R: Threads + Wait + Sync>(
     Result<(Hand, Vec<u64>), NoMemory>,
 )
     requires turns { 0 < logs.now.turns }
-    requires one { (one.table ≡ logs.now.table) × (one.held ≡ []) × (one.own.mine ≡ []) }
-    requires two { (two.table ≡ logs.now.table) × (two.held ≡ []) × (two.own.mine ≡ []) }
+    requires one { IsPartyOf logs.now one × (one.held ≡ []) × (one.own.mine ≡ []) }
+    requires two { IsPartyOf logs.now two × (two.held ≡ []) × (two.own.mine ≡ []) }
     ensures one { IfOk result.0 (HasMade one first.now) }
     ensures two { IfOk result.1 (HasMade two second.now) }
 {
     thread::join(
         rt,
         move || -> Result<(Hand, Vec<u64>), NoMemory>
-            requires { (one.table ≡ logs.now.table) × (one.held ≡ []) × (one.own.mine ≡ []) × (0 < logs.now.turns) }
+            requires { IsPartyOf logs.now one × (one.held ≡ []) × (one.own.mine ≡ []) × (0 < logs.now.turns) }
             ensures { IfOk result (HasMade one first.entry.now) }
         { append_all(rt, alloc, logs, one, first) },
         move || -> Result<(Hand, Vec<u64>), NoMemory>
-            requires { (two.table ≡ logs.now.table) × (two.held ≡ []) × (two.own.mine ≡ []) × (0 < logs.now.turns) }
+            requires { IsPartyOf logs.now two × (two.held ≡ []) × (two.own.mine ≡ []) × (0 < logs.now.turns) }
             ensures { IfOk result (HasMade two second.entry.now) }
         { append_all(rt, alloc, logs, two, second) },
     )
@@ -208,8 +213,8 @@ fn both_append<R: Threads + Wait + Sync>(
 // Joins two parties, and ends the row.
 fn settle(alloc: Global, logs: Logs, mut one: Hand, two: Hand) -> Result<Vec<u64>, NoMemory>
     requires row { (logs.turns ≡ 1) × (logs.parties ≡ 2) }
-    requires one { (one.table ≡ logs.table) × (one.held ≡ []) × (one.joined ≡ []) × (one.number ≡ 0) }
-    requires two { (two.table ≡ logs.table) × (two.held ≡ []) × (two.joined ≡ []) × (two.number ≡ 1) }
+    requires one { IsPartyOf logs one × (one.held ≡ []) × (one.joined ≡ []) × (one.number ≡ 0) }
+    requires two { IsPartyOf logs two × (two.held ≡ []) × (two.joined ≡ []) × (two.number ≡ 1) }
     ensures { IfOk result (λ v. IsSettled v.items one.own.mine two.own.mine) }
 {
     logs.join(&mut one, two);

@@ -1,7 +1,8 @@
-//! Two small rules over turns, as a pattern for larger ones.
+//! Three small rules over turns, as a pattern for larger ones.
 #![tactic(auto)]
 
 pub mod histories;
+pub mod refusals;
 #[cfg(test)]
 mod tests;
 pub mod twins;

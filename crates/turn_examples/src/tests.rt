@@ -1,5 +1,6 @@
 // Each small rule once, at two threads, with ample memory.
 use crate::histories::append_from_two_threads;
+use crate::refusals::{Desk, Leaves, settle, try_and_count};
 use crate::twins::add_from_two_threads;
 use std::test::Fail;
 
@@ -20,5 +21,19 @@ fn two_threads_append_to_one_history(rt: HostRuntime) -> Result<(), Fail> {
         sum = sum.wrapping_add(*entry);
     }
     assert!(rt; sum == 36);
+    Ok(())
+}
+
+#[test]
+fn a_refusal_is_counted_once(rt: HostRuntime) -> Result<(), Fail> {
+    let values = vec![in rt.alloc(); 0u64, 7]?;
+    let (desk, mut parties) = Desk::new(rt.alloc(), values, 2, &()).ok().ok_or("memory")?;
+    let mut two = parties.pop().ok_or("two")?;
+    let mut one = parties.pop().ok_or("one")?;
+    let held = desk.take(&rt, &mut two, 1);
+    let refused = try_and_count(&rt, &desk, &mut one);
+    desk.give::<Leaves>(&mut two, 1, held);
+    let count = settle(rt.alloc(), desk, one, two).ok().ok_or("memory")?;
+    assert!(rt; refused && count == 1);
     Ok(())
 }

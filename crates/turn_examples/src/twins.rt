@@ -1,7 +1,8 @@
 //! Two copies of one number, each behind a turn of its own. They agree whenever both are free, and a party that has both may change both.
 ghost use Rattle.std.specs.Prelude.{◌≡◌, ℕ, ◌<◌, [], ◌∷◌, IfOk};
-ghost use Rattle.turn_table.specs.Board.{IsAmong, WasFree};
-ghost use Rattle.turn_table.specs.Standings.{took};
+ghost use Rattle.turn_table.specs.Board.{IsAmong};
+ghost use Rattle.turn_table.specs.Places.{IsPartyOf, took};
+ghost use Rattle.turn_table.specs.Moments.{WasFree};
 ghost use Rattle.turn_examples.specs.Twins.{Agrees, copies};
 
 use std::alloc::Global;
@@ -20,7 +21,7 @@ pub struct Copies {
 pub struct Agree;
 
 impl TurnRule<u64> for Agree {
-    ghost use Rattle.std.specs.Prelude.{[], ◌∷◌};
+    ghost use Rattle.std.specs.Prelude.{[], ◌∷◌, ⊤};
     ghost use Rattle.turn_examples.specs.Twins.{Agrees, copies};
     ghost use Rattle.turn_examples.specs.TwinLaws.{keeps_won as twins_won, keeps_lost as twins_lost, keeps_learned as twins_learned};
 
@@ -35,6 +36,8 @@ impl TurnRule<u64> for Agree {
     ghost won = { λ _ i v w. copies ((i, v) ∷ w.held) };
 
     ghost lost = { λ _ _ _ w. w };
+
+    ghost gives = { λ _ _. ⊤ };
 
     ghost learned = { λ w _. w };
 
@@ -62,10 +65,10 @@ pub type Holder = Party<u64, Agree>;
 
 // Takes one copy. What a lost try tells is nothing here.
 fn take_copy<R: Wait>(rt: &R, pair: &Pair, party: &mut Holder, i: u32) -> u64
-    requires row { party.old.table ≡ pair.now.table }
+    requires row { IsPartyOf pair.now party.old }
     requires range { i < pair.now.turns }
     requires not_held { ¬ IsAmong i party.old.held }
-    ensures free { WasFree Agrees party.old.number i result party.old.own }
+    ensures free { WasFree Agrees party.old i result }
     ensures party { party.new ≡ took party.old i (copies ((i, result) ∷ party.old.own.held)) }
 {
     pair.take(rt, party, i)
@@ -73,7 +76,7 @@ fn take_copy<R: Wait>(rt: &R, pair: &Pair, party: &mut Holder, i: u32) -> u64
 
 /// Adds `more` to both copies, which are one number before and after.
 pub fn add_to_both<R: Wait>(rt: &R, pair: &Pair, party: &mut Holder, more: u64)
-    requires pair { (party.old.table ≡ pair.now.table) × (pair.now.turns ≡ 2) }
+    requires pair { IsPartyOf pair.now party.old × (pair.now.turns ≡ 2) }
     requires idle { (party.old.held ≡ []) × (party.old.own.held ≡ []) }
     ensures { party.new ≡ party.old }
 {
@@ -87,7 +90,7 @@ pub fn add_to_both<R: Wait>(rt: &R, pair: &Pair, party: &mut Holder, more: u64)
 
 // A party adds in a thread of its own.
 fn add_apart<R: Wait>(rt: &R, pair: &Pair, mut party: Holder, more: u64) -> Holder
-    requires pair { (party.table ≡ pair.now.table) × (pair.now.turns ≡ 2) }
+    requires pair { IsPartyOf pair.now party × (pair.now.turns ≡ 2) }
     requires idle { (party.held ≡ []) × (party.own.held ≡ []) }
     ensures { result ≡ party }
 {
@@ -104,18 +107,18 @@ fn both_add<R: Threads + Wait + Sync>(
     more: u64,
 ) -> (Holder, Holder)
     requires turns { pair.now.turns ≡ 2 }
-    requires one { (one.table ≡ pair.now.table) × (one.held ≡ []) × (one.own.held ≡ []) }
-    requires two { (two.table ≡ pair.now.table) × (two.held ≡ []) × (two.own.held ≡ []) }
+    requires one { IsPartyOf pair.now one × (one.held ≡ []) × (one.own.held ≡ []) }
+    requires two { IsPartyOf pair.now two × (two.held ≡ []) × (two.own.held ≡ []) }
     ensures { (result.0 ≡ one) × (result.1 ≡ two) }
 {
     thread::join(
         rt,
         move || -> Holder
-            requires { (one.table ≡ pair.now.table) × (one.held ≡ []) × (one.own.held ≡ []) × (pair.now.turns ≡ 2) }
+            requires { IsPartyOf pair.now one × (one.held ≡ []) × (one.own.held ≡ []) × (pair.now.turns ≡ 2) }
             ensures { result ≡ one }
         { add_apart(rt, pair, one, more) },
         move || -> Holder
-            requires { (two.table ≡ pair.now.table) × (two.held ≡ []) × (two.own.held ≡ []) × (pair.now.turns ≡ 2) }
+            requires { IsPartyOf pair.now two × (two.held ≡ []) × (two.own.held ≡ []) × (pair.now.turns ≡ 2) }
             ensures { result ≡ two }
         { add_apart(rt, pair, two, more) },
     )

@@ -7,9 +7,10 @@ use Rattle.atomic_table.specs.Table.{Splits, opening as table_opening}
 use Rattle.atomic_table.specs.Seated.{TableId}
 use Rattle.atomic_table.proofs.Lists.{set_again}
 use Rattle.turn_table.specs.Board.{Turn, free, taken, Board, numbered, opening}
+use Rattle.turn_table.specs.Standings.{kept_from, whole, whole_place, AllApart, AllKept, StandsAt, Sits, IsKept, left_with, leaving}
+use Rattle.turn_table.specs.Places.{newcomer, newcomers, Place, Apart, IsLast, stayed, parted}
 use Rattle.turn_table.specs.declared.standing.Kept.{Kept}
 use Rattle.turn_table.specs.declared.standing.Standing.{Standing}
-use Rattle.turn_table.specs.Standings.{kept_from, whole, whole_place, newcomer, newcomers, Place, Apart, AllApart, AllKept, StandsAt, Sits, IsKept, left_with, leaving, IsLast, stayed, parted}
 use Rattle.turn_table.proofs.Seats.{parts}
 
 length_map : {A B : Type 0} (f : A → B) (l : List A) → length (map f l) ≡ length l
@@ -21,12 +22,12 @@ length_replicate zero a = refl
 length_replicate (suc n) a = ap suc (length_replicate n a)
 
 module _ {W : Type 0} (f : ℕ → W) where
-  numbered_at : (n k j : ℕ) → j < k → get_elem? (numbered f n k) j ≡ some (f (n + j))
+  pub numbered_at : (n k j : ℕ) → j < k → get_elem? (numbered f n k) j ≡ some (f (n + j))
   numbered_at n zero j h = absurd (omega arith)
   numbered_at n (suc k) zero h = ap (λ m. some (f m)) (let e : n ≡ n + 0 = omega arith in e)
   numbered_at n (suc k) (suc j) h = numbered_at (suc n) k j (omega arith) ∙ ap (λ m. some (f m)) (let e : suc n + j ≡ n + suc j = omega arith in e)
 
-  numbered_length : (n k : ℕ) → length (numbered f n k) ≡ k
+  pub numbered_length : (n k : ℕ) → length (numbered f n k) ≡ k
   numbered_length n zero = refl
   numbered_length n (suc k) = ap suc (numbered_length (suc n) k)
 

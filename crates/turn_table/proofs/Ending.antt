@@ -5,16 +5,17 @@ use mathlib.Core.Option as maybe
 use mathlib.Core.List.{map-append}
 use lib.ListN.{get_elem?}
 use Rattle.atomic_table.specs.Table.{Final, Seen}
-use Rattle.atomic_table.specs.Seated.{TableId}
 use Rattle.turn_table.specs.Board.{Turn, free, taken, Board, opening, IsAmong}
+use Rattle.turn_table.specs.Standings.{AllKept, IsKept}
+use Rattle.turn_table.specs.Places.{Place, met, entries, IsIn, HasNumber, SomeHas, AreFree, AllShow, Shows, ShowAll, Row, IsPartyOf}
 use Rattle.turn_table.specs.declared.standing.Kept.{Kept}
 use Rattle.turn_table.specs.declared.standing.Standing.{Standing}
-use Rattle.turn_table.specs.Standings.{Place, met, entries, IsIn, HasNumber, SomeHas, AreFree, AllShow, Shows, ShowAll, AllKept, IsKept}
 use Rattle.turn_table.proofs.Rows.{within, same_at}
+use Rattle.turn_table.proofs.Moves.{kept_show}
 
 -- what is kept while a party takes in others: it, what is left of them, and the two at the start
-pub record Takes {W : Type 0} (id : TableId) (p q : Place W) (ps qs : List (Place W)) : Type 0 where
-  pub row : p.table ≡ id
+pub record Takes {W : Type 0} (id : Row) (p q : Place W) (ps qs : List (Place W)) : Type 0 where
+  pub row : IsPartyOf id p
   pub held : p.held ≡ []
   pub free : AreFree id ps
   pub numbers : (n : ℕ) → HasNumber n q ⊎ SomeHas n qs → HasNumber n p ⊎ SomeHas n ps
@@ -29,7 +30,7 @@ module _ {W : Type 0} where
   show_append views [] js h = (tt, h)
   show_append views (k ∷ ks) js h = let r = show_append views ks js h.1 in ((h.0, r.0), r.1)
 
-  pub free_last : (id : TableId) (ps : List (Place W)) (p : Place W) → AreFree id (ps ++ p ∷ []) → AreFree id ps × (p.table ≡ id) × (p.held ≡ [])
+  pub free_last : (id : Row) (ps : List (Place W)) (p : Place W) → AreFree id (ps ++ p ∷ []) → AreFree id ps × IsPartyOf id p × (p.held ≡ [])
   free_last id [] p h = (tt, h.0, h.1)
   free_last id (q ∷ ps) p h = let r = free_last id ps p h.2 in ((h.0, h.1, r.0), r.1, r.2)
 
@@ -47,10 +48,10 @@ module _ {W : Type 0} where
   met_shows : (views : List W) (p q : Place W) → Shows views (met p q p.own) → Shows views p × Shows views q
   met_shows views p q h = let r = show_append views (entries q.number q.own q.joined) p.joined h.1 in ((h.0, r.1), r.0)
 
-  pub takes_none : (id : TableId) (p : Place W) (ps : List (Place W)) → p.table ≡ id → p.held ≡ [] → AreFree id ps → Takes id p p ps ps
+  pub takes_none : (id : Row) (p : Place W) (ps : List (Place W)) → IsPartyOf id p → p.held ≡ [] → AreFree id ps → Takes id p p ps ps
   takes_none id p ps row held idle = record { row = row; held = held; free = idle; numbers = λ n h. h; views = λ views a b. (a, b) }
 
-  pub takes_one : (id : TableId) (p q a : Place W) (ps qs rest : List (Place W)) → ps ≡ rest ++ a ∷ [] → Takes id p q ps qs → Takes id (met p a p.own) q rest qs
+  pub takes_one : (id : Row) (p q a : Place W) (ps qs rest : List (Place W)) → ps ≡ rest ++ a ∷ [] → Takes id p q ps qs → Takes id (met p a p.own) q rest qs
   takes_one id p q a ps qs rest e t =
       let f = free_last id rest a (subst (AreFree id) e t.free) in record {
         row = t.row;
@@ -60,7 +61,7 @@ module _ {W : Type 0} where
         views = λ views s l. let m = met_shows views p a s in t.views views m.0 (subst (ShowAll views) (sym e) (show_last views rest a l m.1));
       }
 
-  pub last_free : (id : TableId) (p q a : Place W) (ps qs rest : List (Place W)) → ps ≡ rest ++ a ∷ [] → Takes id p q ps qs → (a.table ≡ id) × (a.held ≡ [])
+  pub last_free : (id : Row) (p q a : Place W) (ps qs rest : List (Place W)) → ps ≡ rest ++ a ∷ [] → Takes id p q ps qs → IsPartyOf id a × (a.held ≡ [])
   last_free id p q a ps qs rest e t = let f = free_last id rest a (subst (AreFree id) e t.free) in (f.1, f.2)
 
 pub nothing_left : {A : Type 0} (l : List A) → length l ≡ 0 → l ≡ []
@@ -131,10 +132,6 @@ module _ {V W : Type 0} (holds : Board V W → Type 0) (parties : ℕ) where
     pub count : length views ≡ parties
     pub own : get_elem? views x.number ≡ some x.own
     pub others : AllShow views x.joined
-
-  kept_show : (views : List W) (seat : ℕ → ℕ) (id : ℕ) (ks : List (Kept W)) → AllKept views seat id ks → AllShow views ks
-  kept_show views seat id [] all = tt
-  kept_show views seat id (k ∷ ks) all = (all.0.1, kept_show views seat id ks all.1)
 
   seat_of : (views : List W) (seat : ℕ → ℕ) (id n : ℕ) (ks : List (Kept W)) → AllKept views seat id ks → IsIn n ks → seat n ≡ id
   seat_of views seat id n [] all h = absurd h

@@ -5,3 +5,5 @@ pub mod Parties
 pub mod Losses
 pub mod Beginning
 pub mod Ending
+pub mod Moments
+pub mod Histories

@@ -1,8 +1,15 @@
 -- Tries that were lost one after the other.
-use Rattle.std.proofs.Common.{◌≡◌, ℕ, List, [], ◌∷◌, ◌++◌, ap, subst}
-use Rattle.turn_table.specs.Board.{Board, WasTaken, Loses}
+use Rattle.std.proofs.Common.{◌≡◌, ℕ, List, [], ◌∷◌, ◌++◌, sym, ap, subst}
+use Rattle.turn_table.specs.Board.{Board}
+use Rattle.turn_table.specs.Places.{Place, saw}
+use Rattle.turn_table.specs.Moments.{WasTaken, Loses}
 
-module _ {V W : Type 0} (holds : Board V W → Type 0) (lost : ℕ → ℕ → ℕ → W → W) (n i : ℕ) where
-  pub loses_more : (owners : List ℕ) (m : ℕ) (w u : W) → Loses holds lost n i owners w u → WasTaken holds n i m u → Loses holds lost n i (owners ++ m ∷ []) w (lost n i m u)
-  loses_more [] m w u e h = let same : u ≡ w = e in (subst (WasTaken holds n i m) same h, ap (lost n i m) same)
-  loses_more (k ∷ ks) m w u l h = (l.0, loses_more ks m (lost n i k w) u l.1 h)
+module _ {V W : Type 0} (holds : Board V W → Type 0) (lost : ℕ → ℕ → ℕ → W → W) (i : ℕ) where
+  pub loses_more : (owners : List ℕ) (m : ℕ) (p q : Place W) → Loses holds lost i owners p q → WasTaken holds q i m → Loses holds lost i (owners ++ m ∷ []) p (saw q (lost q.number i m q.own))
+  loses_more [] m p q e h = let same : q ≡ p = e in (subst (λ (z : Place W). WasTaken holds z i m) same h, ap (λ (z : Place W). saw z (lost z.number i m z.own)) same)
+  loses_more (k ∷ ks) m p q l h = (l.0, loses_more ks m (saw p (lost p.number i k p.own)) q l.1 h)
+
+  -- what each lost try keeps, all of them keep
+  pub loses_keep : (P : Place W → Type 0) → ((p : Place W) (m : ℕ) → WasTaken holds p i m → P p → P (saw p (lost p.number i m p.own))) → (owners : List ℕ) (p q : Place W) → Loses holds lost i owners p q → P p → P q
+  loses_keep P step [] p q l h = subst P (sym l) h
+  loses_keep P step (m ∷ ms) p q l h = loses_keep P step ms (saw p (lost p.number i m p.own)) q l.1 (step p m l.0 h)

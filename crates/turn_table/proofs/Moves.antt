@@ -5,12 +5,15 @@ use mathlib.Core.Logic.{dite}
 use native.Mathlib.Decide.{ℕ_discrete}
 use lib.ListN.{get_elem?}
 use prog.Atomic.{either}
+use Rattle.atomic_table.specs.Seated.{TableId}
 use Rattle.atomic_table.specs.Table.{State, Me, Act, keeps, takes, gives, stepped, Allows, step, Valid, carried_after, rest}
 use Rattle.atomic_table.proofs.Lists.{at_set, set_here, set_else, set_again}
-use Rattle.turn_table.specs.Board.{Turn, free, taken, Board, IsAmong, without, WasTaken, KeepsWon, KeepsLost, MayGive}
+use Rattle.turn_table.specs.Board.{Turn, free, taken, Board, IsAmong, without, KeepsWon, KeepsLost}
+use Rattle.turn_table.specs.Standings.{AllKept, AllStand, empties, Sits, HasSeat, IsKept, taking, giving, seeing, tried, brought, gave, place_of}
+use Rattle.turn_table.specs.Places.{Apart, AllOnce, AllHeld, AllShow}
+use Rattle.turn_table.specs.Moments.{WasTaken, MayGive, Stands}
 use Rattle.turn_table.specs.declared.standing.Kept.{Kept}
 use Rattle.turn_table.specs.declared.standing.Standing.{Standing}
-use Rattle.turn_table.specs.Standings.{Apart, AllKept, AllOnce, AllStand, AllHeld, empties, Sits, HasSeat, IsKept, taking, giving, seeing, tried, brought, gave}
 use Rattle.turn_table.proofs.Rows.{some_at, within, read_at, same_at, stands_set, Slots, among_without, once_without, held_at, held_without, all_out, front, fronted}
 
 module _ {W : Type 0} where
@@ -29,6 +32,11 @@ module _ {W : Type 0} where
   apart_from views seat id m [] far all = tt
   apart_from views seat id m (k ∷ ks) far all = ((λ e. far (ap seat (sym e) ∙ all.0.0)), apart_from views seat id m ks far all.1)
 
+  -- what each party knows that a seat keeps is among the views
+  pub kept_show : (views : List W) (seat : ℕ → ℕ) (id : ℕ) (ks : List (Kept W)) → AllKept views seat id ks → AllShow views ks
+  kept_show views seat id [] all = tt
+  kept_show views seat id (k ∷ ks) all = (all.0.1, kept_show views seat id ks all.1)
+
 module _ {V : Type 0} where
   -- another party's turns stay its own
   held_else : (ts us : List (Turn V)) (m : ℕ) (is : List ℕ) → ((j : ℕ) → get_elem? ts j ≡ some (taken m) → get_elem? us j ≡ some (taken m)) → AllHeld ts m is → AllHeld us m is
@@ -36,6 +44,10 @@ module _ {V : Type 0} where
   held_else ts us m (i ∷ is) stay all = (stay i all.0, held_else ts us m is stay all.1)
 
 module _ {V W : Type 0} (holds : Board V W → Type 0) (parties : ℕ) where
+  -- a seat that is not spent is a party that is so
+  sits_so : (s : State (Option V) (Standing W)) (r : IsKept holds parties s) (id : ℕ) (x : Standing W) → Sits parties r.turns r.views r.seat id x → (z : TableId) → Stands record { turns = r.turns; views = r.views } (place_of z x)
+  sits_so s r id x own z = record { count = r.count ∙ sym own.all; shows = (own.own_is, kept_show r.views r.seat id x.joined own.joined); apart = own.own_apart; held = own.held; once = own.once }
+
   -- A step of the seat id, whose standing is x, from the turns r.turns to the turns us. What other parties have stays theirs
   moved : (s : State (Option V) (Standing W)) (r : IsKept holds parties s) (id : ℕ) (x : Standing W) → get_elem? s.views id ≡ some x → x.live ≡ true
       → (us : List (Turn V)) (ws : List ℕ) (hs : Slots V) (w : W) (is : List ℕ) → AllStand ws hs us → holds record { turns = us; views = set r.views x.number w }
@@ -149,7 +161,7 @@ module _ {V W : Type 0} (holds : Board V W → Type 0) (parties : ℕ) where
                 (at_set r.turns i j (taken n) (taken m) f))
                 (set_here r.turns i (taken n) near, held_else r.turns (set r.turns i (taken n)) n me.0.held (λ j. stay j n) own.held)
                 (not_held, own.once),
-            ((λ _. (v, record { board = b; held = r.rule; turn = e; view = own.own_is }, refl)), λ m f. absurd (cc)),
+            ((λ _. (v, (λ z. record { board = b; held = r.rule; stands = sits_so s r id me.0 own z; turn = e }), refl)), λ m f. absurd (cc)),
           )
 
       loses : (s : State (Option V) (Standing W)) (r : IsKept holds parties s) → get_elem? s.views id ≡ some me.0 → (m : ℕ) → get_elem? r.turns i ≡ some (taken m) → Found s (suc m) (suc m)
@@ -178,8 +190,8 @@ module _ {V W : Type 0} (holds : Board V W → Type 0) (parties : ℕ) where
             (
               (λ z. absurd (cc)),
               λ k f. let same_owner : m ≡ k = cc in
-                  subst (λ (z : ℕ). WasTaken holds n i z me.0.own × (z < me.0.parties) × (z ≢ n) × Apart z me.0.joined × (◌≡◌ {A = Me (Option V) (Standing W)} (seeing me.0 u, me.1) (seeing me.0 (lost n i z me.0.own), me.1))) same_owner
-                  (record { board = b; held = r.rule; turn = e; view = own.own_is }, below, other, apart_from r.views r.seat id m me.0.joined far own.joined, refl),
+                  subst (λ (k : ℕ). ((z : TableId) → WasTaken holds (place_of z me.0) i k) × (◌≡◌ {A = Me (Option V) (Standing W)} (seeing me.0 u, me.1) (seeing me.0 (lost n i k me.0.own), me.1))) same_owner
+                  ((λ z. record { board = b; held = r.rule; stands = sits_so s r id me.0 own z; turn = e; other = (below, other, apart_from r.views r.seat id m me.0.joined far own.joined) }), refl),
             ),
           )
 
@@ -212,9 +224,9 @@ module _ {V W : Type 0} (holds : Board V W → Type 0) (parties : ℕ) where
       subst (λ (c : List (ℕ × Option V)). Allows (IsKept holds parties) slots id (me.0, c) i (λ n. n) (brought (step slots i 0 0 none) (me.0, c))) (sym is) (brings_at slots i id me.0 live among near)
 
   -- a party gives back a turn, whose slot it took last
-  gives_at : (slots i id : ℕ) (x : Standing W) (es : List (ℕ × Option V)) (v : V) (w : W) (next : Option W) → next ≡ Some w → x.live ≡ true → IsAmong i x.held → MayGive holds x.number i v x.own w
+  gives_at : (slots i id : ℕ) (z : TableId) (x : Standing W) (es : List (ℕ × Option V)) (v : V) (w : W) (next : Option W) → next ≡ Some w → x.live ≡ true → IsAmong i x.held → MayGive holds (place_of z x) i v w
       → Allows (IsKept holds parties) slots id (x, (i, Some v) ∷ es) i (λ _. 0) (λ _. gave next (step slots i 0 0 none) (x, (i, Some v) ∷ es) 0)
-  gives_at slots i id x es v w next is live among may s r wide at big =
+  gives_at slots i id z x es v w next is live among may s r wide at big =
       let own = r.seats id x at live in
       let n : ℕ = x.number in
       let e : get_elem? r.turns i ≡ some (taken n) = held_at r.turns n i x.held own.held among in
@@ -227,7 +239,7 @@ module _ {V W : Type 0} (holds : Board V W → Type 0) (parties : ℕ) where
         tt,
         moved s r id x at live (set r.turns i (free v)) (set s.words i 0) (set s.homes i (some (Some v))) w (without i x.held)
             (stands_set s.words s.homes r.turns i 0 (some (Some v)) (free v) r.stands near (set_here s.words i 0 near_words, set_here s.homes i (some (Some v)) near_homes))
-            (may b r.rule e own.own_is)
+            (may b r.rule (sits_so s r id x own z) e)
             (λ j m other f. set_else r.turns i j (free v) (λ q. other (sym (taken_injective n m (same_at r.turns i (taken n) (taken m) e (subst (λ (z : ℕ). get_elem? r.turns z ≡ some (taken m)) q f))))) ∙ f)
             (λ j m f. ⊎_elim
             (λ p. absurd (free_taken v m p.1))
@@ -238,7 +250,7 @@ module _ {V W : Type 0} (holds : Board V W → Type 0) (parties : ℕ) where
         λ u f. ap (λ (z : W). (giving x i z, es)) (some_same w u (sym is ∙ f)),
       )
 
-  pub gives_back : (slots i id : ℕ) (me : Me (Option V) (Standing W)) (v : V) (w : W) (next : Option W) → me.1 ≡ (i, Some v) ∷ rest me.1 → next ≡ Some w → me.0.live ≡ true → IsAmong i me.0.held
-      → MayGive holds me.0.number i v me.0.own w → Allows (IsKept holds parties) slots id me i (λ _. 0) (λ _. gave next (step slots i 0 0 none) me 0)
-  gives_back slots i id me v w next out is live among may =
-      subst (λ (c : List (ℕ × Option V)). Allows (IsKept holds parties) slots id (me.0, c) i (λ _. 0) (λ _. gave next (step slots i 0 0 none) (me.0, c) 0)) (sym out) (gives_at slots i id me.0 (rest me.1) v w next is live among may)
+  pub gives_back : (slots i id : ℕ) (z : TableId) (me : Me (Option V) (Standing W)) (v : V) (w : W) (next : Option W) → me.1 ≡ (i, Some v) ∷ rest me.1 → next ≡ Some w → me.0.live ≡ true → IsAmong i me.0.held
+      → MayGive holds (place_of z me.0) i v w → Allows (IsKept holds parties) slots id me i (λ _. 0) (λ _. gave next (step slots i 0 0 none) me 0)
+  gives_back slots i id z me v w next out is live among may =
+      subst (λ (c : List (ℕ × Option V)). Allows (IsKept holds parties) slots id (me.0, c) i (λ _. 0) (λ _. gave next (step slots i 0 0 none) (me.0, c) 0)) (sym out) (gives_at slots i id z me.0 (rest me.1) v w next is live among may)

@@ -2,8 +2,8 @@
 use Rattle.std.proofs.Common.{◌≡◌, ℕ, ◌<◌, List, ◌∷◌, Option, None, refl, sym, ap, ◌∙◌, subst}
 use Rattle.atomic_table.specs.Table.{Me, rest}
 use Rattle.turn_table.specs.Board.{without}
-use Rattle.turn_table.specs.declared.standing.Standing.{Standing}
 use Rattle.turn_table.specs.Standings.{empties, IsParty, taking, giving, seeing}
+use Rattle.turn_table.specs.declared.standing.Standing.{Standing}
 use Rattle.turn_table.proofs.Rows.{below_without}
 
 module _ {V W : Type 0} where

@@ -8,7 +8,8 @@ use lib.ListN.{get_elem?}
 use Rattle.atomic_table.specs.Table.{Act, keeps, takes, gives, chain, Valid, homes_after, carried_after}
 use Rattle.atomic_table.proofs.Lists.{at_set, set_here, set_else}
 use Rattle.turn_table.specs.Board.{Turn, free, taken, IsAmong, without}
-use Rattle.turn_table.specs.Standings.{AllOnce, StandsAt, AllStand, AllHeld, AllBelow, empties}
+use Rattle.turn_table.specs.Standings.{StandsAt, AllStand, AllBelow, empties}
+use Rattle.turn_table.specs.Places.{AllOnce, AllHeld}
 
 module _ {A : Type 0} where
   pub some_at : (l : List A) (i : ℕ) → i < length l → (a : A) × (get_elem? l i ≡ some a)

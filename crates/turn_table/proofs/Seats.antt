@@ -7,9 +7,10 @@ use lib.ListN.{get_elem?}
 use Rattle.atomic_table.specs.Table.{State, Splits, Joins}
 use Rattle.atomic_table.proofs.Lists.{at_set, at_longer, set_here, set_else, set_again}
 use Rattle.turn_table.specs.Board.{Board, IsAmong, KeepsLearned}
+use Rattle.turn_table.specs.Standings.{AllApart, AllKept, Sits, IsKept, meeting, leaving, leaves, left_with, spent}
+use Rattle.turn_table.specs.Places.{Apart, entries, rest_of, IsLast, IsIn}
 use Rattle.turn_table.specs.declared.standing.Kept.{Kept}
 use Rattle.turn_table.specs.declared.standing.Standing.{Standing}
-use Rattle.turn_table.specs.Standings.{Apart, AllApart, AllKept, Sits, IsKept, entries, meeting, leaving, leaves, left_with, rest_of, spent, IsLast, IsIn}
 use Rattle.turn_table.proofs.Rows.{within, same_at}
 
 module _ {W : Type 0} where

@@ -62,26 +62,3 @@ module _ {V W : Type 0} where
     -- so does a party that learns what another has seen
     abbrev pub KeepsLearned : (W → W → W) → Type 0
     KeepsLearned learned = (b : Board V W) (n m : ℕ) (w u : W) → holds b → n ≢ m → Knows b n w → Knows b m u → holds (noticed b n (learned w u))
-
-    -- whatever all else is, the party n, which knows w, may give the turn i back with the value v, and knows u from then on
-    abbrev pub MayGive : ℕ → ℕ → V → W → W → Type 0
-    MayGive n i v w u = (b : Board V W) → holds b → IsTaken b i n → Knows b n w → holds (changed b i (free v) n u)
-
-    -- at one moment the rule held, the turn i was free with the value v, and the party n knew w
-    pub record WasFree (n i : ℕ) (v : V) (w : W) : Type 0 where
-      pub board : Board V W
-      pub held : holds board
-      pub turn : IsFree board i v
-      pub view : Knows board n w
-
-    -- at one moment the rule held, the party m had the turn i, and the party n knew w
-    pub record WasTaken (n i m : ℕ) (w : W) : Type 0 where
-      pub board : Board V W
-      pub held : holds board
-      pub turn : IsTaken board i m
-      pub view : Knows board n w
-
-    -- a party that knew w lost tries on the turn i to these owners, one after the other, and knows u
-    abbrev pub Loses : (ℕ → ℕ → ℕ → W → W) → ℕ → ℕ → List ℕ → W → W → Type 0
-    Loses lost n i [] w u = u ≡ w
-    Loses lost n i (m ∷ ms) w u = WasTaken n i m w × Loses lost n i ms (lost n i m w) u

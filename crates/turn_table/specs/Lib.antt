@@ -1,3 +1,6 @@
 pub mod Board
+pub mod Histories
+pub mod Moments
+pub mod Places
 pub mod Standings
 pub mod Taken

@@ -1,28 +1,15 @@
 -- What the row of turns keeps besides its user's rule: who has which number, and who holds which turn.
-use Rattle.std.specs.Prelude.{◌≡◌, ◌≢◌, ◌⊎◌, ℕ, zero, suc, ◌-◌, ◌<◌, List, [], ◌∷◌, ◌++◌, map, length, take, drop, true, false, Option, Some, None}
+use Rattle.std.specs.Prelude.{◌≡◌, ℕ, zero, suc, ◌-◌, ◌<◌, List, [], ◌∷◌, ◌++◌, map, length, take, true, false, Option, Some, None}
 use mathlib.Core.Option.{some, none}
 use mathlib.Core.Option as maybe
 use lib.ListN.{get_elem?}
 use Rattle.atomic_table.specs.Table.{State, Step, Me, rest}
 use Rattle.atomic_table.specs.Seated.{TableId}
-use Rattle.turn_table.specs.Board.{Turn, free, taken, Board, IsAmong, without, WasFree, WasTaken}
+use Rattle.turn_table.specs.Board.{Turn, free, taken, Board, IsAmong, without}
+use Rattle.turn_table.specs.Places.{Place, kept, Apart, entries, rest_of, AllOnce, AllHeld}
+use Rattle.turn_table.specs.Moments.{WasFree, WasTaken}
 use Rattle.turn_table.specs.declared.standing.Kept.{Kept}
 use Rattle.turn_table.specs.declared.standing.Standing.{Standing}
-
--- What a party is to its user: which row of turns it belongs to, how many parties there are, its number, what it knows, the parties that it keeps by a join and the turns that it holds, each the last first
-pub record Place (W : Type 0) : Type 0 where
-  pub table : TableId
-  pub parties : ℕ
-  pub number : ℕ
-  pub own : W
-  pub joined : List (Kept W)
-  pub held : List ℕ
-
--- What a row of turns is to its user: which it is, and how many turns and parties it has
-pub record Row : Type 0 where
-  pub table : TableId
-  pub turns : ℕ
-  pub parties : ℕ
 
 -- what is always true of a row of turns: a word and a slot for each turn, of which there are some, and some party
 pub record IsRow (id : TableId) (turns parties : ℕ) : Type 0 where
@@ -34,58 +21,6 @@ pub record IsRow (id : TableId) (turns parties : ℕ) : Type 0 where
 module _ {W : Type 0} where
   abbrev pub place_of : TableId → Standing W → Place W
   place_of z x = record { table = z; parties = x.parties; number = x.number; own = x.own; joined = x.joined; held = x.held }
-
-  -- a party that has taken the turn i, given it back, or seen something, and knows w
-  abbrev pub took : Place W → ℕ → W → Place W
-  took p i w = record { table = p.table; parties = p.parties; number = p.number; own = w; joined = p.joined; held = i ∷ p.held }
-
-  abbrev pub gave_back : Place W → ℕ → W → Place W
-  gave_back p i w = record { table = p.table; parties = p.parties; number = p.number; own = w; joined = p.joined; held = without i p.held }
-
-  abbrev pub saw : Place W → W → Place W
-  saw p w = record { table = p.table; parties = p.parties; number = p.number; own = w; joined = p.joined; held = p.held }
-
-  abbrev pub kept : ℕ → W → ℕ → Kept W
-  kept n w k = record { number = n; view = w; count = k }
-
-  -- the number n is that of one of these
-  abbrev pub IsIn : ℕ → List (Kept W) → Type 0
-  IsIn n [] = ⊥
-  IsIn n (k ∷ ks) = (k.number ≡ n) ⊎ IsIn n ks
-
-  -- the party has the number n, as its own or by a join
-  abbrev pub HasNumber : ℕ → Place W → Type 0
-  HasNumber n p = (p.number ≡ n) ⊎ IsIn n p.joined
-
-  abbrev pub SomeHas : ℕ → List (Place W) → Type 0
-  SomeHas n [] = ⊥
-  SomeHas n (p ∷ ps) = HasNumber n p ⊎ SomeHas n ps
-
-  -- these are parties of one row, and hold no turn
-  abbrev pub AreFree : TableId → List (Place W) → Type 0
-  AreFree id [] = Unit {0}
-  AreFree id (p ∷ ps) = (p.table ≡ id) × (p.held ≡ []) × AreFree id ps
-
-  -- these are what the parties of these numbers know
-  abbrev pub AllShow : List W → List (Kept W) → Type 0
-  AllShow views [] = Unit {0}
-  AllShow views (k ∷ ks) = (get_elem? views k.number ≡ some k.view) × AllShow views ks
-
-  -- what a party knows under its own number, and under those that it keeps by a join
-  abbrev pub Shows : List W → Place W → Type 0
-  Shows views p = (get_elem? views p.number ≡ some p.own) × AllShow views p.joined
-
-  abbrev pub ShowAll : List W → List (Place W) → Type 0
-  ShowAll views [] = Unit {0}
-  ShowAll views (p ∷ ps) = Shows views p × ShowAll views ps
-
-  -- a party at the start, and k of them, from the number n on, of p parties in all
-  abbrev pub newcomer : TableId → ℕ → ℕ → W → Place W
-  newcomer id p n w = record { table = id; parties = p; number = n; own = w; joined = []; held = [] }
-
-  abbrev pub newcomers : TableId → ℕ → (ℕ → W) → ℕ → ℕ → List (Place W)
-  newcomers id p f n zero = []
-  newcomers id p f n (suc k) = newcomer id p n (f n) ∷ newcomers id p f (suc n) k
 
   -- f n, f (n + 1) and so on, k of them, each by its number
   abbrev pub kept_from : (ℕ → W) → ℕ → ℕ → List (Kept W)
@@ -104,41 +39,10 @@ module _ {W : Type 0} where
   leaves f x [] = record { live = false; parties = 0; number = 0; own = x.own; joined = []; held = [] }
   leaves f x (k ∷ ks) = record { live = true; parties = x.parties; number = k.number; own = f k.view; joined = take k.count ks; held = [] }
 
-  -- none of these parties has the number n
-  abbrev pub Apart : ℕ → List (Kept W) → Type 0
-  Apart n [] = Unit {0}
-  Apart n (k ∷ ks) = (k.number ≢ n) × Apart n ks
-
   -- no two of these parties have one number
   abbrev pub AllApart : List (Kept W) → Type 0
   AllApart [] = Unit {0}
   AllApart (k ∷ ks) = Apart k.number ks × AllApart ks
-
-  -- what another party keeps of this one: it, and then its own by a join
-  abbrev pub entries : ℕ → W → List (Kept W) → List (Kept W)
-  entries n w ks = kept n w (length ks) ∷ ks
-
-  -- of the parties that one keeps, those that stay once the last has parted
-  abbrev pub rest_of : List (Kept W) → List (Kept W)
-  rest_of [] = []
-  rest_of (k ∷ ks) = drop k.count ks
-
-  -- a party that another has joined, and that knows w
-  abbrev pub met : Place W → Place W → W → Place W
-  met p q w = record { table = p.table; parties = p.parties; number = p.number; own = w; joined = entries q.number q.own q.joined ++ p.joined; held = p.held }
-
-  -- the party of this number joined last
-  abbrev pub IsLast : ℕ → List (Kept W) → Type 0
-  IsLast n [] = ⊥
-  IsLast n (k ∷ ks) = k.number ≡ n
-
-  -- a party once the party that joined it last has parted, and that party, which knows what f makes of its view
-  abbrev pub stayed : Place W → Place W
-  stayed p = record { table = p.table; parties = p.parties; number = p.number; own = p.own; joined = rest_of p.joined; held = p.held }
-
-  abbrev pub parted : (W → W) → Place W → List (Kept W) → Place W
-  parted f p [] = p
-  parted f p (k ∷ ks) = record { table = p.table; parties = p.parties; number = k.number; own = f k.view; joined = take k.count ks; held = [] }
 
   -- a standing after its party has taken the turn i, given it back, or seen something, and knows w
   abbrev pub taking : Standing W → ℕ → W → Standing W
@@ -180,11 +84,6 @@ module _ {W : Type 0} where
     pub number : standing.number ≡ n
     pub among : IsAmong i standing.held
 
--- each of these numbers, once
-abbrev pub AllOnce : List ℕ → Type 0
-AllOnce [] = Unit {0}
-AllOnce (k ∷ ks) = (¬ IsAmong k ks) × AllOnce ks
-
 -- each of these numbers is below n
 abbrev pub AllBelow : ℕ → List ℕ → Type 0
 AllBelow n [] = Unit {0}
@@ -201,11 +100,6 @@ module _ {V : Type 0} where
     pub words : length ws ≡ length ts
     pub homes : length hs ≡ length ts
     pub each : (i : ℕ) (t : Turn V) → get_elem? ts i ≡ some t → StandsAt ws hs i t
-
-  -- the party n has each of these turns
-  abbrev pub AllHeld : List (Turn V) → ℕ → List ℕ → Type 0
-  AllHeld ts n [] = Unit {0}
-  AllHeld ts n (i ∷ is) = (get_elem? ts i ≡ some (taken n)) × AllHeld ts n is
 
   -- the slots that are out with a seat, each empty
   abbrev pub empties : List ℕ → List (ℕ × Option V)
@@ -247,8 +141,8 @@ module _ {V W : Type 0} where
   -- a try took a free turn with its value, or found it with another party
   abbrev pub tried : (Board V W → Type 0) → (ℕ → ℕ → V → W → W) → (ℕ → ℕ → ℕ → W → W) → Step (Option V) → Me (Option V) (Standing W) → ℕ → Me (Option V) (Standing W) → Type 0
   tried holds won lost p me found after =
-      (found ≡ 0 → (v : V) × WasFree holds me.0.number p.word v me.0.own × (after ≡ (taking me.0 p.word (won me.0.number p.word v me.0.own), (p.word, Some v) ∷ me.1)))
-      × ((m : ℕ) → found ≡ suc m → WasTaken holds me.0.number p.word m me.0.own × (m < me.0.parties) × (m ≢ me.0.number) × Apart m me.0.joined × (after ≡ (seeing me.0 (lost me.0.number p.word m me.0.own), me.1)))
+      (found ≡ 0 → (v : V) × ((z : TableId) → WasFree holds (place_of z me.0) p.word v) × (after ≡ (taking me.0 p.word (won me.0.number p.word v me.0.own), (p.word, Some v) ∷ me.1)))
+      × ((m : ℕ) → found ≡ suc m → ((z : TableId) → WasTaken holds (place_of z me.0) p.word m) × (after ≡ (seeing me.0 (lost me.0.number p.word m me.0.own), me.1)))
 
   -- the slot of this word is now the one taken last
   abbrev pub brought : Step (Option V) → Me (Option V) (Standing W) → ℕ → Me (Option V) (Standing W) → Type 0

@@ -3,7 +3,7 @@ ghost use Rattle.std.specs.Prelude.{◌≡◌, ◌⊎◌, ℕ, ◌<◌, ◌≤�
 ghost use Rattle.std.specs.Slots.{slots_items, slots_filled, slots_len, IsFull};
 ghost use Rattle.std.specs.List.{slice_index_or};
 ghost use Rattle.turn_table.specs.Board.{opening};
-ghost use Rattle.turn_table.specs.Standings.{met, HasNumber, SomeHas, AreFree, Shows, ShowAll};
+ghost use Rattle.turn_table.specs.Places.{IsPartyOf, met, HasNumber, SomeHas, AreFree, Shows, ShowAll};
 
 use crate::opening::NoMemory;
 use crate::party::Party;
@@ -16,7 +16,7 @@ use std::alloc::Global;
 impl<V, R: TurnRule<V>> Turns<V, R> {
     // `other` joins `party`, which learns nothing.
     fn take_in(&self, party: &mut Party<V, R>, other: Party<V, R>)
-        requires row { (party.old.table ≡ self.now.table) × (other.table ≡ self.now.table) }
+        requires row { IsPartyOf self.now party.old × IsPartyOf self.now other }
         requires free { (party.old.held ≡ []) × (other.held ≡ []) }
         ensures { party.new ≡ met party.old other party.old.own }
     {
@@ -27,9 +27,9 @@ impl<V, R: TurnRule<V>> Turns<V, R> {
 
     // All these parties join `party`.
     fn gather(&self, party: &mut Party<V, R>, mut others: Vec<Party<V, R>>)
-        requires row { (party.old.table ≡ self.now.table) × (party.old.held ≡ []) }
-        requires others { AreFree self.now.table others.items }
-        ensures row { (party.new.table ≡ self.now.table) × (party.new.held ≡ []) }
+        requires row { IsPartyOf self.now party.old × (party.old.held ≡ []) }
+        requires others { AreFree self.now others.items }
+        ensures row { IsPartyOf self.now party.new × (party.new.held ≡ []) }
         ensures numbers { (n : ℕ) → HasNumber n party.old ⊎ SomeHas n others.items → HasNumber n party.new }
         ensures views { (views : List R.View) → Shows views party.new → Shows views party.old × ShowAll views others.items }
     {
@@ -57,7 +57,7 @@ fn take_values<V: Drop>(closed: &mut Closed<Option<V>, Global>, values: &mut Vec
 impl<V: Drop, R: TurnRule<V>> Turns<V, R> {
     /// The values, once all parties are there and none holds a turn. They meet the rule, with what the parties know.
     pub fn close(self, mut parties: Vec<Party<V, R>>) -> Result<Vec<V>, NoMemory>
-        requires free { AreFree self.table parties.items }
+        requires free { AreFree self parties.items }
         requires all { (n : ℕ) → n < self.parties → SomeHas n parties.items }
         ensures { IfOk result (λ vs. (vec_len vs ≡ self.turns) × ((views : List R.View) × (length views ≡ self.parties) × ShowAll views parties.items × R.holds (opening vs.items views))) }
     {

@@ -1,7 +1,8 @@
 //! How a row of turns begins.
 ghost use Rattle.std.specs.Prelude.{◌≡◌, ℕ, ◌+◌, ◌-◌, ◌^◌, ◌<◌, [], map, Some, IfOk, vec_len};
 ghost use Rattle.turn_table.specs.Board.{opening, numbered};
-ghost use Rattle.turn_table.specs.Standings.{newcomers, whole_place, IsLast, stayed, parted};
+ghost use Rattle.turn_table.specs.Places.{newcomers, IsLast, stayed, parted};
+ghost use Rattle.turn_table.specs.Standings.{whole_place};
 
 use crate::party::Party;
 use crate::plays::{Deal, Setup};

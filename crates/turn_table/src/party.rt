@@ -14,7 +14,8 @@ pub struct Party<V, R: TurnRule<V>> {
 }
 
 impl<V, R: TurnRule<V>> Model for Party<V, R> {
-    ghost use Rattle.turn_table.specs.Standings.{Place, place_of, IsParty};
+    ghost use Rattle.turn_table.specs.Places.{Place};
+    ghost use Rattle.turn_table.specs.Standings.{place_of, IsParty};
 
     ghost Value = { Place R.View };
 

@@ -21,6 +21,9 @@ pub trait TurnRule<V> {
     // Of the party's number, the turn, the owner found and what the party knew: what it knows once it has lost the try.
     ghost lost: { ℕ → ℕ → ℕ → Self.View → Self.View };
 
+    // What a party may make of what it knew when it gives a turn back. So a rule refuses a view that claims a try which was never made.
+    ghost gives: { Self.View → Self.View → Type 0 };
+
     // Of what a party knew and what another knows: what it knows once it has seen all that the other has.
     ghost learned: { Self.View → Self.View → Self.View };
 

@@ -1,6 +1,6 @@
 // A rule that asks nothing, so that these tests show what no clause says: that the calls succeed, and that threads get their turns.
 ghost use Rattle.std.specs.Prelude.{◌≡◌, ◌<◌, [], ◌∷◌, ⊤};
-ghost use Rattle.turn_table.specs.Standings.{took, gave_back};
+ghost use Rattle.turn_table.specs.Places.{IsPartyOf, took, gave_back};
 ghost use Rattle.turn_table.specs.Board.{IsAmong};
 
 use crate::{GivenView, Party, Take, TurnRule, Turns};
@@ -25,6 +25,8 @@ impl<V> TurnRule<V> for Anything {
     ghost won = { λ _ _ _ _. tt };
 
     ghost lost = { λ _ _ _ _. tt };
+
+    ghost gives = { λ _ _. ⊤ };
 
     ghost learned = { λ _ _. tt };
 
@@ -68,7 +70,7 @@ fn a_taken_turn_names_its_owner(rt: HostRuntime) -> Result<(), Fail> {
 
 // Adds 1 to the value of the turn 0, `count` times.
 fn count_up<R: Wait>(rt: &R, row: &Row, mut party: Hand, count: u64) -> Hand
-    requires { (party.table ≡ row.now.table) × (party.held ≡ []) × (0 < row.now.turns) }
+    requires { IsPartyOf row.now party × (party.held ≡ []) × (0 < row.now.turns) }
     ensures { result ≡ party }
 {
     for _ in 0..count {
@@ -80,18 +82,18 @@ fn count_up<R: Wait>(rt: &R, row: &Row, mut party: Hand, count: u64) -> Hand
 
 fn both_count<R: Threads + Wait + Sync>(rt: &R, row: &Row, one: Hand, two: Hand) -> (Hand, Hand)
     requires turns { 0 < row.now.turns }
-    requires one { (one.table ≡ row.now.table) × (one.held ≡ []) }
-    requires two { (two.table ≡ row.now.table) × (two.held ≡ []) }
+    requires one { IsPartyOf row.now one × (one.held ≡ []) }
+    requires two { IsPartyOf row.now two × (two.held ≡ []) }
     ensures { (result.0 ≡ one) × (result.1 ≡ two) }
 {
     thread::join(
         rt,
         move || -> Hand
-            requires { (one.table ≡ row.now.table) × (one.held ≡ []) × (0 < row.now.turns) }
+            requires { IsPartyOf row.now one × (one.held ≡ []) × (0 < row.now.turns) }
             ensures { result ≡ one }
         { count_up(rt, row, one, 1000) },
         move || -> Hand
-            requires { (two.table ≡ row.now.table) × (two.held ≡ []) × (0 < row.now.turns) }
+            requires { IsPartyOf row.now two × (two.held ≡ []) × (0 < row.now.turns) }
             ensures { result ≡ two }
         { count_up(rt, row, two, 1000) },
     )
@@ -113,7 +115,7 @@ fn two_threads_count_together(rt: HostRuntime) -> Result<(), Fail> {
 
 // Says that it is about to take the turn 0, and takes it.
 fn take_late<R: Wait>(rt: &R, row: &Row, about_to: &AtomicU64, mut party: Hand) -> (Hand, u64)
-    requires { (party.table ≡ row.now.table) × (party.held ≡ []) × (0 < row.now.turns) }
+    requires { IsPartyOf row.now party × (party.held ≡ []) × (0 < row.now.turns) }
     ensures { result.0 ≡ took party 0 tt }
 {
     about_to.store(1, SeqCst);
@@ -123,7 +125,7 @@ fn take_late<R: Wait>(rt: &R, row: &Row, about_to: &AtomicU64, mut party: Hand) 
 
 // Gives the turn 0 back once the other thread is about to take it.
 fn give_late(row: &Row, about_to: &AtomicU64, mut party: Hand) -> Hand
-    requires { (party.table ≡ row.now.table) × (party.held ≡ 0 ∷ []) }
+    requires { IsPartyOf row.now party × (party.held ≡ 0 ∷ []) }
     ensures { result ≡ gave_back party 0 tt }
 {
     for _ in 0..1_000_000 {
@@ -143,8 +145,8 @@ fn hand_over<R: Threads + Wait + Sync>(
     taker: Hand,
 ) -> (Hand, (Hand, u64))
     requires turns { 0 < row.now.turns }
-    requires giver { (giver.table ≡ row.now.table) × (giver.held ≡ 0 ∷ []) }
-    requires taker { (taker.table ≡ row.now.table) × (taker.held ≡ []) }
+    requires giver { IsPartyOf row.now giver × (giver.held ≡ 0 ∷ []) }
+    requires taker { IsPartyOf row.now taker × (taker.held ≡ []) }
     ensures { (result.0 ≡ gave_back giver 0 tt) × (result.1.0 ≡ took taker 0 tt) }
 {
     let about_to = AtomicU64::new(0);
@@ -152,11 +154,11 @@ fn hand_over<R: Threads + Wait + Sync>(
     thread::join(
         rt,
         move || -> Hand
-            requires { (giver.table ≡ row.now.table) × (giver.held ≡ 0 ∷ []) }
+            requires { IsPartyOf row.now giver × (giver.held ≡ 0 ∷ []) }
             ensures { result ≡ gave_back giver 0 tt }
         { give_late(row, flag, giver) },
         move || -> (Hand, u64)
-            requires { (taker.table ≡ row.now.table) × (taker.held ≡ []) × (0 < row.now.turns) }
+            requires { IsPartyOf row.now taker × (taker.held ≡ []) × (0 < row.now.turns) }
             ensures { result.0 ≡ took taker 0 tt }
         { take_late(rt, row, flag, taker) },
     )

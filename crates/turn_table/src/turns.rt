@@ -1,7 +1,8 @@
 //! The row of turns, and the steps on it.
 ghost use Rattle.std.specs.Prelude.{◌≡◌, ◌≢◌, ℕ, ◌<◌, List, [], Some, IfSome};
-ghost use Rattle.turn_table.specs.Board.{IsAmong, WasFree, WasTaken, Loses, MayGive};
-ghost use Rattle.turn_table.specs.Standings.{Apart, took, saw, gave_back, met, IsLast, stayed, parted};
+ghost use Rattle.turn_table.specs.Board.{IsAmong};
+ghost use Rattle.turn_table.specs.Places.{IsPartyOf, Apart, took, saw, gave_back, met, IsLast, stayed, parted};
+ghost use Rattle.turn_table.specs.Moments.{WasFree, WasTaken, Loses, MayGive};
 ghost use Rattle.turn_table.specs.Taken.{IfTaken, IfBusy};
 
 use crate::party::Party;
@@ -23,7 +24,8 @@ pub struct Turns<V, R: TurnRule<V>> {
 }
 
 impl<V, R: TurnRule<V>> Model for Turns<V, R> {
-    ghost use Rattle.turn_table.specs.Standings.{Row, IsRow};
+    ghost use Rattle.turn_table.specs.Places.{Row};
+    ghost use Rattle.turn_table.specs.Standings.{IsRow};
 
     ghost Value = { Row };
 
@@ -35,12 +37,12 @@ impl<V, R: TurnRule<V>> Model for Turns<V, R> {
 impl<V, R: TurnRule<V>> Turns<V, R> {
     /// Takes the turn `i` if it is free.
     pub fn try_take(&self, party: &mut Party<V, R>, i: u32) -> Take<V>
-        requires row { party.old.table ≡ self.now.table }
+        requires row { IsPartyOf self.now party.old }
         requires range { i < self.now.turns }
         requires not_held { ¬ IsAmong i party.old.held }
-        ensures taken { IfTaken result (λ v. WasFree R.holds party.old.number i v party.old.own × (party.new ≡ took party.old i (R.won party.old.number i v party.old.own))) }
-        ensures busy { IfBusy result (λ m. WasTaken R.holds party.old.number i m party.old.own × (party.new ≡ saw party.old (R.lost party.old.number i m party.old.own))) }
-        ensures owner { IfBusy result (λ m. (m < party.old.parties) × (m ≢ party.old.number) × Apart m party.old.joined) }
+        ensures taken { IfTaken result (λ v. WasFree R.holds party.old i v × (party.new ≡ took party.old i (R.won party.old.number i v party.old.own))) }
+        ensures busy { IfBusy result (λ m. WasTaken R.holds party.old i m × (party.new ≡ saw party.old (R.lost party.old.number i m party.old.own))) }
+        ensures owner { IfBusy result (λ m. (m < self.now.parties) × (m ≢ party.old.number) × Apart m party.old.joined) }
     {
         let mine = u64::from(party.number) + 1;
         let shared = &self.table.shared;
@@ -58,9 +60,10 @@ impl<V, R: TurnRule<V>> Turns<V, R> {
 
     /// Gives the turn `i` back with `value`. What the party knows from then on rests on what it knew, the turn and the value.
     pub fn give<M: GivenView<V, R::View, ()>>(&self, party: &mut Party<V, R>, i: u32, value: V)
-        requires row { party.old.table ≡ self.now.table }
+        requires row { IsPartyOf self.now party.old }
         requires held { IsAmong i party.old.held }
-        requires rule { MayGive R.holds party.old.number i value party.old.own (M.given tt party.old.own i value) }
+        requires fair { R.gives party.old.own (M.given tt party.old.own i value) }
+        requires rule { MayGive R.holds party.old i value (M.given tt party.old.own i value) }
         ensures { party.new ≡ gave_back party.old i (M.given tt party.old.own i value) }
     {
         self.give_with::<(), M>(party, i, value, &());
@@ -74,9 +77,10 @@ impl<V, R: TurnRule<V>> Turns<V, R> {
         value: V,
         hand: &H,
     )
-        requires row { party.old.table ≡ self.now.table }
+        requires row { IsPartyOf self.now party.old }
         requires held { IsAmong i party.old.held }
-        requires rule { MayGive R.holds party.old.number i value party.old.own (M.given hand.now party.old.own i value) }
+        requires fair { R.gives party.old.own (M.given hand.now party.old.own i value) }
+        requires rule { MayGive R.holds party.old i value (M.given hand.now party.old.own i value) }
         ensures { party.new ≡ gave_back party.old i (M.given hand.now party.old.own i value) }
     {
         self.hand_back::<H, Brand>(party, i, value, hand);
@@ -84,9 +88,9 @@ impl<V, R: TurnRule<V>> Turns<V, R> {
 
     // The party knows `N.next` from then on. `hand` is for the proof alone, where the caller picks `N.next`.
     fn hand_back<H, N: Next<R::View>>(&self, party: &mut Party<V, R>, i: u32, value: V, hand: &H)
-        requires row { party.old.table ≡ self.now.table }
+        requires row { IsPartyOf self.now party.old }
         requires held { IsAmong i party.old.held }
-        requires rule { (w : R.View) × (N.next ≡ Some w) × MayGive R.holds party.old.number i value party.old.own w }
+        requires rule { (w : R.View) × (N.next ≡ Some w) × MayGive R.holds party.old i value w }
         ensures { IfSome N.next (λ w. party.new ≡ gave_back party.old i w) }
     {
         let _ = hand;
@@ -99,10 +103,10 @@ impl<V, R: TurnRule<V>> Turns<V, R> {
 
     /// Takes the turn `i`, and waits while another party has it.
     pub fn take(&self, rt: &impl Wait, party: &mut Party<V, R>, i: u32) -> V
-        requires row { party.old.table ≡ self.now.table }
+        requires row { IsPartyOf self.now party.old }
         requires range { i < self.now.turns }
         requires not_held { ¬ IsAmong i party.old.held }
-        ensures { (owners : List ℕ) × (w : R.View) × Loses R.holds R.lost party.old.number i owners party.old.own w × WasFree R.holds party.old.number i result w × (party.new ≡ took party.old i (R.won party.old.number i result w)) }
+        ensures { (owners : List ℕ) × (w : R.View) × Loses R.holds R.lost i owners party.old (saw party.old w) × WasFree R.holds (saw party.old w) i result × (party.new ≡ took party.old i (R.won party.old.number i result w)) }
     {
         for _ in rt.forever() {
             match self.try_take(party, i) {
@@ -115,7 +119,7 @@ impl<V, R: TurnRule<V>> Turns<V, R> {
 
     /// `other` joins `party`, which keeps what either has made, holds and claims under its own number, and has seen what either has seen.
     pub fn join(&self, party: &mut Party<V, R>, other: Party<V, R>)
-        requires row { (party.old.table ≡ self.now.table) × (other.table ≡ self.now.table) }
+        requires row { IsPartyOf self.now party.old × IsPartyOf self.now other }
         requires free { (party.old.held ≡ []) × (other.held ≡ []) }
         ensures { party.new ≡ met party.old other (R.learned party.old.own other.own) }
     {
@@ -126,7 +130,7 @@ impl<V, R: TurnRule<V>> Turns<V, R> {
 
     /// The party of this number, which joined `party` last, parts from it. It has all that is its own, and has seen what `party` has seen.
     pub fn part(&self, party: &mut Party<V, R>, number: u32) -> Party<V, R>
-        requires row { party.old.table ≡ self.now.table }
+        requires row { IsPartyOf self.now party.old }
         requires free { party.old.held ≡ [] }
         requires last { IsLast number party.old.joined }
         ensures party { party.new ≡ stayed party.old }

@@ -1,7 +1,11 @@
 pub mod Device
+pub mod DiskLaws
 pub mod Faults
+pub mod Journal
 pub mod Memory
 pub mod MemoryLaws
+pub mod Place
+pub mod Pool
 pub mod SectorDisk
 pub mod SectorLaws
 pub mod Untold

@@ -1,6 +1,7 @@
 -- What the objects in memory are, beside the calls of them that are to fail.
-use Rattle.std.specs.Prelude.{◌≡◌, ◌==◌, ℕ, List, length, Bool, true, false, Option, Some, None, if◌then◌else◌}
+use Rattle.std.specs.Prelude.{◌≡◌, ◌==◌, ℕ, ◌-◌, min, nat_lt, List, [], ◌∷◌, length, Bool, true, false, ◌&&◌, Option, Some, None, if◌then◌else◌}
 use Rattle.std.specs.List.{list_any}
+use Rattle.vdev_io.specs.Faults.{sum_of_counts}
 
 -- the calls of an object, of which some are to fail: their numbers, how many were made, and how many failed
 pub record CallLog : Type 0 where
@@ -11,6 +12,27 @@ pub record CallLog : Type 0 where
 -- the next call is one of those that are to fail
 abbrev pub is_to_fail : CallLog → Bool
 is_to_fail log = list_any (λ number. number == log.made) log.fail
+
+-- one call more was made, and it failed or not
+abbrev pub counted : CallLog → Bool → CallLog
+counted log failed = record {
+  fail = log.fail;
+  made = sum_of_counts log.made 1;
+  faults = (if failed then sum_of_counts log.faults 1 else log.faults);
+}
+
+-- one call more was made, and it failed where it was one of those that are to fail
+abbrev pub after_call : CallLog → CallLog
+after_call log = counted log (is_to_fail log)
+
+-- the log of an object of which these calls are to fail, and none was made
+abbrev pub new_log : List ℕ → CallLog
+new_log fail = record { fail = fail; made = 0; faults = 0 }
+
+-- the calls of the next fork that are to fail
+abbrev pub next_fork : List (List ℕ) → List ℕ
+next_fork [] = []
+next_fork (fail ∷ forks) = fail
 
 -- a source, by the bytes that are left of it
 pub record MemoryStream : Type 0 where
@@ -24,9 +46,18 @@ pub record MemorySink : Type 0 where
   pub room : ℕ
   pub log : CallLog
 
--- a pool: its bytes, and how many reads were asked for
+-- how many bytes it takes of so many
+abbrev pub takes_of : MemorySink → ℕ → ℕ
+takes_of sink n = min n (min sink.most (sink.room - length sink.bytes))
+
+-- it takes nothing of a piece of so many bytes, and there are some
+abbrev pub takes_none : MemorySink → ℕ → Bool
+takes_none sink n = takes_of sink n == 0 && nat_lt 0 n
+
+-- a pool: its bytes, which calls of the forks to come are to fail, fork by fork, and how many reads were asked for
 pub record MemoryPool : Type 0 where
   pub bytes : List ℕ
+  pub forks : List (List ℕ)
   pub reads : ℕ
   pub log : CallLog
 

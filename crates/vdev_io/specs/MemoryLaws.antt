@@ -18,6 +18,11 @@ left : (flushed : Bool) (bytes image : List ℕ) → bytes ≡ image → MayBeLe
 left true bytes image e = sym e
 left false bytes image e = ap length (sym e)
 
+-- what an object tells outright has its length
+pub some_has_len : (bytes image : List ℕ) → Some bytes ≡ Some image → length image ≡ length bytes
+unfolding or_else
+some_has_len bytes image e = ap length (sym (ap (or_else bytes) e))
+
 pub told_has_len : (cache : MemoryCache) (image : List ℕ) → told_by cache ≡ Some image → length image ≡ length cache.bytes
 told_has_len cache image e = ap length (sym (told_is cache.tells cache.flushed cache.bytes image cache.log e))
 

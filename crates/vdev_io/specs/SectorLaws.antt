@@ -26,7 +26,7 @@ chosen (inl _) x y = x
 chosen (inr _) x y = y
 
 -- a written image at a place
-put_length : (at : ℕ) (bytes image : List ℕ) → at + length bytes ≤ length image → length (put at bytes image) ≡ length image
+pub put_length : (at : ℕ) (bytes image : List ℕ) → at + length bytes ≤ length image → length (put at bytes image) ≡ length image
 put_length at bytes image h =
     omega (
       arith,
@@ -39,19 +39,19 @@ put_length at bytes image h =
 front_length : (at : ℕ) (image : List ℕ) → at ≤ length image → length (take at image) ≡ at
 front_length at image h = omega (arith, length-take at image)
 
-put_before : (at : ℕ) (bytes image : List ℕ) (i : ℕ) → at + length bytes ≤ length image → i < at → get_or (put at bytes image) i 0 ≡ get_or image i 0
+pub put_before : (at : ℕ) (bytes image : List ℕ) (i : ℕ) → at + length bytes ≤ length image → i < at → get_or (put at bytes image) i 0 ≡ get_or image i 0
 put_before at bytes image i h lt =
     let front = front_length at image (omega arith) in
     get_or_append_left (take at image ++ bytes) (drop (at + length bytes) image) 0 i (omega (arith, length-append (take at image) bytes))
     ∙ get_or_append_left (take at image) bytes 0 i (omega arith) ∙ get_or-take at image i 0 lt
 
-put_inside : (at : ℕ) (bytes image : List ℕ) (i : ℕ) → at + length bytes ≤ length image → at ≤ i → i < at + length bytes → get_or (put at bytes image) i 0 ≡ get_or bytes (i - at) 0
+pub put_inside : (at : ℕ) (bytes image : List ℕ) (i : ℕ) → at + length bytes ≤ length image → at ≤ i → i < at + length bytes → get_or (put at bytes image) i 0 ≡ get_or bytes (i - at) 0
 put_inside at bytes image i h ge lt =
     let front = front_length at image (omega arith) in
     get_or_append_left (take at image ++ bytes) (drop (at + length bytes) image) 0 i (omega (arith, length-append (take at image) bytes))
     ∙ get_or-append_right (take at image) bytes at i 0 front ge
 
-put_behind : (at : ℕ) (bytes image : List ℕ) (i : ℕ) → at + length bytes ≤ length image → at + length bytes ≤ i → get_or (put at bytes image) i 0 ≡ get_or image i 0
+pub put_behind : (at : ℕ) (bytes image : List ℕ) (i : ℕ) → at + length bytes ≤ length image → at + length bytes ≤ i → get_or (put at bytes image) i 0 ≡ get_or image i 0
 put_behind at bytes image i h ge =
     let front = front_length at image (omega arith) in
     let place : at + length bytes + (i - (at + length bytes)) ≡ i = omega arith in

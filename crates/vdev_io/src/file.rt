@@ -1,27 +1,29 @@
-//! A pool over a file or a block device. Nothing is told of its content.
-ghost use Rattle.std.specs.Prelude.{◌≡◌, ◌≤◌, ℕ, List, None, IfOk};
+//! What the adapters over files share: why a file can't be had, its length, and reading and writing at a place.
+ghost use Rattle.std.specs.Prelude.{◌≡◌, ◌≤◌, ◌↔◌, length, IfOk, IfSome, OnOk};
+ghost use Rattle.std.specs.IoError.{error_kind};
+ghost use Rattle.std.specs.declared.io.ErrorKind.TheVariants.{OutOfMemory};
+ghost use Rattle.vdev_io.specs.declared.file.OpenFault.TheVariants.{NoMemory as OpenNoMemory};
+ghost use Rattle.vdev_io.specs.Place.{ReadsAt, WritesAt};
 
-use crate::fault::Failed;
-use crate::pool::Pool;
 use std::alloc::AllocError;
-use std::fs;
-use std::io::{ErrorKind, Read, Seek, SeekFrom};
+use std::fs::OpenOptions;
+use std::io;
+use std::io::{ErrorKind, Read, Seek, SeekFrom, Write};
 use std::rt::Files;
-
-/// The greatest length of a pool, in bytes.
-pub const LONGEST_POOL: u64 = 1 << 40;
 
 /// Why a file can't be had.
 #[derive(Clone, Copy, Debug, PartialEq, Eq)]
 pub enum OpenFault {
-    /// It can't be opened, is a directory, or is longer than a pool may be.
+    /// It can't be opened, is a directory, or is longer than it may be.
     File,
     /// Memory was refused.
     NoMemory,
 }
 
-impl From<std::io::Error> for OpenFault {
-    fn from(error: std::io::Error) -> Self {
+impl From<io::Error> for OpenFault {
+    ghost from_gives = { λ error fault. (fault ≡ OpenNoMemory) ↔ (error_kind error ≡ OutOfMemory) };
+
+    fn from(error: io::Error) -> Self {
         match error.kind() {
             ErrorKind::OutOfMemory => OpenFault::NoMemory,
             _ => OpenFault::File,
@@ -30,78 +32,44 @@ impl From<std::io::Error> for OpenFault {
 }
 
 impl From<AllocError> for OpenFault {
+    ghost from_gives = { λ _ fault. fault ≡ OpenNoMemory };
+
     fn from(_refused: AllocError) -> Self {
         OpenFault::NoMemory
     }
 }
 
-/// A pool in a file or on a block device. Its length is the one that it had when it was opened.
-#[derive(Drop)]
-pub struct FilePool<'a, R: Files> {
-    rt: &'a R,
-    file: Option<R::File>,
-    len: u64,
-    reads: u64,
-    faults: u64,
+/// Opens the file of this name to be read and written. It is neither made nor cut.
+pub(crate) fn open_to_write<R: Files>(rt: &R, name: &str) -> io::Result<R::File> {
+    OpenOptions::new().read(true).write(true).open(rt, name)
 }
 
-impl<'a, R: Files> FilePool<'a, R> {
-    /// Opens the file of this name to be read.
-    pub fn open(rt: &'a R, name: &str) -> Result<FilePool<'a, R>, OpenFault> {
-        if fs::metadata(rt, name)?.is_dir() {
-            return Err(OpenFault::File);
-        }
-        let mut file = fs::open(rt, name)?;
-        let len = file.seek(SeekFrom::End(0))?;
-        if len > LONGEST_POOL {
-            return Err(OpenFault::File);
-        }
-        Ok(FilePool {
-            rt,
-            file: Some(file),
-            len,
-            reads: 0,
-            faults: 0,
-        })
-    }
-
-    /// A pool of length 0, of no file.
-    pub fn empty(rt: &'a R) -> FilePool<'a, R> {
-        FilePool {
-            rt,
-            file: None,
-            len: 0,
-            reads: 0,
-            faults: 0,
-        }
-    }
-}
-
-impl<R: Files + Sync> Pool for FilePool<'_, R>
-where
-    R::File: Send,
+/// The length of an opened file, which may be at most `longest`.
+pub(crate) fn length_of<F: Seek>(file: &mut F, longest: u64) -> Result<u64, OpenFault>
+    ensures bound { IfOk result (λ len. len ≤ longest) }
+    ensures told { IfOk result (λ len. IfSome (F.stream_position file.old) (λ _. IfSome (F.stream_bytes file.old) (λ bytes. len ≡ length bytes))) }
 {
-    ghost size = { λ pool. pool.len };
-
-    ghost told = { λ _. None };
-
-    ghost faults = { λ pool. pool.faults };
-
-    ghost reads = { λ pool. pool.reads };
-
-    fn len(&self) -> u64 {
-        self.len
+    let len = file.seek(SeekFrom::End(0))?;
+    if len <= longest {
+        Ok(len)
+    } else {
+        Err(OpenFault::File)
     }
+}
 
-    fn read(&mut self, offset: u64, buf: &mut [u8]) -> Result<(), Failed> {
-        self.reads = self.reads.saturating_add(1);
-        if let Some(file) = &mut self.file
-            && file.seek(SeekFrom::Start(offset)).is_ok()
-            && file.read_exact(buf).is_ok()
-        {
-            return Ok(());
-        }
-        self.faults = self.faults.saturating_add(1);
-        Err(Failed)
-    }
+/// Fills `buf` with the bytes of the file from `offset` on. A read that gives less, or that a signal interrupts, is gone on
+/// with; the end of the file before `buf` is full is an error.
+pub(crate) fn read_at<F: Read + Seek>(file: &mut F, offset: u64, buf: &mut [u8]) -> io::Result<()>
+    ensures { OnOk result (ReadsAt F.stream_position F.remaining offset file.old file.new buf.new) }
+{
+    file.seek(SeekFrom::Start(offset))?;
+    file.read_exact(buf)
+}
+
+/// Writes `bytes` to the file from `offset` on. A write that takes less, or that a signal interrupts, is gone on with.
+pub(crate) fn write_at<F: Write + Seek>(file: &mut F, offset: u64, bytes: &[u8]) -> io::Result<()>
+    ensures { OnOk result (WritesAt F.stream_position F.contents offset file.old file.new bytes.now) }
+{
+    file.seek(SeekFrom::Start(offset))?;
+    file.write_all(bytes)
 }

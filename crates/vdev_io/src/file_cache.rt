@@ -1,51 +1,50 @@
 //! A cache device over a file or a block device. Nothing is told of its content.
-ghost use Rattle.std.specs.Prelude.{◌≡◌, None, false, length};
+ghost use Rattle.std.specs.Prelude.{◌≡◌, ◌^◌, ◌≤◌, None, IfOk, false, length};
 ghost use Rattle.vdev_io.specs.Untold.{untold};
 
 use crate::device::CacheDev;
-use crate::fault::{Failed, IoFault};
-use crate::file::OpenFault;
+use crate::fault::{Failed, FaultCount, IoFault};
+use crate::file::{OpenFault, length_of, open_to_write, read_at, write_at};
 use std::alloc::Global;
-use std::fs::{OpenFile, OpenOptions};
-use std::io::{ErrorKind, Read, Seek, SeekFrom, Write};
+use std::fs;
+use std::fs::OpenFile;
 use std::rt::Files;
-use std::{fs, io};
 
 /// The greatest length of a cache device, in bytes.
 pub const LONGEST_CACHE: u64 = 1 << 32;
 
-/// A cache device in a file or on a block device. Its length is the one that it had when it was opened.
+/// A cache device in a file or on a block device.
+///
+/// Its length is the one that it had when it was opened: where the file has shrunk since, a read behind its end fails, and
+/// what it has grown by isn't seen. A read or a write that the system does in parts is gone on with, and one that a signal
+/// interrupts is made again.
 #[derive(Drop)]
 pub struct FileCache<'a, R: Files> {
     rt: &'a R,
     name: String,
     file: R::File,
     len: u64,
-    faults: u64,
-}
-
-fn open_to_write<R: Files>(rt: &R, name: &str) -> io::Result<R::File> {
-    OpenOptions::new().read(true).write(true).open(rt, name)
+    faults: FaultCount,
 }
 
 impl<'a, R: Files> FileCache<'a, R> {
     /// Opens the file of this name to be read and written.
-    pub fn open(alloc: Global, rt: &'a R, name: &str) -> Result<FileCache<'a, R>, OpenFault> {
+    pub fn open(alloc: Global, rt: &'a R, name: &str) -> Result<FileCache<'a, R>, OpenFault>
+        ensures len { IfOk result (λ cache. cache.len ≤ 2 ^ 32) }
+        ensures count { IfOk result (λ cache. cache.faults.count ≡ 0) }
+    {
         if fs::metadata(rt, name)?.is_dir() {
             return Err(OpenFault::File);
         }
         let mut file = open_to_write(rt, name)?;
-        let len = file.seek(SeekFrom::End(0))?;
-        if len > LONGEST_CACHE {
-            return Err(OpenFault::File);
-        }
+        let len = length_of(&mut file, LONGEST_CACHE)?;
         let name = String::from_str(alloc, name)?;
         Ok(FileCache {
             rt,
             name,
             file,
             len,
-            faults: 0,
+            faults: FaultCount::new(),
         })
     }
 }
@@ -66,56 +65,40 @@ where
 
     ghost has_sectors = { λ _. false };
 
-    ghost faults = { λ cache. cache.faults };
+    ghost faults = { λ cache. cache.faults.count };
 
     fn len(&self) -> u64 {
         self.len
     }
 
     fn read(&mut self, offset: u64, buf: &mut [u8]) -> Result<(), Failed> {
-        if self.file.seek(SeekFrom::Start(offset)).is_ok() && self.file.read_exact(buf).is_ok() {
-            return Ok(());
-        }
-        self.faults = self.faults.saturating_add(1);
-        Err(Failed)
+        self.faults.tell(read_at(&mut self.file, offset, buf))
     }
 
     fn write(&mut self, offset: u64, bytes: &[u8]) -> Result<(), Failed> {
-        if self.file.seek(SeekFrom::Start(offset)).is_ok() && self.file.write_all(bytes).is_ok() {
-            return Ok(());
-        }
-        self.faults = self.faults.saturating_add(1);
-        Err(Failed)
+        self.faults.tell(write_at(&mut self.file, offset, bytes))
     }
 
     fn flush(&mut self) -> Result<(), Failed> {
-        if self.file.sync_all().is_ok() {
-            return Ok(());
-        }
-        self.faults = self.faults.saturating_add(1);
-        Err(Failed)
+        self.faults.tell(self.file.sync_all())
     }
 
     fn fork(&mut self, alloc: Global) -> Result<Self, IoFault> {
         let name = String::from_str(alloc, self.name.as_str())?;
-        match open_to_write(self.rt, self.name.as_str()) {
-            Ok(file) => Ok(FileCache {
-                rt: self.rt,
-                name,
-                file,
-                len: self.len,
-                faults: 0,
-            }),
-            Err(error) if error.kind() == ErrorKind::OutOfMemory => Err(IoFault::NoMemory),
-            Err(_) => {
-                self.faults = self.faults.saturating_add(1);
-                Err(IoFault::Failed)
-            }
-        }
+        let file = self
+            .faults
+            .tell_memory(open_to_write(self.rt, name.as_str()))?;
+        Ok(FileCache {
+            rt: self.rt,
+            name,
+            file,
+            len: self.len,
+            faults: FaultCount::new(),
+        })
     }
 
     fn absorb(&mut self, other: Self) {
-        self.faults = self.faults.saturating_add(other.faults);
+        self.faults.absorb(&other.faults);
     }
 
     ghost told_len = { λ cache image e. untold image e };

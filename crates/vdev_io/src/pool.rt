@@ -1,10 +1,15 @@
-ghost use Rattle.std.specs.Prelude.{◌≡◌, ℕ, ◌+◌, ◌≤◌, List, Option, length, take, drop, OnOk, IfSome};
+//! The disk that holds the blocks, as a trait.
+ghost use Rattle.std.specs.Prelude.{◌≡◌, ℕ, ◌+◌, ◌≤◌, List, Option, Some, length, take, drop, OnOk, IfOk, IfSome, IsErrOf};
 ghost use Rattle.blk_ptr.specs.Size.{largest_block};
-ghost use Rattle.vdev_io.specs.Faults.{HasCause, CountsOne};
+ghost use Rattle.vdev_io.specs.Faults.{HasCause, HasIoCause, CountsOne, sum_of_counts};
+ghost use Rattle.vdev_io.specs.Pool.{WritesOrRefuses};
 
-use crate::fault::Failed;
+use crate::fault::{Failed, IoFault};
+use std::alloc::Global;
 
 /// The disk that holds the blocks.
+///
+/// It has two counts: of the calls that failed, and of the reads that were asked for.
 pub trait Pool: Sized + Send + Drop {
     /// Its length in bytes, which no call changes.
     ghost size: { Self → ℕ };
@@ -31,4 +36,33 @@ pub trait Pool: Sized + Send + Drop {
         ensures size { size self.new ≡ size self.old }
         ensures counted { CountsOne (reads self.old) (reads self.new) }
         ensures cause { HasCause (faults self.old) (faults self.new) result };
+
+    /// Writes `bytes` from `offset` on, and changes no other byte. After [`IoFault::NoMemory`] nothing changed, and after
+    /// [`IoFault::Failed`] that range may hold any bytes.
+    fn write(&mut self, offset: u64, bytes: &[u8]) -> Result<(), IoFault>
+        requires inside { offset + length bytes.now ≤ size self.old }
+        ensures told { WritesOrRefuses offset bytes.now (told self.old) (told self.new) result }
+        ensures size { size self.new ≡ size self.old }
+        ensures reads { reads self.new ≡ reads self.old }
+        ensures refused { IsErrOf result IoFault.NoMemory → faults self.new ≡ faults self.old }
+        ensures cause { HasIoCause (faults self.old) (faults self.new) result };
+
+    /// Another handle on the pool, for a caller of its own: it has the same length and tells the same bytes, and both its
+    /// counts are 0.
+    fn fork(&mut self, alloc: Global) -> Result<Self, IoFault>
+        ensures fork { IfOk result (λ fork. (size fork ≡ size self.old) × (told fork ≡ told self.old) × (faults fork ≡ 0) × (reads fork ≡ 0)) }
+        ensures told { told self.new ≡ told self.old }
+        ensures size { size self.new ≡ size self.old }
+        ensures reads { reads self.new ≡ reads self.old }
+        ensures cause { HasIoCause (faults self.old) (faults self.new) result };
+
+    /// Takes a fork back, and adds its counts. It takes no memory.
+    fn absorb(&mut self, other: Self)
+        ensures faults { faults self.new ≡ sum_of_counts (faults self.old) (faults other) }
+        ensures reads { reads self.new ≡ sum_of_counts (reads self.old) (reads other) }
+        ensures told { told self.new ≡ told self.old }
+        ensures size { size self.new ≡ size self.old };
+
+    /// What is told has the pool's length.
+    ghost told_len: { (pool : Self) (image : List ℕ) → told pool ≡ Some image → length image ≡ size pool };
 }

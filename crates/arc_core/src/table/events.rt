@@ -3,7 +3,7 @@ ghost use Rattle.arc_core.specs.declared.event.Event.{Event};
 ghost use Rattle.arc_core.specs.PlainShard.{numbers, one_hold};
 ghost use Rattle.arc_core.specs.Owed.{entries_for, owed_of};
 ghost use Rattle.arc_core.specs.Rules.{arrived_state};
-ghost use Rattle.arc_core.specs.Step.{effect, entry_to_read, legal};
+ghost use Rattle.arc_core.specs.Step.{effect, entry_to_read, legal, written_entry};
 
 use super::Table;
 use crate::entry::{Entry, NUMBERS};
@@ -47,6 +47,22 @@ fn entry_to_read(n: u32, key: Key, t: u64, old: Option<Entry>) -> Entry
         last: t,
         place: old.and_then(|entry| entry.place),
         digest: None,
+    }
+}
+
+// What a cell puts in.
+fn written_entry(n: u32, key: Key, digest: Digest, t: u64) -> Entry
+    requires { n < numbers }
+    ensures { result ≡ written_entry n key digest t }
+{
+    Entry {
+        key,
+        state: State::Mru,
+        holds: one_hold(n),
+        reading: false,
+        last: t,
+        place: None,
+        digest: Some(digest),
     }
 }
 
@@ -104,7 +120,44 @@ impl Table {
         requires { IsTrue (legal self.old.shard (Event.Fail n key at)) }
         ensures shard { self.new.shard ≡ effect self.old.shard (Event.Fail n key at) }
         ensures spare { self.old.spare ≤ self.new.spare }
+        ensures marks { self.new.marks ≡ self.old.marks }
     {
         self.remove(key);
+    }
+
+    /// `n` hands one hold to a cell.
+    pub fn hand(&mut self, n: u32, key: Key, to: u32)
+        requires legal { IsTrue (legal self.old.shard (Event.Hand n key to)) }
+        requires counts { owed_of self.old.shard < 2 ^ 63 }
+        ensures { self.new ≡ record self.old { shard = effect self.old.shard (Event.Hand n key to) } }
+    {
+        if let Some(entry) = self.find(key) {
+            self.place(entry.one_less(n).one_more(to));
+        }
+    }
+
+    /// `n` gives one hold back and keeps a private copy.
+    pub fn release(&mut self, n: u32, key: Key, sole: bool)
+        requires { IsTrue (legal self.old.shard (Event.Release n key sole)) }
+        ensures shard { self.new.shard ≡ effect self.old.shard (Event.Release n key sole) }
+        ensures spare { self.old.spare ≤ self.new.spare }
+        ensures marks { self.new.marks ≡ self.old.marks }
+    {
+        if sole {
+            self.remove(key);
+        } else if let Some(entry) = self.find(key) {
+            self.place(entry.one_less(n));
+        }
+    }
+
+    /// The cell `n` puts a block in that it wrote.
+    pub fn insert(&mut self, n: u32, key: Key, digest: Digest, t: u64)
+        requires legal { IsTrue (legal self.old.shard (Event.Insert n key digest t)) }
+        requires room { entries_for self.old.shard (Event.Insert n key digest t) ≤ self.old.spare }
+        ensures shard { self.new.shard ≡ effect self.old.shard (Event.Insert n key digest t) }
+        ensures spare { self.old.spare ≤ self.new.spare + entries_for self.old.shard (Event.Insert n key digest t) }
+        ensures marks { self.new.marks ≡ self.old.marks }
+    {
+        self.take_in(written_entry(n, key, digest, t));
     }
 }

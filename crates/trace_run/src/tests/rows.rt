@@ -13,7 +13,7 @@ struct Row {
     status: u8,
 }
 
-const ROWS: [Row; 17] = [
+const ROWS: [Row; 18] = [
     Row {
         shows: "one block is read",
         pool: 512,
@@ -361,21 +361,50 @@ end 1
         status: 1,
     },
     Row {
-        shows: "the largest block, which is more than the cache may have",
-        pool: 1_048_576,
+        shows: "a kept read of another digest than the one that is cached",
+        pool: 512,
+        fail: &[],
+        events: true,
+        trace: "arc 1 1 16 1 4096 0 4096
+block 0 512 1 Z
+block 0 512 1 F
+read 0 1 0 0 0
+hold 0 2 1
+drop 0 1
+",
+        report: "arc 1
+0 ok pool Z -
+1 refused digest Z
+2 refused hold 1
+e 0 0 miss 0 0 512 1 1
+e 0 1 arrive 0 0 512 1 Z pool
+e 0 2 drop 0 0 512 1
+e 0 3 past 0 0 512 1 Z
+shard 0 c 4096 p 2048 anon 0 mru 512 mrug 0 mfu 0 mfug 0 l2 0
+count hit 0 miss 1 past 1 pool 2 l2 0 pass 0 set 0
+end 1
+",
+        status: 1,
+    },
+    Row {
+        shows: "the largest block, which is more than the cache may have, and one that is larger",
+        pool: 16_777_216,
         fail: &[],
         events: false,
         trace: "arc 1 1 16 1 4096 0 4096
-block 0 1048576 1 M
-read 0 1 0 1048560 16
+block 0 16777216 1 M
+block 0 16777728 1 M
+read 0 1 0 16777200 16
+read 0 2 1 0 0
 ",
         report: "arc 1
 0 ok pool M 00000000000000000000000000000000
-shard 0 c 4096 p 2048 anon 0 mru 1048576 mrug 0 mfu 0 mfug 0 l2 0
+1 refused key size
+shard 0 c 4096 p 2048 anon 0 mru 16777216 mrug 0 mfu 0 mfug 0 l2 0
 count hit 0 miss 1 past 0 pool 1 l2 0 pass 0 set 0
-end 0
+end 1
 ",
-        status: 0,
+        status: 1,
     },
 ];
 

@@ -31,7 +31,7 @@ fn last_window_by_bytes(rt: HostRuntime) -> Result<(), Fail> {
     for i in 0..512u32 {
         bytes.push((i % 256) as u8)?;
     }
-    let mut pool = MemPool::new(bytes, Vec::new(alloc));
+    let mut pool = MemPool::new(alloc, bytes, Vec::new(alloc), Vec::new(alloc))?;
     let trace = "arc 1 1 16 1 4096 0 4096\nblock 0 512 1 N\nread 0 1 0 448 64\n";
     let mut source = Trickle {
         source: source_of(alloc, trace, &[])?,

@@ -1,7 +1,8 @@
+//! A cache device in memory.
 ghost use Rattle.std.specs.Prelude.{◌≡◌, ◌+◌, ◌≤◌, ◌↔◌, [], true, false, take, drop, length, IsTrue, IfOk, OnOk, OnErr, IsErrOf, is_err};
 ghost use Rattle.vdev_io.specs.Device.{put};
 ghost use Rattle.vdev_io.specs.Faults.{HasCause, HasIoCause, sum_of_counts};
-ghost use Rattle.vdev_io.specs.Memory.{MemoryCache, told_by, MayBeLeft, is_to_fail};
+ghost use Rattle.vdev_io.specs.Memory.{MemoryCache, after_call, told_by, MayBeLeft, is_to_fail, new_log};
 ghost use Rattle.vdev_io.specs.MemoryLaws.{told_has_len, told_may_be_left, left_has_len, not_sectors};
 
 use super::calls::Calls;
@@ -28,7 +29,7 @@ impl Model for MemCache {
 impl MemCache {
     /// A device of these bytes, all of them flushed, of which the calls numbered in `fail` are to fail, counted from 0.
     pub fn new(bytes: Vec<u8>, fail: Vec<u64>) -> MemCache
-        ensures { result ≡ record { bytes = bytes.items; flushed = true; tells = true; log = record { fail = fail.items; made = 0; faults = 0 } } }
+        ensures { result ≡ record { bytes = bytes.items; flushed = true; tells = true; log = new_log fail.items } }
     {
         let calls = Calls::new(fail);
         MemCache {
@@ -72,6 +73,7 @@ impl CacheDev for MemCache {
         ensures kept { (self.new.bytes ≡ self.old.bytes) × (self.new.flushed ≡ self.old.flushed) × (self.new.tells ≡ self.old.tells) }
         ensures cause { HasCause self.old.log.faults self.new.log.faults result }
         ensures listed { is_err result ≡ is_to_fail self.old.log }
+        ensures calls { self.new.log ≡ after_call self.old.log }
     {
         self.calls.begin()?;
         let at = offset as usize;
@@ -87,6 +89,7 @@ impl CacheDev for MemCache {
         ensures len { length self.new.bytes ≡ length self.old.bytes }
         ensures cause { HasCause self.old.log.faults self.new.log.faults result }
         ensures listed { is_err result ≡ is_to_fail self.old.log }
+        ensures calls { self.new.log ≡ after_call self.old.log }
     {
         self.calls.begin()?;
         let at = offset as usize;
@@ -102,6 +105,7 @@ impl CacheDev for MemCache {
         ensures tells { self.new.tells ≡ self.old.tells }
         ensures cause { HasCause self.old.log.faults self.new.log.faults result }
         ensures listed { is_err result ≡ is_to_fail self.old.log }
+        ensures calls { self.new.log ≡ after_call self.old.log }
     {
         self.calls.begin()?;
         self.flushed = true;
@@ -109,10 +113,11 @@ impl CacheDev for MemCache {
     }
 
     fn fork(&mut self, alloc: Global) -> Result<MemCache, IoFault>
-        ensures fork { IfOk result (λ fork. fork ≡ record { bytes = self.old.bytes; flushed = false; tells = false; log = record { fail = []; made = 0; faults = 0 } }) }
+        ensures fork { IfOk result (λ fork. fork ≡ record { bytes = self.old.bytes; flushed = false; tells = false; log = new_log [] }) }
         ensures kept { (self.new.bytes ≡ self.old.bytes) × (self.new.flushed ≡ self.old.flushed) × (self.new.tells ≡ self.old.tells) }
         ensures cause { HasIoCause self.old.log.faults self.new.log.faults result }
         ensures listed { IsErrOf result IoFault.Failed ↔ IsTrue (is_to_fail self.old.log) }
+        ensures calls { self.new.log ≡ after_call self.old.log }
     {
         self.calls.begin()?;
         let bytes = self.bytes.to_vec(alloc)?;
@@ -125,7 +130,7 @@ impl CacheDev for MemCache {
     }
 
     fn absorb(&mut self, other: MemCache)
-        ensures faults { self.new.log.faults ≡ sum_of_counts self.old.log.faults other.log.faults }
+        ensures faults { self.new.log ≡ record self.old.log { faults = sum_of_counts self.old.log.faults other.log.faults } }
         ensures kept { (self.new.bytes ≡ self.old.bytes) × (self.new.flushed ≡ self.old.flushed) × (self.new.tells ≡ self.old.tells) }
     {
         self.calls.absorb(other.calls.faults());

@@ -1,6 +1,7 @@
+//! The calls of an object in memory, numbered from 0, of which some are to fail.
 ghost use Rattle.std.specs.Prelude.{◌≡◌, ◌+◌, ◌≤◌, is_err};
-ghost use Rattle.vdev_io.specs.Faults.{Rose, HasCause, CountsOne, sum_of_counts};
-ghost use Rattle.vdev_io.specs.Memory.{CallLog, is_to_fail};
+ghost use Rattle.vdev_io.specs.Faults.{Rose, HasCause, sum_of_counts};
+ghost use Rattle.vdev_io.specs.Memory.{CallLog, after_call, is_to_fail, new_log};
 
 use crate::fault::Failed;
 use std::marker::Model;
@@ -22,7 +23,7 @@ impl Model for Calls {
 impl Calls {
     /// No call was made yet.
     pub(crate) fn new(fail: Vec<u64>) -> Calls
-        ensures { result ≡ record { fail = fail.items; made = 0; faults = 0 } }
+        ensures { result ≡ new_log fail.items }
     {
         Calls {
             fail,
@@ -34,8 +35,7 @@ impl Calls {
     /// Counts a call, and fails it where it is one of those that are to fail.
     pub(crate) fn begin(&mut self) -> Result<(), Failed>
         ensures listed { is_err result ≡ is_to_fail self.old }
-        ensures fail { self.new.fail ≡ self.old.fail }
-        ensures made { CountsOne self.old.made self.new.made }
+        ensures calls { self.new ≡ after_call self.old }
         ensures cause { HasCause self.old.faults self.new.faults result }
     {
         let fails = self.fail.contains(&self.made);
@@ -61,8 +61,7 @@ impl Calls {
     pub(crate) fn fault(&mut self) -> Failed
         ensures rose { Rose self.old.faults self.new.faults }
         ensures kept { self.old.faults ≤ self.new.faults }
-        ensures fail { self.new.fail ≡ self.old.fail }
-        ensures made { self.new.made ≡ self.old.made }
+        ensures counted { self.new ≡ record self.old { faults = sum_of_counts self.old.faults 1 } }
     {
         self.faults = self.faults.saturating_add(1);
         Failed

@@ -1,8 +1,9 @@
+//! A source in memory.
 ghost use Rattle.std.specs.Prelude.{◌≡◌, ◌≤◌, drop, take, length, min, Some, is_err};
 ghost use Rattle.std.specs.Io.{ReadsAtMost};
 ghost use Rattle.std.specs.Io.KnownBytes.{ReadConsumes};
 ghost use Rattle.vdev_io.specs.Faults.{HasCause};
-ghost use Rattle.vdev_io.specs.Memory.{MemoryStream, is_to_fail};
+ghost use Rattle.vdev_io.specs.Memory.{MemoryStream, after_call, is_to_fail, new_log};
 
 use super::calls::Calls;
 use crate::fault::Failed;
@@ -28,7 +29,7 @@ impl Model for MemSource {
 impl MemSource {
     /// A source of these bytes, of which the calls numbered in `fail` are to fail, counted from 0.
     pub fn new(bytes: Vec<u8>, fail: Vec<u64>) -> MemSource
-        ensures { result ≡ record { bytes = bytes.items; log = record { fail = fail.items; made = 0; faults = 0 } } }
+        ensures { result ≡ record { bytes = bytes.items; log = new_log fail.items } }
     {
         let calls = Calls::new(fail);
         MemSource {
@@ -49,6 +50,7 @@ impl Source for MemSource {
         ensures bytes { ReadConsumes (Some self.old.bytes) (Some self.new.bytes) result buf.new }
         ensures cause { HasCause self.old.log.faults self.new.log.faults result }
         ensures listed { is_err result ≡ is_to_fail self.old.log }
+        ensures calls { self.new.log ≡ after_call self.old.log }
     {
         self.calls.begin()?;
         let n = copy_front(buf, &self.bytes[self.at..]);

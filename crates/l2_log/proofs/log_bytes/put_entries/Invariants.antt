@@ -6,8 +6,8 @@ use Rattle.l2_log.proofs.log_bytes.put_entries.Given as goal
 
 abbrev pub invariant-loop-i : goal.invariant-loop-i
 invariant-loop-i l = record {
-  entries : AreEntries l.out first_entry (take l.i l.entries);
-  zeros : AreZero (first_entry + entry_len * l.i) log_len l.out;
+  entries : AreEntries l.digests l.out first_entry (take l.i l.entries);
+  zeros : AreZero (first_entry + entry_len l.digests * l.i) log_len l.out;
   kept : IsKeptOutside first_entry log_len l.initial.out l.out;
   bytes : AreBytes l.out;
 }

@@ -1,6 +1,6 @@
-use Rattle.std.proofs.Common.{◌≡◌, ◌<◌, ◌++◌, ◌∷◌, ◌+◌, [], ℕ, List, length, take, get_or, length-take, length-append, refl, sym, ap, ◌∙◌, subst, arith}
+use Rattle.std.proofs.Common.{◌≡◌, ◌<◌, ◌++◌, ◌∷◌, ◌+◌, [], ℕ, List, length, take, get_or, length-take, length-append, sym, ap, ◌∙◌, arith}
 use Rattle.std.proofs.lemmas.List.{take_more}
-use Rattle.turn_table.specs.Standings.{Place, saw}
+use Rattle.turn_table.specs.Places.{Place, saw}
 use Rattle.turn_examples.specs.declared.histories.Writer.{Writer}
 use Rattle.turn_examples.specs.declared.histories.Spot.{Spot}
 use Rattle.turn_examples.specs.Histories.{spot, spots_at}

@@ -1,5 +1,5 @@
-use Rattle.std.proofs.Common.{◌≡◌, ℕ, List, length, take}
-use Rattle.turn_table.specs.Standings.{saw}
+use Rattle.std.proofs.Common.{◌≡◌, length, take}
+use Rattle.turn_table.specs.Places.{saw}
 use Rattle.turn_examples.specs.Histories.{spots_at}
 use Rattle.turn_examples.proofs.histories.append_all.Given as goal
 

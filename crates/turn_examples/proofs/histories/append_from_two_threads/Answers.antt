@@ -1,7 +1,6 @@
-use Rattle.std.proofs.Common.{rules, ◌≡◌, ◌∷◌, [], ℕ, List, length, refl, sym, ap, ◌∙◌, subst, IfOk}
+use Rattle.std.proofs.Common.{◌≡◌, ◌∷◌, [], ℕ, List, sym, ap, ◌∙◌, subst, IfOk}
 use Rattle.turn_table.specs.Board.{opening}
-use Rattle.turn_examples.specs.declared.histories.Spot.{Spot}
-use Rattle.turn_examples.specs.Histories.{Kept, writer, StandIn, Shared, IsSettled, spots_at}
+use Rattle.turn_examples.specs.Histories.{Kept, writer}
 use Rattle.turn_examples.specs.Made.{HasMade}
 use Rattle.turn_examples.proofs.Settled.{kept_at_first, settled_first, settled_second, settled_shared}
 use Rattle.turn_examples.proofs.histories.append_from_two_threads.Goals as goal

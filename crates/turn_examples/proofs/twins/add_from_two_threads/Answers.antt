@@ -1,4 +1,4 @@
-use Rattle.std.proofs.Common.{rules, ◌≡◌, ◌∷◌, [], ℕ, List, Result, Ok, Err, IfOk, refl, sym, ap, ◌∙◌, subst}
+use Rattle.std.proofs.Common.{◌≡◌, ◌∷◌, [], ℕ, List, sym, subst}
 use Rattle.turn_table.specs.Board.{opening}
 use Rattle.turn_examples.specs.Twins.{Agrees, copies}
 use Rattle.turn_examples.proofs.Both.{agree_at_first, agree_at_last, if_ok}

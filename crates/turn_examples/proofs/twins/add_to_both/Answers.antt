@@ -1,4 +1,3 @@
-use Rattle.std.proofs.Common.{◌≡◌, ℕ}
 use Rattle.turn_examples.proofs.Both.{same_copy, first_known, gives_first, gives_second}
 use Rattle.turn_examples.proofs.twins.add_to_both.Goals as goal
 
@@ -6,7 +5,7 @@ pub prove_eq-unreachable-requires : goal.prove_eq-unreachable-requires
 prove_eq-unreachable-requires g c =
     let p = c.take_copy-first.new.party in
     c.if-prove_eq.true
-    (same_copy p.number c.take_copy-first.result c.take_copy-second.result p.own
+    (same_copy p c.take_copy-first.result c.take_copy-second.result
     (first_known c.take_copy-first.result c.take_copy-second.result 0 c.args.party.now p c.take_copy-second.new.party c.take_copy-first.ensures.party c.take_copy-second.ensures.party) c.take_copy-second.ensures.free)
 
 pub give_with-requires-clause-rule : goal.give_with-requires-clause-rule

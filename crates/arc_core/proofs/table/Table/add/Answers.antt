@@ -28,4 +28,6 @@ invariant_of-self c =
       room = omega (arith, kept.room, c.add.new.entries.ok.0, c.self.inside.entries.ok.0, ap length c.add.ensures.items, c.add.ensures.capacity, spare, more);
       passed_room = kept.passed_room;
       picked_room = kept.picked_room;
+      passed_rising = kept.passed_rising;
+      bytes = kept.bytes;
     }

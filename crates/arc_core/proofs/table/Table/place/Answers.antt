@@ -30,4 +30,6 @@ invariant_of-self c =
       room = omega (arith, kept.room, c.write.ensures.len, c.write.ensures.capacity, spare, taken);
       passed_room = kept.passed_room;
       picked_room = kept.picked_room;
+      passed_rising = kept.passed_rising;
+      bytes = kept.bytes;
     }

@@ -26,4 +26,6 @@ invariant_of-self c =
       room = omega (arith, kept.room, c.remove.new.entries.ok.0, c.self.inside.entries.ok.0, ap length c.remove.ensures.items, c.remove.ensures.capacity, spare, fewer);
       passed_room = kept.passed_room;
       picked_room = kept.picked_room;
+      passed_rising = kept.passed_rising;
+      bytes = kept.bytes;
     }

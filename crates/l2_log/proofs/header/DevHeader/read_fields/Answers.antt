@@ -33,14 +33,14 @@ pub returns : goal.returns
 returns c = record {
   whole = c.requires.front.whole;
   magic = c.requires.front.magic;
-  version = c.requires.front.version;
+  version = sym c.word_at.ensures;
   start = (c.in_ok-check_numbers.ensures 16).start refl;
-  end = sym c.word_at.ensures;
-  hand = sym c.word_at-2.ensures;
-  evict = sym c.word_at-3.ensures;
-  top = sym c.word_at-4.ensures;
-  lap = sym c.word_at-5.ensures;
-  most = (c.in_ok-check_numbers.ensures 64).most refl;
+  end = sym c.word_at-2.ensures;
+  hand = sym c.word_at-3.ensures;
+  evict = sym c.word_at-4.ensures;
+  top = sym c.word_at-5.ensures;
+  lap = sym c.word_at-6.ensures;
+  most = rw c.word_at.ensures ((c.in_ok-check_numbers.ensures 64).most refl);
   zeros = c.in_ok-check_zeros.ensures;
   newest = c.in_ok-newest.ensures;
   second = c.in_ok-second.ensures;
@@ -48,20 +48,23 @@ returns c = record {
   sealed = c.requires.sealed;
 }
 
+pub invariant_of-result-clause-versioned : goal.invariant_of-result-clause-versioned
+invariant_of-result-clause-versioned c = rw c.word_at.ensures c.requires.front.version
+
 pub invariant_of-result-clause-ends : goal.invariant_of-result-clause-ends
-invariant_of-result-clause-ends c = rw c.word_at.ensures ((c.in_ok-check_numbers.ensures 24).end refl)
+invariant_of-result-clause-ends c = rw c.word_at-2.ensures ((c.in_ok-check_numbers.ensures 24).end refl)
 
 pub invariant_of-result-clause-hand_in : goal.invariant_of-result-clause-hand_in
-invariant_of-result-clause-hand_in c = rw (c.word_at.ensures, c.word_at-2.ensures) ((c.in_ok-check_numbers.ensures 32).hand refl)
+invariant_of-result-clause-hand_in c = rw (c.word_at-2.ensures, c.word_at-3.ensures) ((c.in_ok-check_numbers.ensures 32).hand refl)
 
 pub invariant_of-result-clause-evict_in : goal.invariant_of-result-clause-evict_in
-invariant_of-result-clause-evict_in c = rw (c.word_at.ensures, c.word_at-3.ensures) ((c.in_ok-check_numbers.ensures 40).evict refl).0
+invariant_of-result-clause-evict_in c = rw (c.word_at-2.ensures, c.word_at-4.ensures) ((c.in_ok-check_numbers.ensures 40).evict refl).0
 
 pub invariant_of-result-clause-top_in : goal.invariant_of-result-clause-top_in
-invariant_of-result-clause-top_in c = rw (c.word_at.ensures, c.word_at-4.ensures) ((c.in_ok-check_numbers.ensures 48).top refl)
+invariant_of-result-clause-top_in c = rw (c.word_at-2.ensures, c.word_at-5.ensures) ((c.in_ok-check_numbers.ensures 48).top refl)
 
 pub invariant_of-result-clause-order : goal.invariant_of-result-clause-order
-invariant_of-result-clause-order c = rw (c.word_at-2.ensures, c.word_at-3.ensures) ((c.in_ok-check_numbers.ensures 40).evict refl).1
+invariant_of-result-clause-order c = rw (c.word_at-3.ensures, c.word_at-4.ensures) ((c.in_ok-check_numbers.ensures 40).evict refl).1
 
 pub invariant_of-result-clause-lapped : goal.invariant_of-result-clause-lapped
-invariant_of-result-clause-lapped c = rw c.word_at-5.ensures ((c.in_ok-check_numbers.ensures 56).lap refl)
+invariant_of-result-clause-lapped c = rw c.word_at-6.ensures ((c.in_ok-check_numbers.ensures 56).lap refl)

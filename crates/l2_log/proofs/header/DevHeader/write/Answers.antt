@@ -23,7 +23,7 @@ returns-clause-spelled c =
       evict = numbers 5 (omega arith);
       top = numbers 6 (omega arith);
       lap = numbers 7 (omega arith);
-      most = numbers 8 (omega arith);
+      most = numbers 8 (omega arith) ∙ c.most_of.ensures;
       zeros = kept_zeros 72 128 ke (omega arith) (kept_zeros 72 128 kd (omega arith) (kept_zeros 72 128 kb (omega arith)
           (kept_zeros_behind 72 128 ka (omega arith) (λ k ge lt. c.clear.ensures k (omega arith) (omega arith)))));
       newest = kept_pointer 128 _ ke (omega arith) (kept_pointer 128 _ kd (omega arith) c.put_pointer.ensures.ptr);

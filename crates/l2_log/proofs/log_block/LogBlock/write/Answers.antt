@@ -10,15 +10,16 @@ returns-clause-spelled c =
     let ka = c.put_words.ensures.kept in
     let kb = c.put_pointer.ensures.kept in
     let ke = c.put_entries.ensures.kept in
-    let numbers = λ (i : ℕ) (lt : i < 3).
+    let numbers = λ (i : ℕ) (lt : i < 4).
     kept_word (8 * i) _ ke (omega arith) (kept_word (8 * i) _ kb (omega arith) (c.put_words.ensures.words i lt)) in
     record {
       whole = omega arith;
       magic = numbers 0 (omega arith);
       lap = numbers 1 (omega arith);
       count = numbers 2 (omega arith) ∙ ap (λ (es : List Entry). length es) c.as_slice-entries.ensures.entries;
-      zeros = kept_zeros 24 64 ke (omega arith) (kept_zeros 24 64 kb (omega arith)
-          (kept_zeros_behind 24 64 ka (omega arith) (λ k ge lt. c.clear.ensures k (omega arith) (omega arith))));
+      version = numbers 3 (omega arith) ∙ c.stored_of.ensures;
+      zeros = kept_zeros 32 64 ke (omega arith) (kept_zeros 32 64 kb (omega arith)
+          (kept_zeros_behind 32 64 ka (omega arith) (λ k ge lt. c.clear.ensures k (omega arith) (omega arith))));
       prev = kept_pointer 64 _ ke (omega arith) c.put_pointer.ensures.ptr;
       entries = rw c.as_slice-entries.ensures.entries at c.put_entries.ensures.entries;
       zeros_behind = rw c.as_slice-entries.ensures.entries at c.put_entries.ensures.zeros;

@@ -1,6 +1,6 @@
 use Rattle.std.proofs.Common.{rules, ◌≡◌, ◌<◌, ℕ, [], length, sym, ap, ◌∙◌, subst, inl, inr, ⊎_elim}
 use Rattle.std.specs.Slots.{slots_items, slots_counts}
-use Rattle.turn_table.specs.Standings.{Row, Place, AreFree, SomeHas, HasNumber, ShowAll, Shows}
+use Rattle.turn_table.specs.Places.{Row, Place, AreFree, SomeHas, HasNumber, ShowAll, Shows}
 use Rattle.turn_table.proofs.turns.Turns.close.Given.{Over}
 use Rattle.turn_table.proofs.Ending.{nothing_left, free_last, has_last, show_last, ended, ended_as, Ended, length_some}
 use Rattle.turn_table.proofs.turns.Turns.close.Goals as goal
@@ -14,11 +14,11 @@ unreachable-requires g c =
 
 pub gather-requires-clause-row : goal.gather-requires-clause-row
 gather-requires-clause-row g c =
-    let f = free_last c.args.self.table c.pop.new.self.items c.in-Some.party (subst (AreFree c.args.self.table) c.in-Some.ensures.items c.requires.free) in (f.1, f.2)
+    let f = free_last c.args.self c.pop.new.self.items c.in-Some.party (subst (AreFree c.args.self) c.in-Some.ensures.items c.requires.free) in (f.1, f.2)
 
 pub gather-requires-clause-others : goal.gather-requires-clause-others
 gather-requires-clause-others g c =
-    let f = free_last c.args.self.table c.pop.new.self.items c.in-Some.party (subst (AreFree c.args.self.table) c.in-Some.ensures.items c.requires.free) in f.0
+    let f = free_last c.args.self c.pop.new.self.items c.in-Some.party (subst (AreFree c.args.self) c.in-Some.ensures.items c.requires.free) in f.0
 
 -- one party has taken in all others, and the table was closed with it
 finished : (g : Over) (c : After-close_with-closed g) → Ended g.R.TurnRule.holds c.into_table.result.shared.key.parties c.into_seat.result.me.0 (slots_items c.close_with-closed.result.slots)

@@ -1,5 +1,5 @@
 use Rattle.std.proofs.Common.{◌<◌, ◌≤◌, ℕ, [], ◌∷◌, ◌++◌, arith, ap, ◌∙◌}
-use Rattle.turn_table.specs.Standings.{newcomer}
+use Rattle.turn_table.specs.Places.{newcomer}
 use Rattle.turn_table.proofs.Beginning.{deal_last, deal_stays, deal_goes, newcomers_next, dealt}
 use Rattle.turn_table.proofs.turns.Turns.deal.Goals as goal
 

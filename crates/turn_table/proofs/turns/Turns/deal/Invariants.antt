@@ -1,5 +1,6 @@
 use Rattle.std.proofs.Common.{◌≡◌, ◌-◌}
-use Rattle.turn_table.specs.Standings.{newcomers, whole_place}
+use Rattle.turn_table.specs.Places.{newcomers}
+use Rattle.turn_table.specs.Standings.{whole_place}
 use Rattle.turn_table.proofs.turns.Turns.deal.Given as goal
 
 abbrev pub invariant-loop-number : goal.invariant-loop-number

@@ -1,7 +1,10 @@
 use Rattle.std.proofs.Common.{rules, ◌≡◌, ◌<◌, ◌∷◌, Some, sym, ap, ◌∙◌, subst}
+use Rattle.atomic_table.specs.Seated.{TableId}
 use Rattle.atomic_table.specs.Table.{rest}
-use Rattle.turn_table.specs.Board.{IsAmong, MayGive}
-use Rattle.turn_table.specs.Standings.{Place, IsParty}
+use Rattle.turn_table.specs.Board.{IsAmong}
+use Rattle.turn_table.specs.Places.{Place}
+use Rattle.turn_table.specs.Moments.{MayGive}
+use Rattle.turn_table.specs.Standings.{place_of, IsParty}
 use Rattle.turn_table.specs.declared.standing.Standing.{Standing}
 use Rattle.turn_table.proofs.Rows.{below_at}
 use Rattle.turn_table.proofs.Moves.{brings, gives_back}
@@ -32,13 +35,14 @@ store-requires g c =
     let table_at : c.party.inside.seat.table_id ≡ c.self.inside.table.shared.table_id = search rules in
     let swapped_at : c.exchange-empty.new.seat.table_id ≡ c.party.inside.seat.table_id = c.exchange-empty.ensures.0 ∙ c.load.ensures.0 in
     let near_words : c.args.i < c.self.inside.table.shared.table_id.words = subst (λ z. c.args.i < z.words) table_at (below_at c.party.inside.seat.table_id.words c.args.i _ p.below among) in
-    let may : MayGive g.R.TurnRule.holds x.number c.args.i c.args.value x.own rule.0 = subst (λ (v : Place g.row.R-View.Denot). MayGive g.R.TurnRule.holds v.number c.args.i c.args.value v.own rule.0) (sym c.party.view_is) rule.2 in (
+    let z : TableId = c.party.inside.seat.table_id in
+    let may : MayGive g.R.TurnRule.holds (place_of z x) c.args.i c.args.value rule.0 = subst (λ (v : Place g.row.R-View.Denot). MayGive g.R.TurnRule.holds v c.args.i c.args.value rule.0) (sym c.party.view_is) rule.2 in (
       swapped_at ∙ table_at,
       near_words,
-      gives_back _ _ _ c.args.i c.exchange-empty.new.seat.id c.exchange-empty.new.seat.me c.args.value rule.0 g.N.Next.next out rule.1
+      gives_back _ _ _ c.args.i c.exchange-empty.new.seat.id z c.exchange-empty.new.seat.me c.args.value rule.0 g.N.Next.next out rule.1
           (ap (λ (y : Standing g.row.R-View.Denot). y.live) one ∙ p.live)
           (subst (λ (y : Standing g.row.R-View.Denot). IsAmong c.args.i y.held) (sym one) among)
-          (subst (λ (y : Standing g.row.R-View.Denot). MayGive g.R.TurnRule.holds y.number c.args.i c.args.value y.own rule.0) (sym one) may),
+          (subst (λ (y : Standing g.row.R-View.Denot). MayGive g.R.TurnRule.holds (place_of z y) c.args.i c.args.value rule.0) (sym one) may),
     )
 
 pub invariant_of-party : goal.invariant_of-party

@@ -1,5 +1,5 @@
 use Rattle.std.proofs.Common.{rules, ◌≡◌, ◌<◌, ℕ, [], sym, ap, ◌∙◌, subst}
-use Rattle.turn_table.specs.Standings.{Place, IsLast}
+use Rattle.turn_table.specs.Places.{Place, IsLast}
 use Rattle.turn_table.specs.declared.standing.Standing.{Standing}
 use Rattle.turn_table.proofs.Seats.{parts, some_last}
 use Rattle.turn_table.proofs.turns.Turns.part.Goals as goal

@@ -1,7 +1,9 @@
 use Rattle.std.proofs.Common.{rules, ◌≡◌, ◌≢◌, ◌<◌, ◌+◌, ◌-◌, ◌∷◌, ℕ, suc, arith, Some, sym, ap, ◌∙◌, subst}
 use Rattle.atomic_table.specs.Table.{rest}
 use Rattle.turn_table.specs.Board.{IsAmong}
-use Rattle.turn_table.specs.Standings.{Row, Place, IsParty, Apart}
+use Rattle.turn_table.specs.Places.{Row, Place, Apart, IsOther}
+use Rattle.turn_table.specs.Moments.{WasTaken}
+use Rattle.turn_table.specs.Standings.{IsParty}
 use Rattle.turn_table.proofs.Moves.{tries}
 use Rattle.turn_table.proofs.Parties.{is_seeing}
 use Rattle.turn_table.proofs.turns.Turns.try_take.Goals as goal
@@ -27,7 +29,7 @@ before_suc n h = omega arith
 pub overflow_cast-result : goal.overflow_cast-result
 overflow_cast-result g c =
     let h = c.compare_exchange-found.ensures.2.1 (c.compare_exchange-found.result - 1) (before_suc c.compare_exchange-found.result c.if-found-ne0.true) in
-    let below = h.1 in
+    let below = (h.0 c.party.inside.seat.table_id).other.0 in
     let few = c.party.invariant.parties in
     omega arith
 
@@ -35,13 +37,20 @@ pub invariant_of-party : goal.invariant_of-party
 invariant_of-party g c =
     let h = c.compare_exchange-found.ensures.2.1 (c.compare_exchange-found.result - 1) (before_suc c.compare_exchange-found.result c.if-found-ne0.true) in
     subst (λ z. IsParty c.party.inside.number z.words c.compare_exchange-found.new.seat.me) (sym c.compare_exchange-found.ensures.0)
-    (is_seeing c.party.inside.number c.party.inside.seat.table_id.words c.party.inside.seat.me c.compare_exchange-found.new.seat.me _ c.party.invariant h.4)
+    (is_seeing c.party.inside.number c.party.inside.seat.table_id.words c.party.inside.seat.me c.compare_exchange-found.new.seat.me _ c.party.invariant h.1)
+
+pub returns-then-found-ne0-clause-busy : goal.returns-then-found-ne0-clause-busy
+returns-then-found-ne0-clause-busy g c =
+    let m : ℕ = c.compare_exchange-found.result - 1 in
+    let h = c.compare_exchange-found.ensures.2.1 m (before_suc c.compare_exchange-found.result c.if-found-ne0.true) in
+    (subst (λ (v : Place g.row.R-View.Denot). WasTaken g.R.TurnRule.holds v c.args.i m) c.party.view_is (h.0 c.party.inside.seat.table_id), search rules)
 
 pub returns-then-found-ne0-clause-owner : goal.returns-then-found-ne0-clause-owner
 returns-then-found-ne0-clause-owner g c =
     let m : ℕ = c.compare_exchange-found.result - 1 in
     let h = c.compare_exchange-found.ensures.2.1 m (before_suc c.compare_exchange-found.result c.if-found-ne0.true) in
-    subst (λ (v : Place g.row.R-View.Denot). (m < v.parties) × (m ≢ v.number) × Apart m v.joined) c.party.view_is (h.1, h.2, h.3)
+    let o = (h.0 c.party.inside.seat.table_id).other in
+    subst (λ (k : ℕ). (m < k) × (m ≢ c.args.party.now.number) × Apart m c.args.party.now.joined) c.requires.row.1 (subst (λ (v : Place g.row.R-View.Denot). IsOther m v) c.party.view_is o)
 
 pub exchange-requires : goal.exchange-requires
 exchange-requires g c =

@@ -1,0 +1,23 @@
+use Rattle.std.proofs.Common.{◌≤◌, ◌<◌, IsTrue, refl, sym, ap, subst, ◌∙◌, arith}
+use Rattle.arc_core.specs.declared.event.Event.TheVariants.{Pass}
+use Rattle.arc_core.specs.Changes.{with_none_passed}
+use Rattle.arc_core.specs.Step.{legal}
+use Rattle.arc_core.proofs.Making.{made}
+use Rattle.arc_core.proofs.Owing.{owed-after}
+use Rattle.arc_core.proofs.shard.Shard.pass.Goals as goal
+
+pub pass-requires-clause-room : goal.pass-requires-clause-room
+pass-requires-clause-room c =
+    let s = c.self.inside in
+    let room : 1 ≤ s.spare_events = subst (λ l. 1 ≤ l.event_room) (sym c.self.view_is) c.requires.room.events in
+    omega (arith, room, c.self.invariant.marks)
+
+pub invariant_of-self : goal.invariant_of-self
+invariant_of-self c =
+    let s = c.self.inside in
+    let e = Pass c.args.n c.args.key c.args.owner in
+    let ok : IsTrue (legal s.table.shard e) = subst (λ l. IsTrue (legal l.now e)) (sym c.self.view_is) c.requires.legal in
+    let room : 1 ≤ s.spare_events = subst (λ l. 1 ≤ l.event_room) (sym c.self.view_is) c.requires.room.events in
+    let step = ap (λ t. t.shard) c.pass.ensures in
+    let marks = ap (λ t. t.marks) c.pass.ensures in
+    made s _ e c.self.invariant ok step refl c.append.ensures.items c.append.ensures.len c.append.ensures.capacity (omega (arith, room)) (omega (arith, marks, c.self.invariant.marks, room))

@@ -1,0 +1,23 @@
+use Rattle.std.proofs.Common.{◌≤◌, ◌<◌, IsTrue, refl, sym, ap, subst, ◌∙◌, arith}
+use Rattle.arc_core.specs.declared.event.Event.TheVariants.{Set}
+use Rattle.arc_core.specs.Changes.{with_none_passed}
+use Rattle.arc_core.specs.Step.{legal}
+use Rattle.arc_core.proofs.Making.{made}
+use Rattle.arc_core.proofs.Owing.{owed-after}
+use Rattle.arc_core.proofs.shard.Shard.set.Goals as goal
+
+pub append-requires : goal.append-requires
+append-requires c =
+    let s = c.self.inside in
+    let e = Set c.args.n c.args.key c.args.place in
+    let ok : IsTrue (legal s.table.shard e) = subst (λ l. IsTrue (legal l.now e)) (sym c.self.view_is) c.requires in
+    omega (arith, c.self.invariant.room, owed-after s.table.shard e c.self.invariant.replayed.sound ok)
+
+pub invariant_of-self : goal.invariant_of-self
+invariant_of-self c =
+    let s = c.self.inside in
+    let e = Set c.args.n c.args.key c.args.place in
+    let ok : IsTrue (legal s.table.shard e) = subst (λ l. IsTrue (legal l.now e)) (sym c.self.view_is) c.requires in
+    let step = ap (λ t. t.shard) c.forget_passed.ensures.now ∙ ap (λ t. with_none_passed t.shard) c.set.ensures in
+    let marks = ap (λ t. t.marks) c.forget_passed.ensures.now ∙ ap (λ t. t.marks) c.set.ensures in
+    made s _ e c.self.invariant ok step refl c.append.ensures.items c.append.ensures.len c.append.ensures.capacity (omega (arith)) (omega (arith, marks, c.self.invariant.marks))

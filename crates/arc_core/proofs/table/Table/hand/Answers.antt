@@ -1,0 +1,34 @@
+use Rattle.std.proofs.Common.{◌+◌, ◌<◌, ◌^◌, IsSome, sym, ap, subst, ◌∙◌}
+use Rattle.arc_core.specs.declared.entry.Entry.{Entry}
+use Rattle.arc_core.specs.PlainShard.{PlainShard, entry_of, held_by}
+use Rattle.arc_core.specs.Changes.{one_more}
+use Rattle.arc_core.specs.Edits.{placed}
+use Rattle.arc_core.specs.Sound.{IsSoundEntry}
+use Rattle.arc_core.proofs.Counting.{hand-count}
+use Rattle.arc_core.proofs.Legal.{hand-writes}
+use Rattle.arc_core.proofs.table.Table.hand.Goals as goal
+
+pub one_more-requires-clause-count : goal.one_more-requires-clause-count
+one_more-requires-clause-count c =
+    let s = c.args.self.now.shard in
+    subst (λ (e : Entry). held_by c.args.to e + 1 < 2 ^ 64) (sym c.one_less.ensures)
+    (hand-count c.args.n c.args.key c.args.to s c.in-Some.entry c.in-Some.ensures.tidy c.in-Some.ensures.value c.requires.legal c.requires.counts)
+
+pub place-requires-clause-there : goal.place-requires-clause-there
+place-requires-clause-there c =
+    let s = c.args.self.now.shard in
+    let is = c.one_more.ensures ∙ ap (one_more c.args.to) c.one_less.ensures in
+    subst (λ (e : Entry). IsSome (entry_of e.key s)) (sym is) (hand-writes c.args.n c.args.key c.args.to s c.in-Some.entry c.in-Some.ensures.tidy c.in-Some.ensures.value c.requires.legal).there
+
+pub place-requires-clause-sound : goal.place-requires-clause-sound
+place-requires-clause-sound c =
+    let s = c.args.self.now.shard in
+    let is = c.one_more.ensures ∙ ap (one_more c.args.to) c.one_less.ensures in
+    subst IsSoundEntry (sym is) (hand-writes c.args.n c.args.key c.args.to s c.in-Some.entry c.in-Some.ensures.tidy c.in-Some.ensures.value c.requires.legal).sound
+
+pub returns-in-Some : goal.returns-in-Some
+returns-in-Some c =
+    let s = c.args.self.now.shard in
+    let is = c.one_more.ensures ∙ ap (one_more c.args.to) c.one_less.ensures in
+    let effect = (hand-writes c.args.n c.args.key c.args.to s c.in-Some.entry c.in-Some.ensures.tidy c.in-Some.ensures.value c.requires.legal).effect in
+    c.place.ensures ∙ ap (λ (s : PlainShard). record c.args.self.now { shard = s }) (ap (λ e. placed e s) is ∙ effect)

@@ -1,0 +1,17 @@
+use Rattle.std.proofs.Common.{◌≡◌, ◌+◌, ◌<◌, ◌≤◌, ◌∷◌, [], Some, IsTrue, refl, sym, ap, subst, ◌∙◌, arith}
+use Rattle.std.proofs.lemmas.List.Sums.{sum_by-append}
+use Rattle.arc_core.specs.declared.entry.Picked.{Picked}
+use Rattle.arc_core.specs.declared.event.Event.TheVariants.{Pick}
+use Rattle.arc_core.specs.Candidate.{candidate, picked_bytes}
+use Rattle.arc_core.specs.Step.{legal}
+use Rattle.arc_core.specs.TableModel.{shard_in}
+use Rattle.arc_core.proofs.Feeding.{bytes-append, candidate-within}
+use Rattle.arc_core.proofs.Soundness.{picked-candidate}
+use Rattle.arc_core.proofs.Tables.{IsTidy-same}
+use Rattle.arc_core.proofs.table.Table.pick.Goals as goal
+
+pub overflow_add-self : goal.overflow_add-self
+overflow_add-self c =
+    let s = shard_in c.self.inside in
+    let ok : IsTrue (legal s (Pick c.args.n c.args.key)) = subst (λ t. IsTrue (legal t.shard (Pick c.args.n c.args.key))) (sym c.self.view_is) c.requires.legal in
+    omega (arith, candidate-within s c.args.key (picked-candidate s c.args.n c.args.key ok), c.self.invariant.bytes, c.self.inside.bounds.write_max)

@@ -1,0 +1,17 @@
+use Rattle.std.proofs.Common.{refl, arith}
+use Rattle.arc_core.specs.TableModel.{shard_in}
+use Rattle.arc_core.proofs.Tables.{IsTidy-same}
+use Rattle.arc_core.proofs.table.Table.settle.Goals as goal
+
+pub invariant_of-self : goal.invariant_of-self
+invariant_of-self c =
+    let kept = c.self.invariant in
+    record {
+      tidy = IsTidy-same (shard_in c.self.inside) _ refl refl kept.tidy;
+      members = kept.members;
+      room = kept.room;
+      passed_room = kept.passed_room;
+      picked_room = omega (arith, kept.picked_room, c.take_pick.ensures.len, c.take_pick.ensures.capacity);
+      passed_rising = kept.passed_rising;
+      bytes = omega (arith, kept.bytes, c.take_pick.ensures.bytes);
+    }

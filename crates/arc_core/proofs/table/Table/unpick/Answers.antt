@@ -1,0 +1,17 @@
+use Rattle.std.proofs.Common.{refl, arith}
+use Rattle.arc_core.specs.TableModel.{shard_in}
+use Rattle.arc_core.proofs.Tables.{IsTidy-same}
+use Rattle.arc_core.proofs.table.Table.unpick.Goals as goal
+
+pub invariant_of-self : goal.invariant_of-self
+invariant_of-self c =
+    let kept = c.self.invariant in
+    record {
+      tidy = IsTidy-same (shard_in c.self.inside) _ refl refl kept.tidy;
+      members = kept.members;
+      room = kept.room;
+      passed_room = omega (arith, kept.passed_room, c.clear.ensures.len, c.clear.ensures.capacity);
+      picked_room = omega (arith, kept.picked_room, c.clear-2.ensures.len, c.clear-2.ensures.capacity);
+      passed_rising = rw c.clear.ensures.items tt;
+      bytes = rw c.clear-2.ensures.items refl;
+    }

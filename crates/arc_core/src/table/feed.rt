@@ -1,0 +1,286 @@
+//! What the feed of the cache device and the scans of other parties do to a shard's table, and a new capacity.
+ghost use Rattle.std.specs.Prelude.{◌≡◌, ℕ, ◌+◌, ◌-◌, ◌*◌, ◌<◌, ◌≤◌, ◌^◌, false, length, IsTrue, IsSome, None};
+ghost use Rattle.blk_ptr.specs.declared.key.Key.{Key};
+ghost use Rattle.arc_lists.specs.Sequences.{stands, stands_on};
+ghost use Rattle.arc_lists.specs.Walks.{oldest_first};
+ghost use Rattle.arc_core.specs.declared.event.Event.{Event};
+ghost use Rattle.arc_core.specs.Candidate.{candidate, chosen, may_be_picked, walk};
+ghost use Rattle.arc_core.specs.Changes.{changed, may_have, pick_of, settled, unpicked, with_place, writing_phase};
+ghost use Rattle.blk_ptr.specs.State.{is_same_state};
+ghost use Rattle.arc_core.specs.PlainShard.{entry_is, entry_of, is_passed, no_holds};
+ghost use Rattle.arc_core.specs.Step.{cleared, effect, fitted, legal, may_set, restored_entry};
+ghost use Rattle.arc_core.specs.Rules.{resized};
+ghost use Rattle.arc_core.specs.Sound.{IsTidy};
+ghost use Rattle.arc_lists.specs.Adapting.{IsCapacity};
+
+use super::room::stands_on;
+use super::{Table, is_unheld};
+use crate::entries;
+use crate::entry::{Entry, NUMBERS, Phase, Picked};
+use blk_ptr::{Digest, Key, State};
+
+/// What an earlier run left on the cache device.
+pub fn restored_entry(key: Key, place: u64, digest: Option<Digest>) -> Entry
+    ensures { result ≡ restored_entry key place digest }
+{
+    Entry {
+        key,
+        state: State::L2Only,
+        holds: [0; NUMBERS],
+        reading: false,
+        last: 0,
+        place: Some(place),
+        digest,
+    }
+}
+
+/// The pick of a key.
+pub fn pick_of(picks: &[Picked], key: Key) -> Option<Picked>
+    ensures { result ≡ pick_of key picks.now }
+{
+    for pick in picks {
+        if pick.key == key {
+            return Some(*pick);
+        }
+    }
+    None
+}
+
+impl Table {
+    /// The pick of a key.
+    pub fn pick_of(&self, key: Key) -> Option<Picked>
+        ensures { result ≡ pick_of key self.now.shard.picked }
+    {
+        pick_of(&self.picked, key)
+    }
+
+    /// How far a feed has come.
+    pub fn phase(&self) -> Phase
+        ensures { result ≡ self.now.shard.phase }
+    {
+        self.phase
+    }
+
+    /// Whether the scan in hand has passed a key.
+    pub fn is_passed(&self, key: Key) -> bool
+        ensures { result ≡ is_passed self.now.shard key }
+    {
+        stands_on(&self.passed, key)
+    }
+
+    /// Whether a key stands on a sequence: nobody holds its entry, and its state has one.
+    pub fn stands(&self, key: Key) -> bool
+        ensures { result ≡ stands key self.now.shard.sequences }
+    {
+        match self.find(key) {
+            Some(entry) => is_unheld(&entry) && entry.has_sequence(),
+            None => false,
+        }
+    }
+
+    /// Whether a picked key may gain a place: its entry is MRU, MFU or a ghost, at rest, has the digest that it was picked with, and no
+    /// place.
+    pub fn may_set(&self, key: Key) -> bool
+        ensures { result ≡ may_set key self.now.shard }
+    {
+        match self.pick_of(key) {
+            Some(pick) => match self.find(key) {
+                Some(entry) => entry.may_be_placed(&pick),
+                None => false,
+            },
+            None => false,
+        }
+    }
+
+    // Whether the feed may pick a key.
+    fn may_be_picked(&self, key: Key) -> bool
+        ensures { result ≡ may_be_picked self.now.shard key }
+    {
+        let placed = match self.find(key) {
+            Some(entry) => entry.place.is_some(),
+            None => false,
+        };
+        !placed && self.pick_of(key).is_none() && !self.is_passed(key)
+    }
+
+    // The first key of a state's sequence, from its oldest on, that the feed may pick; it ends before the key with which the bytes met
+    // exceed the limit.
+    fn first_wanted(&self, state: State, limit: u128) -> Option<Key>
+        requires { limit + 2 ^ 64 ≤ 2 ^ 128 }
+        ensures { result ≡ walk limit 0 (may_be_picked self.now.shard) (oldest_first state self.now.shard.sequences) }
+    {
+        let mut met: u128 = 0;
+        let mut next = self.lists.oldest(state);
+        while let Some(key) = next {
+            met += u128::from(key.size);
+            if met > limit {
+                return None;
+            }
+            if self.may_be_picked(key) {
+                return Some(key);
+            }
+            next = self.lists.newer(key);
+        }
+        None
+    }
+
+    // The key that the two walks choose: over MFU first, then over MRU.
+    fn chosen(&self) -> Option<Key>
+        ensures { result ≡ chosen self.now.shard }
+    {
+        let limit = u128::from(self.bounds.write_max) * u128::from(self.bounds.headroom);
+        match self.first_wanted(State::Mfu, limit) {
+            Some(key) => Some(key),
+            None => self.first_wanted(State::Mru, limit),
+        }
+    }
+
+    /// The next key that the feed may pick.
+    pub fn candidate(&self) -> Option<Key>
+        ensures { result ≡ candidate self.now.shard }
+    {
+        let key = self.chosen()?;
+        let bytes = u128::from(self.picked_bytes) + u128::from(key.size);
+        if bytes <= u128::from(self.bounds.write_max) {
+            Some(key)
+        } else {
+            None
+        }
+    }
+
+    /// The scan in hand passes a key.
+    pub fn pass(&mut self, n: u32, key: Key, owner: u32)
+        requires room { 0 < self.old.marks }
+        requires unpassed { is_passed self.old.shard key ≡ false }
+        ensures { self.new ≡ record self.old { shard = effect self.old.shard (Event.Pass n key owner); marks = self.old.marks - 1 } }
+    {
+        entries::add_key(&mut self.passed, key);
+        self.marks -= 1;
+    }
+
+    /// The feed picks the candidate.
+    pub fn pick(&mut self, n: u32, key: Key)
+        requires room { 0 < self.old.marks }
+        requires legal { IsTrue (legal self.old.shard (Event.Pick n key)) }
+        ensures { self.new ≡ record self.old { shard = effect self.old.shard (Event.Pick n key); marks = self.old.marks - 1 } }
+    {
+        let digest = self.find(key).and_then(|entry| entry.digest);
+        entries::push_pick(&mut self.picked, Picked { key, digest });
+        self.picked_bytes += key.size;
+        self.phase = Phase::Picking;
+        self.marks -= 1;
+    }
+
+    // A feed goes on writing as long as a picked key is unsettled.
+    fn go_on_writing(&mut self)
+        ensures { self.new ≡ record self.old { shard = record self.old.shard { phase = writing_phase self.old.shard.picked } } }
+    {
+        self.phase = if self.picked.is_empty() {
+            Phase::Idle
+        } else {
+            Phase::Writing
+        };
+    }
+
+    /// The feed has picked all that it may.
+    pub fn feed_end(&mut self, n: u32)
+        ensures { self.new ≡ record self.old { shard = effect self.old.shard (Event.FeedEnd n) } }
+    {
+        self.go_on_writing();
+    }
+
+    /// A picked key leaves the picked list, and where it was the last one, the feed has ended.
+    pub fn settle(&mut self, key: Key)
+        ensures { self.new ≡ record self.old { shard = settled key self.old.shard } }
+    {
+        self.picked_bytes -= entries::take_pick(&mut self.picked, key);
+        self.go_on_writing();
+    }
+
+    // Gives the entry of a key another place on the cache device; an L2-only entry has one.
+    fn put_place(&mut self, key: Key, place: Option<u64>)
+        requires { IsTrue (entry_is (may_have place) key self.old.shard) }
+        ensures { self.new ≡ record self.old { shard = changed key (with_place place) self.old.shard } }
+    {
+        match self.find(key) {
+            Some(mut entry) => {
+                entry.place = place;
+                self.amend(entry);
+            }
+            None => {}
+        }
+    }
+
+    /// A picked key was written at a place of the cache device.
+    pub fn set(&mut self, n: u32, key: Key, place: u64)
+        requires { IsTrue (legal self.old.shard (Event.Set n key place)) }
+        ensures { self.new ≡ record self.old { shard = effect self.old.shard (Event.Set n key place) } }
+    {
+        self.put_place(key, Some(place));
+        self.settle(key);
+    }
+
+    // Whether only the cache device has a key.
+    fn is_l2_only(&self, key: Key) -> bool
+        ensures { result ≡ entry_is (λ e. is_same_state e.state State.L2Only) key self.now.shard }
+    {
+        match self.find(key) {
+            Some(entry) => matches!(entry.state, State::L2Only),
+            None => false,
+        }
+    }
+
+    /// A key loses its place; where only the cache device had it, it leaves.
+    pub fn clear(&mut self, n: u32, key: Key)
+        requires { IsTrue (legal self.old.shard (Event.Clear n key)) }
+        ensures shard { self.new.shard ≡ cleared key self.old.shard }
+        ensures spare { self.old.spare ≤ self.new.spare }
+        ensures marks { self.new.marks ≡ self.old.marks }
+    {
+        if self.is_l2_only(key) {
+            self.remove(key);
+        } else {
+            self.put_place(key, None);
+        }
+    }
+
+    /// An earlier run left a key on the cache device.
+    pub fn restore(&mut self, n: u32, key: Key, place: u64, digest: Option<Digest>)
+        requires legal { IsTrue (legal self.old.shard (Event.Restore n key place digest)) }
+        requires room { 0 < self.old.spare }
+        ensures { self.new ≡ record self.old { shard = effect self.old.shard (Event.Restore n key place digest); spare = self.old.spare - 1 } }
+    {
+        self.add(restored_entry(key, place, digest));
+    }
+
+    /// The table gets a new capacity: blocks are evicted and ghosts dropped as far as it asks.
+    pub fn resize(&mut self, c: u64)
+        requires { IsCapacity c }
+        ensures shard { self.new.shard ≡ fitted (resized c self.old.shard) }
+        ensures spare { self.old.spare ≤ self.new.spare }
+        ensures marks { self.new.marks ≡ self.old.marks }
+    {
+        self.set_capacity(c);
+        self.make_room(0);
+        self.trim();
+    }
+
+    // Gives the lists a new capacity.
+    fn set_capacity(&mut self, c: u64)
+        requires { IsCapacity c }
+        ensures { self.new ≡ record self.old { shard = resized c self.old.shard } }
+    {
+        self.lists.resize(c);
+    }
+
+    /// There is no feed and no passed key.
+    pub fn unpick(&mut self)
+        ensures now { self.new ≡ record self.old { shard = unpicked self.old.shard } }
+        ensures tidy { IsTidy self.new.shard }
+    {
+        self.passed.clear();
+        self.picked.clear();
+        self.picked_bytes = 0;
+        self.phase = Phase::Idle;
+    }
+}

@@ -1,0 +1,9 @@
+pub mod Bounding
+pub mod Counting
+pub mod Directories
+pub mod Indexing
+pub mod Keeping
+pub mod Placing
+pub mod Roomy
+pub mod Steps
+pub mod TextLemmas

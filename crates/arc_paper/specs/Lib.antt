@@ -1,0 +1,10 @@
+pub mod Arc
+pub mod Bounds
+pub mod Cache
+pub mod Directory
+pub mod Indexed
+pub mod Kept
+pub mod Pages
+pub mod Queues
+pub mod Stepping
+pub mod Text

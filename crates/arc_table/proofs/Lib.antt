@@ -1,0 +1,12 @@
+pub mod Begun
+pub mod Appending
+pub mod Boards
+pub mod CellGives
+pub mod Ranges
+pub mod Bookings
+pub mod PassMines
+pub mod ShardGives
+pub mod BookedAfter
+pub mod Ends
+pub mod Rows
+pub mod HandHeads

@@ -1,0 +1,97 @@
+-- Lists read by place, functions changed at a number, tables of numbers, and what was seen of histories.
+use Rattle.std.proofs.Common.{◌≡◌, ◌≢◌, ◌⊎◌, ◌==◌, if◌then◌else◌, ℕ, zero, suc, ◌<◌, List, [], ◌∷◌, ◌++◌, length, true, false, Some, refl, sym, ap, ◌∙◌, subst, inl, inr, ⊎_elim, eq-eqb, ne_eqb, arith}
+use Rattle.std.specs.Prelude.{nat_lt}
+use mathlib.Core.Option.{some, some-injective, some-ne-none}
+use mathlib.Core.List.{append_assoc, append-nil}
+use mathlib.Core.Logic.{dite}
+use native.Mathlib.Decide.{ℕ_discrete}
+use lib.ListN.{get_elem?}
+use Rattle.arc_table.specs.Fronts.{with_at, item_at, without_item, list_at, front_of, put, seen_by_both, StartsWith}
+
+module _ {A : Type 0} where
+  pub within : (l : List A) (i : ℕ) (a : A) → get_elem? l i ≡ some a → i < length l
+  within [] i a e = absurd (some-ne-none a (sym e))
+  within (x ∷ xs) zero a e = omega arith
+  within (x ∷ xs) (suc i) a e = let h = within xs i a e in omega arith
+
+  pub same_at : (l : List A) (i : ℕ) (a b : A) → get_elem? l i ≡ some a → get_elem? l i ≡ some b → a ≡ b
+  same_at l i a b e f = some-injective a b (sym e ∙ f)
+
+  pub there : (l : List A) (i : ℕ) → i < length l → (a : A) × (get_elem? l i ≡ some a)
+  there [] i h = absurd (omega arith)
+  there (x ∷ xs) zero h = (x, refl)
+  there (x ∷ xs) (suc i) h = there xs i (omega arith)
+
+  -- what stands in the front or the rest of a list
+  pub get_front : (l m : List A) (i : ℕ) (a : A) → get_elem? l i ≡ some a → get_elem? (l ++ m) i ≡ some a
+  get_front [] m i a e = absurd (some-ne-none a (sym e))
+  get_front (x ∷ xs) m zero a e = e
+  get_front (x ∷ xs) m (suc i) a e = get_front xs m i a e
+
+  pub get_last : (l : List A) (a : A) → get_elem? (l ++ a ∷ []) (length l) ≡ some a
+  get_last [] a = refl
+  get_last (x ∷ xs) a = get_last xs a
+
+  pub get_more : (l : List A) (a b : A) (i : ℕ) → get_elem? (l ++ a ∷ []) i ≡ some b → (get_elem? l i ≡ some b) ⊎ ((i ≡ length l) × (a ≡ b))
+  get_more [] a b zero e = inr (refl, some-injective a b e)
+  get_more [] a b (suc i) e = absurd (some-ne-none b (sym e))
+  get_more (x ∷ xs) a b zero e = inl e
+  get_more (x ∷ xs) a b (suc i) e = ⊎_elim inl (λ p. inr (ap suc p.0, p.1)) (get_more xs a b i e)
+
+  -- a function changed at a number
+  pub at_here : (f : ℕ → A) (n : ℕ) (x : A) → with_at f n x n ≡ x
+  at_here f n x = subst (λ b. (if b then x else f n) ≡ x) (sym (eq-eqb n n refl)) refl
+
+  pub at_else : (f : ℕ → A) (n m : ℕ) (x : A) → m ≢ n → with_at f n x m ≡ f m
+  at_else f n m x h = subst (λ b. (if b then x else f m) ≡ f m) (sym (ne_eqb m n h)) refl
+
+  -- a table of numbers
+  pub item_here : (i : ℕ) (x : A) (ps : List (ℕ × A)) → item_at i ((i, x) ∷ ps) ≡ Some x
+  item_here i x ps = subst (λ b. (if b then Some x else item_at i ps) ≡ Some x) (sym (eq-eqb i i refl)) refl
+
+  pub item_else : (i j : ℕ) (x : A) (ps : List (ℕ × A)) → j ≢ i → item_at j ((i, x) ∷ ps) ≡ item_at j ps
+  item_else i j x ps h = subst (λ b. (if b then Some x else item_at j ps) ≡ item_at j ps) (sym (ne_eqb j i h)) refl
+
+  pub list_here : (i : ℕ) (x : List A) (ps : List (ℕ × List A)) → list_at i ((i, x) ∷ ps) ≡ x
+  list_here i x ps = subst (λ b. (if b then x else list_at i ps) ≡ x) (sym (eq-eqb i i refl)) refl
+
+  pub list_else : (i j : ℕ) (x : List A) (ps : List (ℕ × List A)) → j ≢ i → list_at j ((i, x) ∷ ps) ≡ list_at j ps
+  list_else i j x ps h = subst (λ b. (if b then x else list_at j ps) ≡ list_at j ps) (sym (ne_eqb j i h)) refl
+
+  pub without_else : (i j : ℕ) (ps : List (ℕ × A)) → j ≢ i → item_at j (without_item i ps) ≡ item_at j ps
+  without_else i j [] h = refl
+  without_else i j (p ∷ ps) h = dite (ℕ_discrete i p.0)
+      (λ q. subst (λ b. item_at j (if b then without_item i ps else (p ∷ without_item i ps)) ≡ item_at j (p ∷ ps)) (sym (eq-eqb i p.0 q))
+      (without_else i j ps h ∙ sym (subst (λ b. (if b then Some p.1 else item_at j ps) ≡ item_at j ps) (sym (ne_eqb j p.0 (λ e. h (e ∙ sym q)))) refl)))
+      (λ q. subst (λ b. item_at j (if b then without_item i ps else (p ∷ without_item i ps)) ≡ item_at j (p ∷ ps)) (sym (ne_eqb i p.0 q))
+      (λ k. if j == p.0 then Some p.1 else without_else i j ps h k))
+
+  -- what was seen of histories
+  pub front_here : (i : ℕ) (h : List A) (s : List (List A)) → front_of i (put i h s) ≡ h
+  front_here zero h [] = refl
+  front_here zero h (x ∷ xs) = refl
+  front_here (suc i) h [] = front_here i h []
+  front_here (suc i) h (x ∷ xs) = front_here i h xs
+
+  pub front_else : (i j : ℕ) (h : List A) (s : List (List A)) → j ≢ i → front_of j (put i h s) ≡ front_of j s
+  front_else zero zero h s n = absurd (n refl)
+  front_else zero (suc j) h [] n = refl
+  front_else zero (suc j) h (x ∷ xs) n = refl
+  front_else (suc i) zero h [] n = refl
+  front_else (suc i) zero h (x ∷ xs) n = refl
+  front_else (suc i) (suc j) h [] n = front_else i j h [] (λ e. n (ap suc e))
+  front_else (suc i) (suc j) h (x ∷ xs) n = front_else i j h xs (λ e. n (ap suc e))
+
+  -- the front after two have told each other is one of theirs
+  pub front_both : (i : ℕ) (a b : List (List A)) → (front_of i (seen_by_both a b) ≡ front_of i a) ⊎ (front_of i (seen_by_both a b) ≡ front_of i b)
+  front_both i [] b = inr refl
+  front_both i (x ∷ xs) [] = inl refl
+  front_both zero (x ∷ xs) (y ∷ ys) = elim (nat_lt (length x) (length y)) as (λ t. ((if t then y else x) ≡ x) ⊎ ((if t then y else x) ≡ y)) [ true ↦ inr refl | false ↦ inl refl ]
+  front_both (suc i) (x ∷ xs) (y ∷ ys) = front_both i xs ys
+
+  -- a history that grows begins with what it began with
+  pub starts_whole : (h : List A) → StartsWith h h
+  starts_whole h = ([], sym (append-nil h))
+
+  pub starts_more : (h front more : List A) → StartsWith h front → StartsWith (h ++ more) front
+  starts_more h front more s = (s.0 ++ more, ap (λ l. l ++ more) s.1 ∙ append_assoc front s.0 more)

@@ -1,0 +1,82 @@
+//! How a cache ends.
+ghost use Rattle.std.specs.Prelude.{◌≡◌, ◌++◌, ◌+◌, ◌≤◌, ℕ, ◌<◌, length, IfOk, vec_len, vec_capacity};
+ghost use Rattle.turn_table.specs.Places.{SomeHas};
+ghost use Rattle.arc_table.specs.Ended.{AreAtRest, Ends, cells_in, shards_in};
+ghost use Rattle.arc_table.specs.Geometry.{parties_of};
+ghost use Rattle.arc_table.specs.Items.{meanings};
+
+use crate::arcs::{Arcs, Party};
+use crate::item::Item;
+use arc_core::{Keeps, Shard};
+use blk_ptr::NoMemory;
+use std::marker::Model;
+
+/// What the turns of a cache had at its end: its shards with their whole histories, and its cells. `Arcs::close` alone makes one.
+/// Contracts see both lists.
+#[derive(Drop)]
+pub struct Closed<C> {
+    shards: Vec<Shard>,
+    cells: Vec<C>,
+}
+
+impl<C> Model for Closed<C> {
+    ghost use Rattle.arc_table.specs.Ended.{Ended};
+
+    ghost Value = { Ended C };
+
+    ghost view = { λ c. record { shards = c.shards.items; cells = c.cells.items } };
+}
+
+impl<C> Closed<C> {
+    /// The shards, by their numbers.
+    pub fn shards(&self) -> &[Shard]
+        ensures { result.now ≡ self.now.shards }
+    {
+        &self.shards
+    }
+
+    /// The cells, by their numbers.
+    pub fn cells(&self) -> &[C]
+        ensures { result.now ≡ self.now.cells }
+    {
+        &self.cells
+    }
+}
+
+// The cells and the shards among these values, in their order.
+fn sort_out<C: Drop>(values: Vec<Item<C>>, cells: &mut Vec<C>, shards: &mut Vec<Shard>)
+    requires cells { vec_len cells.old + length (cells_in values.items) ≤ vec_capacity cells.old }
+    requires shards { vec_len shards.old + length (shards_in values.items) ≤ vec_capacity shards.old }
+    ensures cells { cells.new.items ≡ cells.old.items ++ cells_in values.items }
+    ensures shards { shards.new.items ≡ shards.old.items ++ shards_in values.items }
+{
+    for value in values {
+        match value {
+            Item::Cell(cell) => cells.push_reserved(cell),
+            Item::Bucket(bucket) => drop(bucket),
+            Item::Shard(shard) => shards.push_reserved(shard),
+        }
+    }
+}
+
+impl<C: Keeps + Drop> Arcs<C> {
+    /// The shards and the cells, once all parties are there and none holds a turn. They meet the pact, with what the parties know.
+    pub fn close(self, parties: Vec<Party<C>>) -> Result<Closed<C>, NoMemory>
+        requires rest { AreAtRest self parties.items }
+        requires all { (n : ℕ) → n < parties_of self.config → SomeHas n parties.items }
+        ensures { IfOk result (λ closed. Ends (meanings C.holds C.entries C.opening C.claims C.sound) self parties.items closed) }
+    {
+        let Arcs {
+            turns,
+            config,
+            alloc,
+        } = self;
+        let mut shards = Vec::with_capacity(alloc, config.shards as usize)?;
+        let mut cells = Vec::with_capacity(alloc, config.cells as usize)?;
+        let Ok(values) = turns.close(parties) else {
+            return Err(NoMemory);
+        };
+        sort_out(values, &mut cells, &mut shards);
+        Ok(Closed { shards, cells })
+    }
+}

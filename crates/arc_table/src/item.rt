@@ -1,0 +1,42 @@
+//! What lies behind a turn.
+ghost use Rattle.std.specs.Prelude.{◌≡◌};
+ghost use Rattle.hash_chain.specs.Chain.{Chain};
+
+use arc_core::Shard;
+use hash_chain::Bucket;
+
+/// What lies behind a turn: a cell of the layer above, the headers of a bucket, or a shard with its history.
+#[derive(Drop)]
+pub enum Item<C> {
+    Cell(C),
+    Bucket(Bucket),
+    Shard(Shard),
+}
+
+impl<C> Item<C> {
+    ghost use Rattle.arc_table.specs.declared.item.Item.TheVariants as item;
+
+    // The cell, where it is one.
+    pub(crate) fn into_cell(self) -> C
+        requires { (cell : C) × (self ≡ item.Cell cell) }
+        ensures { self ≡ item.Cell result }
+    {
+        match self {
+            Item::Cell(cell) => cell,
+            Item::Bucket(_) => unreachable!(),
+            Item::Shard(_) => unreachable!(),
+        }
+    }
+
+    // The bucket, where it is one.
+    pub(crate) fn into_bucket(self) -> Bucket
+        requires { (bucket : Chain) × (self ≡ item.Bucket bucket) }
+        ensures { self ≡ item.Bucket result }
+    {
+        match self {
+            Item::Bucket(bucket) => bucket,
+            Item::Cell(_) => unreachable!(),
+            Item::Shard(_) => unreachable!(),
+        }
+    }
+}

@@ -1,0 +1,118 @@
+//! A bucket of headers, one a key.
+ghost use Rattle.std.specs.Prelude.{◌≡◌, ◌+◌, ◌-◌, ◌<◌, [], ◌∷◌, ◌++◌, length, max, slice_get, slice_set, Some, None, IfSome, IfNone, OnOk, OnErr};
+ghost use Rattle.std.specs.List.{position};
+ghost use Rattle.hash_chain.specs.Chain.{header_at, IsWith};
+ghost use Rattle.hash_chain.specs.Kept.{is_key};
+
+use crate::header::Header;
+use blk_ptr::{Key, NoMemory};
+use std::alloc::Global;
+use std::marker::Model;
+
+/// The headers of the keys that fall into one bucket. Contracts see a finite map by key. The keys lie side by side, so that a search reads nothing else.
+#[derive(Debug, Drop)]
+pub struct Bucket {
+    keys: Vec<Key>,
+    headers: Vec<Header>,
+    spare: usize,
+}
+
+impl Model for Bucket {
+    ghost use Rattle.std.specs.Prelude.{◌≡◌, ◌+◌, ◌≤◌, vec_len, vec_capacity};
+    ghost use Rattle.hash_chain.specs.Chain.{Chain};
+    ghost use Rattle.hash_chain.specs.Kept.{keys_of, AreOnce};
+
+    ghost Value = { Chain };
+
+    ghost view = { λ b. record { headers = b.headers.items; spare = b.spare } };
+
+    ghost invariant = { λ b. (b.keys.items ≡ keys_of b.headers.items) × AreOnce b.headers.items
+        × (vec_len b.keys + b.spare ≤ vec_capacity b.keys) × (vec_len b.headers + b.spare ≤ vec_capacity b.headers) };
+}
+
+// Where a key stands.
+fn place_of(keys: &[Key], key: Key) -> Option<usize>
+    ensures { result ≡ position (is_key key) keys.now }
+{
+    keys.iter().position(|k| *k == key)
+}
+
+impl Bucket {
+    /// An empty bucket.
+    pub fn new(alloc: Global) -> Bucket
+        ensures { result ≡ record { headers = []; spare = 0 } }
+    {
+        Bucket {
+            keys: Vec::new(alloc),
+            headers: Vec::new(alloc),
+            spare: 0,
+        }
+    }
+
+    /// Where the header of this key stands, until a header is removed.
+    pub fn find(&self, key: Key) -> Option<usize>
+        ensures found { IfSome result (λ i. (i < length self.now.headers) × (header_at key self.now.headers ≡ slice_get self.now.headers i)) }
+        ensures key { IfSome result (λ i. IfSome (slice_get self.now.headers i) (λ h. h.key ≡ key)) }
+        ensures absent { IfNone result (header_at key self.now.headers ≡ None) }
+    {
+        place_of(&self.keys, key)
+    }
+
+    /// The header at `i`.
+    pub fn at(&self, i: usize) -> &Header
+        requires { i < length self.now.headers }
+        ensures place { slice_get self.now.headers i ≡ Some result.now }
+        ensures map { header_at result.now.key self.now.headers ≡ Some result.now }
+    {
+        &self.headers[i]
+    }
+
+    /// Makes room for `n` more headers. After want of memory the bucket is as before.
+    pub fn reserve(&mut self, n: usize) -> Result<(), NoMemory>
+        ensures headers { self.new.headers ≡ self.old.headers }
+        ensures ok { OnOk result (self.new.spare ≡ max self.old.spare n) }
+        ensures err { OnErr result (self.new ≡ self.old) }
+    {
+        if n <= self.spare {
+            return Ok(());
+        }
+        self.keys.reserve(n)?;
+        self.headers.reserve(n)?;
+        self.spare = n;
+        Ok(())
+    }
+
+    /// Adds the header of a key that has none.
+    pub fn add(&mut self, header: Header)
+        requires room { 0 < self.old.spare }
+        requires absent { header_at header.key self.old.headers ≡ None }
+        ensures headers { self.new ≡ record { headers = self.old.headers ++ header ∷ []; spare = self.old.spare - 1 } }
+        ensures map { IsWith header.key (Some header) self.old.headers self.new.headers }
+    {
+        self.keys.push_reserved(header.key);
+        self.headers.push_reserved(header);
+        self.spare -= 1;
+    }
+
+    /// Takes the header at `i` out. The last one takes its place.
+    pub fn remove(&mut self, i: usize) -> Header
+        requires { i < length self.old.headers }
+        ensures value { slice_get self.old.headers i ≡ Some result }
+        ensures map { IsWith result.key None self.old.headers self.new.headers }
+        ensures spare { self.new.spare ≡ self.old.spare + 1 }
+    {
+        self.keys.swap_remove(i);
+        self.spare += 1;
+        self.headers.swap_remove(i)
+    }
+
+    /// Puts another header of the same key at `i`.
+    pub fn change(&mut self, i: usize, header: Header)
+        requires range { i < length self.old.headers }
+        requires same { IfSome (slice_get self.old.headers i) (λ h. h.key ≡ header.key) }
+        ensures headers { self.new ≡ record self.old { headers = slice_set self.old.headers i header } }
+        ensures map { IsWith header.key (Some header) self.old.headers self.new.headers }
+    {
+        self.headers[i] = header;
+    }
+}

@@ -1,0 +1,11 @@
+//! Buckets of headers: what the shared cache keeps of a key beside its shard.
+#![tactic(auto)]
+
+mod bucket;
+mod header;
+
+pub use bucket::Bucket;
+pub use header::Header;
+
+#[cfg(test)]
+mod tests;

@@ -1,0 +1,70 @@
+// Each call once, with ample memory.
+ghost use Rattle.std.specs.Prelude.{◌≡◌};
+
+use crate::{Bucket, Header};
+use blk_ptr::{Block, Key, NoMemory, State};
+use std::sync::Arc;
+use std::test::Fail;
+
+fn key(offset: u64) -> Key
+    ensures { result ≡ record { offset = offset; size = 512; birth = 1 } }
+{
+    Key {
+        offset,
+        size: 512,
+        birth: 1,
+    }
+}
+
+fn header(offset: u64, block: Option<Arc<Block>>) -> Header
+    ensures { result.key ≡ record { offset = offset; size = 512; birth = 1 } }
+{
+    Header {
+        key: key(offset),
+        state: State::Mru,
+        reading: false,
+        place: None,
+        digest: None,
+        block,
+    }
+}
+
+// Adds a header, where its key has none.
+fn put(bucket: &mut Bucket, header: Header) -> Result<(), NoMemory> {
+    bucket.reserve(1)?;
+    if bucket.find(header.key).is_none() {
+        bucket.add(header);
+    }
+    Ok(())
+}
+
+// Puts another header in the place of its key's.
+fn replace(bucket: &mut Bucket, header: Header) {
+    if let Some(at) = bucket.find(header.key) {
+        bucket.change(at, header);
+    }
+}
+
+// The header that the key has.
+fn header_of(bucket: &Bucket, offset: u64) -> Option<&Header> {
+    let at = bucket.find(key(offset))?;
+    Some(bucket.at(at))
+}
+
+#[test]
+fn headers_are_found_by_their_keys(rt: HostRuntime) -> Result<(), Fail> {
+    let mut bucket = Bucket::new(rt.alloc());
+    assert!(rt; bucket.find(key(0)).is_none());
+    let bytes = vec![in rt.alloc(); 0u8; 512]?;
+    let block = Arc::new(rt.alloc(), Block::seal(bytes))?;
+    put(&mut bucket, header(0, None)).ok().ok_or("memory")?;
+    put(&mut bucket, header(512, None)).ok().ok_or("memory")?;
+    put(&mut bucket, header(1024, None)).ok().ok_or("memory")?;
+    let first = bucket.find(key(0)).ok_or("the first key")?;
+    let gone = bucket.remove(first);
+    assert!(rt; gone.key == key(0) && bucket.find(key(0)).is_none());
+    replace(&mut bucket, header(1024, Some(block)));
+    assert!(rt; header_of(&bucket, 1024).is_some_and(|h| h.block.is_some()));
+    assert!(rt; header_of(&bucket, 512).is_some_and(|h| h.block.is_none()));
+    Ok(())
+}

@@ -1,0 +1,4 @@
+pub mod Chains
+pub mod Indexed
+pub mod Indexes
+pub mod PlainTable

@@ -1,0 +1,18 @@
+//! The calls with ample memory, at concrete types.
+use crate::Table;
+use std::test::Fail;
+
+#[test]
+fn a_row_comes_changes_and_goes(rt: HostRuntime) -> Result<(), Fail> {
+    let mut table: Table<u64, u32> = Table::new(rt.alloc());
+    assert_eq!(rt; table.get(&7).copied(), None);
+    table.reserve(1)?;
+    table.insert(7, 70);
+    assert_eq!(rt; table.get(&7).copied(), Some(70));
+    assert_eq!(rt; table.get(&8).copied(), None);
+    assert_eq!(rt; table.set(&7, 71), 70);
+    assert_eq!(rt; table.len(), 1);
+    assert_eq!(rt; table.remove(&7), 71);
+    assert_eq!(rt; table.get(&7).copied(), None);
+    Ok(())
+}

@@ -1,0 +1,63 @@
+-- What a put keeps of every crash, from the steps of its body.
+use Rattle.std.proofs.Common.{◌≡◌, ℕ, ◌+◌, ◌<◌, ◌≤◌, ◌++◌, List, [], ◌∷◌, length, map, reverse, Bool, true, false, Option, Some, refl, inl, sym, ap, subst, ◌∙◌, arith}
+use Rattle.std.proofs.lemmas.List.{reverse-append}
+use Rattle.std.specs.List.{AllByRecursion}
+use Rattle.l2_log.specs.Rules.{header_len}
+use Rattle.l2_log.specs.declared.entry.Entry.{Entry}
+use Rattle.l2_ring.specs.declared.live.Written.{Written}
+use Rattle.l2_ring.specs.Ring.{numbers_of, with_hand}
+use Rattle.l2_dev.specs.Restoring.{written_in}
+use Rattle.l2_dev.specs.Standing.{Kept, written_of, IsRow}
+use Rattle.l2_dev.specs.Cursor.{CursorState, IsCursor, numbers_from}
+use Rattle.l2_dev.specs.Promise.{Promise, IsUpheld}
+use Rattle.l2_dev.specs.PromiseLaws.{same_plan}
+use Rattle.l2_dev.specs.Planned.{HasPushed, IsForgotten}
+use Rattle.l2_dev.specs.TornLaws.{IsAside, EntriesAside}
+use Rattle.l2_dev.specs.ListLaws.{all_unmap, all_weaker}
+use Rattle.l2_dev.specs.CallLaws.{WritesInRing, HasForgotten, HasPut}
+use Rattle.l2_dev.proofs.Cursors.{IsBetween, row_between, row_up}
+
+-- what is pending lies before the hand
+pub pending_aside : (cursor : CursorState) (p : Promise) (n : ℕ) → IsCursor cursor.ring cursor.base cursor.pending cursor.ready → IsUpheld cursor p → EntriesAside cursor.ring.hand n p.pending
+pending_aside cursor p n is up =
+    let rows : AllByRecursion (IsBetween cursor.base cursor.ring.hand) (map (written_in cursor.ring.lap) (reverse cursor.pending)) =
+    row_between cursor.base cursor.ring.hand cursor.ring.hand (map (written_in cursor.ring.lap) (reverse cursor.pending)) (omega arith) is.row in
+    all_weaker (λ (k : Kept). IsBetween cursor.base cursor.ring.hand k.written) (λ (k : Kept). IsAside cursor.ring.hand n k.written.live.place k.written.live.key.size) p.pending
+    (λ k b. inl b.to) (all_unmap (IsBetween cursor.base cursor.ring.hand) written_of p.pending (subst (λ (ws : List Written). AllByRecursion (IsBetween cursor.base cursor.ring.hand) ws) (sym up.pending) rows))
+
+pub pushed_numbers : (entry : Entry) (old new : CursorState) → HasPushed entry old new → numbers_from new ≡ numbers_from old
+pushed_numbers entry old new h = same_plan (numbers_from new) (numbers_from old) h.base h.evict h.top h.lap
+
+pub forgotten_of : (old new : CursorState) → IsForgotten old new → HasForgotten old new
+forgotten_of old new f = record {
+  end = f.end;
+  numbers = same_plan (numbers_from new) (numbers_from old) f.base f.evict f.top f.lap;
+  live = f.live;
+  newest = f.newest;
+  second = f.second;
+  pending = f.pending;
+  ready = f.ready;
+}
+
+-- the pushed entry as what is kept of it
+pub put_of : (entry : Entry) (bytes : List ℕ) (old new : CursorState) (k : Kept) → k.written ≡ written_in old.ring.lap entry → HasPushed entry old new → HasPut k old new
+put_of entry bytes old new k same h = record {
+  end = h.end;
+  numbers = pushed_numbers entry old new h;
+  lap = h.lap;
+  live = h.live;
+  newest = h.newest;
+  second = h.second;
+  ready = h.ready;
+  pending = ap (λ (es : List Entry). map (written_in old.ring.lap) (reverse es)) h.pending
+      ∙ ap (λ (es : List Entry). map (written_in old.ring.lap) es) (reverse-append old.pending (entry ∷ []))
+      ∙ ap (λ (w : Written). w ∷ map (written_in old.ring.lap) (reverse old.pending)) (sym same);
+}
+
+-- a block at the hand is written in the ring
+pub put_writes : (cursor : CursorState) (at : ℕ) (bytes : List ℕ) → IsCursor cursor.ring cursor.base cursor.pending cursor.ready → cursor.ready ≡ true → at ≡ cursor.ring.hand
+    → at + length bytes ≤ cursor.ring.evict → WritesInRing cursor at bytes
+put_writes cursor at bytes is ready place room =
+    let up = row_up cursor.base cursor.ring.hand (map (written_in cursor.ring.lap) (reverse cursor.pending)) is.row in
+    let from = is.from in
+    record { ready = ready; from = omega arith; to = room; far = omega arith }

@@ -1,0 +1,17 @@
+pub mod CallLaws
+pub mod Calls
+pub mod Chain
+pub mod ChainLaws
+pub mod CommitLaws
+pub mod Cursor
+pub mod ListLaws
+pub mod Planned
+pub mod Promise
+pub mod PromiseLaws
+pub mod RebuildLaws
+pub mod Restoring
+pub mod Standing
+pub mod StandingLaws
+pub mod StepLaws
+pub mod Steps
+pub mod TornLaws

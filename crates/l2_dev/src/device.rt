@@ -1,0 +1,112 @@
+//! The cache device: its writes, and what every crash leaves of it.
+ghost use Rattle.std.specs.Prelude.{◌≡◌, ℕ, List, ◌+◌, ◌<◌, ◌≤◌, ◌++◌, [], ◌∷◌, length, map, true, false, vec_len, vec_capacity, OnOk, OnErr, Ok, Some, IsErrOf, IfSome, MatchResult};
+ghost use Rattle.vdev_io.specs.Device.{put};
+ghost use Rattle.blk_ptr.specs.Ptr.{sha256_of};
+ghost use Rattle.l2_dev.specs.Steps.{Wrote};
+ghost use Rattle.l2_dev.specs.Calls.{HasDevCause};
+ghost use Rattle.l2_dev.specs.Planned.{HasPushed};
+ghost use Rattle.std.specs.List.{filter};
+ghost use Rattle.blk_ptr.specs.Key.{IsWellFormed};
+ghost use Rattle.l2_log.specs.Rules.{log_len, most_with, is_there};
+ghost use Rattle.l2_ring.specs.Ring.{IsRoom, IsPlanFor, last_lap};
+ghost use Rattle.l2_ring.specs.Stays.{falls, live_of};
+ghost use Rattle.l2_dev.specs.declared.fault.DevErr.TheVariants as err;
+
+use crate::cursor::Cursor;
+use crate::fault::DevErr;
+use crate::write::{write_at, write_header};
+use blk_ptr::{Block, Key};
+use l2_log::Entry;
+use l2_ring::{Live, Ring};
+use std::alloc::Global;
+use vdev_io::CacheDev;
+
+/// A device of the second level that was started.
+#[derive(Drop)]
+pub struct L2Dev<D: CacheDev> {
+    pub(crate) dev: D,
+    pub(crate) cursor: Cursor,
+    pub(crate) alloc: Global,
+}
+
+/// Writes the bytes of an entry at the hand, and adds it to what is pending.
+fn put_block<D: CacheDev>(
+    dev: &mut D,
+    cursor: &mut Cursor,
+    entry: Entry,
+    bytes: &[u8],
+) -> Result<(), DevErr>
+    requires inside { entry.place + length bytes.now ≤ D.size dev.old }
+    requires ready { cursor.old.ready ≡ true }
+    requires place { entry.place ≡ cursor.old.ring.hand }
+    requires digest { is_there entry.digest ≡ true }
+    requires room { cursor.old.ring.hand + entry.key.size + log_len ≤ cursor.old.ring.evict }
+    requires few { length cursor.old.pending < most_with true }
+    ensures wrote { Wrote D.told D.has_sectors D.may_leave D.moment D.left_since entry.place bytes.now dev.old dev.new }
+    ensures told { OnOk result (IfSome (D.told dev.old) (λ image. D.told dev.new ≡ Some (put entry.place bytes.now image))) }
+    ensures pushed { MatchResult result (λ _. HasPushed entry cursor.old cursor.new) (λ _. cursor.new ≡ cursor.old) }
+    ensures size { D.size dev.new ≡ D.size dev.old }
+    ensures cause { HasDevCause (D.faults dev.old) (D.faults dev.new) result }
+{
+    write_at(dev, entry.place, bytes)?;
+    cursor.push(entry)?;
+    Ok(())
+}
+
+impl<D: CacheDev> L2Dev<D> {
+    ghost use Rattle.l2_dev.specs.Calls.{BeginKeeps, PutKeeps};
+    ghost use Rattle.l2_dev.specs.Planned.{HasPlanned, IsForgotten};
+    ghost use Rattle.l2_dev.specs.Promise.{Promise, IsKept};
+
+    /// Takes the plan for `n` bytes, writes the header with it and flushes. What the plan drops goes to the end of
+    /// `dropped`. After [`DevErr::NoMemory`] nothing has changed; after [`DevErr::DevFault`] the plan is taken all the same.
+    pub fn begin(&mut self, n: u64, dropped: &mut Vec<Live>) -> Result<(), DevErr>
+        requires whole { self.old.cursor.ring.end ≤ D.size self.old.dev }
+        requires room { IsRoom self.old.cursor.ring n }
+        requires none { self.old.cursor.pending ≡ [] }
+        ensures size { D.size self.new.dev ≡ D.size self.old.dev }
+        ensures cause { HasDevCause (D.faults self.old.dev) (D.faults self.new.dev) result }
+        ensures refused { IsErrOf result err.NoMemory → (self.new.dev ≡ self.old.dev) × (self.new.cursor ≡ self.old.cursor) × (dropped.new.items ≡ dropped.old.items) }
+        ensures planned { (¬ IsErrOf result err.NoMemory) → HasPlanned n self.old.cursor self.new.cursor }
+        ensures dropped { (¬ IsErrOf result err.NoMemory) → (plan : _) × IsPlanFor self.old.cursor.ring n plan × (dropped.new.items ≡ dropped.old.items ++ map live_of (filter (falls plan) self.old.cursor.ring.live)) }
+        ensures ready { MatchResult result (λ _. self.new.cursor.ready ≡ true) (λ e. (e ≡ err.DevFault) → self.new.cursor.ready ≡ false) }
+        ensures crash { (p : Promise) → IsKept D.told D.has_sectors D.may_leave self.old.dev self.old.cursor p → self.new.cursor.ring.lap < last_lap
+            → BeginKeeps D.told D.has_sectors D.may_leave D.moment D.left_since self.old.dev self.new.dev self.old.cursor self.new.cursor p result }
+    {
+        dropped.reserve(self.cursor.ring().live().len())?;
+        self.cursor.plan(n, dropped);
+        let header = self.cursor.header();
+        write_header(&mut self.dev, &header)?;
+        self.cursor.open();
+        Ok(())
+    }
+
+    /// Writes the block's bytes at the hand, and answers their place. After an error nothing is pending, and the hand
+    /// stands where the last commit, or else the last begin, left it.
+    pub fn put(&mut self, key: Key, block: &Block) -> Result<u64, DevErr>
+        requires whole { self.old.cursor.ring.end ≤ D.size self.old.dev }
+        requires formed { IsWellFormed key }
+        requires sized { length block.now ≡ key.size }
+        requires ready { self.old.cursor.ready ≡ true }
+        requires room { self.old.cursor.ring.hand + key.size + log_len ≤ self.old.cursor.ring.evict }
+        requires few { length self.old.cursor.pending < most_with true }
+        ensures size { D.size self.new.dev ≡ D.size self.old.dev }
+        ensures cause { HasDevCause (D.faults self.old.dev) (D.faults self.new.dev) result }
+        ensures place { MatchResult result (λ place. place ≡ self.old.cursor.ring.hand) (λ _. IsForgotten self.old.cursor self.new.cursor) }
+        ensures pending { OnOk result ((entry : _) × (entry.key ≡ key) × (entry.place ≡ self.old.cursor.ring.hand) × (entry.digest ≡ Some (sha256_of block.now)) × HasPushed entry self.old.cursor self.new.cursor) }
+        ensures crash { (p : Promise) → IsKept D.told D.has_sectors D.may_leave self.old.dev self.old.cursor p
+            → PutKeeps D.told D.has_sectors D.may_leave D.moment D.left_since self.old.dev self.new.dev self.old.cursor self.new.cursor p key block.now result }
+    {
+        let place = self.cursor.ring().hand();
+        let entry = Entry {
+            key,
+            place,
+            digest: Some(block.digest()),
+        };
+        if let Err(fault) = put_block(&mut self.dev, &mut self.cursor, entry, block.bytes()) {
+            self.cursor.forget();
+            return Err(fault);
+        }
+        Ok(place)
+    }
+}

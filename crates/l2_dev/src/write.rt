@@ -1,0 +1,48 @@
+//! Writes of the device.
+ghost use Rattle.std.specs.Prelude.{◌≡◌, ◌+◌, ◌≤◌, ℕ, List, length, OnOk, IfSome, Some};
+ghost use Rattle.vdev_io.specs.Faults.{HasCause};
+ghost use Rattle.vdev_io.specs.Device.{put};
+ghost use Rattle.l2_log.specs.Rules.{header_len};
+ghost use Rattle.l2_dev.specs.Steps.{Wrote, HasFlushed, HeaderWritten};
+
+use l2_log::{DevHeader, HEADER_LEN};
+use vdev_io::{CacheDev, Failed};
+
+/// Writes the bytes. Until a flush a crash may leave each sector of the range old or new.
+pub(crate) fn write_at<D: CacheDev>(dev: &mut D, offset: u64, bytes: &[u8]) -> Result<(), Failed>
+    requires inside { offset + length bytes.now ≤ D.size dev.old }
+    ensures wrote { Wrote D.told D.has_sectors D.may_leave D.moment D.left_since offset bytes.now dev.old dev.new }
+    ensures done { OnOk result (IfSome (D.told dev.old) (λ image. D.told dev.new ≡ Some (put offset bytes.now image))) }
+    ensures size { D.size dev.new ≡ D.size dev.old }
+    ensures cause { HasCause (D.faults dev.old) (D.faults dev.new) result }
+{
+    dev.write(offset, bytes)
+}
+
+/// Writes the bytes and flushes. After Ok a crash leaves what a read gives.
+pub(crate) fn write_through<D: CacheDev>(
+    dev: &mut D,
+    offset: u64,
+    bytes: &[u8],
+) -> Result<(), Failed>
+    requires inside { offset + length bytes.now ≤ D.size dev.old }
+    ensures wrote { Wrote D.told D.has_sectors D.may_leave D.moment D.left_since offset bytes.now dev.old dev.new }
+    ensures done { OnOk result (IfSome (D.told dev.old) (λ image. HasFlushed D.told D.may_leave dev.new (put offset bytes.now image))) }
+    ensures size { D.size dev.new ≡ D.size dev.old }
+    ensures cause { HasCause (D.faults dev.old) (D.faults dev.new) result }
+{
+    write_at(dev, offset, bytes)?;
+    dev.flush()
+}
+
+/// Writes the header to the first sector and flushes.
+pub(crate) fn write_header<D: CacheDev>(dev: &mut D, header: &DevHeader) -> Result<(), Failed>
+    requires inside { header_len ≤ D.size dev.old }
+    ensures written { HeaderWritten D.told D.has_sectors D.may_leave D.moment D.left_since header.now dev.old dev.new result }
+    ensures size { D.size dev.new ≡ D.size dev.old }
+    ensures cause { HasCause (D.faults dev.old) (D.faults dev.new) result }
+{
+    let mut sector = [0; HEADER_LEN];
+    header.write(&mut sector);
+    write_through(dev, 0, &sector)
+}

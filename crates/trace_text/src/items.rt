@@ -1,0 +1,87 @@
+//! Lists of the values of traces and reports.
+ghost use Rattle.std.specs.Prelude.{◌≡◌, ◌↔◌, IsTrue, length, slice_get};
+
+use crate::ends::ShardEnd;
+use crate::op::Op;
+use crate::reply::Reply;
+use arc_core::Event;
+use blk_ptr::Ptr;
+use std::marker::Model;
+
+/// A list whose vector is taken in and given back as it is. Contracts see the list.
+#[derive(Debug, Drop)]
+pub struct Items<T> {
+    items: Vec<T>,
+}
+
+/// The block pointers of a trace, in the order of their lines.
+pub type Blocks = Items<Ptr>;
+
+/// The operations of a trace, in the order of their lines.
+pub type Ops = Items<Op>;
+
+/// The replies of a run, in the order of the operations.
+pub type Replies = Items<Reply>;
+
+/// The events of one shard, in their order.
+pub type History = Items<Event>;
+
+/// The histories of all shards, in the order of their numbers.
+pub type Histories = Items<History>;
+
+/// What the shards end with, in the order of their numbers.
+pub type Ends = Items<ShardEnd>;
+
+impl<T> Model for Items<T> {
+    ghost use Rattle.std.specs.Prelude.{List};
+
+    ghost Value = { List T };
+
+    ghost view = { λ all. all.items.items };
+}
+
+impl<T> Items<T> {
+    /// Takes the list as it is. It takes no memory.
+    pub fn from_vec(items: Vec<T>) -> Items<T>
+        ensures { result ≡ items.items }
+    {
+        Items { items }
+    }
+
+    /// Gives the list back. It takes no memory.
+    pub fn into_vec(self) -> Vec<T>
+        ensures { result.items ≡ self }
+    {
+        self.items
+    }
+
+    /// How many there are.
+    pub fn len(&self) -> usize
+        ensures { result ≡ length self.now }
+    {
+        self.items.len()
+    }
+
+    /// Whether there is none.
+    pub fn is_empty(&self) -> bool
+        ensures { IsTrue result ↔ (length self.now ≡ 0) }
+    {
+        self.items.is_empty()
+    }
+
+    /// All of them, in order.
+    pub fn as_slice(&self) -> &[T]
+        ensures { result.now ≡ self.now }
+    {
+        &self.items
+    }
+}
+
+impl<T: Copy> Items<T> {
+    /// The one of this number, counted from 0, or None past the last.
+    pub fn get(&self, number: u32) -> Option<T>
+        ensures { result ≡ slice_get self.now number }
+    {
+        self.items.get(number as usize).copied()
+    }
+}

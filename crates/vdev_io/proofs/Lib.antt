@@ -1,0 +1,4 @@
+pub mod CrashLaws
+pub mod DiskLemmas
+pub mod JournalLemmas
+pub mod SettleLemmas

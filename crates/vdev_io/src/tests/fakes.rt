@@ -1,0 +1,130 @@
+//! A file that is short and fails, and a file system that lets nothing be written.
+ghost use Rattle.std.specs.Prelude.{◌≤◌, IfOk};
+
+use std::alloc::Allocator;
+use std::fs::{Metadata, OpenOptions};
+use std::io;
+use std::io::{Error, ErrorKind, Read, Seek, SeekFrom, Write};
+use std::rt::Files;
+
+/// A file of 16 bytes, of which a call moves at most three. Every second call is interrupted, and those at the place `bad` fail.
+#[derive(Drop)]
+pub(super) struct Choppy {
+    pub(super) bytes: [u8; 16],
+    at: u64,
+    bad: u64,
+    interrupts: bool,
+}
+
+impl Choppy {
+    pub(super) fn new(bad: u64) -> Choppy {
+        Choppy {
+            bytes: *b"0123456789abcdef",
+            at: 0,
+            bad,
+            interrupts: false,
+        }
+    }
+
+    /// How many bytes the next call moves of so many.
+    fn moves(&mut self, wanted: usize) -> io::Result<usize>
+        ensures { IfOk result (λ n. n ≤ wanted) }
+    {
+        self.interrupts = !self.interrupts;
+        if self.interrupts {
+            return Err(Error::from(ErrorKind::Interrupted));
+        }
+        if self.at == self.bad {
+            return Err(Error::from(ErrorKind::Other));
+        }
+        Ok(wanted.min(3))
+    }
+}
+
+impl Read for Choppy {
+    fn read(&mut self, buf: &mut [u8]) -> io::Result<usize> {
+        let most = self.moves(buf.len())?;
+        let mut left = &self.bytes[self.at.min(16) as usize..];
+        let n = left.read(&mut buf[..most])?;
+        self.at = self.at.saturating_add(n as u64);
+        Ok(n)
+    }
+}
+
+impl Write for Choppy {
+    fn write(&mut self, bytes: &[u8]) -> io::Result<usize> {
+        let most = self.moves(bytes.len())?;
+        let mut left = &mut self.bytes[self.at.min(16) as usize..];
+        let n = left.write(&bytes[..most])?;
+        self.at = self.at.saturating_add(n as u64);
+        Ok(n)
+    }
+
+    fn flush(&mut self) -> io::Result<()> {
+        Ok(())
+    }
+}
+
+impl Seek for Choppy {
+    fn seek(&mut self, to: SeekFrom) -> io::Result<u64> {
+        self.at = match to {
+            SeekFrom::Start(at) => at,
+            SeekFrom::End(_) => 16,
+            SeekFrom::Current(_) => self.at,
+        };
+        Ok(self.at)
+    }
+}
+
+/// The files of another runtime, none of which may be written.
+#[derive(Drop)]
+pub(super) struct Locked<'a, R>(pub(super) &'a R);
+
+impl<R: Files> Files for Locked<'_, R> {
+    type File = R::File;
+
+    type Dir = R::Dir;
+
+    fn open_file(&self, how: &OpenOptions, path: &str) -> io::Result<R::File> {
+        if how.asks_write() {
+            return Err(Error::from(ErrorKind::PermissionDenied));
+        }
+        self.0.open_file(how, path)
+    }
+
+    fn open_dir(&self, path: &str) -> io::Result<R::Dir> {
+        self.0.open_dir(path)
+    }
+
+    fn metadata(&self, path: &str) -> io::Result<Metadata> {
+        self.0.metadata(path)
+    }
+
+    fn symlink_metadata(&self, path: &str) -> io::Result<Metadata> {
+        self.0.symlink_metadata(path)
+    }
+
+    fn copy(&self, from: &str, to: &str) -> io::Result<u64> {
+        self.0.copy(from, to)
+    }
+
+    fn rename(&self, from: &str, to: &str) -> io::Result<()> {
+        self.0.rename(from, to)
+    }
+
+    fn remove_file(&self, path: &str) -> io::Result<()> {
+        self.0.remove_file(path)
+    }
+
+    fn create_dir(&self, path: &str) -> io::Result<()> {
+        self.0.create_dir(path)
+    }
+
+    fn remove_dir(&self, path: &str) -> io::Result<()> {
+        self.0.remove_dir(path)
+    }
+
+    fn remove_dir_all<B: Allocator>(&self, alloc: B, path: &str) -> io::Result<()> {
+        self.0.remove_dir_all(alloc, path)
+    }
+}

@@ -1,0 +1,53 @@
+//! Sources and sinks in memory, and the standard streams.
+use super::fakes::Choppy;
+use crate::stream::{read_some, write_some};
+use crate::*;
+use std::test::Fail;
+
+/// What the standard streams hold is the program's stored run's to show; here they are called through their traits.
+#[test]
+fn the_standard_streams(rt: HostRuntime) {
+    let mut sink = StdSink::new(&rt);
+    assert_eq!(rt; sink.write(b""), Ok(0));
+    let mut source = StdSource::new(&rt);
+    assert_eq!(rt; source.read(&mut []), Ok(0));
+}
+
+#[test]
+fn a_stream_of_short_calls(rt: HostRuntime) -> Result<(), Fail> {
+    let mut file = Choppy::new(6);
+    let mut bytes = [0; 8];
+    assert_eq!(rt; read_some(&mut file, &mut bytes)?, 3);
+    assert_eq!(rt; bytes, *b"012\0\0\0\0\0");
+    assert_eq!(rt; write_some(&mut file, b"ABCDEFG")?, 3);
+    assert_eq!(rt; file.bytes, *b"012ABC6789abcdef");
+    assert!(rt; read_some(&mut file, &mut bytes).is_err(), "a bad place");
+    Ok(())
+}
+
+#[test]
+fn a_source_in_memory(rt: HostRuntime) -> Result<(), Fail> {
+    let mut source = MemSource::new(b"12345".to_vec(rt.alloc())?, [1].to_vec(rt.alloc())?);
+    let mut bytes = [0; 3];
+    for wanted in [Ok(3), Err(Failed), Ok(2), Ok(0)] {
+        assert_eq!(rt; source.read(&mut bytes), wanted);
+    }
+    assert_eq!(rt; bytes, *b"453");
+    Ok(())
+}
+
+#[test]
+fn a_sink_in_memory(rt: HostRuntime) -> Result<(), Fail> {
+    let mut sink = MemSink::new(rt.alloc(), 2, 5, [1].to_vec(rt.alloc())?)?;
+    for (bytes, wanted) in [
+        (*b"abc", Ok(2)),
+        (*b"...", Err(Failed)),
+        (*b"cde", Ok(2)),
+        (*b"efg", Ok(1)),
+        (*b"...", Err(Failed)),
+    ] {
+        assert_eq!(rt; sink.write(&bytes), wanted);
+    }
+    assert_eq!(rt; sink.bytes(), b"abcde".as_slice());
+    Ok(())
+}
