@@ -114,7 +114,8 @@ module _ {D : Type 0} (tells : D → Option (List ℕ)) (has_sectors : D → Boo
       (λ c left. kept_among old cursor p kept c (plain.now_only c kept.sectors left))
       (λ c torn. left_among cursor.ring.end p.candidates c kept.good.each (torn_in_ring old cursor p at bytes kept writes c torn).left)
 
-  forgotten_upheld : (old new : CursorState) (p : Promise) (candidates : List Candidate) → HasForgotten old new → IsUpheld old p → IsUpheld new (forgotten p candidates)
+  -- the list stands for the cursor that has forgotten what was pending
+  pub forgotten_upheld : (old new : CursorState) (p : Promise) (candidates : List Candidate) → HasForgotten old new → IsUpheld old p → IsUpheld new (forgotten p candidates)
   forgotten_upheld old new p candidates f up =
       let to : numbers_from old ≡ numbers_from new = sym f.numbers in
       record {
@@ -129,7 +130,7 @@ module _ {D : Type 0} (tells : D → Option (List ℕ)) (has_sectors : D → Boo
         pending = ap (λ (es : List Entry). map (written_in new.ring.lap) (reverse es)) (sym f.pending);
       }
 
-  not_ready : (cursor : CursorState) (P : Type 0) → cursor.ready ≡ false → cursor.ready ≡ true → P
+  pub not_ready : (cursor : CursorState) (P : Type 0) → cursor.ready ≡ false → cursor.ready ≡ true → P
   not_ready cursor P shut ready = absurd (false≢true (sym shut ∙ ready))
 
   -- after a write in the ring what is pending may be forgotten

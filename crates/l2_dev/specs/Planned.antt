@@ -86,3 +86,17 @@ pub record IsForgotten (old new : CursorState) : Type 0 where
   pub newest : new.newest ≡ old.newest
   pub second : new.second ≡ old.second
   pub ready : new.ready ≡ false
+
+-- the same cursor, perhaps with more room
+pub record IsReserved (old new : CursorState) : Type 0 where
+  pub end : new.ring.end ≡ old.ring.end
+  pub hand : new.ring.hand ≡ old.ring.hand
+  pub evict : new.ring.evict ≡ old.ring.evict
+  pub top : new.ring.top ≡ old.ring.top
+  pub lap : new.ring.lap ≡ old.ring.lap
+  pub live : new.ring.live ≡ old.ring.live
+  pub base : new.base ≡ old.base
+  pub newest : new.newest ≡ old.newest
+  pub second : new.second ≡ old.second
+  pub pending : new.pending ≡ old.pending
+  pub ready : new.ready ≡ old.ready
