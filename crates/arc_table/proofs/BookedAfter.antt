@@ -29,7 +29,8 @@ use Rattle.blk_ptr.specs.declared.state.State.{State}
 use Rattle.blk_ptr.specs.declared.state.State.TheVariants.{Anon, Mru, MruGhost, Mfu, MfuGhost, L2Only}
 use Rattle.arc_core.specs.Sparing.{IsSpared}
 use Rattle.arc_core.specs.Sound.{IsSound, fits_state}
-use Rattle.arc_core.specs.Step.{after, agree, arrived, entry_to_read, hit_entry, holds, is_missing, is_new_here, is_without_bytes, is_writing, legal, may_be_placed, may_come_from, may_set, reads, same_digest, written_entry}
+use Rattle.arc_core.specs.Step.{after, agree, arrived, entry_to_read, hit_entry, holds, is_missing, is_new_here, is_without_bytes, is_writing, legal, may_be_placed, may_come_from, may_set, reads, written_entry}
+use Rattle.arc_core.specs.Digests.{same_digest}
 use Rattle.arc_core.proofs.Accesses.{accessed-keeps}
 use Rattle.arc_core.proofs.Counting.{counting, held-cached, held-kept}
 use Rattle.arc_core.proofs.Others.{own-entry, sparing}
