@@ -9,6 +9,7 @@ mod tests;
 use crate::fault::Fault;
 use crate::names::{Names, names_of};
 use std::env;
+use std::fs::File;
 use std::io::{ErrorKind, Print};
 use std::process::ExitCode;
 use std::rt::{Env, Files};
@@ -17,6 +18,9 @@ use vdev_io::{FilePool, FreeGate, NoCache, OpenFault, StdSink, StdSource};
 
 /// The file name that stands for an empty pool, or for no cache device.
 const NO_FILE: &str = "-";
+
+/// What stands in for a standard stream that is closed: opened to be read, it is empty, and no byte can be written to it.
+const NOTHING: &str = "/dev/null";
 
 /// How many words are read here: the program's own name and those of the two files.
 const NAMES: usize = 3;
@@ -29,6 +33,12 @@ struct Job<'a, R: Files> {
 }
 
 fn main(rt: HostRuntime) -> ExitCode {
+    // A standard stream that is closed leaves its number to the file that is opened next, and a report would be written into the pool.
+    let _streams = [
+        File::open(&rt, NOTHING),
+        File::open(&rt, NOTHING),
+        File::open(&rt, NOTHING),
+    ];
     let ended = match prepare(&rt) {
         Ok(None) => return ExitCode::SUCCESS,
         Ok(Some(Job { mut pool, words })) => {
