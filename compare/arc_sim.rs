@@ -5,13 +5,18 @@
 //! It reads the lines `arc`, `block`, `read`, `hold` and `drop`, and prints what `arc_tool` prints. It was written from the rules
 //! alone and shares no code with the program, so it serves as a baseline of speed and as a second opinion on each report.
 
+mod sha256;
+mod shard;
+
+use sha256::{Digest, Hex, sha256};
+use shard::{Event, Key, Shard};
 use std::collections::{HashMap, VecDeque};
 use std::fmt::{self, Display, Write as _};
 use std::fs::File;
 use std::io::{self, Read, Write};
 use std::os::unix::fs::FileExt;
 use std::process::ExitCode;
-use std::rc::Rc;
+use std::sync::Arc;
 
 const LONGEST_TRACE: usize = 67_108_864;
 const MOST_BLOCKS: usize = 100_000;
@@ -21,88 +26,7 @@ const MOST: u64 = 1 << 32;
 const LARGEST_BLOCK: u64 = 16_777_216;
 const LONGEST_POOL: u64 = 1 << 40;
 
-// ---- SHA-256 ----------------------------------------------------------------------------------------------------------------
-
-const ROUND: [u32; 64] = [
-    0x428a2f98, 0x71374491, 0xb5c0fbcf, 0xe9b5dba5, 0x3956c25b, 0x59f111f1, 0x923f82a4, 0xab1c5ed5, 0xd807aa98, 0x12835b01,
-    0x243185be, 0x550c7dc3, 0x72be5d74, 0x80deb1fe, 0x9bdc06a7, 0xc19bf174, 0xe49b69c1, 0xefbe4786, 0x0fc19dc6, 0x240ca1cc,
-    0x2de92c6f, 0x4a7484aa, 0x5cb0a9dc, 0x76f988da, 0x983e5152, 0xa831c66d, 0xb00327c8, 0xbf597fc7, 0xc6e00bf3, 0xd5a79147,
-    0x06ca6351, 0x14292967, 0x27b70a85, 0x2e1b2138, 0x4d2c6dfc, 0x53380d13, 0x650a7354, 0x766a0abb, 0x81c2c92e, 0x92722c85,
-    0xa2bfe8a1, 0xa81a664b, 0xc24b8b70, 0xc76c51a3, 0xd192e819, 0xd6990624, 0xf40e3585, 0x106aa070, 0x19a4c116, 0x1e376c08,
-    0x2748774c, 0x34b0bcb5, 0x391c0cb3, 0x4ed8aa4a, 0x5b9cca4f, 0x682e6ff3, 0x748f82ee, 0x78a5636f, 0x84c87814, 0x8cc70208,
-    0x90befffa, 0xa4506ceb, 0xbef9a3f7, 0xc67178f2,
-];
-
-fn compress(state: &mut [u32; 8], chunk: &[u8]) {
-    let mut w = [0u32; 64];
-    for (word, bytes) in w.iter_mut().zip(chunk.chunks_exact(4)) {
-        *word = u32::from_be_bytes([bytes[0], bytes[1], bytes[2], bytes[3]]);
-    }
-    for i in 16..64 {
-        let s0 = w[i - 15].rotate_right(7) ^ w[i - 15].rotate_right(18) ^ (w[i - 15] >> 3);
-        let s1 = w[i - 2].rotate_right(17) ^ w[i - 2].rotate_right(19) ^ (w[i - 2] >> 10);
-        w[i] = w[i - 16].wrapping_add(s0).wrapping_add(w[i - 7]).wrapping_add(s1);
-    }
-    let [mut a, mut b, mut c, mut d, mut e, mut f, mut g, mut h] = *state;
-    for i in 0..64 {
-        let s1 = e.rotate_right(6) ^ e.rotate_right(11) ^ e.rotate_right(25);
-        let t1 = h.wrapping_add(s1).wrapping_add((e & f) ^ (!e & g)).wrapping_add(ROUND[i]).wrapping_add(w[i]);
-        let s0 = a.rotate_right(2) ^ a.rotate_right(13) ^ a.rotate_right(22);
-        let t2 = s0.wrapping_add((a & b) ^ (a & c) ^ (b & c));
-        (h, g, f, e, d, c, b, a) = (g, f, e, d.wrapping_add(t1), c, b, a, t1.wrapping_add(t2));
-    }
-    for (word, value) in state.iter_mut().zip([a, b, c, d, e, f, g, h]) {
-        *word = word.wrapping_add(value);
-    }
-}
-
-type Digest = [u8; 32];
-
-fn sha256(bytes: &[u8]) -> Digest {
-    let mut state = [0x6a09e667, 0xbb67ae85, 0x3c6ef372, 0xa54ff53a, 0x510e527f, 0x9b05688c, 0x1f83d9ab, 0x5be0cd19];
-    let mut chunks = bytes.chunks_exact(64);
-    for chunk in &mut chunks {
-        compress(&mut state, chunk);
-    }
-    let rest = chunks.remainder();
-    let mut last = [0u8; 128];
-    last[..rest.len()].copy_from_slice(rest);
-    last[rest.len()] = 0x80;
-    let end = if rest.len() < 56 { 64 } else { 128 };
-    last[end - 8..end].copy_from_slice(&(bytes.len() as u64 * 8).to_be_bytes());
-    for chunk in last[..end].chunks_exact(64) {
-        compress(&mut state, chunk);
-    }
-    let mut digest = [0u8; 32];
-    for (to, word) in digest.chunks_exact_mut(4).zip(state) {
-        to.copy_from_slice(&word.to_be_bytes());
-    }
-    digest
-}
-
-/// Bytes as lower-case hexadecimal digits.
-struct Hex<'a>(&'a [u8]);
-
-impl Display for Hex<'_> {
-    fn fmt(&self, f: &mut fmt::Formatter<'_>) -> fmt::Result {
-        self.0.iter().try_for_each(|byte| write!(f, "{byte:02x}"))
-    }
-}
-
 // ---- The trace --------------------------------------------------------------------------------------------------------------
-
-#[derive(Clone, Copy, PartialEq, Eq, Hash)]
-struct Key {
-    offset: u64,
-    size: u64,
-    birth: u64,
-}
-
-impl Display for Key {
-    fn fmt(&self, f: &mut fmt::Formatter<'_>) -> fmt::Result {
-        write!(f, "{} {} {}", self.offset, self.size, self.birth)
-    }
-}
 
 #[derive(Clone, Copy)]
 struct Pointer {
@@ -244,245 +168,6 @@ impl Pool {
     }
 }
 
-// ---- The shard --------------------------------------------------------------------------------------------------------------
-
-#[derive(Clone, Copy, PartialEq, Eq)]
-enum State {
-    Anon,
-    Mru,
-    MruGhost,
-    Mfu,
-    MfuGhost,
-}
-
-impl State {
-    fn is_ghost(self) -> bool {
-        matches!(self, State::MruGhost | State::MfuGhost)
-    }
-}
-
-enum Event {
-    Hit(Key, u64),
-    Miss(Key, u64),
-    Arrive(Key, Digest),
-    Fail(Key),
-    Drop(Key),
-    Past(Key, Digest),
-}
-
-const NONE: usize = usize::MAX;
-
-/// One entry of the table, and a node of its state's sequence where it stands on that.
-struct Entry {
-    key: Key,
-    state: State,
-    holds: u64,
-    last: u64,
-    digest: Digest,
-    bytes: Rc<[u8]>,
-    newer: usize,
-    older: usize,
-}
-
-/// A sequence of entries by their places, newest first.
-#[derive(Clone, Copy)]
-struct Sequence {
-    head: usize,
-    tail: usize,
-}
-
-struct Shard {
-    capacity: u64,
-    target: u64,
-    min_time: u64,
-    places: HashMap<Key, usize>,
-    entries: Vec<Entry>,
-    free: Vec<usize>,
-    sequences: [Sequence; 5],
-    sizes: [u64; 5],
-    no_bytes: Rc<[u8]>,
-    history: Vec<Event>,
-}
-
-impl Shard {
-    fn new(capacity: u64, min_time: u64) -> Shard {
-        Shard {
-            capacity,
-            target: capacity / 2,
-            min_time,
-            places: HashMap::new(),
-            entries: Vec::new(),
-            free: Vec::new(),
-            sequences: [Sequence { head: NONE, tail: NONE }; 5],
-            sizes: [0; 5],
-            no_bytes: Rc::new([]),
-            history: Vec::new(),
-        }
-    }
-
-    fn size(&self, state: State) -> u64 {
-        self.sizes[state as usize]
-    }
-
-    fn oldest(&self, state: State) -> Option<usize> {
-        let tail = self.sequences[state as usize].tail;
-        (tail != NONE).then_some(tail)
-    }
-
-    fn link(&mut self, place: usize) {
-        let sequence = &mut self.sequences[self.entries[place].state as usize];
-        let older = std::mem::replace(&mut sequence.head, place);
-        if older == NONE {
-            sequence.tail = place;
-        } else {
-            self.entries[older].newer = place;
-        }
-        (self.entries[place].newer, self.entries[place].older) = (NONE, older);
-    }
-
-    fn unlink(&mut self, place: usize) {
-        let (newer, older) = (self.entries[place].newer, self.entries[place].older);
-        let sequence = &mut self.sequences[self.entries[place].state as usize];
-        if newer == NONE {
-            sequence.head = older;
-        } else {
-            self.entries[newer].older = older;
-        }
-        let sequence = &mut self.sequences[self.entries[place].state as usize];
-        if older == NONE {
-            sequence.tail = newer;
-        } else {
-            self.entries[older].newer = newer;
-        }
-    }
-
-    /// Changes the state of an entry that stands on no sequence.
-    fn turn(&mut self, place: usize, state: State) {
-        let entry = &mut self.entries[place];
-        self.sizes[entry.state as usize] -= entry.key.size;
-        self.sizes[state as usize] += entry.key.size;
-        entry.state = state;
-    }
-
-    /// Takes an entry that stands on no sequence out of the table.
-    fn forget(&mut self, place: usize) {
-        let entry = &mut self.entries[place];
-        entry.bytes = self.no_bytes.clone();
-        self.sizes[entry.state as usize] -= entry.key.size;
-        self.places.remove(&entry.key);
-        self.free.push(place);
-    }
-
-    fn adapt(&mut self, state: State, size: u64) {
-        let (mru, mfu) = (self.size(State::MruGhost), self.size(State::MfuGhost));
-        let least = self.capacity / 16;
-        if state == State::MruGhost {
-            let times = if mru >= mfu { 1 } else { (mfu / mru).min(10) };
-            self.target = (self.capacity - least).min(self.target + size * times);
-        } else {
-            let times = if mfu >= mru { 1 } else { (mru / mfu).min(10) };
-            self.target = least.max(self.target - (size * times).min(self.target));
-        }
-    }
-
-    fn make_room(&mut self, size: u64) {
-        while self.size(State::Anon) + self.size(State::Mru) + self.size(State::Mfu) + size > self.capacity {
-            let recent = self.oldest(State::Mru);
-            let is_over = self.size(State::Anon) + self.size(State::Mru) > self.target;
-            let Some(place) = recent.filter(|_| is_over).or(self.oldest(State::Mfu)).or(recent) else {
-                return;
-            };
-            let ghost = if self.entries[place].state == State::Mru { State::MruGhost } else { State::MfuGhost };
-            self.unlink(place);
-            self.turn(place, ghost);
-            self.entries[place].bytes = self.no_bytes.clone();
-            self.link(place);
-        }
-    }
-
-    fn trim(&mut self) {
-        while self.size(State::Mru) + self.size(State::MruGhost) > self.capacity {
-            let Some(place) = self.oldest(State::MruGhost) else { break };
-            self.unlink(place);
-            self.forget(place);
-        }
-        while self.size(State::MruGhost) + self.size(State::MfuGhost) > self.capacity {
-            let Some(place) = self.oldest(State::MfuGhost) else { break };
-            self.unlink(place);
-            self.forget(place);
-        }
-    }
-
-    fn insert(&mut self, key: Key, state: State, tick: u64) -> usize {
-        let entry = Entry { key, state, holds: 1, last: tick, digest: [0; 32], bytes: self.no_bytes.clone(), newer: NONE, older: NONE };
-        let place = match self.free.pop() {
-            Some(place) => {
-                self.entries[place] = entry;
-                place
-            }
-            None => {
-                self.entries.push(entry);
-                self.entries.len() - 1
-            }
-        };
-        self.places.insert(key, place);
-        self.sizes[state as usize] += key.size;
-        place
-    }
-
-    fn hit(&mut self, place: usize, tick: u64) {
-        let entry = &self.entries[place];
-        self.history.push(Event::Hit(entry.key, tick));
-        if entry.holds == 0 {
-            self.unlink(place);
-        }
-        let entry = &mut self.entries[place];
-        entry.holds += 1;
-        if entry.state == State::Mfu {
-            entry.last = tick;
-        } else if tick > entry.last + self.min_time {
-            entry.last = tick;
-            self.turn(place, State::Mfu);
-        }
-    }
-
-    fn miss(&mut self, key: Key, tick: u64) -> usize {
-        self.history.push(Event::Miss(key, tick));
-        let ghost = self.places.get(&key).copied();
-        if let Some(place) = ghost {
-            self.adapt(self.entries[place].state, key.size);
-            self.unlink(place);
-            self.forget(place);
-        }
-        self.make_room(key.size);
-        let state = if ghost.is_some() { State::Mfu } else { State::Anon };
-        let place = self.insert(key, state, tick);
-        self.trim();
-        place
-    }
-
-    fn arrive(&mut self, place: usize, digest: Digest, bytes: Rc<[u8]>) {
-        self.history.push(Event::Arrive(self.entries[place].key, digest));
-        if self.entries[place].state == State::Anon {
-            self.turn(place, State::Mru);
-        }
-        (self.entries[place].digest, self.entries[place].bytes) = (digest, bytes);
-    }
-
-    fn fail(&mut self, place: usize) {
-        self.history.push(Event::Fail(self.entries[place].key));
-        self.forget(place);
-    }
-
-    fn release(&mut self, place: usize) {
-        self.history.push(Event::Drop(self.entries[place].key));
-        self.entries[place].holds -= 1;
-        if self.entries[place].holds == 0 {
-            self.link(place);
-        }
-    }
-}
-
 // ---- The run ----------------------------------------------------------------------------------------------------------------
 
 enum Refusal {
@@ -505,7 +190,7 @@ impl Display for Refusal {
 struct Served {
     from: &'static str,
     place: Option<usize>,
-    bytes: Rc<[u8]>,
+    bytes: Arc<[u8]>,
 }
 
 fn check_key(key: Key, len: u64) -> Result<(), Refusal> {
@@ -523,7 +208,7 @@ fn check_key(key: Key, len: u64) -> Result<(), Refusal> {
     }
 }
 
-fn read_pool(pool: &Pool, pointer: &Pointer) -> Result<Rc<[u8]>, Refusal> {
+fn read_pool(pool: &Pool, pointer: &Pointer) -> Result<Arc<[u8]>, Refusal> {
     let bytes = pool.read(pointer.key).map_err(|_| Refusal::Pool)?;
     let found = sha256(&bytes);
     if found == pointer.digest { Ok(bytes.into()) } else { Err(Refusal::Digest(found)) }

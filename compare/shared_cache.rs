@@ -1,0 +1,132 @@
+//! A plain cache that callers share: each shard behind a `Mutex`, which nobody keeps while the pool is read or a digest is computed.
+//!
+//!     rustc -O shared_cache.rs && ./shared_cache hits|misses CALLERS SHARDS BLOCKS READS
+//!
+//! Each caller reads so many drawn blocks of 512 bytes of a pool in memory, and gives each back. It prints the reads of all callers a second. With
+//! `hits` every block was read before; with `misses` the cache has room for a sixteenth of them.
+
+#[allow(dead_code)]
+mod sha256;
+#[allow(dead_code)]
+mod shard;
+
+use sha256::{Digest, sha256};
+use shard::{Key, Shard};
+use std::process::ExitCode;
+use std::sync::{Arc, Mutex, PoisonError};
+use std::thread;
+use std::time::Instant;
+
+const SIZE: u64 = 512;
+
+/// The number that tells a key's shard.
+fn hash_of(key: Key) -> u64 {
+    (key.offset / SIZE).wrapping_mul(0x9e37_79b9_7f4a_7c15).rotate_left(32) ^ key.size.rotate_left(16) ^ key.birth
+}
+
+struct Cache {
+    shards: Vec<Mutex<Shard>>,
+    pool: Vec<u8>,
+}
+
+/// A block that is held: its shard, its place there and its bytes.
+struct Held {
+    shard: usize,
+    place: usize,
+    bytes: Arc<[u8]>,
+}
+
+impl Cache {
+    fn new(shards: usize, capacity: u64, pool: Vec<u8>) -> Cache {
+        Cache { shards: (0..shards).map(|_| Mutex::new(Shard::new(capacity, 0))).collect(), pool }
+    }
+
+    fn with<T>(&self, shard: usize, change: impl FnOnce(&mut Shard) -> T) -> T {
+        change(&mut self.shards[shard].lock().unwrap_or_else(PoisonError::into_inner))
+    }
+
+    /// Reads a block of this digest, and keeps it. A reader that finds a read in progress begins again.
+    fn read(&self, key: Key, digest: Digest, tick: u64) -> Option<Held> {
+        let shard = (hash_of(key) % self.shards.len() as u64) as usize;
+        let place = loop {
+            let found = self.with(shard, |it| match it.places.get(&key).copied() {
+                Some(place) if !it.entries[place].state.is_ghost() => {
+                    if it.entries[place].bytes.is_empty() {
+                        return None;
+                    }
+                    it.hit(place, tick);
+                    Some(Ok((place, it.entries[place].bytes.clone())))
+                }
+                _ => Some(Err(it.miss(key, tick))),
+            });
+            match found {
+                Some(Ok((place, bytes))) => return Some(Held { shard, place, bytes }),
+                Some(Err(place)) => break place,
+                None => thread::yield_now(),
+            }
+        };
+        let bytes: Arc<[u8]> = self.pool[key.offset as usize..][..key.size as usize].into();
+        if sha256(&bytes) != digest {
+            self.with(shard, |it| it.fail(place));
+            return None;
+        }
+        self.with(shard, |it| it.arrive(place, digest, bytes.clone()));
+        Some(Held { shard, place, bytes })
+    }
+
+    fn release(&self, held: Held) {
+        self.with(held.shard, |it| it.release(held.place));
+    }
+}
+
+/// Numbers below `blocks`, as `gen` draws them.
+fn draws(seed: u64, blocks: u64) -> impl Iterator<Item = u64> {
+    let mut x = seed;
+    std::iter::repeat_with(move || {
+        x = (x * 1_103_515_245 + 12_345) % (1 << 31);
+        x / 65_536 % blocks
+    })
+}
+
+fn caller(cache: &Cache, digest: Digest, seed: u64, blocks: u64, reads: usize) -> u64 {
+    let mut sum = 0;
+    for (tick, block) in (1..).zip(draws(seed, blocks).take(reads)) {
+        let key = Key { offset: block * SIZE, size: SIZE, birth: 1 };
+        if let Some(held) = cache.read(key, digest, tick) {
+            sum += u64::from(held.bytes[0]) + 1;
+            cache.release(held);
+        }
+    }
+    sum
+}
+
+fn perform(words: &[String]) -> Option<()> {
+    let [kind, numbers @ ..] = words else { return None };
+    let numbers: Vec<u64> = numbers.iter().map(|word| word.parse().ok()).collect::<Option<_>>()?;
+    let [callers, shards, blocks, reads] = numbers[..] else { return None };
+    let room = if kind == "hits" { 2 * blocks * SIZE } else { (blocks * SIZE / 16 / shards).max(4_096) };
+    let digest = sha256(&[0; SIZE as usize]);
+    let cache = Cache::new(shards as usize, room, vec![0; (blocks * SIZE) as usize]);
+    if kind == "hits" {
+        for block in 0..blocks {
+            cache.release(cache.read(Key { offset: block * SIZE, size: SIZE, birth: 1 }, digest, 0)?);
+        }
+    }
+    let start = Instant::now();
+    let read: u64 = thread::scope(|scope| {
+        let cache = &cache;
+        let callers: Vec<_> =
+            (0..callers).map(|n| scope.spawn(move || caller(cache, digest, n + 1, blocks, reads as usize))).collect();
+        callers.into_iter().map(|it| it.join().unwrap_or(0)).sum()
+    });
+    println!("{:.0}", read as f64 / start.elapsed().as_secs_f64());
+    Some(())
+}
+
+fn main() -> ExitCode {
+    let words: Vec<String> = std::env::args().skip(1).collect();
+    match perform(&words) {
+        Some(()) => ExitCode::SUCCESS,
+        None => ExitCode::from(2),
+    }
+}
