@@ -21,7 +21,8 @@ const SIZE: u64 = 512;
 
 /// The number that tells a key's shard.
 fn hash_of(key: Key) -> u64 {
-    (key.offset / SIZE).wrapping_mul(0x9e37_79b9_7f4a_7c15).rotate_left(32) ^ key.size.rotate_left(16) ^ key.birth
+    let a = (key.offset / 512).wrapping_mul(0x9e37_79b9_7f4a_7c15).wrapping_add(key.size / 512 * 31).wrapping_add(key.birth);
+    a ^ (a >> 32)
 }
 
 struct Cache {
