@@ -20,7 +20,7 @@ use Rattle.trace_text.specs.declared.reply.Reply.TheVariants.{Read, Kept, Droppe
 use Rattle.trace_text.specs.declared.reply.Refusal.TheVariants as refusal
 use Rattle.trace_text.specs.declared.report.Report.{Report}
 use Rattle.trace_text.specs.declared.trace.Trace.{Trace}
-use Rattle.trace_text.specs.declared.window.Window.{Window}
+use Rattle.dbuf_state.specs.declared.window.Window.{Window}
 use Rattle.trace_text.specs.Generator.{IsGenerated, draw, empty_window, generated_block, generated_read, zero_digest}
 use Rattle.trace_run.specs.Answers.{Answers, AnswersRead, is_pool_fault, is_refusal}
 use Rattle.trace_run.specs.Outcome.{IsRun, PoolState, zero_pool}

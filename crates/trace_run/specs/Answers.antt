@@ -8,7 +8,7 @@ use Rattle.trace_text.specs.declared.reply.Reply.{Reply}
 use Rattle.trace_text.specs.declared.reply.Reply.TheVariants.{Read, Kept, Dropped, Refused}
 use Rattle.trace_text.specs.declared.reply.Refusal.{Refusal}
 use Rattle.trace_text.specs.declared.reply.Refusal.TheVariants.{PoolFault, Mismatch, Key, NoMemory, Range, NoHold}
-use Rattle.trace_text.specs.declared.window.Window.{Window}
+use Rattle.dbuf_state.specs.declared.window.Window.{Window}
 use Rattle.trace_run.specs.Read.{IsServed, IsMismatch}
 
 -- the bytes of a block that a window shows

@@ -2,7 +2,7 @@
 use Rattle.std.specs.Prelude.{◌≡◌, ℕ, List, [], ◌∷◌, ◌++◌, Option, Result, Ok, Err}
 use Rattle.blk_ptr.specs.declared.ptr.Ptr.{Ptr}
 use Rattle.arc_core.specs.declared.event.Event.{Event}
-use Rattle.trace_text.specs.declared.window.Window.{Window}
+use Rattle.dbuf_state.specs.declared.window.Window.{Window}
 use Rattle.trace_run.specs.declared.access.Access.{Access}
 use Rattle.trace_run.specs.declared.read.ReadFault.{ReadFault}
 use Rattle.trace_run.specs.declared.read.ReadFault.TheVariants.{PoolFault, Mismatch, Key, NoMemory}

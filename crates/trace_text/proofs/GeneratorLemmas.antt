@@ -11,7 +11,7 @@ use Rattle.sha2.proofs.Facts256.{length-sha256}
 use Rattle.arc_core.specs.declared.config.Config.{Config}
 use Rattle.trace_text.specs.declared.op.Op.TheVariants.{Read}
 use Rattle.trace_text.specs.declared.trace.Trace.{Trace}
-use Rattle.trace_text.specs.declared.window.Window.{Window}
+use Rattle.dbuf_state.specs.declared.window.Window.{Window}
 use Rattle.trace_text.specs.Generator.{IsGenerated, draw, empty_window, generated_block, generated_read, generated_sizes, next_draw, zero_digest}
 use Rattle.trace_text.specs.Grammar.{AreSizes, IsDeclarable, IsDigest, IsFormed, IsPossible}
 use Rattle.trace_text.proofs.SameLemmas.{window-same}

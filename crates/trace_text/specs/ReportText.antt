@@ -2,6 +2,7 @@
 -- counted as, and the status at which it was made.
 use Rattle.std.specs.Prelude.{ℕ, ◌+◌, Bool, List, [], ◌∷◌, ◌++◌, codes, decimal, if◌then◌else◌}
 use Rattle.hex.specs.Hex.{encode_lower}
+use Rattle.dbuf_state.specs.Windows.{shown_text}
 use Rattle.trace_text.specs.Counting.{counts_in}
 use Rattle.trace_text.specs.EndText.{count_words, end_lines}
 use Rattle.trace_text.specs.EventText.{history_lines}
@@ -9,11 +10,6 @@ use Rattle.trace_text.specs.ReportWords.{served_word, refusal_text}
 use Rattle.trace_text.specs.declared.reply.Reply.{Reply}
 use Rattle.trace_text.specs.declared.reply.Reply.TheVariants.{Read, Kept, Dropped, Refused}
 use Rattle.trace_text.specs.declared.report.Report.{Report}
-
--- shown bytes in hexadecimal, or a dash for none
-abbrev pub shown_text : List ℕ → List ℕ
-shown_text [] = codes "-"
-shown_text (byte ∷ bytes) = encode_lower (byte ∷ bytes)
 
 -- what a reply's line says behind the operation's number
 abbrev pub reply_text : Reply → List ℕ

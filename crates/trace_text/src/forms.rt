@@ -8,10 +8,10 @@ use crate::fault::Kind;
 use crate::fields::{next_below, next_digest, next_number};
 use crate::op::Op;
 use crate::parts::Parts;
-use crate::window::Window;
 use crate::words::{Line, Seen};
 use arc_core::Config;
 use blk_ptr::{Key, Ptr};
+use dbuf_state::Window;
 
 /// The largest number of a trace that has no narrower range.
 const LARGEST_PLAIN: u64 = 1 << 62;

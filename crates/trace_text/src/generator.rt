@@ -7,9 +7,9 @@ use crate::bounds::DEFAULT_BOUNDS;
 use crate::items::{Blocks, Ops};
 use crate::op::Op;
 use crate::trace::Trace;
-use crate::window::Window;
 use arc_core::Config;
 use blk_ptr::{Digest, Key, NoMemory, Ptr, SECTOR, digest_of};
+use dbuf_state::Window;
 use std::alloc::{AllocError, Global};
 
 /// The most blocks of a generated trace.

@@ -28,14 +28,13 @@ mod print_events;
 mod reader;
 mod reply;
 mod report;
-mod shown;
 mod trace;
-mod window;
 mod words;
 
 pub use arc_core::{Bounds, Config, Served};
 pub use counting::counts_of;
 pub use counts::Counts;
+pub use dbuf_state::{MOST_SHOWN, Shown, Window};
 pub use ends::ShardEnd;
 pub use events::event_text;
 pub use fault::{Kind, TraceFault};
@@ -48,9 +47,7 @@ pub use print::report_text;
 pub use reader::read_trace;
 pub use reply::{Refusal, Reply};
 pub use report::Report;
-pub use shown::{MOST_SHOWN, Shown};
 pub use trace::Trace;
-pub use window::Window;
 
 #[cfg(test)]
 mod report_tests;

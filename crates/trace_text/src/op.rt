@@ -1,4 +1,4 @@
-use crate::window::Window;
+use dbuf_state::Window;
 
 /// One operation of a trace.
 #[derive(Clone, Copy, Debug, PartialEq, Eq)]

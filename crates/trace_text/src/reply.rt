@@ -1,9 +1,9 @@
 ghost use Rattle.std.specs.Prelude.{◌≡◌, Some};
 ghost use Rattle.trace_text.specs.ReportWords.{served_word};
 
-use crate::shown::Shown;
 use arc_core::Served;
 use blk_ptr::{Digest, KeyFault};
+use dbuf_state::Shown;
 use std::fmt;
 
 /// Why an operation was refused.

@@ -1,7 +1,7 @@
 -- When a count of faults or of calls has risen. A count that stands at the last value of its type stands still.
-use Rattle.std.specs.Prelude.{◌≡◌, ℕ, ◌+◌, ◌-◌, ◌^◌, ◌<◌, ◌≤◌, min, Result, OnErr, IsErrOf}
+use Rattle.std.specs.Prelude.{◌≡◌, ℕ, ◌+◌, ◌-◌, ◌^◌, ◌<◌, ◌≤◌, min, Result, Ok, Err, OnErr, IsErrOf}
 use Rattle.vdev_io.specs.declared.fault.IoFault.{IoFault}
-use Rattle.vdev_io.specs.declared.fault.IoFault.TheVariants.{Failed}
+use Rattle.vdev_io.specs.declared.fault.IoFault.TheVariants.{Failed, NoMemory}
 
 -- where a count kept in 64 bits stands still
 abbrev pub last_count : ℕ
@@ -13,12 +13,12 @@ Rose before now = min (before + 1) last_count ≤ now
 
 -- the count didn't fall, and an error was answered only where it rose
 pub record HasCause {T E : Type 0} (before now : ℕ) (result : Result T E) : Type 0 where
-  pub kept : before ≤ now
+  pub never_falls : before ≤ now
   pub rose : OnErr result (Rose before now)
 
 -- the count didn't fall, and the outside's failure was answered only where it rose
 pub record HasIoCause {T : Type 0} (before now : ℕ) (result : Result T IoFault) : Type 0 where
-  pub kept : before ≤ now
+  pub never_falls : before ≤ now
   pub rose : IsErrOf result Failed → Rose before now
 
 -- the sum of two counts, where there is room for it
@@ -29,3 +29,9 @@ sum_of_counts a b = min (a + b) last_count
 pub record CountsOne (before now : ℕ) : Type 0 where
   pub more : before < last_count → now ≡ before + 1
   pub full : last_count ≤ before → now ≡ before
+
+-- the count of faults after an answer: a failure of the outside is counted once, and nothing else is
+abbrev pub count_after : {T : Type 0} → ℕ → Result T IoFault → ℕ
+count_after before (Ok _) = before
+count_after before (Err NoMemory) = before
+count_after before (Err Failed) = sum_of_counts before 1

@@ -1,5 +1,5 @@
 //! Why a call on the outside was not done, and the count of such calls.
-ghost use Rattle.std.specs.Prelude.{◌≡◌, ◌+◌, ◌≤◌, Ok, IfOk, OnOk, IsErr, MatchResult, is_err, if◌then◌else◌};
+ghost use Rattle.std.specs.Prelude.{◌≡◌, ◌+◌, ◌≤◌, ◌↔◌, Ok, IfErr, IsErr, IsErrOf, MatchResult, is_err, if◌then◌else◌};
 
 use std::alloc::AllocError;
 use std::io;
@@ -47,7 +47,8 @@ pub(crate) struct FaultCount {
 }
 
 impl FaultCount {
-    ghost use Rattle.vdev_io.specs.Faults.{HasCause, HasIoCause, sum_of_counts};
+    ghost use Rattle.std.specs.IoError.{error_kind};
+    ghost use Rattle.vdev_io.specs.Faults.{HasCause, HasIoCause, count_after, sum_of_counts};
 
     /// No call failed yet.
     pub(crate) fn new() -> FaultCount
@@ -73,9 +74,10 @@ impl FaultCount {
 
     /// The same where the system may refuse memory, which is no fault.
     pub(crate) fn tell_memory<T>(&mut self, answer: io::Result<T>) -> Result<T, IoFault>
-        ensures answer { IfOk result (λ value. answer ≡ Ok value) }
+        ensures answer { MatchResult result (λ value. answer ≡ Ok value) (λ _. IsErr answer) }
+        ensures refused { IfErr answer (λ error. IsErrOf result IoFault.NoMemory ↔ (error_kind error ≡ ErrorKind.OutOfMemory)) }
+        ensures count { self.new.count ≡ count_after self.old.count result }
         ensures cause { HasIoCause self.old.count self.new.count result }
-        ensures only { OnOk result (self.new.count ≡ self.old.count) }
     {
         match answer {
             Ok(value) => Ok(value),

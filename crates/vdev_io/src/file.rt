@@ -1,9 +1,9 @@
 //! What the adapters over files share: why a file can't be had, its length, and reading and writing at a place.
-ghost use Rattle.std.specs.Prelude.{◌≡◌, ◌≤◌, ◌↔◌, length, IfOk, IfSome, OnOk};
+ghost use Rattle.std.specs.Prelude.{◌≡◌, ◌≤◌, ◌↔◌, IfOk, OnOk};
 ghost use Rattle.std.specs.IoError.{error_kind};
 ghost use Rattle.std.specs.declared.io.ErrorKind.TheVariants.{OutOfMemory};
 ghost use Rattle.vdev_io.specs.declared.file.OpenFault.TheVariants.{NoMemory as OpenNoMemory};
-ghost use Rattle.vdev_io.specs.Place.{ReadsAt, WritesAt};
+ghost use Rattle.vdev_io.specs.Place.{HasLength, ReadsAt, WritesAt};
 
 use std::alloc::AllocError;
 use std::fs::OpenOptions;
@@ -47,7 +47,7 @@ pub(crate) fn open_to_write<R: Files>(rt: &R, name: &str) -> io::Result<R::File>
 /// The length of an opened file, which may be at most `longest`.
 pub(crate) fn length_of<F: Seek>(file: &mut F, longest: u64) -> Result<u64, OpenFault>
     ensures bound { IfOk result (λ len. len ≤ longest) }
-    ensures told { IfOk result (λ len. IfSome (F.stream_position file.old) (λ _. IfSome (F.stream_bytes file.old) (λ bytes. len ≡ length bytes))) }
+    ensures told { IfOk result (HasLength F.stream_position F.stream_bytes file.old) }
 {
     let len = file.seek(SeekFrom::End(0))?;
     if len <= longest {

@@ -1,6 +1,9 @@
 //! A cache device over a file or a block device. Nothing is told of its content.
-ghost use Rattle.std.specs.Prelude.{◌≡◌, ◌^◌, ◌≤◌, None, IfOk, false, length};
-ghost use Rattle.vdev_io.specs.Untold.{untold};
+ghost use Rattle.std.specs.Prelude.{◌≡◌, ◌^◌, ◌≤◌, None, IfOk, IsTrue, OnOk, false, is_err, if◌then◌else◌, string_bytes};
+ghost use Rattle.vdev_io.specs.Device.{Elapses, ElapsesTo, FollowsBySector, LeavesSame, Stands};
+ghost use Rattle.vdev_io.specs.Faults.{HasCause, HasIoCause, count_after, sum_of_counts};
+ghost use Rattle.vdev_io.specs.Place.{HasLength, ReadsAt, WritesAt};
+ghost use Rattle.vdev_io.specs.Untold.{GivesAnything, OfLength, TellsNothing, untold};
 
 use crate::device::CacheDev;
 use crate::fault::{Failed, FaultCount, IoFault};
@@ -31,6 +34,8 @@ impl<'a, R: Files> FileCache<'a, R> {
     /// Opens the file of this name to be read and written.
     pub fn open(alloc: Global, rt: &'a R, name: &str) -> Result<FileCache<'a, R>, OpenFault>
         ensures len { IfOk result (λ cache. cache.len ≤ 2 ^ 32) }
+        ensures told { IfOk result (λ cache. (opened : R.File) × HasLength R.File.stream_position R.File.stream_bytes opened cache.len) }
+        ensures name { IfOk result (λ cache. string_bytes cache.name ≡ name.now) }
         ensures count { IfOk result (λ cache. cache.faults.count ≡ 0) }
     {
         if fs::metadata(rt, name)?.is_dir() {
@@ -57,11 +62,11 @@ where
 
     ghost told = { λ _. None };
 
-    ghost may_leave = { λ cache c. length c ≡ cache.len };
+    ghost may_leave = { λ cache c. OfLength cache.len c };
 
     ghost moment = { λ _. 0 };
 
-    ghost left_since = { λ cache _ c. length c ≡ cache.len };
+    ghost left_since = { λ cache _ c. OfLength cache.len c };
 
     ghost has_sectors = { λ _. false };
 
@@ -71,11 +76,27 @@ where
         self.len
     }
 
-    fn read(&mut self, offset: u64, buf: &mut [u8]) -> Result<(), Failed> {
+    fn read(&mut self, offset: u64, buf: &mut [u8]) -> Result<(), Failed>
+        ensures bytes { OnOk result (ReadsAt R.File.stream_position R.File.remaining offset self.old.file self.new.file buf.new) }
+        ensures kept { (self.new.len ≡ self.old.len) × (self.new.name ≡ self.old.name) }
+        ensures told { GivesAnything result }
+        ensures crash { LeavesSame (OfLength self.old.len) (OfLength self.new.len) }
+        ensures time { Stands 0 0 (λ _. OfLength self.old.len) (λ _. OfLength self.new.len) }
+        ensures count { self.new.faults.count ≡ (if is_err result then sum_of_counts self.old.faults.count 1 else self.old.faults.count) }
+        ensures cause { HasCause self.old.faults.count self.new.faults.count result }
+    {
         self.faults.tell(read_at(&mut self.file, offset, buf))
     }
 
-    fn write(&mut self, offset: u64, bytes: &[u8]) -> Result<(), Failed> {
+    fn write(&mut self, offset: u64, bytes: &[u8]) -> Result<(), Failed>
+        ensures bytes { OnOk result (WritesAt R.File.stream_position R.File.contents offset self.old.file self.new.file bytes.now) }
+        ensures kept { (self.new.len ≡ self.old.len) × (self.new.name ≡ self.old.name) }
+        ensures crash { IsTrue false → FollowsBySector offset bytes.now (OfLength self.old.len) (OfLength self.new.len) }
+        ensures time { Elapses 0 0 (λ _. OfLength self.old.len) (λ _. OfLength self.new.len) }
+        ensures since { IsTrue false → ElapsesTo 0 (λ _. OfLength self.old.len) (λ _. OfLength self.new.len) (OfLength self.new.len) }
+        ensures count { self.new.faults.count ≡ (if is_err result then sum_of_counts self.old.faults.count 1 else self.old.faults.count) }
+        ensures cause { HasCause self.old.faults.count self.new.faults.count result }
+    {
         self.faults.tell(write_at(&mut self.file, offset, bytes))
     }
 
@@ -83,7 +104,16 @@ where
         self.faults.tell(self.file.sync_all())
     }
 
-    fn fork(&mut self, alloc: Global) -> Result<Self, IoFault> {
+    fn fork(&mut self, alloc: Global) -> Result<Self, IoFault>
+        ensures fork { IfOk result (λ fork. (fork.len ≡ self.old.len) × TellsNothing × (fork.faults.count ≡ 0)) }
+        ensures name { IfOk result (λ fork. string_bytes fork.name ≡ string_bytes self.old.name) }
+        ensures file { self.new.file ≡ self.old.file }
+        ensures kept { (self.new.len ≡ self.old.len) × (self.new.name ≡ self.old.name) }
+        ensures crash { LeavesSame (OfLength self.old.len) (OfLength self.new.len) }
+        ensures time { Stands 0 0 (λ _. OfLength self.old.len) (λ _. OfLength self.new.len) }
+        ensures count { self.new.faults.count ≡ count_after self.old.faults.count result }
+        ensures cause { HasIoCause self.old.faults.count self.new.faults.count result }
+    {
         let name = String::from_str(alloc, self.name.as_str())?;
         let file = self
             .faults

@@ -1,6 +1,8 @@
 //! A pool over a file or a block device. Nothing is told of its content.
-ghost use Rattle.std.specs.Prelude.{◌≡◌, ◌^◌, ◌≤◌, None, IfOk};
-ghost use Rattle.vdev_io.specs.Untold.{untold};
+ghost use Rattle.std.specs.Prelude.{◌≡◌, ◌^◌, ◌≤◌, None, IfOk, OnOk, IfSome, IsErrOf, IsNone, IsSome, is_err, if◌then◌else◌, string_bytes};
+ghost use Rattle.vdev_io.specs.Faults.{HasCause, HasIoCause, CountsOne, count_after, sum_of_counts};
+ghost use Rattle.vdev_io.specs.Place.{HasLength, OnDisk, ReadsAt, WritesAt};
+ghost use Rattle.vdev_io.specs.Untold.{GivesAnything, TellsNothing, untold};
 
 use crate::fault::{Failed, FaultCount, IoFault};
 use crate::file::{OpenFault, length_of, open_to_write, read_at, write_at};
@@ -25,6 +27,7 @@ pub struct FilePool<'a, R: Files> {
     len: u64,
     reads: u64,
     faults: FaultCount,
+    ghost no_file: { IsNone disk → len ≡ 0 },
 }
 
 /// An open file with its name, by which a fork opens it again.
@@ -47,6 +50,8 @@ impl<'a, R: Files> FilePool<'a, R> {
     /// Opening it changes nothing of it.
     pub fn open(alloc: Global, rt: &'a R, name: &str) -> Result<FilePool<'a, R>, OpenFault>
         ensures len { IfOk result (λ pool. pool.len ≤ 2 ^ 40) }
+        ensures told { IfOk result (λ pool. (opened : R.File) × HasLength R.File.stream_position R.File.stream_bytes opened pool.len) }
+        ensures name { IfOk result (λ pool. IsSome pool.disk × IfSome pool.disk (λ disk. string_bytes disk.name ≡ name.now)) }
         ensures counts { IfOk result (λ pool. (pool.reads ≡ 0) × (pool.faults.count ≡ 0)) }
     {
         if fs::metadata(rt, name)?.is_dir() {
@@ -95,7 +100,15 @@ where
         self.len
     }
 
-    fn read(&mut self, offset: u64, buf: &mut [u8]) -> Result<(), Failed> {
+    fn read(&mut self, offset: u64, buf: &mut [u8]) -> Result<(), Failed>
+        ensures bytes { OnOk result (OnDisk (λ old new. ReadsAt R.File.stream_position R.File.remaining offset old.file new.file buf.new) self.old.disk self.new.disk) }
+        ensures disk { OnDisk (λ old new. new.name ≡ old.name) self.old.disk self.new.disk }
+        ensures told { GivesAnything result }
+        ensures size { self.new.len ≡ self.old.len }
+        ensures counted { CountsOne self.old.reads self.new.reads }
+        ensures count { self.new.faults.count ≡ (if is_err result then sum_of_counts self.old.faults.count 1 else self.old.faults.count) }
+        ensures cause { HasCause self.old.faults.count self.new.faults.count result }
+    {
         self.reads = self.reads.saturating_add(1);
         match &mut self.disk {
             Some(disk) => self.faults.tell(read_at(&mut disk.file, offset, buf)),
@@ -103,14 +116,30 @@ where
         }
     }
 
-    fn write(&mut self, offset: u64, bytes: &[u8]) -> Result<(), IoFault> {
+    fn write(&mut self, offset: u64, bytes: &[u8]) -> Result<(), IoFault>
+        ensures bytes { OnOk result (OnDisk (λ old new. WritesAt R.File.stream_position R.File.contents offset old.file new.file bytes.now) self.old.disk self.new.disk) }
+        ensures disk { OnDisk (λ old new. new.name ≡ old.name) self.old.disk self.new.disk }
+        ensures size { self.new.len ≡ self.old.len }
+        ensures reads { self.new.reads ≡ self.old.reads }
+        ensures refused { IsErrOf result IoFault.NoMemory → self.new.faults.count ≡ self.old.faults.count }
+        ensures count { self.new.faults.count ≡ count_after self.old.faults.count result }
+        ensures cause { HasIoCause self.old.faults.count self.new.faults.count result }
+    {
         if let Some(disk) = &mut self.disk {
             self.faults.tell(write_at(&mut disk.file, offset, bytes))?;
         }
         Ok(())
     }
 
-    fn fork(&mut self, alloc: Global) -> Result<Self, IoFault> {
+    fn fork(&mut self, alloc: Global) -> Result<Self, IoFault>
+        ensures fork { IfOk result (λ fork. (fork.len ≡ self.old.len) × TellsNothing × (fork.faults.count ≡ 0) × (fork.reads ≡ 0)) }
+        ensures name { IfOk result (λ fork. OnDisk (λ disk other. string_bytes other.name ≡ string_bytes disk.name) self.old.disk fork.disk) }
+        ensures disk { self.new.disk ≡ self.old.disk }
+        ensures size { self.new.len ≡ self.old.len }
+        ensures reads { self.new.reads ≡ self.old.reads }
+        ensures count { self.new.faults.count ≡ count_after self.old.faults.count result }
+        ensures cause { HasIoCause self.old.faults.count self.new.faults.count result }
+    {
         let disk = match &self.disk {
             Some(disk) => {
                 let name = String::from_str(alloc, disk.name.as_str())?;

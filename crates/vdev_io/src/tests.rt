@@ -4,4 +4,5 @@ mod devices;
 mod fakes;
 mod files;
 mod pools;
+mod sectors;
 mod streams;

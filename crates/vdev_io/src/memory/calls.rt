@@ -60,7 +60,7 @@ impl Calls {
     /// Counts a fault.
     pub(crate) fn fault(&mut self) -> Failed
         ensures rose { Rose self.old.faults self.new.faults }
-        ensures kept { self.old.faults ≤ self.new.faults }
+        ensures never_falls { self.old.faults ≤ self.new.faults }
         ensures counted { self.new ≡ record self.old { faults = sum_of_counts self.old.faults 1 } }
     {
         self.faults = self.faults.saturating_add(1);

@@ -1,8 +1,8 @@
-//! A file that is short and fails, and a file system that lets nothing be written.
+//! A file that is short and fails, a file system of such files, and one that lets nothing be written.
 ghost use Rattle.std.specs.Prelude.{◌≤◌, IfOk};
 
 use std::alloc::Allocator;
-use std::fs::{Metadata, OpenOptions};
+use std::fs::{Metadata, OpenFile, OpenOptions};
 use std::io;
 use std::io::{Error, ErrorKind, Read, Seek, SeekFrom, Write};
 use std::rt::Files;
@@ -73,6 +73,79 @@ impl Seek for Choppy {
             SeekFrom::Current(_) => self.at,
         };
         Ok(self.at)
+    }
+}
+
+/// It is made durable but at the place `bad`.
+impl OpenFile for Choppy {
+    fn metadata(&self) -> io::Result<Metadata> {
+        Err(Error::from(ErrorKind::Unsupported))
+    }
+
+    fn set_len(&self, _size: u64) -> io::Result<()> {
+        Err(Error::from(ErrorKind::Unsupported))
+    }
+
+    fn sync_all(&self) -> io::Result<()> {
+        if self.at == self.bad {
+            return Err(Error::from(ErrorKind::Other));
+        }
+        Ok(())
+    }
+
+    fn sync_data(&self) -> io::Result<()> {
+        self.sync_all()
+    }
+}
+
+/// A file system each of whose files is a [`Choppy`] one that is bad at this place. What it tells of a file is another's.
+#[derive(Drop)]
+pub(super) struct ChoppyFiles<'a, R>(pub(super) &'a R, pub(super) u64);
+
+impl<R: Files> Files for ChoppyFiles<'_, R> {
+    type File = Choppy;
+
+    type Dir = R::Dir;
+
+    fn open_file(&self, how: &OpenOptions, _path: &str) -> io::Result<Choppy> {
+        how.check()?;
+        Ok(Choppy::new(self.1))
+    }
+
+    fn open_dir(&self, path: &str) -> io::Result<R::Dir> {
+        self.0.open_dir(path)
+    }
+
+    fn metadata(&self, path: &str) -> io::Result<Metadata> {
+        self.0.metadata(path)
+    }
+
+    fn symlink_metadata(&self, path: &str) -> io::Result<Metadata> {
+        self.0.symlink_metadata(path)
+    }
+
+    fn copy(&self, from: &str, to: &str) -> io::Result<u64> {
+        self.0.copy(from, to)
+    }
+
+    fn rename(&self, from: &str, to: &str) -> io::Result<()> {
+        self.0.rename(from, to)
+    }
+
+    fn remove_file(&self, path: &str) -> io::Result<()> {
+        self.0.remove_file(path)
+    }
+
+    fn create_dir(&self, path: &str) -> io::Result<()> {
+        self.0.create_dir(path)
+    }
+
+    fn remove_dir(&self, path: &str) -> io::Result<()> {
+        self.0.remove_dir(path)
+    }
+
+    fn remove_dir_all<B: Allocator>(&self, alloc: B, path: &str) -> io::Result<()> {
+        self.0.remove_dir_all(alloc, path)
     }
 }
 

@@ -1,6 +1,6 @@
 //! Pools and cache devices over real files, and reads and writes at a place of a file that is short and fails.
 use super::devices::{has_at, write_and_read_again};
-use super::fakes::{Choppy, Locked};
+use super::fakes::{Choppy, ChoppyFiles, Locked};
 use super::pools::{forks, reads, writes};
 use crate::file::{read_at, write_at};
 use crate::*;
@@ -161,5 +161,49 @@ fn a_file_of_short_calls(rt: HostRuntime) -> Result<(), Fail> {
             "write at {at}"
         );
     }
+    Ok(())
+}
+
+#[test]
+fn a_pool_of_short_calls(rt: HostRuntime) -> Result<(), Fail> {
+    let name = "short_pool_of_a_test";
+    fs::write(&rt, name, [0u8; 1].as_slice())?;
+    let files = ChoppyFiles(&rt, 8);
+    let mut pool = FilePool::open(rt.alloc(), &files, name).map_err(Fail::from)?;
+    assert_eq!(rt; pool.len(), 16);
+    writes(&rt, &mut pool, 1, b"ABCD", Ok(()));
+    writes(&rt, &mut pool, 5, b"EFGH", Err(IoFault::Failed));
+    reads(
+        &rt,
+        &mut pool,
+        &[
+            (0, Ok(*b"0ABC")),
+            (4, Ok(*b"DEFG")),
+            (8, Err(Failed)),
+            (9, Ok(*b"9abc")),
+        ],
+    );
+    forks(&rt, rt.alloc(), &mut pool, &[(1, Ok(*b"1234"))]);
+    fs::remove_file(&rt, name)?;
+    Ok(())
+}
+
+#[test]
+fn a_device_of_short_calls(rt: HostRuntime) -> Result<(), Fail> {
+    let name = "short_device_of_a_test";
+    fs::write(&rt, name, [0u8; 1].as_slice())?;
+    let files = ChoppyFiles(&rt, 8);
+    let mut dev = FileCache::open(rt.alloc(), &files, name).map_err(Fail::from)?;
+    let mut bytes = [0; 7];
+    if dev.len() == 16 {
+        assert_eq!(rt; dev.write(9, b"ABCDEFG"), Ok(()));
+        assert_eq!(rt; dev.read(9, &mut bytes), Ok(()));
+        assert_eq!(rt; dev.flush(), Ok(()));
+        assert_eq!(rt; dev.read(5, &mut [0; 7]), Err(Failed));
+        assert_eq!(rt; dev.flush(), Err(Failed));
+        assert_eq!(rt; dev.write(5, &[0; 7]), Err(Failed));
+    }
+    assert_eq!(rt; bytes, *b"ABCDEFG");
+    fs::remove_file(&rt, name)?;
     Ok(())
 }
