@@ -1,12 +1,9 @@
 -- What a begin keeps of every crash, from the steps of its body.
-use Rattle.std.proofs.Common.{◌≡◌, ℕ, ◌+◌, ◌<◌, ◌≤◌, List, [], ◌∷◌, Bool, true, false, Option, Some, Result, Ok, refl, sym, ap, subst, ◌∙◌, arith}
-use Rattle.std.specs.Result.{OnOk}
+use Rattle.std.proofs.Common.{◌≡◌, ℕ, ◌<◌, ◌≤◌, List, [], ◌∷◌, Bool, false, Option, Some, Result, refl, sym, ap, subst, ◌∙◌, arith}
 use Rattle.std.specs.Option.{IfSome}
 use Rattle.vdev_io.specs.Device.{put}
 use Rattle.l2_log.specs.Rules.{ring_start, header_len}
 use Rattle.l2_log.specs.declared.header.DevHeader.{DevHeader}
-use Rattle.l2_log.specs.declared.pointer.LogPtr.{LogPtr}
-use Rattle.l2_log.specs.declared.entry.Entry.{Entry}
 use Rattle.l2_ring.specs.declared.plan.Plan.{Plan}
 use Rattle.l2_ring.specs.Ring.{RingState, HasPlan, last_lap, with_hand, numbers_of}
 use Rattle.l2_dev.specs.Chain.{numbers_in}
@@ -15,9 +12,9 @@ use Rattle.l2_dev.specs.Cursor.{CursorState, numbers_from}
 use Rattle.l2_dev.specs.Promise.{Promise, IsKept}
 use Rattle.l2_dev.specs.PromiseLaws.{left_by, HasTaken, IsHeaderFrom}
 use Rattle.l2_dev.specs.Planned.{HasPlanned}
-use Rattle.l2_dev.specs.Steps.{Wrote, HasFlushed, HeaderWritten}
+use Rattle.l2_dev.specs.Steps.{HasFlushed, HeaderWritten}
 use Rattle.l2_dev.specs.Calls.{LeavesWith}
-use Rattle.l2_dev.specs.CallLaws.{IsPlain, Begins, WritesHeader, begun_leaves, begun_failed, begun_kept}
+use Rattle.l2_dev.specs.CallLaws.{IsPlain, Begins, begun_leaves, begun_failed, begun_kept}
 
 pub header_evict : (cursor : CursorState) (header : DevHeader) → numbers_in header ≡ numbers_from cursor → ring_start ≤ cursor.ring.evict
 header_evict cursor header same =

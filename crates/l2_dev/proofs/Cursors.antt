@@ -1,6 +1,6 @@
 -- That the steps of a cursor keep its rules.
-use Rattle.std.proofs.Common.{◌≡◌, ℕ, ◌+◌, ◌<◌, ◌≤◌, ◌++◌, List, [], ◌∷◌, length, map, reverse, true, false, Bool, refl, sym, ap, subst, ◌∙◌, arith}
-use Rattle.std.specs.List.{All, AllByRecursion, filter}
+use Rattle.std.proofs.Common.{◌≡◌, ℕ, ◌+◌, ◌≤◌, ◌++◌, List, [], ◌∷◌, length, map, reverse, true, Bool, refl, ap, subst, arith}
+use Rattle.std.specs.List.{All, AllByRecursion}
 use Rattle.std.proofs.lemmas.List.Elements.{All-nil}
 use Rattle.l2_log.specs.declared.entry.Entry.{Entry}
 use Rattle.l2_log.specs.Rules.{is_there}
@@ -9,9 +9,8 @@ use Rattle.std.proofs.lemmas.List.Elements.{All-from_recursion}
 use Rattle.l2_log.specs.Rules.{ring_start}
 use Rattle.l2_ring.specs.Ring.{IsLower}
 use Rattle.l2_dev.specs.ListLaws.{all_left, all_right, all_unmap, all_weaker}
-use Rattle.l2_ring.specs.declared.plan.Plan.{Plan}
 use Rattle.l2_ring.specs.declared.live.Written.{Written}
-use Rattle.l2_ring.specs.Ring.{RingState, IsSound, HasPlan, numbers_of, with_hand}
+use Rattle.l2_ring.specs.Ring.{RingState, IsSound, numbers_of}
 use Rattle.l2_ring.specs.Stays.{AreLive}
 use Rattle.l2_dev.specs.Cursor.{IsCursor}
 use Rattle.l2_dev.specs.Restoring.{written_in}

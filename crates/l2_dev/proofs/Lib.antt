@@ -1,3 +1,4 @@
 pub mod Begins
+pub mod Commits
 pub mod Cursors
 pub mod Puts

@@ -1,13 +1,11 @@
 -- What a put keeps of every crash, from the steps of its body.
-use Rattle.std.proofs.Common.{◌≡◌, ℕ, ◌+◌, ◌<◌, ◌≤◌, ◌++◌, List, [], ◌∷◌, length, map, reverse, Bool, true, false, Option, Some, refl, inl, sym, ap, subst, ◌∙◌, arith}
+use Rattle.std.proofs.Common.{◌≡◌, ℕ, ◌+◌, ◌≤◌, List, [], ◌∷◌, length, map, reverse, true, inl, sym, ap, subst, ◌∙◌, arith}
 use Rattle.std.proofs.lemmas.List.{reverse-append}
 use Rattle.std.specs.List.{AllByRecursion}
-use Rattle.l2_log.specs.Rules.{header_len}
 use Rattle.l2_log.specs.declared.entry.Entry.{Entry}
 use Rattle.l2_ring.specs.declared.live.Written.{Written}
-use Rattle.l2_ring.specs.Ring.{numbers_of, with_hand}
 use Rattle.l2_dev.specs.Restoring.{written_in}
-use Rattle.l2_dev.specs.Standing.{Kept, written_of, IsRow}
+use Rattle.l2_dev.specs.Standing.{Kept, written_of}
 use Rattle.l2_dev.specs.Cursor.{CursorState, IsCursor, numbers_from}
 use Rattle.l2_dev.specs.Promise.{Promise, IsUpheld}
 use Rattle.l2_dev.specs.PromiseLaws.{same_plan}

@@ -1,10 +1,10 @@
 -- That begin, put and commit keep what is promised of every crash.
-use Rattle.std.specs.Prelude.{◌≡◌, ℕ, ◌+◌, ◌<◌, ◌≤◌, ◌⊎◌, List, [], ◌∷◌, ◌++◌, length, map, reverse, Bool, true, false, IsTrue, Option, None, Some, Result, Ok, Err}
+use Rattle.std.specs.Prelude.{◌≡◌, ℕ, ◌+◌, ◌≤◌, List, [], ◌∷◌, ◌++◌, length, map, reverse, Bool, true, false, IsTrue, Option, None, Some, Result}
 use Rattle.std.proofs.Common.{inl, inr, refl, sym, ap, subst, ◌∙◌, ⊎_elim, append_assoc, arith}
 use Rattle.std.proofs.lemmas.Bool.{false≢true}
 use Rattle.std.proofs.lemmas.List.{append-nil}
-use Rattle.std.specs.List.{AllByRecursion, filter}
-use Rattle.vdev_io.specs.Device.{IsTorn, IsTornBySector, IsWritten, LeavesOnly, LeavesNoMore, FollowsBySector, Elapses, ElapsesTo, put}
+use Rattle.std.specs.List.{AllByRecursion}
+use Rattle.vdev_io.specs.Device.{IsTornBySector, IsWritten, LeavesNoMore, FollowsBySector, ElapsesTo, put}
 use Rattle.l2_log.specs.Rules.{ring_start, log_len, header_len}
 use Rattle.l2_log.specs.HeaderBytes.{IsHeader}
 use Rattle.l2_log.specs.declared.header.DevHeader.{DevHeader}
@@ -12,20 +12,19 @@ use Rattle.l2_log.specs.declared.entry.Entry.{Entry}
 use Rattle.l2_log.specs.declared.pointer.LogPtr.{LogPtr}
 use Rattle.l2_ring.specs.declared.live.Written.{Written}
 use Rattle.l2_ring.specs.declared.plan.Plan.{Plan}
-use Rattle.l2_ring.specs.Ring.{IsSound, with_hand}
-use Rattle.l2_ring.specs.Ranges.{Stays, range_of}
+use Rattle.l2_ring.specs.Ranges.{Stays}
 use Rattle.l2_dev.specs.Chain.{Visit, IsHeld, IsPlaced, IsLinked, bytes_at}
 use Rattle.l2_dev.specs.Restoring.{first_sector, written_in, firsts, found_in}
-use Rattle.l2_dev.specs.Standing.{Candidate, Kept, written_of, IsNamed, IsCandidate, IsKeptIn, IsLeftBy, AnyOf, IsOrderly, leading, staying, IsRow}
+use Rattle.l2_dev.specs.Standing.{Candidate, Kept, written_of, IsNamed, IsCandidate, IsKeptIn, IsLeftBy, AnyOf, IsOrderly, leading, staying}
 use Rattle.l2_dev.specs.Cursor.{CursorState, numbers_from}
 use Rattle.l2_dev.specs.Promise.{Promise, IsUpheld, IsBacked, IsOf, AreGood, IsKept, LeftAmong, LeavesOnlyWith, Covers, kept_range}
 use Rattle.l2_dev.specs.PromiseLaws.{left_by, with_block, HasTaken, taken_upheld, taken_covers, HasCommitted, committed_upheld, IsHeaderFrom, upheld_named, kept_inside}
 use Rattle.l2_dev.specs.Steps.{TornFrom, Wrote, HasFlushed}
-use Rattle.l2_dev.specs.StepLaws.{any_two, backed_in_ring, backed_by_header, blocks_behind, entries_behind, left_among, leaves_from, leaves_on, leaves_wider}
+use Rattle.l2_dev.specs.StepLaws.{backed_in_ring, backed_by_header, blocks_behind, entries_behind, left_among, leaves_from, leaves_on, leaves_wider}
 use Rattle.l2_dev.specs.StandingLaws.{leading_all}
 use Rattle.l2_ring.specs.Stays.{stays}
-use Rattle.l2_dev.specs.TornLaws.{IsAside, BlocksAside, EntriesAside, all_held_aside, all_kept_aside, put_torn, put_there, sector_aside}
-use Rattle.l2_dev.specs.ListLaws.{filter_all, all_weaker, all_two, all_append, all_right, all_unmap}
+use Rattle.l2_dev.specs.TornLaws.{BlocksAside, EntriesAside, all_kept_aside, put_torn, put_there}
+use Rattle.l2_dev.specs.ListLaws.{filter_all, all_weaker, all_append, all_right}
 use Rattle.l2_dev.specs.Calls.{LeavesWith, forgotten, with_put}
 
 told_written : {T E : Type 0} (at : ℕ) (bytes : List ℕ) (old new : Option (List ℕ)) (result : Result T E) → IsWritten at bytes old new result
@@ -114,7 +113,8 @@ module _ {D : Type 0} (tells : D → Option (List ℕ)) (has_sectors : D → Boo
       (λ c left. kept_among old cursor p kept c (plain.now_only c kept.sectors left))
       (λ c torn. left_among cursor.ring.end p.candidates c kept.good.each (torn_in_ring old cursor p at bytes kept writes c torn).left)
 
-  forgotten_upheld : (old new : CursorState) (p : Promise) (candidates : List Candidate) → HasForgotten old new → IsUpheld old p → IsUpheld new (forgotten p candidates)
+  -- the list stands for the cursor that has forgotten what was pending
+  pub forgotten_upheld : (old new : CursorState) (p : Promise) (candidates : List Candidate) → HasForgotten old new → IsUpheld old p → IsUpheld new (forgotten p candidates)
   forgotten_upheld old new p candidates f up =
       let to : numbers_from old ≡ numbers_from new = sym f.numbers in
       record {
@@ -129,7 +129,7 @@ module _ {D : Type 0} (tells : D → Option (List ℕ)) (has_sectors : D → Boo
         pending = ap (λ (es : List Entry). map (written_in new.ring.lap) (reverse es)) (sym f.pending);
       }
 
-  not_ready : (cursor : CursorState) (P : Type 0) → cursor.ready ≡ false → cursor.ready ≡ true → P
+  pub not_ready : (cursor : CursorState) (P : Type 0) → cursor.ready ≡ false → cursor.ready ≡ true → P
   not_ready cursor P shut ready = absurd (false≢true (sym shut ∙ ready))
 
   -- after a write in the ring what is pending may be forgotten

@@ -1,15 +1,18 @@
 -- What a begin, a put and a commit promise of every crash.
-use Rattle.std.specs.Prelude.{◌≡◌, ℕ, ◌<◌, ◌≤◌, ◌⊎◌, List, [], ◌∷◌, ◌++◌, Bool, Option, Some, Result, MatchResult, IsErrOf}
+use Rattle.std.specs.Prelude.{◌≡◌, ℕ, ◌≤◌, ◌⊎◌, List, [], ◌∷◌, ◌++◌, Bool, Option, Some, Result, MatchResult, IsErrOf, IfSome}
 use Rattle.blk_ptr.specs.declared.key.Key.{Key}
 use Rattle.vdev_io.specs.Faults.{Rose}
 use Rattle.l2_dev.specs.declared.fault.DevErr.{DevErr}
 use Rattle.l2_dev.specs.declared.fault.DevErr.TheVariants.{DevFault, NoMemory}
+use Rattle.vdev_io.specs.Device.{put}
+use Rattle.l2_log.specs.declared.pointer.LogPtr.{LogPtr}
+use Rattle.l2_log.specs.declared.log_block.LogBlock.{LogBlock}
+use Rattle.l2_dev.specs.Planned.{IsBlockOf}
+use Rattle.l2_dev.specs.Steps.{Wrote, HasFlushed}
 use Rattle.l2_dev.specs.PromiseLaws.{left_by, with_block}
 use Rattle.blk_ptr.specs.Ptr.{sha256_of}
 use Rattle.l2_log.specs.declared.header.DevHeader.{DevHeader}
-use Rattle.l2_ring.specs.declared.live.Live.{Live}
 use Rattle.l2_ring.specs.declared.plan.Plan.{Plan}
-use Rattle.l2_ring.specs.Ring.{IsPlanFor, last_lap}
 use Rattle.l2_dev.specs.Chain.{Visit}
 use Rattle.l2_dev.specs.Standing.{Candidate, Kept, IsNamed, leading, staying}
 use Rattle.l2_dev.specs.Cursor.{CursorState}
@@ -74,3 +77,11 @@ CommitKeeps tells has_sectors leaves moment since old new cursor after p result 
 pub record HasDevCause {T : Type 0} (before now : ℕ) (result : Result T DevErr) : Type 0 where
   pub kept : before ≤ now
   pub rose : IsErrOf result DevFault → Rose before now
+
+-- what the write of a log block does: nothing, where memory was refused; else its bytes were written behind the pending blocks, or in part, and flushed at Ok
+abbrev pub LogWritten : {D : Type 0} → (D → Option (List ℕ)) → (D → Bool) → (D → List ℕ → Type 0) → (D → ℕ) → (D → ℕ → List ℕ → Type 0)
+    → CursorState → D → D → Result LogPtr DevErr → Type 0
+LogWritten tells has_sectors leaves moment since cursor old new result =
+    ((new ≡ old) × IsErrOf result NoMemory)
+    ⊎ ((bytes : List ℕ) × (block : LogBlock) × (ptr : LogPtr) × IsBlockOf cursor bytes ptr block × Wrote tells has_sectors leaves moment since cursor.ring.hand bytes old new
+    × MatchResult result (λ told. (told ≡ ptr) × IfSome (tells old) (λ image. HasFlushed tells leaves new (put cursor.ring.hand bytes image))) (λ _. Unit {0}))

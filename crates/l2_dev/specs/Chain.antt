@@ -4,7 +4,7 @@ use Rattle.std.specs.Prelude.{◌≡◌, ◌≢◌, ℕ, ◌+◌, ◌-◌, ◌*�
 use Rattle.std.specs.List.{AllByRecursion}
 use Rattle.blk_ptr.specs.Size.{sector}
 use Rattle.blk_ptr.specs.Ptr.{sha256_of}
-use Rattle.l2_log.specs.Rules.{ring_start, log_len, has_digests}
+use Rattle.l2_log.specs.Rules.{ring_start, log_len}
 use Rattle.l2_log.specs.LogBytes.{IsLogBlock, IsFirstLogFault}
 use Rattle.l2_log.specs.declared.pointer.LogPtr.{LogPtr}
 use Rattle.l2_log.specs.declared.log_block.LogBlock.{LogBlock}

@@ -1,8 +1,8 @@
 -- The walk on an image that holds a standing list visits that list first, whatever stands elsewhere.
-use Rattle.std.specs.Prelude.{◌≡◌, ◌≢◌, ℕ, suc, ◌+◌, ◌-◌, ◌*◌, ◌<◌, ◌≤◌, ◌⊎◌, List, [], ◌∷◌, ◌++◌, length, Option, None, Some, map}
+use Rattle.std.specs.Prelude.{◌≡◌, ◌≢◌, ℕ, ◌+◌, ◌*◌, ◌≤◌, ◌⊎◌, List, [], ◌∷◌, ◌++◌, length, Option, None, Some}
 use Rattle.std.proofs.Common.{inl, inr, refl, sym, ap, subst, ◌∙◌, arith}
 use Rattle.std.specs.List.{AllByRecursion}
-use Rattle.l2_log.specs.Rules.{ring_start, log_len}
+use Rattle.l2_log.specs.Rules.{log_len}
 use Rattle.l2_log.specs.LogBytes.{IsLogBlock, IsFirstLogFault}
 use Rattle.l2_log.specs.Values.{same_log_block_of_bytes}
 use Rattle.l2_log.proofs.Logs.{log_not_refused}
@@ -11,10 +11,10 @@ use Rattle.l2_log.specs.declared.log_block.LogBlock.{LogBlock}
 use Rattle.l2_log.specs.declared.header.DevHeader.{DevHeader}
 use Rattle.l2_log.specs.declared.fault.LogFault.{LogFault}
 use Rattle.l2_log.specs.declared.fault.LogFault.TheVariants as fault
-use Rattle.l2_ring.specs.Ranges.{Range, IsWithin, Stays}
+use Rattle.l2_ring.specs.Ranges.{Stays}
 use Rattle.l2_dev.specs.declared.stop.Stop.{Stop}
 use Rattle.l2_dev.specs.declared.stop.Stop.TheVariants as stop
-use Rattle.l2_dev.specs.Chain.{Visit, IsChain, IsStop, IsReached, IsMisfit, IsBlockFault, IsInRing, IsInPart, IsPassed, IsHeld, IsLinked, pointer_behind, numbers_in, log_range, bytes_at, ring_len}
+use Rattle.l2_dev.specs.Chain.{Visit, IsStop, IsMisfit, IsBlockFault, IsInRing, IsInPart, IsPassed, IsHeld, IsLinked, pointer_behind, numbers_in, log_range, bytes_at, ring_len}
 
 same_some : (p q : LogPtr) (o : Option LogPtr) → o ≡ Some p → o ≡ Some q → p ≡ q
 same_some p q o a b = let e : Some p ≡ Some q = sym a ∙ b in cc

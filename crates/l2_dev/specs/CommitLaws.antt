@@ -1,5 +1,5 @@
 -- What one more log block, behind the blocks that it tells of, makes of a standing list.
-use Rattle.std.specs.Prelude.{◌≡◌, ℕ, ◌+◌, ◌-◌, ◌*◌, ◌<◌, ◌≤◌, ◌⊎◌, List, [], ◌∷◌, ◌++◌, length, Bool, true, false, ◌&&◌, map, reverse}
+use Rattle.std.specs.Prelude.{◌≡◌, ℕ, ◌+◌, ◌≤◌, List, [], ◌∷◌, ◌++◌, Bool, true, false, ◌&&◌, map}
 use Rattle.std.proofs.Common.{inl, inr, refl, sym, ap, subst, ◌∙◌, leb, arith}
 use Rattle.std.proofs.lemmas.Bool.{leb-true, le-leb, and_parts, and_from}
 use Rattle.std.specs.List.{AllByRecursion, filter}
@@ -7,13 +7,13 @@ use Rattle.l2_log.specs.Rules.{ring_start, log_len}
 use Rattle.l2_ring.specs.declared.live.Written.{Written}
 use Rattle.l2_ring.specs.declared.plan.Plan.{Plan}
 use Rattle.l2_ring.specs.Ring.{with_hand}
-use Rattle.l2_ring.specs.Stays.{stays, stays_at}
+use Rattle.l2_ring.specs.Stays.{stays}
 use Rattle.l2_ring.specs.Ranges.{Range, Stays, IsOlder, IsInOrder, range_of}
 use Rattle.l2_ring.specs.PlanLaws.{stays_tells, tells_stays, stays_further, older_than_new, stays_beside}
-use Rattle.l2_dev.specs.Chain.{Visit, log_range}
-use Rattle.l2_dev.specs.Restoring.{valid_of, found_in, firsts, told_by, is_valid}
+use Rattle.l2_dev.specs.Chain.{Visit}
+use Rattle.l2_dev.specs.Restoring.{valid_of, found_in, told_by, is_valid}
 use Rattle.l2_dev.specs.Standing.{IsOrderly, passed_ranges, block_range, IsRow}
-use Rattle.l2_dev.specs.ListLaws.{filter_alike, filter_whole, all_passes, all_append, all_map, all_weaker, all_two, firsts_behind}
+use Rattle.l2_dev.specs.ListLaws.{filter_alike, filter_whole, all_passes, all_append, all_map, all_weaker}
 use Rattle.l2_dev.specs.StandingLaws.{BlocksStay, told_lap}
 
 -- two tests that follow from each other are one

@@ -4,6 +4,7 @@ pub mod Chain
 pub mod ChainLaws
 pub mod CommitLaws
 pub mod Cursor
+pub mod Lending
 pub mod ListLaws
 pub mod Planned
 pub mod Promise

@@ -1,6 +1,6 @@
 -- What the steps of a cursor do.
 use Rattle.l2_log.specs.declared.entry.Entry.{Entry}
-use Rattle.std.specs.Prelude.{◌≡◌, ℕ, ◌+◌, ◌<◌, ◌≤◌, List, [], ◌∷◌, ◌++◌, false, map, length, Option, Some}
+use Rattle.std.specs.Prelude.{◌≡◌, ℕ, ◌+◌, List, [], ◌∷◌, ◌++◌, false, map, length, Some}
 use Rattle.std.specs.List.{filter}
 use Rattle.blk_ptr.specs.Ptr.{sha256_of}
 use Rattle.l2_log.specs.Rules.{log_len}
@@ -86,3 +86,17 @@ pub record IsForgotten (old new : CursorState) : Type 0 where
   pub newest : new.newest ≡ old.newest
   pub second : new.second ≡ old.second
   pub ready : new.ready ≡ false
+
+-- the same cursor, perhaps with more room
+pub record IsReserved (old new : CursorState) : Type 0 where
+  pub end : new.ring.end ≡ old.ring.end
+  pub hand : new.ring.hand ≡ old.ring.hand
+  pub evict : new.ring.evict ≡ old.ring.evict
+  pub top : new.ring.top ≡ old.ring.top
+  pub lap : new.ring.lap ≡ old.ring.lap
+  pub live : new.ring.live ≡ old.ring.live
+  pub base : new.base ≡ old.base
+  pub newest : new.newest ≡ old.newest
+  pub second : new.second ≡ old.second
+  pub pending : new.pending ≡ old.pending
+  pub ready : new.ready ≡ old.ready

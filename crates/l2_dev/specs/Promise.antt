@@ -1,13 +1,7 @@
 -- What each crash of the device leaves: one of the headers that may stand in the first sector, with its list and the bytes of
 -- its entries.
-use Rattle.std.specs.Prelude.{◌≡◌, ℕ, ◌+◌, ◌<◌, ◌≤◌, ◌⊎◌, List, [], ◌∷◌, ◌++◌, map, reverse, length, Bool, true, IsTrue, Option, Some}
+use Rattle.std.specs.Prelude.{◌≡◌, ℕ, ◌<◌, ◌≤◌, ◌⊎◌, List, ◌++◌, map, reverse, Bool, true, IsTrue, Option, Some}
 use Rattle.std.specs.List.{AllByRecursion}
-use Rattle.l2_log.specs.Rules.{ring_start, log_len}
-use Rattle.l2_log.specs.declared.pointer.LogPtr.{LogPtr}
-use Rattle.l2_log.specs.declared.header.DevHeader.{DevHeader}
-use Rattle.l2_ring.specs.declared.live.Written.{Written}
-use Rattle.l2_ring.specs.declared.plan.Plan.{Plan}
-use Rattle.l2_ring.specs.Ring.{RingState}
 use Rattle.l2_ring.specs.Ranges.{Range, Stays, IsInOrder, range_of}
 use Rattle.l2_dev.specs.Chain.{Visit, IsHeld, IsPlaced, IsLinked}
 use Rattle.l2_dev.specs.Restoring.{found_in, firsts, written_in}

@@ -1,5 +1,5 @@
 -- What a plan and a commit make of what is promised of a device.
-use Rattle.std.specs.Prelude.{◌≡◌, ℕ, ◌+◌, ◌<◌, ◌≤◌, List, [], ◌∷◌, ◌++◌, length, map, reverse, Option, Some}
+use Rattle.std.specs.Prelude.{◌≡◌, ℕ, ◌+◌, ◌<◌, ◌≤◌, List, [], ◌∷◌, ◌++◌, map, reverse, Option, Some}
 use Rattle.std.proofs.Common.{inl, inr, true, refl, sym, ap, subst, ◌∙◌, arith, append_assoc}
 use Rattle.std.proofs.lemmas.List.{map-append, reverse-append, reverse-reverse}
 use Rattle.std.specs.List.{AllByRecursion, filter}
@@ -7,22 +7,21 @@ use Rattle.l2_log.specs.Rules.{ring_start, log_len}
 use Rattle.l2_log.specs.HeaderBytes.{IsHeader}
 use Rattle.l2_log.specs.declared.header.DevHeader.{DevHeader}
 use Rattle.l2_log.specs.declared.pointer.LogPtr.{LogPtr}
-use Rattle.l2_log.specs.declared.log_block.LogBlock.{LogBlock}
 use Rattle.l2_log.specs.declared.entry.Entry.{Entry}
 use Rattle.l2_ring.specs.declared.live.Written.{Written}
 use Rattle.l2_ring.specs.declared.plan.Plan.{Plan}
-use Rattle.l2_ring.specs.Ring.{RingState, IsSound, IsPlanFor, HasPlan, numbers_of, with_hand, last_lap}
+use Rattle.l2_ring.specs.Ring.{RingState, IsPlanFor, HasPlan, numbers_of, with_hand, last_lap}
 use Rattle.l2_ring.specs.Stays.{stays}
 use Rattle.l2_ring.specs.Ranges.{Range, Stays, IsInOrder, range_of}
 use Rattle.l2_ring.specs.PlanLaws.{stays_tells, stays_further}
-use Rattle.l2_dev.specs.Chain.{Visit, IsHeld, IsPlaced, IsPassed, IsLinked, numbers_in, log_range}
+use Rattle.l2_dev.specs.Chain.{Visit, IsPlaced, IsPassed, IsLinked, numbers_in}
 use Rattle.l2_dev.specs.Restoring.{found_in, firsts, written_in, told_by}
-use Rattle.l2_dev.specs.Standing.{Candidate, Kept, written_of, IsNamed, IsStanding, IsKeptIn, IsLeftBy, IsOrderly, block_range, leading, staying, IsRow}
+use Rattle.l2_dev.specs.Standing.{Candidate, Kept, written_of, IsNamed, IsOrderly, block_range, leading, staying}
 use Rattle.l2_dev.specs.Cursor.{CursorState, numbers_from}
 use Rattle.l2_dev.specs.Promise.{Promise, IsUpheld, kept_range, Covers}
 use Rattle.l2_dev.specs.ListLaws.{FailsOn, filter_all, all_passes, all_weaker, all_two, all_append, all_map, all_unmap, map_filter, firsts_kept, firsts_behind, filter_front, fails_unmap, filter_reverse, map_reverse}
-use Rattle.l2_dev.specs.StandingLaws.{keeps, HaveBytes, BlocksStay, plan_fails_on, entries_fail_on, filter_ordered, found_ordered, told_bytes, found_among, passed_bytes, found_after, orderly_after, leading_all, leading_stay, leading_linked}
-use Rattle.l2_dev.specs.CommitLaws.{IsNewBlock, IsNew, new_laps, passed_stay, orderly_with, found_with, row_new, row_stays, row_in_front}
+use Rattle.l2_dev.specs.StandingLaws.{keeps, BlocksStay, plan_fails_on, entries_fail_on, filter_ordered, found_ordered, told_bytes, found_among, passed_bytes, found_after, orderly_after, leading_all, leading_stay, leading_linked}
+use Rattle.l2_dev.specs.CommitLaws.{IsNewBlock, new_laps, passed_stay, orderly_with, found_with, row_new, row_stays, row_in_front}
 
 pub same_plan : (p q : Plan) → p.hand ≡ q.hand → p.evict ≡ q.evict → p.top ≡ q.top → p.lap ≡ q.lap → p ≡ q
 same_plan p q hand evict top lap =

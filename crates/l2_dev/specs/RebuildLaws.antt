@@ -1,14 +1,13 @@
 -- What a rebuild of an image restores that a candidate header left, and that it restores what was live.
-use Rattle.std.specs.Prelude.{◌≡◌, ◌≢◌, ℕ, ◌+◌, ◌*◌, ◌<◌, ◌≤◌, ◌⊎◌, List, [], ◌∷◌, ◌++◌, length, Bool, true, false, not, cond, map, Option, Some}
+use Rattle.std.specs.Prelude.{◌≡◌, ℕ, ◌*◌, ◌≤◌, ◌⊎◌, List, [], ◌∷◌, ◌++◌, length, Bool, true, false, not, cond, map, Some}
 use Rattle.std.proofs.Common.{inl, inr, refl, sym, ap, subst, ◌∙◌, ◌&&◌, eqb, arith, append_assoc}
 use Rattle.std.proofs.lemmas.Bool.{eqb-true, eq-eqb, eqb-false, and_parts, and_from, false≢true}
 use Rattle.std.proofs.lemmas.List.{map-append, append-nil}
 use Rattle.std.proofs.lemmas.List.Concat.{flat_map-append}
-use Rattle.std.specs.List.{AllByRecursion, filter, flat_map}
+use Rattle.std.specs.List.{AllByRecursion, filter}
 use Rattle.blk_ptr.specs.Order.{key_eq}
 use Rattle.blk_ptr.specs.declared.key.Key.{Key}
 use Rattle.l2_log.specs.Rules.{log_len}
-use Rattle.l2_log.specs.HeaderBytes.{IsHeader, IsFirstRefusal}
 use Rattle.l2_log.specs.Values.{same_header_of_bytes}
 use Rattle.l2_log.proofs.Headers.{header_not_refused}
 use Rattle.l2_log.specs.declared.header.DevHeader.{DevHeader}
@@ -17,12 +16,11 @@ use Rattle.l2_ring.specs.declared.live.Written.{Written}
 use Rattle.l2_ring.specs.declared.plan.Plan.{Plan}
 use Rattle.l2_dev.specs.declared.restored.Restored.{Restored}
 use Rattle.l2_dev.specs.declared.stop.Stop.{Stop}
-use Rattle.l2_dev.specs.declared.stop.Stop.TheVariants as stop
-use Rattle.l2_dev.specs.Chain.{Visit, IsPassed, IsHeld, IsChain, numbers_in, pointer_behind, ring_len}
+use Rattle.l2_dev.specs.Chain.{Visit, IsHeld, IsChain, numbers_in, pointer_behind, ring_len}
 use Rattle.l2_dev.specs.ChainLaws.{begins_with, linked_next}
-use Rattle.l2_dev.specs.Restoring.{found_in, valid_of, firsts, is_same_key, restored_of, restored_from, first_sector, IsHeaderOf, IsRefused, IsBare, IsWalked, IsRebuilt}
-use Rattle.l2_dev.specs.Standing.{Candidate, Kept, written_of, IsNamed, IsCandidate, IsLeftBy, IsRestoredBy, Rebuilds, restored_by, AnyOf, IsFoundBeyond}
-use Rattle.l2_dev.specs.StandingLaws.{standing_fits, BlocksStay, block_stays}
+use Rattle.l2_dev.specs.Restoring.{found_in, valid_of, firsts, is_same_key, restored_of, restored_from, IsHeaderOf, IsRefused, IsBare}
+use Rattle.l2_dev.specs.Standing.{Candidate, Kept, written_of, IsCandidate, IsLeftBy, IsRestoredBy, Rebuilds, restored_by, AnyOf}
+use Rattle.l2_dev.specs.StandingLaws.{standing_fits, block_stays}
 use Rattle.l2_dev.specs.ListLaws.{firsts_prefix, all_right}
 
 -- what is restored of log blocks that begin with others

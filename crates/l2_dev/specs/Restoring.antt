@@ -1,5 +1,5 @@
 -- What a rebuild finds: the valid entries of the chain, of each key the newest.
-use Rattle.std.specs.Prelude.{◌≡◌, ◌≢◌, ℕ, ◌+◌, ◌*◌, ◌⊎◌, ◌&&◌, nat_le, List, [], ◌∷◌, Bool, not, length, take, map, reverse}
+use Rattle.std.specs.Prelude.{◌≡◌, ◌≢◌, ℕ, ◌+◌, ◌⊎◌, ◌&&◌, nat_le, List, [], ◌∷◌, Bool, not, take, map, reverse}
 use Rattle.std.specs.List.{filter, flat_map}
 use Rattle.blk_ptr.specs.Order.{key_eq}
 use Rattle.l2_log.specs.Rules.{header_len}
@@ -69,11 +69,14 @@ IsRefused end sector refusal =
     IsFirstRefusal sector refusal
     ⊎ ((refusal ≡ fault.Field 24) × (header : DevHeader) × IsHeader sector header × (header.end ≢ end))
 
--- nothing was restored, since the first sector is no header, or could not be read
+-- no header was found, since the first sector is none of this device, or could not be read
+abbrev pub IsUnread : ℕ → List ℕ → Stop → Type 0
+IsUnread end image why =
+    (why ≡ stop.DevFault) ⊎ ((refusal : LogFault) × (why ≡ stop.Header refusal) × IsRefused end (first_sector image) refusal)
+
+-- so nothing was restored
 abbrev pub IsBare : ℕ → List ℕ → List Restored → Stop → Type 0
-IsBare end image restored why =
-    (restored ≡ [])
-    × ((why ≡ stop.DevFault) ⊎ ((refusal : LogFault) × (why ≡ stop.Header refusal) × IsRefused end (first_sector image) refusal))
+IsBare end image restored why = (restored ≡ []) × IsUnread end image why
 
 -- this was restored along the chain of the header
 pub record IsWalked (end : ℕ) (image : List ℕ) (header : DevHeader) (visits : List Visit) (restored : List Restored) (why : Stop) : Type 0 where

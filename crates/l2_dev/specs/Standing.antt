@@ -1,21 +1,19 @@
 -- What a header stands for: a list of log blocks, and the entries that it restores whatever else the image holds.
-use Rattle.std.specs.Prelude.{◌≡◌, ◌≢◌, ℕ, ◌+◌, ◌*◌, ◌<◌, ◌≤◌, ◌⊎◌, List, [], ◌∷◌, ◌++◌, Bool, cond, map, reverse, Option, None, Some, length}
+use Rattle.std.specs.Prelude.{◌≡◌, ◌≢◌, ℕ, ◌+◌, ◌≤◌, ◌⊎◌, List, [], ◌∷◌, ◌++◌, cond, map, Some}
 use Rattle.std.specs.List.{AllByRecursion, filter, flat_map}
 use Rattle.blk_ptr.specs.Ptr.{sha256_of}
 use Rattle.l2_log.specs.Rules.{ring_start, log_len}
 use Rattle.l2_log.specs.declared.pointer.LogPtr.{LogPtr}
-use Rattle.l2_log.specs.declared.log_block.LogBlock.{LogBlock}
 use Rattle.l2_log.specs.declared.header.DevHeader.{DevHeader}
 use Rattle.l2_ring.specs.declared.live.Written.{Written}
-use Rattle.l2_ring.specs.declared.live.Live.{Live}
 use Rattle.l2_ring.specs.declared.plan.Plan.{Plan}
 use Rattle.l2_ring.specs.Stays.{stays, stays_at}
-use Rattle.l2_ring.specs.Ranges.{Range, Stays, IsOlder, IsInOrder, range_of}
+use Rattle.l2_ring.specs.Ranges.{Range, IsInOrder, range_of}
 use Rattle.l2_dev.specs.declared.restored.Restored.{Restored}
 use Rattle.l2_dev.specs.declared.stop.Stop.{Stop}
 use Rattle.l2_dev.specs.declared.stop.Stop.TheVariants as stop
 use Rattle.l2_dev.specs.Chain.{Visit, IsPassed, IsHeld, IsLinked, pointer_behind, numbers_in, log_range, bytes_at}
-use Rattle.l2_dev.specs.Restoring.{valid_of, found_in, firsts, restored_of, restored_from, first_sector, IsHeaderOf, IsRebuilt}
+use Rattle.l2_dev.specs.Restoring.{valid_of, found_in, firsts, restored_of, first_sector, IsHeaderOf, IsRebuilt}
 
 -- the range of a log block
 abbrev pub block_range : Visit → Range

@@ -1,25 +1,24 @@
 -- What a plan, wrapping or not, leaves of a standing list, and what one more log block makes of it.
-use Rattle.std.specs.Prelude.{◌≡◌, ℕ, ◌+◌, ◌-◌, ◌*◌, ◌<◌, ◌≤◌, ◌⊎◌, List, [], ◌∷◌, ◌++◌, length, Bool, true, false, cond, ◌&&◌, map, reverse, nat_le, Option, Some}
-use Rattle.std.proofs.Common.{inl, inr, refl, sym, ap, subst, ◌∙◌, leb, arith, append_assoc}
-use Rattle.std.proofs.lemmas.Bool.{false≢true, leb-true, and_parts}
-use Rattle.std.proofs.lemmas.List.{length-map, map-append}
+use Rattle.std.specs.Prelude.{◌≡◌, ℕ, ◌+◌, ◌*◌, ◌<◌, ◌≤◌, List, [], ◌∷◌, ◌++◌, length, Bool, true, false, cond, ◌&&◌, map, reverse, Option, Some}
+use Rattle.std.proofs.Common.{refl, sym, ap, subst, ◌∙◌, leb, arith}
+use Rattle.std.proofs.lemmas.Bool.{false≢true}
+use Rattle.std.proofs.lemmas.List.{length-map}
 use Rattle.std.proofs.lemmas.List.Elements.{filter-append}
-use Rattle.std.specs.List.{AllByRecursion, filter, flat_map}
-use Rattle.l2_log.specs.Rules.{ring_start, log_len}
+use Rattle.std.specs.List.{AllByRecursion, filter}
+use Rattle.l2_log.specs.Rules.{log_len}
 use Rattle.l2_log.specs.declared.entry.Entry.{Entry}
 use Rattle.l2_log.specs.declared.pointer.LogPtr.{LogPtr}
-use Rattle.l2_log.specs.declared.log_block.LogBlock.{LogBlock}
 use Rattle.l2_log.specs.declared.header.DevHeader.{DevHeader}
 use Rattle.l2_ring.specs.declared.live.Written.{Written}
 use Rattle.l2_ring.specs.declared.plan.Plan.{Plan}
-use Rattle.l2_ring.specs.Ring.{RingState, IsPlanFor, numbers_of, with_hand, last_lap}
+use Rattle.l2_ring.specs.Ring.{RingState, IsPlanFor, numbers_of, last_lap}
 use Rattle.l2_ring.specs.Stays.{stays, stays_at}
 use Rattle.l2_ring.specs.Ranges.{Range, Stays, IsOlder, IsInOrder, range_of}
-use Rattle.l2_ring.specs.PlanLaws.{stays_tells, tells_stays, stayed_before, older_falls, stays_further, older_than_new, stays_beside, AreLogs, logs_fit}
-use Rattle.l2_dev.specs.Chain.{Visit, IsPassed, IsHeld, IsLinked, numbers_in, log_range, ring_len}
-use Rattle.l2_dev.specs.Restoring.{valid_of, found_in, firsts, told_by, written_in, is_valid}
-use Rattle.l2_dev.specs.Standing.{IsStanding, IsOrderly, passed_ranges, block_range, leading}
-use Rattle.l2_dev.specs.ListLaws.{FailsOn, filter_yes, filter_no, filter_none, filter_whole, filter_alike, filter_both, filter_all, all_passes, all_append, all_left, all_right, all_weaker, all_two, all_map, all_unmap, map_filter}
+use Rattle.l2_ring.specs.PlanLaws.{stays_tells, tells_stays, stayed_before, older_falls, logs_fit}
+use Rattle.l2_dev.specs.Chain.{Visit, IsPassed, IsLinked, numbers_in, ring_len}
+use Rattle.l2_dev.specs.Restoring.{valid_of, found_in, told_by, written_in, is_valid}
+use Rattle.l2_dev.specs.Standing.{IsOrderly, passed_ranges, block_range, leading}
+use Rattle.l2_dev.specs.ListLaws.{FailsOn, filter_yes, filter_none, filter_alike, filter_both, filter_all, all_append, all_left, all_right, all_weaker, all_two, all_map, all_unmap, map_filter}
 
 -- the test whether a plan keeps a range
 abbrev pub keeps : Plan → Range → Bool

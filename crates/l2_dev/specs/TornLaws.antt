@@ -1,13 +1,11 @@
 -- What a write that a crash cuts short leaves of what stands beside its range.
-use Rattle.std.specs.Prelude.{◌≡◌, ℕ, ◌+◌, ◌-◌, ◌*◌, ◌<◌, ◌≤◌, ◌⊎◌, List, [], ◌∷◌, ◌++◌, length, take, drop, min}
+use Rattle.std.specs.Prelude.{◌≡◌, ℕ, ◌+◌, ◌-◌, ◌<◌, ◌≤◌, ◌⊎◌, List, ◌++◌, length, take, drop}
 use Rattle.std.proofs.Common.{inl, inr, refl, sym, ap, subst, ◌∙◌, get_or, append_assoc, arith}
 use Rattle.std.proofs.lemmas.List.{get_or-take, get_or-drop, ext_get_or, length-take, length-drop, length-append, take_at, drop_at}
-use Rattle.std.proofs.lemmas.Bool.{cases_lt}
 use Rattle.std.specs.List.{AllByRecursion}
 use Rattle.blk_ptr.specs.Ptr.{sha256_of}
-use Rattle.blk_ptr.specs.declared.digest.Digest.{Digest}
-use Rattle.vdev_io.specs.Device.{IsTorn, IsTornBySector, IsInSector, put}
-use Rattle.l2_log.specs.Rules.{ring_start, log_len, header_len}
+use Rattle.vdev_io.specs.Device.{IsTorn, IsTornBySector, put}
+use Rattle.l2_log.specs.Rules.{log_len, header_len}
 use Rattle.l2_log.specs.LogBytes.{IsLogBlock}
 use Rattle.l2_log.specs.Bytes.{AreSame}
 use Rattle.l2_log.proofs.Numbers.{part_from_same}

@@ -59,7 +59,7 @@ fn add_all(ring: &mut Ring, entries: &[Entry])
 
 impl Cursor {
     ghost use Rattle.l2_dev.specs.Cursor.{numbers_from, IsCursor};
-    ghost use Rattle.l2_dev.specs.Planned.{HasPlanned, IsHeaderWith, IsBlockOf, HasPushed, IsForgotten, HasSettled};
+    ghost use Rattle.l2_dev.specs.Planned.{HasPlanned, IsHeaderWith, IsBlockOf, HasPushed, IsForgotten, IsReserved, HasSettled};
     ghost use Rattle.l2_dev.specs.PromiseLaws.{IsHeaderFrom};
 
     /// The cursor of this ring with these pointers: nothing is pending.
@@ -177,9 +177,7 @@ impl Cursor {
 
     /// Takes the room that the pending entries will want among the live ones.
     pub(crate) fn reserve(&mut self) -> Result<(), NoMemory>
-        ensures ring { IsSameRing self.old.ring self.new.ring }
-        ensures live { self.new.ring.live ≡ self.old.ring.live }
-        ensures same { (self.new.base ≡ self.old.base) × (self.new.newest ≡ self.old.newest) × (self.new.second ≡ self.old.second) × (self.new.pending ≡ self.old.pending) × (self.new.ready ≡ self.old.ready) }
+        ensures reserved { IsReserved self.old self.new }
         ensures room { OnOk result (length self.old.pending ≤ self.new.ring.spare) }
     {
         self.ring.reserve(self.pending.len())

@@ -3,8 +3,8 @@ ghost use Rattle.std.specs.Prelude.{◌≡◌, ℕ, List, ◌+◌, ◌<◌, ◌�
 ghost use Rattle.vdev_io.specs.Device.{put};
 ghost use Rattle.blk_ptr.specs.Ptr.{sha256_of};
 ghost use Rattle.l2_dev.specs.Steps.{Wrote};
-ghost use Rattle.l2_dev.specs.Calls.{HasDevCause};
-ghost use Rattle.l2_dev.specs.Planned.{HasPushed};
+ghost use Rattle.l2_dev.specs.Calls.{HasDevCause, LogWritten};
+ghost use Rattle.l2_dev.specs.Planned.{HasPushed, IsReserved};
 ghost use Rattle.std.specs.List.{filter};
 ghost use Rattle.blk_ptr.specs.Key.{IsWellFormed};
 ghost use Rattle.l2_log.specs.Rules.{log_len, most_with, is_there};
@@ -14,9 +14,9 @@ ghost use Rattle.l2_dev.specs.declared.fault.DevErr.TheVariants as err;
 
 use crate::cursor::Cursor;
 use crate::fault::DevErr;
-use crate::write::{write_at, write_header};
+use crate::write::{write_at, write_header, write_through};
 use blk_ptr::{Block, Key};
-use l2_log::Entry;
+use l2_log::{Entry, LOG_LEN, LogPtr};
 use l2_ring::{Live, Ring};
 use std::alloc::Global;
 use vdev_io::CacheDev;
@@ -53,10 +53,36 @@ fn put_block<D: CacheDev>(
     Ok(())
 }
 
+/// Writes the log block of the pending entries behind their blocks and flushes. Answers the pointer to it.
+fn write_log<D: CacheDev>(
+    alloc: Global,
+    dev: &mut D,
+    cursor: &mut Cursor,
+    place: u64,
+) -> Result<LogPtr, DevErr>
+    requires at { place ≡ cursor.old.ring.hand }
+    requires some { 0 < length cursor.old.pending }
+    requires inside { cursor.old.ring.hand + log_len ≤ D.size dev.old }
+    ensures cursor { IsReserved cursor.old cursor.new }
+    ensures room { OnOk result (length cursor.old.pending ≤ cursor.new.ring.spare) }
+    ensures logged { LogWritten D.told D.has_sectors D.may_leave D.moment D.left_since cursor.old dev.old dev.new result }
+    ensures size { D.size dev.new ≡ D.size dev.old }
+    ensures cause { HasDevCause (D.faults dev.old) (D.faults dev.new) result }
+{
+    let mut bytes = vec![in alloc; 0u8; LOG_LEN]?;
+    cursor.reserve()?;
+    let ptr = cursor.write_block(alloc, &mut bytes);
+    write_through(dev, place, &bytes)?;
+    Ok(ptr)
+}
+
 impl<D: CacheDev> L2Dev<D> {
-    ghost use Rattle.l2_dev.specs.Calls.{BeginKeeps, PutKeeps};
-    ghost use Rattle.l2_dev.specs.Planned.{HasPlanned, IsForgotten};
+    ghost use Rattle.l2_dev.specs.Calls.{BeginKeeps, PutKeeps, CommitKeeps};
+    ghost use Rattle.l2_dev.specs.Cursor.{IsCursor};
+    ghost use Rattle.l2_dev.specs.Planned.{HasPlanned, HasSettled, IsForgotten};
     ghost use Rattle.l2_dev.specs.Promise.{Promise, IsKept};
+    ghost use Rattle.l2_dev.specs.Lending.{LendsDevice};
+    ghost use Rattle.std.specs.Borrow.{sem};
 
     /// Takes the plan for `n` bytes, writes the header with it and flushes. What the plan drops goes to the end of
     /// `dropped`. After [`DevErr::NoMemory`] nothing has changed; after [`DevErr::DevFault`] the plan is taken all the same.
@@ -108,5 +134,58 @@ impl<D: CacheDev> L2Dev<D> {
             return Err(fault);
         }
         Ok(place)
+    }
+
+    /// Writes the log block of the pending entries behind their blocks, flushes, writes the header and flushes. At Ok they
+    /// are live. After an error nothing is pending, and the hand stands where the last commit, or else the last begin,
+    /// left it.
+    pub fn commit(&mut self) -> Result<(), DevErr>
+        requires whole { self.old.cursor.ring.end ≤ D.size self.old.dev }
+        requires some { 0 < length self.old.cursor.pending }
+        ensures size { D.size self.new.dev ≡ D.size self.old.dev }
+        ensures cause { HasDevCause (D.faults self.old.dev) (D.faults self.new.dev) result }
+        ensures settled { MatchResult result (λ _. (ptr : _) × HasSettled ptr self.old.cursor self.new.cursor) (λ _. IsForgotten self.old.cursor self.new.cursor) }
+        ensures crash { (p : Promise) → IsKept D.told D.has_sectors D.may_leave self.old.dev self.old.cursor p
+            → CommitKeeps D.told D.has_sectors D.may_leave D.moment D.left_since self.old.dev self.new.dev self.old.cursor self.new.cursor p result }
+    {
+        let place = self.cursor.ring().hand();
+        let ptr = match write_log(self.alloc, &mut self.dev, &mut self.cursor, place) {
+            Ok(ptr) => ptr,
+            Err(fault) => {
+                self.cursor.forget();
+                return Err(fault);
+            }
+        };
+        let header = self.cursor.header_with(ptr);
+        if let Err(failed) = write_header(&mut self.dev, &header) {
+            self.cursor.forget();
+            return Err(DevErr::from(failed));
+        }
+        self.cursor.settle(ptr);
+        Ok(())
+    }
+
+    /// The ring, whose hand moves with each put.
+    pub fn ring(&self) -> &Ring
+        ensures ring { result.now ≡ self.now.cursor.ring }
+        ensures kept { IsCursor self.now.cursor.ring self.now.cursor.base self.now.cursor.pending self.now.cursor.ready }
+    {
+        self.cursor.ring()
+    }
+
+    /// Lends the device. Reads, forks and absorbs of it leave all that is promised of it as it was.
+    pub fn device(&mut self) -> &mut D
+        ensures* writes_back { sem 𝓛 (LendsDevice D.row self.entry result) }
+        ensures device { result.now ≡ self.old.dev }
+    {
+        &mut self.dev
+    }
+
+    /// Gives the device back.
+    pub fn stop(self) -> D
+        ensures { result ≡ self.dev }
+    {
+        let L2Dev { dev, .. } = self;
+        dev
     }
 }

@@ -1,29 +1,17 @@
 ghost use Rattle.std.specs.Prelude.{◌≡◌, ◌+◌, ◌-◌, ◌<◌, ◌≤◌, ◌++◌, [], ◌∷◌, ℕ, length, take, map, vec_len};
 ghost use Rattle.std.specs.List.{filter};
 ghost use Rattle.std.specs.Vec.{vec_capacity};
-ghost use Rattle.l2_ring.specs.Stays.{lies_within, stays, falls, live_of};
+ghost use Rattle.l2_ring.specs.Stays.{stays, falls, live_of};
 
 use crate::live::{Live, Written};
 use crate::plan::Plan;
-use l2_log::RING_START;
-
-/// Whether `size` bytes from `place` on lie wholly between `from` and `to`.
-fn lies_within(from: u64, to: u64, place: u64, size: u64) -> bool
-    ensures { result ≡ lies_within from to place size }
-{
-    from <= place && size <= to && place <= to - size
-}
 
 /// Whether the plan keeps the entry.
 fn stays(plan: Plan, written: Written) -> bool
     ensures { result ≡ stays plan written }
 {
     let Live { key, place, .. } = written.live;
-    let lower = lies_within(RING_START, plan.hand, place, key.size) && written.lap == plan.lap;
-    let upper = lies_within(plan.evict, plan.top, place, key.size)
-        && written.lap < u64::MAX
-        && written.lap + 1 == plan.lap;
-    lower || upper
+    plan.keeps(written.lap, place, key.size)
 }
 
 /// Pushes one more entry, for which there is room.

@@ -1,4 +1,4 @@
-use Rattle.std.proofs.Common.{arith, sym, ap, subst, ◌∙◌, ℕ, List}
+use Rattle.std.proofs.Common.{sym, subst, List}
 use Rattle.l2_ring.specs.declared.plan.Plan.{Plan}
 use Rattle.l2_ring.specs.declared.live.Written.{Written}
 use Rattle.l2_ring.specs.Ring.{numbers_of, with_hand}

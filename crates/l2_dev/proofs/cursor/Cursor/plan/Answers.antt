@@ -1,4 +1,4 @@
-use Rattle.std.proofs.Common.{arith, ap, sym, ◌∙◌}
+use Rattle.std.proofs.Common.{ap, sym, ◌∙◌}
 use Rattle.l2_dev.specs.Cursor.{CursorState}
 use Rattle.l2_dev.proofs.Cursors.{at_rest}
 use Rattle.l2_dev.proofs.cursor.Cursor.plan.Goals as goal

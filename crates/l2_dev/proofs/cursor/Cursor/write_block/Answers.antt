@@ -1,4 +1,4 @@
-use Rattle.std.proofs.Common.{◌≡◌, refl, ap, ◌∙◌, List, length}
+use Rattle.std.proofs.Common.{refl, ap, ◌∙◌, List, length}
 use Rattle.l2_log.specs.declared.entry.Entry.{Entry}
 use Rattle.l2_dev.proofs.cursor.Cursor.write_block.Goals as goal
 

@@ -1,7 +1,6 @@
-use Rattle.std.proofs.Common.{ℕ, List, ◌≤◌, ◌++◌, map, inr, ap, sym, ◌∙◌, arith}
+use Rattle.std.proofs.Common.{List, ◌++◌, map, inr, ap, ◌∙◌, arith}
 use Rattle.std.specs.List.{filter}
 use Rattle.std.proofs.lemmas.Result.{err_from_is_err_and}
-use Rattle.l2_log.specs.Rules.{header_len}
 use Rattle.l2_ring.specs.declared.live.Live.{Live}
 use Rattle.l2_ring.specs.Stays.{falls, live_of}
 use Rattle.l2_dev.proofs.Begins.{begin_failed, begin_kept, opened_planned, opened_header}

@@ -1,4 +1,4 @@
-use Rattle.std.proofs.Common.{◌≡◌, ℕ, List, ◌+◌, ◌≤◌, length, Some, refl, ap, sym, subst, ◌∙◌, arith}
+use Rattle.std.proofs.Common.{◌≡◌, ℕ, List, length, Some, refl, ap, sym, subst, ◌∙◌, arith}
 use Rattle.vdev_io.specs.Device.{put}
 use Rattle.blk_ptr.specs.declared.digest.Digest.{Digest}
 use Rattle.l2_log.specs.Rules.{header_len}
