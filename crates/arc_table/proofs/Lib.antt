@@ -10,3 +10,5 @@ pub mod BookedAfter
 pub mod Ends
 pub mod Rows
 pub mod HandHeads
+pub mod Scans
+pub mod ScanGives

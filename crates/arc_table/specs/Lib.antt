@@ -23,3 +23,4 @@ pub mod ShardGiving
 pub mod Opening
 pub mod OpeningLaws
 pub mod Ended
+pub mod Scanning
