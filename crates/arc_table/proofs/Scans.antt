@@ -22,9 +22,9 @@ use Rattle.arc_core.proofs.Soundness.{IsSound-after}
 use Rattle.arc_core.proofs.Stepping.{legal-append, replay-append}
 use Rattle.hash_chain.specs.Chain.{Chain, header_at}
 use Rattle.hash_chain.specs.declared.header.Header.{Header}
-use Rattle.turn_table.specs.Board.{IsAmong}
+use Rattle.turn_table.specs.Board.{IsAmong, without}
 use Rattle.turn_table.specs.Moments.{WasFree}
-use Rattle.turn_table.specs.Places.{Place, saw, took}
+use Rattle.turn_table.specs.Places.{Place, gave_back, saw, took}
 use Rattle.turn_table.proofs.Moments.{taken_at}
 use Rattle.arc_table.specs.declared.item.Item.{Item}
 use Rattle.arc_table.specs.declared.item.Item.TheVariants as item
@@ -36,9 +36,9 @@ use Rattle.arc_table.specs.Geometry.{IsBucket, IsCell, IsShard, bucket_turn, sha
 use Rattle.arc_table.specs.Headed.{IsHead}
 use Rattle.arc_table.specs.Items.{Meanings, headers_in, shard_in}
 use Rattle.arc_table.specs.Rule.{Pact}
-use Rattle.arc_table.specs.Scanning.{AllPairs, AreApart, ArePasses, IsBucketOf, MayScan, Scans, added, after_scan, notes_of, won_all}
-use Rattle.arc_table.specs.TableLaws.{item_else, item_here, list_else}
-use Rattle.arc_table.specs.Views.{after_lost, after_won, note, under_of}
+use Rattle.arc_table.specs.Scanning.{AllPairs, AreApart, ArePasses, IsBucketOf, IsInHand, MayScan, Scans, added, after_scan, notes_of, won_all}
+use Rattle.arc_table.specs.TableLaws.{item_else, item_here, list_else, without_else}
+use Rattle.arc_table.specs.Views.{after_lost, after_same, after_won, note, under_of}
 use Rattle.arc_table.proofs.Boards.{in_hand}
 use Rattle.arc_table.proofs.Ranges.{bucket_range}
 use Rattle.arc_table.proofs.Rows.{same_shard}
@@ -339,3 +339,25 @@ module _ {C : Type 0} (m : Meanings C) (g : Config) (i : ℕ) (first : List (ℕ
           apart = s.apart;
           in_hand = λ k h. s.in_hand k (subst (λ (ks : List Key). IsTrue (stands_on k ks)) same h);
         }
+
+-- ---- buckets given back, one after the other
+
+among_without : (i j : ℕ) (held : List ℕ) → j ≢ i → IsAmong j held → IsAmong j (without i held)
+among_without i j [] far h = absurd h
+among_without i j (k ∷ ks) far h = dite (ℕ_discrete k i)
+    (λ q. subst (λ (b : Bool). IsAmong j (if b then ks else k ∷ without i ks)) (sym (eq-eqb k i q)) (⊎_elim (λ (is : k ≡ j). absurd (far (sym is ∙ q))) (λ (a : IsAmong j ks). a) h))
+    (λ q. subst (λ (b : Bool). IsAmong j (if b then ks else k ∷ without i ks)) (sym (ne_eqb k i q)) (⊎_elim (λ (is : k ≡ j). inl is) (λ (a : IsAmong j ks). inr (among_without i j ks far a)) h))
+
+module _ {C : Type 0} (m : Meanings C) where
+  -- the others stay in hand
+  pub in_hand_else : (p : Place (Known C)) (i j : ℕ) (b : Chain) → j ≢ i → IsInHand m p j b → IsInHand m (gave_back p i (after_same i p.own)) j b
+  in_hand_else p i j b far h = record {
+    held = among_without i j p.held far h.held;
+    same = record { recorded = without_else i j p.own.records far ∙ h.same.recorded; listed = h.same.listed };
+  }
+
+  pub all_in_hand_else : (p : Place (Known C)) (i : ℕ) (vs : List (ℕ × Chain)) → item_at i vs ≡ None → AllPairs (IsInHand m p) vs → AllPairs (IsInHand m (gave_back p i (after_same i p.own))) vs
+  all_in_hand_else p i [] none all = tt
+  all_in_hand_else p i (v ∷ vs) none all = dite (ℕ_discrete i v.0)
+      (λ q. absurd (none-some v.1 (sym none ∙ subst (λ (t : Bool). (if t then Some v.1 else item_at i vs) ≡ Some v.1) (sym (eq-eqb i v.0 q)) refl)))
+      (λ q. (in_hand_else p i v.0 v.1 (λ r. q (sym r)) all.0, all_in_hand_else p i vs (subst (λ (t : Bool). (if t then Some v.1 else item_at i vs) ≡ None) (ne_eqb i v.0 q) none) all.1))

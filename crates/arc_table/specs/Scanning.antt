@@ -14,7 +14,7 @@ use Rattle.arc_core.specs.ShardLog.{ShardLog, IsReplayed}
 use Rattle.hash_chain.specs.Chain.{Chain, header_at}
 use Rattle.hash_chain.specs.declared.header.Header.{Header}
 use Rattle.turn_table.specs.Board.{IsAmong}
-use Rattle.turn_table.specs.Places.{Place}
+use Rattle.turn_table.specs.Places.{Place, gave_back}
 use Rattle.arc_table.specs.declared.hand.Taken.{Taken}
 use Rattle.arc_table.specs.declared.item.Item.TheVariants as item
 use Rattle.arc_table.specs.declared.view.Known.{Known}
@@ -25,7 +25,8 @@ use Rattle.arc_table.specs.Geometry.{IsBucket, IsCell, IsShard, bucket_turn, par
 use Rattle.arc_table.specs.Headed.{IsHead}
 use Rattle.arc_table.specs.Items.{Meanings}
 use Rattle.arc_table.specs.Logged.{IsSoundLog}
-use Rattle.arc_table.specs.Views.{after_won, note, under_of}
+use Rattle.arc_table.specs.Giving.{IsAsTaken}
+use Rattle.arc_table.specs.Views.{after_same, after_won, note, under_of}
 
 -- an event that may evict and drop
 abbrev pub may_evict : Event → Bool
@@ -127,3 +128,17 @@ module _ {C : Type 0} (m : Meanings C) where
     pub apart : AreApart (first ++ vs)
     -- each marked key's bucket is in hand
     pub in_hand : (k : Key) → IsTrue (stands_on k marked) → IsSome (item_at (bucket_turn g k) (first ++ vs))
+
+-- ---- buckets given back
+
+module _ {C : Type 0} where
+  -- a party that has given these buckets back as they were in hand, one after the other
+  abbrev pub gave_all : List (ℕ × Chain) → Place (Known C) → Place (Known C)
+  gave_all [] p = p
+  gave_all (v ∷ vs) p = gave_all vs (gave_back p v.0 (after_same v.0 p.own))
+
+module _ {C : Type 0} (m : Meanings C) where
+  -- the party has this bucket in hand, as its record says
+  pub record IsInHand (p : Place (Known C)) (j : ℕ) (b : Chain) : Type 0 where
+    pub held : IsAmong j p.held
+    pub same : IsAsTaken m j (item.Bucket b) p.own

@@ -5,6 +5,7 @@ mod about;
 mod arcs;
 mod cells;
 mod closed;
+mod evict;
 mod gives;
 mod hand;
 mod item;
