@@ -23,3 +23,7 @@ pub mod ShardGiving
 pub mod Opening
 pub mod OpeningLaws
 pub mod Ended
+pub mod Holding
+pub mod Both
+pub mod Telling
+pub mod Making
