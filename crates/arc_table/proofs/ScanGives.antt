@@ -18,9 +18,9 @@ use Rattle.arc_core.specs.declared.event.Event.TheVariants.{Pass, Hit, Miss, Arr
 use Rattle.arc_core.specs.Operations.{event_key, is_about, is_pass}
 use Rattle.arc_core.specs.PlainShard.{PlainShard, entry_of}
 use Rattle.arc_core.specs.ShardLog.{ShardLog}
-use Rattle.arc_core.specs.Sparing.{IsSpared, next_victim}
+use Rattle.arc_core.specs.Sparing.{IsSpared}
 use Rattle.arc_core.specs.Step.{after, legal}
-use Rattle.arc_core.proofs.Others.{frame-kept, sparing, sparing-unmarked}
+use Rattle.arc_core.proofs.Others.{frame-kept, sparing}
 use Rattle.hash_chain.specs.Chain.{Chain, header_at}
 use Rattle.hash_chain.specs.declared.header.Header.{Header}
 use Rattle.turn_table.specs.Board.{IsAmong}
@@ -32,9 +32,11 @@ use Rattle.arc_table.specs.Fronts.{item_at, list_at}
 use Rattle.arc_table.specs.Geometry.{IsBucket, bucket_turn, shard_turn}
 use Rattle.arc_table.specs.Headed.{IsHead}
 use Rattle.arc_table.specs.Items.{Meanings}
+use Rattle.arc_table.specs.Logged.{is_picking}
 use Rattle.arc_table.specs.Scanning.{AllPairs, ArePasses, IsBucketOf, MayScan, Scans, added, may_evict, notes_of, won_all}
 use Rattle.arc_table.specs.ShardGiving.{ArePassesNoted, AreAlike, IsActor, IsGivenShard, SameHead, passes_in}
 use Rattle.arc_table.specs.Views.{note}
+use Rattle.arc_table.proofs.OneEvent.{is_pick, stays_settled}
 use Rattle.arc_table.proofs.Scans.{added_among, each_held, is_there, item_front, item_past, pair_at, replayed_more, scan_listed, scan_number, scan_recorded, some_is, won_mine}
 
 -- ---- passes and their notes
@@ -78,6 +80,10 @@ passes_noted g n i len front (Pass a k owner ∷ es) e h last =
       (passes_noted g n i len (front ++ x ∷ []) es e h.1 last),
     )
 passes_noted g n i len front (_ ∷ es) e h last = absurd h
+
+evict_no_pick : (e : Event) → may_evict e ≡ true → is_pick e ≡ false
+evict_no_pick (Pick n k) h = absurd (cc)
+evict_no_pick (_) h = refl
 
 evict_no_pass : (e : Event) → may_evict e ≡ true → is_pass e ≡ false
 evict_no_pass (Pass n k owner) h = absurd (cc)
@@ -152,7 +158,8 @@ not_false b h = ap not h
 
 module _ {C : Type 0} (m : Meanings C) (g : Config) (i : ℕ) (first : List (ℕ × Chain)) (before : ShardLog) (p q : Place (Known C)) (may : MayScan g i first before p)
     (l : ShardLog) (marked : List Key) (vs : List (ℕ × Chain)) (es : List Event) (s : Scans m g i first before p q l marked vs es)
-    (e : Event) (l' : ShardLog) (hand : List (ℕ × Chain)) (evicts : may_evict e ≡ true) (ok : IsTrue (legal l.now e)) (none : next_victim l.now marked e ≡ None)
+    (e : Event) (l' : ShardLog) (hand : List (ℕ × Chain)) (evicts : may_evict e ≡ true) (ok : IsTrue (legal l.now e))
+    (none : (k : Key) → IsTrue (not (is_about k e)) → stands_on k marked ≡ false → entry_of k (after l.now e) ≡ entry_of k l.now)
     (now : l'.now ≡ after l.now e) (history : l'.history ≡ l.history ++ e ∷ []) (opening : l'.opening ≡ l.opening)
     (actor : IsActor g q.number q.held i e) (about : (k : Key) → event_key e ≡ Some k → IsSome (item_at (bucket_turn g k) (first ++ vs)))
     (turns : turns_in hand ≡ turns_in (first ++ vs)) (buckets : AllPairs (IsBucketOf g i l'.now) hand) where
@@ -188,7 +195,7 @@ module _ {C : Type 0} (m : Meanings C) (g : Config) (i : ℕ) (first : List (ℕ
       let there = some_is (item_at (bucket_turn g k) (first ++ vs)) (s.in_hand k stood) in
       absurd (none-some there.0 (sym (same_none (bucket_turn g k) hand (first ++ vs) turns out) ∙ there.1))
   out_same k out false false is stood =
-      let stays : entry_of k l'.now ≡ entry_of k before.now = ap (entry_of k) now ∙ (sparing-unmarked l.now marked e k s.replayed.sound ok (not_false (is_about k e) is) none (not_false (stands_on k marked) stood) ∙ before_entries k) in
+      let stays : entry_of k l'.now ≡ entry_of k before.now = ap (entry_of k) now ∙ (none k (not_false (is_about k e) is) stood ∙ before_entries k) in
       subst (SameHead (entry_of k before.now)) (sym stays) (same_head (entry_of k before.now))
 
   notes_are : q.own.notes ≡ p.own.notes ++ notes_of g i (length before.history) es
@@ -210,6 +217,7 @@ module _ {C : Type 0} (m : Meanings C) (g : Config) (i : ℕ) (first : List (ℕ
     opening = opening ∙ s.opening;
     replayed = replayed_more e l l' s.replayed ok now history opening;
     passed = ap (λ (x : PlainShard). x.passed) now ∙ forgotten l.now e evicts;
+    settled = ap (λ (x : PlainShard). is_picking x.phase) now ∙ stays_settled l.now e (evict_no_pick e evicts) (ap (λ (x : PlainShard). is_picking x.phase) s.now ∙ may.sound.settled);
     actors = λ j x at. subst (λ (n : ℕ). IsActor g n q.held i x) (sym (scan_number m g i first before p may q l marked vs es s))
         (actor_pass g p.number i q.held es e s.passes (subst (λ (n : ℕ). IsActor g n q.held i e) (scan_number m g i first before p may q l marked vs es s) actor) j x at);
     own_entries = λ k x there. own_entries k x (is_about k e) refl there;

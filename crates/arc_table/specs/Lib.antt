@@ -24,3 +24,7 @@ pub mod Opening
 pub mod OpeningLaws
 pub mod Ended
 pub mod Scanning
+pub mod Holding
+pub mod Both
+pub mod Telling
+pub mod Making
