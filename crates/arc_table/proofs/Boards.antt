@@ -9,13 +9,14 @@ use Rattle.turn_table.specs.Board.{free, taken, Board, IsTaken, Knows}
 use Rattle.turn_table.specs.Moments.{Loses, MayGive, WasFree}
 use Rattle.turn_table.specs.Places.{Place, saw}
 use Rattle.hash_chain.specs.Chain.{Chain}
+use Rattle.arc_core.specs.ShardLog.{ShardLog}
 use Rattle.arc_core.specs.declared.config.Config.{Config}
 use Rattle.arc_table.specs.declared.about.About.{About}
 use Rattle.arc_table.specs.declared.item.Item.{Item}
 use Rattle.arc_table.specs.declared.item.Item.TheVariants as item
 use Rattle.arc_table.specs.declared.view.Known.{Known}
 use Rattle.arc_table.specs.Attached.{Attached, IsKind}
-use Rattle.arc_table.specs.Geometry.{IsBucket, IsCell, turns_of}
+use Rattle.arc_table.specs.Geometry.{IsBucket, IsCell, IsShard, turns_of}
 use Rattle.arc_table.specs.Fronts.{item_at, list_at, without_item}
 use Rattle.arc_table.specs.Giving.{IsAsTaken}
 use Rattle.arc_table.specs.Items.{Meanings, holds_in}
@@ -99,6 +100,14 @@ module _ {C : Type 0} (m : Meanings C) where
 
   pub bucket_there : (p : Place (Known C)) (i : ℕ) (v : Item C) → WasFree (Pact m) p i v → IsBucket p.own.about.config i → (b : Chain) × (v ≡ item.Bucket b)
   bucket_there p i v f h = let k = h.1 in bucket_of p.own.about.config i v (free_kind p i v f (omega arith)) h
+
+  shard_of : (g : Config) (i : ℕ) (v : Item C) → IsKind g i v → IsShard g i → (l : ShardLog) × (v ≡ item.Shard l)
+  shard_of g i (item.Cell cell) kind h = let k = h.0 in absurd (omega arith)
+  shard_of g i (item.Bucket b) kind h = let k = kind.1 in let k' = h.0 in absurd (omega arith)
+  shard_of g i (item.Shard l) kind h = (l, refl)
+
+  pub shard_there : (p : Place (Known C)) (i : ℕ) (v : Item C) → WasFree (Pact m) p i v → IsShard p.own.about.config i → (l : ShardLog) × (v ≡ item.Shard l)
+  shard_there p i v f h = shard_of p.own.about.config i v (free_kind p i v f h.1) h
 
   -- lost tries change nothing that is settled
   pub loses_about : (i : ℕ) (owners : List ℕ) (p q : Place (Known C)) → Loses (Pact m) (λ n. after_lost) i owners p q → q.own.about ≡ p.own.about

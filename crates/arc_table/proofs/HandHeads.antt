@@ -23,10 +23,10 @@ use Rattle.arc_table.specs.Rule.{Pact}
 
 module _ {C : Type 0} (m : Meanings C) (p : Place (Known C)) (i : ℕ) (l : ShardLog) (f : WasFree (Pact m) p i (item.Shard l)) where
   -- the configuration that the party knows is the one of that moment
-  config_then : f.held.scene.about.config ≡ p.own.about.config
+  pub config_then : f.held.scene.about.config ≡ p.own.about.config
   config_then = ap (λ a. a.config) (sym (f.held.attached.views p.number p.own f.stands.shows.0).about)
 
-  shard_then : f.held.scene.now i ≡ item.Shard l
+  pub shard_then : f.held.scene.now i ≡ item.Shard l
   shard_then = (f.held.attached.free i (item.Shard l) f.turn).0
 
   -- a bucket that the party has in hand is, at that moment, what the party's record says

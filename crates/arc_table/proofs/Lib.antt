@@ -10,3 +10,9 @@ pub mod BookedAfter
 pub mod Ends
 pub mod Rows
 pub mod HandHeads
+pub mod Scans
+pub mod ScanGives
+pub mod Reached
+pub mod OneEvent
+pub mod HoldEvents
+pub mod Taking

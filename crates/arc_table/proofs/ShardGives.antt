@@ -96,7 +96,7 @@ past_items {C} j (x ∷ hand) rest e = by_test (past_items j hand rest) (j == x.
     by_test ih false f = ih f
 
 -- the list of a turn with a record
-listed_at : {C : Type 0} (g : Config) (s : PlainShard) (es : List Event) (j : ℕ) (records : List (ℕ × Item C)) (x : Item C) (listed rest : List (ℕ × List Ptr)) → item_at j records ≡ Some x
+pub listed_at : {C : Type 0} (g : Config) (s : PlainShard) (es : List Event) (j : ℕ) (records : List (ℕ × Item C)) (x : Item C) (listed rest : List (ℕ × List Ptr)) → item_at j records ≡ Some x
     → list_at j (map (λ (r : ℕ × Item C). (r.0, listed_after g s es r.0 (list_at r.0 listed))) records ++ rest) ≡ listed_after g s es j (list_at j listed)
 listed_at g s es j [] x listed rest e = absurd (none-some x e)
 listed_at {C} g s es j (r ∷ records) x listed rest e = dite (ℕ_discrete j r.0)
@@ -117,7 +117,7 @@ alike_block e e' h a has =
     let P : Bool × Option Digest × Key → Type 0 = λ x. MatchOption h.block (x.0 ≡ false) (λ block. (x.0 ≡ true) × (x.1 ≡ Some (sha256_of block.value)) × (length block.value ≡ x.2.size)) in
     subst P (λ k. (sym (alike_resident e e' a) k, sym a.digest k, sym a.key k)) has
 
-head_alike : (o o' : Option Entry) (h : Option Header) → SameHead o o' → IsHead o h → IsHead o' h
+pub head_alike : (o o' : Option Entry) (h : Option Header) → SameHead o o' → IsHead o h → IsHead o' h
 head_alike None None h same head = head
 head_alike None (Some e') h same head = absurd same
 head_alike (Some e) None h same head = absurd same
@@ -377,7 +377,7 @@ module _ {C : Type 0} (m : Meanings C) (law : IsBookedAfter) (b : Board (Item C)
   sound_before = subst (IsSoundItem m w.about i) here.0 (lgd.sound i)
 
   sound : (j : ℕ) → IsSoundItem m s.about j (now j)
-  sound = three (IsSoundItem m s.about) record { opening = give.opening ∙ sound_before.opening; replayed = give.replayed; passed = give.passed } (λ j c e. tt) (λ j far. lgd.sound j)
+  sound = three (IsSoundItem m s.about) record { opening = give.opening ∙ sound_before.opening; replayed = give.replayed; passed = give.passed; settled = give.settled } (λ j c e. tt) (λ j far. lgd.sound j)
 
   maker_is : (a : ℕ) → ActsFor g n p.held a → (a < numbers_of g) × (a < parties_of g → a ≡ n)
   maker_is a (inl same) = let k = party in (omega arith, λ below. same)

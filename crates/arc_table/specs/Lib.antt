@@ -23,3 +23,8 @@ pub mod ShardGiving
 pub mod Opening
 pub mod OpeningLaws
 pub mod Ended
+pub mod Scanning
+pub mod Holding
+pub mod Both
+pub mod Telling
+pub mod Making

@@ -1,8 +1,10 @@
 -- The second part of the pact: histories are legal, and each line stands in one view.
-use Rattle.std.specs.Prelude.{◌≡◌, ℕ, ◌<◌, IsTrue, [], length, slice_index_or}
+use Rattle.std.specs.Prelude.{◌≡◌, ℕ, ◌<◌, Bool, true, false, IsTrue, [], length, slice_index_or}
 use mathlib.Core.Option.{some}
 use lib.ListN.{get_elem?}
 use Rattle.arc_core.specs.declared.config.Config.{Config}
+use Rattle.arc_core.specs.declared.entry.Phase.{Phase}
+use Rattle.arc_core.specs.declared.entry.Phase.TheVariants.{Idle, Picking, Writing}
 use Rattle.arc_core.specs.Operations.{is_of_feed, number_of}
 use Rattle.arc_core.specs.ShardLog.{ShardLog, IsReplayed, opening_log}
 use Rattle.arc_table.specs.declared.about.About.{About}
@@ -16,11 +18,19 @@ use Rattle.arc_table.specs.Geometry.{numbers_of, parties_of}
 use Rattle.arc_table.specs.Items.{Meanings, lines_in, maker_of}
 use Rattle.arc_table.specs.Scene.{Scene}
 
--- a shard that began as this configuration says, is the replay of its legal history, and has no scan in hand
+-- a feed picks keys just now
+abbrev pub is_picking : Phase → Bool
+is_picking Idle = false
+is_picking Picking = true
+is_picking Writing = false
+
+-- A shard that began as this configuration says, is the replay of its legal history, and has no scan in hand: no key is passed, and no
+-- feed picks keys, since a feed makes all its picks and their end under one turn
 pub record IsSoundLog (g : Config) (l : ShardLog) : Type 0 where
   pub opening : l.opening ≡ (opening_log g.c g.mintime g.bounds).opening
   pub replayed : IsReplayed l
   pub passed : l.now.passed ≡ []
+  pub settled : is_picking l.now.phase ≡ false
 
 module _ {C : Type 0} (m : Meanings C) where
   -- a turn's value is sound: a shard is, and a cell is in its own sense and has the opening that it had when it moved in

@@ -26,7 +26,7 @@ use Rattle.arc_table.specs.Attached.{IsKind, IsShown}
 use Rattle.arc_table.specs.Geometry.{bucket_turn, cell_number, parties_of, shard_turn, turns_of}
 use Rattle.arc_table.specs.Headed.{IsHead}
 use Rattle.arc_table.specs.Items.{Meanings, headers_in, claims_in, holds_in, lines_in, shard_in}
-use Rattle.arc_table.specs.Logged.{IsSoundItem, IsSoundLog}
+use Rattle.arc_table.specs.Logged.{IsSoundItem, IsSoundLog, is_picking}
 use Rattle.arc_table.specs.Opening.{AreFresh, AreFreshCells, IsFresh, IsOpeningLog, about_of}
 use Rattle.arc_table.specs.Rule.{Pact}
 use Rattle.arc_table.specs.Scene.{Scene}
@@ -64,7 +64,7 @@ opening_replayed g l h o = record {
 }
 
 opening_logged : (g : Config) (l : ShardLog) → IsCapacity g.c → IsOpeningLog g l → IsSoundLog g l
-opening_logged g l h o = record { opening = o.opening; replayed = opening_replayed g l h o; passed = ap (λ (s : PlainShard). s.passed) o.now }
+opening_logged g l h o = record { opening = o.opening; replayed = opening_replayed g l h o; passed = ap (λ (s : PlainShard). s.passed) o.now; settled = ap (λ (s : PlainShard). is_picking s.phase) o.now }
 
 -- ---- a value at the start
 

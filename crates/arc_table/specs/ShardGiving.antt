@@ -1,5 +1,5 @@
 -- What a party knows once it has given a shard back, and what it owes for that.
-use Rattle.std.specs.Prelude.{◌≡◌, ◌⊎◌, ℕ, suc, ◌-◌, ◌<◌, ◌==◌, if◌then◌else◌, nat_lt, IsTrue, List, [], ◌∷◌, ◌++◌, length, map, count_by, Option, Some, None}
+use Rattle.std.specs.Prelude.{◌≡◌, ◌⊎◌, ℕ, suc, ◌-◌, ◌<◌, ◌==◌, if◌then◌else◌, nat_lt, false, IsTrue, List, [], ◌∷◌, ◌++◌, length, map, count_by, Option, Some, None}
 use mathlib.Core.Option.{some}
 use lib.ListN.{get_elem?}
 use Rattle.blk_ptr.specs.declared.key.Key.{Key}
@@ -27,6 +27,7 @@ use Rattle.arc_table.specs.Fronts.{item_at, list_at, put, without_item}
 use Rattle.arc_table.specs.Geometry.{IsBucket, IsCell, bucket_turn, cell_number, shard_turn}
 use Rattle.arc_table.specs.Headed.{IsHead}
 use Rattle.arc_table.specs.Items.{Meanings, lines_in}
+use Rattle.arc_table.specs.Logged.{is_picking}
 use Rattle.arc_table.specs.Views.{note}
 
 -- ---- what follows from the events that were made
@@ -130,6 +131,7 @@ module _ {C : Type 0} where
     pub opening : l.opening ≡ before.opening
     pub replayed : IsReplayed l
     pub passed : l.now.passed ≡ []
+    pub settled : is_picking l.now.phase ≡ false
     pub actors : (j : ℕ) (e : Event) → get_elem? es j ≡ some e → IsActor g p.number p.held i e
     -- the shard has entries of its own keys alone
     pub own_entries : (k : Key) (e : Entry) → entry_of k l.now ≡ Some e → i ≡ shard_turn g k

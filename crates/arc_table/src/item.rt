@@ -1,5 +1,6 @@
 //! What lies behind a turn.
 ghost use Rattle.std.specs.Prelude.{◌≡◌};
+ghost use Rattle.arc_core.specs.ShardLog.{ShardLog};
 ghost use Rattle.hash_chain.specs.Chain.{Chain};
 
 use arc_core::Shard;
@@ -37,6 +38,18 @@ impl<C> Item<C> {
             Item::Bucket(bucket) => bucket,
             Item::Cell(_) => unreachable!(),
             Item::Shard(_) => unreachable!(),
+        }
+    }
+
+    // The shard, where it is one.
+    pub(crate) fn into_shard(self) -> Shard
+        requires { (shard : ShardLog) × (self ≡ item.Shard shard) }
+        ensures { self ≡ item.Shard result }
+    {
+        match self {
+            Item::Shard(shard) => shard,
+            Item::Cell(_) => unreachable!(),
+            Item::Bucket(_) => unreachable!(),
         }
     }
 }

@@ -3,10 +3,15 @@
 
 mod about;
 mod arcs;
+mod both;
 mod cells;
 mod closed;
+mod evict;
+mod drops;
+mod front;
 mod gives;
 mod hand;
+mod hold;
 mod item;
 mod look;
 mod looks;
@@ -17,6 +22,8 @@ mod view;
 pub use about::About;
 pub use arcs::{Arcs, Party};
 pub use closed::Closed;
+pub use front::Front;
+pub use hold::Hold;
 pub use item::Item;
 pub use look::{BucketTurn, Look};
 pub use pact::{Pact, Settled};

@@ -1,0 +1,73 @@
+-- Taking the bucket and the shard of a key, and giving both back.
+use Rattle.std.proofs.Common.{◌≡◌, ℕ, List, [], ◌∷◌, map, sym, ap, ◌∙◌, subst, inl, inr, arith}
+use Rattle.blk_ptr.specs.declared.key.Key.{Key}
+use Rattle.arc_core.specs.declared.config.Config.{Config}
+use Rattle.arc_core.specs.Config.{IsConfig}
+use Rattle.arc_core.specs.declared.event.Event.{Event}
+use Rattle.arc_core.specs.ShardLog.{ShardLog}
+use Rattle.hash_chain.specs.Chain.{Chain}
+use Rattle.turn_table.specs.Board.{IsAmong}
+use Rattle.turn_table.specs.Places.{Place, gave_back}
+use Rattle.arc_table.specs.declared.about.About.{About}
+use Rattle.arc_table.specs.declared.both.Both.{Both}
+use Rattle.arc_table.specs.declared.item.Item.TheVariants as item
+use Rattle.arc_table.specs.declared.view.Known.{Known}
+use Rattle.arc_table.specs.Both.{Makes, TakesBoth}
+use Rattle.arc_table.specs.Cache.{Cache, IsPartyOf}
+use Rattle.arc_table.specs.Geometry.{IsCell, IsShard, bucket_turn, shard_turn}
+use Rattle.arc_table.specs.Giving.{IsAsTaken}
+use Rattle.arc_table.specs.InHand.{buckets_of}
+use Rattle.arc_table.specs.Items.{Meanings}
+use Rattle.arc_table.specs.Making.{IsMade}
+use Rattle.arc_table.specs.ShardGiving.{after_shard}
+use Rattle.arc_table.specs.Views.{after_same}
+use Rattle.arc_table.proofs.Ranges.{bucket_range, shard_range}
+use Rattle.arc_table.proofs.Reached.{bucket_as_taken, bucket_below, bucket_stays, reached}
+
+-- who holds cells alone has neither
+pub no_bucket : (g : Config) (k : Key) (held : List ℕ) → IsConfig g → ((i : ℕ) → IsAmong i held → IsCell g i) → ¬ IsAmong (bucket_turn g k) held
+no_bucket g k held valid cells among = let a = cells (bucket_turn g k) among in let b = (bucket_range g k valid).0 in omega arith
+
+pub no_shard : (g : Config) (k : Key) (held : List ℕ) → IsConfig g → ((i : ℕ) → IsAmong i held → IsCell g i) → ¬ IsAmong (shard_turn g k) (bucket_turn g k ∷ held)
+no_shard g k held valid cells (inl e) = bucket_below g k valid e
+no_shard g k held valid cells (inr among) = let a = cells (shard_turn g k) among in let b = (shard_range g k valid).0 in omega arith
+
+module _ {C : Type 0} (m : Meanings C) where
+  -- a party of the cache is still one
+  pub still_party : (cache : Cache) (k : Key) (chain : Chain) (before : ShardLog) (p q : Place (Known C)) → TakesBoth m cache.config k chain before p q → IsPartyOf cache p → IsPartyOf cache q
+  still_party cache k chain before p q t of = let r = reached m cache.config k chain before p q t in record {
+    row = (r.table ∙ of.row.0, r.parties ∙ of.row.1);
+    config = ap (λ (a : About). a.config) r.about ∙ of.config;
+  }
+
+  module _ (g : Config) (k : Key) (es : List Event) (b : Both) (q : Place (Known C)) (made : IsMade m g k es b q) (same : q.own.about.config ≡ g) where
+    same_from : made.from.own.about.config ≡ g
+    same_from = ap (λ (a : About). a.config) (sym (reached m g k made.chain b.hand.before.value made.from q made.takes).about) ∙ same
+
+    pub in_range : IsShard g b.turn
+    in_range = subst (IsShard g) (sym made.kind.turn) (shard_range g k made.kind.valid)
+
+    hand_is : buckets_of b.hand ≡ (bucket_turn g k, b.hand.own.bucket) ∷ []
+    hand_is = λ z. (made.kind.own z, b.hand.own.bucket) ∷ map (λ t. (t.turn, t.bucket)) (made.kind.alone z)
+
+    given_is : (r : Place (Known C)) → r ≡ gave_back q b.turn (after_shard m (buckets_of b.hand) b.turn b.hand.before.value es b.shard q.own)
+        → r ≡ gave_back q (shard_turn g k) (after_shard m ((bucket_turn g k, b.hand.own.bucket) ∷ []) (shard_turn g k) b.hand.before.value es b.shard q.own)
+    given_is r e = e ∙ (λ z. gave_back q (made.kind.turn z) (after_shard m (hand_is z) (made.kind.turn z) b.hand.before.value es b.shard q.own))
+
+    pub still_taken : (r : Place (Known C)) → r ≡ gave_back q b.turn (after_shard m (buckets_of b.hand) b.turn b.hand.before.value es b.shard q.own)
+        → IsAmong b.hand.own.turn r.held × IsAsTaken m b.hand.own.turn (item.Bucket b.hand.own.bucket) r.own
+    still_taken r e = subst (λ (x : ℕ × Place (Known C)). IsAmong x.0 x.1.held × IsAsTaken m x.0 (item.Bucket b.hand.own.bucket) x.1.own) (λ z. (sym made.kind.own z, sym (given_is r e) z)) (
+      bucket_stays m g k made.chain b.hand.before.value made.from q made.takes same_from made.kind.valid,
+      bucket_as_taken m g k made.chain b.hand.before.value made.from q made.takes same_from made.kind.valid b.hand.own.bucket es b.shard,
+    )
+
+    pub makes_is : (r s : Place (Known C)) → r ≡ gave_back q b.turn (after_shard m (buckets_of b.hand) b.turn b.hand.before.value es b.shard q.own)
+        → s ≡ gave_back r b.hand.own.turn (after_same b.hand.own.turn r.own) → Makes m g k b.hand.before.value es q s
+    makes_is r s e f = record {
+      after = b.shard;
+      given = b.hand.own.bucket;
+      legal = made.legal;
+      now = made.now;
+      history = made.history;
+      gave = f ∙ (λ z. gave_back (given_is r e z) (made.kind.own z) (after_same (made.kind.own z) (given_is r e z).own));
+    }

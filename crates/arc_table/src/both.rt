@@ -1,0 +1,71 @@
+//! The bucket and the shard of a key, taken one after the other, and given back with the events made in between.
+ghost use Rattle.std.specs.Prelude.{◌≡◌, ◌<◌, ◌≢◌, [], ◌∷◌};
+ghost use Rattle.arc_core.specs.Config.{IsConfig};
+ghost use Rattle.arc_table.specs.Both.{Makes, TakesBoth};
+ghost use Rattle.arc_table.specs.Cache.{IsPartyOf};
+ghost use Rattle.arc_table.specs.Geometry.{bucket_turn, shard_turn};
+ghost use Rattle.arc_table.specs.InHand.{made_since};
+ghost use Rattle.arc_table.specs.Items.{meanings};
+ghost use Rattle.arc_table.specs.Looking.{HasNoLook};
+ghost use Rattle.arc_table.specs.Making.{IsMade, IsOf};
+
+use crate::arcs::{Arcs, Party};
+use crate::gives;
+use crate::hand::{Hand, Taken};
+use crate::item::Item;
+use crate::looks::bucket_turn_of;
+use arc_core::{Config, Keeps, Shard};
+use blk_ptr::Key;
+use std::snapshot::Snapshot;
+use std::sync::Wait;
+
+/// The bucket and the shard of a key in hand.
+#[derive(Drop)]
+pub(crate) struct Both {
+    pub(crate) hand: Hand,
+    pub(crate) turn: u32,
+    pub(crate) shard: Shard,
+}
+
+// The turn of a key's shard.
+pub(crate) fn shard_turn_of(config: &Config, key: Key) -> u32
+    requires { IsConfig config.now }
+    ensures { result ≡ shard_turn config.now key }
+{
+    config.cells + (config.shards * config.buckets + key.shard(config.shards))
+}
+
+impl<C: Keeps> Arcs<C> {
+    // Takes the bucket of a key and then its shard, and waits while other parties have them.
+    pub(crate) fn take_both(&self, rt: &impl Wait, party: &mut Party<C>, key: Key) -> Both
+        requires party { IsPartyOf self.now party.old }
+        requires look { HasNoLook self.now party.old }
+        ensures kind { IsOf self.now.config key result }
+        ensures new { result.hand.before.value ≡ result.shard }
+        ensures takes { TakesBoth (meanings C.holds C.entries C.opening C.claims C.sound) self.now.config key result.hand.own.bucket result.shard party.old party.new }
+    {
+        let own = bucket_turn_of(&self.config, key);
+        let turn = shard_turn_of(&self.config, key);
+        let bucket = self.turns.take(rt, party, own).into_bucket();
+        let shard = self.turns.take(rt, party, turn).into_shard();
+        let hand = Hand {
+            own: Taken { turn: own, bucket },
+            victims: Vec::new(self.alloc),
+            before: Snapshot::of(&shard),
+        };
+        Both { hand, turn, shard }
+    }
+
+    // Gives the shard back, and then the bucket.
+    pub(crate) fn give_both(&self, party: &mut Party<C>, key: Key, both: Both)
+        requires party { IsPartyOf self.now party.old }
+        requires made { IsMade (meanings C.holds C.entries C.opening C.claims C.sound) self.now.config key (made_since both.hand.before.value both.shard) both party.old }
+        ensures { Makes (meanings C.holds C.entries C.opening C.claims C.sound) self.now.config key both.hand.before.value (made_since both.hand.before.value both.shard) party.old party.new }
+    {
+        let Both { hand, turn, shard } = both;
+        self.give_shard(party, turn, shard, &hand);
+        let Taken { turn, bucket } = hand.own;
+        self.turns
+            .give::<gives::Same>(party, turn, Item::Bucket(bucket));
+    }
+}

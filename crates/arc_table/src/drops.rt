@@ -1,0 +1,40 @@
+//! Giving holds back.
+ghost use Rattle.std.specs.Prelude.{◌≡◌, ◌≢◌, ◌<◌, ℕ, [], ◌∷◌};
+ghost use Rattle.arc_core.specs.declared.event.Event.{Event};
+ghost use Rattle.turn_table.specs.Places.{Apart, Place};
+ghost use Rattle.arc_table.specs.Both.{Does, Makes};
+ghost use Rattle.arc_table.specs.Cache.{IsPartyOf};
+ghost use Rattle.arc_table.specs.Holding.{IsHeld};
+ghost use Rattle.arc_table.specs.Items.{meanings};
+ghost use Rattle.arc_table.specs.Looking.{HasNoLook};
+ghost use Rattle.arc_table.specs.Making.{IsTaken};
+
+use crate::arcs::{Arcs, Party};
+use crate::both::Both;
+use crate::hold::Hold;
+use arc_core::{Event, Keeps};
+use std::sync::Wait;
+
+impl<C: Keeps> Arcs<C> {
+    /// Gives a hold back, whose owner is the party or a cell that the party has in hand. It may wait, and takes no memory.
+    pub fn drop_hold(&self, rt: &impl Wait, party: &mut Party<C>, hold: Hold)
+        requires party { IsPartyOf self.now party.old }
+        requires look { HasNoLook self.now party.old }
+        requires hold { IsHeld self.now.config party.old hold }
+        ensures { Does (meanings C.holds C.entries C.opening C.claims C.sound) self.now.config hold.key (Event.Drop hold.owner hold.key ∷ []) party.old party.new }
+    {
+        let both = self.take_both(rt, party, hold.key);
+        self.drop_taken(party, both, &hold);
+    }
+
+    // Gives one hold back on the entry whose bucket and shard the party has just taken.
+    fn drop_taken(&self, party: &mut Party<C>, mut both: Both, hold: &Hold)
+        requires party { IsPartyOf self.now party.old }
+        requires taken { IsTaken (meanings C.holds C.entries C.opening C.claims C.sound) self.now.config hold.now.key both party.old }
+        requires hold { IsHeld self.now.config party.old hold.now }
+        ensures { Makes (meanings C.holds C.entries C.opening C.claims C.sound) self.now.config hold.now.key both.shard (Event.Drop hold.now.owner hold.now.key ∷ []) party.old party.new }
+    {
+        both.shard.drop_one(hold.owner, hold.key);
+        self.give_both(party, hold.key, both);
+    }
+}

@@ -1,0 +1,38 @@
+//! A hold on an entry of the cache.
+ghost use Rattle.std.specs.Prelude.{◌≡◌};
+
+use blk_ptr::{Block, Key};
+use std::sync::Arc;
+
+/// A hold on an entry, with the entry's block. While a party lists it, the entry's bytes stay cached. It is spent by `drop_hold`,
+/// `try_drop`, `hand` or `release`; where it is only let go, its entry stays held for good. Contracts see its key, its owner's number
+/// and its block.
+#[derive(Debug, Drop)]
+pub struct Hold {
+    pub(crate) key: Key,
+    pub(crate) owner: u32,
+    pub(crate) block: Arc<Block>,
+}
+
+impl Hold {
+    /// The key of the entry.
+    pub fn key(&self) -> Key
+        ensures { result ≡ self.now.key }
+    {
+        self.key
+    }
+
+    /// The block, whose digest is the one with which the hold is listed.
+    pub fn block(&self) -> &Block
+        ensures { result.now ≡ self.now.block.value }
+    {
+        &self.block
+    }
+
+    /// The number under which it is held: that of a party, or of a cell.
+    pub fn owner(&self) -> u32
+        ensures { result ≡ self.now.owner }
+    {
+        self.owner
+    }
+}
