@@ -11,7 +11,7 @@ use Rattle.l2_ring.specs.declared.live.Written.{Written}
 use Rattle.l2_ring.specs.declared.plan.Plan.{Plan}
 use Rattle.l2_ring.specs.Ring.{numbers_of, with_hand}
 use Rattle.l2_ring.specs.Ranges.{Range, Stays, IsInOrder, range_of}
-use Rattle.l2_dev.specs.declared.restored.Restored.{Restored}
+use Rattle.arc_core.specs.declared.served.Restored.{Restored}
 use Rattle.l2_dev.specs.declared.stop.Stop.{Stop}
 use Rattle.l2_dev.specs.Chain.{Visit, IsPassed, IsPlaced, IsLinked, bytes_at, numbers_in}
 use Rattle.l2_dev.specs.Restoring.{IsRebuilt, IsWalked, written_in, firsts, found_in, first_sector, restored_of}

@@ -8,7 +8,7 @@ use Rattle.std.proofs.lemmas.List.Concat.{flat_map-append}
 use Rattle.std.proofs.lemmas.List.Elements.{All-from_recursion, recursion_from_All, All-same, All-append}
 use Rattle.blk_ptr.specs.Key.{IsWellFormed}
 use Rattle.vdev_io.specs.Faults.{Rose}
-use Rattle.l2_dev.specs.declared.restored.Restored.{Restored}
+use Rattle.arc_core.specs.declared.served.Restored.{Restored}
 use Rattle.l2_dev.specs.Cursor.{CursorState}
 use Rattle.l2_dev.specs.Rebuilding.{IsBuilt, IsStarted}
 use Rattle.l2_log.specs.Rules.{log_len}

@@ -5,7 +5,7 @@ use Rattle.l2_log.specs.Rules.{ring_start}
 use Rattle.l2_log.specs.declared.header.DevHeader.{DevHeader}
 use Rattle.l2_ring.specs.declared.live.Written.{Written}
 use Rattle.l2_ring.specs.Ring.{numbers_of}
-use Rattle.l2_dev.specs.declared.restored.Restored.{Restored}
+use Rattle.arc_core.specs.declared.served.Restored.{Restored}
 use Rattle.l2_dev.specs.declared.stop.Stop.{Stop}
 use Rattle.l2_dev.specs.Chain.{Visit, numbers_in}
 use Rattle.l2_dev.specs.Restoring.{IsUnread, IsWalked, firsts, found_in, restored_of}

@@ -3,7 +3,7 @@ use Rattle.std.specs.Prelude.{◌≡◌, ℕ, ◌⊎◌, List, [], ◌∷◌, Is
 use Rattle.std.specs.List.{AllByRecursion}
 use Rattle.vdev_io.specs.Device.{LeavesOnly}
 use Rattle.l2_log.specs.declared.header.DevHeader.{DevHeader}
-use Rattle.l2_dev.specs.declared.restored.Restored.{Restored}
+use Rattle.arc_core.specs.declared.served.Restored.{Restored}
 use Rattle.l2_dev.specs.declared.stop.Stop.{Stop}
 use Rattle.l2_dev.specs.declared.device.L2Dev.{L2Dev}
 use Rattle.l2_dev.specs.declared.start.Started.{Started}

@@ -12,9 +12,9 @@ ghost use Rattle.l2_dev.specs.Walking.{IsFit};
 ghost use Rattle.l2_dev.specs.declared.stop.Stop.TheVariants as why;
 
 use crate::cursor::Cursor;
-use crate::restored::Restored;
 use crate::stop::Stop;
 use crate::walk::{Walked, read_at, walk};
+use arc_core::Restored;
 use blk_ptr::NoMemory;
 use l2_log::{DevHeader, HEADER_LEN, LogFault};
 use l2_ring::{Ring, Written};

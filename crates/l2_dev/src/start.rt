@@ -6,8 +6,8 @@ ghost use Rattle.l2_dev.specs.declared.stop.Stop.TheVariants as why;
 
 use crate::device::L2Dev;
 use crate::rebuild::{Rebuilt, rebuild};
-use crate::restored::Restored;
 use crate::stop::Stop;
+use arc_core::Restored;
 use blk_ptr::{NoMemory, SECTOR};
 use l2_log::LEAST_RING_END;
 use std::alloc::Global;
