@@ -9,10 +9,14 @@ pub mod ListLaws
 pub mod Planned
 pub mod Promise
 pub mod PromiseLaws
+pub mod Reading
+pub mod Rebuilding
 pub mod RebuildLaws
 pub mod Restoring
 pub mod Standing
 pub mod StandingLaws
+pub mod Starting
 pub mod StepLaws
 pub mod Steps
 pub mod TornLaws
+pub mod Walking

@@ -14,7 +14,7 @@ use Rattle.l2_log.specs.declared.header.DevHeader.{DevHeader}
 use Rattle.l2_log.specs.declared.fault.LogFault.{LogFault}
 use Rattle.l2_ring.specs.declared.live.Written.{Written}
 use Rattle.l2_ring.specs.declared.plan.Plan.{Plan}
-use Rattle.l2_dev.specs.declared.restored.Restored.{Restored}
+use Rattle.arc_core.specs.declared.served.Restored.{Restored}
 use Rattle.l2_dev.specs.declared.stop.Stop.{Stop}
 use Rattle.l2_dev.specs.Chain.{Visit, IsHeld, IsChain, numbers_in, pointer_behind, ring_len}
 use Rattle.l2_dev.specs.ChainLaws.{begins_with, linked_next}

@@ -11,7 +11,7 @@ use Rattle.l2_log.specs.declared.fault.LogFault.TheVariants as fault
 use Rattle.l2_ring.specs.declared.live.Written.{Written}
 use Rattle.l2_ring.specs.declared.plan.Plan.{Plan}
 use Rattle.l2_ring.specs.Stays.{stays}
-use Rattle.l2_dev.specs.declared.restored.Restored.{Restored}
+use Rattle.arc_core.specs.declared.served.Restored.{Restored}
 use Rattle.l2_dev.specs.declared.stop.Stop.{Stop}
 use Rattle.l2_dev.specs.declared.stop.Stop.TheVariants as stop
 use Rattle.l2_dev.specs.Chain.{Visit, IsChain, numbers_in}

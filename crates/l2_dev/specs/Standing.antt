@@ -9,7 +9,7 @@ use Rattle.l2_ring.specs.declared.live.Written.{Written}
 use Rattle.l2_ring.specs.declared.plan.Plan.{Plan}
 use Rattle.l2_ring.specs.Stays.{stays, stays_at}
 use Rattle.l2_ring.specs.Ranges.{Range, IsInOrder, range_of}
-use Rattle.l2_dev.specs.declared.restored.Restored.{Restored}
+use Rattle.arc_core.specs.declared.served.Restored.{Restored}
 use Rattle.l2_dev.specs.declared.stop.Stop.{Stop}
 use Rattle.l2_dev.specs.declared.stop.Stop.TheVariants as stop
 use Rattle.l2_dev.specs.Chain.{Visit, IsPassed, IsHeld, IsLinked, pointer_behind, numbers_in, log_range, bytes_at}

@@ -4,13 +4,15 @@
 mod cursor;
 mod device;
 mod fault;
+mod rebuild;
 mod report;
-mod restored;
+mod start;
 mod stop;
+mod walk;
 mod write;
 
 pub use device::L2Dev;
 pub use fault::DevErr;
 pub use report::{FeedReport, FeedStop};
-pub use restored::Restored;
+pub use start::Started;
 pub use stop::Stop;
