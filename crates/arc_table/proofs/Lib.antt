@@ -16,3 +16,5 @@ pub mod Reached
 pub mod OneEvent
 pub mod HoldEvents
 pub mod Taking
+pub mod Standings
+pub mod HitEvents
