@@ -33,7 +33,8 @@ use Rattle.arc_table.specs.Geometry.{IsBucket, bucket_turn, shard_turn}
 use Rattle.arc_table.specs.Headed.{IsHead}
 use Rattle.arc_table.specs.Items.{Meanings}
 use Rattle.arc_table.specs.Logged.{is_picking}
-use Rattle.arc_table.specs.Scanning.{AllPairs, ArePasses, IsBucketOf, MayScan, Scans, added, may_evict, notes_of, won_all}
+use Rattle.arc_table.specs.Scanning.{AllPairs, AreApart, ArePasses, IsBucketOf, MayScan, Scans, added, may_evict, notes_of, won_all}
+use Rattle.arc_table.specs.Sparing.{turns_in}
 use Rattle.arc_table.specs.ShardGiving.{ArePassesNoted, AreAlike, IsActor, IsGivenShard, SameHead, passes_in}
 use Rattle.arc_table.specs.Views.{note}
 use Rattle.arc_table.proofs.OneEvent.{is_pick, stays_settled}
@@ -112,9 +113,6 @@ actor_pass g n i held (_ ∷ es) e h last j x at = absurd h
 
 -- ---- tables with the same turns
 
-abbrev pub turns_in : List (ℕ × Chain) → List ℕ
-turns_in = map (λ v. v.0)
-
 same_none : (j : ℕ) (xs ys : List (ℕ × Chain)) → turns_in xs ≡ turns_in ys → item_at j xs ≡ None → item_at j ys ≡ None
 same_none j [] [] e none = refl
 same_none j [] (y ∷ ys) e none = absurd (cc)
@@ -138,6 +136,19 @@ same_some j xs ys b e there = ⊎_elim
     (λ (none : item_at j ys ≡ None). absurd (none-some b (sym (same_none j ys xs (sym e) none) ∙ there)))
     (λ (h : IsSome (item_at j ys)). h)
     (none_or_some (item_at j ys))
+
+pub apart_turns : (xs ys : List (ℕ × Chain)) → turns_in xs ≡ turns_in ys → AreApart ys → AreApart xs
+apart_turns [] ys e apart = tt
+apart_turns (x ∷ xs) [] e apart = absurd (cc)
+apart_turns (x ∷ xs) (y ∷ ys) e apart = (
+    subst (λ (j : ℕ). item_at j xs ≡ None) (sym (heads x.0 y.0 (turns_in xs) (turns_in ys) e)) (same_none y.0 ys xs (sym (tails x.0 y.0 (turns_in xs) (turns_in ys) e)) apart.0),
+    apart_turns xs ys (tails x.0 y.0 (turns_in xs) (turns_in ys) e) apart.1,
+  )
+  where
+    heads : (a b : ℕ) (xs ys : List ℕ) → (a ∷ xs) ≡ (b ∷ ys) → a ≡ b
+    heads a b xs ys q = cc
+    tails : (a b : ℕ) (xs ys : List ℕ) → (a ∷ xs) ≡ (b ∷ ys) → xs ≡ ys
+    tails a b xs ys q = cc
 
 same_head : (o : Option Entry) → SameHead o o
 same_head None = tt
