@@ -15,6 +15,7 @@ use Rattle.arc_core.specs.declared.config.Config.{Config}
 use Rattle.arc_core.specs.declared.entry.Entry.{Entry}
 use Rattle.arc_core.specs.declared.event.Event.{Event}
 use Rattle.arc_core.specs.declared.event.Event.TheVariants.{Pass, Hit, Miss, Arrive, Fail, Drop, Past, Hand, Insert, Release, Pick, FeedEnd, Set, Leave, Clear, Restore, Resize}
+use Rattle.arc_core.specs.Naming.{takes_room}
 use Rattle.arc_core.specs.Operations.{event_key, is_about, is_pass}
 use Rattle.arc_core.specs.PlainShard.{PlainShard, entry_of}
 use Rattle.arc_core.specs.ShardLog.{ShardLog}
@@ -33,7 +34,7 @@ use Rattle.arc_table.specs.Geometry.{IsBucket, bucket_turn, shard_turn}
 use Rattle.arc_table.specs.Headed.{IsHead}
 use Rattle.arc_table.specs.Items.{Meanings}
 use Rattle.arc_table.specs.Logged.{is_picking}
-use Rattle.arc_table.specs.Scanning.{AllPairs, AreApart, ArePasses, IsBucketOf, MayScan, Scans, added, may_evict, notes_of, won_all}
+use Rattle.arc_table.specs.Scanning.{AllPairs, AreApart, ArePasses, IsBucketOf, MayScan, Scans, added, notes_of, won_all}
 use Rattle.arc_table.specs.Sparing.{turns_in}
 use Rattle.arc_table.specs.ShardGiving.{ArePassesNoted, AreAlike, IsActor, IsGivenShard, SameHead, passes_in}
 use Rattle.arc_table.specs.Views.{note}
@@ -82,15 +83,15 @@ passes_noted g n i len front (Pass a k owner ∷ es) e h last =
     )
 passes_noted g n i len front (_ ∷ es) e h last = absurd h
 
-evict_no_pick : (e : Event) → may_evict e ≡ true → is_pick e ≡ false
+evict_no_pick : (e : Event) → takes_room e ≡ true → is_pick e ≡ false
 evict_no_pick (Pick n k) h = absurd (cc)
 evict_no_pick (_) h = refl
 
-evict_no_pass : (e : Event) → may_evict e ≡ true → is_pass e ≡ false
+evict_no_pass : (e : Event) → takes_room e ≡ true → is_pass e ≡ false
 evict_no_pass (Pass n k owner) h = absurd (cc)
 evict_no_pass (_) h = refl
 
-pub forgotten : (s : PlainShard) (e : Event) → may_evict e ≡ true → (after s e).passed ≡ []
+pub forgotten : (s : PlainShard) (e : Event) → takes_room e ≡ true → (after s e).passed ≡ []
 forgotten s (Miss n k t) h = (frame-kept s (Miss n k t)).passed refl
 forgotten s (Insert n k d t) h = (frame-kept s (Insert n k d t)).passed refl
 forgotten s (Resize n c) h = (frame-kept s (Resize n c)).passed refl
@@ -169,7 +170,7 @@ not_false b h = ap not h
 
 module _ {C : Type 0} (m : Meanings C) (g : Config) (i : ℕ) (first : List (ℕ × Chain)) (before : ShardLog) (p q : Place (Known C)) (may : MayScan g i first before p)
     (l : ShardLog) (marked : List Key) (vs : List (ℕ × Chain)) (es : List Event) (s : Scans m g i first before p q l marked vs es)
-    (e : Event) (l' : ShardLog) (hand : List (ℕ × Chain)) (evicts : may_evict e ≡ true) (ok : IsTrue (legal l.now e))
+    (e : Event) (l' : ShardLog) (hand : List (ℕ × Chain)) (evicts : takes_room e ≡ true) (ok : IsTrue (legal l.now e))
     (none : (k : Key) → IsTrue (not (is_about k e)) → stands_on k marked ≡ false → entry_of k (after l.now e) ≡ entry_of k l.now)
     (now : l'.now ≡ after l.now e) (history : l'.history ≡ l.history ++ e ∷ []) (opening : l'.opening ≡ l.opening)
     (actor : IsActor g q.number q.held i e) (about : (k : Key) → event_key e ≡ Some k → IsSome (item_at (bucket_turn g k) (first ++ vs)))
