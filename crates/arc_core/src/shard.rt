@@ -6,6 +6,7 @@ ghost use Rattle.arc_core.specs.ShardLog.{HasRoom, IsReplayed, Makes, opening_lo
 ghost use Rattle.arc_core.specs.Step.{legal};
 ghost use Rattle.arc_core.specs.View.{first_holder, view_of};
 
+mod counting;
 mod feeding;
 mod naming;
 mod rules;

@@ -12,6 +12,7 @@ pub mod Rows
 pub mod HandHeads
 pub mod Scans
 pub mod ScanGives
+pub mod Spares
 pub mod Reached
 pub mod OneEvent
 pub mod HoldEvents

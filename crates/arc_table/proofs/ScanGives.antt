@@ -15,6 +15,7 @@ use Rattle.arc_core.specs.declared.config.Config.{Config}
 use Rattle.arc_core.specs.declared.entry.Entry.{Entry}
 use Rattle.arc_core.specs.declared.event.Event.{Event}
 use Rattle.arc_core.specs.declared.event.Event.TheVariants.{Pass, Hit, Miss, Arrive, Fail, Drop, Past, Hand, Insert, Release, Pick, FeedEnd, Set, Leave, Clear, Restore, Resize}
+use Rattle.arc_core.specs.Naming.{takes_room}
 use Rattle.arc_core.specs.Operations.{event_key, is_about, is_pass}
 use Rattle.arc_core.specs.PlainShard.{PlainShard, entry_of}
 use Rattle.arc_core.specs.ShardLog.{ShardLog}
@@ -33,7 +34,8 @@ use Rattle.arc_table.specs.Geometry.{IsBucket, bucket_turn, shard_turn}
 use Rattle.arc_table.specs.Headed.{IsHead}
 use Rattle.arc_table.specs.Items.{Meanings}
 use Rattle.arc_table.specs.Logged.{is_picking}
-use Rattle.arc_table.specs.Scanning.{AllPairs, ArePasses, IsBucketOf, MayScan, Scans, added, may_evict, notes_of, won_all}
+use Rattle.arc_table.specs.Scanning.{AllPairs, AreApart, ArePasses, IsBucketOf, MayScan, Scans, added, notes_of, won_all}
+use Rattle.arc_table.specs.Sparing.{turns_in}
 use Rattle.arc_table.specs.ShardGiving.{ArePassesNoted, AreAlike, IsActor, IsGivenShard, SameHead, passes_in}
 use Rattle.arc_table.specs.Views.{note}
 use Rattle.arc_table.proofs.OneEvent.{is_pick, stays_settled}
@@ -81,15 +83,15 @@ passes_noted g n i len front (Pass a k owner ∷ es) e h last =
     )
 passes_noted g n i len front (_ ∷ es) e h last = absurd h
 
-evict_no_pick : (e : Event) → may_evict e ≡ true → is_pick e ≡ false
+evict_no_pick : (e : Event) → takes_room e ≡ true → is_pick e ≡ false
 evict_no_pick (Pick n k) h = absurd (cc)
 evict_no_pick (_) h = refl
 
-evict_no_pass : (e : Event) → may_evict e ≡ true → is_pass e ≡ false
+evict_no_pass : (e : Event) → takes_room e ≡ true → is_pass e ≡ false
 evict_no_pass (Pass n k owner) h = absurd (cc)
 evict_no_pass (_) h = refl
 
-pub forgotten : (s : PlainShard) (e : Event) → may_evict e ≡ true → (after s e).passed ≡ []
+pub forgotten : (s : PlainShard) (e : Event) → takes_room e ≡ true → (after s e).passed ≡ []
 forgotten s (Miss n k t) h = (frame-kept s (Miss n k t)).passed refl
 forgotten s (Insert n k d t) h = (frame-kept s (Insert n k d t)).passed refl
 forgotten s (Resize n c) h = (frame-kept s (Resize n c)).passed refl
@@ -111,9 +113,6 @@ actor_pass g n i held (Pass a k owner ∷ es) e h last (suc j) x at = actor_pass
 actor_pass g n i held (_ ∷ es) e h last j x at = absurd h
 
 -- ---- tables with the same turns
-
-abbrev pub turns_in : List (ℕ × Chain) → List ℕ
-turns_in = map (λ v. v.0)
 
 same_none : (j : ℕ) (xs ys : List (ℕ × Chain)) → turns_in xs ≡ turns_in ys → item_at j xs ≡ None → item_at j ys ≡ None
 same_none j [] [] e none = refl
@@ -139,6 +138,19 @@ same_some j xs ys b e there = ⊎_elim
     (λ (h : IsSome (item_at j ys)). h)
     (none_or_some (item_at j ys))
 
+pub apart_turns : (xs ys : List (ℕ × Chain)) → turns_in xs ≡ turns_in ys → AreApart ys → AreApart xs
+apart_turns [] ys e apart = tt
+apart_turns (x ∷ xs) [] e apart = absurd (cc)
+apart_turns (x ∷ xs) (y ∷ ys) e apart = (
+    subst (λ (j : ℕ). item_at j xs ≡ None) (sym (heads x.0 y.0 (turns_in xs) (turns_in ys) e)) (same_none y.0 ys xs (sym (tails x.0 y.0 (turns_in xs) (turns_in ys) e)) apart.0),
+    apart_turns xs ys (tails x.0 y.0 (turns_in xs) (turns_in ys) e) apart.1,
+  )
+  where
+    heads : (a b : ℕ) (xs ys : List ℕ) → (a ∷ xs) ≡ (b ∷ ys) → a ≡ b
+    heads a b xs ys q = cc
+    tails : (a b : ℕ) (xs ys : List ℕ) → (a ∷ xs) ≡ (b ∷ ys) → xs ≡ ys
+    tails a b xs ys q = cc
+
 same_head : (o : Option Entry) → SameHead o o
 same_head None = tt
 same_head (Some e) = record { key = refl; state = refl; reading = refl; place = refl; digest = refl }
@@ -158,7 +170,7 @@ not_false b h = ap not h
 
 module _ {C : Type 0} (m : Meanings C) (g : Config) (i : ℕ) (first : List (ℕ × Chain)) (before : ShardLog) (p q : Place (Known C)) (may : MayScan g i first before p)
     (l : ShardLog) (marked : List Key) (vs : List (ℕ × Chain)) (es : List Event) (s : Scans m g i first before p q l marked vs es)
-    (e : Event) (l' : ShardLog) (hand : List (ℕ × Chain)) (evicts : may_evict e ≡ true) (ok : IsTrue (legal l.now e))
+    (e : Event) (l' : ShardLog) (hand : List (ℕ × Chain)) (evicts : takes_room e ≡ true) (ok : IsTrue (legal l.now e))
     (none : (k : Key) → IsTrue (not (is_about k e)) → stands_on k marked ≡ false → entry_of k (after l.now e) ≡ entry_of k l.now)
     (now : l'.now ≡ after l.now e) (history : l'.history ≡ l.history ++ e ∷ []) (opening : l'.opening ≡ l.opening)
     (actor : IsActor g q.number q.held i e) (about : (k : Key) → event_key e ≡ Some k → IsSome (item_at (bucket_turn g k) (first ++ vs)))

@@ -24,6 +24,7 @@ pub mod Opening
 pub mod OpeningLaws
 pub mod Ended
 pub mod Scanning
+pub mod Sparing
 pub mod Holding
 pub mod Both
 pub mod Telling
