@@ -1,5 +1,5 @@
 -- What the answers of a cell's reading calls say of its dbufs.
-use Rattle.std.proofs.Common.{◌≡◌, ℕ, Bool, true, false, not, ◌&&◌, ◌||◌, IsTrue, List, [], ◌∷◌, Option, Some, None, refl, sym, ap, subst, ◌∙◌}
+use Rattle.std.proofs.Common.{◌≡◌, ℕ, Bool, true, false, not, ◌&&◌, ◌||◌, List, Option, Some, None, refl, sym, ap, subst}
 use Rattle.std.specs.Option.{option_map_or}
 use Rattle.std.specs.Prelude.{option_map, is_some}
 use Rattle.blk_ptr.specs.declared.key.Key.{Key}
@@ -12,7 +12,7 @@ use Rattle.dbuf_state.specs.declared.state.DbState.{DbState}
 use Rattle.dbuf_state.specs.declared.state.DbState.TheVariants as state
 use Rattle.dbuf_state.specs.declared.state.Mapped.{Mapped}
 use Rattle.dbuf_state.specs.declared.state.Mapped.TheVariants as mapped
-use Rattle.dbuf_state.specs.Dbufs.{DbufHas, IsKeptOf, IsOfContent, dbuf_at, dbuf_is, dbuf_oid, is_clean, is_clean_in, is_dirty, is_evicting, is_uncached, mapped_of, may_dirty}
+use Rattle.dbuf_state.specs.Dbufs.{DbufHas, IsKeptOf, IsOfContent, dbuf_at, dbuf_is, dbuf_oid, is_clean, is_clean_in, is_dirty, is_evicting, is_uncached, mapped_of, may_dirty, size_of}
 use Rattle.dbuf_state.specs.Oids.{has_item}
 
 module _ {H : Type 0} where
@@ -80,3 +80,23 @@ module _ {H : Type 0} where
       go : (o : Option (Dbuf H)) → option_map (λ d. mapped_of d.content) o ≡ None → option_map_or (λ d. not (is_clean d.content) || (is_uncached d.state || is_evicting d.state)) o true ≡ true
       go None e = refl
       go (Some d) e = cc
+
+  -- a mapped block whose dbuf is in a state that passes
+  pub state-in : (test : DbState → Bool) (at : Oid) (ds : List (Dbuf H)) (m : Mapped) → mapped_at at ds ≡ Some m → test (state_at at ds) ≡ true → dbuf_is (λ d. test d.state) at ds ≡ true
+  state-in test at ds m e passes = go (dbuf_at at ds) e passes
+    where
+      go : (o : Option (Dbuf H)) → option_map (λ d. mapped_of d.content) o ≡ Some m → test (option_map_or (λ d. d.state) o state.Uncached) ≡ true → option_map_or (λ d. test d.state) o false ≡ true
+      go None e h = cc
+      go (Some d) e h = h
+
+  -- a dirty block has so many bytes
+  pub dirty-size : (at : Oid) (ds : List (Dbuf H)) (size : ℕ) → mapped_at at ds ≡ Some (mapped.Dirty size) → DbufHas (λ d. size_of d.content ≡ size) (dbuf_at at ds)
+  dirty-size at ds size e = go (dbuf_at at ds) e
+    where
+      content : (k : Content) → Some (mapped_of k) ≡ Some (mapped.Dirty size) → size_of k ≡ size
+      content (Clean p) e = cc
+      content (Dirty bytes) e = cc
+
+      go : (o : Option (Dbuf H)) → option_map (λ d. mapped_of d.content) o ≡ Some (mapped.Dirty size) → DbufHas (λ d. size_of d.content ≡ size) o
+      go None e = cc
+      go (Some d) e = content d.content e

@@ -1,5 +1,5 @@
 -- That the changes of a cell's dbufs are what its events say of the plain cell.
-use Rattle.std.proofs.Common.{◌≡◌, ℕ, ◌+◌, true, ◌&&◌, List, [], ◌∷◌, ◌++◌, length, map, replicate, Option, Some, None, refl, ap, subst, ◌∙◌, inl, inr}
+use Rattle.std.proofs.Common.{◌≡◌, ℕ, ◌+◌, true, not, ◌&&◌, List, [], ◌∷◌, ◌++◌, length, map, replicate, Option, Some, None, refl, sym, ap, subst, ◌∙◌, inl, inr}
 use Rattle.std.proofs.lemmas.List.{length_push}
 use Rattle.dbuf_state.specs.declared.dbuf.Content.{Content}
 use Rattle.dbuf_state.specs.declared.dbuf.Content.TheVariants.{Clean, Dirty}
@@ -8,16 +8,18 @@ use Rattle.dbuf_state.specs.declared.event.CellEvent.{CellEvent}
 use Rattle.dbuf_state.specs.declared.event.CellEvent.TheVariants.{Get, Put, Patch, Pin, Unpin, Load, Evict, Synced, End}
 use Rattle.dbuf_state.specs.declared.oid.Oid.{Oid}
 use Rattle.dbuf_state.specs.declared.state.DbState.{DbState}
+use Rattle.dbuf_state.specs.declared.state.Mapping.{Mapping}
+use Rattle.std.specs.List.{list_all}
 use Rattle.dbuf_state.specs.declared.state.DbState.TheVariants as state
 use Rattle.dbuf_state.specs.CellLog.{CellLog, fresh, touched}
-use Rattle.dbuf_state.specs.Dbufs.{DbufHas, block_of, cached_with, cleared, dbuf_at, dbuf_oid, dirty_with, emptied, is_cached, is_clean, is_clean_in, is_reading, is_uncached, pinned_by, plain_dbuf, reading_by, synced_to, unpinned_by, unread, used_at, with_dbuf, without_kept, written, written_at}
+use Rattle.dbuf_state.specs.Dbufs.{DbufHas, block_of, cached_with, cleared, dbuf_at, dbuf_oid, dirty_with, emptied, is_cached, is_clean, is_clean_in, is_passing, is_reading, is_uncached, pinned_by, plain_dbuf, reading_by, synced_to, unpinned_by, unread, used_at, with_dbuf, without_kept, written, written_at}
 use Rattle.dbuf_state.specs.History.{Leads}
-use Rattle.dbuf_state.specs.Objects.{Block, Evicting, IsBase, IsLegal, PlainCell, PlainDbuf, after, changed, effect, evicting_after, use_of}
+use Rattle.dbuf_state.specs.Objects.{Block, Evicting, IsBase, IsLegal, PlainCell, PlainDbuf, after, changed, effect, evicting_after, opening_cell, use_of}
 use Rattle.dbuf_state.specs.Objects as plain
 use Rattle.dbuf_state.specs.Oids.{oid_eq, with_item}
 use Rattle.dbuf_state.specs.Pins as pins
 use Rattle.dbuf_state.specs.Soundness.{plain_cell}
-use Rattle.dbuf_state.specs.Steps.{EndFollows, EvictFollows, Follows, GetFollows, GoesOn, LoadFollows, PatchFollows, PatchOfCleanFollows, PinFollows, PutFollows, ReadingAlike, SyncedFollows, UnpinFollows, UnreadAlike}
+use Rattle.dbuf_state.specs.Steps.{CallGoesOn, EndFollows, EvictFollows, Follows, GetFollows, GoesOn, LoadFollows, MappedIsSound, PatchFollows, PatchOfCleanFollows, PinFollows, PutFollows, ReadingAlike, SyncedFollows, UnpinFollows, UnreadAlike}
 use Rattle.dbuf_state.proofs.FitLemmas.{from-test}
 use Rattle.dbuf_state.proofs.IndexLemmas.{bool_cases}
 
@@ -76,6 +78,19 @@ unreads (Clean ptr) (state.Read m) h = refl
 unreads (Clean ptr) state.Fill h = refl
 unreads (Clean ptr) state.Cached h = cc
 unreads (Clean ptr) state.Evicting h = refl
+
+-- ---- a cell that only maps
+
+abbrev mapped_dbufs : (H : Type 0) → List Mapping → List (Dbuf H)
+mapped_dbufs H ms = map (λ m. fresh m.at (Clean m.ptr) state.Uncached) ms
+
+opened : (H : Type 0) (ms : List Mapping) → map plain_dbuf (mapped_dbufs H ms) ≡ map plain.opened ms
+opened H [] = refl
+opened H (m ∷ ms) = ap (λ (ps : List PlainDbuf). plain.opened m ∷ ps) (opened H ms)
+
+rests : (H : Type 0) (ms : List Mapping) → list_all (λ d. not (is_passing d.state)) (mapped_dbufs H ms) ≡ true
+rests H [] = refl
+rests H (m ∷ ms) = rests H ms
 
 module _ {H : Type 0} where
   -- a change of the Oid's dbuf is a change of the plain one
@@ -181,3 +196,22 @@ module _ {H : Type 0} where
   pub unread-alike : UnreadAlike H
   unread-alike c at evicting h = alike at unread c evicting
       (from-test (is_clean_in is_reading) _ (λ d t. ap (λ (b : Block). record { at = d.at; block = b; pins = d.pins; used = d.used }) (unreads d.content d.state t)) at c.dbufs h)
+
+  -- ---- histories
+
+  pub call-goes-on : CallGoesOn H
+  call-goes-on c evicting base e ds leads legal of follows =
+      subst (λ (end : PlainCell). Leads (opening_cell c.limit c.opening) (c.history ++ e ∷ []) end) (sym (follows evicting))
+      (goes-on (opening_cell c.limit c.opening) (plain_cell evicting c) c.history e base leads legal of)
+
+  pub mapped-is-sound : MappedIsSound H
+  mapped-is-sound c first mapped = record {
+    evicting = plain.Never;
+    history = record {
+      legal = subst (λ (es : List CellEvent). Leads (opening_cell c.limit c.opening) es (plain_cell plain.Never c)) (sym first)
+          (ap (λ (ps : List PlainDbuf). record { limit = c.limit; dbufs = ps; events = length c.history; evicting = plain.Never }) (ap (map plain_dbuf) mapped ∙ opened H c.opening)
+          ∙ ap (λ (es : List CellEvent). record { limit = c.limit; dbufs = map plain.opened c.opening; events = length es; evicting = plain.Never }) first);
+      settled = refl;
+    };
+    at_rest = subst (λ (ds : List (Dbuf H)). list_all (λ d. not (is_passing d.state)) ds ≡ true) (sym mapped) (rests H c.opening);
+  }

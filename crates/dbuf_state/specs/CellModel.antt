@@ -19,7 +19,7 @@ module _ {H : Type 0} where
     event_room = c.spare_events;
   }
 
-  pub record IsKept (key_of : H → Key) (bytes_of : H → List ℕ) (c : Inside H) : Type 0 where
+  pub record CellKeeps (key_of : H → Key) (bytes_of : H → List ℕ) (c : Inside H) : Type 0 where
     -- no two dbufs have one Oid; the names and the index have the dbufs in their order
     pub names : c.names.keys ≡ map dbuf_oid c.dbufs.items
     pub once : IsTrue (is_distinct dbuf_oid c.dbufs.items)

@@ -226,7 +226,16 @@ module _ {H : Type 0} where
   -- a write has to end inside the dirty bytes
   abbrev pub IsInside : Change H → Content → Type 0
   IsInside (change.Written from bytes) content = from + length bytes ≤ size_of content
-  IsInside _ content = Unit {0}
+  IsInside (change.Reading n) content = Unit {0}
+  IsInside change.Unread content = Unit {0}
+  IsInside (change.Keep kept) content = Unit {0}
+  IsInside (change.Unkeep state) content = Unit {0}
+  IsInside (change.Dirty bytes) content = Unit {0}
+  IsInside (change.Synced ptr kept) content = Unit {0}
+  IsInside (change.Pin n) content = Unit {0}
+  IsInside (change.Unpin n) content = Unit {0}
+  IsInside (change.Used tick) content = Unit {0}
+  IsInside change.Clear content = Unit {0}
 
   module _ (key_of : H → Key) (bytes_of : H → List ℕ) where
     -- a kept value is of a pointer where its key is the pointer's key and its block's bytes are of the pointer

@@ -18,7 +18,7 @@ kept_rank s = if s.kept then Some (record { order = 0; at = s.at }) else None
 abbrev pub row_in : Inside → IndexRow
 row_in i = record { standings = i.standings.items; spare = i.spare }
 
-pub record IsKept (i : Inside) : Type 0 where
+pub record IndexKeeps (i : Inside) : Type 0 where
   -- each tournament has the dbufs' ranks at its first places, and none at the others
   pub oldest : (k : ℕ) → rank_at i.oldest k ≡ rank_at (map use_rank i.standings.items) k
   pub first : (k : ℕ) → rank_at i.first k ≡ rank_at (map kept_rank i.standings.items) k

@@ -155,7 +155,14 @@ IsBaseAt base (Some d) = IsBaseOf base d.block
 
 abbrev pub IsBase : List ℕ → PlainCell → CellEvent → Type 0
 IsBase base c (Patch n at from bytes) = IsBaseAt base (dbuf_at at c)
-IsBase base c _ = Unit {0}
+IsBase base c (Get n at) = Unit {0}
+IsBase base c (Put n at size fill) = Unit {0}
+IsBase base c (Pin n at) = Unit {0}
+IsBase base c (Unpin n at) = Unit {0}
+IsBase base c (Load n at) = Unit {0}
+IsBase base c (Evict n at) = Unit {0}
+IsBase base c (Synced n at ptr) = Unit {0}
+IsBase base c (End n) = Unit {0}
 
 abbrev pub loaded : Block → Block
 loaded (Uncached ptr) = Cached ptr

@@ -1,7 +1,7 @@
 -- Laws of histories and of cells: what a cell's calls do is what its events say.
 use Rattle.std.specs.Prelude.{◌≡◌, ℕ, true, List, [], ◌∷◌, ◌++◌, replicate, map}
 use Rattle.blk_ptr.specs.declared.ptr.Ptr.{Ptr}
-use Rattle.dbuf_state.specs.declared.dbuf.Content.TheVariants.{Dirty}
+use Rattle.dbuf_state.specs.declared.dbuf.Content.TheVariants.{Clean, Dirty}
 use Rattle.dbuf_state.specs.declared.dbuf.Dbuf.{Dbuf}
 use Rattle.dbuf_state.specs.declared.event.CellEvent.{CellEvent}
 use Rattle.dbuf_state.specs.declared.event.CellEvent.TheVariants.{Get, Put, Patch, Pin, Unpin, Load, Evict, Synced, End}
@@ -10,9 +10,9 @@ use Rattle.dbuf_state.specs.declared.state.DbState.TheVariants as state
 use Rattle.dbuf_state.specs.CellLog.{CellLog, fresh, noted}
 use Rattle.dbuf_state.specs.Dbufs.{DbufHas, cached_with, cleared, dbuf_at, dbuf_is, dbuf_oid, dirty_with, is_clean_in, is_cached, is_reading, is_uncached, pinned_by, reading_by, synced_to, unpinned_by, unread, with_dbuf, without_kept, written_at}
 use Rattle.dbuf_state.specs.History.{Leads}
-use Rattle.dbuf_state.specs.Objects.{Evicting, IsBase, IsLegal, PlainCell, after, evicting_after}
+use Rattle.dbuf_state.specs.Objects.{Evicting, IsBase, IsLegal, PlainCell, after, evicting_after, opening_cell}
 use Rattle.dbuf_state.specs.Oids.{with_item}
-use Rattle.dbuf_state.specs.Soundness.{plain_cell}
+use Rattle.dbuf_state.specs.Soundness.{IsSound, plain_cell}
 
 -- a legal event more leads on
 abbrev pub GoesOn : Type 0
@@ -23,6 +23,17 @@ GoesOn = (c end : PlainCell) (es : List CellEvent) (e : CellEvent) (base : List 
 abbrev pub Follows : {H : Type 0} → List ℕ → CellLog H → CellEvent → List (Dbuf H) → Type 0
 Follows base c e ds = (evicting : Evicting)
     → plain_cell (evicting_after evicting e) (noted e (record c { dbufs = ds })) ≡ after base (plain_cell evicting c) e
+
+-- a call with its event takes a legal history of a cell on
+abbrev pub CallGoesOn : Type 0 → Type 0
+CallGoesOn H = (c : CellLog H) (evicting : Evicting) (base : List ℕ) (e : CellEvent) (ds : List (Dbuf H))
+    → Leads (opening_cell c.limit c.opening) c.history (plain_cell evicting c)
+    → IsLegal (plain_cell evicting c) e → IsBase base (plain_cell evicting c) e → Follows base c e ds
+    → Leads (opening_cell c.limit c.opening) (c.history ++ e ∷ []) (plain_cell (evicting_after evicting e) (noted e (record c { dbufs = ds })))
+
+-- a cell to which nothing was done but to map Oids is sound
+abbrev pub MappedIsSound : Type 0 → Type 0
+MappedIsSound H = (c : CellLog H) → c.history ≡ [] → c.dbufs ≡ map (λ m. fresh m.at (Clean m.ptr) state.Uncached) c.opening → IsSound c
 
 -- a get changes no dbuf
 abbrev pub GetFollows : Type 0 → Type 0

@@ -43,11 +43,11 @@ impl<H: Shows> Model for Cell<H> {
 
     ghost Value = { CellLog H };
 
-    ghost use Rattle.dbuf_state.specs.CellModel.{log_in, IsKept};
+    ghost use Rattle.dbuf_state.specs.CellModel.{log_in, CellKeeps};
 
     ghost view = { log_in };
 
-    ghost invariant = { IsKept H.key_of H.bytes_of };
+    ghost invariant = { CellKeeps H.key_of H.bytes_of };
 }
 
 // Adds a name, for which there is room.

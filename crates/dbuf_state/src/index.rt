@@ -30,11 +30,11 @@ impl Model for Index {
 
     ghost Value = { IndexRow };
 
-    ghost use Rattle.dbuf_state.specs.Index.{row_in, IsKept};
+    ghost use Rattle.dbuf_state.specs.Index.{row_in, IndexKeeps};
 
     ghost view = { row_in };
 
-    ghost invariant = { IsKept };
+    ghost invariant = { IndexKeeps };
 }
 
 // Where a dbuf is a candidate, by when it was last used.

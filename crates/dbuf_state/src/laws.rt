@@ -1,6 +1,6 @@
 //! Laws of cells, each the contract of a function that does nothing.
 ghost use Rattle.dbuf_state.specs.Numbers.{AreEventsRead, AreMappingsRead};
-ghost use Rattle.dbuf_state.specs.Steps.{EndFollows, EvictFollows, GetFollows, GoesOn, LoadFollows, PatchFollows, PatchOfCleanFollows, PinFollows, PutFollows, ReadingAlike, SyncedFollows, UnpinFollows, UnreadAlike};
+ghost use Rattle.dbuf_state.specs.Steps.{CallGoesOn, EndFollows, EvictFollows, GetFollows, GoesOn, LoadFollows, MappedIsSound, PatchFollows, PatchOfCleanFollows, PinFollows, PutFollows, ReadingAlike, SyncedFollows, UnpinFollows, UnreadAlike};
 
 use std::marker::PhantomData;
 
@@ -21,6 +21,12 @@ pub fn calls_are_their_events<H>(_kept: PhantomData<H>)
     ensures unpin { UnpinFollows H }
     ensures synced { SyncedFollows H }
     ensures end { EndFollows H }
+{}
+
+/// A law of cells: a call with its event takes a legal history on, and a cell that only maps is sound.
+pub fn cells_stay_legal<H>(_kept: PhantomData<H>)
+    ensures goes_on { CallGoesOn H }
+    ensures mapped { MappedIsSound H }
 {}
 
 /// A law of cells: while the bytes of a clean block are being brought, the block counts as uncached.

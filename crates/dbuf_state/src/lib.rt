@@ -27,7 +27,8 @@ pub use dbuf::{Content, Dbuf};
 pub use event::CellEvent;
 pub use fault::DbufFault;
 pub use laws::{
-    a_history_goes_on, calls_are_their_events, numbers_are_read_back, what_counts_alike,
+    a_history_goes_on, calls_are_their_events, cells_stay_legal, numbers_are_read_back,
+    what_counts_alike,
 };
 pub use oid::Oid;
 pub use pins::{PinCount, Pins};

@@ -1,3 +1,4 @@
+//! A cell whose kept blocks are plain ones, called as the layer above calls it.
 ghost use Rattle.std.specs.Prelude.{IsTrue};
 ghost use Rattle.dbuf_state.specs.Dbufs.{IsKeptOf};
 ghost use Rattle.dbuf_state.specs.declared.tests.Plain.{Plain};
@@ -5,9 +6,11 @@ ghost use Rattle.dbuf_state.specs.declared.tests.Plain.{Plain};
 use crate::cell::Cell;
 use crate::event::CellEvent;
 use crate::oid::Oid;
+use crate::shown::Shown;
 use crate::state::{DbState, Mapped};
+use crate::window::Window;
 use arc_core::Keeps;
-use blk_ptr::{Block, Digest, Key, NoMemory, Ptr, Shows};
+use blk_ptr::{Block, Key, NoMemory, Ptr, Shows, is_block_size};
 use std::alloc::Global;
 use std::test::Fail;
 
@@ -108,6 +111,18 @@ fn is_of(kept: &Plain, ptr: Ptr) -> bool
         && kept.block.digest() == ptr.digest
 }
 
+// Begins to bring a clean block for `n`, and gives it up.
+fn give_up(cell: &mut Cell<Plain>, n: u32, at: Oid) {
+    let (Some(Mapped::Clean(_)), DbState::Uncached) = (cell.mapped(at), cell.state(at)) else {
+        return;
+    };
+    cell.reading(n, at);
+    let (Some(Mapped::Clean(_)), DbState::Read { .. }) = (cell.mapped(at), cell.state(at)) else {
+        return;
+    };
+    cell.unread(at);
+}
+
 // Reads a block for `n`: brings it where it isn't there, notes the read, and evicts what is to be evicted.
 fn get(
     alloc: Global,
@@ -135,6 +150,115 @@ fn settle(alloc: Global, cell: &mut Cell<Plain>, n: u32) -> Result<Vec<Oid>, NoM
         evicted.push(at)?;
     }
     Ok(evicted)
+}
+
+// Writes a whole block that isn't mapped yet.
+fn put(cell: &mut Cell<Plain>, n: u32, at: Oid, bytes: Vec<u8>) -> Result<(), NoMemory> {
+    cell.reserve(1, 1)?;
+    let size = bytes.len() as u64;
+    let None = cell.mapped(at) else {
+        return Ok(());
+    };
+    if is_block_size(size) {
+        cell.dirty_with(at, bytes);
+        cell.note(CellEvent::Put {
+            n,
+            at,
+            size: size as u32,
+            fill: 0,
+        });
+    }
+    Ok(())
+}
+
+// Writes one byte over the first one of a dirty block.
+fn patch(cell: &mut Cell<Plain>, n: u32, at: Oid, byte: u8) -> Result<(), NoMemory> {
+    cell.reserve(0, 1)?;
+    let Some(Mapped::Dirty { size }) = cell.mapped(at) else {
+        return Ok(());
+    };
+    if size >= 1 {
+        let bytes = Shown::of(&[byte]);
+        cell.write_at(at, 0, &bytes);
+        cell.note(CellEvent::Patch {
+            n,
+            at,
+            from: 0,
+            bytes,
+        });
+    }
+    Ok(())
+}
+
+// The bytes of a window of a dirty block, where the window is inside.
+fn window(cell: &Cell<Plain>, at: Oid, w: Window) -> Option<Shown> {
+    let (Some(Mapped::Dirty { size }), DbState::Cached) = (cell.mapped(at), cell.state(at)) else {
+        return None;
+    };
+    if u64::from(w.at) + u64::from(w.len) > u64::from(size) {
+        return None;
+    }
+    let mut out = Shown::of(&[]);
+    cell.shown(at, w, &mut out);
+    Some(out)
+}
+
+// Takes what is kept of a clean block out, and puts it back.
+fn out_and_back(cell: &mut Cell<Plain>, at: Oid) {
+    let (Some(Mapped::Clean(_)), DbState::Cached) = (cell.mapped(at), cell.state(at)) else {
+        return;
+    };
+    let kept = cell.unkeep(at);
+    if let (Some(Mapped::Clean(ptr)), DbState::Evicting) = (cell.mapped(at), cell.state(at)) {
+        if is_of(&kept, ptr) {
+            cell.rekeep(at, kept);
+        }
+    }
+}
+
+// Tells that a dirty block was written to the pool, at its beginning, and what it is kept by.
+fn sync(alloc: Global, cell: &mut Cell<Plain>, n: u32, at: Oid) -> Result<(), NoMemory> {
+    cell.reserve(0, 1)?;
+    let Some(Mapped::Dirty { .. }) = cell.mapped(at) else {
+        return Ok(());
+    };
+    let block = Block::seal(cell.dirty_bytes(at).to_vec(alloc)?);
+    let key = Key {
+        offset: 0,
+        size: block.bytes().len() as u64,
+        birth: 2,
+    };
+    let ptr = Ptr {
+        key,
+        digest: block.digest(),
+    };
+    let kept = Plain {
+        key,
+        block,
+        held: true,
+    };
+    cell.synced(at, ptr, kept);
+    cell.note(CellEvent::Synced { n, at, ptr });
+    Ok(())
+}
+
+// Takes what is kept of a clean block out for good.
+fn take_out(cell: &mut Cell<Plain>, at: Oid) {
+    let (Some(Mapped::Clean(_)), DbState::Cached) = (cell.mapped(at), cell.state(at)) else {
+        return;
+    };
+    let _ = cell.unkeep(at);
+}
+
+// Ends a cell that keeps nothing.
+fn end(cell: &mut Cell<Plain>, n: u32) -> Result<(), NoMemory> {
+    cell.reserve(0, 1)?;
+    let None = cell.first_kept() else {
+        return Ok(());
+    };
+    cell.empty();
+    cell.note(CellEvent::End { n });
+    Ok(())
 }
 
 #[test]
@@ -173,7 +297,63 @@ fn two_blocks_in_turn_under_a_limit_of_one(rt: HostRuntime) -> Result<(), Fail> 
         let evicted = get(rt.alloc(), &mut cell, 0, oid(i), kept)?;
         assert_eq!(rt; evicted.first().copied(), out);
         assert_eq!(rt; (cell.first_kept(), cell.keeps(ptr.key)), (Some(oid(i)), 1));
+        out_and_back(&mut cell, oid(i));
+        assert_eq!(rt; (cell.first_kept(), cell.keeps(ptr.key)), (Some(oid(i)), 1));
     }
     assert_eq!(rt; cell.history().len(), 8);
+    Ok(())
+}
+
+// A cell with one block of zeros, of which the first byte was written over.
+fn patched(alloc: Global) -> Result<Cell<Plain>, NoMemory> {
+    let mut cell: Cell<Plain> = Cell::new(alloc, 512);
+    put(&mut cell, 0, oid(0), vec![in alloc; 0; 512]?)?;
+    patch(&mut cell, 0, oid(0), 255)?;
+    Ok(cell)
+}
+
+// The same once the block was pinned and synced.
+fn synced(alloc: Global) -> Result<Cell<Plain>, NoMemory> {
+    let mut cell = patched(alloc)?;
+    cell.pin(0, oid(0))?;
+    sync(alloc, &mut cell, 1, oid(0))?;
+    Ok(cell)
+}
+
+#[test]
+fn a_block_is_put_and_patched(rt: HostRuntime) -> Result<(), Fail> {
+    let cell = patched(rt.alloc())?;
+    let shown = window(&cell, oid(0), Window { at: 0, len: 2 }).ok_or("a window")?;
+    assert_eq!(rt; shown.bytes(), [255, 0].as_slice());
+    assert_eq!(rt; cell.dirty()?.as_slice(), [oid(0)].as_slice());
+    assert_eq!(rt; (cell.first_kept(), cell.history().len()), (None, 2));
+    Ok(())
+}
+
+#[test]
+fn a_block_that_could_not_be_brought(rt: HostRuntime) -> Result<(), Fail> {
+    let mut cell: Cell<Plain> = Cell::new(rt.alloc(), 512);
+    map_zeros(rt.alloc(), &mut cell, 0)?;
+    give_up(&mut cell, 0, oid(0));
+    assert_eq!(rt; (cell.first_kept(), cell.history().len()), (None, 0));
+    Ok(())
+}
+
+#[test]
+fn a_block_is_synced(rt: HostRuntime) -> Result<(), Fail> {
+    let cell = synced(rt.alloc())?;
+    assert!(rt; matches!(cell.mapped(oid(0)), Some(Mapped::Clean(_))));
+    assert_eq!(rt; cell.first_kept(), Some(oid(0)));
+    Ok(())
+}
+
+#[test]
+fn a_cell_ends(rt: HostRuntime) -> Result<(), Fail> {
+    let mut cell = synced(rt.alloc())?;
+    take_out(&mut cell, oid(0));
+    assert_eq!(rt; cell.state(oid(0)), DbState::Evicting);
+    end(&mut cell, 1)?;
+    assert_eq!(rt; cell.state(oid(0)), DbState::Uncached);
+    assert!(rt; !cell.unpin(0, oid(0)), "a pin that is gone");
     Ok(())
 }

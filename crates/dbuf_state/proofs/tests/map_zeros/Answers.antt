@@ -1,4 +1,4 @@
-use Rattle.std.proofs.Common.{◌≡◌, sym, ◌∙◌}
+use Rattle.std.proofs.Common.{sym, ◌∙◌}
 use Rattle.dbuf_state.proofs.CallerLemmas.{unmapped}
 use Rattle.dbuf_state.proofs.tests.map_zeros.Goals as goal
 
