@@ -9,6 +9,7 @@ pub mod ListLaws
 pub mod Planned
 pub mod Promise
 pub mod PromiseLaws
+pub mod ReadLaws
 pub mod Reading
 pub mod Rebuilding
 pub mod RebuildLaws

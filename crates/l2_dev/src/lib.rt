@@ -4,6 +4,7 @@
 mod cursor;
 mod device;
 mod fault;
+mod laws;
 mod rebuild;
 mod report;
 mod start;
@@ -13,6 +14,10 @@ mod write;
 
 pub use device::L2Dev;
 pub use fault::DevErr;
+pub use laws::reads_keep_promises;
 pub use report::{FeedReport, FeedStop};
 pub use start::Started;
 pub use stop::Stop;
+
+#[cfg(test)]
+mod tests;

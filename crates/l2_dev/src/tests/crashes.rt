@@ -1,0 +1,131 @@
+//! Crashes at each write and flush, and calls that fail.
+use super::tools::*;
+use crate::*;
+use l2_log::LogFault;
+use std::alloc::Global;
+use std::test::Fail;
+use vdev_io::{MemCache, SectorDisk};
+
+/// Feeds these blocks to a disk that stops after so many writes and flushes, and crashes it by these flags.
+fn crash(alloc: Global, blocks: &[u8], stop_after: u64, kept: &[bool]) -> Option<Vec<u8>> {
+    let bytes = vec![in alloc; 0u8; LEN].ok()?;
+    let disk = SectorDisk::new(alloc, bytes, stop_after, 1 << 20).ok()?;
+    let fed = after_feeds(alloc, disk, blocks)?;
+    Some(fed.l2.stop().crash(kept))
+}
+
+/// What a start restores of blocks 0 to 2, the newest first, where there are so many. None where there is no header.
+fn expected(blocks: Option<usize>) -> (&'static [u8], Stop) {
+    match blocks {
+        None => (&[], Stop::Header(LogFault::Magic)),
+        Some(0) => (&[], Stop::Zero),
+        Some(1) => (&[0], Stop::Zero),
+        Some(2) => (&[1, 0], Stop::Zero),
+        Some(_) => (&[2, 1, 0], Stop::Zero),
+    }
+}
+
+/// Whether a start of this image restores that.
+fn is_expected(alloc: Global, image: Vec<u8>, blocks: Option<usize>) -> bool {
+    let Some((restored, stop)) = rebuilt(alloc, image) else {
+        return false;
+    };
+    let (numbers, why) = expected(blocks);
+    has_restored(alloc, &restored, numbers) && stop == why
+}
+
+#[test]
+fn a_crash_after_each_write_and_flush(rt: HostRuntime) -> Result<(), Fail> {
+    let alloc = rt.alloc();
+    // the first and the last stop, and what is restored where every sector is old and where every one is new
+    let rows = [
+        (0, 0, None, None),
+        (1, 1, None, Some(0)),
+        (2, 5, Some(0), Some(0)),
+        (6, 6, Some(0), Some(1)),
+        (7, 12, Some(1), Some(1)),
+        (13, 13, Some(1), Some(2)),
+        (14, 19, Some(2), Some(2)),
+        (20, 20, Some(2), Some(3)),
+        (21, 21, Some(3), Some(3)),
+    ];
+    for (first, last, old, new) in rows {
+        for stop in first..=last {
+            let image = crash(alloc, &[0, 1, 2], stop, &[]).ok_or("old")?;
+            assert!(rt; is_expected(alloc, image, old), "{stop}, old");
+            let image = crash(alloc, &[0, 1, 2], stop, &[true; 256]).ok_or("new")?;
+            assert!(rt; is_expected(alloc, image, new), "{stop}, new");
+        }
+    }
+    Ok(())
+}
+
+// A block is one sector, and its log block has bytes in its first sector alone: every other sector is the same old or new. So
+// two flags choose every image that a crash may leave while both are written and not flushed.
+#[test]
+fn every_choice_of_sectors_in_a_commit(rt: HostRuntime) -> Result<(), Fail> {
+    let alloc = rt.alloc();
+    for kept in [[false, false], [false, true], [true, false], [true, true]] {
+        for stop in 10..=12 {
+            let image = crash(alloc, &[0, 1], stop, &kept).ok_or("crash")?;
+            assert!(rt; is_expected(alloc, image, Some(1)), "{stop} {kept:?}");
+        }
+        let image = crash(alloc, &[0, 1], 13, &kept).ok_or("crash")?;
+        let blocks = if kept[0] { 2 } else { 1 };
+        assert!(rt; is_expected(alloc, image, Some(blocks)), "{kept:?}");
+    }
+    Ok(())
+}
+
+/// Whether a start of this image restores these blocks at these places, with their digests.
+fn has_at(alloc: Global, image: Vec<u8>, blocks: &[(u8, u64)]) -> Option<bool> {
+    let (restored, _) = rebuilt(alloc, image)?;
+    if restored.len() != blocks.len() {
+        return Some(false);
+    }
+    let mut same = true;
+    for (found, (number, place)) in restored.iter().zip(blocks) {
+        let digest = block(alloc, *number).ok()?.digest();
+        same = same && found.key == key(*number) && found.place == *place;
+        same = same && found.digest == Some(digest);
+    }
+    Some(same)
+}
+
+// One call of the device fails, and block 1 is fed behind block 0 all the same. What was not committed is written over.
+#[test]
+fn a_feed_behind_a_fault(rt: HostRuntime) -> Result<(), Fail> {
+    let alloc = rt.alloc();
+    // the first and the last call that fails, which of the two feeds are answered Ok, and what a start restores
+    let rows: [(u64, u64, [bool; 2], &[(u8, u64)]); 4] = [
+        (0, 0, [true, true], &[(1, 70_144), (0, 4096)]),
+        (1, 7, [false, true], &[(1, 4096)]),
+        (8, 13, [true, false], &[(0, 4096)]),
+        // the header was written, and its flush failed
+        (14, 14, [true, false], &[(1, 70_144), (0, 4096)]),
+    ];
+    for (first, last, answers, blocks) in rows {
+        for call in first..=last {
+            let fed = after_feeds(alloc, empty(alloc, &[call])?, &[0, 1]).ok_or("fed")?;
+            let oks = [
+                fed.answers.first().is_some_and(|answer| answer.is_ok()),
+                fed.answers.last().is_some_and(|answer| answer.is_ok()),
+            ];
+            assert_eq!(rt; oks, answers, "{call}");
+            let image = fed.l2.stop().bytes().to_vec(alloc)?;
+            assert_eq!(rt; has_at(alloc, image, blocks), Some(true), "{call}");
+        }
+    }
+    Ok(())
+}
+
+#[test]
+fn a_start_behind_a_crash_goes_on(rt: HostRuntime) -> Result<(), Fail> {
+    let alloc = rt.alloc();
+    let image = crash(alloc, &[0, 1, 2], 19, &[true; 256]).ok_or("crash")?;
+    let fed = after_feeds(alloc, MemCache::new(image, Vec::new(alloc)), &[2]).ok_or("fed")?;
+    assert!(rt; fed.answers.as_slice() == [Ok(136_192)].as_slice());
+    let image = fed.l2.stop().bytes().to_vec(alloc)?;
+    assert!(rt; is_expected(alloc, image, Some(3)));
+    Ok(())
+}

@@ -1,0 +1,159 @@
+//! Starts over images: the table of changed bytes, short devices, and reads that fail.
+use super::tools::*;
+use crate::*;
+use blk_ptr::digest_of;
+use l2_log::LogFault;
+use std::alloc::Global;
+use std::test::Fail;
+use vdev_io::MemCache;
+
+/// The image that three feeds leave.
+fn three_feeds(alloc: Global) -> Option<Vec<u8>> {
+    let fed = after_feeds(alloc, empty(alloc, &[]).ok()?, &[0, 1, 2])?;
+    fed.l2.stop().bytes().to_vec(alloc).ok()
+}
+
+/// Writes some bytes of an image.
+fn put(image: &mut [u8], at: usize, bytes: &[u8]) {
+    for (byte, new) in image.iter_mut().skip(at).zip(bytes) {
+        *byte = *new;
+    }
+}
+
+/// Computes the header's digest again.
+fn seal(image: &mut [u8]) {
+    if let Some(front) = image.get(..480) {
+        let digest = digest_of(front);
+        put(image, 480, &digest.0);
+    }
+}
+
+/// The line in which a start is told, as in `2 zero`.
+fn line(restored: usize, stop: Stop) -> (usize, &'static str) {
+    let word = match stop {
+        Stop::Zero => "zero",
+        Stop::Short { .. } => "short",
+        Stop::Header(fault) => header_word(fault),
+        Stop::Outside { .. } => "outside",
+        Stop::Evicted { .. } => "evicted",
+        Stop::Block(fault) => block_word(fault),
+        Stop::Length { .. } => "length",
+        Stop::DevFault => "device",
+    };
+    (restored, word)
+}
+
+fn header_word(fault: LogFault) -> &'static str {
+    match fault {
+        LogFault::Magic => "header magic",
+        LogFault::Version => "header version",
+        LogFault::Digest { .. } => "header digest",
+        LogFault::Field { .. } => "header field",
+        LogFault::Length { .. } => "header length",
+    }
+}
+
+fn block_word(fault: LogFault) -> &'static str {
+    match fault {
+        LogFault::Magic => "block magic",
+        LogFault::Version => "block version",
+        LogFault::Digest { .. } => "block digest",
+        LogFault::Field { .. } => "block field",
+        LogFault::Length { .. } => "block length",
+    }
+}
+
+#[test]
+fn a_start_over_changed_bytes(rt: HostRuntime) -> Result<(), Fail> {
+    let alloc = rt.alloc();
+    let image = three_feeds(alloc).ok_or("image")?;
+    let newest = image.get(128..192).ok_or("newest")?.to_vec(alloc)?;
+    // where bytes are changed, the new bytes, whether the header's digest is computed again, and the line
+    let rows: [(usize, &[u8], bool, (usize, &str)); 11] = [
+        (0, &[0x45], false, (3, "zero")),
+        (0, &[0], false, (0, "header magic")),
+        (8, &[3], false, (0, "header version")),
+        (100, &[1], false, (0, "header digest")),
+        (100, &[1], true, (0, "header field")),
+        // 4,097, then 202,240, then 200,704
+        (128, &[1, 16, 0, 0], true, (0, "outside")),
+        (128, &[0, 22, 3, 0], true, (0, "outside")),
+        (128, &[0, 16, 3, 0], true, (0, "evicted")),
+        (136_704, &[0], false, (0, "block digest")),
+        (192, &[0; 64], true, (1, "zero")),
+        (192, &newest, true, (2, "zero")),
+    ];
+    for (at, bytes, sealed, expected) in rows {
+        let mut changed = image.to_vec(alloc)?;
+        put(&mut changed, at, bytes);
+        if sealed {
+            seal(&mut changed);
+        }
+        let (restored, stop) = rebuilt(alloc, changed).ok_or("rebuilt")?;
+        assert_eq!(rt; line(restored.len(), stop), expected, "at {at}");
+    }
+    Ok(())
+}
+
+#[test]
+fn a_header_of_another_device(rt: HostRuntime) -> Result<(), Fail> {
+    let alloc = rt.alloc();
+    let mut image = three_feeds(alloc).ok_or("image")?;
+    for _ in 0..512 {
+        image.push(0)?;
+    }
+    let (restored, stop) = rebuilt(alloc, image).ok_or("rebuilt")?;
+    assert!(rt; restored.is_empty());
+    assert_eq!(rt; stop, Stop::Header(LogFault::Field { at: 24 }));
+    Ok(())
+}
+
+#[test]
+fn a_device_that_ends_inside_a_sector(rt: HostRuntime) -> Result<(), Fail> {
+    let alloc = rt.alloc();
+    let mut image = three_feeds(alloc).ok_or("image")?;
+    for _ in 0..511 {
+        image.push(0)?;
+    }
+    let (restored, stop) = rebuilt(alloc, image).ok_or("rebuilt")?;
+    assert!(rt; has_restored(alloc, &restored, &[2, 1, 0]));
+    assert_eq!(rt; stop, Stop::Zero);
+    Ok(())
+}
+
+#[test]
+fn short_devices(rt: HostRuntime) -> Result<(), Fail> {
+    let alloc = rt.alloc();
+    for len in [0, 512, LEN - 1] {
+        let dev = MemCache::new(vec![in alloc; 0u8; len]?, Vec::new(alloc));
+        match L2Dev::start(alloc, dev) {
+            Started::Short { dev, len: told } => {
+                assert_eq!(rt; (dev.bytes().len(), told), (len, len as u64));
+            }
+            _ => assert!(rt; false, "{len}"),
+        }
+    }
+    Ok(())
+}
+
+#[test]
+fn a_read_that_fails_ends_the_walk(rt: HostRuntime) -> Result<(), Fail> {
+    let alloc = rt.alloc();
+    let image = three_feeds(alloc).ok_or("image")?;
+    // the call that fails, the blocks that are restored, why the walk ended, and the hand
+    let rows: [(u64, &[u8], Stop, u64); 5] = [
+        (0, &[], Stop::DevFault, 4096),
+        (1, &[], Stop::DevFault, 202_240),
+        (2, &[2], Stop::DevFault, 202_240),
+        (3, &[2, 1], Stop::DevFault, 202_240),
+        // there are no more calls: each log block was read once
+        (4, &[2, 1, 0], Stop::Zero, 202_240),
+    ];
+    for (call, blocks, expected, hand) in rows {
+        let dev = MemCache::new(image.to_vec(alloc)?, [call].to_vec(alloc)?);
+        let (l2, restored, stop) = open(alloc, dev).ok_or("open")?;
+        assert!(rt; has_restored(alloc, &restored, blocks), "{call}");
+        assert_eq!(rt; (stop, l2.ring().hand()), (expected, hand), "{call}");
+    }
+    Ok(())
+}
