@@ -17,6 +17,7 @@ mod look;
 mod looks;
 mod opening;
 mod pact;
+mod scan;
 mod spare;
 mod view;
 
