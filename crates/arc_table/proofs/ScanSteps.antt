@@ -12,6 +12,7 @@ use Rattle.arc_core.specs.Config.{IsConfig}
 use Rattle.arc_core.specs.declared.entry.Entry.{Entry}
 use Rattle.arc_core.specs.declared.event.Event.{Event}
 use Rattle.arc_core.specs.declared.event.Event.TheVariants.{Pass}
+use Rattle.arc_core.specs.Naming.{takes_room}
 use Rattle.arc_core.specs.PlainShard.{PlainShard, entry_of, is_number, is_party}
 use Rattle.arc_core.specs.ShardLog.{HasRoom, IsUnnamed, Makes, ShardLog}
 use Rattle.arc_core.specs.Step.{legal}
@@ -25,6 +26,7 @@ use Rattle.arc_table.specs.declared.hand.Taken.{Taken}
 use Rattle.arc_table.specs.declared.scan.Scan.{Scan}
 use Rattle.arc_table.specs.declared.item.Item.TheVariants as item
 use Rattle.arc_table.specs.declared.view.Known.{Known}
+use Rattle.arc_table.specs.Cache.{Cache, IsPartyOf}
 use Rattle.arc_table.specs.Evicting.{HasScanRoom, IsScan, IsScanning, KeepsHand, MayBegin, first_of, left_of}
 use Rattle.arc_table.specs.Fronts.{item_at}
 use Rattle.arc_table.specs.Geometry.{IsBucket, bucket_turn, parties_of, shard_turn}
@@ -35,7 +37,7 @@ use Rattle.arc_table.specs.Scanning.{IsBucketOf, MayScan, Scans, pairs_of}
 use Rattle.arc_table.specs.Views.{after_lost, after_won}
 use Rattle.arc_table.proofs.Boards.{bucket_there}
 use Rattle.arc_table.proofs.Ranges.{bucket_range}
-use Rattle.arc_table.proofs.Scans.{not_in_hand, scan_config, scan_marked, scan_number, scan_passed, scan_won, some_is, won_bucket}
+use Rattle.arc_table.proofs.Scans.{not_in_hand, scan_config, scan_marked, scan_number, scan_party, scan_passed, scan_won, some_is, still_legal, won_bucket}
 use Rattle.arc_table.proofs.ScanRoom.{fewer_marked, fewer_passed}
 
 pairs_more : (ts : List Taken) (t : Taken) → pairs_of (ts ++ t ∷ []) ≡ pairs_of ts ++ (t.turn, t.bucket) ∷ []
@@ -201,3 +203,37 @@ module _ {C : Type 0} (m : Meanings C) (g : Config) (valid : IsConfig g) (key : 
           keys = omega arith;
           marked = marked_more key s n s'.marked.items s'.both.shard.marked room keys more;
         }
+
+-- ---- what a scan leaves in hand
+
+pub keeps_none : (a : Both) → KeepsHand a a
+keeps_none a = record { turn = refl; own = refl; before = refl }
+
+pub keeps_then : (a b c : Both) → KeepsHand a b → KeepsHand b c → KeepsHand a c
+keeps_then a b c h k = record { turn = k.turn ∙ h.turn; own = k.own ∙ h.own; before = k.before ∙ h.before }
+
+pub may_after : {C : Type 0} (g : Config) (b b' : Both) (p : Place (Known C)) → KeepsHand b b' → MayBegin g b p → MayBegin g b' p
+may_after g b b' p k may = subst (λ (x : ℕ × (List (ℕ × Chain)) × ShardLog). MayScan g x.0 x.1 x.2 p)
+    (λ z. (sym k.turn z, (let o : Taken = sym k.own z in (o.turn, o.bucket) ∷ []), (sym k.before z).value)) may
+
+pub room_below : (n : ℕ) (s : Scan) → HasScanRoom n s → HasScanRoom 0 s
+room_below n s room = let a = room.events in record { events = omega arith; victims = room.victims; keys = room.keys; marked = room.marked }
+
+-- an event that takes room is legal behind passes
+pub legal_then : {C : Type 0} (m : Meanings C) (g : Config) (s s' : Scan) (e : Event) (p q q' : Place (Known C)) (es es' : List Event) → IsTrue (takes_room e) → KeepsHand s.both s'.both
+    → IsScan m g p q s es → IsScan m g p q' s' es' → IsTrue (legal s.both.shard.now e) → IsTrue (legal s'.both.shard.now e)
+legal_then m g s s' e p q q' es es' room keeps scan scan' ok =
+    let before : PlainShard = s.both.hand.before.value.now in
+    let first : legal s.both.shard.now e ≡ legal before e = ap (λ (x : PlainShard). legal x e) scan.now ∙ still_legal before s.both.shard.now.passed e room in
+    let second : legal s'.both.shard.now e ≡ legal s'.both.hand.before.value.now e = ap (λ (x : PlainShard). legal x e) scan'.now ∙ still_legal s'.both.hand.before.value.now s'.both.shard.now.passed e room in
+    second ∙ (ap (λ (x : PlainShard). legal x e) (λ z. (keeps.before z).value.now) ∙ (sym first ∙ ok))
+
+-- the party is one of the cache still
+pub party_after : {C : Type 0} (m : Meanings C) (g : Config) (p : Place (Known C)) (cache : Cache) (q q' : Place (Known C)) (s s' : Scan) (es es' : List Event) → KeepsHand s.both s'.both
+    → IsScan m g p q s es → IsScan m g p q' s' es' → IsPartyOf cache q → IsPartyOf cache q'
+party_after {C} m g p cache q q' s s' es es' keeps scan scan' of =
+    let here : IsScan m g p q s es = scan in
+    let there = subst (λ (x : ℕ × (List (ℕ × Chain)) × ShardLog). Scans m g x.0 x.1 x.2 p q' s'.both.shard s'.both.shard.marked (pairs_of s'.both.hand.victims.items) es')
+        (λ z. (keeps.turn z, (let o : Taken = keeps.own z in (o.turn, o.bucket) ∷ []), (keeps.before z).value)) scan' in
+    scan_party m g s.both.turn (first_of s.both) s.both.hand.before.value p cache q q' s.both.shard s'.both.shard s.both.shard.marked s'.both.shard.marked
+    (pairs_of s.both.hand.victims.items) (pairs_of s'.both.hand.victims.items) es es' here there of

@@ -5,6 +5,7 @@ ghost use Rattle.blk_ptr.specs.Order.{key_eq};
 ghost use Rattle.arc_lists.specs.Sequences.{stands_on};
 ghost use Rattle.arc_core.specs.declared.event.Event.{Event};
 ghost use Rattle.arc_core.specs.Naming.{takes_room};
+ghost use Rattle.arc_core.specs.Owed.{room_for};
 ghost use Rattle.arc_core.specs.PlainShard.{entry_of};
 ghost use Rattle.arc_core.specs.ShardLog.{AreAllNamed, IsUnnamed};
 ghost use Rattle.arc_core.specs.Step.{legal};
@@ -82,6 +83,25 @@ impl<C: Keeps> Arcs<C> {
             Take::Busy { owner } => {
                 scan.both.shard.pass(party.number(), key, owner);
             }
+        }
+    }
+
+    // Names the victims of an event, one after the other.
+    fn name_victims(&self, party: &mut Party<C>, scan: &mut Scan, event: &Event)
+        requires party { IsPartyOf self.now party.old }
+        requires event { IsTrue (takes_room event.now) }
+        requires legal { IsTrue (legal scan.old.both.shard.now event.now) }
+        requires scan { IsScanning (meanings C.holds C.entries C.opening C.claims C.sound) self.now.config scan.old party.old }
+        requires room { HasScanRoom (room_for event.now) scan.old }
+        ensures hand { KeepsHand scan.old.both scan.new.both }
+        ensures scan { (p : Place (Known C)) (es : List Event) → MayBegin self.now.config scan.old.both p → IsScan (meanings C.holds C.entries C.opening C.claims C.sound) self.now.config p party.old scan.old es
+            → (more : List Event) × IsScan (meanings C.holds C.entries C.opening C.claims C.sound) self.now.config p party.new scan.new more }
+        ensures room { HasScanRoom (room_for event.now) scan.new }
+        ensures entry_room { scan.old.both.shard.entry_room ≤ scan.new.both.shard.entry_room }
+        ensures named { AreAllNamed event.now scan.new.both.shard }
+    {
+        while let Some(key) = scan.both.shard.victim(event) {
+            self.name_victim(party, scan, key);
         }
     }
 }
