@@ -19,3 +19,5 @@ pub mod Reached
 pub mod OneEvent
 pub mod HoldEvents
 pub mod Taking
+pub mod Standings
+pub mod HitEvents

@@ -1,5 +1,5 @@
 -- One event on the bucket of its own key: the shard may be given back where the header in hand says what the entry does after it.
-use Rattle.std.proofs.Common.{◌≡◌, ◌≢◌, ◌⊎◌, ◌==◌, if◌then◌else◌, ℕ, zero, suc, ◌-◌, ◌<◌, List, [], ◌∷◌, ◌++◌, drop, length, Bool, true, false, Option, Some, None, refl, sym, ap, ◌∙◌, subst, inl, inr, eq-eqb, ne_eqb, arith}
+use Rattle.std.proofs.Common.{◌≡◌, ◌≢◌, ◌⊎◌, ◌==◌, if◌then◌else◌, ℕ, zero, suc, ◌-◌, ◌<◌, List, [], ◌∷◌, ◌++◌, drop, length, Bool, true, false, Option, Some, None, refl, sym, ap, ◌∙◌, subst, inl, inr, eq-eqb, ne_eqb, append-nil, arith}
 use Rattle.std.specs.Prelude.{IsTrue, ◌&&◌, not}
 use Rattle.std.specs.Option.{option_map_or}
 use Rattle.std.proofs.lemmas.Option.{none-some}
@@ -20,7 +20,7 @@ use Rattle.arc_core.specs.declared.event.Event.TheVariants.{Pass, Hit, Miss, Arr
 use Rattle.arc_core.specs.Changes.{without_pick, writing_phase}
 use Rattle.arc_core.specs.Changing.{keeps_passed}
 use Rattle.arc_core.specs.Operations.{event_key}
-use Rattle.arc_core.specs.PlainShard.{PlainShard, entry_of}
+use Rattle.arc_core.specs.PlainShard.{PlainShard, entry_of, numbers}
 use Rattle.arc_core.specs.Replay.{is_legal_history, replay}
 use Rattle.arc_core.specs.ShardLog.{ShardLog, IsReplayed}
 use Rattle.arc_core.specs.Sound.{IsSound}
@@ -53,7 +53,7 @@ use Rattle.arc_table.specs.Making.{IsMade, IsTaken}
 use Rattle.arc_table.specs.ShardGiving.{ArePassesNoted, IsActor, IsGivenShard, SameHead, passes_in}
 use Rattle.arc_table.specs.TableLaws.{item_here, list_here}
 use Rattle.arc_table.proofs.Ranges.{bucket_range}
-use Rattle.arc_table.proofs.Reached.{IsHolding, fresh, heads, holding, own_entries, own_headers, reached, sound_log}
+use Rattle.arc_table.proofs.Reached.{IsHolding, fresh, heads, holding, number_below, own_entries, own_headers, own_number_is, reached, sound_log}
 use Rattle.arc_table.proofs.Rows.{same_shard}
 use Rattle.arc_table.proofs.ShardGives.{head_alike}
 
@@ -232,7 +232,7 @@ module _ {C : Type 0} (m : Meanings C) (g : Config) (k : Key) (chain : Chain) (b
       let log = sound_log m g k chain before p q t same valid in record {
         recorded = recorded;
         listed = listed;
-        history = history ∙ sym (Rattle.std.proofs.Common.append-nil before.history);
+        history = history ∙ sym (append-nil before.history);
         opening = opening;
         replayed = subst (λ (x : PlainShard × PlainShard × List Event). IsReplayed record { now = x.0; opening = x.1; history = x.2; event_room = l.event_room; entry_room = l.entry_room; marked = l.marked })
             (λ z. (sym now z, sym opening z, sym history z)) record { sound = log.replayed.sound; replayed = log.replayed.replayed; legal = log.replayed.legal };
@@ -354,6 +354,24 @@ module _ {C : Type 0} (m : Meanings C) (g : Config) (k : Key) (b : Both) (q : Pl
           (one_given m g k b.hand.own.bucket b.shard t.from q taken same_from valid e after.shard after.hand.own.bucket o lone about ok now history opening actor with head));
     }
 
+  -- no event: only the room of the shard may have changed
+  pub none_made : (after : Both) → after.hand ≡ b.hand → after.turn ≡ b.turn → after.shard.now ≡ b.shard.now → after.shard.history ≡ b.shard.history → after.shard.opening ≡ b.shard.opening
+      → IsMade m g k (made_since after.hand.before.value after.shard) after q
+  none_made after hand turn now history opening =
+      let before_is : b.shard ≡ after.hand.before.value = sym t.new ∙ ap (λ (h : TheHand). h.before.value) (sym hand) in
+      let grown : after.shard.history ≡ b.shard.history ++ [] = history ∙ sym (append-nil b.shard.history) in
+      subst (λ (es : List Event). IsMade m g k es after q) (sym (made_is after.hand.before.value after.shard [] (grown ∙ ap (λ (l : ShardLog). l.history ++ []) before_is))) record {
+        kind = record { valid = valid; own = ap (λ (h : TheHand). h.own.turn) hand ∙ t.kind.own; turn = turn ∙ t.kind.turn; alone = ap (λ (h : TheHand). h.victims.items) hand ∙ t.kind.alone };
+        from = t.from;
+        chain = b.hand.own.bucket;
+        takes = subst (λ (l : ShardLog). TakesBoth m g k b.hand.own.bucket l t.from q) before_is taken;
+        legal = refl;
+        now = now ∙ ap (λ (l : ShardLog). l.now) before_is;
+        history = grown ∙ ap (λ (l : ShardLog). l.history ++ []) before_is;
+        given = subst (λ (x : Config × (TheHand × ShardLog)). IsGivenShard x.0 q (shard_turn g k) ((bucket_turn g k, x.1.0.own.bucket) ∷ []) x.1.1 [] after.shard) (λ z. (sym same z, (sym hand z, before_is z)))
+            (none_given m g k b.hand.own.bucket b.shard t.from q taken same_from valid after.shard now history opening);
+      }
+
   -- an event of which the headers say nothing
   pub alike_made : (e : Event) (after : Both) → after.hand ≡ b.hand → after.turn ≡ b.turn → is_lone e ≡ true → event_key e ≡ Some k → IsTrue (legal b.shard.now e)
       → after.shard.now ≡ step.after b.shard.now e → after.shard.history ≡ b.shard.history ++ e ∷ [] → after.shard.opening ≡ b.shard.opening
@@ -370,6 +388,15 @@ module _ {C : Type 0} (m : Meanings C) (g : Config) (k : Key) (b : Both) (q : Pl
   pub taken_sound : IsSound b.shard.now
   taken_sound = (sound_log m g k b.hand.own.bucket b.shard t.from q taken same_from valid).replayed.sound
 
+  pub taken_few : q.number < numbers
+  taken_few = let a = number_below m g k b.hand.own.bucket b.shard t.from q taken same_from valid in let c = valid.counts.callers.1 in omega arith
+
+  pub taken_number : q.own.number ≡ q.number
+  taken_number = own_number_is m g k b.hand.own.bucket b.shard t.from q taken same_from valid
+
+  pub taken_head : IsHead (entry_of k b.shard.now) (header_at k b.hand.own.bucket.headers)
+  taken_head = heads m g k b.hand.own.bucket b.shard t.from q taken same_from valid k refl
+
   pub taken_holding : (n : ℕ) (x : Ptr) → x.key ≡ k → IsListed g q n x → IsHolding n x b.shard.now
   taken_holding n x is listed = holding m g k b.hand.own.bucket b.shard t.from q taken same_from valid n x (ap (shard_turn g) is) listed
 
@@ -377,3 +404,6 @@ module _ {C : Type 0} (m : Meanings C) (g : Config) (k : Key) (b : Both) (q : Pl
 pub makes_these : {C : Type 0} (m : Meanings C) (g : Config) (k : Key) (was before l : ShardLog) (es : List Event) (q r : Place (Known C)) → was ≡ before → l.history ≡ before.history ++ es
     → Makes m g k was (made_since was l) q r → Makes m g k before es q r
 makes_these {C} m g k was before l es q r is history = subst (λ (x : ShardLog × List Event). Makes m g k x.0 x.1 q r) (λ z. (is z, (ap (λ (x : ShardLog). made_since x l) is ∙ made_is before l es history) z))
+
+pub none_since : (l : ShardLog) → l.history ≡ l.history ++ []
+none_since l = sym (append-nil l.history)

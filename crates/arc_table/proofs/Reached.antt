@@ -211,6 +211,9 @@ module _ {C : Type 0} (m : Meanings C) (g : Config) (k : Key) (chain : Chain) (b
         let d : q.number ≡ before_shard.number = second.number in
         omega arith
 
+    pub own_number_is : q.own.number ≡ q.number
+    own_number_is = second.own_number ∙ (sym knew.number ∙ (shown.number ∙ sym second.number))
+
     -- ---- what is held of the key
 
     shard_of_key : (j : Key) → shard_turn g j ≡ shard_turn g k → shard_at scene j ≡ before.now

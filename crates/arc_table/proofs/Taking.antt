@@ -1,28 +1,41 @@
 -- Taking the bucket and the shard of a key, and giving both back.
-use Rattle.std.proofs.Common.{◌≡◌, ℕ, List, [], ◌∷◌, map, sym, ap, ◌∙◌, subst, inl, inr, arith}
+use Rattle.std.proofs.Common.{◌≡◌, ◌⊎◌, ℕ, List, [], ◌∷◌, ◌++◌, map, length, Option, Some, append-nil, refl, sym, ap, ◌∙◌, subst, inl, inr, arith}
+use Rattle.std.specs.Prelude.{IsTrue}
+use Rattle.arc_core.specs.Replay.{is_legal_history, replay}
 use Rattle.blk_ptr.specs.declared.key.Key.{Key}
+use Rattle.blk_ptr.specs.Hash.{shard_of}
 use Rattle.arc_core.specs.declared.config.Config.{Config}
 use Rattle.arc_core.specs.Config.{IsConfig}
 use Rattle.arc_core.specs.declared.event.Event.{Event}
+use Rattle.arc_core.specs.PlainShard.{PlainShard}
 use Rattle.arc_core.specs.ShardLog.{ShardLog}
 use Rattle.hash_chain.specs.Chain.{Chain}
 use Rattle.turn_table.specs.Board.{IsAmong}
-use Rattle.turn_table.specs.Places.{Place, gave_back}
+use Rattle.turn_table.specs.Moments.{WasFree, WasTaken}
+use Rattle.turn_table.specs.Places.{Place, gave_back, saw, took}
 use Rattle.arc_table.specs.declared.about.About.{About}
 use Rattle.arc_table.specs.declared.both.Both.{Both}
+use Rattle.arc_table.specs.declared.front.Front.{Front}
+use Rattle.arc_table.specs.declared.item.Item.{Item}
 use Rattle.arc_table.specs.declared.item.Item.TheVariants as item
 use Rattle.arc_table.specs.declared.view.Known.{Known}
+use Rattle.arc_table.specs.declared.view.Line.TheVariants as line
 use Rattle.arc_table.specs.Both.{Makes, TakesBoth}
 use Rattle.arc_table.specs.Cache.{Cache, IsPartyOf}
+use Rattle.arc_table.specs.Fronts.{front_of}
 use Rattle.arc_table.specs.Geometry.{IsCell, IsShard, bucket_turn, shard_turn}
 use Rattle.arc_table.specs.Giving.{IsAsTaken}
 use Rattle.arc_table.specs.InHand.{buckets_of}
-use Rattle.arc_table.specs.Items.{Meanings}
+use Rattle.arc_table.specs.Items.{Meanings, holds_in}
 use Rattle.arc_table.specs.Making.{IsMade}
 use Rattle.arc_table.specs.ShardGiving.{after_shard}
-use Rattle.arc_table.specs.Views.{after_same}
+use Rattle.arc_table.specs.Rule.{Pact}
+use Rattle.arc_table.specs.TableLaws.{front_here, item_here, list_here}
+use Rattle.arc_table.specs.Telling.{Tells}
+use Rattle.arc_table.specs.Trying.{FindsBusy, at_shard}
+use Rattle.arc_table.specs.Views.{after_lost, after_same, after_won}
 use Rattle.arc_table.proofs.Ranges.{bucket_range, shard_range}
-use Rattle.arc_table.proofs.Reached.{bucket_as_taken, bucket_below, bucket_stays, reached}
+use Rattle.arc_table.proofs.Reached.{bucket_as_taken, bucket_below, bucket_stays, had_seen, reached, sound_log}
 
 -- who holds cells alone has neither
 pub no_bucket : (g : Config) (k : Key) (held : List ℕ) → IsConfig g → ((i : ℕ) → IsAmong i held → IsCell g i) → ¬ IsAmong (bucket_turn g k) held
@@ -71,3 +84,38 @@ module _ {C : Type 0} (m : Meanings C) where
       history = made.history;
       gave = f ∙ (λ z. gave_back (given_is r e z) (made.kind.own z) (after_same (made.kind.own z) (given_is r e z).own));
     }
+
+-- ---- a try that finds the shard with another
+
+module _ {C : Type 0} (m : Meanings C) where
+  -- a turn that was taken is so still, after a lost try on another one
+  pub lost_as_taken : (i : ℕ) (u v : Item C) (j n : ℕ) (p q r : Place (Known C)) → u ≡ v → q ≡ took p i (after_won m i u p.own) → r ≡ saw q (after_lost j n q.own) → IsAsTaken m i v r.own
+  lost_as_taken i u v j n p q r is won lost = subst (λ (x : Place (Known C)). IsAsTaken m i v x.own) (sym (lost ∙ (λ z. saw (won z) (after_lost j n (won z).own)))) record {
+    recorded = item_here i u p.own.records ∙ ap (λ (x : Item C). Some x) is;
+    listed = list_here i (holds_in m u) p.own.listed ∙ ap (holds_in m) is;
+  }
+
+  pub busy_at_shard : (g : Config) (k : Key) (i j : ℕ) (chain : Chain) (u : Item C) (n : ℕ) (p q r s : Place (Known C)) → i ≡ bucket_turn g k → j ≡ shard_turn g k → u ≡ item.Bucket chain
+      → WasFree (Pact m) p i u → q ≡ took p i (after_won m i u p.own) → WasTaken (Pact m) q j n → r ≡ saw q (after_lost j n q.own) → s ≡ gave_back r i (after_same i r.own) → FindsBusy m g k n p s
+  busy_at_shard g k i j chain u n p q r s bucket shard is free won taken lost gave =
+      at_shard chain q (subst (λ (x : ℕ × Item C). WasFree (Pact m) p x.0 x.1) (λ z. (bucket z, is z)) free)
+      (won ∙ (λ z. took p (bucket z) (after_won m (bucket z) (is z) p.own)))
+      (subst (λ (x : ℕ). WasTaken (Pact m) q x n) shard taken)
+      (gave ∙ ((λ z. gave_back (lost z) i (after_same i (lost z).own)) ∙ (λ z. gave_back q (bucket z) (after_same (bucket z) (after_lost (shard z) n q.own)))))
+
+  -- ---- a front
+
+  -- all that the shard's history was when the party took it is a front of the party's, which tells what was so of the shard then
+  pub tells : (P : PlainShard → Type 0) (g : Config) (k : Key) (chain : Chain) (before : ShardLog) (p q r : Place (Known C)) (front : Front) → TakesBoth m g k chain before p q → p.own.about.config ≡ g → IsConfig g
+      → front.shard ≡ shard_of g.shards k → front.len ≡ length before.history → Makes m g k before [] q r → P before.now → Tells P g k p r front
+  tells P g k chain before p q r front t same valid shard len made so =
+      let log = sound_log m g k chain before p q t same valid in
+      let all : made.after.history ≡ before.history = made.history ∙ append-nil before.history in record {
+        events = before.history;
+        shard = shard;
+        len = len;
+        seen = ap (λ (x : Place (Known C)). front_of (shard_turn g k) x.own.seen) made.gave ∙ (front_here (shard_turn g k) (map line.Event made.after.history) q.own.seen ∙ ap (map line.Event) all);
+        had = had_seen m g k chain before p q t same valid;
+        legal = subst (λ (s : PlainShard). IsTrue (is_legal_history s before.history)) log.opening log.replayed.legal;
+        so = subst P (sym (ap (λ (s : PlainShard). replay s before.history) (sym log.opening) ∙ log.replayed.replayed)) so;
+      }

@@ -30,3 +30,5 @@ pub mod Holding
 pub mod Both
 pub mod Telling
 pub mod Making
+pub mod Standing
+pub mod Trying

@@ -7,7 +7,10 @@ ghost use Rattle.arc_table.specs.Geometry.{bucket_turn, shard_turn};
 ghost use Rattle.arc_table.specs.InHand.{made_since};
 ghost use Rattle.arc_table.specs.Items.{meanings};
 ghost use Rattle.arc_table.specs.Looking.{HasNoLook};
-ghost use Rattle.arc_table.specs.Making.{IsMade, IsOf};
+ghost use Rattle.arc_table.specs.Making.{IsMade, IsOf, IsTaken};
+ghost use Rattle.arc_table.specs.Trying.{FindsBusy};
+ghost use Rattle.turn_table.specs.Places.{IsOther};
+ghost use Rattle.turn_table.specs.Taken.{IfBusy, IfTaken};
 
 use crate::arcs::{Arcs, Party};
 use crate::gives;
@@ -18,6 +21,7 @@ use arc_core::{Config, Keeps, Shard};
 use blk_ptr::Key;
 use std::snapshot::Snapshot;
 use std::sync::Wait;
+use turn_table::Take;
 
 /// The bucket and the shard of a key in hand.
 #[derive(Drop)]
@@ -40,6 +44,7 @@ impl<C: Keeps> Arcs<C> {
     pub(crate) fn take_both(&self, rt: &impl Wait, party: &mut Party<C>, key: Key) -> Both
         requires party { IsPartyOf self.now party.old }
         requires look { HasNoLook self.now party.old }
+        ensures party { IsPartyOf self.now party.new }
         ensures kind { IsOf self.now.config key result }
         ensures new { result.hand.before.value ≡ result.shard }
         ensures takes { TakesBoth (meanings C.holds C.entries C.opening C.claims C.sound) self.now.config key result.hand.own.bucket result.shard party.old party.new }
@@ -54,6 +59,48 @@ impl<C: Keeps> Arcs<C> {
             before: Snapshot::of(&shard),
         };
         Both { hand, turn, shard }
+    }
+
+    // Takes the bucket of a key and then its shard, where no other party has them. Where another has the shard, the bucket is given back.
+    pub(crate) fn try_both(&self, party: &mut Party<C>, key: Key) -> Take<Both>
+        requires party { IsPartyOf self.now party.old }
+        requires look { HasNoLook self.now party.old }
+        ensures party { IfTaken result (λ both. IsPartyOf self.now party.new) }
+        ensures kind { IfTaken result (λ both. IsOf self.now.config key both) }
+        ensures new { IfTaken result (λ both. both.hand.before.value ≡ both.shard) }
+        ensures takes { IfTaken result (λ both. TakesBoth (meanings C.holds C.entries C.opening C.claims C.sound) self.now.config key both.hand.own.bucket both.shard party.old party.new) }
+        ensures busy { IfBusy result (λ n. FindsBusy (meanings C.holds C.entries C.opening C.claims C.sound) self.now.config key n party.old party.new) }
+        ensures owner { IfBusy result (λ n. IsOther n party.old) }
+    {
+        let own = bucket_turn_of(&self.config, key);
+        let turn = shard_turn_of(&self.config, key);
+        let bucket = match self.turns.try_take(party, own) {
+            Take::Busy { owner } => return Take::Busy { owner },
+            Take::Taken(value) => value.into_bucket(),
+        };
+        let shard = match self.turns.try_take(party, turn) {
+            Take::Busy { owner } => {
+                self.turns
+                    .give::<gives::Same>(party, own, Item::Bucket(bucket));
+                return Take::Busy { owner };
+            }
+            Take::Taken(value) => value.into_shard(),
+        };
+        let hand = Hand {
+            own: Taken { turn: own, bucket },
+            victims: Vec::new(self.alloc),
+            before: Snapshot::of(&shard),
+        };
+        Take::Taken(Both { hand, turn, shard })
+    }
+
+    // Gives both back as they were taken: there is no event.
+    pub(crate) fn give_back(&self, party: &mut Party<C>, key: Key, both: Both)
+        requires party { IsPartyOf self.now party.old }
+        requires taken { IsTaken (meanings C.holds C.entries C.opening C.claims C.sound) self.now.config key both party.old }
+        ensures { Makes (meanings C.holds C.entries C.opening C.claims C.sound) self.now.config key both.shard [] party.old party.new }
+    {
+        self.give_both(party, key, both);
     }
 
     // Gives the shard back, and then the bucket.

@@ -8,12 +8,23 @@ ghost use Rattle.arc_table.specs.Holding.{IsHeld};
 ghost use Rattle.arc_table.specs.Items.{meanings};
 ghost use Rattle.arc_table.specs.Looking.{HasNoLook};
 ghost use Rattle.arc_table.specs.Making.{IsTaken};
+ghost use Rattle.arc_table.specs.Trying.{AnswersDrop};
 
 use crate::arcs::{Arcs, Party};
 use crate::both::Both;
 use crate::hold::Hold;
 use arc_core::{Event, Keeps};
 use std::sync::Wait;
+use turn_table::Take;
+
+/// What `try_drop` gave.
+#[derive(Debug, Drop)]
+pub enum TryDrop {
+    /// The hold is given back.
+    Done,
+    /// The party of this number had the bucket or the shard of the key; the hold comes back.
+    Busy { owner: u32, hold: Hold },
+}
 
 impl<C: Keeps> Arcs<C> {
     /// Gives a hold back, whose owner is the party or a cell that the party has in hand. It may wait, and takes no memory.
@@ -25,6 +36,22 @@ impl<C: Keeps> Arcs<C> {
     {
         let both = self.take_both(rt, party, hold.key);
         self.drop_taken(party, both, &hold);
+    }
+
+    /// Gives a hold back, on the condition of `drop_hold`, where no other party has the bucket or the shard of its key.
+    pub fn try_drop(&self, party: &mut Party<C>, hold: Hold) -> TryDrop
+        requires party { IsPartyOf self.now party.old }
+        requires look { HasNoLook self.now party.old }
+        requires hold { IsHeld self.now.config party.old hold }
+        ensures { AnswersDrop (meanings C.holds C.entries C.opening C.claims C.sound) self.now.config hold party.old party.new result }
+    {
+        match self.try_both(party, hold.key) {
+            Take::Busy { owner } => TryDrop::Busy { owner, hold },
+            Take::Taken(both) => {
+                self.drop_taken(party, both, &hold);
+                TryDrop::Done
+            }
+        }
     }
 
     // Gives one hold back on the entry whose bucket and shard the party has just taken.

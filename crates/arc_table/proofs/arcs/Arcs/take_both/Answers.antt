@@ -11,7 +11,7 @@ use Rattle.arc_table.specs.Geometry.{IsBucket, IsCell, IsShard, bucket_turn, sha
 use Rattle.arc_table.specs.Items.{meanings}
 use Rattle.arc_table.proofs.Boards.{bucket_there, loses_about, shard_there}
 use Rattle.arc_table.proofs.Ranges.{bucket_range, shard_range}
-use Rattle.arc_table.proofs.Taking.{no_bucket, no_shard}
+use Rattle.arc_table.proofs.Taking.{no_bucket, no_shard, still_party}
 use Rattle.arc_table.proofs.arcs.Arcs.take_both.Goals as goal
 
 pub take-requires-clause-not_held : goal.take-requires-clause-not_held
@@ -66,3 +66,8 @@ returns-clause-takes g c =
       bucket = subst (λ (x : ℕ × Item g.row.C.Denot). Takes m x.0 x.1 p q) (λ z. (bucket z, c.into_bucket-bucket.ensures z)) record { owners = t.0; knew = t.1; lost = t.2; free = t.3; took = t.4 };
       shard = subst (λ (x : ℕ × Item g.row.C.Denot). Takes m x.0 x.1 q c.take-2.new.party) (λ z. (shard z, c.into_shard-shard.ensures z)) record { owners = u.0; knew = u.1; lost = u.2; free = u.3; took = u.4 };
     }
+
+pub returns-clause-party : goal.returns-clause-party
+returns-clause-party g c =
+    let m = meanings g.C.Keeps.holds g.C.Keeps.entries g.C.Keeps.opening g.C.Keeps.claims g.C.Keeps.sound in
+    still_party m c.args.self.now c.args.key c.into_bucket-bucket.result c.into_shard-shard.result c.args.party.now c.take-2.new.party (returns-clause-takes g c) c.requires.party

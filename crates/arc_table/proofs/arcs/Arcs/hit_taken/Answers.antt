@@ -1,0 +1,73 @@
+use Rattle.std.proofs.Common.{◌≡◌, List, ℕ, [], ◌∷◌, ◌++◌, Some, refl, sym, ap, ◌∙◌, subst}
+use Rattle.std.specs.Prelude.{IsTrue}
+use Rattle.blk_ptr.specs.declared.ptr.Ptr.{Ptr}
+use Rattle.arc_core.specs.declared.event.Event.TheVariants.{Hit}
+use Rattle.arc_core.specs.PlainShard.{PlainShard}
+use Rattle.arc_core.specs.ShardLog.{ShardLog}
+use Rattle.arc_core.specs.Step.{after, legal}
+use Rattle.arc_table.specs.declared.both.Both.{Both}
+use Rattle.arc_table.specs.Both.{Makes}
+use Rattle.arc_table.specs.Holding.{IsListed}
+use Rattle.arc_table.specs.Items.{meanings}
+use Rattle.arc_table.specs.Making.{IsTaken}
+use Rattle.arc_table.proofs.HitEvents.{block_of_it, entry_now, found, hit_legal, hit_listed, hit_made, some_there}
+use Rattle.arc_table.proofs.OneEvent.{makes_these, taken_few}
+use Rattle.arc_table.proofs.arcs.Arcs.hit_taken.Goals as goal
+
+pub block_of-requires : goal.block_of-requires
+block_of-requires g c =
+    let m = meanings g.C.Keeps.holds g.C.Keeps.entries g.C.Keeps.opening g.C.Keeps.claims g.C.Keeps.sound in
+    some_there (found m c.args.self.now.config c.args.ptr c.args.both c.args.party.now c.requires.taken c.requires.party.config c.requires.taken.kind.valid c.requires.here).kept
+
+pub give_back-requires-in_default-reserve-clause-taken : goal.give_back-requires-in_default-reserve-clause-taken
+give_back-requires-in_default-reserve-clause-taken g c =
+    let m = meanings g.C.Keeps.holds g.C.Keeps.entries g.C.Keeps.opening g.C.Keeps.claims g.C.Keeps.sound in
+    subst (λ (l : ShardLog). IsTaken m c.args.self.now.config c.args.ptr.key record { hand = c.args.both.hand; turn = c.args.both.turn; shard = l } c.args.party.now) (sym c.in_default-reserve.ensures.err) c.requires.taken
+
+pub returns-in_default-reserve-clause-err : goal.returns-in_default-reserve-clause-err
+returns-in_default-reserve-clause-err g c =
+    let m = meanings g.C.Keeps.holds g.C.Keeps.entries g.C.Keeps.opening g.C.Keeps.claims g.C.Keeps.sound in
+    subst (λ (l : ShardLog). Makes m c.args.self.now.config c.args.ptr.key l [] c.args.party.now c.give_back-in_default-reserve.new.party) c.in_default-reserve.ensures.err c.give_back-in_default-reserve.ensures
+
+pub hit-requires-clause-legal : goal.hit-requires-clause-legal
+hit-requires-clause-legal g c =
+    let m = meanings g.C.Keeps.holds g.C.Keeps.entries g.C.Keeps.opening g.C.Keeps.claims g.C.Keeps.sound in
+    let valid = c.requires.taken.kind.valid in
+    let f = found m c.args.self.now.config c.args.ptr c.args.both c.args.party.now c.requires.taken c.requires.party.config valid c.requires.here in
+    subst (λ (x : ℕ × PlainShard). IsTrue (legal x.1 (Hit x.0 c.args.ptr.key c.args.tick))) (λ z. (sym c.number-owner.ensures z, (sym c.reserve.ensures.log z).now))
+    (hit_legal c.args.party.now.number c.args.tick c.args.ptr.key c.args.both.shard.now f.entry (taken_few m c.args.self.now.config c.args.ptr.key c.args.both c.args.party.now c.requires.taken c.requires.party.config valid) f.there f.resident)
+
+pub follow-requires-clause-entry : goal.follow-requires-clause-entry
+follow-requires-clause-entry g c =
+    let m = meanings g.C.Keeps.holds g.C.Keeps.entries g.C.Keeps.opening g.C.Keeps.claims g.C.Keeps.sound in
+    some_there (entry_now m c.args.self.now.config c.args.ptr c.args.both c.args.party.now c.requires.taken c.requires.party.config c.requires.taken.kind.valid c.requires.here c.args.tick c.hit.new.self
+    (c.hit.ensures.makes.now ∙ (λ z. after (c.reserve.ensures.log z).now (Hit (c.number-owner.ensures z) c.args.ptr.key c.args.tick))))
+
+pub give_both-requires-clause-made : goal.give_both-requires-clause-made
+give_both-requires-clause-made g c =
+    let m = meanings g.C.Keeps.holds g.C.Keeps.entries g.C.Keeps.opening g.C.Keeps.claims g.C.Keeps.sound in
+    hit_made m c.args.self.now.config c.args.ptr c.args.both c.args.party.now c.requires.taken c.requires.party.config c.requires.taken.kind.valid c.requires.here c.args.tick c.hit.new.self
+    (c.hit.ensures.makes.now ∙ (λ z. after (c.reserve.ensures.log z).now (Hit (c.number-owner.ensures z) c.args.ptr.key c.args.tick))) c.follow.new.bucket
+    (c.hit.ensures.makes.history ∙ (λ z. (c.reserve.ensures.log z).history ++ Hit (c.number-owner.ensures z) c.args.ptr.key c.args.tick ∷ []))
+    (c.hit.ensures.makes.opening ∙ ap (λ (l : ShardLog). l.opening) c.reserve.ensures.log) c.follow.ensures
+
+pub returns-clause-ok : goal.returns-clause-ok
+returns-clause-ok g c =
+    let m = meanings g.C.Keeps.holds g.C.Keeps.entries g.C.Keeps.opening g.C.Keeps.claims g.C.Keeps.sound in
+    let b = c.args.both in
+    let q = c.args.party.now in
+    makes_these m c.args.self.now.config c.args.ptr.key b.hand.before.value b.shard c.hit.new.self (Hit q.number c.args.ptr.key c.args.tick ∷ []) q c.give_both.new.party c.requires.taken.new
+    (c.hit.ensures.makes.history ∙ (λ z. (c.reserve.ensures.log z).history ++ Hit (c.number-owner.ensures z) c.args.ptr.key c.args.tick ∷ [])) c.give_both.ensures
+
+pub returns-clause-hold : goal.returns-clause-hold
+returns-clause-hold g c =
+    let m = meanings g.C.Keeps.holds g.C.Keeps.entries g.C.Keeps.opening g.C.Keeps.claims g.C.Keeps.sound in
+    let ptr = c.args.ptr in
+    let q = c.args.party.now in
+    let config = c.args.self.now.config in
+    let valid = c.requires.taken.kind.valid in
+    let of = block_of_it m config ptr c.args.both q c.requires.taken c.requires.party.config valid c.requires.here c.in-Ok.block.value c.in-Ok.ensures in (
+      record { key = refl; owner_is = c.number-owner.ensures; block = of },
+      subst (λ (x : ℕ × Ptr). IsListed config c.give_both.new.party x.0 x.1) (λ z. (sym c.number-owner.ensures z, record { key = ptr.key; digest = sym of.digest z }))
+          (hit_listed m config ptr c.args.both q c.requires.taken c.requires.party.config valid c.requires.here c.args.tick c.give_both.new.party (returns-clause-ok g c)),
+    )

@@ -1,0 +1,41 @@
+use Rattle.std.proofs.Common.{[]}
+use Rattle.std.specs.Prelude.{IsTrue, ◌&&◌}
+use Rattle.arc_core.specs.PlainShard.{entry_is, is_resident, keeps_digest}
+use Rattle.arc_core.specs.Step.{is_missing, reads}
+use Rattle.arc_table.specs.Items.{meanings}
+use Rattle.arc_table.proofs.Taking.{tells}
+use Rattle.arc_table.proofs.arcs.Arcs.try_hit.Goals as goal
+
+pub returns-in-Missing : goal.returns-in-Missing
+returns-in-Missing g c =
+    let m = meanings g.C.Keeps.holds g.C.Keeps.entries g.C.Keeps.opening g.C.Keeps.claims g.C.Keeps.sound in
+    let b = c.in-Taken.both in
+    let e = c.in-Taken.ensures in
+    let f = c.front_of-front in
+    let k = c.args.ptr.now.key in (
+      record { chain = b.hand.own.bucket; before = b.shard; reached = c.try_both.new.party; takes = e.takes; makes = c.give_back.ensures },
+      tells m (λ s. IsTrue (is_missing k s)) c.args.self.now.config k b.hand.own.bucket b.shard c.args.party.now c.try_both.new.party c.give_back.new.party f.result e.takes c.requires.party.config e.kind.valid f.ensures.shard f.ensures.len c.give_back.ensures c.in-Missing.ensures,
+    )
+
+pub returns-in-Other : goal.returns-in-Other
+returns-in-Other g c =
+    let m = meanings g.C.Keeps.holds g.C.Keeps.entries g.C.Keeps.opening g.C.Keeps.claims g.C.Keeps.sound in
+    let b = c.in-Taken.both in
+    let e = c.in-Taken.ensures in
+    let f = c.front_of-front in
+    let k = c.args.ptr.now.key in (
+      record { chain = b.hand.own.bucket; before = b.shard; reached = c.try_both.new.party; takes = e.takes; makes = c.give_back-in-Other.ensures },
+      c.in-Other.ensures.0,
+      tells m (λ s. IsTrue (entry_is (λ e. is_resident e && keeps_digest c.in-Other.kept e) k s)) c.args.self.now.config k b.hand.own.bucket b.shard c.args.party.now c.try_both.new.party c.give_back-in-Other.new.party f.result e.takes c.requires.party.config e.kind.valid f.ensures.shard f.ensures.len c.give_back-in-Other.ensures c.in-Other.ensures.1,
+    )
+
+pub returns-in-Reading : goal.returns-in-Reading
+returns-in-Reading g c =
+    let m = meanings g.C.Keeps.holds g.C.Keeps.entries g.C.Keeps.opening g.C.Keeps.claims g.C.Keeps.sound in
+    let b = c.in-Taken.both in
+    let e = c.in-Taken.ensures in
+    let f = c.front_of-front in
+    let k = c.args.ptr.now.key in (
+      record { chain = b.hand.own.bucket; before = b.shard; reached = c.try_both.new.party; takes = e.takes; makes = c.give_back-in-Reading.ensures },
+      tells m (λ s. IsTrue (entry_is (reads c.in-Reading.owner) k s)) c.args.self.now.config k b.hand.own.bucket b.shard c.args.party.now c.try_both.new.party c.give_back-in-Reading.new.party f.result e.takes c.requires.party.config e.kind.valid f.ensures.shard f.ensures.len c.give_back-in-Reading.ensures c.in-Reading.ensures,
+    )

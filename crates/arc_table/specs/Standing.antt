@@ -1,0 +1,35 @@
+-- What a shard says of a pointer, and what a bucket has of a key.
+use Rattle.std.specs.Prelude.{◌≡◌, ◌≢◌, ℕ, IsTrue, ◌&&◌, List, Option, Some}
+use Rattle.std.specs.Option.{option_and_then, option_map}
+use Rattle.blk_ptr.specs.declared.key.Key.{Key}
+use Rattle.blk_ptr.specs.declared.ptr.Ptr.{Ptr}
+use Rattle.arc_core.specs.declared.entry.Entry.{Entry}
+use Rattle.arc_core.specs.PlainShard.{PlainShard, entry_is, entry_of, is_resident, keeps_digest}
+use Rattle.arc_core.specs.Step.{is_missing, reads}
+use Rattle.hash_chain.specs.Chain.{IsWith, header_at}
+use Rattle.hash_chain.specs.declared.header.Header.{Header}
+use Rattle.arc_table.specs.declared.hits.Standing.{Standing}
+use Rattle.arc_table.specs.declared.hits.Standing.TheVariants as standing
+
+-- its bytes are cached at rest with this digest
+abbrev pub is_cached_with : Ptr → PlainShard → Type 0
+is_cached_with ptr s = IsTrue (entry_is (λ e. is_resident e && keeps_digest ptr.digest e) ptr.key s)
+
+-- the shard says this of the pointer
+abbrev pub StandsSo : Ptr → PlainShard → Standing → Type 0
+StandsSo ptr s (standing.Missing) = IsTrue (is_missing ptr.key s)
+StandsSo ptr s (standing.Reading owner) = IsTrue (entry_is (reads owner) ptr.key s)
+StandsSo ptr s (standing.Other kept) = (kept ≢ ptr.digest) × IsTrue (entry_is (λ e. is_resident e && keeps_digest kept e) ptr.key s)
+StandsSo ptr s (standing.Here) = is_cached_with ptr s
+
+-- the bytes that the key's header has
+abbrev pub bytes_at : Key → List Header → Option (List ℕ)
+bytes_at k hs = option_map (λ block. block.value) (option_and_then (λ h. h.block) (header_at k hs))
+
+-- The key's header says the state and the place of its entry from now on; all else of the headers stays
+pub record Follows (k : Key) (s : PlainShard) (hs gs : List Header) : Type 0 where
+  pub header : Header
+  pub entry : Entry
+  pub had : header_at k hs ≡ Some header
+  pub there : entry_of k s ≡ Some entry
+  pub with : IsWith k (Some record header { state = entry.state; place = entry.place }) hs gs

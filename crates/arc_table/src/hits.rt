@@ -1,0 +1,148 @@
+//! Hits that never wait.
+ghost use Rattle.std.specs.Prelude.{◌≡◌, IfOk, OnErr, [], ◌∷◌, length};
+ghost use Rattle.blk_ptr.specs.Hash.{shard_of};
+ghost use Rattle.arc_core.specs.declared.event.Event.{Event};
+ghost use Rattle.arc_core.specs.ShardLog.{IsReplayed};
+ghost use Rattle.arc_table.specs.Both.{Makes};
+ghost use Rattle.arc_table.specs.Cache.{IsPartyOf};
+ghost use Rattle.arc_table.specs.Holding.{IsHeld, IsHoldOf};
+ghost use Rattle.arc_table.specs.Items.{meanings};
+ghost use Rattle.arc_table.specs.Looking.{HasNoLook};
+ghost use Rattle.arc_table.specs.Making.{IsTaken};
+ghost use Rattle.arc_table.specs.Standing.{StandsSo, is_cached_with};
+ghost use Rattle.arc_table.specs.Trying.{AnswersHit};
+
+use crate::arcs::{Arcs, Party};
+use crate::both::Both;
+use crate::front::Front;
+use crate::headers::{block_of, follow};
+use crate::hold::Hold;
+use arc_core::{Event, Keeps, Shard};
+use blk_ptr::{Digest, Key, NoMemory, Ptr};
+use turn_table::Take;
+
+/// What `try_hit` gave.
+#[derive(Debug, Drop)]
+pub enum TryHit {
+    /// The bytes are cached and have the pointer's digest.
+    Held(Hold),
+    /// The cache has no bytes of the key: in the replay of the front it has no entry, or a ghost, or one that only the cache device has.
+    NotHere(Front),
+    /// In the replay of the front the cached bytes have the digest `kept`, which isn't the pointer's.
+    Other { kept: Digest, front: Front },
+    /// In the replay of the front the bytes are being read by `owner`.
+    Reading { owner: u32, front: Front },
+    /// The party of this number had the bucket or the shard of the key.
+    Busy { owner: u32 },
+    /// Memory was refused.
+    NoMemory,
+}
+
+/// What a shard says of a pointer.
+#[derive(Drop)]
+pub(crate) enum Standing {
+    /// The cache has no bytes of the key.
+    Missing,
+    /// They are being read.
+    Reading { owner: u32 },
+    /// They have another digest.
+    Other { kept: Digest },
+    /// They are cached with the pointer's digest.
+    Here,
+}
+
+// What the shard says of the pointer.
+pub(crate) fn standing_of(shard: &Shard, ptr: Ptr) -> Standing
+    requires { IsReplayed shard.now }
+    ensures { StandsSo ptr shard.now.now result }
+{
+    if let Some(kept) = shard.resident(ptr.key) {
+        if kept == ptr.digest {
+            return Standing::Here;
+        }
+        return Standing::Other { kept };
+    }
+    let Some(entry) = shard.entry(ptr.key) else {
+        return Standing::Missing;
+    };
+    match entry.reader {
+        Some(owner) => Standing::Reading { owner },
+        None => Standing::Missing,
+    }
+}
+
+impl<C: Keeps> Arcs<C> {
+    /// Asks for a block at a tick, and takes a hold on it where its bytes are cached with the pointer's digest. It never waits. All answers
+    /// but `Held` make no event.
+    pub fn try_hit(&self, party: &mut Party<C>, ptr: &Ptr, tick: u64) -> TryHit
+        requires party { IsPartyOf self.now party.old }
+        requires look { HasNoLook self.now party.old }
+        ensures { AnswersHit (meanings C.holds C.entries C.opening C.claims C.sound) self.now.config ptr.now tick party.old party.new result }
+    {
+        let both = match self.try_both(party, ptr.key) {
+            Take::Busy { owner } => return TryHit::Busy { owner },
+            Take::Taken(both) => both,
+        };
+        let front = self.front_of(ptr.key, &both.shard);
+        match standing_of(&both.shard, *ptr) {
+            Standing::Here => match self.hit_taken(party, both, *ptr, tick) {
+                Ok(hold) => TryHit::Held(hold),
+                Err(NoMemory) => TryHit::NoMemory,
+            },
+            Standing::Missing => {
+                self.give_back(party, ptr.key, both);
+                TryHit::NotHere(front)
+            }
+            Standing::Other { kept } => {
+                self.give_back(party, ptr.key, both);
+                TryHit::Other { kept, front }
+            }
+            Standing::Reading { owner } => {
+                self.give_back(party, ptr.key, both);
+                TryHit::Reading { owner, front }
+            }
+        }
+    }
+
+    // All of the shard's history.
+    pub(crate) fn front_of(&self, key: Key, shard: &Shard) -> Front
+        ensures shard { result.shard ≡ shard_of self.now.config.shards key }
+        ensures len { result.len ≡ length shard.now.history }
+    {
+        Front {
+            shard: key.shard(self.config.shards),
+            len: shard.history().len() as u64,
+        }
+    }
+
+    // Takes a hold on the entry whose bucket and shard the party has just taken, and gives both back. After want of memory there is no event.
+    pub(crate) fn hit_taken(
+        &self,
+        party: &mut Party<C>,
+        mut both: Both,
+        ptr: Ptr,
+        tick: u64,
+    ) -> Result<Hold, NoMemory>
+        requires party { IsPartyOf self.now party.old }
+        requires taken { IsTaken (meanings C.holds C.entries C.opening C.claims C.sound) self.now.config ptr.key both party.old }
+        requires here { is_cached_with ptr both.shard.now }
+        ensures ok { IfOk result (λ hold. Makes (meanings C.holds C.entries C.opening C.claims C.sound) self.now.config ptr.key both.shard (Event.Hit party.old.number ptr.key tick ∷ []) party.old party.new) }
+        ensures hold { IfOk result (λ hold. IsHoldOf ptr party.old.number hold × IsHeld self.now.config party.new hold) }
+        ensures err { OnErr result (Makes (meanings C.holds C.entries C.opening C.claims C.sound) self.now.config ptr.key both.shard [] party.old party.new) }
+    {
+        let Ok(block) = block_of(&both.hand.own.bucket, ptr.key) else {
+            self.give_back(party, ptr.key, both);
+            return Err(NoMemory);
+        };
+        let Ok(()) = both.shard.reserve(2, 0) else {
+            self.give_back(party, ptr.key, both);
+            return Err(NoMemory);
+        };
+        let owner = party.number();
+        both.shard.hit(owner, ptr.key, tick);
+        follow(&mut both.hand.own.bucket, &both.shard, ptr.key);
+        self.give_both(party, ptr.key, both);
+        let Ptr { key, digest: _ } = ptr;
+        Ok(Hold { key, owner, block })
+    }
+}
