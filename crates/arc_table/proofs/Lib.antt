@@ -13,6 +13,8 @@ pub mod HandHeads
 pub mod Scans
 pub mod ScanGives
 pub mod Spares
+pub mod ScanRoom
+pub mod ScanSteps
 pub mod Reached
 pub mod OneEvent
 pub mod HoldEvents

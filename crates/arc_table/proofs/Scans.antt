@@ -12,7 +12,8 @@ use Rattle.arc_core.specs.declared.config.Config.{Config}
 use Rattle.arc_core.specs.Config.{IsConfig}
 use Rattle.arc_core.specs.declared.entry.Entry.{Entry}
 use Rattle.arc_core.specs.declared.event.Event.{Event}
-use Rattle.arc_core.specs.declared.event.Event.TheVariants.{Pass}
+use Rattle.arc_core.specs.declared.event.Event.TheVariants.{Pass, Miss, Insert, Resize}
+use Rattle.arc_core.specs.Naming.{takes_room}
 use Rattle.arc_core.specs.PlainShard.{PlainShard, entry_of}
 use Rattle.arc_core.specs.Replay.{is_legal_history, replay}
 use Rattle.arc_core.specs.ShardLog.{ShardLog, IsReplayed}
@@ -31,6 +32,7 @@ use Rattle.arc_table.specs.declared.item.Item.TheVariants as item
 use Rattle.arc_table.specs.declared.view.Known.{Known}
 use Rattle.arc_table.specs.declared.view.Note.{Note}
 use Rattle.blk_ptr.specs.declared.ptr.Ptr.{Ptr}
+use Rattle.arc_table.specs.Cache.{Cache, IsPartyOf}
 use Rattle.arc_table.specs.Fronts.{item_at, list_at}
 use Rattle.arc_table.specs.Geometry.{IsBucket, IsCell, IsShard, bucket_turn, shard_turn}
 use Rattle.arc_table.specs.Headed.{IsHead}
@@ -361,3 +363,20 @@ module _ {C : Type 0} (m : Meanings C) where
   all_in_hand_else p i (v ∷ vs) none all = dite (ℕ_discrete i v.0)
       (λ q. absurd (none-some v.1 (sym none ∙ subst (λ (t : Bool). (if t then Some v.1 else item_at i vs) ≡ Some v.1) (sym (eq-eqb i v.0 q)) refl)))
       (λ q. (in_hand_else p i v.0 v.1 (λ r. q (sym r)) all.0, all_in_hand_else p i vs (subst (λ (t : Bool). (if t then Some v.1 else item_at i vs) ≡ None) (ne_eqb i v.0 q) none) all.1))
+
+-- ---- a party of a cache stays one
+
+module _ {C : Type 0} (m : Meanings C) (g : Config) (i : ℕ) (first : List (ℕ × Chain)) (before : ShardLog) (p : Place (Known C)) where
+  pub scan_party : (cache : Cache) (q q' : Place (Known C)) (l l' : ShardLog) (marked marked' : List Key) (vs vs' : List (ℕ × Chain)) (es es' : List Event)
+      → Scans m g i first before p q l marked vs es → Scans m g i first before p q' l' marked' vs' es' → IsPartyOf cache q → IsPartyOf cache q'
+  scan_party cache q q' l l' marked marked' vs vs' es es' s s' of = record {
+    row = (ap (λ (x : Place (Known C)). x.table) s'.place ∙ (ap (λ (x : Place (Known C)). x.table) (sym s.place) ∙ of.row.0), ap (λ (x : Place (Known C)). x.parties) s'.place ∙ (ap (λ (x : Place (Known C)). x.parties) (sym s.place) ∙ of.row.1));
+    config = ap (λ (x : Place (Known C)). x.own.about.config) s'.place ∙ (ap (λ a. a.config) (won_about m vs' p.own) ∙ (ap (λ a. a.config) (sym (won_about m vs p.own)) ∙ (ap (λ (x : Place (Known C)). x.own.about.config) (sym s.place) ∙ of.config)));
+  }
+
+-- an event that takes room is legal as long as only the passed keys change
+pub still_legal : (s : PlainShard) (ks : List Key) (e : Event) → takes_room e ≡ true → legal record s { passed = ks } e ≡ legal s e
+still_legal s ks (Miss n k t) h = refl
+still_legal s ks (Insert n k d t) h = refl
+still_legal s ks (Resize n c) h = refl
+still_legal s ks (_) h = absurd (cc)

@@ -1,6 +1,6 @@
 -- The headers of keys that an event evicted or dropped say what their entries do, one after the other.
 use Rattle.std.proofs.Common.{◌≡◌, ◌≢◌, ◌⊎◌, ◌==◌, if◌then◌else◌, ℕ, zero, suc, ◌+◌, ◌<◌, List, [], ◌∷◌, ◌++◌, length, map, set, get_or, Bool, true, false, cond, Option, Some, None, refl, sym, ap, ◌∙◌, subst, inl, inr, ⊎_elim, eq-eqb, ne_eqb, arith}
-use Rattle.std.specs.Prelude.{IsTrue, IsSome, ◌&&◌, ◌||◌}
+use Rattle.std.specs.Prelude.{IsTrue, IsSome, is_some, ◌&&◌, ◌||◌}
 use Rattle.std.specs.Option.{option_map}
 use Rattle.std.specs.List.{position_from}
 use Rattle.std.proofs.lemmas.Option.{none-some}
@@ -186,3 +186,28 @@ with_turns j new (v ∷ vs) = by_test (with_turns j new vs) (j == v.0)
     by_test : turns_in (with_bucket j new vs) ≡ turns_in vs → (t : Bool) → turns_in (if t then (v.0, new) ∷ vs else (v ∷ with_bucket j new vs)) ≡ v.0 ∷ turns_in vs
     by_test ih true = refl
     by_test ih false = ap (λ (l : List ℕ). v.0 ∷ l) ih
+
+-- whether a turn is among buckets in hand
+some_place : (o : Option ℕ) → IsTrue (is_some o) → (i : ℕ) × (o ≡ Some i)
+some_place None h = absurd (cc)
+some_place (Some i) h = (i, refl)
+
+no_place : (o : Option ℕ) → is_some o ≡ false → o ≡ None
+no_place None h = refl
+no_place (Some i) h = absurd (cc)
+
+in_list : (ts : List Taken) (n m j : ℕ) → position_from (λ t. t.turn == j) n ts ≡ Some m → IsSome (item_at j (pairs_of ts))
+in_list [] n m j e = absurd (none-some m e)
+in_list (t ∷ ts) n m j e = dite (ℕ_discrete t.turn j)
+    (λ q. subst (λ (b : Bool). IsSome (if b then Some t.bucket else item_at j (pairs_of ts))) (sym (eq-eqb j t.turn (sym q))) refl)
+    (λ q. subst (λ (b : Bool). IsSome (if b then Some t.bucket else item_at j (pairs_of ts))) (sym (ne_eqb j t.turn (λ r. q (sym r))))
+    (in_list ts (n + 1) m j (subst (λ (b : Bool). cond b (Some n) (position_from (λ t. t.turn == j) (n + 1) ts) ≡ Some m) (ne_eqb t.turn j q) e)))
+
+pub hand_has : (j : ℕ) (v : ℕ × Chain) (ts : List Taken) → ¬ (v.0 ≡ j) → IsTrue (is_some (turn_place j ts)) → IsSome (item_at j (v ∷ pairs_of ts))
+hand_has j v ts q h = let p = some_place (turn_place j ts) h in subst (λ (t : Bool). IsSome (if t then Some v.1 else item_at j (pairs_of ts))) (sym (ne_eqb j v.0 (λ r. q (sym r)))) (in_list ts 0 p.0 j p.1)
+
+pub hand_has_first : (j : ℕ) (v : ℕ × Chain) (ts : List Taken) → v.0 ≡ j → IsSome (item_at j (v ∷ pairs_of ts))
+hand_has_first j v ts q = subst (λ (t : Bool). IsSome (if t then Some v.1 else item_at j (pairs_of ts))) (sym (eq-eqb j v.0 (sym q))) refl
+
+pub hand_lacks : (j : ℕ) (v : ℕ × Chain) (ts : List Taken) → ¬ (v.0 ≡ j) → is_some (turn_place j ts) ≡ false → item_at j (v ∷ pairs_of ts) ≡ None
+hand_lacks j v ts q h = subst (λ (t : Bool). (if t then Some v.1 else item_at j (pairs_of ts)) ≡ None) (sym (ne_eqb j v.0 (λ r. q (sym r)))) (no_turn ts 0 j (no_place (turn_place j ts) h))

@@ -25,6 +25,7 @@ pub mod OpeningLaws
 pub mod Ended
 pub mod Scanning
 pub mod Sparing
+pub mod Evicting
 pub mod Holding
 pub mod Both
 pub mod Telling

@@ -19,6 +19,7 @@ mod look;
 mod looks;
 mod opening;
 mod pact;
+mod scan;
 mod spare;
 mod view;
 
