@@ -2,7 +2,7 @@
 ghost use Rattle.std.proofs.Common.{◌∙◌};
 ghost use Rattle.std.proofs.lemmas.List.{length-replicate};
 ghost use Rattle.std.specs.Prelude.{◌≡◌, ◌+◌, ◌≤◌, OnOk, IfSome, Some, drop, length, replicate, take};
-ghost use Rattle.vdev_io.specs.Faults.{CountsOne, HasCause};
+ghost use Rattle.vdev_io.specs.Faults.{CountsFault, CountsOne, HasCause};
 ghost use Rattle.vdev_io.specs.MemoryLaws.{some_has_len};
 
 use std::alloc::Global;

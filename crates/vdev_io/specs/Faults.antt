@@ -30,6 +30,11 @@ pub record CountsOne (before now : ℕ) : Type 0 where
   pub more : before < last_count → now ≡ before + 1
   pub full : last_count ≤ before → now ≡ before
 
+-- one more was counted exactly where an error was answered
+abbrev pub CountsFault : {T E : Type 0} → (before now : ℕ) → Result T E → Type 0
+CountsFault before now (Ok value) = now ≡ before
+CountsFault before now (Err error) = CountsOne before now
+
 -- the count of faults after an answer: a failure of the outside is counted once, and nothing else is
 abbrev pub count_after : {T : Type 0} → ℕ → Result T IoFault → ℕ
 count_after before (Ok _) = before

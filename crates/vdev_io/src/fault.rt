@@ -48,7 +48,7 @@ pub(crate) struct FaultCount {
 
 impl FaultCount {
     ghost use Rattle.std.specs.IoError.{error_kind};
-    ghost use Rattle.vdev_io.specs.Faults.{HasCause, HasIoCause, count_after, sum_of_counts};
+    ghost use Rattle.vdev_io.specs.Faults.{CountsFault, HasCause, HasIoCause, count_after, sum_of_counts};
 
     /// No call failed yet.
     pub(crate) fn new() -> FaultCount
@@ -62,6 +62,7 @@ impl FaultCount {
         ensures answer { MatchResult result (λ value. answer ≡ Ok value) (λ _. IsErr answer) }
         ensures count { self.new.count ≡ (if is_err answer then sum_of_counts self.old.count 1 else self.old.count) }
         ensures cause { HasCause self.old.count self.new.count result }
+        ensures fault { CountsFault self.old.count self.new.count result }
     {
         match answer {
             Ok(value) => Ok(value),

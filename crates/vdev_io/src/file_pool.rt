@@ -1,6 +1,6 @@
 //! A pool over a file or a block device. Nothing is told of its content.
 ghost use Rattle.std.specs.Prelude.{◌≡◌, ◌^◌, ◌≤◌, None, IfOk, OnOk, IfSome, IsErrOf, IsNone, IsSome, is_err, if◌then◌else◌, string_bytes};
-ghost use Rattle.vdev_io.specs.Faults.{HasCause, HasIoCause, CountsOne, count_after, sum_of_counts};
+ghost use Rattle.vdev_io.specs.Faults.{CountsFault, HasCause, HasIoCause, CountsOne, count_after, sum_of_counts};
 ghost use Rattle.vdev_io.specs.Place.{HasLength, OnDisk, ReadsAt, WritesAt};
 ghost use Rattle.vdev_io.specs.Untold.{GivesAnything, TellsNothing, untold};
 
@@ -108,6 +108,7 @@ where
         ensures counted { CountsOne self.old.reads self.new.reads }
         ensures count { self.new.faults.count ≡ (if is_err result then sum_of_counts self.old.faults.count 1 else self.old.faults.count) }
         ensures cause { HasCause self.old.faults.count self.new.faults.count result }
+        ensures fault { CountsFault self.old.faults.count self.new.faults.count result }
     {
         self.reads = self.reads.saturating_add(1);
         match &mut self.disk {

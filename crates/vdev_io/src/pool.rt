@@ -1,7 +1,7 @@
 //! The disk that holds the blocks, as a trait.
 ghost use Rattle.std.specs.Prelude.{◌≡◌, ℕ, ◌+◌, ◌≤◌, List, Option, Some, length, take, drop, OnOk, IfOk, IfSome, IsErrOf};
 ghost use Rattle.blk_ptr.specs.Size.{largest_block};
-ghost use Rattle.vdev_io.specs.Faults.{HasCause, HasIoCause, CountsOne, sum_of_counts};
+ghost use Rattle.vdev_io.specs.Faults.{HasCause, HasIoCause, CountsFault, CountsOne, sum_of_counts};
 ghost use Rattle.vdev_io.specs.Pool.{WritesOrRefuses};
 
 use crate::fault::{Failed, IoFault};
@@ -28,6 +28,7 @@ pub trait Pool: Sized + Send + Drop {
         ensures { result ≡ size self.now };
 
     /// Fills `buf` with the bytes from `offset` on. Whatever it answers, it counts as one read and leaves what is told as it was.
+    /// It counts as one fault where it fails, and as none where it doesn't.
     fn read(&mut self, offset: u64, buf: &mut [u8]) -> Result<(), Failed>
         requires inside { offset + length buf.old ≤ size self.old }
         requires one_block { length buf.old ≤ largest_block }
@@ -35,7 +36,8 @@ pub trait Pool: Sized + Send + Drop {
         ensures told { told self.new ≡ told self.old }
         ensures size { size self.new ≡ size self.old }
         ensures counted { CountsOne (reads self.old) (reads self.new) }
-        ensures cause { HasCause (faults self.old) (faults self.new) result };
+        ensures cause { HasCause (faults self.old) (faults self.new) result }
+        ensures fault { CountsFault (faults self.old) (faults self.new) result };
 
     /// Writes `bytes` from `offset` on, and changes no other byte. After [`IoFault::NoMemory`] nothing changed, and after
     /// [`IoFault::Failed`] that range may hold any bytes.

@@ -1,6 +1,6 @@
 //! The calls of an object in memory, numbered from 0, of which some are to fail.
 ghost use Rattle.std.specs.Prelude.{◌≡◌, ◌+◌, ◌≤◌, is_err};
-ghost use Rattle.vdev_io.specs.Faults.{Rose, HasCause, sum_of_counts};
+ghost use Rattle.vdev_io.specs.Faults.{Rose, CountsFault, HasCause, sum_of_counts};
 ghost use Rattle.vdev_io.specs.Memory.{CallLog, after_call, is_to_fail, new_log};
 
 use crate::fault::Failed;
@@ -37,6 +37,7 @@ impl Calls {
         ensures listed { is_err result ≡ is_to_fail self.old }
         ensures calls { self.new ≡ after_call self.old }
         ensures cause { HasCause self.old.faults self.new.faults result }
+        ensures fault { CountsFault self.old.faults self.new.faults result }
     {
         let fails = self.fail.contains(&self.made);
         self.made = self.made.saturating_add(1);

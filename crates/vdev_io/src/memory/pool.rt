@@ -3,7 +3,7 @@ ghost use Rattle.std.specs.Prelude.{◌≡◌, ◌+◌, ◌≤◌, ◌↔◌, []
 ghost use Rattle.std.specs.Arc.{arc_value};
 ghost use Rattle.blk_ptr.specs.Size.{largest_block};
 ghost use Rattle.vdev_io.specs.Device.{put};
-ghost use Rattle.vdev_io.specs.Faults.{HasCause, HasIoCause, CountsOne, sum_of_counts};
+ghost use Rattle.vdev_io.specs.Faults.{HasCause, HasIoCause, CountsFault, CountsOne, sum_of_counts};
 ghost use Rattle.vdev_io.specs.Memory.{MemoryPool, after_call, is_to_fail, new_log, next_fork};
 
 use super::calls::Calls;
@@ -79,6 +79,7 @@ impl Pool for MemPool {
         ensures kept { (self.new.bytes ≡ self.old.bytes) × (self.new.forks ≡ self.old.forks) }
         ensures counted { CountsOne self.old.reads self.new.reads }
         ensures cause { HasCause self.old.log.faults self.new.log.faults result }
+        ensures fault { CountsFault self.old.log.faults self.new.log.faults result }
         ensures listed { is_err result ≡ is_to_fail self.old.log }
         ensures calls { self.new.log ≡ after_call self.old.log }
     {
