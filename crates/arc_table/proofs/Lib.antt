@@ -16,3 +16,5 @@ pub mod HoldEvents
 pub mod Taking
 pub mod Standings
 pub mod HitEvents
+pub mod FollowEvents
+pub mod FeedEvents

@@ -7,9 +7,11 @@ mod both;
 mod cells;
 mod closed;
 mod drops;
+mod feeds;
 mod front;
 mod gives;
 mod hand;
+mod hands;
 mod headers;
 mod hits;
 mod hold;
@@ -18,18 +20,21 @@ mod look;
 mod looks;
 mod opening;
 mod pact;
+mod restores;
 mod view;
 
 pub use about::About;
 pub use arcs::{Arcs, Party};
 pub use closed::Closed;
 pub use drops::TryDrop;
+pub use feeds::Cleared;
 pub use front::Front;
 pub use hits::TryHit;
 pub use hold::Hold;
 pub use item::Item;
 pub use look::{BucketTurn, Look};
 pub use pact::{Pact, Settled};
+pub use restores::RestoreStop;
 pub use view::{Known, Ledger, Line, Mine, Note};
 
 #[cfg(test)]
