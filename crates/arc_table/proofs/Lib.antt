@@ -21,3 +21,5 @@ pub mod HoldEvents
 pub mod Taking
 pub mod Standings
 pub mod HitEvents
+pub mod FollowEvents
+pub mod FeedEvents
