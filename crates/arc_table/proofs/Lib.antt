@@ -15,6 +15,7 @@ pub mod ScanGives
 pub mod Spares
 pub mod ScanRoom
 pub mod ScanSteps
+pub mod ScanBegins
 pub mod Reached
 pub mod OneEvent
 pub mod HoldEvents

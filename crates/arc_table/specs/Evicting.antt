@@ -1,9 +1,12 @@
 -- A scan in hand.
-use Rattle.std.specs.Prelude.{◌≡◌, ℕ, ◌+◌, ◌≤◌, List, [], ◌∷◌, vec_len, vec_capacity}
+use Rattle.std.specs.Prelude.{IsTrue, ◌≡◌, ℕ, ◌+◌, ◌<◌, ◌≤◌, List, [], ◌∷◌, length, vec_len, vec_capacity}
 use Rattle.blk_ptr.specs.declared.key.Key.{Key}
 use Rattle.arc_lists.specs.Sequences.{stands_on}
 use Rattle.arc_core.specs.declared.config.Config.{Config}
 use Rattle.arc_core.specs.declared.event.Event.{Event}
+use Rattle.arc_core.specs.Owed.{room_for}
+use Rattle.arc_core.specs.ShardLog.{AreAllNamed}
+use Rattle.arc_core.specs.Step.{legal}
 use Rattle.hash_chain.specs.Chain.{Chain}
 use Rattle.turn_table.specs.Places.{Place}
 use Rattle.arc_table.specs.declared.both.Both.{Both}
@@ -33,6 +36,25 @@ pub record KeepsHand (old new : Both) : Type 0 where
   pub own : new.hand.own ≡ old.hand.own
   pub before : new.hand.before ≡ old.hand.before
 
+-- what more room leaves as it was
+pub record KeepsBoth (old new : Both) : Type 0 where
+  pub turn : new.turn ≡ old.turn
+  pub own : new.hand.own.turn ≡ old.hand.own.turn
+  pub headers : new.hand.own.bucket.headers ≡ old.hand.own.bucket.headers
+  pub victims : new.hand.victims.items ≡ old.hand.victims.items
+  pub before : new.hand.before ≡ old.hand.before
+  pub now : new.shard.now ≡ old.shard.now
+  pub history : new.shard.history ≡ old.shard.history
+  pub opening : new.shard.opening ≡ old.shard.opening
+
+-- there is room for a scan: for its passes and three events more, for one entry and one header more, for each bucket and each key
+pub record HasBothRoom (b : Both) (capacity : ℕ) : Type 0 where
+  pub events : length b.shard.now.entries + 3 ≤ b.shard.event_room
+  pub entries : 1 ≤ b.shard.entry_room
+  pub header : 0 < b.hand.own.bucket.spare
+  pub victims : vec_len b.hand.victims + length b.shard.now.entries ≤ vec_capacity b.hand.victims
+  pub keys : length b.shard.now.entries ≤ capacity
+
 module _ {C : Type 0} where
   -- the party may begin a scan with these in hand
   abbrev pub MayBegin : Config → Both → Place (Known C) → Type 0
@@ -49,3 +71,19 @@ module _ {C : Type 0} (m : Meanings C) where
     pub passes : List Event
     pub may : MayBegin g s.both from
     pub scan : IsScan g from q s passes
+
+module _ {C : Type 0} (m : Meanings C) where
+  -- The party p, with these in hand, has named the victims of an event, which may come now: it is q
+  pub record HasScanned (g : Config) (b : Both) (e : Event) (p q : Place (Known C)) (s : Scan) : Type 0 where
+    pub turn : s.both.turn ≡ b.turn
+    pub own : s.both.hand.own.turn ≡ b.hand.own.turn
+    pub headers : s.both.hand.own.bucket.headers ≡ b.hand.own.bucket.headers
+    pub before : s.both.hand.before ≡ b.hand.before
+    pub header_room : 0 < s.both.hand.own.bucket.spare
+    pub passes : List Event
+    pub may : MayBegin g s.both p
+    pub scan : IsScan m g p q s passes
+    pub room : HasScanRoom (room_for e) s
+    pub entry_room : 1 ≤ s.both.shard.entry_room
+    pub named : AreAllNamed e s.both.shard
+    pub legal : IsTrue (legal s.both.shard.now e)

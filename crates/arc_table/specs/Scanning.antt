@@ -91,6 +91,10 @@ abbrev pub open_entries : PlainShard → (marked : List Key) → ℕ
 open_entries s marked = count_by (is_open s marked) s.entries
 
 module _ {C : Type 0} where
+  -- a party has a record of the bucket of the turn j, and lists nothing as kept there
+  abbrev pub IsKnownBucket : Known C → ℕ → Type 0
+  IsKnownBucket w j = IsSome (item_at j w.records) × (list_at j w.listed ≡ [])
+
   -- The party holds the shard of the turn i as it took it, and of the buckets these alone
   pub record MayScan (g : Config) (i : ℕ) (first : List (ℕ × Chain)) (before : ShardLog) (p : Place (Known C)) : Type 0 where
     pub config : p.own.about.config ≡ g
@@ -104,6 +108,7 @@ module _ {C : Type 0} where
     pub entries : (k : Key) (e : Entry) → entry_of k before.now ≡ Some e → i ≡ shard_turn g k
     pub others : (j : ℕ) → IsAmong j p.held → IsBucket g j → IsSome (item_at j first)
     pub held : AllPairs (λ j b. IsAmong j p.held) first
+    pub first_known : AllPairs (λ j b. IsKnownBucket p.own j) first
     pub buckets : AllPairs (IsBucketOf g i before.now) first
     pub fresh : (j y : ℕ) (a : Mine) → get_elem? p.own.mine j ≡ some a → a.note ≡ Some y → y < length p.own.notes
 

@@ -1,5 +1,5 @@
 //! The scan for the keys that an event evicts and drops.
-ghost use Rattle.std.specs.Prelude.{◌≡◌, ℕ, ◌+◌, ◌<◌, ◌≤◌, ◌||◌, ◌++◌, ◌∷◌, [], List, false, IsTrue, IsSome, None, vec_len, vec_capacity};
+ghost use Rattle.std.specs.Prelude.{◌≡◌, ℕ, ◌+◌, ◌<◌, ◌≤◌, ◌||◌, ◌++◌, ◌∷◌, [], List, false, IsTrue, IsSome, IfOk, IfErr, None, vec_len, vec_capacity};
 ghost use Rattle.blk_ptr.specs.declared.key.Key.{Key};
 ghost use Rattle.blk_ptr.specs.Order.{key_eq};
 ghost use Rattle.arc_lists.specs.Sequences.{stands_on};
@@ -11,7 +11,7 @@ ghost use Rattle.arc_core.specs.ShardLog.{AreAllNamed, IsUnnamed};
 ghost use Rattle.arc_core.specs.Step.{legal};
 ghost use Rattle.turn_table.specs.Places.{Place};
 ghost use Rattle.arc_table.specs.Cache.{IsPartyOf};
-ghost use Rattle.arc_table.specs.Evicting.{HasScanRoom, IsScan, IsScanning, KeepsHand, MayBegin, left_of};
+ghost use Rattle.arc_table.specs.Evicting.{HasBothRoom, HasScanRoom, HasScanned, IsScan, IsScanning, KeepsBoth, KeepsHand, MayBegin, left_of};
 ghost use Rattle.arc_table.specs.Fronts.{item_at};
 ghost use Rattle.arc_table.specs.InHand.{buckets_of};
 ghost use Rattle.arc_table.specs.Items.{meanings};
@@ -23,7 +23,8 @@ use crate::hand::{Hand, Taken};
 use crate::looks::bucket_turn_of;
 use crate::spare::place_of;
 use arc_core::{Event, Keeps};
-use blk_ptr::Key;
+use blk_ptr::{Key, NoMemory};
+use std::alloc::Global;
 use turn_table::Take;
 
 /// A scan in hand: the key's bucket and shard with the victims' buckets, and the keys that are marked.
@@ -53,6 +54,20 @@ fn mark(scan: &mut Scan, key: Key)
 {
     scan.both.shard.mark(key);
     scan.marked.push_reserved(key);
+}
+
+// Makes room for a scan, its event and a header. Where memory is refused, nothing but the room has changed.
+fn reserve(both: &mut Both, alloc: Global) -> Result<Vec<Key>, NoMemory>
+    ensures same { KeepsBoth both.old both.new }
+    ensures room { IfOk result (λ keys. HasBothRoom both.new (vec_capacity keys) × (keys.items ≡ [])) }
+{
+    let most = both.shard.entries();
+    let events = most.checked_add(3).ok_or(NoMemory)?;
+    both.shard.reserve(events, 1)?;
+    both.hand.own.bucket.reserve(1)?;
+    both.hand.victims.reserve(most)?;
+    let keys = Vec::with_capacity(alloc, most)?;
+    Ok(keys)
 }
 
 impl<C: Keeps> Arcs<C> {
@@ -103,5 +118,30 @@ impl<C: Keeps> Arcs<C> {
         while let Some(key) = scan.both.shard.victim(event) {
             self.name_victim(party, scan, key);
         }
+    }
+
+    // Names the victims of an event, and makes room for all first. Where memory is refused, nothing but the room has changed.
+    pub(crate) fn begin_scan(
+        &self,
+        party: &mut Party<C>,
+        mut both: Both,
+        event: &Event,
+    ) -> Result<Scan, Both>
+        requires party { IsPartyOf self.now party.old }
+        requires new { both.hand.before.value ≡ both.shard }
+        requires alone { both.hand.victims.items ≡ [] }
+        requires may { MayBegin self.now.config both party.old }
+        requires event { IsTrue (takes_room event.now) }
+        requires legal { IsTrue (legal both.shard.now event.now) }
+        ensures ok { IfOk result (λ scan. HasScanned (meanings C.holds C.entries C.opening C.claims C.sound) self.now.config both event.now party.old party.new scan) }
+        ensures err { IfErr result (λ back. KeepsBoth both back × (party.new ≡ party.old)) }
+    {
+        let Ok(marked) = reserve(&mut both, self.alloc) else {
+            return Err(both);
+        };
+        both.shard.unmark_all();
+        let mut scan = Scan { both, marked };
+        self.name_victims(party, &mut scan, event);
+        Ok(scan)
     }
 }
