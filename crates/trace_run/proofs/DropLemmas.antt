@@ -35,8 +35,8 @@ use Rattle.arc_core.proofs.Sparing.{spared-same}
 use Rattle.trace_run.specs.declared.access.KeptRead.{KeptRead}
 use Rattle.trace_run.specs.declared.caller_cache.CallerCache.TheInside.{Inside}
 use Rattle.trace_run.specs.Access.{events_of_drop}
-use Rattle.trace_run.specs.Blocks.{Blocks, block_of}
-use Rattle.trace_run.specs.CallerCache.{HasBlock, IsKept}
+use Rattle.trace_run.specs.Blocks.{Blocks, bytes_at}
+use Rattle.trace_run.specs.CallerCache.{HasBlock, IsCallerCache}
 use Rattle.trace_run.specs.PlainCache.{AreHeld, HasHolds, holds_key, holds_of_one, kept_read}
 use Rattle.trace_run.proofs.CacheLemmas.{AreCached, AreCached-after, AreHeld-after, entry_is-at, number-test}
 use Rattle.trace_run.proofs.HoldLemmas.{HasHolds-drop, digest_of_resident, holds-more, index-of_one, unheld-of_one}
@@ -239,12 +239,12 @@ standing-all n (read ∷ reads) blocks s lt standing =
     let rest = standing-all n reads blocks next lt (standing-given n read.held (read ∷ reads) reads blocks s lt standing (less-first reads read)) in
     rw (replay-append s (events_of_drop n read.held) (events_of_drops n reads)) rest
 
-pub standing-of : (c : Inside) → IsKept c → IsStanding c.caller c.kept.items c.blocks c.shard.now
+pub standing-of : (c : Inside) → IsCallerCache c → IsStanding c.caller c.kept.items c.blocks c.shard.now
 standing-of c keeps = record { cached = keeps.cached; held = keeps.held; idle = keeps.idle }
 
-pub IsKept-standing : (c u : Inside) (reads : List KeptRead) (s : PlainShard) → IsKept c → u.caller ≡ c.caller → u.blocks ≡ c.blocks → u.shard.now ≡ s → u.kept.items ≡ reads
-    → IsStanding c.caller reads c.blocks s → IsKept u
-IsKept-standing c u reads s keeps caller blocks now kept standing = record {
+pub IsCallerCache-standing : (c u : Inside) (reads : List KeptRead) (s : PlainShard) → IsCallerCache c → u.caller ≡ c.caller → u.blocks ≡ c.blocks → u.shard.now ≡ s → u.kept.items ≡ reads
+    → IsStanding c.caller reads c.blocks s → IsCallerCache u
+IsCallerCache-standing c u reads s keeps caller blocks now kept standing = record {
   number = rw caller keeps.number;
   cached = rw (blocks, now) standing.cached;
   held = rw (caller, kept, now) standing.held;

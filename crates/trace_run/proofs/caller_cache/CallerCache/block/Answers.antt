@@ -14,10 +14,18 @@ unwrap-requires c =
     let there : option_copied c.get.result ≡ Some (has c).bytes = c.get.ensures ∙ (has c).there in
     copied-some c.get.result (has c).bytes there
 
-pub returns : goal.returns
-returns c =
+pub returns-clause-of : goal.returns-clause-of
+returns-clause-of c =
     let cached = access-hit c.self.inside.shard.now c.args.ptr.now (rw (sym c.self.view_is) at c.requires) in
     let block = c.self.invariant.cached c.args.ptr.now.key c.args.ptr.now.digest cached in
     let there : option_copied c.get.result ≡ Some block.bytes = c.get.ensures ∙ block.there in
     let is = copied-is c.get.result c.unwrap.result block.bytes there c.unwrap.ensures in
     record { size = rw is block.size; digest = rw is block.digest }
+
+pub returns-clause-at : goal.returns-clause-at
+returns-clause-at c =
+    let cached = access-hit c.self.inside.shard.now c.args.ptr.now (rw (sym c.self.view_is) at c.requires) in
+    let block = c.self.invariant.cached c.args.ptr.now.key c.args.ptr.now.digest cached in
+    let there : option_copied c.get.result ≡ Some block.bytes = c.get.ensures ∙ block.there in
+    let is = copied-is c.get.result c.unwrap.result block.bytes there c.unwrap.ensures in
+    rw (← c.self.view_is, is) block.there
