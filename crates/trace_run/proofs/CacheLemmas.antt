@@ -1,8 +1,8 @@
 -- What one caller's cache keeps through the events of its reads.
-use Rattle.std.proofs.Common.{◌≡◌, ℕ, zero, suc, ◌+◌, ◌-◌, ◌<◌, ◌≤◌, Bool, true, false, cond, not, ◌&&◌, ◌||◌, ◌==◌, if◌then◌else◌, nat_lt, IsTrue, List, [], ◌∷◌, ◌++◌, length, Option, Some, None, is_some, IsSome, IfSome, Bor, ◌⊎◌, inl, inr, refl, sym, ap, subst, ◌∙◌, arith}
+use Rattle.std.proofs.Common.{◌≡◌, ℕ, ◌+◌, ◌<◌, Bool, true, false, cond, ◌&&◌, ◌==◌, if◌then◌else◌, IsTrue, List, [], ◌∷◌, ◌++◌, Option, Some, None, is_some, IsSome, Bor, inl, inr, refl, sym, ap, subst, ◌∙◌, arith}
 use Rattle.std.specs.Prelude.{count_by}
 use Rattle.std.specs.List.{list_all}
-use Rattle.std.specs.Option.{option_and_then, option_copied, option_map_or}
+use Rattle.std.specs.Option.{option_copied, option_map_or}
 use Rattle.std.proofs.lemmas.Bool.{false≢true}
 use Rattle.std.proofs.lemmas.Slice.Eq.{bytes_eq-Decides}
 use Rattle.std.proofs.lemmas.Bool.Decides.{nat_tests}
@@ -12,33 +12,31 @@ use Rattle.blk_ptr.specs.declared.ptr.Ptr.{Ptr}
 use Rattle.blk_ptr.specs.declared.state.State.{State}
 use Rattle.blk_ptr.specs.declared.state.State.TheVariants.{Anon, Mru, MruGhost, Mfu, MfuGhost, L2Only}
 use Rattle.blk_ptr.specs.Key.{IsWellFormed, is_well_formed}
-use Rattle.blk_ptr.specs.Order.{digest_eq, key_cmp, key_eq}
+use Rattle.blk_ptr.specs.Order.{digest_eq, key_eq}
 use Rattle.blk_ptr.specs.State.{is_cached}
-use Rattle.blk_ptr.proofs.Keys.{key_eq-is, key_eq-same, key_eq-sym}
+use Rattle.blk_ptr.proofs.Keys.{key_eq-is, key_eq-same}
 use Rattle.arc_lists.proofs.Standing.{and_left, and_right, both}
 use Rattle.arc_lists.proofs.Tables.{All-item, cases_true, some_is}
 use Rattle.arc_core.specs.declared.entry.Entry.{Entry}
 use Rattle.arc_core.specs.declared.event.FailedAt.TheVariants as failed_at
-use Rattle.arc_core.specs.declared.event.Event.TheVariants.{Hit, Miss, Arrive, Fail, Drop}
+use Rattle.arc_core.specs.declared.event.Event.TheVariants.{Hit, Miss, Arrive, Fail}
 use Rattle.arc_core.specs.declared.event.Origin.TheVariants as origin
-use Rattle.arc_core.specs.PlainShard.{PlainShard, entry_is, entry_key, entry_of, held_by, is_at_rest, is_number, is_resident, is_unheld, numbers, resident_digest}
-use Rattle.arc_core.specs.Replay.{replay}
+use Rattle.arc_core.specs.PlainShard.{PlainShard, entry_is, entry_key, entry_of, is_at_rest, is_number, is_resident, is_unheld, numbers, resident_digest}
 use Rattle.arc_core.specs.Sound.{IsSound, IsSoundEntry, fits_state}
 use Rattle.arc_core.specs.Sparing.{IsSpared}
 use Rattle.arc_core.specs.Step.{after, arrived, hit_entry, holds, is_missing, is_without_bytes, legal, may_come_from, read_entry, reads}
 use Rattle.arc_core.proofs.Accesses.{accessed-keeps}
-use Rattle.arc_core.proofs.EntriesAfter.{entry_of-arrive, entry_of-arrive_other, entry_of-drop, entry_of-drop_other, entry_of-fail, entry_of-fail_other, entry_of-hit, entry_of-hit_other, phase-arrive, phase-drop, phase-fail, phase-hit, phase-miss}
+use Rattle.arc_core.proofs.EntriesAfter.{entry_of-arrive, entry_of-arrive_other, entry_of-fail, entry_of-fail_other, entry_of-hit, entry_of-hit_other, phase-arrive, phase-fail, phase-hit, phase-miss}
 use Rattle.arc_core.proofs.Soundness.{IsSound-after}
 use Rattle.arc_core.proofs.Sparing.{entry_of-miss, spared-miss, spared-same}
-use Rattle.trace_run.specs.declared.access.Access.{Access}
 use Rattle.trace_run.specs.declared.access.Access.TheVariants as access
 use Rattle.trace_run.specs.declared.access.KeptRead.{KeptRead}
 use Rattle.trace_run.specs.declared.caller_cache.CallerCache.TheInside.{Inside}
-use Rattle.trace_run.specs.Access.{access_of, events_of_drop, found}
+use Rattle.trace_run.specs.Access.{access_of, found}
 use Rattle.trace_run.specs.Blocks.{Blocks, bytes_at}
 use Rattle.trace_run.specs.CallerCache.{HasBlock, IsCallerCache}
-use Rattle.trace_run.specs.PlainCache.{AreHeld, HasHolds, holds_key, holds_of_one, kept_read}
-use Rattle.trace_run.proofs.HoldLemmas.{HasHolds-arrive, HasHolds-drop, HasHolds-hit, HasHolds-spared, digest_of_resident, holds-more, none-of_one, index-of_one, resident-spared}
+use Rattle.trace_run.specs.PlainCache.{AreHeld, HasHolds, holds_key, kept_read}
+use Rattle.trace_run.proofs.HoldLemmas.{HasHolds-arrive, HasHolds-hit, HasHolds-spared, digest_of_resident, holds-more, none-of_one, index-of_one, resident-spared}
 
 -- ---- what an access says of the shard
 

@@ -1,17 +1,15 @@
 -- No read of a made trace is refused.
-use Rattle.std.proofs.Common.{◌≡◌, ◌≢◌, ℕ, zero, suc, ◌+◌, ◌-◌, ◌*◌, ◌/◌, ◌%◌, ◌<◌, ◌≤◌, ◌^◌, Bool, true, false, cond, List, [], ◌∷◌, length, map, take, drop, replicate, Option, Some, None, ◌⊎◌, inl, inr, refl, sym, ap, subst, ◌∙◌, arith}
+use Rattle.std.proofs.Common.{◌≡◌, ℕ, zero, suc, ◌+◌, ◌-◌, ◌*◌, ◌%◌, ◌<◌, ◌≤◌, Bool, true, false, cond, List, [], ◌∷◌, length, map, replicate, Some, inl, inr, refl, sym, ap, subst, ◌∙◌, arith}
 use Rattle.std.specs.Prelude.{count_by, slice_get}
 use Rattle.std.specs.List.{AllByRecursion, list_any, range_with_len}
 use Rattle.std.proofs.lemmas.Bool.{false≢true}
-use Rattle.std.proofs.lemmas.Bool.Decides.{nat_tests}
 use Rattle.std.proofs.lemmas.List.{drop-replicate, length-replicate, take-replicate}
 use Rattle.std.proofs.lemmas.List.Sums.{sum_by-cons}
 use Rattle.arc_lists.proofs.Tables.{cases_true, some_is}
-use Rattle.blk_ptr.specs.declared.key.Key.{Key}
 use Rattle.blk_ptr.specs.declared.key.KeyFault.{KeyFault}
 use Rattle.blk_ptr.specs.declared.key.KeyFault.TheVariants as fault
 use Rattle.blk_ptr.specs.declared.ptr.Ptr.{Ptr}
-use Rattle.blk_ptr.specs.Key.{IsFirstFault, end_of}
+use Rattle.blk_ptr.specs.Key.{IsFirstFault}
 use Rattle.blk_ptr.specs.Ptr.{IsOf, range_of}
 use Rattle.trace_text.specs.declared.op.Op.{Op}
 use Rattle.trace_text.specs.declared.op.Op.TheVariants as ops
@@ -21,7 +19,7 @@ use Rattle.trace_text.specs.declared.reply.Refusal.TheVariants as refusal
 use Rattle.trace_text.specs.declared.trace.Trace.{Trace}
 use Rattle.dbuf_state.specs.declared.window.Window.{Window}
 use Rattle.arc_core.specs.declared.config.Config.{Config}
-use Rattle.trace_text.specs.Generator.{IsGenerated, draw, empty_window, generated_block, generated_read, generated_sizes, zero_digest}
+use Rattle.trace_text.specs.Generator.{IsGenerated, empty_window, generated_block, generated_read, generated_sizes, zero_digest}
 use Rattle.vdev_io.specs.declared.pool.Pool.{Ghosts}
 use Rattle.trace_run.specs.Answers.{Answers, AnswersAll, AnswersRead, is_pool_fault, is_refusal}
 use Rattle.trace_run.specs.Ends.{opening_of}

@@ -1,5 +1,5 @@
 -- What a status says that came behind the words.
-use Rattle.std.proofs.Common.{◌≡◌, ℕ, List, Bool, true, false, Option, Some, None, is_some, IfSome, sym, ◌∙◌, arith}
+use Rattle.std.proofs.Common.{◌≡◌, ℕ, List, false, Option, Some, None, is_some, IfSome, arith}
 use Rattle.std.proofs.lemmas.Bool.{false≢true}
 use Rattle.trace_text.specs.declared.report.Report.{Report}
 use Rattle.trace_run.specs.declared.status.Status.{Status}

@@ -1,8 +1,5 @@
 -- A reply is that of the plain run, and so are all replies.
-use Rattle.std.proofs.Common.{◌≡◌, ◌≢◌, ℕ, zero, suc, ◌+◌, ◌-◌, ◌%◌, ◌<◌, ◌≤◌, ◌==◌, ◌&&◌, nat_lt, nat_le, Bool, true, false, not, if◌then◌else◌, List, [], ◌∷◌, ◌++◌, length, drop, Option, Some, None, is_some, IfSome, ◌⊎◌, inl, inr, refl, sym, ap, subst, ◌∙◌, arith}
-use Rattle.std.specs.Prelude.{slice_get}
-use Rattle.std.specs.Option.{option_map_or}
-use Rattle.std.proofs.lemmas.Bool.{false≢true}
+use Rattle.std.proofs.Common.{◌≡◌, ◌≢◌, ℕ, zero, suc, ◌+◌, ◌%◌, ◌<◌, ◌≤◌, ◌==◌, nat_lt, true, false, List, [], ◌∷◌, ◌++◌, length, drop, Some, None, is_some, inl, inr, refl, sym, ap, subst, ◌∙◌, arith}
 use Rattle.std.proofs.lemmas.Bool.Decides.{nat_tests}
 use Rattle.arc_lists.proofs.Tables.{cases_true}
 use Rattle.blk_ptr.specs.declared.digest.Digest.{Digest}
@@ -16,13 +13,11 @@ use Rattle.blk_ptr.specs.Ptr.{IsOf, range_of, sha256_of}
 use Rattle.blk_ptr.specs.Size.{IsBlockSize, is_block_size_of, sector}
 use Rattle.std.proofs.lemmas.Slice.Eq.{bytes_eq-Decides}
 use Rattle.arc_core.specs.PlainShard.{PlainShard}
-use Rattle.arc_core.specs.declared.event.Event.{Event}
 use Rattle.arc_core.specs.Replay.{replay}
 use Rattle.trace_text.specs.declared.op.Op.{Op}
 use Rattle.trace_text.specs.declared.op.Op.TheVariants as ops
 use Rattle.trace_text.specs.declared.reply.Reply.{Reply}
 use Rattle.trace_text.specs.declared.reply.Reply.TheVariants.{Read, Kept, Dropped, Refused}
-use Rattle.trace_text.specs.declared.reply.Refusal.{Refusal}
 use Rattle.trace_text.specs.declared.reply.Refusal.TheVariants as refusal
 use Rattle.dbuf_state.specs.declared.window.Window.{Window}
 use Rattle.trace_run.specs.declared.access.Access.{Access}
@@ -30,12 +25,12 @@ use Rattle.trace_run.specs.declared.access.Access.TheVariants as access
 use Rattle.trace_run.specs.declared.access.KeptRead.{KeptRead}
 use Rattle.trace_run.specs.Access.{AsksPool, access_of, source_of}
 use Rattle.trace_run.specs.Answering.{IsReadOfImage, KeepsImage, ReadsImage}
-use Rattle.trace_run.specs.Answers.{AnswersDrop, AnswersHold, AnswersRead, IsInside, window_of}
+use Rattle.trace_run.specs.Answers.{AnswersDrop, AnswersHold, AnswersRead}
 use Rattle.trace_run.specs.Effects.{calls_from, calls_of, calls_of_all, effect_of}
 use Rattle.trace_run.specs.Lines.{shard_of_line}
 use Rattle.trace_run.specs.OneCaller.{AllLines, IsFoundAs, NamesSource, events_of, kept_after, oldest_kept}
 use Rattle.trace_run.specs.PlainLines.{IsNext, IsPlainLine}
-use Rattle.trace_run.specs.PlainRun.{key_fault, key_first, next_call, refused_access, refused_bytes, replies_to, reply_to, reply_to_drop, reply_to_hold, reply_to_read, reply_unless, shards_after}
+use Rattle.trace_run.specs.PlainRun.{key_fault, next_call, refused_access, replies_to, reply_to, reply_to_drop, reply_to_hold, reply_to_read, shards_after}
 use Rattle.trace_run.specs.PoolCalls.{Failed, Gave, PoolCall}
 use Rattle.trace_run.specs.Tally.{AnswersNow, kept_of_block}
 use Rattle.trace_run.proofs.CacheLemmas.{digest_eq-is}

@@ -1,6 +1,6 @@
 -- The histories of a run explain it, and its report is that of the plain run.
-use Rattle.std.proofs.Common.{◌≡◌, ◌≢◌, ℕ, zero, suc, ◌+◌, ◌%◌, ◌<◌, ◌≤◌, ◌^◌, ◌==◌, Bool, true, false, if◌then◌else◌, IsTrue, List, [], ◌∷◌, ◌++◌, length, map, Option, Some, None, IfSome, refl, sym, ap, subst, ◌∙◌, arith, append-nil}
-use Rattle.std.specs.Prelude.{All, count_by, filter, slice_get, sum_by}
+use Rattle.std.proofs.Common.{◌≡◌, ℕ, suc, ◌+◌, ◌%◌, ◌<◌, ◌≤◌, ◌^◌, ◌==◌, Bool, true, false, List, [], ◌∷◌, ◌++◌, length, map, Option, Some, None, IfSome, refl, sym, ap, subst, ◌∙◌, arith}
+use Rattle.std.specs.Prelude.{All, filter, slice_get, sum_by}
 use Rattle.std.specs.List.{AllByRecursion, range_with_len}
 use Rattle.std.specs.Option.{option_map_or}
 use Rattle.std.proofs.lemmas.List.Elements.{All-get_or}
@@ -11,13 +11,12 @@ use Rattle.blk_ptr.specs.declared.key.Key.{Key}
 use Rattle.blk_ptr.specs.declared.ptr.Ptr.{Ptr}
 use Rattle.blk_ptr.specs.Hash.{hash_of_key, shard_of}
 use Rattle.vdev_io.specs.declared.pool.Pool.{Ghosts}
-use Rattle.vdev_io.specs.Faults.{last_count}
 use Rattle.arc_core.specs.declared.config.Config.{Config}
 use Rattle.arc_core.specs.declared.event.Event.{Event}
-use Rattle.arc_core.specs.Operations.{Act, IsAtRest, pool_reads}
+use Rattle.arc_core.specs.Operations.{IsAtRest, pool_reads}
 use Rattle.arc_core.specs.PlainShard.{PlainShard}
-use Rattle.arc_core.specs.Replay.{is_legal_history, replay}
-use Rattle.arc_core.specs.ShardLog.{IsReplayed, ShardLog}
+use Rattle.arc_core.specs.Replay.{replay}
+use Rattle.arc_core.specs.ShardLog.{IsReplayed}
 use Rattle.trace_text.specs.declared.ends.ShardEnd.{ShardEnd}
 use Rattle.trace_text.specs.declared.op.Op.{Op}
 use Rattle.trace_text.specs.declared.op.Op.TheVariants as ops
@@ -28,17 +27,17 @@ use Rattle.trace_text.specs.Grammar.{IsFormed, IsPossible, block_of}
 use Rattle.trace_run.specs.declared.access.KeptRead.{KeptRead}
 use Rattle.trace_run.specs.Access.{events_of_drop}
 use Rattle.trace_run.specs.Acts.{acts_of_caller, acts_of_callers}
-use Rattle.trace_run.specs.Answers.{AnswersAll, is_pool_fault}
+use Rattle.trace_run.specs.Answers.{AnswersAll}
 use Rattle.trace_run.specs.Effects.{calls_of_all}
 use Rattle.trace_run.specs.Ends.{end_of, ends_of, opening_of}
-use Rattle.trace_run.specs.Explaining.{Explain, RunsAlone}
+use Rattle.trace_run.specs.Explaining.{Explain}
 use Rattle.trace_run.specs.Lines.{caller_of, is_in_shard, is_of_caller, replies_where, shard_of_line}
 use Rattle.trace_run.specs.OneCaller.{AllLines, AreFoundAs, events_of_all, events_of_drops, kept_after_all, one_caller_histories, one_caller_history}
 use Rattle.trace_run.specs.Outcome.{IsRun}
 use Rattle.trace_run.specs.PlainCache.{MakesAll, PlainCache}
 use Rattle.trace_run.specs.PlainLines.{IsPlainLine}
 use Rattle.trace_run.specs.PlainRun.{replies_to, report_of, report_with, status_of}
-use Rattle.trace_run.specs.PoolCalls.{KeepsPool, MakesCalls, PoolCall, is_failed}
+use Rattle.trace_run.specs.PoolCalls.{MakesCalls}
 use Rattle.trace_run.specs.Tally.{IsOfCaller}
 use Rattle.trace_run.proofs.PlainLemmas.{plain-all}
 use Rattle.trace_run.proofs.RunLemmas.{calls-faults, calls-few, calls-reads, failed-all, pool_reads-append, reads-drop}

@@ -1,5 +1,5 @@
 -- One caller's history holds every call of its operations once.
-use Rattle.std.proofs.Common.{◌≡◌, ◌≢◌, ℕ, zero, suc, ◌+◌, ◌<◌, ◌≤◌, Bool, true, false, not, ◌&&◌, ◌==◌, ◌||◌, nat_lt, if◌then◌else◌, IsTrue, List, [], ◌∷◌, ◌++◌, length, map, Option, Some, None, IfSome, ◌⊎◌, inl, inr, refl, sym, ap, subst, ◌∙◌, arith, append_assoc, append-nil}
+use Rattle.std.proofs.Common.{◌≡◌, ◌≢◌, ℕ, ◌<◌, Bool, true, false, ◌==◌, ◌||◌, nat_lt, IsTrue, List, [], ◌∷◌, ◌++◌, Option, Some, None, IfSome, inl, inr, refl, sym, ap, subst, ◌∙◌, arith, append_assoc, append-nil}
 use Rattle.std.specs.Prelude.{filter, slice_get, slice_index_or}
 use Rattle.std.specs.List.{AllByRecursion}
 use Rattle.std.specs.Option.{option_map_or}
@@ -10,14 +10,11 @@ use Rattle.blk_ptr.specs.declared.digest.Digest.{Digest}
 use Rattle.blk_ptr.specs.declared.key.Key.{Key}
 use Rattle.blk_ptr.specs.declared.ptr.Ptr.{Ptr}
 use Rattle.blk_ptr.specs.Order.{digest_eq}
-use Rattle.arc_lists.proofs.Tables.{cases_true, some_is}
-use Rattle.arc_core.specs.declared.entry.Entry.{Entry}
+use Rattle.arc_lists.proofs.Tables.{cases_true}
 use Rattle.arc_core.specs.declared.event.Event.{Event}
 use Rattle.arc_core.specs.declared.event.Event.TheVariants as event
 use Rattle.arc_core.specs.declared.config.Config.{Config}
-use Rattle.arc_core.specs.declared.served.Served.{Served}
-use Rattle.arc_core.specs.declared.served.Served.TheVariants as served
-use Rattle.arc_core.specs.Operations.{Act, Reads, Keeps, GivesBack, Fails, AreEvents, HoldEveryCallOnce, IsHonest, Moment, StandsFor, Tell, act_key, actor_of, acts_in, are_passes_placed, has_its_number, is_of_feed, is_pass, moments, number_of, own_moments}
+use Rattle.arc_core.specs.Operations.{Act, Reads, Keeps, GivesBack, Fails, HoldEveryCallOnce, Moment, StandsFor, Tell, act_key, actor_of, acts_in, are_passes_placed, has_its_number, is_of_feed, is_pass, moments, number_of, own_moments}
 use Rattle.arc_core.specs.PlainShard.{PlainShard, entry_is, entry_of, keeps_digest, resident_digest}
 use Rattle.arc_core.specs.Replay.{replay}
 use Rattle.arc_core.specs.Step.{after}

@@ -1,5 +1,5 @@
 -- What the answer to one operation comes to.
-use Rattle.std.specs.Prelude.{◌≡◌, ℕ, List, Option, Some, IfSome, slice_get}
+use Rattle.std.specs.Prelude.{ℕ, List, IfSome, slice_get}
 use Rattle.blk_ptr.specs.declared.ptr.Ptr.{Ptr}
 use Rattle.blk_ptr.specs.Ptr.{IsOf, range_of}
 use Rattle.trace_text.specs.declared.op.Op.{Op}

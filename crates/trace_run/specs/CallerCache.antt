@@ -4,7 +4,7 @@ use Rattle.trace_run.specs.Blocks.{Blocks, bytes_at}
 use Rattle.blk_ptr.specs.declared.digest.Digest.{Digest}
 use Rattle.blk_ptr.specs.declared.key.Key.{Key}
 use Rattle.blk_ptr.specs.Ptr.{sha256_of}
-use Rattle.arc_core.specs.PlainShard.{PlainShard, numbers, resident_digest}
+use Rattle.arc_core.specs.PlainShard.{numbers, resident_digest}
 use Rattle.arc_core.specs.declared.entry.Phase.TheVariants.{Idle}
 use Rattle.trace_run.specs.declared.caller_cache.CallerCache.TheInside.{Inside}
 use Rattle.trace_run.specs.PlainCache.{AreHeld, PlainCache}

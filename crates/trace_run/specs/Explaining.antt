@@ -1,5 +1,5 @@
 -- What the histories of a run's shards say of it.
-use Rattle.std.specs.Prelude.{◌≡◌, ℕ, ◌+◌, ◌^◌, ◌<◌, ◌≤◌, IfSome, IsTrue, List, [], length, sum_by}
+use Rattle.std.specs.Prelude.{◌≡◌, IfSome, IsTrue, List, [], length, sum_by}
 use Rattle.std.specs.List.{AllByRecursion, range_with_len}
 use Rattle.std.specs.Prelude.{filter}
 use Rattle.blk_ptr.specs.Hash.{shard_of}

@@ -1,6 +1,6 @@
 -- The run of one caller over a pool that tells its bytes, as a plain function: of the trace, the bytes, and which reads of the pool failed.
-use Rattle.std.specs.Prelude.{ℕ, ◌+◌, ◌%◌, ◌==◌, nat_lt, Bool, false, not, if◌then◌else◌, List, [], ◌∷◌, drop, length, is_some, slice_get, Option, Some, None}
-use Rattle.std.specs.List.{list_any, range_with_len}
+use Rattle.std.specs.Prelude.{ℕ, ◌+◌, ◌%◌, ◌==◌, nat_lt, false, not, if◌then◌else◌, List, [], ◌∷◌, drop, length, is_some, slice_get, Option, Some, None}
+use Rattle.std.specs.List.{list_any}
 use Rattle.std.specs.Option.{option_map_or}
 use Rattle.blk_ptr.specs.declared.key.Key.{Key}
 use Rattle.blk_ptr.specs.declared.key.KeyFault.{KeyFault}

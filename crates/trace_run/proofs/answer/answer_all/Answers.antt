@@ -1,12 +1,10 @@
-use Rattle.std.proofs.Common.{rules, ◌≡◌, ◌+◌, ◌<◌, ◌≤◌, ◌^◌, ◌++◌, ◌∷◌, [], Some, length, take, arith, refl, sym, ap, ◌∙◌}
+use Rattle.std.proofs.Common.{rules, ◌≡◌, ◌+◌, ◌<◌, ◌++◌, ◌∷◌, [], Some, length, take, arith, refl, sym}
 use Rattle.std.specs.Prelude.{slice_get}
 use Rattle.std.proofs.lemmas.List.{length-take-le}
 use Rattle.std.proofs.lemmas.Option.{slice_get_read, slice_get_within}
 use Rattle.trace_run.specs.Answering.{IsReadOfImage}
 use Rattle.trace_run.specs.Effects.{calls_of, calls_of_all, effect_of}
-use Rattle.trace_run.specs.Lines.{caller_of}
 use Rattle.trace_run.specs.Tally.{AnswersNow, IsTally}
-use Rattle.trace_text.specs.Grammar.{block_of}
 use Rattle.trace_run.proofs.AnswerLemmas.{more_answers, more_tally, take_one, to_answer}
 use Rattle.trace_run.proofs.RunLemmas.{calls-snoc, calls-then, keeps-then, plain-more, run-more, told-step}
 use Rattle.trace_run.proofs.answer.answer_all.Goals as goal

@@ -1,4 +1,4 @@
-use Rattle.std.proofs.Common.{rules, ◌≡◌, ◌∷◌, [], refl, sym, ap, ◌∙◌}
+use Rattle.std.proofs.Common.{rules, ◌∷◌, [], refl, ap, ◌∙◌}
 use Rattle.trace_text.specs.declared.ends.ShardEnd.{ShardEnd}
 use Rattle.trace_run.proofs.ReportLemmas.{IsReported, is-run, own-ops}
 use Rattle.trace_run.proofs.run_trace.run_trace.Goals as goal

@@ -1,6 +1,5 @@
-use Rattle.std.proofs.Common.{◌≡◌, refl, sym, ap, ◌∙◌}
+use Rattle.std.proofs.Common.{sym, ap, ◌∙◌}
 use Rattle.trace_run.specs.Access.{source_of}
-use Rattle.trace_run.specs.declared.access.Access.TheVariants as access
 use Rattle.trace_run.proofs.ServeLemmas.{hit-shown, read-of}
 use Rattle.trace_run.proofs.serve.serve.Goals as goal
 

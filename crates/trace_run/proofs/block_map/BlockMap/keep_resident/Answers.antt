@@ -1,8 +1,7 @@
-use Rattle.std.proofs.Common.{◌≡◌, ℕ, List, Some, rules, sym, ap, ◌∙◌}
+use Rattle.std.proofs.Common.{◌≡◌, rules, sym, ap, ◌∙◌}
 use Rattle.std.specs.Prelude.{filter}
 use Rattle.std.proofs.lemmas.Map.Made.{filter_same_pairs}
-use Rattle.blk_ptr.specs.declared.key.Key.{Key}
-use Rattle.trace_run.specs.Blocks.{Blocks, bytes_at}
+use Rattle.trace_run.specs.Blocks.{bytes_at}
 use Rattle.trace_run.proofs.BlockLemmas.{bytes_at-kept, bytes_at-left, stays}
 use Rattle.trace_run.proofs.block_map.BlockMap.keep_resident.Goals as goal
 

@@ -1,9 +1,8 @@
-use Rattle.std.proofs.Common.{◌≡◌, ◌<◌, IsTrue, None, refl, sym, ap, subst, ◌∙◌, Some}
-use Rattle.arc_core.specs.PlainShard.{PlainShard, numbers, resident_digest}
+use Rattle.std.proofs.Common.{◌≡◌, refl, sym, ap, subst, ◌∙◌}
+use Rattle.arc_core.specs.PlainShard.{PlainShard}
 use Rattle.arc_core.specs.ShardLog.{ShardLog}
-use Rattle.arc_core.specs.Step.{after, legal}
-use Rattle.arc_core.specs.declared.event.Event.TheVariants.{Miss, Arrive}
-use Rattle.arc_core.specs.declared.event.Origin.TheVariants as origin
+use Rattle.arc_core.specs.Step.{after}
+use Rattle.arc_core.specs.declared.event.Event.TheVariants.{Miss}
 use Rattle.arc_core.specs.Sound.{IsSound}
 use Rattle.trace_run.specs.CallerCache.{HasBlock, IsCallerCache}
 use Rattle.trace_run.specs.declared.caller_cache.CallerCache.TheInside.{Inside}

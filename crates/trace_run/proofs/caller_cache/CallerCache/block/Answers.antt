@@ -1,6 +1,5 @@
-use Rattle.std.proofs.Common.{◌≡◌, sym, ◌∙◌, subst, Some}
+use Rattle.std.proofs.Common.{◌≡◌, sym, ◌∙◌, Some}
 use Rattle.std.specs.Option.{option_copied}
-use Rattle.blk_ptr.specs.Ptr.{IsOf}
 use Rattle.trace_run.specs.CallerCache.{HasBlock}
 use Rattle.trace_run.proofs.CacheLemmas.{access-hit, copied-is, copied-some}
 use Rattle.trace_run.proofs.caller_cache.CallerCache.block.Goals as goal

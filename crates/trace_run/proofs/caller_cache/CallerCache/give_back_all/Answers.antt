@@ -1,4 +1,4 @@
-use Rattle.std.proofs.Common.{◌≡◌, [], refl, sym}
+use Rattle.std.proofs.Common.{[], refl}
 use Rattle.trace_run.proofs.DropLemmas.{IsCallerCache-standing, IsStanding, at_rest, standing-all, standing-of}
 use Rattle.trace_run.proofs.caller_cache.CallerCache.give_back_all.Goals as goal
 

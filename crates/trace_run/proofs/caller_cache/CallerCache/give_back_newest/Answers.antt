@@ -1,4 +1,4 @@
-use Rattle.std.proofs.Common.{◌≡◌, refl}
+use Rattle.std.proofs.Common.{refl}
 use Rattle.trace_run.proofs.DropLemmas.{IsCallerCache-standing, drops-legal, less-last, standing-given, standing-of}
 use Rattle.trace_run.proofs.caller_cache.CallerCache.give_back_newest.Goals as goal
 

@@ -1,4 +1,4 @@
-use Rattle.std.proofs.Common.{◌≡◌, refl, sym, ap, subst, ◌∙◌, Some, None, IsSome}
+use Rattle.std.proofs.Common.{◌≡◌, refl, sym, ap, subst, ◌∙◌, Some, None}
 use Rattle.std.specs.Prelude.{is_some}
 use Rattle.std.specs.List.{position, remove}
 use Rattle.trace_run.specs.declared.access.KeptRead.{KeptRead}
@@ -6,7 +6,7 @@ use Rattle.trace_run.specs.Access.{events_of_drop}
 use Rattle.trace_run.specs.CallerCache.{plain_cache}
 use Rattle.trace_run.specs.OneCaller.{is_of_block, oldest_key, oldest_kept, without_oldest}
 use Rattle.trace_run.specs.PlainCache.{MakesAll, PlainCache}
-use Rattle.trace_run.proofs.DropLemmas.{AreLess, IsCallerCache-standing, IsOldest, drops-legal, makes-none, makes-oldest, oldest-at, oldest-none, standing-given, standing-of}
+use Rattle.trace_run.proofs.DropLemmas.{AreLess, IsCallerCache-standing, drops-legal, makes-none, makes-oldest, oldest-at, oldest-none, standing-given, standing-of}
 use Rattle.trace_run.proofs.caller_cache.CallerCache.give_back_oldest.Goals as goal
 
 -- where no read of the block is kept
