@@ -1,29 +1,27 @@
 -- What one more operation and its reply add to those before.
-use Rattle.std.proofs.Common.{◌≡◌, ℕ, zero, suc, ◌+◌, ◌-◌, ◌<◌, ◌≤◌, ◌==◌, ◌&&◌, cond, Bool, true, false, List, [], ◌∷◌, ◌++◌, length, take, Option, Some, refl, sym, ap, ◌∙◌, arith, inl, inr, add-one, length-append}
+use Rattle.std.proofs.Common.{◌≡◌, ℕ, zero, suc, ◌+◌, ◌<◌, ◌==◌, ◌&&◌, cond, Bool, true, List, [], ◌∷◌, ◌++◌, length, take, Option, Some, refl, sym, ap, ◌∙◌, arith, inl, inr, add-one, length-append}
 use Rattle.std.proofs.lemmas.Bool.Decides.{nat_tests}
-use Rattle.std.specs.Prelude.{◌≢◌, ◌^◌, MatchBool, if◌then◌else◌, count_by, slice_get, slice_index, slice_set}
-use Rattle.std.proofs.lemmas.Bool.{cases_lt, cases_eq}
-use Rattle.std.proofs.lemmas.List.{take-append-le, length-take-le, get_or-set_same, get_or-set_other}
+use Rattle.std.specs.Prelude.{◌≢◌, if◌then◌else◌, count_by, slice_get}
+use Rattle.std.proofs.lemmas.Bool.{cases_lt}
+use Rattle.std.proofs.lemmas.List.{take-append-le, length-take-le}
 use Rattle.std.proofs.lemmas.Option.{slice_get_within, get_or_from_slice_get}
 use Rattle.std.proofs.Math.Seq.{take-append_seam, take-suc}
-use Rattle.std.proofs.Math.ListN.{length-set}
 use Rattle.blk_ptr.specs.declared.ptr.Ptr.{Ptr}
 use Rattle.trace_text.specs.declared.op.Op.{Op}
 use Rattle.trace_text.specs.declared.reply.Reply.{Reply}
 use Rattle.trace_text.specs.declared.op.Op.TheVariants as ops
 use Rattle.trace_text.specs.declared.reply.Reply.TheVariants.{Read, Kept, Dropped, Refused}
 use Rattle.trace_text.specs.declared.reply.Refusal.TheVariants.{PoolFault, Mismatch, Key, NoMemory, Range, NoHold}
-use Rattle.trace_run.specs.Answers.{Answers, keeps, drops, kept_reads, dropped_reads, is_pool_fault}
+use Rattle.trace_run.specs.Answers.{Answers, AnswersDrop, keeps, keeps_one, drops, drops_one, kept_reads, dropped_reads}
 use Rattle.trace_run.specs.declared.access.KeptRead.{KeptRead}
-use Rattle.trace_run.specs.OneCaller.{is_of_block, kept_after, key_held_by, without_oldest}
+use Rattle.trace_run.specs.Effects.{Effect, Answered, GivenBack, PoolRefused, NoEffect, effect_of}
+use Rattle.trace_run.specs.OneCaller.{is_of_block, kept_after, kept_after_drop, kept_after_hold, key_held_by, without_oldest}
 use Rattle.trace_run.specs.PlainCache.{kept_read}
 use Rattle.arc_lists.proofs.Tables.{cases_true}
 use Rattle.std.proofs.lemmas.Bool.{eqb-true, false≢true}
-use Rattle.vdev_io.specs.Faults.{Rose, last_count}
-use Rattle.trace_run.specs.Calls.{CountsFaults}
-use Rattle.std.proofs.lemmas.List.Sums.{sum_by-append, sum_by-cons, count_by-le-length}
-use Rattle.trace_run.specs.Tally.{AnswersNow, IsTally, caller_of, kept_of_block}
-use Rattle.trace_text.specs.Grammar.{block_of}
+use Rattle.std.proofs.lemmas.List.Sums.{sum_by-append, sum_by-cons}
+use Rattle.trace_run.specs.Lines.{caller_of}
+use Rattle.trace_run.specs.Tally.{AnswersNow, IsTally, kept_of_block}
 
 -- one more element at the end changes none before it
 slice_get_below : {X : Type 0} (xs : List X) (y : X) (k : ℕ) → k < length xs → slice_get (xs ++ y ∷ []) k ≡ slice_get xs k
@@ -96,10 +94,6 @@ test_other : (m n : ℕ) → m ≢ n → test m n ≡ 0
 unfolding test
 test_other m n ne = grind (arith, nat_tests)
 
-cond_le_one : (b : Bool) → cond b 1 0 ≤ 1
-cond_le_one true = omega arith
-cond_le_one false = omega arith
-
 -- one more reply counts where it passes the test
 count_by-snoc : {X : Type 0} (p : X → Bool) (xs : List X) (y : X) → count_by p (xs ++ y ∷ []) ≡ count_by p xs + cond (p y) 1 0
 count_by-snoc p xs y =
@@ -136,37 +130,56 @@ lowered (read ∷ reads) block x some = elim (cases_true (is_of_block block read
       rw later (omega (arith, kept-cons read (without_oldest block reads) x, kept-cons read reads x, rest))
 ]
 
--- an operation and its reply change the kept reads by what they keep and drop
-one_step : (pool_len : ℕ) (image : Option (List ℕ)) (blocks : List Ptr) (caller : ℕ) (kept : List KeptRead) (o : Op) (r : Reply) (x : ℕ)
-    → caller_of o ≡ caller → block_of o < length blocks → AnswersNow pool_len image blocks kept o r
-    → kept_of_block x (kept_after blocks o r kept) + drops caller x o r ≡ kept_of_block x kept + keeps caller x o r
-one_step pool_len image blocks caller kept (ops.Read n t y w) r x same within answer = refl
-one_step pool_len image blocks caller kept (ops.Hold n t y) (Kept served) x same within answer =
-    let more = raised kept (kept_read y (key_held_by answer.0 served)) x in
+-- a read that is to be kept changes the kept reads by what it keeps
+hold_step : (ptr : Ptr) (n caller y x : ℕ) (kept : List KeptRead) (e : Effect) → n ≡ caller
+    → kept_of_block x (kept_after_hold y ptr e kept) ≡ kept_of_block x kept + keeps_one e (n == caller && y == x)
+hold_step ptr n caller y x kept (Answered from) same =
+    let more = raised kept (kept_read y (key_held_by ptr from)) x in
     let mine = own n caller y x same in
-    rw answer.1 (omega (arith, more, mine))
-one_step pool_len image blocks caller kept (ops.Hold n t y) Dropped x same within answer = rw answer.1 refl
-one_step pool_len image blocks caller kept (ops.Hold n t y) (Refused refusal) x same within answer = rw answer.1 refl
-one_step pool_len image blocks caller kept (ops.Hold n t y) (Read served digest shown) x same within answer = rw answer.1 refl
-one_step pool_len image blocks caller kept (ops.Drop n y) Dropped x same within answer =
+    omega (arith, more, mine)
+hold_step ptr n caller y x kept GivenBack same = omega arith
+hold_step ptr n caller y x kept (PoolRefused call) same = omega arith
+hold_step ptr n caller y x kept NoEffect same = omega arith
+
+-- and a drop by what it gives back
+drop_step : (n caller y x : ℕ) (kept : List KeptRead) (reply : Reply) → n ≡ caller → AnswersDrop (kept_of_block y kept) 0 y reply
+    → kept_of_block x (kept_after_drop y (effect_of reply) kept) + drops_one (effect_of reply) (n == caller && y == x) ≡ kept_of_block x kept
+drop_step n caller y x kept (Read served digest shown) same answer = absurd answer
+drop_step n caller y x kept (Kept served) same answer = absurd answer
+drop_step n caller y x kept Dropped same answer =
     let less = lowered kept y x answer in
     let mine = own n caller y x same in
     omega (arith, less, mine)
-one_step pool_len image blocks caller kept (ops.Drop n y) (Kept served) x same within answer = refl
-one_step pool_len image blocks caller kept (ops.Drop n y) (Refused refusal) x same within answer = refl
-one_step pool_len image blocks caller kept (ops.Drop n y) (Read served digest shown) x same within answer = refl
+drop_step n caller y x kept (Refused PoolFault) same answer = absurd answer
+drop_step n caller y x kept (Refused (Mismatch found)) same answer = absurd answer
+drop_step n caller y x kept (Refused (Key fault)) same answer = absurd answer
+drop_step n caller y x kept (Refused NoMemory) same answer = absurd answer
+drop_step n caller y x kept (Refused (Range end size)) same answer = absurd answer
+drop_step n caller y x kept (Refused (NoHold missing)) same answer = omega arith
+
+-- an operation and its reply change the kept reads by what they keep and drop
+one_step : (pool_len : ℕ) (image : Option (List ℕ)) (blocks : List Ptr) (caller : ℕ) (kept : List KeptRead) (o : Op) (r : Reply) (x : ℕ)
+    → caller_of o ≡ caller → AnswersNow pool_len image blocks kept o r
+    → kept_of_block x (kept_after blocks o r kept) + drops caller x o r ≡ kept_of_block x kept + keeps caller x o r
+one_step pool_len image blocks caller kept (ops.Read n t y w) r x same answer = refl
+one_step pool_len image blocks caller kept (ops.Hold n t y) r x same answer =
+    let step = hold_step answer.0 n caller y x kept (effect_of r) same in
+    rw answer.1 (omega (arith, step))
+one_step pool_len image blocks caller kept (ops.Drop n y) r x same answer =
+    let step = drop_step n caller y x kept r same answer in
+    omega (arith, step)
 
 pub more_tally : (pool_len : ℕ) (image : Option (List ℕ)) (blocks : List Ptr) (caller : ℕ) (ops : List Op) (replies : List Reply) (kept : List KeptRead) (o : Op) (r : Reply)
     → slice_get ops (length replies) ≡ Some o → IsTally caller (take (length replies) ops) replies kept
-    → caller_of o ≡ caller → block_of o < length blocks → AnswersNow pool_len image blocks kept o r
+    → caller_of o ≡ caller → AnswersNow pool_len image blocks kept o r
     → IsTally caller (take (length replies + 1) ops) (replies ++ r ∷ []) (kept_after blocks o r kept)
-more_tally pool_len image blocks caller ops replies kept o r here tally same within answer = record {
+more_tally pool_len image blocks caller ops replies kept o r here tally same answer = record {
   each = λ x.
       let inside : length replies < length ops = slice_get_within ops (length replies) o here in
       let front : take (length replies + 1) ops ≡ take (length replies) ops ++ o ∷ [] = take_one ops (length replies) o here in
       let size : length replies ≡ length (take (length replies) ops) = sym (length-take-le (length replies) ops (omega arith)) in
       let was = tally.each x in
-      let step = one_step pool_len image blocks caller kept o r x same within answer in
+      let step = one_step pool_len image blocks caller kept o r x same answer in
       let more_kept = kept_reads-snoc caller x (take (length replies) ops) replies o r size in
       let more_dropped = dropped_reads-snoc caller x (take (length replies) ops) replies o r size in
       rw front (omega (arith, was, step, more_kept, more_dropped));
@@ -189,29 +202,3 @@ to_answer pool_len image blocks caller earlier replies kept (ops.Drop n y) (Refu
 to_answer pool_len image blocks caller earlier replies kept (ops.Drop n y) (Refused (Range end size)) tally same answer = answer
 to_answer pool_len image blocks caller earlier replies kept (ops.Drop n y) (Kept served) tally same answer = answer
 to_answer pool_len image blocks caller earlier replies kept (ops.Drop n y) (Read served digest shown) tally same answer = answer
-
-faults_by : (b : Bool) (before now : ℕ) → MatchBool b (Rose before now) (before ≤ now) → before < 2 ^ 64 - 1 → before + cond b 1 0 ≤ now
-faults_by true before now h low = omega (arith, h)
-faults_by false before now h low = omega (arith, h)
-
--- at most one read of the pool stands behind an operation's events
-pub more_reads : (start before now done more most : ℕ) → most < 2 ^ 32 → done ≤ most → (start < 2 ^ 63 → before ≡ start + done)
-    → (before < last_count → now ≡ before + more) → start < 2 ^ 63 → now ≡ start + (done + more)
-more_reads start before now done more most few within was step low =
-    let here = was low in
-    let after = step (omega (arith, here)) in
-    omega (arith, here, after)
-
--- a count that has come to its last value has risen by more than there are replies
-pub more_faults : (start before now : ℕ) (replies : List Reply) (reply : Reply) → length replies < 2 ^ 32
-    → (start < 2 ^ 63 → start + count_by is_pool_fault replies ≤ before) → CountsFaults reply before now → before ≤ now
-    → start < 2 ^ 63 → start + count_by is_pool_fault (replies ++ reply ∷ []) ≤ now
-more_faults start before now replies reply few was step kept low =
-    let here = was low in
-    let most = count_by-le-length is_pool_fault replies in
-    let counted = count_by-snoc is_pool_fault replies reply in
-    let one : cond (is_pool_fault reply) 1 0 ≤ 1 = cond_le_one (is_pool_fault reply) in
-    elim (cases_lt before (2 ^ 64 - 1)) [
-      | inl below ↦ let more = faults_by (is_pool_fault reply) before now step below in omega (arith, here, more, counted)
-      | inr above ↦ omega (arith, most, counted, one)
-    ]

@@ -1,8 +1,8 @@
 -- What one caller's cache keeps through the events of its reads.
-use Rattle.std.proofs.Common.{◌≡◌, ℕ, zero, suc, ◌+◌, ◌-◌, ◌<◌, ◌≤◌, Bool, true, false, cond, not, ◌&&◌, ◌||◌, ◌==◌, if◌then◌else◌, nat_lt, IsTrue, List, [], ◌∷◌, ◌++◌, length, Option, Some, None, is_some, IsSome, IfSome, Bor, ◌⊎◌, inl, inr, refl, sym, ap, subst, ◌∙◌, arith}
+use Rattle.std.proofs.Common.{◌≡◌, ℕ, ◌+◌, ◌<◌, Bool, true, false, cond, ◌&&◌, ◌==◌, if◌then◌else◌, IsTrue, List, [], ◌∷◌, ◌++◌, Option, Some, None, is_some, IsSome, Bor, inl, inr, refl, sym, ap, subst, ◌∙◌, arith}
 use Rattle.std.specs.Prelude.{count_by}
 use Rattle.std.specs.List.{list_all}
-use Rattle.std.specs.Option.{option_and_then, option_copied, option_map_or}
+use Rattle.std.specs.Option.{option_copied, option_map_or}
 use Rattle.std.proofs.lemmas.Bool.{false≢true}
 use Rattle.std.proofs.lemmas.Slice.Eq.{bytes_eq-Decides}
 use Rattle.std.proofs.lemmas.Bool.Decides.{nat_tests}
@@ -12,33 +12,31 @@ use Rattle.blk_ptr.specs.declared.ptr.Ptr.{Ptr}
 use Rattle.blk_ptr.specs.declared.state.State.{State}
 use Rattle.blk_ptr.specs.declared.state.State.TheVariants.{Anon, Mru, MruGhost, Mfu, MfuGhost, L2Only}
 use Rattle.blk_ptr.specs.Key.{IsWellFormed, is_well_formed}
-use Rattle.blk_ptr.specs.Order.{digest_eq, key_cmp, key_eq}
+use Rattle.blk_ptr.specs.Order.{digest_eq, key_eq}
 use Rattle.blk_ptr.specs.State.{is_cached}
-use Rattle.blk_ptr.proofs.Keys.{key_eq-is, key_eq-same, key_eq-sym}
+use Rattle.blk_ptr.proofs.Keys.{key_eq-is, key_eq-same}
 use Rattle.arc_lists.proofs.Standing.{and_left, and_right, both}
 use Rattle.arc_lists.proofs.Tables.{All-item, cases_true, some_is}
 use Rattle.arc_core.specs.declared.entry.Entry.{Entry}
 use Rattle.arc_core.specs.declared.event.FailedAt.TheVariants as failed_at
-use Rattle.arc_core.specs.declared.event.Event.TheVariants.{Hit, Miss, Arrive, Fail, Drop}
+use Rattle.arc_core.specs.declared.event.Event.TheVariants.{Hit, Miss, Arrive, Fail}
 use Rattle.arc_core.specs.declared.event.Origin.TheVariants as origin
-use Rattle.arc_core.specs.PlainShard.{PlainShard, entry_is, entry_key, entry_of, held_by, is_at_rest, is_number, is_resident, is_unheld, numbers, resident_digest}
-use Rattle.arc_core.specs.Replay.{replay}
+use Rattle.arc_core.specs.PlainShard.{PlainShard, entry_is, entry_key, entry_of, is_at_rest, is_number, is_resident, is_unheld, numbers, resident_digest}
 use Rattle.arc_core.specs.Sound.{IsSound, IsSoundEntry, fits_state}
 use Rattle.arc_core.specs.Sparing.{IsSpared}
 use Rattle.arc_core.specs.Step.{after, arrived, hit_entry, holds, is_missing, is_without_bytes, legal, may_come_from, read_entry, reads}
 use Rattle.arc_core.proofs.Accesses.{accessed-keeps}
-use Rattle.arc_core.proofs.EntriesAfter.{entry_of-arrive, entry_of-arrive_other, entry_of-drop, entry_of-drop_other, entry_of-fail, entry_of-fail_other, entry_of-hit, entry_of-hit_other, phase-arrive, phase-drop, phase-fail, phase-hit, phase-miss}
+use Rattle.arc_core.proofs.EntriesAfter.{entry_of-arrive, entry_of-arrive_other, entry_of-fail, entry_of-fail_other, entry_of-hit, entry_of-hit_other, phase-arrive, phase-fail, phase-hit, phase-miss}
 use Rattle.arc_core.proofs.Soundness.{IsSound-after}
 use Rattle.arc_core.proofs.Sparing.{entry_of-miss, spared-miss, spared-same}
-use Rattle.trace_run.specs.declared.access.Access.{Access}
 use Rattle.trace_run.specs.declared.access.Access.TheVariants as access
 use Rattle.trace_run.specs.declared.access.KeptRead.{KeptRead}
 use Rattle.trace_run.specs.declared.caller_cache.CallerCache.TheInside.{Inside}
-use Rattle.trace_run.specs.Access.{access_of, events_of_drop, found}
-use Rattle.trace_run.specs.Blocks.{Blocks, block_of}
-use Rattle.trace_run.specs.CallerCache.{HasBlock, IsKept}
-use Rattle.trace_run.specs.PlainCache.{AreHeld, HasHolds, holds_key, holds_of_one, kept_read}
-use Rattle.trace_run.proofs.HoldLemmas.{HasHolds-arrive, HasHolds-drop, HasHolds-hit, HasHolds-spared, digest_of_resident, holds-more, none-of_one, index-of_one, resident-spared}
+use Rattle.trace_run.specs.Access.{access_of, found}
+use Rattle.trace_run.specs.Blocks.{Blocks, bytes_at}
+use Rattle.trace_run.specs.CallerCache.{HasBlock, IsCallerCache}
+use Rattle.trace_run.specs.PlainCache.{AreHeld, HasHolds, holds_key, kept_read}
+use Rattle.trace_run.proofs.HoldLemmas.{HasHolds-arrive, HasHolds-hit, HasHolds-spared, digest_of_resident, holds-more, none-of_one, index-of_one, resident-spared}
 
 -- ---- what an access says of the shard
 
@@ -134,12 +132,12 @@ AreHeld-after n k kept reads s u lt held spared counts own j = elim (cases_true 
 abbrev pub AreCached : Blocks → PlainShard → Type 0
 AreCached blocks s = (k : Key) (d : Digest) → resident_digest k s ≡ Some d → HasBlock k d blocks
 
-HasBlock-same : (k : Key) (d : Digest) (blocks others : Blocks) → block_of k others ≡ block_of k blocks → HasBlock k d blocks → HasBlock k d others
+HasBlock-same : (k : Key) (d : Digest) (blocks others : Blocks) → bytes_at k others ≡ bytes_at k blocks → HasBlock k d blocks → HasBlock k d others
 HasBlock-same k d blocks others same has = record { bytes = has.bytes; there = same ∙ has.there; size = has.size; digest = has.digest }
 
 pub AreCached-after : (k : Key) (blocks others : Blocks) (s u : PlainShard) → AreCached blocks s
     → ((j : Key) → key_eq j k ≡ false → IsSpared (entry_of j s) (entry_of j u))
-    → ((j : Key) → key_eq j k ≡ false → block_of j others ≡ block_of j blocks)
+    → ((j : Key) → key_eq j k ≡ false → bytes_at j others ≡ bytes_at j blocks)
     → ((d : Digest) → resident_digest k u ≡ Some d → HasBlock k d others) → AreCached others u
 AreCached-after k blocks others s u cached spared gets own j d there = elim (cases_true (key_eq j k)) [
   | inl same ↦
@@ -161,9 +159,9 @@ count-own k block kept =
 
 -- ---- a hit
 
-pub IsKept-hit : (c u : Inside) (k : Key) (t block : ℕ) (d : Digest) → IsKept c → resident_digest k c.shard.now ≡ Some d → u.caller ≡ c.caller → u.blocks ≡ c.blocks
-    → u.shard.now ≡ after c.shard.now (Hit c.caller k t) → u.kept.items ≡ c.kept.items ++ kept_read block (Some k) ∷ [] → IsKept u
-IsKept-hit c u k t block d keeps there caller blocks now kept =
+pub IsCallerCache-hit : (c u : Inside) (k : Key) (t block : ℕ) (d : Digest) → IsCallerCache c → resident_digest k c.shard.now ≡ Some d → u.caller ≡ c.caller → u.blocks ≡ c.blocks
+    → u.shard.now ≡ after c.shard.now (Hit c.caller k t) → u.kept.items ≡ c.kept.items ++ kept_read block (Some k) ∷ [] → IsCallerCache u
+IsCallerCache-hit c u k t block d keeps there caller blocks now kept =
     let s = c.shard.now in
     let n = c.caller in
     let some = resident-entry (entry_of k s) d there in
@@ -189,11 +187,11 @@ IsKept-hit c u k t block d keeps there caller blocks now kept =
 
 -- ---- a miss whose bytes arrive, or that fails
 
-pub IsKept-arrive : (c u : Inside) (k : Key) (t block : ℕ) (d : Digest) (bytes : List ℕ) (mid : PlainShard) → IsKept c → IsSound c.shard.now → IsWellFormed k → resident_digest k c.shard.now ≡ None
+pub IsCallerCache-arrive : (c u : Inside) (k : Key) (t block : ℕ) (d : Digest) (bytes : List ℕ) (mid : PlainShard) → IsCallerCache c → IsSound c.shard.now → IsWellFormed k → resident_digest k c.shard.now ≡ None
     → mid ≡ after c.shard.now (Miss c.caller k t) → u.caller ≡ c.caller → u.shard.now ≡ after mid (Arrive c.caller k d origin.Pool)
-    → HasBlock k d u.blocks → ((j : Key) → key_eq j k ≡ false → block_of j u.blocks ≡ block_of j c.blocks)
-    → u.kept.items ≡ c.kept.items ++ kept_read block (Some k) ∷ [] → IsKept u
-IsKept-arrive c u k t block d bytes mid keeps sound formed none missed caller now has gets kept =
+    → HasBlock k d u.blocks → ((j : Key) → key_eq j k ≡ false → bytes_at j u.blocks ≡ bytes_at j c.blocks)
+    → u.kept.items ≡ c.kept.items ++ kept_read block (Some k) ∷ [] → IsCallerCache u
+IsCallerCache-arrive c u k t block d bytes mid keeps sound formed none missed caller now has gets kept =
     let s = c.shard.now in
     let n = c.caller in
     let ok = miss-legal n t k c.kept.items s keeps.number sound keeps.held formed none in
@@ -218,9 +216,9 @@ IsKept-arrive c u k t block d bytes mid keeps sound formed none missed caller no
       idle = rw last_is (phase-arrive next n k d origin.Pool ∙ phase-miss s n t k ∙ keeps.idle);
     }
 
-pub IsKept-fail : (c u : Inside) (k : Key) (t : ℕ) (mid : PlainShard) → IsKept c → IsSound c.shard.now → IsWellFormed k → resident_digest k c.shard.now ≡ None
-    → mid ≡ after c.shard.now (Miss c.caller k t) → u.caller ≡ c.caller → u.shard.now ≡ after mid (Fail c.caller k failed_at.Pool) → u.blocks ≡ c.blocks → u.kept.items ≡ c.kept.items → IsKept u
-IsKept-fail c u k t mid keeps sound formed none missed caller now blocks kept =
+pub IsCallerCache-fail : (c u : Inside) (k : Key) (t : ℕ) (mid : PlainShard) → IsCallerCache c → IsSound c.shard.now → IsWellFormed k → resident_digest k c.shard.now ≡ None
+    → mid ≡ after c.shard.now (Miss c.caller k t) → u.caller ≡ c.caller → u.shard.now ≡ after mid (Fail c.caller k failed_at.Pool) → u.blocks ≡ c.blocks → u.kept.items ≡ c.kept.items → IsCallerCache u
+IsCallerCache-fail c u k t mid keeps sound formed none missed caller now blocks kept =
     let s = c.shard.now in
     let n = c.caller in
     let ok = miss-legal n t k c.kept.items s keeps.number sound keeps.held formed none in
@@ -263,8 +261,8 @@ fail-legal n t k s mid lt sound ok missed =
 
 -- ---- nothing happens to the shard
 
-pub IsKept-same : (c u : Inside) → IsKept c → u.caller ≡ c.caller → u.shard.now ≡ c.shard.now → u.kept.items ≡ c.kept.items → AreCached u.blocks c.shard.now → IsKept u
-IsKept-same c u keeps caller now kept cached = record {
+pub IsCallerCache-same : (c u : Inside) → IsCallerCache c → u.caller ≡ c.caller → u.shard.now ≡ c.shard.now → u.kept.items ≡ c.kept.items → AreCached u.blocks c.shard.now → IsCallerCache u
+IsCallerCache-same c u keeps caller now kept cached = record {
   number = rw caller keeps.number;
   cached = rw now cached;
   held = rw (caller, kept, now) keeps.held;
@@ -273,13 +271,13 @@ IsKept-same c u keeps caller now kept cached = record {
 
 -- the blocks with a block of a key that is not resident
 pub AreCached-inserted : (k : Key) (blocks others : Blocks) (s : PlainShard) → AreCached blocks s → resident_digest k s ≡ None
-    → ((j : Key) → key_eq j k ≡ false → block_of j others ≡ block_of j blocks) → AreCached others s
+    → ((j : Key) → key_eq j k ≡ false → bytes_at j others ≡ bytes_at j blocks) → AreCached others s
 AreCached-inserted k blocks others s cached none gets =
     AreCached-after k blocks others s s cached (λ j differs. spared-same (entry_of j s)) gets (λ d here. let nothing : None ≡ Some d = sym none ∙ here in cc)
 
 -- the blocks of what is resident, where others may be gone
 pub AreCached-swept : (blocks others : Blocks) (s : PlainShard) → AreCached blocks s
-    → ((k : Key) → IsSome (resident_digest k s) → block_of k others ≡ block_of k blocks) → AreCached others s
+    → ((k : Key) → IsSome (resident_digest k s) → bytes_at k others ≡ bytes_at k blocks) → AreCached others s
 AreCached-swept blocks others s cached keeps k d there = HasBlock-same k d blocks others (keeps k (ap is_some there)) (cached k d there)
 
 -- what is behind a reference that was found

@@ -1,8 +1,8 @@
 -- What one caller's cache keeps where kept reads are given back.
-use Rattle.std.proofs.Common.{◌≡◌, ℕ, zero, suc, ◌+◌, ◌-◌, ◌<◌, ◌≤◌, Bool, true, false, cond, not, ◌&&◌, ◌==◌, if◌then◌else◌, nat_lt, IsTrue, List, [], ◌∷◌, ◌++◌, length, Option, Some, None, is_some, IsSome, IfSome, option_map, ◌⊎◌, inl, inr, refl, sym, ap, subst, ◌∙◌, arith, take, drop, get_or, append_assoc, append-nil, add-one, drop-cons}
+use Rattle.std.proofs.Common.{◌≡◌, ℕ, suc, ◌+◌, ◌<◌, ◌≤◌, true, false, cond, not, ◌==◌, nat_lt, IsTrue, List, [], ◌∷◌, ◌++◌, length, Option, Some, None, is_some, IfSome, inl, inr, refl, sym, ap, subst, ◌∙◌, arith, take, drop, get_or, append_assoc, append-nil, add-one, drop-cons}
 use Rattle.std.proofs.Math.Seq.{take-suc}
 use Rattle.std.specs.Prelude.{count_by}
-use Rattle.std.specs.List.{AllByRecursion, find, list_all, position, position_or_len, remove}
+use Rattle.std.specs.List.{AllByRecursion, find, position, position_or_len, remove}
 use borrow.Author.Tests.{ltb-true}
 use Rattle.std.proofs.lemmas.List.Sums.{sum_by-cons}
 use Rattle.arc_core.specs.declared.event.Event.{Event}
@@ -15,16 +15,16 @@ use Rattle.std.proofs.lemmas.Bool.{false≢true}
 use Rattle.std.proofs.lemmas.Bool.Decides.{nat_tests}
 use Rattle.blk_ptr.specs.declared.digest.Digest.{Digest}
 use Rattle.blk_ptr.specs.declared.key.Key.{Key}
-use Rattle.blk_ptr.specs.Order.{key_cmp, key_eq, key_lt}
-use Rattle.blk_ptr.proofs.Keys.{key_eq-same, key_eq-sym, key_eq-lt}
-use Rattle.arc_lists.specs.ByKey.{IsAbove, IsRising, item_at}
+use Rattle.blk_ptr.specs.Order.{key_eq}
+use Rattle.blk_ptr.proofs.Keys.{key_eq-same, key_eq-lt}
+use Rattle.arc_lists.specs.ByKey.{IsRising, item_at}
 use Rattle.arc_lists.proofs.Standing.{both}
 use Rattle.arc_lists.proofs.Tables.{cases_true, item-above, some_is}
 use Rattle.arc_core.specs.declared.entry.Entry.{Entry}
 use Rattle.arc_core.specs.declared.event.Event.TheVariants.{Drop}
 use Rattle.arc_core.specs.declared.entry.Phase.TheVariants.{Idle}
 use Rattle.arc_core.specs.Operations.{IsAtRest}
-use Rattle.arc_core.specs.PlainShard.{PlainShard, entry_key, entry_of, is_at_rest, is_free, is_unheld, numbers, resident_digest}
+use Rattle.arc_core.specs.PlainShard.{PlainShard, entry_key, entry_of, is_free, numbers}
 use Rattle.arc_core.specs.Changes.{one_less}
 use Rattle.arc_core.specs.Replay.{replay}
 use Rattle.arc_core.specs.Sound.{IsSound}
@@ -35,9 +35,9 @@ use Rattle.arc_core.proofs.Sparing.{spared-same}
 use Rattle.trace_run.specs.declared.access.KeptRead.{KeptRead}
 use Rattle.trace_run.specs.declared.caller_cache.CallerCache.TheInside.{Inside}
 use Rattle.trace_run.specs.Access.{events_of_drop}
-use Rattle.trace_run.specs.Blocks.{Blocks, block_of}
-use Rattle.trace_run.specs.CallerCache.{HasBlock, IsKept}
-use Rattle.trace_run.specs.PlainCache.{AreHeld, HasHolds, holds_key, holds_of_one, kept_read}
+use Rattle.trace_run.specs.Blocks.{Blocks}
+use Rattle.trace_run.specs.CallerCache.{IsCallerCache}
+use Rattle.trace_run.specs.PlainCache.{AreHeld, HasHolds, holds_key}
 use Rattle.trace_run.proofs.CacheLemmas.{AreCached, AreCached-after, AreHeld-after, entry_is-at, number-test}
 use Rattle.trace_run.proofs.HoldLemmas.{HasHolds-drop, digest_of_resident, holds-more, index-of_one, unheld-of_one}
 
@@ -239,12 +239,12 @@ standing-all n (read ∷ reads) blocks s lt standing =
     let rest = standing-all n reads blocks next lt (standing-given n read.held (read ∷ reads) reads blocks s lt standing (less-first reads read)) in
     rw (replay-append s (events_of_drop n read.held) (events_of_drops n reads)) rest
 
-pub standing-of : (c : Inside) → IsKept c → IsStanding c.caller c.kept.items c.blocks c.shard.now
+pub standing-of : (c : Inside) → IsCallerCache c → IsStanding c.caller c.kept.items c.blocks c.shard.now
 standing-of c keeps = record { cached = keeps.cached; held = keeps.held; idle = keeps.idle }
 
-pub IsKept-standing : (c u : Inside) (reads : List KeptRead) (s : PlainShard) → IsKept c → u.caller ≡ c.caller → u.blocks ≡ c.blocks → u.shard.now ≡ s → u.kept.items ≡ reads
-    → IsStanding c.caller reads c.blocks s → IsKept u
-IsKept-standing c u reads s keeps caller blocks now kept standing = record {
+pub IsCallerCache-standing : (c u : Inside) (reads : List KeptRead) (s : PlainShard) → IsCallerCache c → u.caller ≡ c.caller → u.blocks ≡ c.blocks → u.shard.now ≡ s → u.kept.items ≡ reads
+    → IsStanding c.caller reads c.blocks s → IsCallerCache u
+IsCallerCache-standing c u reads s keeps caller blocks now kept standing = record {
   number = rw caller keeps.number;
   cached = rw (blocks, now) standing.cached;
   held = rw (caller, kept, now) standing.held;

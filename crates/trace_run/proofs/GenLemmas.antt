@@ -1,29 +1,32 @@
 -- No read of a made trace is refused.
-use Rattle.std.proofs.Common.{◌≡◌, ◌≢◌, ℕ, zero, suc, ◌+◌, ◌-◌, ◌*◌, ◌/◌, ◌%◌, ◌<◌, ◌≤◌, ◌^◌, Bool, true, false, cond, List, [], ◌∷◌, length, map, take, drop, replicate, Option, Some, None, ◌⊎◌, inl, inr, refl, sym, ap, subst, ◌∙◌, arith}
+use Rattle.std.proofs.Common.{◌≡◌, ℕ, zero, suc, ◌+◌, ◌-◌, ◌*◌, ◌%◌, ◌<◌, ◌≤◌, Bool, true, false, cond, List, [], ◌∷◌, length, map, replicate, Some, inl, inr, refl, sym, ap, subst, ◌∙◌, arith}
 use Rattle.std.specs.Prelude.{count_by, slice_get}
 use Rattle.std.specs.List.{AllByRecursion, list_any, range_with_len}
 use Rattle.std.proofs.lemmas.Bool.{false≢true}
-use Rattle.std.proofs.lemmas.Bool.Decides.{nat_tests}
 use Rattle.std.proofs.lemmas.List.{drop-replicate, length-replicate, take-replicate}
 use Rattle.std.proofs.lemmas.List.Sums.{sum_by-cons}
 use Rattle.arc_lists.proofs.Tables.{cases_true, some_is}
-use Rattle.blk_ptr.specs.declared.key.Key.{Key}
 use Rattle.blk_ptr.specs.declared.key.KeyFault.{KeyFault}
 use Rattle.blk_ptr.specs.declared.key.KeyFault.TheVariants as fault
 use Rattle.blk_ptr.specs.declared.ptr.Ptr.{Ptr}
-use Rattle.blk_ptr.specs.Key.{IsFirstFault, end_of}
+use Rattle.blk_ptr.specs.Key.{IsFirstFault}
 use Rattle.blk_ptr.specs.Ptr.{IsOf, range_of}
 use Rattle.trace_text.specs.declared.op.Op.{Op}
 use Rattle.trace_text.specs.declared.op.Op.TheVariants as ops
 use Rattle.trace_text.specs.declared.reply.Reply.{Reply}
 use Rattle.trace_text.specs.declared.reply.Reply.TheVariants.{Read, Kept, Dropped, Refused}
 use Rattle.trace_text.specs.declared.reply.Refusal.TheVariants as refusal
-use Rattle.trace_text.specs.declared.report.Report.{Report}
 use Rattle.trace_text.specs.declared.trace.Trace.{Trace}
 use Rattle.dbuf_state.specs.declared.window.Window.{Window}
-use Rattle.trace_text.specs.Generator.{IsGenerated, draw, empty_window, generated_block, generated_read, zero_digest}
-use Rattle.trace_run.specs.Answers.{Answers, AnswersRead, is_pool_fault, is_refusal}
-use Rattle.trace_run.specs.Outcome.{IsRun, PoolState, zero_pool}
+use Rattle.arc_core.specs.declared.config.Config.{Config}
+use Rattle.trace_text.specs.Generator.{IsGenerated, empty_window, generated_block, generated_read, generated_sizes, zero_digest}
+use Rattle.vdev_io.specs.declared.pool.Pool.{Ghosts}
+use Rattle.trace_run.specs.Answers.{Answers, AnswersAll, AnswersRead, is_pool_fault, is_refusal}
+use Rattle.trace_run.specs.Ends.{opening_of}
+use Rattle.trace_run.specs.Outcome.{generated}
+use Rattle.trace_run.specs.PlainRun.{report_of, report_with}
+use Rattle.trace_run.specs.PoolCalls.{Failed, Gave, MakesCalls, PoolCall}
+use Rattle.trace_run.proofs.PlainLemmas.{AllGive, plain-gives}
 
 -- ---- lists by their places
 
@@ -117,9 +120,9 @@ no-refusal blocks ptr (Refused (refusal.Mismatch digest)) made served_well answe
     absurd (answer.1.1.plain.1 (rw made.2 (of-zeros blocks made.0 made.1)))
 no-refusal blocks ptr (Refused (refusal.Key why)) made served_well answer =
     absurd (valid-key blocks made.0 why made.1 (subst (λ (p : Ptr). IsFirstFault (blocks * 512) p.key why) made.2 answer.1))
-no-refusal blocks ptr (Refused refusal.NoMemory) made served_well answer = absurd answer.1
+no-refusal blocks ptr (Refused refusal.NoMemory) made served_well answer = absurd answer
 no-refusal blocks ptr (Refused (refusal.Range end size)) made served_well answer = absurd (omega (arith, answer.0, answer.2))
-no-refusal blocks ptr (Refused (refusal.NoHold block)) made served_well answer = absurd answer.1
+no-refusal blocks ptr (Refused (refusal.NoHold block)) made served_well answer = absurd answer
 
 answered : (seed blocks ops : ℕ) (trace : Trace) (earlier : List Op) (replied : List Reply) (op : Op) (reply : Reply) → IsGenerated seed blocks ops trace → IsMadeRead op → is_pool_fault reply ≡ false
     → Answers (blocks * 512) (Some (replicate (blocks * 512) 0)) trace.blocks earlier replied op reply → is_refusal reply ≡ false
@@ -135,12 +138,35 @@ not-counted replies k reply none at = elim (cases_true (is_pool_fault reply)) [
   | inr fair ↦ fair
 ]
 
-pub none-refused : (seed blocks ops : ℕ) (trace : Trace) (report : Report) (after : PoolState) → IsGenerated seed blocks ops trace → IsRun (zero_pool blocks) after trace report → after.faults ≡ 0
-    → list_any is_refusal report.replies ≡ false
-none-refused seed blocks count trace report after made run fair =
-    let none : count_by is_pool_fault report.replies ≡ 0 = omega (arith, run.faults (omega arith), fair) in
-    none-any is_refusal report.replies (λ k reply at.
-    let lt : k < length trace.ops = omega (arith, get-within report.replies k reply at, run.answers.all) in
+pub none-refused : (seed blocks ops : ℕ) (trace : Trace) (replies : List Reply) → IsGenerated seed blocks ops trace
+    → AnswersAll (blocks * 512) (Some (replicate (blocks * 512) 0)) trace.blocks trace.ops replies → count_by is_pool_fault replies ≡ 0 → list_any is_refusal replies ≡ false
+none-refused seed blocks count trace replies made answers none =
+    none-any is_refusal replies (λ k reply at.
+    let lt : k < length trace.ops = omega (arith, get-within replies k reply at, answers.all) in
     let some = get-some trace.ops k lt in
     answered seed blocks count trace _ _ some.0 reply made (all-at IsMadeRead trace.ops k some.0 (made-reads seed blocks count trace made) some.1)
-    (not-counted report.replies k reply none at) (run.answers.each k some.0 reply some.1 at))
+    (not-counted replies k reply none at) (answers.each k some.0 reply some.1 at))
+
+-- ---- no read of its pool fails
+
+pub never-failed : {P : Type 0} (pool : Ghosts P) → ((p : P) → pool.faults p ≡ 0) → (calls : List PoolCall) (a b : P) → MakesCalls pool calls a b → AllGive calls
+never-failed pool none [] a b made = tt
+never-failed pool none (Gave ∷ calls) a b made = (refl, never-failed pool none calls made.0 b made.2)
+never-failed pool none (Failed ∷ calls) a b made =
+    let one : pool.faults made.0 ≡ pool.faults a + 1 = made.1.faults.more (omega (arith, none a)) in
+    absurd (omega (arith, one, none a, none made.0))
+
+-- ---- the report is a function of the three numbers
+
+pub made-trace : (seed blocks ops : ℕ) (trace : Trace) → IsGenerated seed blocks ops trace → trace ≡ generated seed blocks ops
+made-trace seed blocks ops trace made =
+    let first : Trace = record { config = generated_sizes blocks; blocks = trace.blocks; ops = trace.ops } in
+    ap (λ (c : Config). record first { config = c }) made.config
+    ∙ ap (λ (bs : List Ptr). record first { blocks = bs }) made.blocks
+    ∙ ap (λ (os : List Op). record (generated seed blocks ops) { ops = os }) made.ops
+
+pub made-report : (seed blocks ops : ℕ) (trace : Trace) (image : List ℕ) (calls : List PoolCall) → trace ≡ generated seed blocks ops → AllGive calls
+    → report_of trace image calls ≡ report_of (generated seed blocks ops) image []
+made-report seed blocks ops trace image calls is give =
+    ap (λ (l : List Reply). report_with trace l) (plain-gives image trace.config.shards trace.blocks (λ shard. opening_of trace.config) [] trace.ops calls give)
+    ∙ ap (λ (t : Trace). report_of t image []) is

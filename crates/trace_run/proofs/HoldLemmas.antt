@@ -1,32 +1,26 @@
 -- The holds of one caller through the events of its reads.
-use Rattle.std.proofs.Common.{◌≡◌, ℕ, zero, suc, ◌+◌, ◌-◌, ◌<◌, ◌≤◌, Bool, true, false, cond, not, ◌&&◌, ◌==◌, IsTrue, List, [], ◌∷◌, ◌++◌, length, set, get_or, if◌then◌else◌, Option, Some, None, is_some, IsSome, ◌⊎◌, inl, inr, refl, sym, ap, subst, ◌∙◌, arith}
+use Rattle.std.proofs.Common.{◌≡◌, ℕ, zero, suc, ◌+◌, ◌-◌, ◌<◌, Bool, true, false, cond, ◌&&◌, ◌==◌, IsTrue, List, [], ◌∷◌, ◌++◌, length, set, if◌then◌else◌, Option, Some, None, inl, inr, refl, sym, ap, subst, ◌∙◌, arith}
 use Rattle.std.specs.Prelude.{count_by, slice_index, slice_set}
 use Rattle.std.specs.List.{list_all}
-use Rattle.std.specs.Option.{option_and_then, option_map_or}
+use Rattle.std.specs.Option.{option_and_then}
 use Rattle.std.proofs.lemmas.Bool.{eqb-true, false≢true}
-use Rattle.std.proofs.lemmas.Bool.Decides.{nat_tests}
 use Rattle.std.proofs.lemmas.List.{get_or-set_same, set-set}
 use Rattle.std.proofs.Math.ListN.{length-set}
 use Rattle.std.proofs.lemmas.List.Folds.{list_all_at}
 use Rattle.std.proofs.lemmas.List.Sums.{sum_by-append}
 use Rattle.blk_ptr.specs.declared.digest.Digest.{Digest}
 use Rattle.blk_ptr.specs.declared.key.Key.{Key}
-use Rattle.blk_ptr.specs.declared.state.State.{State}
-use Rattle.blk_ptr.specs.declared.state.State.TheVariants.{Anon, Mru, MruGhost, Mfu, MfuGhost, L2Only}
-use Rattle.blk_ptr.specs.Order.{key_eq}
 use Rattle.blk_ptr.specs.State.{is_cached}
-use Rattle.blk_ptr.proofs.Keys.{key_eq-is, key_eq-same, key_eq-sym}
 use Rattle.arc_lists.proofs.Standing.{and_left, and_right, both}
-use Rattle.arc_lists.proofs.Tables.{cases_true, some_is}
+use Rattle.arc_lists.proofs.Tables.{cases_true}
 use Rattle.arc_core.specs.declared.entry.Entry.{Entry}
-use Rattle.arc_core.specs.PlainShard.{PlainShard, entry_of, held_by, is_at_rest, is_free, is_resident, is_unheld, no_holds, numbers, resident_digest}
-use Rattle.arc_core.specs.Changes.{one_less, one_more}
-use Rattle.arc_core.specs.Rules.{access}
+use Rattle.arc_core.specs.PlainShard.{is_at_rest, is_free, is_resident, is_unheld, no_holds, numbers}
+use Rattle.arc_core.specs.Changes.{one_less}
 use Rattle.arc_core.specs.Sparing.{IsSpared}
 use Rattle.arc_core.specs.Step.{arrived, entry_to_read, hit_entry}
 use Rattle.arc_core.proofs.Accesses.{accessed-keeps}
 use Rattle.trace_run.specs.declared.access.KeptRead.{KeptRead}
-use Rattle.trace_run.specs.PlainCache.{AreHeld, HasHolds, holds_key, holds_of_one, kept_read}
+use Rattle.trace_run.specs.PlainCache.{HasHolds, holds_key, holds_of_one}
 
 -- ---- counts of holds
 

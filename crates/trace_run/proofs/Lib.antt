@@ -5,6 +5,7 @@ pub mod DropLemmas
 pub mod GenLemmas
 pub mod HoldLemmas
 pub mod OutcomeLemmas
+pub mod PlainLemmas
 pub mod ReportLemmas
 pub mod RunLemmas
 pub mod ServeLemmas

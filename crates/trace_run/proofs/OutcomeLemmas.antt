@@ -1,11 +1,12 @@
 -- What a status says that came behind the words.
-use Rattle.std.proofs.Common.{◌≡◌, ℕ, List, Bool, true, false, Option, Some, None, is_some, IfSome, sym, ◌∙◌, arith}
+use Rattle.std.proofs.Common.{◌≡◌, ℕ, List, false, Option, Some, None, is_some, IfSome, arith}
 use Rattle.std.proofs.lemmas.Bool.{false≢true}
 use Rattle.trace_text.specs.declared.report.Report.{Report}
 use Rattle.trace_run.specs.declared.status.Status.{Status}
 use Rattle.trace_run.specs.declared.status.Status.TheVariants as statuses
 use Rattle.trace_run.specs.declared.words.Command.{Command}
-use Rattle.trace_run.specs.Outcome.{AnswersSink, AnswersWords, IfUsage, IsDelivered, IsGenStatus, StreamState, has_report}
+use Rattle.trace_run.specs.Outcome.{AnswersSink, AnswersWords, IfUsage, IsDelivered, IsGenStatus, has_report}
+use Rattle.trace_run.specs.States.{StreamState}
 use Rattle.trace_run.specs.Words.{IsCommand}
 
 pub words_accepted : (words : List (List ℕ)) (did : Command → Type 0) (status : Status) → IfUsage status ⊥ → (command : Command) → IsCommand words command → did command

@@ -1,5 +1,5 @@
 -- One caller's history holds every call of its operations once.
-use Rattle.std.proofs.Common.{◌≡◌, ◌≢◌, ℕ, zero, suc, ◌+◌, ◌<◌, ◌≤◌, Bool, true, false, not, ◌&&◌, ◌==◌, ◌||◌, nat_lt, if◌then◌else◌, IsTrue, List, [], ◌∷◌, ◌++◌, length, map, Option, Some, None, IfSome, ◌⊎◌, inl, inr, refl, sym, ap, subst, ◌∙◌, arith, append_assoc, append-nil}
+use Rattle.std.proofs.Common.{◌≡◌, ◌≢◌, ℕ, ◌<◌, Bool, true, false, ◌==◌, ◌||◌, nat_lt, IsTrue, List, [], ◌∷◌, ◌++◌, Option, Some, None, IfSome, inl, inr, refl, sym, ap, subst, ◌∙◌, arith, append_assoc, append-nil}
 use Rattle.std.specs.Prelude.{filter, slice_get, slice_index_or}
 use Rattle.std.specs.List.{AllByRecursion}
 use Rattle.std.specs.Option.{option_map_or}
@@ -10,29 +10,25 @@ use Rattle.blk_ptr.specs.declared.digest.Digest.{Digest}
 use Rattle.blk_ptr.specs.declared.key.Key.{Key}
 use Rattle.blk_ptr.specs.declared.ptr.Ptr.{Ptr}
 use Rattle.blk_ptr.specs.Order.{digest_eq}
-use Rattle.arc_lists.proofs.Tables.{cases_true, some_is}
-use Rattle.arc_core.specs.declared.entry.Entry.{Entry}
+use Rattle.arc_lists.proofs.Tables.{cases_true}
 use Rattle.arc_core.specs.declared.event.Event.{Event}
 use Rattle.arc_core.specs.declared.event.Event.TheVariants as event
 use Rattle.arc_core.specs.declared.config.Config.{Config}
-use Rattle.arc_core.specs.declared.served.Served.{Served}
-use Rattle.arc_core.specs.declared.served.Served.TheVariants as served
-use Rattle.arc_core.specs.Operations.{Act, Reads, Keeps, GivesBack, Fails, AreEvents, HoldEveryCallOnce, IsHonest, Moment, StandsFor, Tell, act_key, actor_of, acts_in, are_passes_placed, has_its_number, is_of_feed, is_pass, moments, number_of, own_moments}
+use Rattle.arc_core.specs.Operations.{Act, Reads, Keeps, GivesBack, Fails, HoldEveryCallOnce, Moment, StandsFor, Tell, act_key, actor_of, acts_in, are_passes_placed, has_its_number, is_of_feed, is_pass, moments, number_of, own_moments}
 use Rattle.arc_core.specs.PlainShard.{PlainShard, entry_is, entry_of, keeps_digest, resident_digest}
 use Rattle.arc_core.specs.Replay.{replay}
 use Rattle.arc_core.specs.Step.{after}
 use Rattle.trace_text.specs.declared.op.Op.{Op}
 use Rattle.trace_text.specs.declared.op.Op.TheVariants as ops
 use Rattle.trace_text.specs.declared.reply.Reply.{Reply}
-use Rattle.trace_text.specs.declared.reply.Reply.TheVariants.{Read, Kept, Dropped, Refused}
-use Rattle.trace_text.specs.declared.reply.Refusal.TheVariants as refusal
 use Rattle.trace_run.specs.declared.access.Access.{Access}
 use Rattle.trace_run.specs.declared.access.Access.TheVariants as access
 use Rattle.trace_run.specs.declared.access.KeptRead.{KeptRead}
 use Rattle.trace_run.specs.Access.{AsksPool, access_of, events_of_answered, events_of_drop, events_of_refused, found, held_key, source_of}
 use Rattle.trace_run.specs.Acts.{acts_of, acts_of_all, acts_of_caller, acts_of_drop, acts_of_dropping, acts_of_drops, acts_of_hold, acts_of_read}
 use Rattle.trace_run.specs.OneCaller.{AreFoundAs, IsFoundAs, NamesSource, events_of, events_of_all, events_of_dropping, events_of_drops, events_of_hold, events_of_read, kept_after, kept_after_all, oldest_key, one_caller_history}
-use Rattle.trace_run.specs.Tally.{caller_of}
+use Rattle.trace_run.specs.Effects.{Effect, Answered, GivenBack, PoolRefused, NoEffect, effect_of}
+use Rattle.trace_run.specs.Lines.{caller_of}
 use Rattle.trace_run.proofs.CacheLemmas.{access-hit, resident-entry}
 
 -- ---- lists of acts and of moments
@@ -96,48 +92,38 @@ tell-drop : (n : ℕ) (held : Option Key) (s : PlainShard) → Tell (acts_of_dro
 tell-drop n None s = refl
 tell-drop n (Some key) s = Tell-one (GivesBack n key) _ (record { events = refl; digests = (tt, tt) })
 
-tell-read : (n t : ℕ) (s : PlainShard) (ptr : Ptr) (reply : Reply) → NamesSource (access_of s ptr) reply → Tell (acts_of_read n t ptr reply) (moments s (events_of_read n t s ptr reply))
-tell-read n t s ptr (Read served digest shown) named = Tell-one (Reads n t ptr served) _ (rw named (stands-read n t s ptr (access_of s ptr) refl))
-tell-read n t s ptr (Kept served) named = refl
-tell-read n t s ptr Dropped named = refl
-tell-read n t s ptr (Refused refusal.PoolFault) named = Tell-one (Fails n t ptr) _ (stands-refused n t s ptr (access_of s ptr) refl named)
-tell-read n t s ptr (Refused (refusal.Mismatch digest)) named = Tell-one (Fails n t ptr) _ (stands-refused n t s ptr (access_of s ptr) refl named)
-tell-read n t s ptr (Refused (refusal.Key fault)) named = refl
-tell-read n t s ptr (Refused refusal.NoMemory) named = refl
-tell-read n t s ptr (Refused (refusal.Range end size)) named = refl
-tell-read n t s ptr (Refused (refusal.NoHold block)) named = refl
+tell-read : (n t : ℕ) (s : PlainShard) (ptr : Ptr) (e : Effect) → NamesSource (access_of s ptr) e → Tell (acts_of_read n t ptr e) (moments s (events_of_read n t s ptr e))
+tell-read n t s ptr (Answered from) named = Tell-one (Reads n t ptr from) _ (rw named (stands-read n t s ptr (access_of s ptr) refl))
+tell-read n t s ptr GivenBack named = refl
+tell-read n t s ptr (PoolRefused call) named = Tell-one (Fails n t ptr) _ (stands-refused n t s ptr (access_of s ptr) refl named)
+tell-read n t s ptr NoEffect named = refl
 
-tell-hold : (n t : ℕ) (s : PlainShard) (ptr : Ptr) (reply : Reply) → NamesSource (access_of s ptr) reply → Tell (acts_of_hold n t ptr reply) (moments s (events_of_hold n t s ptr reply))
-tell-hold n t s ptr (Read served digest shown) named = refl
-tell-hold n t s ptr (Kept served) named = Tell-one (Keeps n t ptr served) _ (rw named (stands-hold n t s ptr (access_of s ptr) refl))
-tell-hold n t s ptr Dropped named = refl
-tell-hold n t s ptr (Refused refusal.PoolFault) named = Tell-one (Fails n t ptr) _ (stands-refused n t s ptr (access_of s ptr) refl named)
-tell-hold n t s ptr (Refused (refusal.Mismatch digest)) named = Tell-one (Fails n t ptr) _ (stands-refused n t s ptr (access_of s ptr) refl named)
-tell-hold n t s ptr (Refused (refusal.Key fault)) named = refl
-tell-hold n t s ptr (Refused refusal.NoMemory) named = refl
-tell-hold n t s ptr (Refused (refusal.Range end size)) named = refl
-tell-hold n t s ptr (Refused (refusal.NoHold block)) named = refl
+tell-hold : (n t : ℕ) (s : PlainShard) (ptr : Ptr) (e : Effect) → NamesSource (access_of s ptr) e → Tell (acts_of_hold n t ptr e) (moments s (events_of_hold n t s ptr e))
+tell-hold n t s ptr (Answered from) named = Tell-one (Keeps n t ptr from) _ (rw named (stands-hold n t s ptr (access_of s ptr) refl))
+tell-hold n t s ptr GivenBack named = refl
+tell-hold n t s ptr (PoolRefused call) named = Tell-one (Fails n t ptr) _ (stands-refused n t s ptr (access_of s ptr) refl named)
+tell-hold n t s ptr NoEffect named = refl
 
-tell-dropping : (n x : ℕ) (kept : List KeptRead) (s : PlainShard) (reply : Reply) → Tell (acts_of_dropping n x kept reply) (moments s (events_of_dropping n x kept reply))
-tell-dropping n x kept s (Read served digest shown) = refl
-tell-dropping n x kept s (Kept served) = refl
-tell-dropping n x kept s Dropped = tell-drop n (oldest_key x kept) s
-tell-dropping n x kept s (Refused why) = refl
+tell-dropping : (n x : ℕ) (kept : List KeptRead) (s : PlainShard) (e : Effect) → Tell (acts_of_dropping n x kept e) (moments s (events_of_dropping n x kept e))
+tell-dropping n x kept s (Answered from) = refl
+tell-dropping n x kept s GivenBack = tell-drop n (oldest_key x kept) s
+tell-dropping n x kept s (PoolRefused call) = refl
+tell-dropping n x kept s NoEffect = refl
 
 tell-of : (blocks : List Ptr) (s : PlainShard) (kept : List KeptRead) (op : Op) (reply : Reply) → IsFoundAs blocks s op reply → Tell (acts_of blocks kept op reply) (moments s (events_of blocks s kept op reply))
 tell-of blocks s kept (ops.Read n t x window) reply named = go (slice_get blocks x) named
   where
-    go : (o : Option Ptr) → IfSome o (λ ptr. NamesSource (access_of s ptr) reply)
-        → Tell (option_map_or (λ ptr. acts_of_read n t ptr reply) o []) (moments s (option_map_or (λ ptr. events_of_read n t s ptr reply) o []))
+    go : (o : Option Ptr) → IfSome o (λ ptr. NamesSource (access_of s ptr) (effect_of reply))
+        → Tell (option_map_or (λ ptr. acts_of_read n t ptr (effect_of reply)) o []) (moments s (option_map_or (λ ptr. events_of_read n t s ptr (effect_of reply)) o []))
     go None named = refl
-    go (Some ptr) named = tell-read n t s ptr reply named
+    go (Some ptr) named = tell-read n t s ptr (effect_of reply) named
 tell-of blocks s kept (ops.Hold n t x) reply named = go (slice_get blocks x) named
   where
-    go : (o : Option Ptr) → IfSome o (λ ptr. NamesSource (access_of s ptr) reply)
-        → Tell (option_map_or (λ ptr. acts_of_hold n t ptr reply) o []) (moments s (option_map_or (λ ptr. events_of_hold n t s ptr reply) o []))
+    go : (o : Option Ptr) → IfSome o (λ ptr. NamesSource (access_of s ptr) (effect_of reply))
+        → Tell (option_map_or (λ ptr. acts_of_hold n t ptr (effect_of reply)) o []) (moments s (option_map_or (λ ptr. events_of_hold n t s ptr (effect_of reply)) o []))
     go None named = refl
-    go (Some ptr) named = tell-hold n t s ptr reply named
-tell-of blocks s kept (ops.Drop n x) reply named = tell-dropping n x kept s reply
+    go (Some ptr) named = tell-hold n t s ptr (effect_of reply) named
+tell-of blocks s kept (ops.Drop n x) reply named = tell-dropping n x kept s (effect_of reply)
 
 -- ---- the moments of all operations
 
@@ -185,7 +171,7 @@ all-append : {X : Type 0} (P : X → Type 0) (xs ys : List X) → AllByRecursion
 all-append P [] ys first rest = rest
 all-append P (x ∷ xs) ys first rest = (first.0, all-append P xs ys first.1 rest)
 
-filter-all : {X : Type 0} (p : X → Bool) (xs : List X) → AllByRecursion (λ x. p x ≡ true) xs → filter p xs ≡ xs
+pub filter-all : {X : Type 0} (p : X → Bool) (xs : List X) → AllByRecursion (λ x. p x ≡ true) xs → filter p xs ≡ xs
 filter-all p [] all = refl
 filter-all {X} p (x ∷ xs) all = rw all.0 (ap (λ (l : List X). x ∷ l) (filter-all p xs all.1))
 
@@ -211,46 +197,36 @@ mine-refused n t ptr access.Hit = tt
 mine-refused n t ptr (access.Past kept) = ((refl, refl, refl), tt)
 mine-refused n t ptr access.Miss = ((refl, refl, refl), ((refl, refl, refl), tt))
 
-mine-read : (n t : ℕ) (s : PlainShard) (ptr : Ptr) (reply : Reply) → AllByRecursion (IsMine n) (events_of_read n t s ptr reply)
-mine-read n t s ptr (Read served digest shown) = all-append (IsMine n) (events_of_answered n t ptr (access_of s ptr)) _ (mine-answered n t ptr (access_of s ptr)) (mine-drop n (held_key ptr (access_of s ptr)))
-mine-read n t s ptr (Kept served) = tt
-mine-read n t s ptr Dropped = tt
-mine-read n t s ptr (Refused refusal.PoolFault) = mine-refused n t ptr (access_of s ptr)
-mine-read n t s ptr (Refused (refusal.Mismatch digest)) = mine-refused n t ptr (access_of s ptr)
-mine-read n t s ptr (Refused (refusal.Key fault)) = tt
-mine-read n t s ptr (Refused refusal.NoMemory) = tt
-mine-read n t s ptr (Refused (refusal.Range end size)) = tt
-mine-read n t s ptr (Refused (refusal.NoHold block)) = tt
+mine-read : (n t : ℕ) (s : PlainShard) (ptr : Ptr) (e : Effect) → AllByRecursion (IsMine n) (events_of_read n t s ptr e)
+mine-read n t s ptr (Answered from) = all-append (IsMine n) (events_of_answered n t ptr (access_of s ptr)) _ (mine-answered n t ptr (access_of s ptr)) (mine-drop n (held_key ptr (access_of s ptr)))
+mine-read n t s ptr GivenBack = tt
+mine-read n t s ptr (PoolRefused call) = mine-refused n t ptr (access_of s ptr)
+mine-read n t s ptr NoEffect = tt
 
-mine-hold : (n t : ℕ) (s : PlainShard) (ptr : Ptr) (reply : Reply) → AllByRecursion (IsMine n) (events_of_hold n t s ptr reply)
-mine-hold n t s ptr (Read served digest shown) = tt
-mine-hold n t s ptr (Kept served) = mine-answered n t ptr (access_of s ptr)
-mine-hold n t s ptr Dropped = tt
-mine-hold n t s ptr (Refused refusal.PoolFault) = mine-refused n t ptr (access_of s ptr)
-mine-hold n t s ptr (Refused (refusal.Mismatch digest)) = mine-refused n t ptr (access_of s ptr)
-mine-hold n t s ptr (Refused (refusal.Key fault)) = tt
-mine-hold n t s ptr (Refused refusal.NoMemory) = tt
-mine-hold n t s ptr (Refused (refusal.Range end size)) = tt
-mine-hold n t s ptr (Refused (refusal.NoHold block)) = tt
+mine-hold : (n t : ℕ) (s : PlainShard) (ptr : Ptr) (e : Effect) → AllByRecursion (IsMine n) (events_of_hold n t s ptr e)
+mine-hold n t s ptr (Answered from) = mine-answered n t ptr (access_of s ptr)
+mine-hold n t s ptr GivenBack = tt
+mine-hold n t s ptr (PoolRefused call) = mine-refused n t ptr (access_of s ptr)
+mine-hold n t s ptr NoEffect = tt
 
-mine-dropping : (n x : ℕ) (kept : List KeptRead) (reply : Reply) → AllByRecursion (IsMine n) (events_of_dropping n x kept reply)
-mine-dropping n x kept (Read served digest shown) = tt
-mine-dropping n x kept (Kept served) = tt
-mine-dropping n x kept Dropped = mine-drop n (oldest_key x kept)
-mine-dropping n x kept (Refused why) = tt
+mine-dropping : (n x : ℕ) (kept : List KeptRead) (e : Effect) → AllByRecursion (IsMine n) (events_of_dropping n x kept e)
+mine-dropping n x kept (Answered from) = tt
+mine-dropping n x kept GivenBack = mine-drop n (oldest_key x kept)
+mine-dropping n x kept (PoolRefused call) = tt
+mine-dropping n x kept NoEffect = tt
 
 mine-of : (blocks : List Ptr) (s : PlainShard) (kept : List KeptRead) (op : Op) (reply : Reply) → AllByRecursion (IsMine (caller_of op)) (events_of blocks s kept op reply)
 mine-of blocks s kept (ops.Read n t x window) reply = go (slice_get blocks x)
   where
-    go : (o : Option Ptr) → AllByRecursion (IsMine n) (option_map_or (λ ptr. events_of_read n t s ptr reply) o [])
+    go : (o : Option Ptr) → AllByRecursion (IsMine n) (option_map_or (λ ptr. events_of_read n t s ptr (effect_of reply)) o [])
     go None = tt
-    go (Some ptr) = mine-read n t s ptr reply
+    go (Some ptr) = mine-read n t s ptr (effect_of reply)
 mine-of blocks s kept (ops.Hold n t x) reply = go (slice_get blocks x)
   where
-    go : (o : Option Ptr) → AllByRecursion (IsMine n) (option_map_or (λ ptr. events_of_hold n t s ptr reply) o [])
+    go : (o : Option Ptr) → AllByRecursion (IsMine n) (option_map_or (λ ptr. events_of_hold n t s ptr (effect_of reply)) o [])
     go None = tt
-    go (Some ptr) = mine-hold n t s ptr reply
-mine-of blocks s kept (ops.Drop n x) reply = mine-dropping n x kept reply
+    go (Some ptr) = mine-hold n t s ptr (effect_of reply)
+mine-of blocks s kept (ops.Drop n x) reply = mine-dropping n x kept (effect_of reply)
 
 mine-all : (n : ℕ) (blocks : List Ptr) (s : PlainShard) (kept : List KeptRead) (os : List Op) (replies : List Reply) → AllByRecursion (λ op. caller_of op ≡ n) os
     → AllByRecursion (IsMine n) (events_of_all blocks s kept os replies)
@@ -273,46 +249,36 @@ act-drop : (n : ℕ) (held : Option Key) → AllByRecursion (λ act. actor_of ac
 act-drop n None = tt
 act-drop n (Some key) = (refl, tt)
 
-act-read : (n t : ℕ) (ptr : Ptr) (reply : Reply) → AllByRecursion (λ act. actor_of act ≡ n) (acts_of_read n t ptr reply)
-act-read n t ptr (Read served digest shown) = (refl, tt)
-act-read n t ptr (Kept served) = tt
-act-read n t ptr Dropped = tt
-act-read n t ptr (Refused refusal.PoolFault) = (refl, tt)
-act-read n t ptr (Refused (refusal.Mismatch digest)) = (refl, tt)
-act-read n t ptr (Refused (refusal.Key fault)) = tt
-act-read n t ptr (Refused refusal.NoMemory) = tt
-act-read n t ptr (Refused (refusal.Range end size)) = tt
-act-read n t ptr (Refused (refusal.NoHold block)) = tt
+act-read : (n t : ℕ) (ptr : Ptr) (e : Effect) → AllByRecursion (λ act. actor_of act ≡ n) (acts_of_read n t ptr e)
+act-read n t ptr (Answered from) = (refl, tt)
+act-read n t ptr GivenBack = tt
+act-read n t ptr (PoolRefused call) = (refl, tt)
+act-read n t ptr NoEffect = tt
 
-act-hold : (n t : ℕ) (ptr : Ptr) (reply : Reply) → AllByRecursion (λ act. actor_of act ≡ n) (acts_of_hold n t ptr reply)
-act-hold n t ptr (Read served digest shown) = tt
-act-hold n t ptr (Kept served) = (refl, tt)
-act-hold n t ptr Dropped = tt
-act-hold n t ptr (Refused refusal.PoolFault) = (refl, tt)
-act-hold n t ptr (Refused (refusal.Mismatch digest)) = (refl, tt)
-act-hold n t ptr (Refused (refusal.Key fault)) = tt
-act-hold n t ptr (Refused refusal.NoMemory) = tt
-act-hold n t ptr (Refused (refusal.Range end size)) = tt
-act-hold n t ptr (Refused (refusal.NoHold block)) = tt
+act-hold : (n t : ℕ) (ptr : Ptr) (e : Effect) → AllByRecursion (λ act. actor_of act ≡ n) (acts_of_hold n t ptr e)
+act-hold n t ptr (Answered from) = (refl, tt)
+act-hold n t ptr GivenBack = tt
+act-hold n t ptr (PoolRefused call) = (refl, tt)
+act-hold n t ptr NoEffect = tt
 
-act-dropping : (n x : ℕ) (kept : List KeptRead) (reply : Reply) → AllByRecursion (λ act. actor_of act ≡ n) (acts_of_dropping n x kept reply)
-act-dropping n x kept (Read served digest shown) = tt
-act-dropping n x kept (Kept served) = tt
-act-dropping n x kept Dropped = act-drop n (oldest_key x kept)
-act-dropping n x kept (Refused why) = tt
+act-dropping : (n x : ℕ) (kept : List KeptRead) (e : Effect) → AllByRecursion (λ act. actor_of act ≡ n) (acts_of_dropping n x kept e)
+act-dropping n x kept (Answered from) = tt
+act-dropping n x kept GivenBack = act-drop n (oldest_key x kept)
+act-dropping n x kept (PoolRefused call) = tt
+act-dropping n x kept NoEffect = tt
 
 act-of : (blocks : List Ptr) (kept : List KeptRead) (op : Op) (reply : Reply) → AllByRecursion (λ act. actor_of act ≡ caller_of op) (acts_of blocks kept op reply)
 act-of blocks kept (ops.Read n t x window) reply = go (slice_get blocks x)
   where
-    go : (o : Option Ptr) → AllByRecursion (λ act. actor_of act ≡ n) (option_map_or (λ ptr. acts_of_read n t ptr reply) o [])
+    go : (o : Option Ptr) → AllByRecursion (λ act. actor_of act ≡ n) (option_map_or (λ ptr. acts_of_read n t ptr (effect_of reply)) o [])
     go None = tt
-    go (Some ptr) = act-read n t ptr reply
+    go (Some ptr) = act-read n t ptr (effect_of reply)
 act-of blocks kept (ops.Hold n t x) reply = go (slice_get blocks x)
   where
-    go : (o : Option Ptr) → AllByRecursion (λ act. actor_of act ≡ n) (option_map_or (λ ptr. acts_of_hold n t ptr reply) o [])
+    go : (o : Option Ptr) → AllByRecursion (λ act. actor_of act ≡ n) (option_map_or (λ ptr. acts_of_hold n t ptr (effect_of reply)) o [])
     go None = tt
-    go (Some ptr) = act-hold n t ptr reply
-act-of blocks kept (ops.Drop n x) reply = act-dropping n x kept reply
+    go (Some ptr) = act-hold n t ptr (effect_of reply)
+act-of blocks kept (ops.Drop n x) reply = act-dropping n x kept (effect_of reply)
 
 act-all : (n : ℕ) (blocks : List Ptr) (kept : List KeptRead) (os : List Op) (replies : List Reply) → AllByRecursion (λ op. caller_of op ≡ n) os
     → AllByRecursion (λ act. actor_of act ≡ n) (acts_of_all blocks kept os replies)
@@ -352,11 +318,11 @@ own-moments n ms mine = filter-all _ ms (all-map (λ m. IsMine n m.event) _ ms (
 no-moments : (n other : ℕ) (ms : List Moment) → n ≢ other → AllByRecursion (λ m. IsMine n m.event) ms → own_moments other ms ≡ []
 no-moments n other ms differs mine = filter-none _ ms (all-map (λ m. IsMine n m.event) _ ms (λ m is. rw (is.0, other-test n other differs) refl) mine)
 
-own-acts : (n : ℕ) (acts : List Act) → AllByRecursion (λ act. actor_of act ≡ n) acts → acts_in (λ key. 0) 0 n acts ≡ acts
-own-acts n acts own = filter-all _ acts (all-map (λ act. actor_of act ≡ n) _ acts (λ act is. rw (is, same-test n) refl) own)
+own-acts : (shard_of : Key → ℕ) (n : ℕ) (acts : List Act) → ((k : Key) → shard_of k ≡ 0) → AllByRecursion (λ act. actor_of act ≡ n) acts → acts_in shard_of 0 n acts ≡ acts
+own-acts shard_of n acts one own = filter-all _ acts (all-map (λ act. actor_of act ≡ n) _ acts (λ act is. rw (is, one (act_key act), same-test n) refl) own)
 
-no-acts : (n other : ℕ) (acts : List Act) → n ≢ other → AllByRecursion (λ act. actor_of act ≡ n) acts → acts_in (λ key. 0) 0 other acts ≡ []
-no-acts n other acts differs own = filter-none _ acts (all-map (λ act. actor_of act ≡ n) _ acts (λ act is. rw (is, other-test n other differs) refl) own)
+no-acts : (shard_of : Key → ℕ) (n other : ℕ) (acts : List Act) → n ≢ other → AllByRecursion (λ act. actor_of act ≡ n) acts → acts_in shard_of 0 other acts ≡ []
+no-acts shard_of n other acts differs own = filter-none _ acts (all-map (λ act. actor_of act ≡ n) _ acts (λ act is. rw (is, other-test n other differs) refl) own)
 
 only-shard : (shard : ℕ) → shard < 1 → shard ≡ 0
 only-shard shard lt = omega arith
@@ -395,10 +361,10 @@ no-passes : (n : ℕ) (es : List Event) → AllByRecursion (IsMine n) es → are
 no-passes n [] mine = refl
 no-passes n (e ∷ es) mine = rw mine.0.1 (no-passes n es mine.1)
 
-pub every-call : (blocks : List Ptr) (config : Config) (n : ℕ) (s : PlainShard) (os : List Op) (replies : List Reply) → n < config.callers → AllByRecursion (λ op. caller_of op ≡ n) os
-    → AreFoundAs blocks s [] os replies
-    → HoldEveryCallOnce config (λ key. 0) s (acts_of_caller blocks n os replies) (one_caller_history blocks n s os replies ∷ [])
-every-call blocks config n s os replies lt_callers own named =
+pub every-call : (blocks : List Ptr) (config : Config) (shard_of : Key → ℕ) (n : ℕ) (s : PlainShard) (os : List Op) (replies : List Reply) → n < config.callers → ((k : Key) → shard_of k ≡ 0)
+    → AllByRecursion (λ op. caller_of op ≡ n) os → AreFoundAs blocks s [] os replies
+    → HoldEveryCallOnce config shard_of s (acts_of_caller blocks n os replies) (one_caller_history blocks n s os replies ∷ [])
+every-call blocks config shard_of n s os replies lt_callers one own named =
     let callers = config.callers in
     let feeder : n ≢ callers = λ e. absurd (omega (arith, lt_callers, e)) in
     let history = one_caller_history blocks n s os replies in
@@ -407,13 +373,13 @@ every-call blocks config n s os replies lt_callers own named =
     let ms = moments s history in
     let mine = mine-history blocks n s os replies own in
     let his = act-caller blocks n os replies own in
-    let told_at : (m : ℕ) → m ≢ callers → Tell (acts_in (λ key. 0) 0 m acts) (own_moments m ms) = λ m differs.
+    let told_at : (m : ℕ) → m ≢ callers → Tell (acts_in shard_of 0 m acts) (own_moments m ms) = λ m differs.
     elim (cases_eq n m) [
-      | inl same ↦ subst (λ h. Tell (acts_in (λ key. 0) 0 h acts) (own_moments h ms)) same (rw (own-acts n acts his, own-moments n ms mine) (tell-history blocks n s os replies named))
-      | inr other ↦ rw (no-acts n m acts other his) (no-moments n m ms other mine)
+      | inl same ↦ subst (λ h. Tell (acts_in shard_of 0 h acts) (own_moments h ms)) same (rw (own-acts shard_of n acts one his, own-moments n ms mine) (tell-history blocks n s os replies named))
+      | inr other ↦ rw (no-acts shard_of n m acts other his) (no-moments n m ms other mine)
     ] in
     record {
-      told = λ shard m lt differs. subst (λ i. Tell (acts_in (λ key. 0) i m acts) (own_moments m (moments s (slice_index_or (history ∷ []) i [])))) (sym (only-shard shard lt)) (told_at m differs);
+      told = λ shard m lt differs. subst (λ i. Tell (acts_in shard_of i m acts) (own_moments m (moments s (slice_index_or (history ∷ []) i [])))) (sym (only-shard shard lt)) (told_at m differs);
       fed = λ shard lt. subst (λ i. AllByRecursion (λ m. IsTrue (is_of_feed m.event)) (own_moments callers (moments s (slice_index_or (history ∷ []) i [])))) (sym (only-shard shard lt))
           (rw (no-moments n callers ms feeder mine) tt);
       numbers = (all-map (IsMine n) _ history (λ e is. caller-number callers config.cells n e lt_callers is) all, tt);

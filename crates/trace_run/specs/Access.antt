@@ -26,7 +26,8 @@ access_of s ptr = found ptr.digest (resident_digest ptr.key s)
 -- the bytes have to come from the pool
 abbrev pub AsksPool : Access → Type 0
 AsksPool Hit = ⊥
-AsksPool _ = Unit {0}
+AsksPool (Past kept) = Unit {0}
+AsksPool Miss = Unit {0}
 
 -- where the bytes come from, where the read is answered
 abbrev pub source_of : Access → Served
@@ -37,7 +38,8 @@ source_of Miss = served.Pool
 -- the key of the entry that an answered read holds: one past the cache holds none
 abbrev pub held_key : Ptr → Access → Option Key
 held_key ptr (Past kept) = None
-held_key ptr _ = Some ptr.key
+held_key ptr Hit = Some ptr.key
+held_key ptr Miss = Some ptr.key
 
 -- the events of a read that is answered, as long as it is kept
 abbrev pub events_of_answered : (n t : ℕ) → Ptr → Access → List Event

@@ -1,5 +1,5 @@
 -- What the operations of a trace do in the shards of their keys, by their replies.
-use Rattle.std.specs.Prelude.{ℕ, List, [], ◌∷◌, ◌++◌, slice_get, Option, Some, None}
+use Rattle.std.specs.Prelude.{ℕ, zero, suc, List, [], ◌∷◌, ◌++◌, filter, slice_get, Option, Some, None}
 use Rattle.std.specs.Option.{option_map_or}
 use Rattle.blk_ptr.specs.declared.key.Key.{Key}
 use Rattle.blk_ptr.specs.declared.ptr.Ptr.{Ptr}
@@ -7,41 +7,43 @@ use Rattle.arc_core.specs.Operations.{Act, Reads, Keeps, GivesBack, Fails}
 use Rattle.trace_text.specs.declared.op.Op.{Op}
 use Rattle.trace_text.specs.declared.op.Op.TheVariants as ops
 use Rattle.trace_text.specs.declared.reply.Reply.{Reply}
-use Rattle.trace_text.specs.declared.reply.Reply.TheVariants.{Read, Kept, Dropped, Refused}
-use Rattle.trace_text.specs.declared.reply.Refusal.TheVariants.{PoolFault, Mismatch}
 use Rattle.trace_run.specs.declared.access.KeptRead.{KeptRead}
+use Rattle.trace_run.specs.Effects.{Effect, Answered, GivenBack, PoolRefused, NoEffect, effect_of}
+use Rattle.trace_run.specs.Lines.{is_of_caller, replies_where}
 use Rattle.trace_run.specs.OneCaller.{kept_after, kept_after_all, oldest_key}
 
--- a read that is answered, or that the pool refused; any other refusal does nothing
-abbrev pub acts_of_read : (n t : ℕ) → Ptr → Reply → List Act
-acts_of_read n t ptr (Read served digest shown) = Reads n t ptr served ∷ []
-acts_of_read n t ptr (Refused PoolFault) = Fails n t ptr ∷ []
-acts_of_read n t ptr (Refused (Mismatch digest)) = Fails n t ptr ∷ []
-acts_of_read n t ptr reply = []
+-- a read that was answered, or that the pool refused
+abbrev pub acts_of_read : (n t : ℕ) → Ptr → Effect → List Act
+acts_of_read n t ptr (Answered from) = Reads n t ptr from ∷ []
+acts_of_read n t ptr GivenBack = []
+acts_of_read n t ptr (PoolRefused call) = Fails n t ptr ∷ []
+acts_of_read n t ptr NoEffect = []
 
 -- the same, kept
-abbrev pub acts_of_hold : (n t : ℕ) → Ptr → Reply → List Act
-acts_of_hold n t ptr (Kept served) = Keeps n t ptr served ∷ []
-acts_of_hold n t ptr (Refused PoolFault) = Fails n t ptr ∷ []
-acts_of_hold n t ptr (Refused (Mismatch digest)) = Fails n t ptr ∷ []
-acts_of_hold n t ptr reply = []
+abbrev pub acts_of_hold : (n t : ℕ) → Ptr → Effect → List Act
+acts_of_hold n t ptr (Answered from) = Keeps n t ptr from ∷ []
+acts_of_hold n t ptr GivenBack = []
+acts_of_hold n t ptr (PoolRefused call) = Fails n t ptr ∷ []
+acts_of_hold n t ptr NoEffect = []
 
 -- a kept read that is given back: one past the cache held nothing
 abbrev pub acts_of_drop : (n : ℕ) → Option Key → List Act
 acts_of_drop n None = []
 acts_of_drop n (Some key) = GivesBack n key ∷ []
 
-abbrev pub acts_of_dropping : (n block : ℕ) → List KeptRead → Reply → List Act
-acts_of_dropping n block kept Dropped = acts_of_drop n (oldest_key block kept)
-acts_of_dropping n block kept reply = []
+abbrev pub acts_of_dropping : (n block : ℕ) → List KeptRead → Effect → List Act
+acts_of_dropping n block kept (Answered from) = []
+acts_of_dropping n block kept GivenBack = acts_of_drop n (oldest_key block kept)
+acts_of_dropping n block kept (PoolRefused call) = []
+acts_of_dropping n block kept NoEffect = []
 
--- an operation with its reply, where these reads are kept
+-- an operation with its reply, where its caller keeps these reads
 abbrev pub acts_of : List Ptr → List KeptRead → Op → Reply → List Act
-acts_of blocks kept (ops.Read n t x window) reply = option_map_or (λ ptr. acts_of_read n t ptr reply) (slice_get blocks x) []
-acts_of blocks kept (ops.Hold n t x) reply = option_map_or (λ ptr. acts_of_hold n t ptr reply) (slice_get blocks x) []
-acts_of blocks kept (ops.Drop n x) reply = acts_of_dropping n x kept reply
+acts_of blocks kept (ops.Read n t x window) reply = option_map_or (λ ptr. acts_of_read n t ptr (effect_of reply)) (slice_get blocks x) []
+acts_of blocks kept (ops.Hold n t x) reply = option_map_or (λ ptr. acts_of_hold n t ptr (effect_of reply)) (slice_get blocks x) []
+acts_of blocks kept (ops.Drop n x) reply = acts_of_dropping n x kept (effect_of reply)
 
--- all operations with their replies, one after another
+-- all operations of one caller with their replies, one after another
 abbrev pub acts_of_all : List Ptr → List KeptRead → List Op → List Reply → List Act
 acts_of_all blocks kept [] replies = []
 acts_of_all blocks kept (op ∷ ops) [] = []
@@ -53,6 +55,12 @@ abbrev pub acts_of_drops : (n : ℕ) → List KeptRead → List Act
 acts_of_drops n [] = []
 acts_of_drops n (read ∷ reads) = acts_of_drop n read.held ++ acts_of_drops n reads
 
--- what a caller's operations and the end of the run do
+-- what a caller's own operations and the end of the run do
 abbrev pub acts_of_caller : List Ptr → (n : ℕ) → List Op → List Reply → List Act
 acts_of_caller blocks n ops replies = acts_of_all blocks [] ops replies ++ acts_of_drops n (kept_after_all blocks [] ops replies)
+
+-- what the first so many callers do, each by its own lines and with its own kept reads
+abbrev pub acts_of_callers : List Ptr → (callers : ℕ) → List Op → List Reply → List Act
+acts_of_callers blocks zero ops replies = []
+acts_of_callers blocks (suc n) ops replies =
+    acts_of_callers blocks n ops replies ++ acts_of_caller blocks n (filter (is_of_caller n) ops) (replies_where (is_of_caller n) ops replies)

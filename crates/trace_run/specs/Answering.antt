@@ -1,14 +1,35 @@
--- What the answer to one operation comes to in its caller's cache.
-use Rattle.std.specs.Prelude.{ℕ, List}
+-- What the answer to one operation comes to.
+use Rattle.std.specs.Prelude.{ℕ, List, IfSome, slice_get}
 use Rattle.blk_ptr.specs.declared.ptr.Ptr.{Ptr}
+use Rattle.blk_ptr.specs.Ptr.{IsOf, range_of}
 use Rattle.trace_text.specs.declared.op.Op.{Op}
+use Rattle.trace_text.specs.declared.op.Op.TheVariants as ops
 use Rattle.trace_text.specs.declared.reply.Reply.{Reply}
-use Rattle.trace_run.specs.Calls.{CountsReads}
+use Rattle.trace_text.specs.declared.reply.Reply.TheVariants as replies
+use Rattle.dbuf_state.specs.declared.window.Window.{Window}
 use Rattle.trace_run.specs.OneCaller.{IsFoundAs, events_of, kept_after}
 use Rattle.trace_run.specs.PlainCache.{MakesAll, PlainCache}
+use Rattle.trace_run.specs.Serving.{ShowsRange}
 
--- The shard makes the operation's events, the pool is read as they say, and the reply names where the bytes were found.
-pub record MakesAnswer (blocks : List Ptr) (op : Op) (old new : PlainCache) (before now : ℕ) (reply : Reply) : Type 0 where
+-- The shard makes the operation's events, and the reply names where the bytes were found.
+pub record MakesAnswer (blocks : List Ptr) (op : Op) (old new : PlainCache) (reply : Reply) : Type 0 where
   pub made : MakesAll (events_of blocks old.log.now old.kept op reply) (kept_after blocks op reply old.kept) old new
-  pub reads : CountsReads (events_of blocks old.log.now old.kept op reply) before now
   pub found : IsFoundAs blocks old.log.now op reply
+
+-- an answered read shows the bytes that the image has in its key's range, and a kept one is of these bytes
+abbrev pub ReadsImage : (image : List ℕ) → Ptr → Window → Reply → Type 0
+ReadsImage image ptr window (replies.Read served digest shown) = ShowsRange image ptr window shown
+ReadsImage image ptr window (replies.Kept served) = Unit {0}
+ReadsImage image ptr window replies.Dropped = Unit {0}
+ReadsImage image ptr window (replies.Refused refusal) = Unit {0}
+
+abbrev pub KeepsImage : (image : List ℕ) → Ptr → Reply → Type 0
+KeepsImage image ptr (replies.Read served digest shown) = Unit {0}
+KeepsImage image ptr (replies.Kept served) = IsOf (range_of image ptr.key) ptr
+KeepsImage image ptr replies.Dropped = Unit {0}
+KeepsImage image ptr (replies.Refused refusal) = Unit {0}
+
+abbrev pub IsReadOfImage : (image : List ℕ) → List Ptr → Op → Reply → Type 0
+IsReadOfImage image blocks (ops.Read n t x window) reply = IfSome (slice_get blocks x) (λ ptr. ReadsImage image ptr window reply)
+IsReadOfImage image blocks (ops.Hold n t x) reply = IfSome (slice_get blocks x) (λ ptr. KeepsImage image ptr reply)
+IsReadOfImage image blocks (ops.Drop n x) reply = Unit {0}

@@ -9,7 +9,9 @@ use Rattle.trace_text.specs.declared.reply.Reply.TheVariants.{Read, Kept, Droppe
 use Rattle.trace_text.specs.declared.reply.Refusal.{Refusal}
 use Rattle.trace_text.specs.declared.reply.Refusal.TheVariants.{PoolFault, Mismatch, Key, NoMemory, Range, NoHold}
 use Rattle.dbuf_state.specs.declared.window.Window.{Window}
-use Rattle.trace_run.specs.Read.{IsServed, IsMismatch}
+use Rattle.trace_run.specs.Effects.{Effect, Answered, GivenBack, PoolRefused, NoEffect, effect_of}
+use Rattle.trace_run.specs.PoolCalls.{is_failed}
+use Rattle.trace_run.specs.Read.{IsReadOf, IsMismatch}
 
 -- the bytes of a block that a window shows
 abbrev pub window_of : Window → List ℕ → List ℕ
@@ -28,31 +30,55 @@ IsReadRefusal pool_len image ptr NoMemory = ⊥
 IsReadRefusal pool_len image ptr (Range end size) = ⊥
 IsReadRefusal pool_len image ptr (NoHold block) = ⊥
 
--- the answers to a read that shows a window: a window past the block's size is refused before the key is looked at
+-- the same where a window is asked for: one that ends past the block's size is refused before the key is looked at
+abbrev pub IsWindowRefusal : ℕ → Option (List ℕ) → Ptr → Window → Refusal → Type 0
+IsWindowRefusal pool_len image ptr window PoolFault = IsInside window ptr.key.size × IsReadRefusal pool_len image ptr PoolFault
+IsWindowRefusal pool_len image ptr window (Mismatch found) = IsInside window ptr.key.size × IsReadRefusal pool_len image ptr (Mismatch found)
+IsWindowRefusal pool_len image ptr window (Key fault) = IsInside window ptr.key.size × IsReadRefusal pool_len image ptr (Key fault)
+IsWindowRefusal pool_len image ptr window NoMemory = ⊥
+IsWindowRefusal pool_len image ptr window (Range end size) = (end ≡ window.at + window.len) × (size ≡ ptr.key.size) × (size < end)
+IsWindowRefusal pool_len image ptr window (NoHold block) = ⊥
+
+-- the answers to a read that shows a window
 abbrev pub AnswersRead : ℕ → Option (List ℕ) → Ptr → Window → Reply → Type 0
 AnswersRead pool_len image ptr window (Read served digest shown) =
     IsInside window ptr.key.size × IsValid pool_len ptr.key × (digest ≡ ptr.digest)
-    × ((bytes : List ℕ) × IsServed image ptr bytes × (shown ≡ window_of window bytes))
-AnswersRead pool_len image ptr window (Refused (Range end size)) =
-    (end ≡ window.at + window.len) × (size ≡ ptr.key.size) × (size < end)
-AnswersRead pool_len image ptr window (Refused refusal) = IsInside window ptr.key.size × IsReadRefusal pool_len image ptr refusal
-AnswersRead pool_len image ptr window reply = ⊥
+    × ((bytes : List ℕ) × IsReadOf image ptr bytes × (shown ≡ window_of window bytes))
+AnswersRead pool_len image ptr window (Refused refusal) = IsWindowRefusal pool_len image ptr window refusal
+AnswersRead pool_len image ptr window (Kept served) = ⊥
+AnswersRead pool_len image ptr window Dropped = ⊥
 
 -- the answers to a read that is kept: one that is answered has the bytes of its block, though it shows none
 abbrev pub AnswersHold : ℕ → Option (List ℕ) → Ptr → Reply → Type 0
-AnswersHold pool_len image ptr (Kept served) = IsValid pool_len ptr.key × ((bytes : List ℕ) × IsServed image ptr bytes)
+AnswersHold pool_len image ptr (Kept served) = IsValid pool_len ptr.key × ((bytes : List ℕ) × IsReadOf image ptr bytes)
 AnswersHold pool_len image ptr (Refused refusal) = IsReadRefusal pool_len image ptr refusal
-AnswersHold pool_len image ptr reply = ⊥
+AnswersHold pool_len image ptr (Read served digest shown) = ⊥
+AnswersHold pool_len image ptr Dropped = ⊥
+
+-- 1 where a read that was to be kept and is this caller's is kept, and 1 where a drop of this caller's gave one back
+abbrev pub keeps_one : Effect → Bool → ℕ
+keeps_one (Answered from) mine = if mine then 1 else 0
+keeps_one GivenBack mine = 0
+keeps_one (PoolRefused call) mine = 0
+keeps_one NoEffect mine = 0
+
+abbrev pub drops_one : Effect → Bool → ℕ
+drops_one (Answered from) mine = 0
+drops_one GivenBack mine = if mine then 1 else 0
+drops_one (PoolRefused call) mine = 0
+drops_one NoEffect mine = 0
 
 -- 1 where this reply to this operation keeps a read of the block by the caller
 abbrev pub keeps : ℕ → ℕ → Op → Reply → ℕ
-keeps caller block (ops.Hold n t x) (Kept served) = if n == caller && x == block then 1 else 0
-keeps caller block op reply = 0
+keeps caller block (ops.Read n t x window) reply = 0
+keeps caller block (ops.Hold n t x) reply = keeps_one (effect_of reply) (n == caller && x == block)
+keeps caller block (ops.Drop n x) reply = 0
 
--- 1 where this reply to this operation drops a read of the block by the caller
+-- 1 where it drops one again
 abbrev pub drops : ℕ → ℕ → Op → Reply → ℕ
-drops caller block (ops.Drop n x) Dropped = if n == caller && x == block then 1 else 0
-drops caller block op reply = 0
+drops caller block (ops.Read n t x window) reply = 0
+drops caller block (ops.Hold n t x) reply = 0
+drops caller block (ops.Drop n x) reply = drops_one (effect_of reply) (n == caller && x == block)
 
 -- how many reads of a block a caller kept, by the operations and their replies
 abbrev pub kept_reads : ℕ → ℕ → List Op → List Reply → ℕ
@@ -66,11 +92,21 @@ dropped_reads caller block [] replies = 0
 dropped_reads caller block (op ∷ ops) [] = 0
 dropped_reads caller block (op ∷ ops) (reply ∷ replies) = drops caller block op reply + dropped_reads caller block ops replies
 
+-- a drop is refused for one reason alone
+abbrev pub IsDropRefusal : ℕ → ℕ → ℕ → Refusal → Type 0
+IsDropRefusal kept dropped block PoolFault = ⊥
+IsDropRefusal kept dropped block (Mismatch found) = ⊥
+IsDropRefusal kept dropped block (Key fault) = ⊥
+IsDropRefusal kept dropped block NoMemory = ⊥
+IsDropRefusal kept dropped block (Range end size) = ⊥
+IsDropRefusal kept dropped block (NoHold missing) = (missing ≡ block) × (kept ≤ dropped)
+
 -- the answers to a drop, where so many reads were kept and so many dropped
 abbrev pub AnswersDrop : ℕ → ℕ → ℕ → Reply → Type 0
 AnswersDrop kept dropped block Dropped = dropped < kept
-AnswersDrop kept dropped block (Refused (NoHold missing)) = (missing ≡ block) × (kept ≤ dropped)
-AnswersDrop kept dropped block reply = ⊥
+AnswersDrop kept dropped block (Read served digest shown) = ⊥
+AnswersDrop kept dropped block (Kept served) = ⊥
+AnswersDrop kept dropped block (Refused refusal) = IsDropRefusal kept dropped block refusal
 
 -- the answer to an operation, behind these operations and replies
 abbrev pub Answers : ℕ → Option (List ℕ) → List Ptr → List Op → List Reply → Op → Reply → Type 0
@@ -88,11 +124,18 @@ pub record AnswersAll (pool_len : ℕ) (image : Option (List ℕ)) (blocks : Lis
       Answers pool_len image blocks (take k ops) (take k replies) op reply
 
 -- a reply that says that the pool failed
+abbrev pub tells_fault : Effect → Bool
+tells_fault (Answered from) = false
+tells_fault GivenBack = false
+tells_fault (PoolRefused call) = is_failed call
+tells_fault NoEffect = false
+
 abbrev pub is_pool_fault : Reply → Bool
-is_pool_fault (Refused PoolFault) = true
-is_pool_fault reply = false
+is_pool_fault reply = tells_fault (effect_of reply)
 
 -- a reply that is a refusal
 abbrev pub is_refusal : Reply → Bool
+is_refusal (Read served digest shown) = false
+is_refusal (Kept served) = false
+is_refusal Dropped = false
 is_refusal (Refused refusal) = true
-is_refusal reply = false

@@ -1,5 +1,5 @@
--- One caller's cache as plain data: a shard with its history, and the reads that the caller keeps.
-use Rattle.std.specs.Prelude.{◌≡◌, ℕ, ◌==◌, Bool, false, if◌then◌else◌, List, [], ◌∷◌, ◌++◌, count_by, Option, Some, None, slice_set}
+-- One caller's cache as plain data: a shard with its history, its blocks, and the reads that the caller keeps.
+use Rattle.std.specs.Prelude.{◌≡◌, ℕ, Bool, false, List, ◌++◌, count_by, Option, Some, None, slice_set}
 use Rattle.std.specs.Option.{option_map_or}
 use Rattle.blk_ptr.specs.declared.key.Key.{Key}
 use Rattle.blk_ptr.specs.Order.{key_eq}
@@ -9,6 +9,7 @@ use Rattle.arc_core.specs.PlainShard.{PlainShard, entry_of, no_holds}
 use Rattle.arc_core.specs.Replay.{replay}
 use Rattle.arc_core.specs.ShardLog.{ShardLog}
 use Rattle.trace_run.specs.declared.access.KeptRead.{KeptRead}
+use Rattle.trace_run.specs.Blocks.{Blocks}
 
 pub record PlainCache : Type 0 where
   -- the number of the caller
@@ -16,6 +17,8 @@ pub record PlainCache : Type 0 where
   pub log : ShardLog
   -- the reads that the caller keeps, the oldest first
   pub kept : List KeptRead
+  -- the blocks whose bytes the shard caches, and those of evicted entries that were not let go yet
+  pub blocks : Blocks
 
 -- a read of this block that is kept
 abbrev pub kept_read : (block : ℕ) → Option Key → KeptRead

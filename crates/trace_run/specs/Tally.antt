@@ -7,6 +7,7 @@ use Rattle.trace_text.specs.Grammar.{block_of}
 use Rattle.trace_text.specs.declared.reply.Reply.{Reply}
 use Rattle.trace_run.specs.declared.access.KeptRead.{KeptRead}
 use Rattle.trace_run.specs.Answers.{AnswersRead, AnswersHold, AnswersDrop, kept_reads, dropped_reads}
+use Rattle.trace_run.specs.Lines.{caller_of}
 use Rattle.trace_run.specs.OneCaller.{is_of_block}
 
 -- how many of the kept reads are of the block
@@ -20,12 +21,6 @@ AnswersNow pool_len image blocks kept (ops.Read n t x window) reply =
 AnswersNow pool_len image blocks kept (ops.Hold n t x) reply =
     (ptr : Ptr) × (slice_get blocks x ≡ Some ptr) × AnswersHold pool_len image ptr reply
 AnswersNow pool_len image blocks kept (ops.Drop n x) reply = AnswersDrop (kept_of_block x kept) 0 x reply
-
--- the caller of an operation
-abbrev pub caller_of : Op → ℕ
-caller_of (ops.Read n t x window) = n
-caller_of (ops.Hold n t x) = n
-caller_of (ops.Drop n x) = n
 
 -- the kept reads are those that this caller has kept and not dropped
 pub record IsTally (caller : ℕ) (ops : List Op) (replies : List Reply) (kept : List KeptRead) : Type 0 where

@@ -1,14 +1,19 @@
 //! The operations of a trace, answered one after the other.
-ghost use Rattle.std.specs.Prelude.{◌≡◌, ◌<◌, ◌≤◌, ◌+◌, ◌++◌, ◌^◌, [], length, count_by, IfOk, OnErr};
+ghost use Rattle.std.specs.Prelude.{◌≡◌, ◌<◌, ◌^◌, ℕ, List, [], length, IfOk, IfSome, OnErr};
 ghost use Rattle.arc_core.specs.Operations.{pool_reads};
-ghost use Rattle.trace_run.specs.Answers.{AnswersRead, AnswersHold, AnswersDrop, AnswersAll, is_pool_fault};
-ghost use Rattle.trace_run.specs.Answering.{MakesAnswer};
-ghost use Rattle.trace_run.specs.Calls.{CountsReads, CountsFaults, IsRefusalOf};
+ghost use Rattle.trace_run.specs.Answers.{AnswersRead, AnswersHold, AnswersDrop, AnswersAll};
+ghost use Rattle.trace_run.specs.Answering.{IsReadOfImage, KeepsImage, MakesAnswer, ReadsImage};
 ghost use Rattle.trace_run.specs.Access.{access_of};
-ghost use Rattle.trace_run.specs.OneCaller.{AreFoundAs, NamesSource, events_of_all, events_of_dropping, events_of_hold, events_of_read, kept_after_all, kept_after_drop, kept_after_hold};
+ghost use Rattle.trace_run.specs.Blocks.{AreOfImage};
+ghost use Rattle.trace_run.specs.Effects.{calls_of, calls_of_all, effect_of};
+ghost use Rattle.trace_run.specs.Lines.{caller_of};
+ghost use Rattle.trace_run.specs.OneCaller.{AllLines, AreFoundAs, NamesSource, events_of_all, events_of_dropping, events_of_hold, events_of_read, kept_after_all, kept_after_drop, kept_after_hold};
 ghost use Rattle.trace_run.specs.PlainCache.{MakesAll};
+ghost use Rattle.trace_run.specs.PlainLines.{IsPlainLine};
+ghost use Rattle.trace_run.specs.PoolCalls.{KeepsPool, MakesCalls};
+ghost use Rattle.trace_run.specs.ReadFault.{IsRefusalOf};
 ghost use Rattle.trace_text.specs.Grammar.{block_of};
-ghost use Rattle.trace_run.specs.Tally.{AnswersNow, IsOfCaller, caller_of, kept_of_block};
+ghost use Rattle.trace_run.specs.Tally.{AnswersNow, IsOfCaller, kept_of_block};
 
 use crate::caller_cache::CallerCache;
 use crate::read::ReadFault;
@@ -30,18 +35,16 @@ pub(crate) fn answer_all<P: Pool, G: Gate>(
     requires own { IsOfCaller cache.old.caller (length blocks.now) ops.now }
     requires few { length ops.now < 2 ^ 32 }
     requires fresh { cache.old.kept ≡ [] }
+    requires blocks { (image : List ℕ) → AreOfImage image cache.old.blocks }
     ensures answers { IfOk result (λ replies.
         AnswersAll (P.size pool.old) (P.told pool.old) blocks.now ops.now replies.items) }
     ensures events { IfOk result (λ replies. MakesAll (events_of_all blocks.now cache.old.log.now [] ops.now replies.items)
         (kept_after_all blocks.now [] ops.now replies.items) cache.old cache.new) }
     ensures found { IfOk result (λ replies. AreFoundAs blocks.now cache.old.log.now [] ops.now replies.items) }
-    ensures reads { IfOk result (λ replies. P.reads pool.old < 2 ^ 63 →
-        P.reads pool.new ≡ P.reads pool.old + pool_reads (events_of_all blocks.now cache.old.log.now [] ops.now replies.items)) }
-    ensures faults { IfOk result (λ replies. P.faults pool.old < 2 ^ 63 →
-        P.faults pool.old + count_by is_pool_fault replies.items ≤ P.faults pool.new) }
-    ensures kept { P.faults pool.old ≤ P.faults pool.new }
-    ensures told { P.told pool.new ≡ P.told pool.old }
-    ensures size { P.size pool.new ≡ P.size pool.old }
+    ensures calls { IfOk result (λ replies. MakesCalls P.Pool (calls_of_all replies.items) pool.old pool.new) }
+    ensures counted { IfOk result (λ replies. length (calls_of_all replies.items) ≡ pool_reads (events_of_all blocks.now cache.old.log.now [] ops.now replies.items)) }
+    ensures plain { IfOk result (λ replies. IfSome (P.told pool.old) (λ image. AllLines (IsPlainLine image blocks.now) blocks.now cache.old.log.now [] ops.now replies.items)) }
+    ensures pool { KeepsPool P.Pool pool.old pool.new }
 {
     let caller = cache.caller();
     let mut replies = Vec::new(alloc);
@@ -65,11 +68,11 @@ fn answer<P: Pool>(
     requires own { caller_of op ≡ cache.old.caller }
     requires declared { block_of op < length blocks.now }
     ensures answer { IfOk result (AnswersNow (P.size pool.old) (P.told pool.old) blocks.now cache.old.kept op) }
-    ensures makes { IfOk result (MakesAnswer blocks.now op cache.old cache.new (P.reads pool.old) (P.reads pool.new)) }
-    ensures faults { IfOk result (λ reply. CountsFaults reply (P.faults pool.old) (P.faults pool.new)) }
-    ensures kept { P.faults pool.old ≤ P.faults pool.new }
-    ensures told { P.told pool.new ≡ P.told pool.old }
-    ensures size { P.size pool.new ≡ P.size pool.old }
+    ensures makes { IfOk result (MakesAnswer blocks.now op cache.old cache.new) }
+    ensures calls { IfOk result (λ reply. MakesCalls P.Pool (calls_of (effect_of reply)) pool.old pool.new) }
+    ensures pool { KeepsPool P.Pool pool.old pool.new }
+    ensures image { IfSome (P.told pool.old) (λ image. AreOfImage image cache.old.blocks
+        → AreOfImage image cache.new.blocks × IfOk result (IsReadOfImage image blocks.now op)) }
 {
     match op {
         Op::Read { t, x, w, .. } => answer_read(alloc, cache, pool, &blocks[x as usize], x, t, w),
@@ -89,13 +92,12 @@ fn answer_read<P: Pool>(
     window: Window,
 ) -> Result<Reply, NoMemory>
     ensures answer { IfOk result (AnswersRead (P.size pool.old) (P.told pool.old) ptr.now window) }
-    ensures makes { IfOk result (λ reply. MakesAll (events_of_read cache.old.caller t cache.old.log.now ptr.now reply) cache.old.kept cache.old cache.new) }
-    ensures reads { IfOk result (λ reply. CountsReads (events_of_read cache.old.caller t cache.old.log.now ptr.now reply) (P.reads pool.old) (P.reads pool.new)) }
-    ensures found { IfOk result (NamesSource (access_of cache.old.log.now ptr.now)) }
-    ensures faults { IfOk result (λ reply. CountsFaults reply (P.faults pool.old) (P.faults pool.new)) }
-    ensures kept { P.faults pool.old ≤ P.faults pool.new }
-    ensures told { P.told pool.new ≡ P.told pool.old }
-    ensures size { P.size pool.new ≡ P.size pool.old }
+    ensures makes { IfOk result (λ reply. MakesAll (events_of_read cache.old.caller t cache.old.log.now ptr.now (effect_of reply)) cache.old.kept cache.old cache.new) }
+    ensures found { IfOk result (λ reply. NamesSource (access_of cache.old.log.now ptr.now) (effect_of reply)) }
+    ensures calls { IfOk result (λ reply. MakesCalls P.Pool (calls_of (effect_of reply)) pool.old pool.new) }
+    ensures pool { KeepsPool P.Pool pool.old pool.new }
+    ensures image { IfSome (P.told pool.old) (λ image. AreOfImage image cache.old.blocks
+        → AreOfImage image cache.new.blocks × IfOk result (ReadsImage image ptr.now window)) }
 {
     let end = u64::from(window.at) + u64::from(window.len);
     let size = ptr.key.size;
@@ -126,14 +128,13 @@ fn answer_hold<P: Pool>(
     t: u64,
 ) -> Result<Reply, NoMemory>
     ensures answer { IfOk result (AnswersHold (P.size pool.old) (P.told pool.old) ptr.now) }
-    ensures makes { IfOk result (λ reply. MakesAll (events_of_hold cache.old.caller t cache.old.log.now ptr.now reply)
-        (kept_after_hold block ptr.now reply cache.old.kept) cache.old cache.new) }
-    ensures reads { IfOk result (λ reply. CountsReads (events_of_hold cache.old.caller t cache.old.log.now ptr.now reply) (P.reads pool.old) (P.reads pool.new)) }
-    ensures found { IfOk result (NamesSource (access_of cache.old.log.now ptr.now)) }
-    ensures faults { IfOk result (λ reply. CountsFaults reply (P.faults pool.old) (P.faults pool.new)) }
-    ensures kept { P.faults pool.old ≤ P.faults pool.new }
-    ensures told { P.told pool.new ≡ P.told pool.old }
-    ensures size { P.size pool.new ≡ P.size pool.old }
+    ensures makes { IfOk result (λ reply. MakesAll (events_of_hold cache.old.caller t cache.old.log.now ptr.now (effect_of reply))
+        (kept_after_hold block ptr.now (effect_of reply) cache.old.kept) cache.old cache.new) }
+    ensures found { IfOk result (λ reply. NamesSource (access_of cache.old.log.now ptr.now) (effect_of reply)) }
+    ensures calls { IfOk result (λ reply. MakesCalls P.Pool (calls_of (effect_of reply)) pool.old pool.new) }
+    ensures pool { KeepsPool P.Pool pool.old pool.new }
+    ensures image { IfSome (P.told pool.old) (λ image. AreOfImage image cache.old.blocks
+        → AreOfImage image cache.new.blocks × IfOk result (KeepsImage image ptr.now)) }
 {
     let window = Window { at: 0, len: 0 };
     match serve(alloc, cache, pool, block, ptr, t, window) {
@@ -145,7 +146,9 @@ fn answer_hold<P: Pool>(
 /// Answers a drop of the oldest kept read of a block.
 fn answer_drop(cache: &mut CallerCache, block: u32) -> Reply
     ensures answer { AnswersDrop (kept_of_block block cache.old.kept) 0 block result }
-    ensures makes { MakesAll (events_of_dropping cache.old.caller block cache.old.kept result) (kept_after_drop block result cache.old.kept) cache.old cache.new }
+    ensures makes { MakesAll (events_of_dropping cache.old.caller block cache.old.kept (effect_of result)) (kept_after_drop block (effect_of result) cache.old.kept) cache.old cache.new }
+    ensures calls { calls_of (effect_of result) ≡ [] }
+    ensures blocks { cache.new.blocks ≡ cache.old.blocks }
 {
     if cache.give_back_oldest(block) {
         Reply::Dropped

@@ -1,10 +1,10 @@
 //! The blocks of a cache.
-ghost use Rattle.std.specs.Prelude.{◌≡◌, IsSome, None, OnOk, Some, false};
+ghost use Rattle.std.specs.Prelude.{◌≡◌, ℕ, IsSome, List, None, OnErr, OnOk, Some, false};
 ghost use Rattle.std.specs.Option.{option_copied};
 ghost use Rattle.blk_ptr.specs.declared.key.Key.{Key};
 ghost use Rattle.blk_ptr.specs.Order.{key_eq};
 ghost use Rattle.arc_core.specs.PlainShard.{resident_digest};
-ghost use Rattle.trace_run.specs.Blocks.{block_of};
+ghost use Rattle.trace_run.specs.Blocks.{bytes_at};
 
 use arc_core::Shard;
 use blk_ptr::{Block, Key, NoMemory};
@@ -32,7 +32,7 @@ impl Model for BlockMap {
 impl BlockMap {
     /// No blocks.
     pub(crate) fn new(alloc: Global) -> BlockMap
-        ensures { (k : Key) → block_of k result ≡ None }
+        ensures { (k : Key) → bytes_at k result ≡ None }
     {
         BlockMap {
             blocks: BTreeMap::new(alloc),
@@ -42,15 +42,16 @@ impl BlockMap {
 
     /// The block of a key.
     pub(crate) fn get(&self, key: Key) -> Option<&Block>
-        ensures { option_copied result ≡ block_of key self.now }
+        ensures { option_copied result ≡ bytes_at key self.now }
     {
         self.blocks.get(&key)
     }
 
     /// Puts a block in under its key, where one of an evicted entry may be still.
     pub(crate) fn put(&mut self, key: Key, block: Block) -> Result<(), NoMemory>
-        ensures here { OnOk result (block_of key self.new ≡ Some block) }
-        ensures others { (j : Key) → key_eq j key ≡ false → block_of j self.new ≡ block_of j self.old }
+        ensures here { OnOk result (bytes_at key self.new ≡ Some block) }
+        ensures refused { OnErr result (self.new ≡ self.old) }
+        ensures others { (j : Key) → key_eq j key ≡ false → bytes_at j self.new ≡ bytes_at j self.old }
     {
         self.blocks.insert(key, block)?;
         self.bytes = self.bytes.saturating_add(u128::from(key.size));
@@ -64,7 +65,8 @@ impl BlockMap {
 
     /// Keeps the blocks whose bytes the shard has cached, and no others.
     pub(crate) fn keep_resident(&mut self, shard: &Shard)
-        ensures { (k : Key) → IsSome (resident_digest k shard.now.now) → block_of k self.new ≡ block_of k self.old }
+        ensures resident { (k : Key) → IsSome (resident_digest k shard.now.now) → bytes_at k self.new ≡ bytes_at k self.old }
+        ensures only { (k : Key) (bytes : List ℕ) → bytes_at k self.new ≡ Some bytes → bytes_at k self.old ≡ Some bytes }
     {
         self.blocks.retain(|key, _| shard.resident(*key).is_some());
         self.bytes = self

@@ -1,16 +1,19 @@
-//! The cache of one caller: a shard, the blocks whose bytes it caches, and the reads that the caller keeps.
-ghost use Rattle.std.specs.Prelude.{◌≡◌, ◌<◌, ◌++◌, ◌∷◌, [], length, is_some, position, IfSome, IsTrue, List, None, OnOk, Some};
+//! The cache of one caller: a shard, the blocks whose bytes it caches, and the reads that the caller keeps (arc_read,
+//! arc_read_done and remove_reference of OpenZFS 2.1's arc.c).
+ghost use Rattle.std.specs.Prelude.{◌≡◌, ℕ, ◌<◌, ◌++◌, ◌∷◌, [], length, is_some, position, IfSome, IsSome, IsTrue, List, None, OnOk, Some};
 ghost use Rattle.blk_ptr.specs.Key.{IsWellFormed};
-ghost use Rattle.blk_ptr.specs.Ptr.{IsOf};
+ghost use Rattle.blk_ptr.specs.declared.key.Key.{Key};
+ghost use Rattle.blk_ptr.specs.Ptr.{IsOf, range_of};
 ghost use Rattle.arc_lists.specs.Adapting.{IsCapacity};
 ghost use Rattle.arc_core.specs.Operations.{IsAtRest};
-ghost use Rattle.arc_core.specs.PlainShard.{numbers};
+ghost use Rattle.arc_core.specs.PlainShard.{numbers, resident_digest};
 ghost use Rattle.arc_core.specs.Replay.{replay};
 ghost use Rattle.arc_core.specs.Step.{legal};
 ghost use Rattle.arc_core.specs.ShardLog.{opening_log, IsReplayed};
 ghost use Rattle.trace_run.specs.declared.access.KeptRead.{KeptRead};
 ghost use Rattle.trace_run.specs.Access.{access_of, events_of_answered, events_of_drop, events_of_refused};
-ghost use Rattle.trace_run.specs.Explaining.{end_of};
+ghost use Rattle.trace_run.specs.Blocks.{AreOfImage, bytes_at};
+ghost use Rattle.trace_run.specs.Ends.{end_of};
 ghost use Rattle.trace_run.specs.OneCaller.{events_of_drops, is_of_block, oldest_key, oldest_kept, without_oldest};
 ghost use Rattle.trace_run.specs.PlainCache.{kept_read, AreHeld, MakesAll};
 
@@ -36,11 +39,11 @@ impl Model for CallerCache {
 
     ghost Value = { PlainCache };
 
-    ghost use Rattle.trace_run.specs.CallerCache.{plain_cache, IsKept};
+    ghost use Rattle.trace_run.specs.CallerCache.{plain_cache, IsCallerCache};
 
     ghost view = { plain_cache };
 
-    ghost invariant = { IsKept };
+    ghost invariant = { IsCallerCache };
 }
 
 /// The states, in the order in which their sizes are told.
@@ -53,7 +56,7 @@ const STATES: [State; 6] = [
     State::L2Only,
 ];
 
-// Gives back the hold of a read, where it holds an entry.
+/// Gives back the hold of a read, where it holds an entry.
 fn give_back(shard: &mut Shard, caller: u32, held: Option<Key>)
     requires { IfSome held (λ key. IsTrue (legal shard.old.now (Event.Drop caller key))) }
     ensures now { shard.new.now ≡ replay shard.old.now (events_of_drop caller held) }
@@ -65,7 +68,7 @@ fn give_back(shard: &mut Shard, caller: u32, held: Option<Key>)
     }
 }
 
-// Gives back the holds of these reads, one after another.
+/// Gives back the holds of these reads, one after another.
 fn give_back_each(shard: &mut Shard, caller: u32, kept: &[KeptRead])
     requires number { caller < numbers }
     requires held { AreHeld caller kept.now shard.old.now }
@@ -78,7 +81,20 @@ fn give_back_each(shard: &mut Shard, caller: u32, kept: &[KeptRead])
     }
 }
 
-// Where the oldest read of a block stands.
+/// Lets the blocks of evicted entries go, once all blocks have twice as many bytes as those that are cached.
+fn sweep(shard: &Shard, blocks: &mut BlockMap)
+    ensures resident { (k : Key) → IsSome (resident_digest k shard.now.now) → bytes_at k blocks.new ≡ bytes_at k blocks.old }
+    ensures only { (k : Key) (bytes : List ℕ) → bytes_at k blocks.new ≡ Some bytes → bytes_at k blocks.old ≡ Some bytes }
+{
+    let cached = shard
+        .size(State::Mru)
+        .saturating_add(shard.size(State::Mfu));
+    if blocks.bytes() / 2 >= cached {
+        blocks.keep_resident(shard);
+    }
+}
+
+/// Where the oldest read of a block stands.
 fn oldest_of(kept: &[KeptRead], block: u32) -> Option<usize>
     ensures { result ≡ position (is_of_block block) kept.now }
 {
@@ -101,6 +117,7 @@ impl CallerCache {
         ensures opening { result.log.opening ≡ (opening_log c mintime bounds).opening }
         ensures history { result.log.history ≡ [] }
         ensures kept { result.kept ≡ [] }
+        ensures blocks { (image : List ℕ) → AreOfImage image result.blocks }
     {
         CallerCache {
             caller,
@@ -115,6 +132,7 @@ impl CallerCache {
         ensures access { result ≡ access_of self.now.log.now ptr.now }
         ensures replayed { IsReplayed self.now.log }
     {
+        // The history is looked at for its clause alone: the shard is the replay of it, so it is sound.
         let _events = self.shard.history();
         match self.shard.resident(ptr.key) {
             Some(kept) if kept == ptr.digest => Access::Hit,
@@ -126,7 +144,8 @@ impl CallerCache {
     /// The cached block of a pointer.
     pub(crate) fn block(&self, ptr: &Ptr) -> &Block
         requires { access_of self.now.log.now ptr.now ≡ Access.Hit }
-        ensures { IsOf result.now ptr.now }
+        ensures of { IsOf result.now ptr.now }
+        ensures at { bytes_at ptr.now.key self.now.blocks ≡ Some result.now }
     {
         self.blocks.get(ptr.key).unwrap()
     }
@@ -134,8 +153,9 @@ impl CallerCache {
     /// Keeps a read that found its block cached.
     pub(crate) fn hit(&mut self, block: u32, ptr: &Ptr, t: u64) -> Result<(), NoMemory>
         requires { access_of self.old.log.now ptr.now ≡ Access.Hit }
-        ensures { OnOk result (MakesAll (events_of_answered self.old.caller t ptr.now Access.Hit)
+        ensures makes { OnOk result (MakesAll (events_of_answered self.old.caller t ptr.now Access.Hit)
             (self.old.kept ++ kept_read block (Some ptr.now.key) ∷ []) self.old self.new) }
+        ensures blocks { self.new.blocks ≡ self.old.blocks }
     {
         let key = ptr.key;
         let held = Some(key);
@@ -156,11 +176,13 @@ impl CallerCache {
         requires missing { access_of self.old.log.now ptr.now ≡ Access.Miss }
         requires formed { IsWellFormed ptr.now.key }
         requires of { IsOf bytes ptr.now }
-        ensures { OnOk result (MakesAll (events_of_answered self.old.caller t ptr.now Access.Miss)
+        ensures makes { OnOk result (MakesAll (events_of_answered self.old.caller t ptr.now Access.Miss)
             (self.old.kept ++ kept_read block (Some ptr.now.key) ∷ []) self.old self.new) }
+        ensures blocks { (image : List ℕ) → bytes ≡ range_of image ptr.now.key → AreOfImage image self.old.blocks → AreOfImage image self.new.blocks }
     {
         let (key, digest) = (ptr.key, ptr.digest);
         let held = Some(key);
+        sweep(&self.shard, &mut self.blocks);
         self.shard.reserve(3, 1)?;
         self.blocks.put(key, bytes)?;
         self.kept.push(KeptRead { block, held })?;
@@ -170,24 +192,12 @@ impl CallerCache {
         Ok(())
     }
 
-    /// Lets the blocks of evicted entries go, once they have as many bytes as those that are cached.
-    pub(crate) fn sweep(&mut self)
-        ensures { self.new ≡ self.old }
-    {
-        let cached = self
-            .shard
-            .size(State::Mru)
-            .saturating_add(self.shard.size(State::Mfu));
-        if self.blocks.bytes() / 2 >= cached {
-            self.blocks.keep_resident(&self.shard);
-        }
-    }
-
     /// Ends a read that did not find its block cached, and for which the pool failed or gave other bytes.
     pub(crate) fn fail(&mut self, ptr: &Ptr, t: u64) -> Result<(), NoMemory>
         requires missing { access_of self.old.log.now ptr.now ≡ Access.Miss }
         requires formed { IsWellFormed ptr.now.key }
-        ensures { OnOk result (MakesAll (events_of_refused self.old.caller t ptr.now Access.Miss) self.old.kept self.old self.new) }
+        ensures makes { OnOk result (MakesAll (events_of_refused self.old.caller t ptr.now Access.Miss) self.old.kept self.old self.new) }
+        ensures blocks { self.new.blocks ≡ self.old.blocks }
     {
         let key = ptr.key;
         self.shard.reserve(3, 1)?;
@@ -200,7 +210,8 @@ impl CallerCache {
     /// Notes a read past the cache, which keeps bytes of the digest `kept` under the pointer's key.
     pub(crate) fn past(&mut self, ptr: &Ptr, kept: Digest) -> Result<(), NoMemory>
         requires { access_of self.old.log.now ptr.now ≡ Access.Past kept }
-        ensures { OnOk result (MakesAll (Event.Past self.old.caller ptr.now.key kept ∷ []) self.old.kept self.old self.new) }
+        ensures makes { OnOk result (MakesAll (Event.Past self.old.caller ptr.now.key kept ∷ []) self.old.kept self.old self.new) }
+        ensures blocks { self.new.blocks ≡ self.old.blocks }
     {
         let key = ptr.key;
         self.shard.reserve(1, 0)?;
@@ -211,8 +222,9 @@ impl CallerCache {
     /// Keeps a read past the cache: it holds nothing.
     pub(crate) fn keep_past(&mut self, block: u32, ptr: &Ptr, kept: Digest) -> Result<(), NoMemory>
         requires { access_of self.old.log.now ptr.now ≡ Access.Past kept }
-        ensures { OnOk result (MakesAll (Event.Past self.old.caller ptr.now.key kept ∷ [])
+        ensures makes { OnOk result (MakesAll (Event.Past self.old.caller ptr.now.key kept ∷ [])
             (self.old.kept ++ kept_read block None ∷ []) self.old self.new) }
+        ensures blocks { self.new.blocks ≡ self.old.blocks }
     {
         let key = ptr.key;
         self.shard.reserve(1, 0)?;
@@ -224,8 +236,9 @@ impl CallerCache {
     /// Gives back the read that was kept last.
     pub(crate) fn give_back_newest(&mut self)
         requires { 0 < length self.old.kept }
-        ensures { (reads : List KeptRead) (read : KeptRead) → self.old.kept ≡ reads ++ read ∷ []
+        ensures makes { (reads : List KeptRead) (read : KeptRead) → self.old.kept ≡ reads ++ read ∷ []
             → MakesAll (events_of_drop self.old.caller read.held) reads self.old self.new }
+        ensures blocks { self.new.blocks ≡ self.old.blocks }
     {
         let _events = self.shard.history();
         if let Some(read) = self.kept.pop() {
@@ -237,6 +250,7 @@ impl CallerCache {
     pub(crate) fn give_back_oldest(&mut self, block: u32) -> bool
         ensures found { result ≡ is_some (oldest_kept block self.old.kept) }
         ensures makes { MakesAll (events_of_drop self.old.caller (oldest_key block self.old.kept)) (without_oldest block self.old.kept) self.old self.new }
+        ensures blocks { self.new.blocks ≡ self.old.blocks }
     {
         let _events = self.shard.history();
         let Some(at) = oldest_of(&self.kept, block) else {

@@ -3,6 +3,7 @@ ghost use Rattle.std.specs.Prelude.{◌≡◌, ◌+◌, ◌≤◌, IfErr, IfOk};
 ghost use Rattle.arc_paper.specs.Cache.{IsCapacity};
 ghost use Rattle.trace_text.specs.Grammar.{longest_text};
 ghost use Rattle.trace_run.specs.Stream.{TakesAtMost};
+ghost use Rattle.trace_run.specs.States.{sink_state, source_state};
 ghost use Rattle.trace_run.specs.Outcome.{AnswersPages, AnswersPageSource, IfUsage, IsReadStatus, WerePagesRead};
 
 use crate::status::Status;
@@ -23,11 +24,8 @@ pub(crate) fn run_paper<S: Source, K: Sink>(
     requires { IsCapacity c }
     ensures past_words { IfUsage result ⊥ }
     ensures took { TakesAtMost (S.left source.old) (S.left source.new) (longest_text + 1) }
-    ensures answers { AnswersPages c
-        (record { told = S.left source.old; faults = S.faults source.old })
-        (record { told = S.left source.new; faults = S.faults source.new })
-        (record { told = K.written sink.old; faults = K.faults sink.old })
-        (record { told = K.written sink.new; faults = K.faults sink.new }) result }
+    ensures answers { AnswersPages c (source_state S.Source source.old) (source_state S.Source source.new)
+        (sink_state K.Sink sink.old) (sink_state K.Sink sink.new) result }
 {
     let pages = match pages_of(alloc, source) {
         Ok(pages) => pages,
@@ -46,12 +44,8 @@ pub(crate) fn run_paper<S: Source, K: Sink>(
 /// Reads the list of pages that a source holds.
 fn pages_of<S: Source>(alloc: Global, source: &mut S) -> Result<Vec<u64>, Status>
     ensures took { TakesAtMost (S.left source.old) (S.left source.new) (longest_text + 1) }
-    ensures read { IfOk result (λ pages. WerePagesRead
-        (record { told = S.left source.old; faults = S.faults source.old })
-        (record { told = S.left source.new; faults = S.faults source.new }) pages.items) }
-    ensures err { IfErr result (AnswersPageSource
-        (record { told = S.left source.old; faults = S.faults source.old })
-        (record { told = S.left source.new; faults = S.faults source.new })) }
+    ensures read { IfOk result (λ pages. WerePagesRead (source_state S.Source source.old) (source_state S.Source source.new) pages.items) }
+    ensures err { IfErr result (AnswersPageSource (source_state S.Source source.old) (source_state S.Source source.new)) }
     ensures which { IfErr result IsReadStatus }
 {
     let text = match read_all(alloc, source, LONGEST_TRACE) {

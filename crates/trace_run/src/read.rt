@@ -1,10 +1,10 @@
-//! One read of the pool, with no cache.
-ghost use Rattle.std.specs.Prelude.{◌≡◌, ◌≤◌, ◌⊎◌, vec_len, IfOk, IfErr, IfSome, Err};
+//! One read of the pool, with no cache (zio_read and zio_checksum_error of OpenZFS 2.1, for a block that is stored uncompressed).
+ghost use Rattle.std.specs.Prelude.{◌≡◌, ◌⊎◌, vec_len, IfOk, IfErr, IfSome};
 ghost use Rattle.blk_ptr.specs.Key.{IsValid};
 ghost use Rattle.blk_ptr.specs.Ptr.{range_of};
-ghost use Rattle.vdev_io.specs.Faults.{Rose};
-ghost use Rattle.trace_run.specs.Read.{IsServed};
-ghost use Rattle.trace_run.specs.ReadFault.{IsCause, IsPastKey, CountsRead};
+ghost use Rattle.trace_run.specs.PoolCalls.{KeepsPool, MakesCalls};
+ghost use Rattle.trace_run.specs.Read.{IsReadOf};
+ghost use Rattle.trace_run.specs.ReadFault.{IsCause, IsPastKey, calls_for_block};
 
 use blk_ptr::{Block, Digest, Key, KeyFault, Ptr};
 use std::alloc::{AllocError, Global};
@@ -74,14 +74,12 @@ pub(crate) fn read_block<P: Pool>(
     ptr: &Ptr,
 ) -> Result<Block, ReadFault>
     requires { IsValid (P.size pool.old) ptr.now.key }
-    ensures ok { IfOk result (IsServed (P.told pool.old) ptr.now) }
+    ensures ok { IfOk result (IsReadOf (P.told pool.old) ptr.now) }
+    ensures range { IfOk result (λ block. IfSome (P.told pool.old) (λ image. block ≡ range_of image ptr.now.key)) }
     ensures err { IfErr result (IsCause (P.size pool.old) (P.told pool.old) ptr.now) }
     ensures past_key { IfErr result IsPastKey }
-    ensures counted { CountsRead result (P.reads pool.old) (P.reads pool.new) }
-    ensures kept { P.faults pool.old ≤ P.faults pool.new }
-    ensures rose { result ≡ Err ReadFault.PoolFault → Rose (P.faults pool.old) (P.faults pool.new) }
-    ensures told { P.told pool.new ≡ P.told pool.old }
-    ensures size { P.size pool.new ≡ P.size pool.old }
+    ensures calls { MakesCalls P.Pool (calls_for_block result) pool.old pool.new }
+    ensures pool { KeepsPool P.Pool pool.old pool.new }
 {
     let block = Block::seal(read_range(alloc, pool, ptr.key)?);
     let found = block.digest();
@@ -97,11 +95,8 @@ fn read_range<P: Pool>(alloc: Global, pool: &mut P, key: Key) -> Result<Vec<u8>,
     ensures size { IfOk result (λ bytes. vec_len bytes ≡ key.size) }
     ensures bytes { IfOk result (λ bytes. IfSome (P.told pool.old) (λ image. bytes.items ≡ range_of image key)) }
     ensures err { IfErr result (λ fault. (fault ≡ ReadFault.PoolFault) ⊎ (fault ≡ ReadFault.NoMemory)) }
-    ensures counted { CountsRead result (P.reads pool.old) (P.reads pool.new) }
-    ensures kept { P.faults pool.old ≤ P.faults pool.new }
-    ensures rose { result ≡ Err ReadFault.PoolFault → Rose (P.faults pool.old) (P.faults pool.new) }
-    ensures told { P.told pool.new ≡ P.told pool.old }
-    ensures size_kept { P.size pool.new ≡ P.size pool.old }
+    ensures calls { MakesCalls P.Pool (calls_for_block result) pool.old pool.new }
+    ensures pool { KeepsPool P.Pool pool.old pool.new }
 {
     let mut bytes = vec![in alloc; 0; key.size as usize]?;
     pool.read(key.offset, &mut bytes)?;

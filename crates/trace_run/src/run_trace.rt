@@ -1,9 +1,9 @@
 //! The run of a trace, and its report.
-ghost use Rattle.std.specs.Prelude.{◌≡◌, IfOk, false, if◌then◌else◌};
-ghost use Rattle.std.specs.List.{list_any};
+ghost use Rattle.std.specs.Prelude.{◌≡◌, IfOk, false};
 ghost use Rattle.trace_text.specs.Grammar.{IsFormed};
-ghost use Rattle.trace_run.specs.Answers.{is_refusal};
-ghost use Rattle.trace_run.specs.Outcome.{IsGenReport, IsRun, report_status};
+ghost use Rattle.trace_run.specs.Outcome.{IsGenReport, IsRun};
+ghost use Rattle.trace_run.specs.PlainRun.{status_of};
+ghost use Rattle.trace_run.specs.PoolCalls.{KeepsPool};
 ghost use Rattle.trace_run.specs.Words.{IsInRange};
 ghost use Rattle.trace_run.specs.declared.words.Command.TheVariants as command;
 
@@ -26,13 +26,10 @@ pub(crate) fn run_trace<P: Pool, G: Gate>(
     gate: &G,
 ) -> Result<Report, NoMemory>
     requires { IsFormed trace.now }
-    ensures run { IfOk result (IsRun
-        (record { size = P.size pool.old; told = P.told pool.old; reads = P.reads pool.old; faults = P.faults pool.old })
-        (record { size = P.size pool.new; told = P.told pool.new; reads = P.reads pool.new; faults = P.faults pool.new }) trace.now) }
-    ensures status { IfOk result (λ report. report.status ≡ report_status report) }
+    ensures run { IfOk result (IsRun P.Pool pool.old pool.new trace.now) }
+    ensures status { IfOk result (λ report. report.status ≡ status_of report.replies) }
     ensures whole { IfOk result (λ report. report.short ≡ false) }
-    ensures told { P.told pool.new ≡ P.told pool.old }
-    ensures size { P.size pool.new ≡ P.size pool.old }
+    ensures pool { KeepsPool P.Pool pool.old pool.new }
 {
     let Config {
         c,
@@ -78,7 +75,7 @@ pub(crate) fn run_generated_trace<G: Gate>(
 
 /// 0 where no reply is a refusal, and else 1.
 fn status_of(replies: &[Reply]) -> u8
-    ensures { result ≡ (if list_any is_refusal replies.now then 1 else 0) }
+    ensures { result ≡ status_of replies.now }
 {
     for reply in replies {
         if let Reply::Refused(_) = reply {

@@ -1,11 +1,12 @@
-//! One read through a caller's cache.
-ghost use Rattle.std.specs.Prelude.{◌≡◌, ◌≤◌, ℕ, Err, IfOk, IfErr, length};
+//! One read through a caller's cache (arc_read of OpenZFS 2.1's arc.c, for a single thread).
+ghost use Rattle.std.specs.Prelude.{◌≡◌, ℕ, IfOk, IfErr, IfSome, length};
 ghost use Rattle.blk_ptr.specs.Key.{IsValid};
-ghost use Rattle.vdev_io.specs.Faults.{Rose};
 ghost use Rattle.trace_run.specs.Access.{access_of};
 ghost use Rattle.trace_run.specs.Answers.{IsInside, window_of};
+ghost use Rattle.trace_run.specs.Blocks.{AreOfImage};
+ghost use Rattle.trace_run.specs.PoolCalls.{KeepsPool};
 ghost use Rattle.trace_run.specs.ReadFault.{IsCause};
-ghost use Rattle.trace_run.specs.Serving.{IsGiven, MakesRead};
+ghost use Rattle.trace_run.specs.Serving.{CallsForRead, IsGiven, MakesRead, ShowsRange};
 
 use crate::access::Access;
 use crate::caller_cache::CallerCache;
@@ -39,11 +40,11 @@ pub(crate) fn serve<P: Pool>(
     ensures valid { IfOk result (λ given. IsValid (P.size pool.old) ptr.now.key) }
     ensures given { IfOk result (IsGiven (P.told pool.old) ptr.now window (access_of cache.old.log.now ptr.now)) }
     ensures cause { IfErr result (IsCause (P.size pool.old) (P.told pool.old) ptr.now) }
-    ensures makes { MakesRead block t ptr.now cache.old cache.new (P.reads pool.old) (P.reads pool.new) result }
-    ensures kept { P.faults pool.old ≤ P.faults pool.new }
-    ensures rose { result ≡ Err ReadFault.PoolFault → Rose (P.faults pool.old) (P.faults pool.new) }
-    ensures told { P.told pool.new ≡ P.told pool.old }
-    ensures size { P.size pool.new ≡ P.size pool.old }
+    ensures makes { MakesRead block t ptr.now cache.old cache.new result }
+    ensures calls { CallsForRead P.Pool (access_of cache.old.log.now ptr.now) result pool.old pool.new }
+    ensures pool { KeepsPool P.Pool pool.old pool.new }
+    ensures image { IfSome (P.told pool.old) (λ image. AreOfImage image cache.old.blocks
+        → AreOfImage image cache.new.blocks × IfOk result (λ given. ShowsRange image ptr.now window given.shown)) }
 {
     ptr.key.check(pool.len())?;
     match cache.access(ptr) {
@@ -73,11 +74,11 @@ fn serve_past<P: Pool>(
     requires past { access_of cache.old.log.now ptr.now ≡ Access.Past kept }
     ensures given { IfOk result (IsGiven (P.told pool.old) ptr.now window (Access.Past kept)) }
     ensures cause { IfErr result (IsCause (P.size pool.old) (P.told pool.old) ptr.now) }
-    ensures makes { (t : ℕ) → MakesRead block t ptr.now cache.old cache.new (P.reads pool.old) (P.reads pool.new) result }
-    ensures kept { P.faults pool.old ≤ P.faults pool.new }
-    ensures rose { result ≡ Err ReadFault.PoolFault → Rose (P.faults pool.old) (P.faults pool.new) }
-    ensures told { P.told pool.new ≡ P.told pool.old }
-    ensures size { P.size pool.new ≡ P.size pool.old }
+    ensures makes { (t : ℕ) → MakesRead block t ptr.now cache.old cache.new result }
+    ensures calls { CallsForRead P.Pool (Access.Past kept) result pool.old pool.new }
+    ensures pool { KeepsPool P.Pool pool.old pool.new }
+    ensures image { IfSome (P.told pool.old) (λ image. AreOfImage image cache.old.blocks
+        → AreOfImage image cache.new.blocks × IfOk result (λ given. ShowsRange image ptr.now window given.shown)) }
 {
     match read_block(alloc, pool, ptr) {
         Ok(bytes) => {
@@ -110,16 +111,15 @@ fn serve_missing<P: Pool>(
     requires missing { access_of cache.old.log.now ptr.now ≡ Access.Miss }
     ensures given { IfOk result (IsGiven (P.told pool.old) ptr.now window Access.Miss) }
     ensures cause { IfErr result (IsCause (P.size pool.old) (P.told pool.old) ptr.now) }
-    ensures makes { MakesRead block t ptr.now cache.old cache.new (P.reads pool.old) (P.reads pool.new) result }
-    ensures kept { P.faults pool.old ≤ P.faults pool.new }
-    ensures rose { result ≡ Err ReadFault.PoolFault → Rose (P.faults pool.old) (P.faults pool.new) }
-    ensures told { P.told pool.new ≡ P.told pool.old }
-    ensures size { P.size pool.new ≡ P.size pool.old }
+    ensures makes { MakesRead block t ptr.now cache.old cache.new result }
+    ensures calls { CallsForRead P.Pool Access.Miss result pool.old pool.new }
+    ensures pool { KeepsPool P.Pool pool.old pool.new }
+    ensures image { IfSome (P.told pool.old) (λ image. AreOfImage image cache.old.blocks
+        → AreOfImage image cache.new.blocks × IfOk result (λ given. ShowsRange image ptr.now window given.shown)) }
 {
     match read_block(alloc, pool, ptr) {
         Ok(bytes) => {
             let shown = window_of(&bytes, window);
-            cache.sweep();
             cache.arrive(block, ptr, t, bytes)?;
             let served = Served::Pool;
             Ok(Given { served, shown })

@@ -51,7 +51,7 @@ pub(crate) fn read_all<S: Source>(
     ensures took { TakesAtMost (S.left source.old) (S.left source.new) (most + 1) }
     ensures ok { IfOk result (λ text. Gives (S.left source.old) (S.left source.new) most text.items) }
     ensures failed { result ≡ Err ReadAllFault.SourceFault → Rose (S.faults source.old) (S.faults source.new) }
-    ensures kept { S.faults source.old ≤ S.faults source.new }
+    ensures never_falls { S.faults source.old ≤ S.faults source.new }
 {
     let mut text = Vec::new(alloc);
     let mut piece = Vec::new(alloc);
@@ -76,7 +76,7 @@ fn read_piece<S: Source>(
     ensures read { IfOk result (GivesPiece (S.left source.old) (S.left source.new) text.old.items text.new.items) }
     ensures bound { IfOk result (λ n. n ≤ length piece.old) }
     ensures failed { result ≡ Err ReadAllFault.SourceFault → Rose (S.faults source.old) (S.faults source.new) }
-    ensures kept { S.faults source.old ≤ S.faults source.new }
+    ensures never_falls { S.faults source.old ≤ S.faults source.new }
 {
     let n = source.read(piece)?;
     text.extend_from_slice(&piece[..n])?;
@@ -88,7 +88,7 @@ pub(crate) fn write_all<K: Sink>(sink: &mut K, text: &[u8]) -> Result<(), Failed
     ensures ok { OnOk result (Appends (K.written sink.old) (K.written sink.new) text.now) }
     ensures failed { OnErr result (Rose (K.faults sink.old) (K.faults sink.new)) }
     ensures front { AppendsFront (K.written sink.old) (K.written sink.new) text.now }
-    ensures kept { K.faults sink.old ≤ K.faults sink.new }
+    ensures never_falls { K.faults sink.old ≤ K.faults sink.new }
 {
     let mut at = 0;
     while at < text.len() {

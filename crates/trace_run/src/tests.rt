@@ -1,6 +1,5 @@
 //! Runs over a source, a sink and a pool in memory, with values from outside.
 
-mod histories;
 mod pages;
 mod rows;
 mod statuses;

@@ -1,9 +1,10 @@
 //! The top call: from the words and the source to the report on the sink.
 ghost use Rattle.std.specs.Prelude.{◌≡◌, ◌≤◌, ◌<◌, ◌^◌, IfSome, IfOk, IfErr, None, false, is_some, ◌+◌};
-ghost use Rattle.std.specs.Bool.{OnFalse};
 ghost use Rattle.trace_text.specs.Grammar.{IsFormed, longest_text};
 ghost use Rattle.trace_run.specs.Stream.{TakesAtMost};
-ghost use Rattle.trace_run.specs.Outcome.{AnswersWords, AnswersSource, AnswersSink, Does, DoesRun, IfUsage, IsDelivered, IsGenReport, IsGenStatus, IsReadStatus, WasRead, has_report, ran};
+ghost use Rattle.trace_run.specs.Outcome.{AnswersWords, AnswersSource, AnswersSink, Does, DoesRun, IfUsage, IsDelivered, IsGenReport, IsGenStatus, IsReadStatus, WasRead, has_report};
+ghost use Rattle.trace_run.specs.PoolCalls.{KeepsPool};
+ghost use Rattle.trace_run.specs.States.{handed, sink_state, source_state};
 ghost use Rattle.trace_run.specs.Words.{IsInRange, texts};
 ghost use Rattle.trace_run.specs.declared.words.Command.TheVariants as command;
 
@@ -41,26 +42,15 @@ pub fn run<R: Threads + Wait + Sync, S: Source, K: Sink, P: Pool, D: CacheDev, G
 ) -> Outcome
     // Usage comes exactly where the words are no command, with the first word that is wrong. Else the command did what it is to do:
     // a bad trace and a fault of the source come only with their causes, the report explains what was run, and its text is written.
-    ensures answers { AnswersWords (texts words.now) (Does
-        (record {
-          source = record { told = S.left source.old; faults = S.faults source.old };
-          sink = record { told = K.written sink.old; faults = K.faults sink.old };
-          pool = record { size = P.size pool.old; told = P.told pool.old; reads = P.reads pool.old; faults = P.faults pool.old };
-        })
-        (record {
-          source = record { told = S.left source.new; faults = S.faults source.new };
-          sink = record { told = K.written sink.new; faults = K.faults sink.new };
-          pool = record { size = P.size pool.new; told = P.told pool.new; reads = P.reads pool.new; faults = P.faults pool.new };
-        })
-        result.status result.report) result.status }
+    ensures answers { AnswersWords (texts words.now) (Does P.Pool
+        (handed S.Source K.Sink source.old sink.old pool.old) (handed S.Source K.Sink source.new sink.new pool.new) result.status result.report) result.status }
 
     // Where the words are refused nothing is touched, and where nothing is run the pool isn't.
     ensures untouched { IfUsage result.status
         ((source.new ≡ source.old) × (sink.new ≡ sink.old) × (pool.new ≡ pool.old) × (result.report ≡ None)) }
-    ensures unrun { OnFalse (ran result.status) (pool.new ≡ pool.old) }
 
     // The pool holds what it held.
-    ensures pool { (P.told pool.new ≡ P.told pool.old) × (P.size pool.new ≡ P.size pool.old) }
+    ensures pool { KeepsPool P.Pool pool.old pool.new }
     ensures cache { cache.new ≡ cache.old }
 {
     match Command::parse(words) {
@@ -89,22 +79,9 @@ fn run_source<S: Source, K: Sink, P: Pool, G: Gate>(
     gate: &G,
 ) -> Outcome
     ensures past_words { IfUsage result.status ⊥ }
-    ensures does { DoesRun events
-        (record {
-          source = record { told = S.left source.old; faults = S.faults source.old };
-          sink = record { told = K.written sink.old; faults = K.faults sink.old };
-          pool = record { size = P.size pool.old; told = P.told pool.old; reads = P.reads pool.old; faults = P.faults pool.old };
-        })
-        (record {
-          source = record { told = S.left source.new; faults = S.faults source.new };
-          sink = record { told = K.written sink.new; faults = K.faults sink.new };
-          pool = record { size = P.size pool.new; told = P.told pool.new; reads = P.reads pool.new; faults = P.faults pool.new };
-        })
-        result.status result.report }
-    ensures unrun { OnFalse (ran result.status) (pool.new ≡ pool.old) }
-    ensures present { is_some result.report ≡ has_report result.status }
-    ensures told { P.told pool.new ≡ P.told pool.old }
-    ensures size { P.size pool.new ≡ P.size pool.old }
+    ensures does { DoesRun P.Pool events
+        (handed S.Source K.Sink source.old sink.old pool.old) (handed S.Source K.Sink source.new sink.new pool.new) result.status result.report }
+    ensures pool { KeepsPool P.Pool pool.old pool.new }
 {
     let trace = match read_source(alloc, source) {
         Ok(trace) => trace,
@@ -137,9 +114,7 @@ fn run_generated<K: Sink, G: Gate>(
     ensures past_words { IfUsage result.status ⊥ }
     ensures fair { IsGenStatus result.status }
     ensures reported { IfSome result.report (IsGenReport seed blocks ops) }
-    ensures sink { AnswersSink false
-        (record { told = K.written sink.old; faults = K.faults sink.old })
-        (record { told = K.written sink.new; faults = K.faults sink.new }) result.status result.report }
+    ensures sink { AnswersSink false (sink_state K.Sink sink.old) (sink_state K.Sink sink.new) result.status result.report }
     ensures present { is_some result.report ≡ has_report result.status }
 {
     match run_generated_trace(alloc, seed, blocks, ops, gate) {
@@ -154,13 +129,9 @@ fn run_generated<K: Sink, G: Gate>(
 /// Reads the trace that a source holds.
 fn read_source<S: Source>(alloc: Global, source: &mut S) -> Result<Trace, Status>
     ensures took { TakesAtMost (S.left source.old) (S.left source.new) (longest_text + 1) }
-    ensures read { IfOk result (WasRead
-        (record { told = S.left source.old; faults = S.faults source.old })
-        (record { told = S.left source.new; faults = S.faults source.new })) }
+    ensures read { IfOk result (WasRead (source_state S.Source source.old) (source_state S.Source source.new)) }
     ensures formed { IfOk result IsFormed }
-    ensures err { IfErr result (AnswersSource
-        (record { told = S.left source.old; faults = S.faults source.old })
-        (record { told = S.left source.new; faults = S.faults source.new })) }
+    ensures err { IfErr result (AnswersSource (source_state S.Source source.old) (source_state S.Source source.new)) }
     ensures which { IfErr result IsReadStatus }
 {
     let text = match read_all(alloc, source, LONGEST_TRACE) {
@@ -178,9 +149,7 @@ fn read_source<S: Source>(alloc: Global, source: &mut S) -> Result<Trace, Status
 /// Writes a report's text to the sink.
 fn deliver<K: Sink>(alloc: Global, events: bool, sink: &mut K, report: Report) -> Outcome
     requires { report.status ≤ 1 }
-    ensures sink { AnswersSink events
-        (record { told = K.written sink.old; faults = K.faults sink.old })
-        (record { told = K.written sink.new; faults = K.faults sink.new }) result.status result.report }
+    ensures sink { AnswersSink events (sink_state K.Sink sink.old) (sink_state K.Sink sink.new) result.status result.report }
     ensures present { is_some result.report ≡ has_report result.status }
     ensures same { IfSome result.report (λ told. told ≡ report) }
     ensures which { IsDelivered result.status }

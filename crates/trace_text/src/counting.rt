@@ -1,3 +1,4 @@
+//! Counts the events of all shards.
 ghost use Rattle.std.specs.Prelude.{◌≡◌, ◌≤◌, count_by, length};
 ghost use Rattle.arc_core.specs.Operations.{is_pool_read};
 ghost use Rattle.trace_text.specs.Counting.{count_all, counts_in, test_of};

@@ -1,3 +1,4 @@
+//! What the events of all shards are counted as, and how the counts are printed.
 ghost use Rattle.std.specs.Prelude.{Some};
 
 use std::fmt;

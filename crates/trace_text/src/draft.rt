@@ -1,3 +1,4 @@
+//! A trace in the making: each line is taken in, or refused for its fault.
 ghost use Rattle.std.specs.Prelude.{◌≡◌, ◌≤◌, IfErr, MatchOption, None, OnOk, vec_len};
 ghost use Rattle.trace_text.specs.Grammar.{Adds, Content, content_of, fields_of, nothing};
 ghost use Rattle.trace_text.specs.Reading.{IsBegun, IsLineCause, IsLineRead, IsPlaced, IsSeenOf};

@@ -1,3 +1,4 @@
+//! What a shard ends with, and how it is printed.
 ghost use Rattle.std.specs.Prelude.{Some};
 
 use std::fmt;

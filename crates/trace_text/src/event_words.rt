@@ -1,3 +1,4 @@
+//! How an event is printed: its name, who made it, its key, and what else it tells.
 ghost use Rattle.std.specs.Prelude.{◌≡◌, Some};
 ghost use Rattle.trace_text.specs.EventText.{event_words, failed_word, key_words, origin_word, sole_word, told_words, why_word};
 

@@ -1,3 +1,4 @@
+//! What is wrong with a line of a trace, and why a text was not read.
 /// What is wrong with a line of a trace. Where several are, the first of this list counts.
 #[derive(Clone, Copy, Debug, PartialEq, Eq)]
 pub enum Kind {

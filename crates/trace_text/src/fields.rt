@@ -1,3 +1,4 @@
+//! The fields of a line, taken one after another as numbers in their ranges.
 ghost use Rattle.std.specs.Prelude.{◌↔◌, IsTrue};
 ghost use Rattle.trace_text.specs.Reading.{BeginsAsNumber, IsDigestRead, IsNumberRead, IsSpelledBy, IsWordRead, TakesBelow, TakesDigest, TakesNumber};
 

@@ -1,3 +1,4 @@
+//! The form of each line of a trace: its first word, and what its fields say.
 ghost use Rattle.std.specs.Prelude.{◌≡◌, ◌<◌, ◌≤◌, MatchResult, length};
 ghost use Rattle.trace_text.specs.Grammar.{field_count};
 ghost use Rattle.trace_text.specs.Reading.{IsFormRead};

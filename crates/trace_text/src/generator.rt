@@ -1,3 +1,4 @@
+//! The made trace: reads of drawn blocks over a pool of zero bytes.
 ghost use Rattle.std.specs.Prelude.{◌<◌, ◌≤◌, ◌≡◌, ◌^◌, IfOk, map};
 ghost use Rattle.std.specs.List.{range_with_len};
 ghost use Rattle.trace_text.specs.Generator.{IsGenerated, next_draw, generated_block, generated_read, zero_digest};

@@ -1,3 +1,4 @@
+//! What a text is and is not, told as laws of the grammar.
 ghost use Rattle.std.specs.Prelude.{◌≡◌, ℕ, List, map};
 ghost use Rattle.trace_text.specs.Grammar.{IsFirstFault, IsTraceText, counted_fields, lines_in, lines_of, spelling};
 ghost use Rattle.trace_text.specs.declared.fault.Kind.{Kind};

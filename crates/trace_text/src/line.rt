@@ -1,3 +1,4 @@
+//! Which lines of a text are passed over, and what the others are.
 ghost use Rattle.std.specs.Prelude.{◌≡◌, ◌↔◌, IsTrue, length};
 ghost use Rattle.trace_text.specs.Grammar.{HasShape, fields_of, field_count};
 ghost use Rattle.trace_text.specs.Reading.{IsFormRead};

@@ -1,3 +1,4 @@
+//! A text in parts: what stands between its separators.
 ghost use Rattle.std.specs.Prelude.{◌≡◌, ℕ, ◌==◌, List, [], ◌∷◌, MatchOption, if◌then◌else◌};
 ghost use Rattle.std.specs.List.{slice_split};
 

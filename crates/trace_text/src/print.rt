@@ -1,3 +1,4 @@
+//! Appends the text of a report.
 ghost use Rattle.std.specs.Prelude.{◌≡◌, ◌++◌, OnOk, OnErr, IfOk, string_bytes};
 ghost use Rattle.trace_text.specs.ReportText.{reply_lines, text_of};
 

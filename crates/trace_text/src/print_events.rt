@@ -1,3 +1,4 @@
+//! Appends the lines of the events of all shards.
 ghost use Rattle.std.specs.Prelude.{◌≡◌, ◌++◌, OnOk, string_bytes};
 ghost use Rattle.trace_text.specs.EndText.{end_lines};
 ghost use Rattle.trace_text.specs.EventText.{event_lines, history_lines};

@@ -1,3 +1,4 @@
+//! Reads a trace, line by line.
 ghost use Rattle.std.specs.Prelude.{◌≡◌, ◌+◌, ◌≤◌, ◌==◌, IfErr, IfOk, count_by, length, take};
 ghost use Rattle.trace_text.specs.Grammar.{AddAll, IsCause, IsFormed, IsTraceText, lines_of, longest_text, nothing};
 ghost use Rattle.trace_text.specs.Reading.{IsFaultAt, IsLinesCause};

@@ -1,3 +1,4 @@
+//! What an operation is answered, and how that is printed.
 ghost use Rattle.std.specs.Prelude.{◌≡◌, Some};
 ghost use Rattle.trace_text.specs.ReportWords.{served_word};
 

@@ -1,3 +1,4 @@
+//! Tests of the texts of reports.
 use crate::{
     Counts, Ends, Histories, History, Refusal, Replies, Reply, Report, Served, ShardEnd, Shown,
     counts_of, event_text, report_text,

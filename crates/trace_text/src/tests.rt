@@ -1,3 +1,4 @@
+//! Tests of the trace reader and of the generator.
 use crate::{Bounds, Config, Kind, Op, Trace, TraceFault, Window, gen_trace, read_trace};
 use std::alloc::{AllocError, Global};
 use std::test::Fail;

@@ -1,3 +1,4 @@
+//! The words with which the lines of a trace begin.
 ghost use Rattle.std.specs.Prelude.{◌≡◌};
 ghost use Rattle.trace_text.specs.declared.words.LineFault.TheVariants.{NoMemory};
 

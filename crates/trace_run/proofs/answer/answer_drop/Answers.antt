@@ -1,4 +1,4 @@
-use Rattle.std.proofs.Common.{◌≡◌, Bool, false, true, is_some, refl, sym, ◌∙◌, arith}
+use Rattle.std.proofs.Common.{◌≡◌, false, true, is_some, refl, sym, ◌∙◌, arith}
 use Rattle.trace_run.specs.OneCaller.{oldest_kept}
 use Rattle.trace_run.proofs.DropLemmas.{absent-counted, found-counted, makes-nothing}
 use Rattle.trace_run.proofs.answer.answer_drop.Goals as goal

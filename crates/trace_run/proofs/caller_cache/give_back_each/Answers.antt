@@ -1,4 +1,4 @@
-use Rattle.std.proofs.Common.{◌≡◌, ◌++◌, None, List, length, get_or, take, take_all, refl, sym, ap, ◌∙◌, arith, append_assoc, append-nil}
+use Rattle.std.proofs.Common.{◌≡◌, ◌++◌, None, List, get_or, take, take_all, refl, sym, ap, ◌∙◌, append_assoc, append-nil}
 use Rattle.arc_core.proofs.Stepping.{replay-append}
 use Rattle.arc_core.specs.declared.event.Event.{Event}
 use Rattle.arc_core.specs.PlainShard.{PlainShard}

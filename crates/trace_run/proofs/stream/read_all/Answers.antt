@@ -1,4 +1,4 @@
-use Rattle.std.proofs.Common.{◌≡◌, ◌+◌, ◌≤◌, length, length-take, arith}
+use Rattle.std.proofs.Common.{◌+◌, length-take, arith}
 use Rattle.trace_run.proofs.StreamLemmas.{more_taken}
 use Rattle.trace_run.proofs.stream.read_all.Goals as goal
 

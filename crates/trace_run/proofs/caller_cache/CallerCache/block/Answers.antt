@@ -1,6 +1,5 @@
-use Rattle.std.proofs.Common.{◌≡◌, sym, ◌∙◌, subst, Some}
+use Rattle.std.proofs.Common.{◌≡◌, sym, ◌∙◌, Some}
 use Rattle.std.specs.Option.{option_copied}
-use Rattle.blk_ptr.specs.Ptr.{IsOf}
 use Rattle.trace_run.specs.CallerCache.{HasBlock}
 use Rattle.trace_run.proofs.CacheLemmas.{access-hit, copied-is, copied-some}
 use Rattle.trace_run.proofs.caller_cache.CallerCache.block.Goals as goal
@@ -14,10 +13,18 @@ unwrap-requires c =
     let there : option_copied c.get.result ≡ Some (has c).bytes = c.get.ensures ∙ (has c).there in
     copied-some c.get.result (has c).bytes there
 
-pub returns : goal.returns
-returns c =
+pub returns-clause-of : goal.returns-clause-of
+returns-clause-of c =
     let cached = access-hit c.self.inside.shard.now c.args.ptr.now (rw (sym c.self.view_is) at c.requires) in
     let block = c.self.invariant.cached c.args.ptr.now.key c.args.ptr.now.digest cached in
     let there : option_copied c.get.result ≡ Some block.bytes = c.get.ensures ∙ block.there in
     let is = copied-is c.get.result c.unwrap.result block.bytes there c.unwrap.ensures in
     record { size = rw is block.size; digest = rw is block.digest }
+
+pub returns-clause-at : goal.returns-clause-at
+returns-clause-at c =
+    let cached = access-hit c.self.inside.shard.now c.args.ptr.now (rw (sym c.self.view_is) at c.requires) in
+    let block = c.self.invariant.cached c.args.ptr.now.key c.args.ptr.now.digest cached in
+    let there : option_copied c.get.result ≡ Some block.bytes = c.get.ensures ∙ block.there in
+    let is = copied-is c.get.result c.unwrap.result block.bytes there c.unwrap.ensures in
+    rw (← c.self.view_is, is) block.there

@@ -4,7 +4,7 @@ use Rattle.arc_core.specs.ShardLog.{ShardLog}
 use Rattle.arc_core.specs.Sound.{IsSound}
 use Rattle.arc_core.specs.Step.{after}
 use Rattle.arc_core.specs.declared.event.Event.TheVariants.{Miss}
-use Rattle.trace_run.proofs.CacheLemmas.{IsKept-fail, access-missing, fail-legal, miss-legal}
+use Rattle.trace_run.proofs.CacheLemmas.{IsCallerCache-fail, access-missing, fail-legal, miss-legal}
 use Rattle.trace_run.proofs.caller_cache.CallerCache.fail.Goals as goal
 
 pub miss-requires-clause-legal : goal.miss-requires-clause-legal
@@ -30,4 +30,4 @@ invariant_of-self-2 c =
     let sound : IsSound c.self.inside.shard.now = subst IsSound same c.history-events.ensures.replayed.sound in
     let k = c.args.ptr.now.key in
     let missed : c.miss.new.self.now ≡ after c.self.inside.shard.now (Miss c.self.inside.caller k c.args.t) = c.miss.ensures.makes.now ∙ ap (λ (s : PlainShard). after s (Miss c.self.inside.caller k c.args.t)) same in
-    IsKept-fail c.self.inside _ k c.args.t c.miss.new.self.now c.self.invariant sound c.requires.formed none missed refl c.fail.ensures.makes.now refl refl
+    IsCallerCache-fail c.self.inside _ k c.args.t c.miss.new.self.now c.self.invariant sound c.requires.formed none missed refl c.fail.ensures.makes.now refl refl

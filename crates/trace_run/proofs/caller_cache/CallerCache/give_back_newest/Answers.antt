@@ -1,5 +1,5 @@
-use Rattle.std.proofs.Common.{◌≡◌, refl}
-use Rattle.trace_run.proofs.DropLemmas.{IsKept-standing, drops-legal, less-last, standing-given, standing-of}
+use Rattle.std.proofs.Common.{refl}
+use Rattle.trace_run.proofs.DropLemmas.{IsCallerCache-standing, drops-legal, less-last, standing-given, standing-of}
 use Rattle.trace_run.proofs.caller_cache.CallerCache.give_back_newest.Goals as goal
 
 pub give_back-requires : goal.give_back-requires
@@ -9,6 +9,6 @@ give_back-requires c =
 
 pub invariant_of-self : goal.invariant_of-self
 invariant_of-self c =
-    IsKept-standing c.self.inside _ c.pop.new.self.items _ c.self.invariant refl refl c.give_back.ensures.now refl
+    IsCallerCache-standing c.self.inside _ c.pop.new.self.items _ c.self.invariant refl refl c.give_back.ensures.now refl
     (standing-given c.self.inside.caller c.in-Some.read.held c.self.inside.kept.items c.pop.new.self.items c.self.inside.blocks c.self.inside.shard.now c.self.invariant.number (standing-of c.self.inside c.self.invariant)
     (less-last c.self.inside.kept.items c.pop.new.self.items c.in-Some.read c.in-Some.ensures.items))

@@ -1,0 +1,34 @@
+-- Which lines of a trace are one caller's, and which are on blocks of one shard.
+use Rattle.std.specs.Prelude.{ℕ, ◌==◌, Bool, if◌then◌else◌, List, [], ◌∷◌, slice_get}
+use Rattle.std.specs.Option.{option_map_or}
+use Rattle.blk_ptr.specs.declared.ptr.Ptr.{Ptr}
+use Rattle.blk_ptr.specs.Hash.{shard_of}
+use Rattle.trace_text.specs.declared.op.Op.{Op}
+use Rattle.trace_text.specs.declared.op.Op.TheVariants as ops
+use Rattle.trace_text.specs.declared.reply.Reply.{Reply}
+use Rattle.trace_text.specs.Grammar.{block_of}
+
+-- the caller of an operation
+abbrev pub caller_of : Op → ℕ
+caller_of (ops.Read n t x window) = n
+caller_of (ops.Hold n t x) = n
+caller_of (ops.Drop n x) = n
+
+-- the operation is this caller's
+abbrev pub is_of_caller : ℕ → Op → Bool
+is_of_caller n op = caller_of op == n
+
+-- the shard of the block that an operation names, of so many shards
+abbrev pub shard_of_line : (shards : ℕ) → List Ptr → Op → ℕ
+shard_of_line shards blocks op = option_map_or (λ (ptr : Ptr). shard_of shards ptr.key) (slice_get blocks (block_of op)) 0
+
+-- the operation is on a block of this shard
+abbrev pub is_in_shard : (shards : ℕ) → List Ptr → (shard : ℕ) → Op → Bool
+is_in_shard shards blocks shard op = shard_of_line shards blocks op == shard
+
+-- the replies to the operations that pass a test
+abbrev pub replies_where : (Op → Bool) → List Op → List Reply → List Reply
+replies_where test [] replies = []
+replies_where test (op ∷ ops) [] = []
+replies_where test (op ∷ ops) (reply ∷ replies) =
+    if test op then (reply ∷ replies_where test ops replies) else replies_where test ops replies
