@@ -1,3 +1,4 @@
+//! The bytes that a read shows.
 ghost use Rattle.std.specs.Prelude.{◌≡◌, ◌≤◌, ℕ, List, [], take, length, Some};
 
 use blk_ptr::Hex;

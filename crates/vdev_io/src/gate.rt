@@ -1,3 +1,5 @@
+//! What is told when a caller begins and ends an operation.
+
 /// What is told when a caller is about to begin an operation and when it has ended it, so that a test can hold callers back.
 pub trait Gate: Sync {
     /// Caller `n` is about to begin its operation `op`, counted from 0 over all operations of the trace.

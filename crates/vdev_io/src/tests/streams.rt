@@ -4,7 +4,7 @@ use crate::stream::{read_some, write_some};
 use crate::*;
 use std::test::Fail;
 
-/// What the standard streams hold is the program's stored run's to show; here they are called through their traits.
+/// What the standard streams carry is shown by the table over the built program; here they are called through their traits.
 #[test]
 fn the_standard_streams(rt: HostRuntime) {
     let mut sink = StdSink::new(&rt);
