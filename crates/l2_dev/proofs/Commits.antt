@@ -1,11 +1,12 @@
 -- What a commit keeps of every crash, from the steps of its body.
-use Rattle.std.proofs.Common.{◌≡◌, ℕ, ◌+◌, ◌<◌, ◌≤◌, ◌++◌, List, [], ◌∷◌, length, map, reverse, Bool, Option, Some, Result, Ok, refl, inl, inr, sym, ap, subst, ◌∙◌, arith}
+use Rattle.std.proofs.Common.{◌≡◌, ℕ, ◌+◌, ◌<◌, ◌≤◌, ◌++◌, List, [], ◌∷◌, length, map, reverse, Bool, Option, None, Some, Result, Ok, refl, inl, inr, sym, ap, subst, ◌∙◌, arith}
 use Rattle.std.specs.List.{AllByRecursion}
 use Rattle.std.specs.Option.{IfSome}
 use Rattle.std.specs.Result.{IsErrOf}
 use Rattle.vdev_io.specs.Device.{put}
 use Rattle.blk_ptr.specs.Ptr.{sha256_of}
 use Rattle.l2_log.specs.Rules.{log_len, header_len}
+use Rattle.l2_log.specs.HeaderBytes.{IsHeader}
 use Rattle.l2_log.specs.LogBytes.{IsLogBlock}
 use Rattle.l2_log.specs.declared.entry.Entry.{Entry}
 use Rattle.l2_log.specs.declared.header.DevHeader.{DevHeader}
@@ -25,7 +26,7 @@ use Rattle.l2_dev.specs.CommitLaws.{IsNewBlock, new_block_stays}
 use Rattle.l2_dev.specs.Planned.{IsBlockOf, IsHeaderWith, IsReserved, HasSettled}
 use Rattle.l2_dev.specs.Steps.{Wrote, HasFlushed, HeaderWritten}
 use Rattle.l2_dev.specs.TornLaws.{put_there}
-use Rattle.l2_dev.specs.Calls.{LeavesWith, LogWritten, forgotten, IsCommitBlock}
+use Rattle.l2_dev.specs.Calls.{LeavesWith, LogWritten, HasCommitWritten, forgotten, IsCommitBlock}
 use Rattle.l2_log.specs.declared.pointer.LogPtr.{LogPtr}
 use Rattle.l2_dev.specs.declared.fault.DevErr.{DevErr}
 use Rattle.l2_dev.specs.declared.fault.DevErr.TheVariants.{NoMemory}
@@ -351,3 +352,19 @@ module _ {D : Type 0} (tells : D → Option (List ℕ)) (has_sectors : D → Boo
           flushed = flushed_of tells has_sectors leaves moment since (tells old) image (λ image. HasFlushed tells leaves mid (put cursor.ring.hand l.0 image)) was l.5.1;
         },
       )
+
+  told_if : (bytes : List ℕ) (block : LogBlock) (sector : List ℕ) (header : DevHeader) (mid new : D) (cursor : CursorState) (ptr : LogPtr) (o : Option (List ℕ)) → IsBlockOf cursor bytes ptr block → IsHeader sector header → IsHeaderWith cursor ptr header
+      → IfSome o (λ image. HasFlushed tells leaves mid (put cursor.ring.hand bytes image)) → IfSome (tells mid) (λ image. HasFlushed tells leaves new (put 0 sector image)) → HasCommitWritten o (tells new) cursor ptr
+  told_if bytes block sector header mid new cursor ptr None of is with logged done = tt
+  told_if bytes block sector header mid new cursor ptr (Some image) of is with logged done =
+      let one : List ℕ = put cursor.ring.hand bytes image in
+      let flushed = flushed_of tells has_sectors leaves moment since (tells mid) one (λ image. HasFlushed tells leaves new (put 0 sector image)) logged.told done in
+      (bytes, block, sector, header, of, is, with, flushed.told)
+
+  -- what the device tells after the log block and its header were written
+  pub commit_written : {T E : Type 0} (old mid new : D) (cursor : CursorState) (ptr : LogPtr) (header : DevHeader) (result : Result T E) → LogWritten tells has_sectors leaves moment since cursor old mid (Ok ptr) → IsHeaderWith cursor ptr header
+      → (w : HeaderWritten tells has_sectors leaves moment since header mid new result) → IfSome (tells mid) (λ image. HasFlushed tells leaves new (put 0 w.sector image)) → HasCommitWritten (tells old) (tells new) cursor ptr
+  commit_written old mid new cursor ptr header result (inl same) with w done = absurd (no_refusal ptr same.1)
+  commit_written old mid new cursor ptr header result (inr l) with w done =
+      let same : l.2 ≡ ptr = sym l.5.0 in
+      told_if l.0 l.1 w.sector header mid new cursor ptr (tells old) (subst (λ (q : LogPtr). IsBlockOf cursor l.0 q l.1) same l.3) w.is with l.5.1 done

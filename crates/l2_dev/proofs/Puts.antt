@@ -1,5 +1,5 @@
 -- What a put keeps of every crash, from the steps of its body.
-use Rattle.std.proofs.Common.{◌≡◌, ℕ, ◌+◌, ◌≤◌, List, [], ◌∷◌, length, map, reverse, true, inl, sym, ap, subst, ◌∙◌, arith}
+use Rattle.std.proofs.Common.{◌≡◌, ℕ, ◌+◌, ◌≤◌, List, [], ◌∷◌, length, map, reverse, true, Option, None, Some, Ok, Err, refl, inl, sym, ap, subst, ◌∙◌, arith}
 use Rattle.std.proofs.lemmas.List.{reverse-append}
 use Rattle.std.specs.List.{AllByRecursion}
 use Rattle.l2_log.specs.declared.entry.Entry.{Entry}
@@ -10,7 +10,8 @@ use Rattle.l2_dev.specs.Cursor.{CursorState, IsCursor, numbers_from}
 use Rattle.l2_dev.specs.Promise.{Promise, IsUpheld}
 use Rattle.l2_dev.specs.PromiseLaws.{same_plan}
 use Rattle.l2_dev.specs.Planned.{HasPushed, IsForgotten}
-use Rattle.l2_dev.specs.TornLaws.{IsAside, EntriesAside}
+use Rattle.vdev_io.specs.Device.{IsWritten, IsTorn}
+use Rattle.l2_dev.specs.TornLaws.{IsAside, EntriesAside, put_torn}
 use Rattle.l2_dev.specs.ListLaws.{all_unmap, all_weaker}
 use Rattle.l2_dev.specs.CallLaws.{WritesInRing, HasForgotten, HasPut}
 use Rattle.l2_dev.proofs.Cursors.{IsBetween, row_between, row_up}
@@ -59,3 +60,22 @@ put_writes cursor at bytes is ready place room =
     let up = row_up cursor.base cursor.ring.hand (map (written_in cursor.ring.lap) (reverse cursor.pending)) is.row in
     let from = is.from in
     record { ready = ready; from = omega arith; to = room; far = omega arith }
+
+-- what was written, told by an answer of another type: done
+pub written_ok : (T E U F : Type 0) (at : ℕ) (bytes : List ℕ) (old new : Option (List ℕ)) (t : T) (u : U) → IsWritten {T = T} {E = E} at bytes old new (Ok t) → IsWritten {T = U} {E = F} at bytes old new (Ok u)
+written_ok T E U F at bytes None new t u w = w
+written_ok T E U F at bytes (Some old) None t u w = w
+written_ok T E U F at bytes (Some old) (Some new) t u w = w
+
+-- failed
+pub written_err : (T E U F : Type 0) (at : ℕ) (bytes : List ℕ) (old new : Option (List ℕ)) (e : E) (f : F) → IsWritten {T = T} {E = E} at bytes old new (Err e) → IsWritten {T = U} {E = F} at bytes old new (Err f)
+written_err T E U F at bytes None new e f w = w
+written_err T E U F at bytes (Some old) None e f w = w
+written_err T E U F at bytes (Some old) (Some new) e f w = w
+
+-- done, and then another step failed
+pub written_torn : (T E U F : Type 0) (at : ℕ) (bytes : List ℕ) (old new : Option (List ℕ)) (t : T) (f : F) → ((image : List ℕ) → old ≡ Some image → at + length bytes ≤ length image)
+    → IsWritten {T = T} {E = E} at bytes old new (Ok t) → IsWritten {T = U} {E = F} at bytes old new (Err f)
+written_torn T E U F at bytes None new t f inside w = w
+written_torn T E U F at bytes (Some old) None t f inside w = w
+written_torn T E U F at bytes (Some old) (Some new) t f inside w = subst (λ (image : List ℕ). IsTorn at (length bytes) old image) (sym w) (put_torn at bytes old (inside old refl))

@@ -7,10 +7,11 @@ use Rattle.l2_dev.specs.declared.fault.DevErr.TheVariants.{DevFault, NoMemory}
 use Rattle.vdev_io.specs.Device.{put}
 use Rattle.l2_log.specs.declared.pointer.LogPtr.{LogPtr}
 use Rattle.l2_log.specs.declared.log_block.LogBlock.{LogBlock}
-use Rattle.l2_dev.specs.Planned.{IsBlockOf}
+use Rattle.l2_dev.specs.Planned.{IsBlockOf, IsHeaderWith}
 use Rattle.l2_dev.specs.Steps.{Wrote, HasFlushed}
 use Rattle.l2_dev.specs.PromiseLaws.{left_by, with_block}
 use Rattle.blk_ptr.specs.Ptr.{sha256_of}
+use Rattle.l2_log.specs.HeaderBytes.{IsHeader}
 use Rattle.l2_log.specs.declared.header.DevHeader.{DevHeader}
 use Rattle.l2_ring.specs.declared.plan.Plan.{Plan}
 use Rattle.l2_dev.specs.Chain.{Visit}
@@ -85,3 +86,9 @@ LogWritten tells has_sectors leaves moment since cursor old new result =
     ((new ≡ old) × IsErrOf result NoMemory)
     ⊎ ((bytes : List ℕ) × (block : LogBlock) × (ptr : LogPtr) × IsBlockOf cursor bytes ptr block × Wrote tells has_sectors leaves moment since cursor.ring.hand bytes old new
     × MatchResult result (λ told. (told ≡ ptr) × IfSome (tells old) (λ image. HasFlushed tells leaves new (put cursor.ring.hand bytes image))) (λ _. Unit {0}))
+
+-- where the device tells its image: the log block of the pending entries stands behind their blocks, the header with it in the first sector, and all else is
+-- as before
+abbrev pub HasCommitWritten : Option (List ℕ) → Option (List ℕ) → CursorState → LogPtr → Type 0
+HasCommitWritten before now cursor ptr = IfSome before (λ image. (bytes : List ℕ) × (block : LogBlock) × (sector : List ℕ) × (header : DevHeader)
+    × IsBlockOf cursor bytes ptr block × IsHeader sector header × IsHeaderWith cursor ptr header × (now ≡ Some (put 0 sector (put cursor.ring.hand bytes image))))

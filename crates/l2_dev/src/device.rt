@@ -1,8 +1,9 @@
 //! The cache device: its writes, and what every crash leaves of it.
 ghost use Rattle.std.specs.Prelude.{◌≡◌, ℕ, List, ◌+◌, ◌<◌, ◌≤◌, ◌++◌, [], ◌∷◌, length, map, true, false, vec_len, vec_capacity, OnOk, OnErr, Ok, Some, IsErrOf, IfSome, MatchResult};
-ghost use Rattle.vdev_io.specs.Device.{put};
+ghost use Rattle.vdev_io.specs.Device.{put, IsWritten};
 ghost use Rattle.blk_ptr.specs.Ptr.{sha256_of};
-ghost use Rattle.l2_dev.specs.Steps.{Wrote};
+ghost use Rattle.l2_dev.specs.Steps.{Wrote, HeaderWritten};
+ghost use Rattle.l2_dev.specs.PromiseLaws.{IsHeaderFrom};
 ghost use Rattle.l2_dev.specs.Calls.{HasDevCause, LogWritten};
 ghost use Rattle.l2_dev.specs.Planned.{HasPushed, IsReserved};
 ghost use Rattle.std.specs.List.{filter};
@@ -44,6 +45,7 @@ fn put_block<D: CacheDev>(
     requires few { length cursor.old.pending < most_with true }
     ensures wrote { Wrote D.told D.has_sectors D.may_leave D.moment D.left_since entry.place bytes.now dev.old dev.new }
     ensures told { OnOk result (IfSome (D.told dev.old) (λ image. D.told dev.new ≡ Some (put entry.place bytes.now image))) }
+    ensures written { IsWritten entry.place bytes.now (D.told dev.old) (D.told dev.new) result }
     ensures pushed { MatchResult result (λ _. HasPushed entry cursor.old cursor.new) (λ _. cursor.new ≡ cursor.old) }
     ensures size { D.size dev.new ≡ D.size dev.old }
     ensures cause { HasDevCause (D.faults dev.old) (D.faults dev.new) result }
@@ -77,7 +79,7 @@ fn write_log<D: CacheDev>(
 }
 
 impl<D: CacheDev> L2Dev<D> {
-    ghost use Rattle.l2_dev.specs.Calls.{BeginKeeps, PutKeeps, CommitKeeps};
+    ghost use Rattle.l2_dev.specs.Calls.{BeginKeeps, PutKeeps, CommitKeeps, HasCommitWritten};
     ghost use Rattle.l2_dev.specs.Cursor.{IsCursor};
     ghost use Rattle.l2_dev.specs.Planned.{HasPlanned, HasSettled, IsForgotten};
     ghost use Rattle.l2_dev.specs.Promise.{Promise, IsKept};
@@ -96,6 +98,7 @@ impl<D: CacheDev> L2Dev<D> {
         ensures planned { (¬ IsErrOf result err.NoMemory) → HasPlanned n self.old.cursor self.new.cursor }
         ensures dropped { (¬ IsErrOf result err.NoMemory) → (plan : _) × IsPlanFor self.old.cursor.ring n plan × (dropped.new.items ≡ dropped.old.items ++ map live_of (filter (falls plan) self.old.cursor.ring.live)) }
         ensures ready { MatchResult result (λ _. self.new.cursor.ready ≡ true) (λ e. (e ≡ err.DevFault) → self.new.cursor.ready ≡ false) }
+        ensures written { (¬ IsErrOf result err.NoMemory) → (header : _) × IsHeaderFrom self.new.cursor header × HeaderWritten D.told D.has_sectors D.may_leave D.moment D.left_since header self.old.dev self.new.dev result }
         ensures crash { (p : Promise) → IsKept D.told D.has_sectors D.may_leave self.old.dev self.old.cursor p → self.new.cursor.ring.lap < last_lap
             → BeginKeeps D.told D.has_sectors D.may_leave D.moment D.left_since self.old.dev self.new.dev self.old.cursor self.new.cursor p result }
     {
@@ -119,6 +122,7 @@ impl<D: CacheDev> L2Dev<D> {
         ensures size { D.size self.new.dev ≡ D.size self.old.dev }
         ensures cause { HasDevCause (D.faults self.old.dev) (D.faults self.new.dev) result }
         ensures place { MatchResult result (λ place. place ≡ self.old.cursor.ring.hand) (λ _. IsForgotten self.old.cursor self.new.cursor) }
+        ensures written { IsWritten self.old.cursor.ring.hand block.now (D.told self.old.dev) (D.told self.new.dev) result }
         ensures pending { OnOk result ((entry : _) × (entry.key ≡ key) × (entry.place ≡ self.old.cursor.ring.hand) × (entry.digest ≡ Some (sha256_of block.now)) × HasPushed entry self.old.cursor self.new.cursor) }
         ensures crash { (p : Promise) → IsKept D.told D.has_sectors D.may_leave self.old.dev self.old.cursor p
             → PutKeeps D.told D.has_sectors D.may_leave D.moment D.left_since self.old.dev self.new.dev self.old.cursor self.new.cursor p key block.now result }
@@ -144,7 +148,7 @@ impl<D: CacheDev> L2Dev<D> {
         requires some { 0 < length self.old.cursor.pending }
         ensures size { D.size self.new.dev ≡ D.size self.old.dev }
         ensures cause { HasDevCause (D.faults self.old.dev) (D.faults self.new.dev) result }
-        ensures settled { MatchResult result (λ _. (ptr : _) × HasSettled ptr self.old.cursor self.new.cursor) (λ _. IsForgotten self.old.cursor self.new.cursor) }
+        ensures settled { MatchResult result (λ _. (ptr : _) × HasSettled ptr self.old.cursor self.new.cursor × HasCommitWritten (D.told self.old.dev) (D.told self.new.dev) self.old.cursor ptr) (λ _. IsForgotten self.old.cursor self.new.cursor) }
         ensures crash { (p : Promise) → IsKept D.told D.has_sectors D.may_leave self.old.dev self.old.cursor p
             → CommitKeeps D.told D.has_sectors D.may_leave D.moment D.left_since self.old.dev self.new.dev self.old.cursor self.new.cursor p result }
     {

@@ -1,7 +1,7 @@
 //! Writes of the device.
 ghost use Rattle.std.specs.Prelude.{◌≡◌, ◌+◌, ◌≤◌, ℕ, List, length, OnOk, IfSome, Some};
 ghost use Rattle.vdev_io.specs.Faults.{HasCause};
-ghost use Rattle.vdev_io.specs.Device.{put};
+ghost use Rattle.vdev_io.specs.Device.{put, IsWritten};
 ghost use Rattle.l2_log.specs.Rules.{header_len};
 ghost use Rattle.l2_dev.specs.Steps.{Wrote, HasFlushed, HeaderWritten};
 
@@ -13,6 +13,7 @@ pub(crate) fn write_at<D: CacheDev>(dev: &mut D, offset: u64, bytes: &[u8]) -> R
     requires inside { offset + length bytes.now ≤ D.size dev.old }
     ensures wrote { Wrote D.told D.has_sectors D.may_leave D.moment D.left_since offset bytes.now dev.old dev.new }
     ensures done { OnOk result (IfSome (D.told dev.old) (λ image. D.told dev.new ≡ Some (put offset bytes.now image))) }
+    ensures told { IsWritten offset bytes.now (D.told dev.old) (D.told dev.new) result }
     ensures size { D.size dev.new ≡ D.size dev.old }
     ensures cause { HasCause (D.faults dev.old) (D.faults dev.new) result }
 {

@@ -56,3 +56,20 @@ returns-clause-crash g c =
       now_only = λ x yes left. laws.only_now dev x yes left;
       long = λ x left. let len = laws.leaves_len dev x left in omega (arith, len, c.requires.whole);
     })
+
+pub returns-in_err-write_header-clause-written : goal.returns-in_err-write_header-clause-written
+returns-in_err-write_header-clause-written g c =
+    λ h.
+    let e = err_from_is_err_and c.from_residual-in_err-write_header.result c.from_residual-in_err-write_header.ensures.1 in
+    let w = c.write_header.ensures.written in
+    rw e.1 (c.header-header.result, c.header-header.ensures.header, record { sector = w.sector; is = w.is; wrote = w.wrote; done = tt })
+
+pub returns-clause-written : goal.returns-clause-written
+returns-clause-written g c =
+    λ h.
+    let same = c.open.ensures.same in
+    let w = c.in_ok-write_header.ensures.written in (
+      c.header-header.result,
+      opened_header c.plan.new.self c.open.new.self c.header-header.result c.header-header.ensures.header same.0 same.1 same.2 same.3,
+      record { sector = w.sector; is = w.is; wrote = w.wrote; done = w.done },
+    )

@@ -1,5 +1,5 @@
 use Rattle.std.proofs.Common.{ℕ, ◌++◌, ◌∷◌, inr, inl, sym, subst, arith}
-use Rattle.l2_dev.proofs.Commits.{log_failed, logged_of, commit_failed, commit_kept, header_reserved, forgotten_reserved, settled_from}
+use Rattle.l2_dev.proofs.Commits.{log_failed, logged_of, commit_failed, commit_kept, header_reserved, forgotten_reserved, settled_from, commit_written}
 use Rattle.l2_dev.proofs.Puts.{forgotten_of}
 use Rattle.l2_dev.specs.Calls.{LeavesWith}
 use Rattle.l2_dev.proofs.device.L2Dev.commit.Goals as goal
@@ -57,7 +57,14 @@ returns-in-Err-write_header-clause-crash g c =
     inr (r.0, r.1, r.2, subst (λ (e : ℕ). LeavesWith d.moment d.left_since e dev c.write_header.new.dev p (r.0 ∷ p.blocks) (p.pending ++ p.kept) p.kept r.1) (sym f.end) r.3, r.4)
 
 pub returns-clause-settled : goal.returns-clause-settled
-returns-clause-settled g c = (c.in-Ok.ptr, settled_from c.args.self.now.cursor c.write_log.new.cursor c.settle.new.self c.in-Ok.ptr c.write_log.ensures.cursor c.settle.ensures.settled)
+returns-clause-settled g c =
+    let d = g.D.CacheDev in
+    let cursor = c.args.self.now.cursor in (
+      c.in-Ok.ptr,
+      settled_from cursor c.write_log.new.cursor c.settle.new.self c.in-Ok.ptr c.write_log.ensures.cursor c.settle.ensures.settled,
+      commit_written d.told d.has_sectors d.may_leave d.moment d.left_since c.args.self.now.dev c.write_log.new.dev c.write_header.new.dev cursor c.in-Ok.ptr c.header_with-header.result _ c.in-Ok.ensures.logged
+          (header_reserved cursor c.write_log.new.cursor c.in-Ok.ptr c.header_with-header.result c.write_log.ensures.cursor c.header_with-header.ensures.header) c.in_default.ensures.written c.in_default.ensures.written.done,
+    )
 
 pub returns-clause-crash : goal.returns-clause-crash
 returns-clause-crash g c =

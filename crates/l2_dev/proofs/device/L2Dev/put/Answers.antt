@@ -4,11 +4,12 @@ use Rattle.blk_ptr.specs.declared.digest.Digest.{Digest}
 use Rattle.l2_log.specs.Rules.{header_len}
 use Rattle.l2_ring.specs.declared.live.Written.{Written}
 use Rattle.l2_ring.specs.Ring.{RingState}
+use Rattle.l2_dev.specs.declared.fault.DevErr.{DevErr}
 use Rattle.l2_dev.specs.Calls.{put_entry}
 use Rattle.l2_dev.specs.CallLaws.{ring_crash, ring_forgets, put_kept}
 use Rattle.l2_dev.specs.TornLaws.{EntriesAside}
 use Rattle.l2_dev.proofs.Begins.{flushed_of}
-use Rattle.l2_dev.proofs.Puts.{pending_aside, put_writes, put_of, forgotten_of}
+use Rattle.l2_dev.proofs.Puts.{pending_aside, put_writes, put_of, forgotten_of, written_ok, written_err}
 use Rattle.l2_dev.proofs.device.L2Dev.put.Goals as goal
 
 pub returns-in-Err-clause-crash : goal.returns-in-Err-clause-crash
@@ -74,3 +75,15 @@ returns-clause-crash g c =
           (ap (λ (digest : Digest). let w : Written = record { live = record { key = c.args.key; place = c.hand-place.result; digest = Some digest }; lap = cursor.ring.lap } in w) (sym c.digest.ensures))
           c.in_default.ensures.pushed);
     }
+
+pub returns-in-Err-clause-written : goal.returns-in-Err-clause-written
+returns-in-Err-clause-written g c =
+    let d = g.D.CacheDev in
+    let at : c.hand-place.result ≡ c.args.self.now.cursor.ring.hand = c.hand-place.ensures.hand ∙ ap (λ (r : RingState). r.hand) c.ring.ensures.ring in
+    written_err (Unit {0}) DevErr ℕ DevErr c.args.self.now.cursor.ring.hand c.args.block.now (d.told c.args.self.now.dev) (d.told c.put_block.new.dev) _ _ (rw (at, c.bytes.ensures) at c.in-Err.ensures.written)
+
+pub returns-clause-written : goal.returns-clause-written
+returns-clause-written g c =
+    let d = g.D.CacheDev in
+    let at : c.hand-place.result ≡ c.args.self.now.cursor.ring.hand = c.hand-place.ensures.hand ∙ ap (λ (r : RingState). r.hand) c.ring.ensures.ring in
+    written_ok (Unit {0}) DevErr ℕ DevErr c.args.self.now.cursor.ring.hand c.args.block.now (d.told c.args.self.now.dev) (d.told c.put_block.new.dev) _ _ (rw (at, c.bytes.ensures) at c.in_default.ensures.written)
