@@ -34,6 +34,7 @@ pub record IsKept (t : Inside) : Type 0 where
   pub marked_room : vec_len t.entries + t.lists.spare ≤ vec_capacity t.marked
   pub passed_room : vec_len t.passed + t.marks ≤ vec_capacity t.passed
   pub picked_room : vec_len t.picked + t.marks ≤ vec_capacity t.picked
-  -- the passed keys rise, and what is picked is counted
+  -- the passed keys rise, and so do the marked ones; what is picked is counted
   pub passed_rising : IsRising (λ k. k) t.passed.items
+  pub marked_rising : IsRising (λ k. k) t.marked.items
   pub bytes : t.picked_bytes ≡ picked_bytes (shard_in t)

@@ -69,6 +69,17 @@ fn rank_of_key(keys: &[Key], key: Key) -> usize
     keys.partition_point(|k| k.cmp(&key).is_lt())
 }
 
+/// Whether a key is one of keys that rise.
+pub fn has_key(keys: &[Key], key: Key) -> bool
+    requires { IsRising (λ k. k) keys.now }
+    ensures { result ≡ stands_on key keys.now }
+{
+    match keys.get(rank_of_key(keys, key)) {
+        Some(k) => *k == key,
+        None => false,
+    }
+}
+
 /// Adds a key to keys that rise, among which it isn't.
 pub fn add_key(keys: &mut Vec<Key>, key: Key)
     requires rising { IsRising (λ k. k) keys.old.items }

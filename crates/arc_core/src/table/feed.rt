@@ -13,7 +13,6 @@ ghost use Rattle.arc_core.specs.Rules.{resized};
 ghost use Rattle.arc_core.specs.Sound.{IsTidy};
 ghost use Rattle.arc_lists.specs.Adapting.{IsCapacity};
 
-use super::room::stands_on;
 use super::{Table, is_unheld};
 use crate::entries;
 use crate::entry::{Entry, NUMBERS, Phase, Picked};
@@ -65,7 +64,7 @@ impl Table {
     pub fn is_passed(&self, key: Key) -> bool
         ensures { result ≡ is_passed self.now.shard key }
     {
-        stands_on(&self.passed, key)
+        entries::has_key(&self.passed, key)
     }
 
     /// Whether a key stands on a sequence: nobody holds its entry, and its state has one.

@@ -2,31 +2,22 @@
 ghost use Rattle.std.specs.Prelude.{◌≡◌, ◌+◌, ◌++◌, ◌∷◌, [], ◌<◌, ◌≤◌, Bool, false, not, find, vec_len, vec_capacity, IsTrue, IsSome, Some};
 ghost use Rattle.blk_ptr.specs.declared.key.Key.{Key};
 ghost use Rattle.blk_ptr.specs.declared.state.State.{State};
+ghost use Rattle.arc_lists.specs.ByKey.{with_item};
 ghost use Rattle.arc_lists.specs.Queues.{IsSequenceOf};
 ghost use Rattle.arc_lists.specs.Sequences.{sequence_of, stands_on};
 ghost use Rattle.arc_lists.specs.Walks.{oldest_first};
 ghost use Rattle.arc_core.specs.PlainShard.{entry_of, members};
 
 use super::Table;
-use super::room::stands_on;
+use crate::entries;
 use blk_ptr::Key;
-
-// Adds a key behind the others.
-fn push_key(keys: &mut Vec<Key>, key: Key)
-    requires { vec_len keys.old < vec_capacity keys.old }
-    ensures items { keys.new.items ≡ keys.old.items ++ key ∷ [] }
-    ensures len { vec_len keys.new ≡ vec_len keys.old + 1 }
-    ensures capacity { vec_capacity keys.old ≤ vec_capacity keys.new }
-{
-    let _ = keys.push(key);
-}
 
 impl Table {
     /// Whether a key is marked.
     pub fn is_marked(&self, key: Key) -> bool
         ensures { result ≡ stands_on key self.now.marked }
     {
-        stands_on(&self.marked, key)
+        entries::has_key(&self.marked, key)
     }
 
     /// Marks a key that has an entry.
@@ -34,9 +25,9 @@ impl Table {
         requires there { IsSome (entry_of key self.old.shard) }
         requires marked { IsSequenceOf (members self.old.shard) self.old.marked }
         requires unmarked { stands_on key self.old.marked ≡ false }
-        ensures { self.new ≡ record self.old { marked = self.old.marked ++ key ∷ [] } }
+        ensures { self.new ≡ record self.old { marked = with_item (λ k. k) key self.old.marked } }
     {
-        push_key(&mut self.marked, key);
+        entries::add_key(&mut self.marked, key);
     }
 
     /// Forgets the marked keys.

@@ -19,5 +19,6 @@ invariant_of-self c =
       passed_room = omega (arith, kept.passed_room, c.add_key.ensures.len, c.add_key.ensures.capacity, room);
       picked_room = omega (arith, kept.picked_room);
       passed_rising = rw c.add_key.ensures.items (IsRising-with_item (λ k. k) c.args.key c.self.inside.passed.items kept.passed_rising (has_key-stands c.args.key c.self.inside.passed.items ∙ unpassed));
+      marked_rising = kept.marked_rising;
       bytes = kept.bytes;
     }

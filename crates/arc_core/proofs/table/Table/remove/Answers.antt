@@ -28,5 +28,6 @@ invariant_of-self c =
       passed_room = kept.passed_room;
       picked_room = kept.picked_room;
       passed_rising = kept.passed_rising;
+      marked_rising = kept.marked_rising;
       bytes = kept.bytes;
     }

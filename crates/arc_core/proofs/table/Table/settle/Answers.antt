@@ -14,5 +14,6 @@ invariant_of-self c =
       passed_room = kept.passed_room;
       picked_room = omega (arith, kept.picked_room, c.take_pick.ensures.len, c.take_pick.ensures.capacity);
       passed_rising = kept.passed_rising;
+      marked_rising = kept.marked_rising;
       bytes = omega (arith, kept.bytes, c.take_pick.ensures.bytes);
     }

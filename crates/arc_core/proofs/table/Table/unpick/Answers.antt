@@ -14,5 +14,6 @@ invariant_of-self c =
       passed_room = omega (arith, kept.passed_room, c.clear.ensures.len, c.clear.ensures.capacity);
       picked_room = omega (arith, kept.picked_room, c.clear-3.ensures.len, c.clear-3.ensures.capacity);
       passed_rising = rw c.clear.ensures.items tt;
+      marked_rising = rw c.clear-2.ensures.items tt;
       bytes = rw c.clear-3.ensures.items refl;
     }
