@@ -1,5 +1,5 @@
 -- How many holds each event takes and gives back, and that what is held keeps its bytes.
-use Rattle.std.proofs.Common.{◌≡◌, ℕ, zero, suc, ◌+◌, ◌-◌, ◌<◌, ◌≤◌, ◌^◌, Bool, true, false, not, ◌&&◌, ◌||◌, if◌then◌else◌, ◌==◌, nat_lt, IsTrue, List, [], ◌∷◌, length, sum, set, get_or, Option, Some, None, is_some, is_none, inl, inr, refl, sym, ap, subst, ◌∙◌, arith, get_or-set_other, get_or-set_same}
+use Rattle.std.proofs.Common.{◌≡◌, ℕ, zero, suc, ◌+◌, ◌-◌, ◌<◌, ◌^◌, Bool, true, false, not, ◌&&◌, ◌||◌, if◌then◌else◌, ◌==◌, nat_lt, IsTrue, List, [], ◌∷◌, length, set, get_or, Option, Some, None, is_some, is_none, inl, inr, refl, sym, ap, subst, ◌∙◌, arith, get_or-set_other, get_or-set_same}
 use Rattle.std.specs.List.{list_all}
 use Rattle.std.specs.Option.{option_and_then, option_map, option_map_or}
 use Rattle.std.proofs.lemmas.Bool.{eqb-true, false≢true}
@@ -25,12 +25,12 @@ use Rattle.arc_core.specs.Changing.{HasBytes, entry_after, gained, handed, hold_
 use Rattle.arc_core.specs.Operations.{event_key, is_about}
 use Rattle.arc_core.specs.Rules.{access, accessed}
 use Rattle.arc_core.specs.Sound.{IsSound, IsSoundEntry, IsTidy, fits_state}
-use Rattle.arc_core.specs.Sparing.{IsSpared, may_go}
-use Rattle.arc_core.specs.Step.{after, agree, arrived, entry_to_read, hit_entry, holds, is_missing, is_new_here, is_without_bytes, legal, may_come_from, reads, restored_entry, written_entry}
+use Rattle.arc_core.specs.Sparing.{IsSpared}
+use Rattle.arc_core.specs.Step.{after, agree, arrived, hit_entry, holds, is_missing, is_new_here, is_without_bytes, legal, may_come_from, reads}
 use Rattle.arc_core.proofs.Accesses.{accessed-keeps, unheld-held}
 use Rattle.arc_core.proofs.Evictions.{entry_of-is, or_other, passes}
 use Rattle.arc_core.specs.Owed.{owed_of}
-use Rattle.arc_core.proofs.Legal.{Holding, cell-lt, entry_is-and, held-le, holding, number-lt, owed-item}
+use Rattle.arc_core.proofs.Legal.{cell-lt, entry_is-and, held-le, holding, number-lt, owed-item}
 use Rattle.arc_core.proofs.Others.{own-entry, sparing}
 use Rattle.arc_core.proofs.Sparing.{spared-held}
 

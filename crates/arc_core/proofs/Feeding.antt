@@ -1,22 +1,21 @@
 -- The picks of a feed, and the passed keys of a scan: what is chosen is wanted, and no key is picked twice.
-use Rattle.std.proofs.Common.{◌≡◌, ℕ, suc, ◌+◌, ◌*◌, ◌<◌, ◌≤◌, length, get_or, arith, Bool, true, false, not, ◌&&◌, if◌then◌else◌, nat_le, IsTrue, List, [], ◌∷◌, ◌++◌, reverse, Option, Some, None, is_some, inl, inr, refl, sym, ap, subst, ◌∙◌}
+use Rattle.std.proofs.Common.{◌≡◌, ℕ, suc, ◌+◌, ◌*◌, ◌<◌, ◌≤◌, length, get_or, arith, Bool, true, false, not, if◌then◌else◌, nat_le, List, [], ◌∷◌, ◌++◌, reverse, Option, Some, None, is_some, inl, inr, refl, sym, ap, subst, ◌∙◌}
 use Rattle.std.specs.List.{list_all, position_from}
 use Rattle.std.specs.Prelude.{sum_by, remove}
 use Rattle.std.proofs.lemmas.List.Sums.{sum_by-cons}
 use Rattle.std.proofs.lemmas.Bool.Decides.{nat_tests}
-use Rattle.std.specs.Option.{option_map_or, option_and_then}
+use Rattle.std.specs.Option.{option_and_then}
 use Rattle.std.proofs.lemmas.Bool.{false≢true}
 use Rattle.blk_ptr.specs.declared.key.Key.{Key}
 use Rattle.blk_ptr.specs.Order.{key_eq, key_lt}
-use Rattle.blk_ptr.proofs.Keys.{key_eq-is, key_eq-sym}
-use Rattle.arc_lists.specs.ByKey.{has_key, item_at, with_item, without}
+use Rattle.blk_ptr.proofs.Keys.{key_eq-sym}
+use Rattle.arc_lists.specs.ByKey.{has_key, with_item}
 use Rattle.arc_lists.specs.Sequences.{stands_on}
 use Rattle.arc_lists.specs.Room.{or_else}
 use Rattle.arc_lists.proofs.Standing.{and_left, and_right, both, not_true, not_true_is}
 use Rattle.arc_lists.proofs.Tables.{cases_true, some_is}
 use Rattle.arc_core.specs.declared.entry.Picked.{Picked}
-use Rattle.arc_core.specs.declared.entry.Phase.{Phase}
-use Rattle.arc_core.specs.declared.entry.Phase.TheVariants.{Idle, Picking, Writing}
+use Rattle.arc_core.specs.declared.entry.Phase.TheVariants.{Picking}
 use Rattle.arc_core.specs.PlainShard.{PlainShard, is_passed, place_of}
 use Rattle.arc_core.specs.Candidate.{candidate, chosen, may_be_picked, picked_bytes, walk}
 use Rattle.arc_core.specs.Changes.{pick_of, pick_place, without_pick, writing_phase}

@@ -1,11 +1,12 @@
 -- A shard keeps its invariant through an event.
 use Rattle.std.proofs.Common.{◌≡◌, ℕ, ◌+◌, ◌≤◌, true, IsTrue, [], ◌∷◌, ◌++◌, refl, sym, ap, subst, ◌∙◌, arith, vec_len, vec_capacity}
 use Rattle.blk_ptr.specs.declared.key.Key.{Key}
+use Rattle.arc_lists.specs.Queues.{IsSequenceOf}
 use Rattle.arc_core.specs.declared.shard.Shard.TheInside.{Inside}
 use Rattle.arc_core.specs.declared.event.Event.{Event}
 use Rattle.arc_core.specs.declared.event.Event.TheVariants.{Miss}
 use Rattle.arc_core.specs.Owed.{owed_of, room_for}
-use Rattle.arc_core.specs.PlainShard.{PlainShard}
+use Rattle.arc_core.specs.PlainShard.{PlainShard, members}
 use Rattle.arc_core.specs.Replay.{is_legal_history, replay}
 use Rattle.arc_core.specs.Rules.{with_target_for}
 use Rattle.arc_core.specs.ShardModel.{IsKept, log_in}
@@ -16,9 +17,9 @@ use Rattle.arc_core.proofs.Stepping.{legal-append, replay-append}
 
 -- after an event that is legal, keeps the shard sound, and takes no more room than it may
 pub IsKept-step : (s n : Inside) (e : Event) → IsKept s → IsTrue (legal s.table.shard e) → n.table.shard ≡ after s.table.shard e → IsSound n.table.shard → n.opened ≡ s.opened
-    → n.history.items ≡ s.history.items ++ e ∷ [] → vec_len n.history ≡ vec_len s.history + 1 → vec_capacity s.history ≤ vec_capacity n.history → n.spare_events + room_for e ≡ s.spare_events → n.spare_events ≤ n.table.marks
+    → n.history.items ≡ s.history.items ++ e ∷ [] → vec_len n.history ≡ vec_len s.history + 1 → vec_capacity s.history ≤ vec_capacity n.history → n.spare_events + room_for e ≡ s.spare_events → n.spare_events ≤ n.table.marks → IsSequenceOf (members n.table.shard) n.table.marked
     → owed_of (after s.table.shard e) + 1 ≤ owed_of s.table.shard + room_for e → IsKept n
-IsKept-step s n e kept ok step sound opened history len capacity spare marks owed =
+IsKept-step s n e kept ok step sound opened history len capacity spare marks marked owed =
     let opening = (log_in s).opening in
     let replayed : replay opening (s.history.items ++ e ∷ []) ≡ after s.table.shard e = replay-append opening s.history.items (e ∷ []) ∙ ap (λ (t : PlainShard). after t e) kept.replayed.replayed in
     let lawful : is_legal_history opening (s.history.items ++ e ∷ []) ≡ true = legal-append opening s.history.items e kept.replayed.legal (subst (λ t. legal t e ≡ true) (sym kept.replayed.replayed) ok) in
@@ -30,6 +31,7 @@ IsKept-step s n e kept ok step sound opened history len capacity spare marks owe
       };
       room = omega (arith, kept.room, len, capacity, spare, owed, ap owed_of step);
       marks = marks;
+      marked = marked;
     }
 
 -- a miss moves the target within its bounds, and keeps the rest of the frame

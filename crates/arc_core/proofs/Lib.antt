@@ -8,6 +8,8 @@ pub mod Frames
 pub mod Keeping
 pub mod Legal
 pub mod Making
+pub mod Marking
+pub mod Naming
 pub mod Others
 pub mod Owing
 pub mod Placing

@@ -1,7 +1,11 @@
 -- A call that makes a legal event keeps the shard's invariant.
-use Rattle.std.proofs.Common.{◌≡◌, ◌+◌, ◌≤◌, IsTrue, [], ◌∷◌, ◌++◌, vec_len, vec_capacity}
+use Rattle.std.proofs.Common.{◌≡◌, List, refl, ◌+◌, ◌≤◌, IsTrue, [], ◌∷◌, ◌++◌, vec_len, vec_capacity}
+use Rattle.blk_ptr.specs.declared.key.Key.{Key}
+use Rattle.arc_lists.specs.declared.member.Member.{Member}
+use Rattle.arc_lists.specs.Queues.{IsSequenceOf}
 use Rattle.arc_core.specs.declared.shard.Shard.TheInside.{Inside}
 use Rattle.arc_core.specs.declared.event.Event.{Event}
+use Rattle.arc_core.specs.PlainShard.{members}
 use Rattle.arc_core.specs.Owed.{room_for}
 use Rattle.arc_core.specs.ShardModel.{IsKept}
 use Rattle.arc_core.specs.Step.{after, legal}
@@ -11,7 +15,11 @@ use Rattle.arc_core.proofs.Soundness.{IsSound-after}
 
 pub made : (s n : Inside) (e : Event) → IsKept s → IsTrue (legal s.table.shard e) → n.table.shard ≡ after s.table.shard e → n.opened ≡ s.opened
     → n.history.items ≡ s.history.items ++ e ∷ [] → vec_len n.history ≡ vec_len s.history + 1 → vec_capacity s.history ≤ vec_capacity n.history
-    → n.spare_events + room_for e ≡ s.spare_events → n.spare_events ≤ n.table.marks → IsKept n
-made s n e kept ok step opened history len capacity spare marks =
+    → n.spare_events + room_for e ≡ s.spare_events → n.spare_events ≤ n.table.marks → IsSequenceOf (members n.table.shard) n.table.marked → IsKept n
+made s n e kept ok step opened history len capacity spare marks marked =
     let sound = kept.replayed.sound in
-    IsKept-step s n e kept ok step (rw step (IsSound-after s.table.shard e sound ok)) opened history len capacity spare marks (owed-after s.table.shard e sound ok)
+    IsKept-step s n e kept ok step (rw step (IsSound-after s.table.shard e sound ok)) opened history len capacity spare marks marked (owed-after s.table.shard e sound ok)
+
+-- where no key is marked, each marked one has an entry
+pub none-marked : (ms : List Member) (ks : List Key) → ks ≡ [] → IsSequenceOf ms ks
+none-marked ms ks none = rw none (record { once = refl; members = tt })

@@ -1,6 +1,5 @@
 -- What each event leaves of other keys' entries, and what it makes of its own key's.
-use Rattle.std.proofs.Common.{◌≡◌, ℕ, Bool, true, false, not, ◌&&◌, if◌then◌else◌, IsTrue, List, [], Option, Some, None, is_some, inl, inr, refl, sym, ap, subst, ◌∙◌}
-use Rattle.std.specs.List.{find}
+use Rattle.std.proofs.Common.{◌≡◌, ℕ, Bool, true, false, not, ◌&&◌, if◌then◌else◌, IsTrue, List, [], Option, Some, None, refl, sym, ap, subst, ◌∙◌}
 use Rattle.std.specs.Option.{option_and_then, option_map, option_map_or}
 use Rattle.std.proofs.lemmas.Bool.{false≢true}
 use Rattle.blk_ptr.specs.declared.key.Key.{Key}
@@ -9,15 +8,15 @@ use Rattle.blk_ptr.specs.declared.state.State.TheVariants.{L2Only}
 use Rattle.blk_ptr.specs.Key.{is_well_formed}
 use Rattle.blk_ptr.specs.Order.{key_eq}
 use Rattle.blk_ptr.specs.State.{is_same_state}
-use Rattle.blk_ptr.proofs.Keys.{key_eq-same, key_eq-sym}
+use Rattle.blk_ptr.proofs.Keys.{key_eq-sym}
 use Rattle.arc_lists.specs.ByKey.{item_at}
-use Rattle.arc_lists.specs.Sequences.{Sequences, stands, stands_on}
+use Rattle.arc_lists.specs.Sequences.{stands, stands_on}
 use Rattle.arc_lists.proofs.Standing.{and_left, and_right, both, not_true, not_true_is}
-use Rattle.arc_lists.proofs.Tables.{cases_true, item_at-with_item_other, item_at-with_item_same, item_at-without_other, item_at-without_same, some_is}
+use Rattle.arc_lists.proofs.Tables.{item_at-with_item_other, item_at-with_item_same, item_at-without_other, item_at-without_same, some_is}
 use Rattle.arc_core.specs.declared.entry.Entry.{Entry}
 use Rattle.arc_core.specs.declared.event.Event.{Event}
 use Rattle.arc_core.specs.declared.event.Event.TheVariants.{Pass, Hit, Miss, Arrive, Fail, Drop, Past, Hand, Insert, Release, Pick, FeedEnd, Set, Leave, Clear, Restore, Resize}
-use Rattle.arc_core.specs.PlainShard.{PlainShard, entry_is, entry_key, entry_of, is_cell, is_number, is_passed, is_unheld}
+use Rattle.arc_core.specs.PlainShard.{PlainShard, entry_is, entry_key, entry_of, is_cell, is_number, is_passed}
 use Rattle.arc_core.specs.Changes.{changed, gone, one_less}
 use Rattle.arc_core.specs.Changing.{KeepsFrame, entry_after, handed, placed_at, without_place}
 use Rattle.arc_core.specs.Operations.{event_key, is_about}
@@ -27,7 +26,7 @@ use Rattle.arc_core.specs.Sparing.{IsSpared, next_victim, victims}
 use Rattle.arc_core.specs.Step.{after, arrived, cleared, hit_entry, legal, read_entry, restored_entry, written_entry}
 use Rattle.arc_core.proofs.Accesses.{IsSoundEntry-written, held-one_hold}
 use Rattle.arc_core.proofs.EntriesAfter.{changed-other, entry_of-drop_other, given_back-entries, hit-key, own-changed}
-use Rattle.arc_core.proofs.Evictions.{absent-changed, is_none_of}
+use Rattle.arc_core.proofs.Evictions.{absent-changed}
 use Rattle.arc_core.proofs.Legal.{cell-lt, miss-off, miss-sound, number-lt}
 use Rattle.arc_core.proofs.Sparing.{entry_of-insert, entry_of-miss, insert-off, spared-insert, spared-miss, spared-same, sparing-fitted, tidy-resized, tidy-target}
 use Rattle.arc_core.proofs.Victims.{Standing, fitted-others, fitting-stands, kept-fitted, kept-given_back, kept-taken_in, taken_in-others, unfound, victims-stand}

@@ -1,5 +1,5 @@
 -- What is owed after each event stays within the room that the event takes.
-use Rattle.std.proofs.Common.{◌≡◌, ℕ, ◌+◌, ◌-◌, ◌<◌, ◌≤◌, Bool, true, false, not, ◌&&◌, if◌then◌else◌, ◌==◌, IsTrue, List, [], ◌∷◌, ◌++◌, length, get_or, sum, replicate, Option, Some, None, is_some, inl, inr, refl, sym, ap, subst, ◌∙◌, arith, length-append}
+use Rattle.std.proofs.Common.{◌≡◌, ℕ, ◌+◌, ◌-◌, ◌<◌, ◌≤◌, Bool, true, false, if◌then◌else◌, ◌==◌, IsTrue, List, [], ◌∷◌, ◌++◌, length, get_or, sum, Option, Some, None, is_some, inl, inr, refl, sym, ap, arith, length-append}
 use Rattle.std.specs.Option.{option_map_or}
 use Rattle.std.proofs.lemmas.Bool.{false≢true}
 use Rattle.std.proofs.lemmas.List.Sums.{sum_by-set}
@@ -15,16 +15,16 @@ use Rattle.arc_core.specs.declared.entry.Entry.{Entry}
 use Rattle.arc_core.specs.declared.entry.Picked.{Picked}
 use Rattle.arc_core.specs.declared.event.Event.{Event}
 use Rattle.arc_core.specs.declared.event.Event.TheVariants.{Pass, Hit, Miss, Arrive, Fail, Drop, Past, Hand, Insert, Release, Pick, FeedEnd, Set, Leave, Clear, Restore, Resize}
-use Rattle.arc_core.specs.PlainShard.{PlainShard, entry_is, entry_of, holds_of, is_at_rest, is_cell, is_number}
+use Rattle.arc_core.specs.PlainShard.{PlainShard, entry_is, entry_of, holds_of, is_cell, is_number}
 use Rattle.arc_core.specs.Changes.{changed, gone, one_less, one_more, pick_of, without_pick}
 use Rattle.arc_core.specs.Owed.{owed_by, owed_in, owed_of, room_for}
 use Rattle.arc_core.specs.Rules.{resized, with_room}
 use Rattle.arc_core.specs.Sound.{IsSound}
 use Rattle.arc_core.specs.Step.{after, agree, cleared, fitted, holds, is_writing, legal, may_be_placed, may_set, restored_entry, written_entry}
 use Rattle.arc_core.proofs.Accesses.{sum-one_hold}
-use Rattle.arc_core.proofs.Evictions.{entry_of-is, found}
+use Rattle.arc_core.proofs.Evictions.{entry_of-is}
 use Rattle.arc_core.proofs.Frames.{frame-cleared, frame-fitted, frame-taken_in, owed-changed, owed-evicting, owed-kept, owed-taken_in, owed-trimming, owed-with_item, owed-without, owed-without_le}
-use Rattle.arc_core.proofs.Legal.{Holding, cell-lt, entry_is-and, holding, number-lt}
+use Rattle.arc_core.proofs.Legal.{cell-lt, entry_is-and, holding}
 use Rattle.arc_core.proofs.Stepping.{owed-arrive, owed-drop, owed-fail, owed-hit, owed-miss}
 
 -- one pick less

@@ -1,5 +1,5 @@
 -- Places on the cache device that entries gain and lose.
-use Rattle.std.proofs.Common.{◌≡◌, ℕ, Bool, true, false, not, ◌&&◌, ◌||◌, if◌then◌else◌, IsTrue, IsSome, IsSomeAnd, Option, Some, None, is_some, refl, sym, ap, subst, ◌∙◌}
+use Rattle.std.proofs.Common.{◌≡◌, ℕ, Bool, true, false, not, ◌||◌, if◌then◌else◌, IsTrue, IsSome, IsSomeAnd, Option, Some, None, is_some, refl, sym, ap, subst}
 use Rattle.std.specs.Option.{option_map_or}
 use Rattle.std.proofs.lemmas.Bool.{false≢true}
 use Rattle.blk_ptr.specs.declared.key.Key.{Key}
@@ -8,7 +8,7 @@ use Rattle.blk_ptr.specs.State.{is_same_state}
 use Rattle.arc_lists.proofs.Standing.{and_right, not_true}
 use Rattle.arc_core.specs.declared.entry.Entry.{Entry}
 use Rattle.arc_core.specs.declared.event.Event.TheVariants.{Clear, Set}
-use Rattle.arc_core.specs.PlainShard.{PlainShard, entry_is, entry_of, is_number, place_of}
+use Rattle.arc_core.specs.PlainShard.{PlainShard, entry_is, entry_of, is_number}
 use Rattle.arc_core.specs.Changes.{changed, gone, may_have, with_place}
 use Rattle.arc_core.specs.Edits.{HasAlike, amended}
 use Rattle.arc_core.specs.Sound.{IsSoundEntry}

@@ -1,5 +1,5 @@
 -- A walk over a list of keys, one key after the other, as the walks over a sequence go.
-use Rattle.std.proofs.Common.{◌≡◌, ℕ, ◌+◌, ◌<◌, ◌≤◌, nat_le, Bool, true, false, not, ◌&&◌, ◌||◌, if◌then◌else◌, List, [], ◌∷◌, length, Option, Some, None, inl, inr, refl, sym, ap, subst, ◌∙◌, arith}
+use Rattle.std.proofs.Common.{◌≡◌, ℕ, ◌+◌, ◌<◌, ◌≤◌, nat_le, Bool, true, false, not, ◌||◌, if◌then◌else◌, List, [], ◌∷◌, Option, Some, None, inl, inr, refl, sym, ap, subst, ◌∙◌, arith}
 use Rattle.std.proofs.lemmas.Bool.{false≢true}
 use Rattle.blk_ptr.specs.declared.key.Key.{Key}
 use Rattle.blk_ptr.specs.declared.state.State.{State}
@@ -8,7 +8,7 @@ use Rattle.blk_ptr.specs.Order.{key_eq}
 use Rattle.blk_ptr.proofs.Keys.{key_eq-is, key_eq-same}
 use Rattle.arc_lists.specs.Sequences.{is_distinct, sequence_of, stands, stands_on}
 use Rattle.arc_lists.specs.Walks.{first_of, next_to, oldest_first}
-use Rattle.arc_lists.proofs.Standing.{and_left, and_right, both, not_true, not_true_is, or_left_false, or_right_false}
+use Rattle.arc_lists.proofs.Standing.{and_left, and_right, not_true_is}
 use Rattle.arc_lists.proofs.Tables.{cases_true, some_is}
 use Rattle.arc_lists.proofs.Walking.{distinct-reversed, stands_on-reversed}
 use Rattle.std.proofs.lemmas.Bool.Decides.{nat_tests}

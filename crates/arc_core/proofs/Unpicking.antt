@@ -1,13 +1,12 @@
 -- Taking back the picks and passes of a feed leaves the shard that was there before them.
-use Rattle.std.proofs.Common.{◌≡◌, ℕ, ◌+◌, ◌≤◌, true, false, ◌&&◌, IsTrue, List, [], ◌∷◌, ◌++◌, length, take, drop, refl, sym, ap, subst, ◌∙◌, arith, vec_len, vec_capacity}
+use Rattle.std.proofs.Common.{◌≡◌, ℕ, true, false, IsTrue, List, [], ◌∷◌, take, drop, refl, sym, ap, subst, ◌∙◌}
 use Rattle.std.specs.List.{AllByRecursion}
 use Rattle.std.proofs.lemmas.Bool.{false≢true}
 use Rattle.arc_core.specs.declared.entry.Picked.{Picked}
 use Rattle.arc_core.specs.declared.entry.Phase.{Phase}
-use Rattle.arc_core.specs.declared.entry.Phase.TheVariants.{Idle, Picking, Writing}
+use Rattle.arc_core.specs.declared.entry.Phase.TheVariants.{Idle, Picking}
 use Rattle.arc_core.specs.declared.event.Event.{Event}
 use Rattle.arc_core.specs.declared.event.Event.TheVariants.{Pass, Hit, Miss, Arrive, Fail, Drop, Past, Hand, Insert, Release, Pick, FeedEnd, Set, Leave, Clear, Restore, Resize}
-use Rattle.arc_core.specs.declared.shard.Shard.TheInside.{Inside}
 use Rattle.std.proofs.Common.{Bool, if◌then◌else◌, None, take-append-drop}
 use Rattle.blk_ptr.specs.declared.key.Key.{Key}
 use Rattle.blk_ptr.specs.declared.state.State.TheVariants.{L2Only}
@@ -16,10 +15,8 @@ use Rattle.arc_core.specs.PlainShard.{PlainShard, entry_is}
 use Rattle.arc_core.specs.Rules.{resized}
 use Rattle.arc_core.proofs.Frames.{frame-fitted}
 use Rattle.arc_core.specs.Changes.{changed, gone, unpicked, without_pick, writing_phase}
-use Rattle.arc_core.specs.Owed.{owed_of}
 use Rattle.arc_core.specs.Replay.{is_legal_history, replay}
 use Rattle.arc_core.specs.ShardLog.{MayUnpick, ShardLog, is_scan}
-use Rattle.arc_core.specs.ShardModel.{IsKept, log_in}
 use Rattle.arc_core.specs.Sound.{IsSound}
 use Rattle.arc_core.specs.Step.{after}
 use Rattle.arc_core.proofs.Others.{frame-kept}

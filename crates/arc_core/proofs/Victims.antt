@@ -11,12 +11,12 @@ use Rattle.blk_ptr.specs.State.{is_same_state}
 use Rattle.blk_ptr.proofs.Keys.{key_eq-is, key_eq-sym}
 use Rattle.arc_lists.specs.Room.{or_else}
 use Rattle.arc_lists.specs.Sequences.{Sequences, has_sequence, oldest_unskipped, put_at_head, stands, stands_on}
-use Rattle.arc_lists.proofs.Standing.{and_left, and_right, both, not_true, not_true_is, or_left_false, or_right_false}
+use Rattle.arc_lists.proofs.Standing.{and_left, and_right, both, not_true_is, or_left_false, or_right_false}
 use Rattle.arc_lists.proofs.Tables.{cases_true, item_at-with_change_other, item_at-with_item_other, item_at-with_item_same, item_at-without_other, item_at-without_same}
 use Rattle.arc_core.specs.declared.entry.Entry.{Entry}
 use Rattle.arc_core.specs.PlainShard.{PlainShard, entry_is, entry_key, entry_of, is_at_rest, is_free, is_passed, is_unheld, place_of, size_in}
 use Rattle.arc_lists.specs.ByKey.{item_at}
-use Rattle.arc_core.specs.Changes.{at_head, changed, come, given_back, gone, off_sequence, one_less}
+use Rattle.arc_core.specs.Changes.{at_head, changed, given_back, gone, off_sequence, one_less}
 use Rattle.arc_core.specs.Edits.{is_droppable, is_evictable, is_off}
 use Rattle.arc_core.specs.Rules.{dropped, evicted, evicted_entry, evicting, next_dropped, next_evicted, trimming, with_room}
 use Rattle.arc_core.specs.Sound.{IsSoundEntry, IsTidy, belongs_on}
@@ -77,7 +77,7 @@ off-entry k s o tidy is off = stands-is k s tidy ∙ ap (λ x. option_map_or sta
 
 -- ---- what a scan chooses stands, and was not passed
 
-find-holds : (p : Key → Bool) (xs : List Key) (k : Key) → find p xs ≡ Some k → p k ≡ true
+pub find-holds : (p : Key → Bool) (xs : List Key) (k : Key) → find p xs ≡ Some k → p k ≡ true
 find-holds p [] k found = cc
 find-holds p (x ∷ xs) k found = elim (cases_true (p x)) [
   | inl passes ↦ let is : Some x ≡ Some k = rw passes at found in subst (λ o. option_map_or p o false ≡ true) is passes

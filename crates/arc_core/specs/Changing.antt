@@ -11,7 +11,7 @@ use Rattle.arc_core.specs.declared.event.Event.{Event}
 use Rattle.arc_core.specs.declared.event.Event.TheVariants.{Pass, Hit, Miss, Arrive, Fail, Drop, Past, Hand, Insert, Release, Pick, FeedEnd, Set, Leave, Clear, Restore, Resize}
 use Rattle.arc_core.specs.PlainShard.{PlainShard, count_of, entry_of, is_resident, numbers}
 use Rattle.arc_core.specs.Changes.{one_less, one_more}
-use Rattle.arc_core.specs.Operations.{event_key, is_about, is_of_feed}
+use Rattle.arc_core.specs.Operations.{event_key, is_of_feed}
 use Rattle.arc_core.specs.Sound.{IsSound}
 use Rattle.arc_core.specs.Step.{after, arrived, entry_to_read, hit_entry, holds, legal, restored_entry, written_entry}
 

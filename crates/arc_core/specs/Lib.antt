@@ -6,6 +6,7 @@ pub mod Digests
 pub mod Edits
 pub mod Ending
 pub mod Keeps
+pub mod Naming
 pub mod Operations
 pub mod Owed
 pub mod PlainShard

@@ -1,8 +1,9 @@
 -- What a shard's parts mean, and what they keep.
 use Rattle.std.specs.Prelude.{◌+◌, ◌≤◌, vec_len, vec_capacity}
 use Rattle.arc_core.specs.declared.shard.Shard.TheInside.{Inside}
+use Rattle.arc_lists.specs.Queues.{IsSequenceOf}
 use Rattle.arc_core.specs.Owed.{owed_of}
-use Rattle.arc_core.specs.PlainShard.{opening_shard}
+use Rattle.arc_core.specs.PlainShard.{members, opening_shard}
 use Rattle.arc_core.specs.ShardLog.{IsReplayed, ShardLog}
 
 abbrev pub log_in : Inside → ShardLog
@@ -12,6 +13,7 @@ log_in s = record {
   history = s.history.items;
   event_room = s.spare_events;
   entry_room = s.table.spare;
+  marked = s.table.marked;
 }
 
 pub record IsKept (s : Inside) : Type 0 where
@@ -20,3 +22,5 @@ pub record IsKept (s : Inside) : Type 0 where
   pub room : owed_of s.table.shard + s.spare_events + vec_len s.history ≤ vec_capacity s.history
   -- and the table for as many picks and passed keys
   pub marks : s.spare_events ≤ s.table.marks
+  -- each marked key has an entry, and is marked once
+  pub marked : IsSequenceOf (members s.table.shard) s.table.marked

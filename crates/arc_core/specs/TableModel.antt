@@ -22,7 +22,7 @@ shard_in t = record {
 }
 
 abbrev pub plain_table : Inside → PlainTable
-plain_table t = record { shard = shard_in t; spare = t.lists.spare; marks = t.marks }
+plain_table t = record { shard = shard_in t; spare = t.lists.spare; marks = t.marks; marked = t.marked.items }
 
 pub record IsKept (t : Inside) : Type 0 where
   pub tidy : IsTidy (shard_in t)
@@ -30,6 +30,8 @@ pub record IsKept (t : Inside) : Type 0 where
   pub members : t.lists.members ≡ map member_of t.entries.items
   -- there is room for the entries that the lists have room for, and for so many picks and passed keys
   pub room : vec_len t.entries + t.lists.spare ≤ vec_capacity t.entries
+  -- and as much for marked keys
+  pub marked_room : vec_len t.entries + t.lists.spare ≤ vec_capacity t.marked
   pub passed_room : vec_len t.passed + t.marks ≤ vec_capacity t.passed
   pub picked_room : vec_len t.picked + t.marks ≤ vec_capacity t.picked
   -- the passed keys rise, and what is picked is counted

@@ -6,7 +6,9 @@ ghost use Rattle.arc_core.specs.ShardLog.{HasRoom, IsReplayed, Makes, opening_lo
 ghost use Rattle.arc_core.specs.Step.{legal};
 ghost use Rattle.arc_core.specs.View.{first_holder, view_of};
 
+mod counting;
 mod feeding;
+mod naming;
 mod rules;
 
 use crate::config::Bounds;
@@ -115,6 +117,7 @@ impl Shard {
         ensures log { result.now ≡ (opening_log c mintime bounds).now }
         ensures opening { result.opening ≡ (opening_log c mintime bounds).opening }
         ensures history { result.history ≡ [] }
+        ensures marked { result.marked ≡ [] }
     {
         Shard {
             table: Table::new(alloc, c, mintime, bounds),
@@ -157,7 +160,7 @@ impl Shard {
     {
         let event = Event::Hit { n, key, t };
         self.table.hit(n, key, t);
-        self.table.forget_passed();
+        self.table.end_scan();
         append(&mut self.history, event);
         self.spare_events -= 2;
         event
@@ -172,7 +175,7 @@ impl Shard {
     {
         let event = Event::Miss { n, key, t };
         self.table.miss(n, key, t);
-        self.table.forget_passed();
+        self.table.end_scan();
         append(&mut self.history, event);
         self.spare_events -= 3;
         event
@@ -191,7 +194,7 @@ impl Shard {
             from,
         };
         self.table.arrive(n, key, digest, from);
-        self.table.forget_passed();
+        self.table.end_scan();
         append(&mut self.history, event);
         event
     }
@@ -204,7 +207,7 @@ impl Shard {
     {
         let event = Event::Fail { n, key, at };
         self.table.fail(n, key, at);
-        self.table.forget_passed();
+        self.table.end_scan();
         append(&mut self.history, event);
         event
     }
@@ -217,7 +220,7 @@ impl Shard {
     {
         let event = Event::Drop { n, key };
         self.table.give_back(n, key);
-        self.table.forget_passed();
+        self.table.end_scan();
         append(&mut self.history, event);
         event
     }
@@ -230,7 +233,7 @@ impl Shard {
         ensures makes { Makes (Event.Past n key kept) self.old self.new }
     {
         let event = Event::Past { n, key, kept };
-        self.table.forget_passed();
+        self.table.end_scan();
         append(&mut self.history, event);
         self.spare_events -= 1;
         event

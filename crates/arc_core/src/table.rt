@@ -1,4 +1,4 @@
-ghost use Rattle.std.specs.Prelude.{◌≡◌, ℕ, ◌+◌, ◌-◌, ◌/◌, ◌<◌, ◌≤◌, false, IsTrue, IsSome, None, length, max, OnOk, OnErr};
+ghost use Rattle.std.specs.Prelude.{◌≡◌, ℕ, ◌+◌, ◌-◌, ◌/◌, ◌<◌, ◌≤◌, false, IsTrue, IsSome, None, [], length, max, OnOk, OnErr};
 ghost use Rattle.blk_ptr.specs.declared.key.Key.{Key};
 ghost use Rattle.arc_lists.specs.Adapting.{IsCapacity};
 ghost use Rattle.arc_core.specs.PlainShard.{entry_of, is_unheld, opening_shard, size_in};
@@ -8,6 +8,7 @@ ghost use Rattle.arc_core.specs.Sound.{IsSoundEntry, IsTidy};
 
 mod events;
 mod feed;
+mod naming;
 mod room;
 
 use crate::config::Bounds;
@@ -30,6 +31,7 @@ pub struct Table {
     picked: Vec<Picked>,
     picked_bytes: u64,
     marks: usize,
+    marked: Vec<Key>,
 }
 
 impl Model for Table {
@@ -55,6 +57,7 @@ impl Table {
     pub fn new(alloc: Global, c: u64, mintime: u64, bounds: Bounds) -> Table
         requires { IsCapacity c }
         ensures shard { result.shard ≡ opening_shard c mintime bounds }
+        ensures marked { result.marked ≡ [] }
     {
         Table {
             entries: Vec::new(alloc),
@@ -66,6 +69,7 @@ impl Table {
             picked: Vec::new(alloc),
             picked_bytes: 0,
             marks: 0,
+            marked: Vec::new(alloc),
         }
     }
 
@@ -80,6 +84,8 @@ impl Table {
         self.passed.reserve(all)?;
         self.picked.reserve(all)?;
         self.entries.reserve(entries)?;
+        let most = self.entries.len().checked_add(entries).ok_or(NoMemory)?;
+        self.marked.reserve(most)?;
         self.lists.reserve(entries)?;
         self.marks = all;
         Ok(())
@@ -142,12 +148,13 @@ impl Table {
         entries::remove(&mut self.entries, key);
     }
 
-    /// Forgets the passed keys.
-    pub fn forget_passed(&mut self)
-        ensures now { self.new ≡ record self.old { shard = with_none_passed self.old.shard } }
+    /// Forgets the passed keys and the marked ones.
+    pub fn end_scan(&mut self)
+        ensures now { self.new ≡ record self.old { shard = with_none_passed self.old.shard; marked = [] } }
         ensures tidy { IsTidy self.new.shard }
     {
         self.passed.clear();
+        self.marked.clear();
     }
 
     /// The size of a state in bytes.

@@ -10,6 +10,12 @@ pub mod BookedAfter
 pub mod Ends
 pub mod Rows
 pub mod HandHeads
+pub mod Scans
+pub mod ScanGives
+pub mod Spares
+pub mod ScanRoom
+pub mod ScanSteps
+pub mod ScanBegins
 pub mod Reached
 pub mod OneEvent
 pub mod HoldEvents

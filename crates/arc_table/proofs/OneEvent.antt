@@ -234,7 +234,7 @@ module _ {C : Type 0} (m : Meanings C) (g : Config) (k : Key) (chain : Chain) (b
         listed = listed;
         history = history ∙ sym (append-nil before.history);
         opening = opening;
-        replayed = subst (λ (x : PlainShard × PlainShard × List Event). IsReplayed record { now = x.0; opening = x.1; history = x.2; event_room = l.event_room; entry_room = l.entry_room })
+        replayed = subst (λ (x : PlainShard × PlainShard × List Event). IsReplayed record { now = x.0; opening = x.1; history = x.2; event_room = l.event_room; entry_room = l.entry_room; marked = l.marked })
             (λ z. (sym now z, sym opening z, sym history z)) record { sound = log.replayed.sound; replayed = log.replayed.replayed; legal = log.replayed.legal };
         passed = ap (λ (s : PlainShard). s.passed) now ∙ log.passed;
         settled = ap (λ (s : PlainShard). is_picking s.phase) now ∙ log.settled;

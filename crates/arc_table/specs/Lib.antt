@@ -23,6 +23,9 @@ pub mod ShardGiving
 pub mod Opening
 pub mod OpeningLaws
 pub mod Ended
+pub mod Scanning
+pub mod Sparing
+pub mod Evicting
 pub mod Holding
 pub mod Both
 pub mod Telling

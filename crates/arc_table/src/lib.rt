@@ -6,6 +6,7 @@ mod arcs;
 mod both;
 mod cells;
 mod closed;
+mod evict;
 mod drops;
 mod feeds;
 mod front;
@@ -21,6 +22,8 @@ mod looks;
 mod opening;
 mod pact;
 mod restores;
+mod scan;
+mod spare;
 mod view;
 
 pub use about::About;

@@ -33,7 +33,7 @@ impl Shard {
     {
         let event = Event::Hand { n, key, to };
         self.table.hand(n, key, to);
-        self.table.forget_passed();
+        self.table.end_scan();
         append(&mut self.history, event);
         self.spare_events -= 1;
         event
@@ -48,7 +48,7 @@ impl Shard {
     {
         let event = Event::Insert { n, key, digest, t };
         self.table.insert(n, key, digest, t);
-        self.table.forget_passed();
+        self.table.end_scan();
         append(&mut self.history, event);
         self.spare_events -= 2;
         event
@@ -62,7 +62,7 @@ impl Shard {
     {
         let event = Event::Release { n, key, sole };
         self.table.release(n, key, sole);
-        self.table.forget_passed();
+        self.table.end_scan();
         append(&mut self.history, event);
         event
     }
@@ -90,7 +90,7 @@ impl Shard {
     {
         let event = Event::FeedEnd { n };
         self.table.feed_end(n);
-        self.table.forget_passed();
+        self.table.end_scan();
         append(&mut self.history, event);
         self.spare_events -= 1;
         event
@@ -104,7 +104,7 @@ impl Shard {
     {
         let event = Event::Set { n, key, place };
         self.table.set(n, key, place);
-        self.table.forget_passed();
+        self.table.end_scan();
         append(&mut self.history, event);
         event
     }
@@ -117,7 +117,7 @@ impl Shard {
     {
         let event = Event::Leave { n, key, why };
         self.table.settle(key);
-        self.table.forget_passed();
+        self.table.end_scan();
         append(&mut self.history, event);
         event
     }
@@ -131,7 +131,7 @@ impl Shard {
     {
         let event = Event::Clear { n, key };
         self.table.clear(n, key);
-        self.table.forget_passed();
+        self.table.end_scan();
         append(&mut self.history, event);
         self.spare_events -= 1;
         event
@@ -151,7 +151,7 @@ impl Shard {
             digest,
         };
         self.table.restore(n, key, place, digest);
-        self.table.forget_passed();
+        self.table.end_scan();
         append(&mut self.history, event);
         self.spare_events -= 1;
         event
@@ -166,7 +166,7 @@ impl Shard {
     {
         let event = Event::Resize { n, c };
         self.table.resize(c);
-        self.table.forget_passed();
+        self.table.end_scan();
         append(&mut self.history, event);
         self.spare_events -= 1;
         event

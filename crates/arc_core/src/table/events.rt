@@ -109,6 +109,7 @@ impl Table {
         ensures shard { self.new.shard ≡ effect self.old.shard (Event.Miss n key t) }
         ensures spare { self.old.spare ≤ self.new.spare + entries_for self.old.shard (Event.Miss n key t) }
         ensures marks { self.new.marks ≡ self.old.marks }
+        ensures marked { self.new.marked ≡ self.old.marked }
     {
         let old = self.find(key);
         self.adapt(key);
@@ -121,6 +122,7 @@ impl Table {
         ensures shard { self.new.shard ≡ effect self.old.shard (Event.Fail n key at) }
         ensures spare { self.old.spare ≤ self.new.spare }
         ensures marks { self.new.marks ≡ self.old.marks }
+        ensures marked { self.new.marked ≡ self.old.marked }
     {
         self.remove(key);
     }
@@ -142,6 +144,7 @@ impl Table {
         ensures shard { self.new.shard ≡ effect self.old.shard (Event.Release n key sole) }
         ensures spare { self.old.spare ≤ self.new.spare }
         ensures marks { self.new.marks ≡ self.old.marks }
+        ensures marked { self.new.marked ≡ self.old.marked }
     {
         if sole {
             self.remove(key);
@@ -157,6 +160,7 @@ impl Table {
         ensures shard { self.new.shard ≡ effect self.old.shard (Event.Insert n key digest t) }
         ensures spare { self.old.spare ≤ self.new.spare + entries_for self.old.shard (Event.Insert n key digest t) }
         ensures marks { self.new.marks ≡ self.old.marks }
+        ensures marked { self.new.marked ≡ self.old.marked }
     {
         self.take_in(written_entry(n, key, digest, t));
     }

@@ -1,5 +1,5 @@
 //! What the feed of the cache device and the scans of other parties do to a shard's table, and a new capacity.
-ghost use Rattle.std.specs.Prelude.{◌≡◌, ℕ, ◌+◌, ◌-◌, ◌*◌, ◌<◌, ◌≤◌, ◌^◌, false, length, IsTrue, IsSome, None};
+ghost use Rattle.std.specs.Prelude.{◌≡◌, ℕ, ◌+◌, ◌-◌, ◌*◌, ◌<◌, ◌≤◌, ◌^◌, [], false, length, IsTrue, IsSome, None};
 ghost use Rattle.blk_ptr.specs.declared.key.Key.{Key};
 ghost use Rattle.arc_lists.specs.Sequences.{stands, stands_on};
 ghost use Rattle.arc_lists.specs.Walks.{oldest_first};
@@ -236,6 +236,7 @@ impl Table {
         ensures shard { self.new.shard ≡ cleared key self.old.shard }
         ensures spare { self.old.spare ≤ self.new.spare }
         ensures marks { self.new.marks ≡ self.old.marks }
+        ensures marked { self.new.marked ≡ self.old.marked }
     {
         if self.is_l2_only(key) {
             self.remove(key);
@@ -259,6 +260,7 @@ impl Table {
         ensures shard { self.new.shard ≡ fitted (resized c self.old.shard) }
         ensures spare { self.old.spare ≤ self.new.spare }
         ensures marks { self.new.marks ≡ self.old.marks }
+        ensures marked { self.new.marked ≡ self.old.marked }
     {
         self.set_capacity(c);
         self.make_room(0);
@@ -273,12 +275,13 @@ impl Table {
         self.lists.resize(c);
     }
 
-    /// There is no feed and no passed key.
+    /// There is no feed, no passed key and no marked one.
     pub fn unpick(&mut self)
-        ensures now { self.new ≡ record self.old { shard = unpicked self.old.shard } }
+        ensures now { self.new ≡ record self.old { shard = unpicked self.old.shard; marked = [] } }
         ensures tidy { IsTidy self.new.shard }
     {
         self.passed.clear();
+        self.marked.clear();
         self.picked.clear();
         self.picked_bytes = 0;
         self.phase = Phase::Idle;

@@ -86,6 +86,7 @@ impl Table {
         ensures shard { self.new.shard ≡ dropped key self.old.shard }
         ensures spare { self.old.spare ≤ self.new.spare }
         ensures marks { self.new.marks ≡ self.old.marks }
+        ensures marked { self.new.marked ≡ self.old.marked }
     {
         match self.find(key) {
             Some(mut entry) if entry.place.is_some() => {
@@ -101,6 +102,7 @@ impl Table {
         ensures shard { self.new.shard ≡ with_room z self.old.shard }
         ensures spare { self.new.spare ≡ self.old.spare }
         ensures marks { self.new.marks ≡ self.old.marks }
+        ensures marked { self.new.marked ≡ self.old.marked }
     {
         for _turn in 0..self.len() {
             match self.next_evicted(z) {
@@ -115,6 +117,7 @@ impl Table {
         ensures shard { self.new.shard ≡ trimmed self.old.shard }
         ensures spare { self.old.spare ≤ self.new.spare }
         ensures marks { self.new.marks ≡ self.old.marks }
+        ensures marked { self.new.marked ≡ self.old.marked }
     {
         for _turn in 0..self.len() {
             match self.next_dropped() {
@@ -145,6 +148,7 @@ impl Table {
         ensures spare { self.old.spare ≤ self.new.spare }
         ensures kept { IsSome (entry_of key self.old.shard) → self.old.spare + 1 ≤ self.new.spare }
         ensures marks { self.new.marks ≡ self.old.marks }
+        ensures marked { self.new.marked ≡ self.old.marked }
     {
         if self.find(key).is_some() {
             self.remove(key);
@@ -160,6 +164,7 @@ impl Table {
         ensures spare { self.old.spare ≤ self.new.spare + 1 }
         ensures kept { IsSome (entry_of entry.key self.old.shard) → self.old.spare ≤ self.new.spare }
         ensures marks { self.new.marks ≡ self.old.marks }
+        ensures marked { self.new.marked ≡ self.old.marked }
     {
         self.take_out(entry.key);
         self.make_room(entry.key.size);

@@ -1,5 +1,4 @@
-use Rattle.std.proofs.Common.{sym, ap, ◌∙◌, arith, sum_by}
-use Rattle.arc_core.specs.declared.entry.Picked.{Picked}
+use Rattle.std.proofs.Common.{sym, ◌∙◌, arith}
 use Rattle.arc_core.proofs.Feeding.{pick-at, pick-nowhere}
 use Rattle.arc_core.proofs.entries.take_pick.Goals as goal
 

@@ -1,8 +1,8 @@
-use Rattle.std.proofs.Common.{◌≤◌, ◌<◌, IsTrue, refl, sym, ap, subst, ◌∙◌, arith}
+use Rattle.std.proofs.Common.{IsTrue, refl, sym, ap, subst, ◌∙◌, arith}
 use Rattle.arc_core.specs.declared.event.Event.TheVariants.{Fail}
 use Rattle.arc_core.specs.Changes.{with_none_passed}
 use Rattle.arc_core.specs.Step.{legal}
-use Rattle.arc_core.proofs.Making.{made}
+use Rattle.arc_core.proofs.Making.{made, none-marked}
 use Rattle.arc_core.proofs.Owing.{owed-after}
 use Rattle.arc_core.proofs.shard.Shard.fail.Goals as goal
 
@@ -18,6 +18,6 @@ invariant_of-self c =
     let s = c.self.inside in
     let e = Fail c.args.n c.args.key c.args.at in
     let ok : IsTrue (legal s.table.shard e) = subst (λ l. IsTrue (legal l.now e)) (sym c.self.view_is) c.requires in
-    let step = ap (λ t. t.shard) c.forget_passed.ensures.now ∙ ap with_none_passed c.fail.ensures.shard in
-    let marks = ap (λ t. t.marks) c.forget_passed.ensures.now ∙ c.fail.ensures.marks in
-    made s _ e c.self.invariant ok step refl c.append.ensures.items c.append.ensures.len c.append.ensures.capacity (omega (arith)) (omega (arith, marks, c.self.invariant.marks))
+    let step = ap (λ t. t.shard) c.end_scan.ensures.now ∙ ap with_none_passed c.fail.ensures.shard in
+    let marks = ap (λ t. t.marks) c.end_scan.ensures.now ∙ c.fail.ensures.marks in
+    made s _ e c.self.invariant ok step refl c.append.ensures.items c.append.ensures.len c.append.ensures.capacity (omega (arith)) (omega (arith, marks, c.self.invariant.marks)) (none-marked _ _ (ap (λ t. t.marked) c.end_scan.ensures.now))

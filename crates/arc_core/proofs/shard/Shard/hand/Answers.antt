@@ -1,9 +1,8 @@
-use Rattle.std.proofs.Common.{◌≤◌, ◌<◌, IsTrue, refl, sym, ap, subst, ◌∙◌, arith}
+use Rattle.std.proofs.Common.{◌≤◌, IsTrue, refl, sym, ap, subst, ◌∙◌, arith}
 use Rattle.arc_core.specs.declared.event.Event.TheVariants.{Hand}
 use Rattle.arc_core.specs.Changes.{with_none_passed}
 use Rattle.arc_core.specs.Step.{legal}
-use Rattle.arc_core.proofs.Making.{made}
-use Rattle.arc_core.proofs.Owing.{owed-after}
+use Rattle.arc_core.proofs.Making.{made, none-marked}
 use Rattle.arc_core.proofs.shard.Shard.hand.Goals as goal
 
 pub invariant_of-self : goal.invariant_of-self
@@ -12,6 +11,6 @@ invariant_of-self c =
     let e = Hand c.args.n c.args.key c.args.to in
     let ok : IsTrue (legal s.table.shard e) = subst (λ l. IsTrue (legal l.now e)) (sym c.self.view_is) c.requires.legal in
     let room : 1 ≤ s.spare_events = subst (λ l. 1 ≤ l.event_room) (sym c.self.view_is) c.requires.room.events in
-    let step = ap (λ t. t.shard) c.forget_passed.ensures.now ∙ ap (λ t. with_none_passed t.shard) c.hand.ensures in
-    let marks = ap (λ t. t.marks) c.forget_passed.ensures.now ∙ ap (λ t. t.marks) c.hand.ensures in
-    made s _ e c.self.invariant ok step refl c.append.ensures.items c.append.ensures.len c.append.ensures.capacity (omega (arith, room)) (omega (arith, marks, c.self.invariant.marks, room))
+    let step = ap (λ t. t.shard) c.end_scan.ensures.now ∙ ap (λ t. with_none_passed t.shard) c.hand.ensures in
+    let marks = ap (λ t. t.marks) c.end_scan.ensures.now ∙ ap (λ t. t.marks) c.hand.ensures in
+    made s _ e c.self.invariant ok step refl c.append.ensures.items c.append.ensures.len c.append.ensures.capacity (omega (arith, room)) (omega (arith, marks, c.self.invariant.marks, room)) (none-marked _ _ (ap (λ t. t.marked) c.end_scan.ensures.now))

@@ -1,9 +1,10 @@
-use Rattle.std.proofs.Common.{◌≤◌, ◌<◌, IsTrue, refl, sym, ap, subst, ◌∙◌, arith}
+use Rattle.std.proofs.Common.{◌≤◌, IsTrue, refl, sym, ap, subst, arith}
+use Rattle.arc_lists.specs.Queues.{IsSequenceOf}
 use Rattle.arc_core.specs.declared.event.Event.TheVariants.{Pass}
-use Rattle.arc_core.specs.Changes.{with_none_passed}
+use Rattle.arc_core.specs.PlainShard.{members}
+use Rattle.arc_core.specs.PlainTable.{PlainTable}
 use Rattle.arc_core.specs.Step.{legal}
 use Rattle.arc_core.proofs.Making.{made}
-use Rattle.arc_core.proofs.Owing.{owed-after}
 use Rattle.arc_core.proofs.shard.Shard.pass.Goals as goal
 
 pub pass-requires-clause-room : goal.pass-requires-clause-room
@@ -20,4 +21,4 @@ invariant_of-self c =
     let room : 1 ≤ s.spare_events = subst (λ l. 1 ≤ l.event_room) (sym c.self.view_is) c.requires.room.events in
     let step = ap (λ t. t.shard) c.pass.ensures in
     let marks = ap (λ t. t.marks) c.pass.ensures in
-    made s _ e c.self.invariant ok step refl c.append.ensures.items c.append.ensures.len c.append.ensures.capacity (omega (arith, room)) (omega (arith, marks, c.self.invariant.marks, room))
+    made s _ e c.self.invariant ok step refl c.append.ensures.items c.append.ensures.len c.append.ensures.capacity (omega (arith, room)) (omega (arith, marks, c.self.invariant.marks, room)) (subst (λ (t : PlainTable). IsSequenceOf (members t.shard) t.marked) (sym c.pass.ensures) c.self.invariant.marked)

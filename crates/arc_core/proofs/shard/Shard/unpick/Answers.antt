@@ -1,10 +1,10 @@
-use Rattle.std.proofs.Common.{◌≡◌, length, take, refl, sym, ap, subst, ◌∙◌, arith}
+use Rattle.std.proofs.Common.{take, refl, sym, ap, subst, ◌∙◌, arith}
 use Rattle.arc_core.specs.ShardLog.{MayUnpick}
 use Rattle.arc_core.specs.ShardModel.{log_in}
-use Rattle.arc_core.specs.Changes.{unpicked}
 use Rattle.arc_core.specs.Owed.{owed_of}
 use Rattle.arc_core.specs.Replay.{replay}
 use Rattle.arc_core.specs.ShardLog.{ShardLog}
+use Rattle.arc_core.proofs.Making.{none-marked}
 use Rattle.arc_core.proofs.Unpicking.{before-scan, front-legal, sound-unpicked}
 use Rattle.arc_core.proofs.shard.Shard.unpick.Goals as goal
 
@@ -24,6 +24,7 @@ invariant_of-self c =
       };
       room = omega (arith, kept.room, ap owed_of now, c.truncate.ensures.len, c.truncate.ensures.capacity);
       marks = omega (arith, kept.marks, ap (λ t. t.marks) c.unpick.ensures.now);
+      marked = none-marked _ _ (ap (λ t. t.marked) c.unpick.ensures.now);
     }
 
 pub returns : goal.returns
@@ -38,4 +39,5 @@ returns c =
       opening = ap (λ (l : ShardLog). l.opening) c.self.view_is;
       event_room = omega (arith, ap (λ (l : ShardLog). l.event_room) c.self.view_is);
       entry_room = omega (arith, ap (λ (l : ShardLog). l.entry_room) c.self.view_is, ap (λ t. t.spare) c.unpick.ensures.now);
+      marked = ap (λ t. t.marked) c.unpick.ensures.now;
     }

@@ -1,5 +1,4 @@
-use Rattle.std.proofs.Common.{◌≡◌, ℕ, ◌+◌, ◌≤◌, ◌∷◌, IsTrue, length, true, sym, ap, subst, ◌∙◌, arith, Some, None}
-use Rattle.blk_ptr.specs.declared.key.Key.{Key}
+use Rattle.std.proofs.Common.{◌≡◌, ◌+◌, ◌≤◌, IsTrue, length, true, sym, ap, subst, ◌∙◌, arith}
 use Rattle.arc_lists.specs.Sequences.{sequence_of, stands, stands_on}
 use Rattle.arc_lists.specs.Walks.{first_of, next_to, oldest_first}
 use Rattle.arc_core.specs.Candidate.{may_be_picked, walk}

@@ -15,4 +15,5 @@ loop-turn-preserved c =
       rest = ap (λ t. evicting (n - (c.loop-turn._turn + 1)) c.args.z t.shard) c.evict.ensures ∙ sym more ∙ c.loop-turn.invariant.rest;
       spare = ap (λ t. t.spare) c.evict.ensures ∙ c.loop-turn.invariant.spare;
       marks = ap (λ t. t.marks) c.evict.ensures ∙ c.loop-turn.invariant.marks;
+      marked = ap (λ t. t.marked) c.evict.ensures ∙ c.loop-turn.invariant.marked;
     }

@@ -8,4 +8,5 @@ invariant-loop-turn l = record {
   rest : evicting (length l.fn.self.shard.entries - l._turn) l.z l.self.shard ≡ with_room l.z l.fn.self.shard;
   spare : l.self.spare ≡ l.fn.self.spare;
   marks : l.self.marks ≡ l.fn.self.marks;
+  marked : l.self.marked ≡ l.fn.self.marked;
 }

@@ -1,13 +1,9 @@
-use Rattle.std.proofs.Common.{◌≡◌, ◌+◌, ◌<◌, ◌≤◌, ◌∷◌, [], Some, IsTrue, refl, sym, ap, subst, ◌∙◌, arith}
-use Rattle.std.proofs.lemmas.List.Sums.{sum_by-append}
-use Rattle.arc_core.specs.declared.entry.Picked.{Picked}
+use Rattle.std.proofs.Common.{IsTrue, sym, subst, arith}
 use Rattle.arc_core.specs.declared.event.Event.TheVariants.{Pick}
-use Rattle.arc_core.specs.Candidate.{candidate, picked_bytes}
 use Rattle.arc_core.specs.Step.{legal}
 use Rattle.arc_core.specs.TableModel.{shard_in}
-use Rattle.arc_core.proofs.Feeding.{bytes-append, candidate-within}
+use Rattle.arc_core.proofs.Feeding.{candidate-within}
 use Rattle.arc_core.proofs.Soundness.{picked-candidate}
-use Rattle.arc_core.proofs.Tables.{IsTidy-same}
 use Rattle.arc_core.proofs.table.Table.pick.Goals as goal
 
 pub overflow_add-self : goal.overflow_add-self

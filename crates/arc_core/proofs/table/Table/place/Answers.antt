@@ -28,6 +28,7 @@ invariant_of-self c =
       members = ap (λ l. l.members) c.put.ensures ∙ rw (c.take_out.ensures, kept.members, c.write.ensures.items)
           (members-placed c.args.entry c.self.inside.entries.items (members-rising c.self.inside.entries.items kept.tidy.once) there);
       room = omega (arith, kept.room, c.write.ensures.len, c.write.ensures.capacity, spare, taken);
+      marked_room = omega (arith, kept.marked_room, c.write.ensures.len, spare, taken);
       passed_room = kept.passed_room;
       picked_room = kept.picked_room;
       passed_rising = kept.passed_rising;

@@ -1,7 +1,7 @@
-use Rattle.std.proofs.Common.{IsSome, IsTrue, false, sym, ap, subst, ◌∙◌}
+use Rattle.std.proofs.Common.{IsSome, IsTrue, sym, ap, subst, ◌∙◌}
 use Rattle.arc_core.specs.declared.entry.Entry.{Entry}
 use Rattle.arc_core.specs.declared.event.Event.TheVariants.{Release}
-use Rattle.arc_core.specs.PlainShard.{PlainShard, entry_of}
+use Rattle.arc_core.specs.PlainShard.{entry_of}
 use Rattle.arc_core.specs.Edits.{placed}
 use Rattle.arc_core.specs.Sound.{IsSoundEntry}
 use Rattle.arc_core.specs.Step.{effect, legal}

@@ -10,6 +10,7 @@ invariant_of-self c =
       tidy = IsTidy-same (shard_in c.self.inside) _ refl refl kept.tidy;
       members = kept.members;
       room = kept.room;
+      marked_room = kept.marked_room;
       passed_room = kept.passed_room;
       picked_room = omega (arith, kept.picked_room, c.take_pick.ensures.len, c.take_pick.ensures.capacity);
       passed_rising = kept.passed_rising;

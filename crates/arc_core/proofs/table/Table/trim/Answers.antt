@@ -15,4 +15,5 @@ loop-turn-preserved c =
       rest = ap (λ s. trimming (n - (c.loop-turn._turn + 1)) s) c.drop_ghost.ensures.shard ∙ sym more ∙ c.loop-turn.invariant.rest;
       spare = omega (arith, c.drop_ghost.ensures.spare, c.loop-turn.invariant.spare);
       marks = c.drop_ghost.ensures.marks ∙ c.loop-turn.invariant.marks;
+      marked = c.drop_ghost.ensures.marked ∙ c.loop-turn.invariant.marked;
     }

@@ -8,4 +8,5 @@ invariant-loop-turn l = record {
   rest : trimming (length l.fn.self.shard.entries - l._turn) l.self.shard ≡ trimmed l.fn.self.shard;
   spare : l.fn.self.spare ≤ l.self.spare;
   marks : l.self.marks ≡ l.fn.self.marks;
+  marked : l.self.marked ≡ l.fn.self.marked;
 }

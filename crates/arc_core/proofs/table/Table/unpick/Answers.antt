@@ -10,8 +10,9 @@ invariant_of-self c =
       tidy = IsTidy-same (shard_in c.self.inside) _ refl refl kept.tidy;
       members = kept.members;
       room = kept.room;
+      marked_room = omega (arith, kept.marked_room, c.clear-2.ensures.len, c.clear-2.ensures.capacity);
       passed_room = omega (arith, kept.passed_room, c.clear.ensures.len, c.clear.ensures.capacity);
-      picked_room = omega (arith, kept.picked_room, c.clear-2.ensures.len, c.clear-2.ensures.capacity);
+      picked_room = omega (arith, kept.picked_room, c.clear-3.ensures.len, c.clear-3.ensures.capacity);
       passed_rising = rw c.clear.ensures.items tt;
-      bytes = rw c.clear-2.ensures.items refl;
+      bytes = rw c.clear-3.ensures.items refl;
     }

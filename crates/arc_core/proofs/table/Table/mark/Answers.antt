@@ -1,0 +1,23 @@
+use Rattle.std.proofs.Common.{◌≡◌, IsSome, IsTrue, arith, false, map, sym, subst, ◌∙◌}
+use Rattle.std.proofs.lemmas.List.{length-map}
+use Rattle.arc_lists.specs.ByKey.{has_key}
+use Rattle.arc_lists.specs.PlainLists.{member_key}
+use Rattle.arc_lists.specs.Queues.{IsSequenceOf}
+use Rattle.arc_lists.specs.Sequences.{stands_on}
+use Rattle.arc_core.specs.PlainShard.{entry_of, member_of, members}
+use Rattle.arc_core.specs.TableModel.{shard_in}
+use Rattle.arc_core.proofs.Marking.{fewer-marked}
+use Rattle.arc_core.proofs.Tables.{has_key-members, members-rising}
+use Rattle.arc_core.proofs.table.Table.mark.Goals as goal
+
+pub push_key-requires : goal.push_key-requires
+push_key-requires c =
+    let t = c.self.inside in
+    let kept = c.self.invariant in
+    let k = c.args.key in
+    let there : IsSome (entry_of k (shard_in t)) = subst (λ p. IsSome (entry_of k p.shard)) (sym c.self.view_is) c.requires.there in
+    let marked : IsSequenceOf (members (shard_in t)) t.marked.items = subst (λ p. IsSequenceOf (members p.shard) p.marked) (sym c.self.view_is) c.requires.marked in
+    let unmarked : stands_on k t.marked.items ≡ false = subst (λ p. stands_on k p.marked ≡ false) (sym c.self.view_is) c.requires.unmarked in
+    let has : IsTrue (has_key member_key k (map member_of t.entries.items)) = has_key-members k t.entries.items ∙ there in
+    let fewer = fewer-marked (members (shard_in t)) t.marked.items k (members-rising t.entries.items kept.tidy.once) has unmarked marked in
+    omega (arith, fewer, kept.marked_room, length-map t.entries.items member_of, t.entries.ok.0, t.marked.ok.0)

@@ -1,0 +1,86 @@
+//! The keys that were marked as victims of an event, and those that may be.
+ghost use Rattle.std.specs.Prelude.{◌≡◌, ◌+◌, ◌++◌, ◌∷◌, [], ◌<◌, ◌≤◌, Bool, false, not, find, vec_len, vec_capacity, IsTrue, IsSome, Some};
+ghost use Rattle.blk_ptr.specs.declared.key.Key.{Key};
+ghost use Rattle.blk_ptr.specs.declared.state.State.{State};
+ghost use Rattle.arc_lists.specs.Queues.{IsSequenceOf};
+ghost use Rattle.arc_lists.specs.Sequences.{sequence_of, stands_on};
+ghost use Rattle.arc_lists.specs.Walks.{oldest_first};
+ghost use Rattle.arc_core.specs.Naming.{is_unnamed, unnamed};
+ghost use Rattle.arc_core.specs.PlainShard.{entry_of, members};
+
+use super::Table;
+use super::room::stands_on;
+use blk_ptr::{Key, State};
+
+// Adds a key behind the others.
+fn push_key(keys: &mut Vec<Key>, key: Key)
+    requires { vec_len keys.old < vec_capacity keys.old }
+    ensures items { keys.new.items ≡ keys.old.items ++ key ∷ [] }
+    ensures len { vec_len keys.new ≡ vec_len keys.old + 1 }
+    ensures capacity { vec_capacity keys.old ≤ vec_capacity keys.new }
+{
+    let _ = keys.push(key);
+}
+
+impl Table {
+    /// Whether a key is marked.
+    pub fn is_marked(&self, key: Key) -> bool
+        ensures { result ≡ stands_on key self.now.marked }
+    {
+        stands_on(&self.marked, key)
+    }
+
+    /// Marks a key that has an entry.
+    pub fn mark(&mut self, key: Key)
+        requires there { IsSome (entry_of key self.old.shard) }
+        requires marked { IsSequenceOf (members self.old.shard) self.old.marked }
+        requires unmarked { stands_on key self.old.marked ≡ false }
+        ensures { self.new ≡ record self.old { marked = self.old.marked ++ key ∷ [] } }
+    {
+        push_key(&mut self.marked, key);
+    }
+
+    /// Forgets the marked keys.
+    pub fn unmark_all(&mut self)
+        ensures { self.new ≡ record self.old { marked = [] } }
+    {
+        self.marked.clear();
+    }
+
+    // Whether a key may be a victim, and isn't marked.
+    fn is_unnamed(&self, about: Option<Key>, key: Key) -> bool
+        ensures { result ≡ is_unnamed about self.now key }
+    {
+        let own = match about {
+            Some(k) => key == k,
+            None => false,
+        };
+        !self.is_passed(key) && !self.is_marked(key) && !own
+    }
+
+    // The oldest key of a state's sequence that may be a victim, and isn't marked.
+    fn oldest_unnamed(&self, state: State, about: Option<Key>) -> Option<Key>
+        ensures { result ≡ find (is_unnamed about self.now) (oldest_first state self.now.shard.sequences) }
+    {
+        let mut next = self.lists.oldest(state);
+        while let Some(key) = next {
+            if self.is_unnamed(about, key) {
+                return Some(key);
+            }
+            next = self.lists.newer(key);
+        }
+        None
+    }
+
+    /// A key that may be a victim, and isn't marked.
+    pub fn unnamed(&self, about: Option<Key>) -> Option<Key>
+        ensures { result ≡ unnamed about self.now }
+    {
+        let mru = self.oldest_unnamed(State::Mru, about);
+        let mfu = self.oldest_unnamed(State::Mfu, about);
+        let mru_ghost = self.oldest_unnamed(State::MruGhost, about);
+        mru.or(mfu)
+            .or(mru_ghost)
+            .or(self.oldest_unnamed(State::MfuGhost, about))
+    }
+}
