@@ -19,7 +19,7 @@ use Rattle.arc_table.specs.Geometry.{bucket_turn, shard_turn}
 use Rattle.arc_table.specs.Headed.{IsHead}
 use Rattle.arc_table.specs.InHand.{buckets_of}
 use Rattle.arc_table.specs.Items.{Meanings}
-use Rattle.arc_table.specs.Scanning.{MayScan, Scans, after_scan, gave_all, pairs_of}
+use Rattle.arc_table.specs.Scanning.{ArePasses, MayScan, Scans, after_scan, gave_all, pairs_of}
 use Rattle.arc_table.specs.ShardGiving.{IsActor, after_shard}
 use Rattle.arc_table.specs.Sparing.{turns_in}
 
@@ -45,17 +45,22 @@ module _ {C : Type 0} (m : Meanings C) where
     pub same : turns_in given ≡ turns
     pub gave : r ≡ gave_all given (gave_back q i (after_shard m given i before es after q.own))
 
-  -- The party p took the bucket and the shard of the key. Its scan won the buckets of other victims, and passed those that other parties
-  -- had. It made the passes and then this event, each legal when it came, and gave all back: it is r
+  -- The party q, with the key's bucket and its shard in hand, scanned for victims: it won the buckets of some, and passed those that other
+  -- parties had. It made the passes and then this event, each legal when it came, and gave all back: it is r
+  pub record MakesRoomy (g : Config) (k : Key) (before : ShardLog) (e : Event) (q r : Place (Known C)) : Type 0 where
+    pub won : List (ℕ × Chain)
+    pub passes : List Event
+    pub after : ShardLog
+    pub own : ArePasses g q.number (shard_turn g k) passes
+    pub legal : IsTrue (is_legal_history before.now (passes ++ e ∷ []))
+    pub now : after.now ≡ replay before.now (passes ++ e ∷ [])
+    pub history : after.history ≡ before.history ++ (passes ++ e ∷ [])
+    pub gives : GivesAll (shard_turn g k) (bucket_turn g k ∷ turns_in won) before (passes ++ e ∷ []) after (after_scan m g (shard_turn g k) (length before.history) won passes q) r
+
+  -- The party p took the bucket and the shard of the key, scanned for victims, made the passes and this event, and gave all back: it is r
   pub record DoesRoomy (g : Config) (k : Key) (e : Event) (p r : Place (Known C)) : Type 0 where
     pub chain : Chain
     pub before : ShardLog
     pub reached : Place (Known C)
     pub takes : TakesBoth m g k chain before p reached
-    pub won : List (ℕ × Chain)
-    pub passes : List Event
-    pub after : ShardLog
-    pub legal : IsTrue (is_legal_history before.now (passes ++ e ∷ []))
-    pub now : after.now ≡ replay before.now (passes ++ e ∷ [])
-    pub history : after.history ≡ before.history ++ (passes ++ e ∷ [])
-    pub gives : GivesAll (shard_turn g k) (bucket_turn g k ∷ turns_in won) before (passes ++ e ∷ []) after (after_scan m g (shard_turn g k) (length before.history) won passes reached) r
+    pub makes : MakesRoomy g k before e reached r

@@ -17,6 +17,7 @@ mod hold;
 mod item;
 mod look;
 mod looks;
+mod misses;
 mod opening;
 mod pact;
 mod scan;
