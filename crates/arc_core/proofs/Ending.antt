@@ -17,12 +17,12 @@ use Rattle.arc_core.proofs.Evictions.{at_head-entries, dropped-gone, dropped-pla
 use Rattle.arc_core.proofs.Sparing.{sparing-dropped, sparing-evicted, uncached}
 
 -- how many entries pass a test
-abbrev count : (Entry → Bool) → List Entry → ℕ
+abbrev pub count : (Entry → Bool) → List Entry → ℕ
 count test [] = 0
 count test (e ∷ es) = (if test e then 1 else 0) + count test es
 
 module _ (test : Entry → Bool) where
-  count-le : (es : List Entry) → count test es ≤ length es
+  pub count-le : (es : List Entry) → count test es ≤ length es
   count-le [] = omega arith
   count-le (e ∷ es) = elim (cases_true (test e)) [
     | inl passes ↦ rw passes (omega (arith, count-le es))
@@ -59,7 +59,7 @@ unevictable e cached = go (is_unheld e) (uncached e.state cached)
     go false off = refl
 
 -- an eviction leaves one evictable entry less
-count-evicted : (k : Key) (z : ℕ) (s : PlainShard) → IsTidy s → next_evicted z s ≡ Some k → count is_evictable (evicted k s).entries + 1 ≡ count is_evictable s.entries
+pub count-evicted : (k : Key) (z : ℕ) (s : PlainShard) → IsTidy s → next_evicted z s ≡ Some k → count is_evictable (evicted k s).entries + 1 ≡ count is_evictable s.entries
 count-evicted k z s tidy chosen =
     let e = entry_of-is is_evictable k s (next_evicted-is z s k tidy chosen) in
     ap (λ es. count is_evictable es + 1) (at_head-entries k (changed k evicted_entry (off_sequence k s)))
@@ -88,7 +88,7 @@ undroppable true = refl
 undroppable false = refl
 
 -- a drop leaves one droppable entry less
-count-dropped : (k : Key) (s : PlainShard) → IsTidy s → next_dropped s ≡ Some k → count is_droppable (dropped k s).entries + 1 ≡ count is_droppable s.entries
+pub count-dropped : (k : Key) (s : PlainShard) → IsTidy s → next_dropped s ≡ Some k → count is_droppable (dropped k s).entries + 1 ≡ count is_droppable s.entries
 count-dropped k s tidy chosen =
     let e = entry_of-is is_droppable k s (next_dropped-is s k tidy chosen) in
     let key = (found k s e.0 tidy (sym e.1)).key in

@@ -17,9 +17,9 @@ use Rattle.arc_core.proofs.Stepping.{legal-append, replay-append}
 
 -- after an event that is legal, keeps the shard sound, and takes no more room than it may
 pub IsKept-step : (s n : Inside) (e : Event) → IsKept s → IsTrue (legal s.table.shard e) → n.table.shard ≡ after s.table.shard e → IsSound n.table.shard → n.opened ≡ s.opened
-    → n.history.items ≡ s.history.items ++ e ∷ [] → vec_len n.history ≡ vec_len s.history + 1 → vec_capacity s.history ≤ vec_capacity n.history → n.spare_events + room_for e ≡ s.spare_events → n.spare_events ≤ n.table.marks → IsSequenceOf (members n.table.shard) n.table.marked
+    → n.history.items ≡ s.history.items ++ e ∷ [] → vec_len n.history ≡ vec_len s.history + 1 → vec_capacity s.history ≤ vec_capacity n.history → n.spare_events + room_for e ≡ s.spare_events → IsSequenceOf (members n.table.shard) n.table.marked
     → owed_of (after s.table.shard e) + 1 ≤ owed_of s.table.shard + room_for e → IsKept n
-IsKept-step s n e kept ok step sound opened history len capacity spare marks marked owed =
+IsKept-step s n e kept ok step sound opened history len capacity spare marked owed =
     let opening = (log_in s).opening in
     let replayed : replay opening (s.history.items ++ e ∷ []) ≡ after s.table.shard e = replay-append opening s.history.items (e ∷ []) ∙ ap (λ (t : PlainShard). after t e) kept.replayed.replayed in
     let lawful : is_legal_history opening (s.history.items ++ e ∷ []) ≡ true = legal-append opening s.history.items e kept.replayed.legal (subst (λ t. legal t e ≡ true) (sym kept.replayed.replayed) ok) in
@@ -30,7 +30,6 @@ IsKept-step s n e kept ok step sound opened history len capacity spare marks mar
         legal = rw (opened, history) lawful;
       };
       room = omega (arith, kept.room, len, capacity, spare, owed, ap owed_of step);
-      marks = marks;
       marked = marked;
     }
 

@@ -1,5 +1,10 @@
 pub mod Accesses
 pub mod Counting
+pub mod Cursor
+pub mod CursorEnds
+pub mod CursorRuns
+pub mod CursorStart
+pub mod CursorSteps
 pub mod Ending
 pub mod EntriesAfter
 pub mod Evictions
@@ -9,10 +14,10 @@ pub mod Keeping
 pub mod Legal
 pub mod Making
 pub mod Marking
-pub mod Naming
 pub mod Others
 pub mod Owing
 pub mod Placing
+pub mod Scan
 pub mod Scanning
 pub mod Soundness
 pub mod Sparing

@@ -15,10 +15,10 @@ use Rattle.arc_core.proofs.Soundness.{IsSound-after}
 
 pub made : (s n : Inside) (e : Event) → IsKept s → IsTrue (legal s.table.shard e) → n.table.shard ≡ after s.table.shard e → n.opened ≡ s.opened
     → n.history.items ≡ s.history.items ++ e ∷ [] → vec_len n.history ≡ vec_len s.history + 1 → vec_capacity s.history ≤ vec_capacity n.history
-    → n.spare_events + room_for e ≡ s.spare_events → n.spare_events ≤ n.table.marks → IsSequenceOf (members n.table.shard) n.table.marked → IsKept n
-made s n e kept ok step opened history len capacity spare marks marked =
+    → n.spare_events + room_for e ≡ s.spare_events → IsSequenceOf (members n.table.shard) n.table.marked → IsKept n
+made s n e kept ok step opened history len capacity spare marked =
     let sound = kept.replayed.sound in
-    IsKept-step s n e kept ok step (rw step (IsSound-after s.table.shard e sound ok)) opened history len capacity spare marks marked (owed-after s.table.shard e sound ok)
+    IsKept-step s n e kept ok step (rw step (IsSound-after s.table.shard e sound ok)) opened history len capacity spare marked (owed-after s.table.shard e sound ok)
 
 -- where no key is marked, each marked one has an entry
 pub none-marked : (ms : List Member) (ks : List Key) → ks ≡ [] → IsSequenceOf ms ks

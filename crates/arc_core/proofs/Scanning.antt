@@ -1,5 +1,5 @@
 -- A walk over a list of keys, one key after the other, as the walks over a sequence go.
-use Rattle.std.proofs.Common.{◌≡◌, ℕ, ◌+◌, ◌<◌, ◌≤◌, nat_le, Bool, true, false, not, ◌||◌, if◌then◌else◌, List, [], ◌∷◌, Option, Some, None, inl, inr, refl, sym, ap, subst, ◌∙◌, arith}
+use Rattle.std.proofs.Common.{◌≡◌, ℕ, ◌+◌, ◌<◌, ◌≤◌, nat_le, Bool, true, false, not, ◌||◌, List, [], ◌∷◌, Option, Some, None, inl, inr, refl, sym, ap, subst, ◌∙◌, arith}
 use Rattle.std.proofs.lemmas.Bool.{false≢true}
 use Rattle.blk_ptr.specs.declared.key.Key.{Key}
 use Rattle.blk_ptr.specs.declared.state.State.{State}
@@ -13,18 +13,9 @@ use Rattle.arc_lists.proofs.Tables.{cases_true, some_is}
 use Rattle.arc_lists.proofs.Walking.{distinct-reversed, stands_on-reversed}
 use Rattle.std.proofs.lemmas.Bool.Decides.{nat_tests}
 use Rattle.arc_core.specs.Candidate.{walk}
+use Rattle.arc_core.specs.Scan.{from_key, from_next}
 use Rattle.arc_core.specs.PlainShard.{PlainShard}
 use Rattle.arc_core.specs.Sound.{IsTidy}
-
--- the keys from one key on
-abbrev pub from_key : Key → List Key → List Key
-from_key k [] = []
-from_key k (x ∷ xs) = if key_eq x k then x ∷ xs else from_key k xs
-
--- the same, where there may be none to go on from
-abbrev pub from_next : Option Key → List Key → List Key
-from_next None xs = []
-from_next (Some k) xs = from_key k xs
 
 pub from-first : (xs : List Key) → from_next (first_of xs) xs ≡ xs
 from-first [] = refl
@@ -45,7 +36,7 @@ next-stands k j (x ∷ xs) is = elim (cases_true (key_eq x j)) [
 ]
 
 -- a walk that goes on behind a first key never comes back to it
-behind : (x : Key) (xs : List Key) (o : Option Key) → stands_on x xs ≡ false → ((j : Key) → o ≡ Some j → stands_on j xs ≡ true) → from_next o (x ∷ xs) ≡ from_next o xs
+pub behind : (x : Key) (xs : List Key) (o : Option Key) → stands_on x xs ≡ false → ((j : Key) → o ≡ Some j → stands_on j xs ≡ true) → from_next o (x ∷ xs) ≡ from_next o xs
 behind x xs None off within = refl
 behind x xs (Some j) off within = elim (cases_true (key_eq x j)) [
   | inl same ↦ absurd (false≢true (sym off ∙ subst (λ h. stands_on h xs ≡ true) (sym (key_eq-is x j same)) (within j refl)))

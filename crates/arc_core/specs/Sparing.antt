@@ -49,11 +49,15 @@ victims_of_entry e s =
     let out = gone e.key s in
     evicted_for e.key.size out ++ dropped_by_trim (come e (with_room e.key.size out))
 
+-- the keys that are evicted and dropped as a shard is fitted to its capacity
+abbrev pub fitting_victims : PlainShard → List Key
+fitting_victims s = evicted_for 0 s ++ dropped_by_trim (with_room 0 s)
+
 -- the keys that an event evicts, and then those that it drops
 abbrev pub victims : PlainShard → Event → List Key
 victims s (Miss n k t) = victims_of_entry (read_entry n k t s) (with_target_for k s)
 victims s (Insert n k d t) = victims_of_entry (written_entry n k d t) s
-victims s (Resize n c) = evicted_for 0 (resized c s) ++ dropped_by_trim (with_room 0 (resized c s))
+victims s (Resize n c) = fitting_victims (resized c s)
 victims s _ = []
 
 -- the first of them that isn't marked

@@ -145,9 +145,8 @@ impl Shard {
                 .ok_or(NoMemory)?;
             self.history.reserve(more)?;
         }
-        let spare = self.spare_events + (self.history.capacity() - before);
-        self.table.reserve(entries, spare)?;
-        self.spare_events = spare;
+        self.table.reserve(entries, events)?;
+        self.spare_events += self.history.capacity() - before;
         Ok(())
     }
 

@@ -10,6 +10,7 @@ mod events;
 mod feed;
 mod naming;
 mod room;
+mod scan;
 
 use crate::config::Bounds;
 use crate::entries;

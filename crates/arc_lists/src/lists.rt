@@ -74,6 +74,20 @@ impl Lists {
         self.members.reserve(n)
     }
 
+    /// The target after `z` bytes of a ghost are asked for (`arc_adapt` of OpenZFS's `arc.c`).
+    pub fn adapted(&self, kind: Ghost, z: u64) -> u64
+        requires some { 0 < z }
+        requires there { z ≤ size_of (state_of kind) self.now.members }
+        ensures { result ≡ adapted kind z (size_of state.MruGhost self.now.members)
+            (size_of state.MfuGhost self.now.members) self.now.p self.now.c }
+    {
+        let (mru_ghost, mfu_ghost) = (self.sizes.mru_ghost, self.sizes.mfu_ghost);
+        match kind {
+            Ghost::Mru => target::raised(z, mru_ghost, mfu_ghost, self.p, self.c),
+            Ghost::Mfu => target::lowered(z, mru_ghost, mfu_ghost, self.p, self.c),
+        }
+    }
+
     /// Moves the target, since `z` bytes of a ghost were asked for.
     pub fn adapt(&mut self, kind: Ghost, z: u64)
         requires some { 0 < z }
@@ -83,11 +97,7 @@ impl Lists {
               (size_of state.MfuGhost self.old.members) self.old.p self.old.c;
         } }
     {
-        let (mru_ghost, mfu_ghost) = (self.sizes.mru_ghost, self.sizes.mfu_ghost);
-        self.p = match kind {
-            Ghost::Mru => target::raised(z, mru_ghost, mfu_ghost, self.p, self.c),
-            Ghost::Mfu => target::lowered(z, mru_ghost, mfu_ghost, self.p, self.c),
-        };
+        self.p = self.adapted(kind, z);
     }
 
     /// Adds a key under a state. Where it is unheld and the state has a sequence, it stands at that sequence's head.

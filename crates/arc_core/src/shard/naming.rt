@@ -3,77 +3,53 @@ ghost use Rattle.std.specs.Prelude.{◌≡◌, [], ◌||◌, IsTrue, IsSome, IfS
 ghost use Rattle.blk_ptr.specs.declared.key.Key.{Key};
 ghost use Rattle.blk_ptr.specs.Order.{key_eq};
 ghost use Rattle.arc_lists.specs.Sequences.{stands_on};
-ghost use Rattle.arc_core.specs.Naming.{takes_room};
-ghost use Rattle.arc_core.specs.Operations.{event_key};
 ghost use Rattle.arc_core.specs.PlainShard.{entry_of};
 ghost use Rattle.arc_core.specs.ShardLog.{AreAllNamed, IsUnnamed};
+ghost use Rattle.arc_core.specs.Sparing.{next_victim};
 ghost use Rattle.arc_core.specs.Step.{legal};
 
 use super::Shard;
 use crate::event::Event;
 use blk_ptr::Key;
 
-// The key of an event, where it is about one.
-fn own_key(e: &Event) -> Option<Key>
-    ensures { result ≡ event_key e.now }
-{
-    match *e {
-        Event::Pass { key, .. }
-        | Event::Hit { key, .. }
-        | Event::Miss { key, .. }
-        | Event::Arrive { key, .. }
-        | Event::Fail { key, .. }
-        | Event::Drop { key, .. }
-        | Event::Past { key, .. }
-        | Event::Hand { key, .. }
-        | Event::Insert { key, .. }
-        | Event::Release { key, .. }
-        | Event::Pick { key, .. }
-        | Event::Set { key, .. }
-        | Event::Leave { key, .. }
-        | Event::Clear { key, .. }
-        | Event::Restore { key, .. } => Some(key),
-        Event::FeedEnd { .. } | Event::Resize { .. } => None,
-    }
-}
-
-// Whether an event may evict and drop.
-fn takes_room(e: &Event) -> bool
-    ensures { result ≡ takes_room e.now }
-{
-    match *e {
-        Event::Miss { .. } | Event::Insert { .. } | Event::Resize { .. } => true,
-        Event::Pass { .. }
-        | Event::Hit { .. }
-        | Event::Arrive { .. }
-        | Event::Fail { .. }
-        | Event::Drop { .. }
-        | Event::Past { .. }
-        | Event::Hand { .. }
-        | Event::Release { .. }
-        | Event::Pick { .. }
-        | Event::FeedEnd { .. }
-        | Event::Set { .. }
-        | Event::Leave { .. }
-        | Event::Clear { .. }
-        | Event::Restore { .. } => false,
-    }
-}
-
 impl Shard {
-    /// A key that isn't marked, which an event may evict or drop. None: every other key that isn't marked has the same entry after the
-    /// event.
+    // The first key that an event evicts or drops, and that isn't marked.
+    fn next_victim(&self, e: &Event) -> Option<Key>
+        requires { IsTrue (legal self.now.now e.now) }
+        ensures { result ≡ next_victim self.now.now self.now.marked e.now }
+    {
+        match *e {
+            Event::Miss { n, key, t } => self.table.victim_of_miss(n, key, t),
+            Event::Insert { n, key, digest, t } => self.table.victim_of_insert(n, key, digest, t),
+            Event::Resize { c, .. } => self.table.victim_of_capacity(c),
+            Event::Pass { .. }
+            | Event::Hit { .. }
+            | Event::Arrive { .. }
+            | Event::Fail { .. }
+            | Event::Drop { .. }
+            | Event::Past { .. }
+            | Event::Hand { .. }
+            | Event::Release { .. }
+            | Event::Pick { .. }
+            | Event::FeedEnd { .. }
+            | Event::Set { .. }
+            | Event::Leave { .. }
+            | Event::Clear { .. }
+            | Event::Restore { .. } => None,
+        }
+    }
+
+    /// The first key that an event would evict or drop, and that isn't marked. None: every other key that isn't marked has the same
+    /// entry after the event. Only a miss, an insertion and a resize have victims.
     pub fn victim(&mut self, e: &Event) -> Option<Key>
         requires { IsTrue (legal self.old.now e.now) }
         ensures log { self.new ≡ self.old }
+        ensures value { result ≡ next_victim self.old.now self.old.marked e.now }
         ensures some { IfSome result (λ k. IsUnnamed k e.now self.old) }
         ensures none { IfNone result (AreAllNamed e.now self.old) }
     {
         let _sound = &self.history;
-        if !takes_room(e) {
-            return None;
-        }
-        self.table.unnamed(own_key(e))
+        self.next_victim(e)
     }
 
     /// Marks a key that has an entry, so that `victim` doesn't name it again. The marks are forgotten by `unmark_all`, and by every

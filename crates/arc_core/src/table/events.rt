@@ -2,12 +2,14 @@ ghost use Rattle.std.specs.Prelude.{◌≡◌, ℕ, ◌+◌, ◌^◌, ◌<◌, �
 ghost use Rattle.arc_core.specs.declared.event.Event.{Event};
 ghost use Rattle.arc_core.specs.PlainShard.{numbers, one_hold};
 ghost use Rattle.arc_core.specs.Owed.{entries_for, owed_of};
-ghost use Rattle.arc_core.specs.Rules.{arrived_state};
+ghost use Rattle.arc_core.specs.Rules.{arrived_state, target_after};
+ghost use Rattle.arc_core.specs.Sparing.{next_victim};
 ghost use Rattle.arc_core.specs.Step.{effect, entry_to_read, legal, written_entry};
 
 use super::Table;
 use crate::entry::{Entry, NUMBERS};
 use crate::event::{FailedAt, Origin};
+use arc_lists::Ghost;
 use blk_ptr::{Digest, Key, State};
 
 // The state of an entry whose bytes have arrived.
@@ -163,5 +165,37 @@ impl Table {
         ensures marked { self.new.marked ≡ self.old.marked }
     {
         self.take_in(written_entry(n, key, digest, t));
+    }
+
+    // The target after a key is asked for: it moves where the key is a ghost.
+    fn target_after(&self, key: Key) -> u64
+        ensures { result ≡ target_after key self.now.shard }
+    {
+        let Some(entry) = self.find(key) else {
+            return self.p();
+        };
+        match entry.state {
+            State::MruGhost => self.lists.adapted(Ghost::Mru, key.size),
+            State::MfuGhost => self.lists.adapted(Ghost::Mfu, key.size),
+            State::Anon | State::Mru | State::Mfu | State::L2Only => self.p(),
+        }
+    }
+
+    /// The first key that a miss evicts or drops, and that isn't marked.
+    pub fn victim_of_miss(&self, n: u32, key: Key, t: u64) -> Option<Key>
+        requires { IsTrue (legal self.now.shard (Event.Miss n key t)) }
+        ensures { result ≡ next_victim self.now.shard self.now.marked (Event.Miss n key t) }
+    {
+        let entry = entry_to_read(n, key, t, self.find(key));
+        self.victim_of_entry(&entry, self.target_after(key))
+    }
+
+    /// The first key that an insertion evicts or drops, and that isn't marked.
+    pub fn victim_of_insert(&self, n: u32, key: Key, digest: Digest, t: u64) -> Option<Key>
+        requires { IsTrue (legal self.now.shard (Event.Insert n key digest t)) }
+        ensures { result ≡ next_victim self.now.shard self.now.marked (Event.Insert n key digest t) }
+    {
+        let entry = written_entry(n, key, digest, t);
+        self.victim_of_entry(&entry, self.p())
     }
 }

@@ -5,12 +5,11 @@ ghost use Rattle.blk_ptr.specs.declared.state.State.{State};
 ghost use Rattle.arc_lists.specs.Queues.{IsSequenceOf};
 ghost use Rattle.arc_lists.specs.Sequences.{sequence_of, stands_on};
 ghost use Rattle.arc_lists.specs.Walks.{oldest_first};
-ghost use Rattle.arc_core.specs.Naming.{is_unnamed, unnamed};
 ghost use Rattle.arc_core.specs.PlainShard.{entry_of, members};
 
 use super::Table;
 use super::room::stands_on;
-use blk_ptr::{Key, State};
+use blk_ptr::Key;
 
 // Adds a key behind the others.
 fn push_key(keys: &mut Vec<Key>, key: Key)
@@ -45,42 +44,5 @@ impl Table {
         ensures { self.new ≡ record self.old { marked = [] } }
     {
         self.marked.clear();
-    }
-
-    // Whether a key may be a victim, and isn't marked.
-    fn is_unnamed(&self, about: Option<Key>, key: Key) -> bool
-        ensures { result ≡ is_unnamed about self.now key }
-    {
-        let own = match about {
-            Some(k) => key == k,
-            None => false,
-        };
-        !self.is_passed(key) && !self.is_marked(key) && !own
-    }
-
-    // The oldest key of a state's sequence that may be a victim, and isn't marked.
-    fn oldest_unnamed(&self, state: State, about: Option<Key>) -> Option<Key>
-        ensures { result ≡ find (is_unnamed about self.now) (oldest_first state self.now.shard.sequences) }
-    {
-        let mut next = self.lists.oldest(state);
-        while let Some(key) = next {
-            if self.is_unnamed(about, key) {
-                return Some(key);
-            }
-            next = self.lists.newer(key);
-        }
-        None
-    }
-
-    /// A key that may be a victim, and isn't marked.
-    pub fn unnamed(&self, about: Option<Key>) -> Option<Key>
-        ensures { result ≡ unnamed about self.now }
-    {
-        let mru = self.oldest_unnamed(State::Mru, about);
-        let mfu = self.oldest_unnamed(State::Mfu, about);
-        let mru_ghost = self.oldest_unnamed(State::MruGhost, about);
-        mru.or(mfu)
-            .or(mru_ghost)
-            .or(self.oldest_unnamed(State::MfuGhost, about))
     }
 }

@@ -1,4 +1,4 @@
-use Rattle.std.proofs.Common.{◌≤◌, IsTrue, refl, sym, ap, subst, ◌∙◌, arith}
+use Rattle.std.proofs.Common.{min, ◌≤◌, IsTrue, refl, sym, ap, subst, ◌∙◌, arith}
 use Rattle.arc_core.specs.declared.event.Event.TheVariants.{Clear}
 use Rattle.arc_core.specs.Changes.{with_none_passed}
 use Rattle.arc_core.specs.Step.{legal}
@@ -10,7 +10,7 @@ invariant_of-self c =
     let s = c.self.inside in
     let e = Clear c.args.n c.args.key in
     let ok : IsTrue (legal s.table.shard e) = subst (λ l. IsTrue (legal l.now e)) (sym c.self.view_is) c.requires.legal in
-    let room : 1 ≤ s.spare_events = subst (λ l. 1 ≤ l.event_room) (sym c.self.view_is) c.requires.room.events in
+    let all : 1 ≤ min s.spare_events s.table.marks = subst (λ l. 1 ≤ l.event_room) (sym c.self.view_is) c.requires.room.events in
+    let room : 1 ≤ s.spare_events = omega (arith, all) in
     let step = ap (λ t. t.shard) c.end_scan.ensures.now ∙ ap with_none_passed c.clear.ensures.shard in
-    let marks = ap (λ t. t.marks) c.end_scan.ensures.now ∙ c.clear.ensures.marks in
-    made s _ e c.self.invariant ok step refl c.append.ensures.items c.append.ensures.len c.append.ensures.capacity (omega (arith, room)) (omega (arith, marks, c.self.invariant.marks, room)) (none-marked _ _ (ap (λ t. t.marked) c.end_scan.ensures.now))
+    made s _ e c.self.invariant ok step refl c.append.ensures.items c.append.ensures.len c.append.ensures.capacity (omega (arith, room)) (none-marked _ _ (ap (λ t. t.marked) c.end_scan.ensures.now))

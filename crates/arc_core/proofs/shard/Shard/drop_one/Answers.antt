@@ -19,5 +19,4 @@ invariant_of-self c =
     let e = Drop c.args.n c.args.key in
     let ok : IsTrue (legal s.table.shard e) = subst (λ l. IsTrue (legal l.now e)) (sym c.self.view_is) c.requires in
     let step = ap (λ t. t.shard) c.end_scan.ensures.now ∙ ap (λ t. with_none_passed t.shard) c.give_back.ensures in
-    let marks = ap (λ t. t.marks) c.end_scan.ensures.now ∙ ap (λ t. t.marks) c.give_back.ensures in
-    made s _ e c.self.invariant ok step refl c.append.ensures.items c.append.ensures.len c.append.ensures.capacity (omega (arith)) (omega (arith, marks, c.self.invariant.marks)) (none-marked _ _ (ap (λ t. t.marked) c.end_scan.ensures.now))
+    made s _ e c.self.invariant ok step refl c.append.ensures.items c.append.ensures.len c.append.ensures.capacity (omega (arith)) (none-marked _ _ (ap (λ t. t.marked) c.end_scan.ensures.now))

@@ -23,7 +23,6 @@ invariant_of-self c =
     record {
       replayed = rw c.mark.ensures (record { sound = kept.replayed.sound; replayed = kept.replayed.replayed; legal = kept.replayed.legal });
       room = rw c.mark.ensures kept.room;
-      marks = rw c.mark.ensures kept.marks;
       marked = subst (λ (t : PlainTable). IsSequenceOf (members t.shard) t.marked) (sym c.mark.ensures) more;
     }
 

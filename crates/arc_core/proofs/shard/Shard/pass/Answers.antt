@@ -1,4 +1,4 @@
-use Rattle.std.proofs.Common.{◌≤◌, IsTrue, refl, sym, ap, subst, arith}
+use Rattle.std.proofs.Common.{min, ◌≤◌, IsTrue, refl, sym, ap, subst, arith}
 use Rattle.arc_lists.specs.Queues.{IsSequenceOf}
 use Rattle.arc_core.specs.declared.event.Event.TheVariants.{Pass}
 use Rattle.arc_core.specs.PlainShard.{members}
@@ -10,15 +10,16 @@ use Rattle.arc_core.proofs.shard.Shard.pass.Goals as goal
 pub pass-requires-clause-room : goal.pass-requires-clause-room
 pass-requires-clause-room c =
     let s = c.self.inside in
-    let room : 1 ≤ s.spare_events = subst (λ l. 1 ≤ l.event_room) (sym c.self.view_is) c.requires.room.events in
-    omega (arith, room, c.self.invariant.marks)
+    let all : 1 ≤ min s.spare_events s.table.marks = subst (λ l. 1 ≤ l.event_room) (sym c.self.view_is) c.requires.room.events in
+    let room : 1 ≤ s.spare_events = omega (arith, all) in
+    omega (arith, all)
 
 pub invariant_of-self : goal.invariant_of-self
 invariant_of-self c =
     let s = c.self.inside in
     let e = Pass c.args.n c.args.key c.args.owner in
     let ok : IsTrue (legal s.table.shard e) = subst (λ l. IsTrue (legal l.now e)) (sym c.self.view_is) c.requires.legal in
-    let room : 1 ≤ s.spare_events = subst (λ l. 1 ≤ l.event_room) (sym c.self.view_is) c.requires.room.events in
+    let all : 1 ≤ min s.spare_events s.table.marks = subst (λ l. 1 ≤ l.event_room) (sym c.self.view_is) c.requires.room.events in
+    let room : 1 ≤ s.spare_events = omega (arith, all) in
     let step = ap (λ t. t.shard) c.pass.ensures in
-    let marks = ap (λ t. t.marks) c.pass.ensures in
-    made s _ e c.self.invariant ok step refl c.append.ensures.items c.append.ensures.len c.append.ensures.capacity (omega (arith, room)) (omega (arith, marks, c.self.invariant.marks, room)) (subst (λ (t : PlainTable). IsSequenceOf (members t.shard) t.marked) (sym c.pass.ensures) c.self.invariant.marked)
+    made s _ e c.self.invariant ok step refl c.append.ensures.items c.append.ensures.len c.append.ensures.capacity (omega (arith, room)) (subst (λ (t : PlainTable). IsSequenceOf (members t.shard) t.marked) (sym c.pass.ensures) c.self.invariant.marked)

@@ -23,7 +23,6 @@ invariant_of-self c =
         legal = rw c.truncate.ensures.items (front-legal log c.args.len kept.replayed.legal);
       };
       room = omega (arith, kept.room, ap owed_of now, c.truncate.ensures.len, c.truncate.ensures.capacity);
-      marks = omega (arith, kept.marks, ap (λ t. t.marks) c.unpick.ensures.now);
       marked = none-marked _ _ (ap (λ t. t.marked) c.unpick.ensures.now);
     }
 
@@ -37,7 +36,7 @@ returns c =
       now = ap (λ t. t.shard) c.unpick.ensures.now ∙ before ∙ ap (λ (l : ShardLog). replay l.opening (take c.args.len l.history)) c.self.view_is;
       history = c.truncate.ensures.items ∙ ap (λ (l : ShardLog). take c.args.len l.history) c.self.view_is;
       opening = ap (λ (l : ShardLog). l.opening) c.self.view_is;
-      event_room = omega (arith, ap (λ (l : ShardLog). l.event_room) c.self.view_is);
+      event_room = omega (arith, ap (λ (l : ShardLog). l.event_room) c.self.view_is, ap (λ t. t.marks) c.unpick.ensures.now);
       entry_room = omega (arith, ap (λ (l : ShardLog). l.entry_room) c.self.view_is, ap (λ t. t.spare) c.unpick.ensures.now);
       marked = ap (λ t. t.marked) c.unpick.ensures.now;
     }

@@ -3,7 +3,8 @@ use Rattle.arc_lists.specs.Sequences.{sequence_of, stands, stands_on}
 use Rattle.arc_lists.specs.Walks.{first_of, next_to, oldest_first}
 use Rattle.arc_core.specs.Candidate.{may_be_picked, walk}
 use Rattle.arc_core.specs.Sound.{IsTidy}
-use Rattle.arc_core.proofs.Scanning.{distinct-oldest, first-stands, from-first, from-next, from_next, next-stands, oldest-in, sequence-stands, walk-here, walk-on, walk-over}
+use Rattle.arc_core.specs.Scan.{from_next}
+use Rattle.arc_core.proofs.Scanning.{distinct-oldest, first-stands, from-first, from-next, next-stands, oldest-in, sequence-stands, walk-here, walk-on, walk-over}
 use Rattle.arc_core.proofs.table.Table.first_wanted.Goals as goal
 
 pub loop-next-init : goal.loop-next-init

@@ -3,7 +3,7 @@ use Rattle.blk_ptr.specs.declared.key.Key.{Key}
 use Rattle.arc_lists.specs.Sequences.{stands_on}
 use Rattle.arc_lists.specs.Walks.{oldest_first}
 use Rattle.arc_core.specs.Candidate.{may_be_picked, walk}
-use Rattle.arc_core.proofs.Scanning.{from_next}
+use Rattle.arc_core.specs.Scan.{from_next}
 use Rattle.arc_core.proofs.table.Table.first_wanted.Given as goal
 
 -- the rest of the walk decides
