@@ -43,7 +43,7 @@ use Rattle.arc_table.specs.Holding.{IsListed, IsOneOf, own}
 use Rattle.arc_table.specs.InHand.{made_since}
 use Rattle.arc_table.specs.Items.{Meanings}
 use Rattle.arc_table.specs.Making.{IsMade, IsTaken}
-use Rattle.arc_table.specs.Standing.{Follows, bytes_at, is_cached_with}
+use Rattle.arc_table.specs.Standing.{Follows, bytes_at, followed, is_cached_with}
 use Rattle.arc_table.proofs.OneEvent.{one_made, taken_few, taken_head, taken_number, taken_sound}
 use Rattle.arc_table.proofs.Standings.{both_true}
 
@@ -79,6 +79,10 @@ says_changed e e' h says key reading digest resident = record {
   block = let P : Bool × Option Digest × Key → Type 0 = λ x. MatchOption h.block (x.0 ≡ false) (λ block. (x.0 ≡ true) × (x.1 ≡ Some (sha256_of block.value)) × (length block.value ≡ x.2.size)) in
       subst P (λ z. (sym resident z, sym digest z, sym key z)) says.block;
 }
+
+pub follow_head : (e e' : Entry) (h h' : Header) (o : Option Entry) → Says e h → h ≡ h' → o ≡ Some e' → e'.key ≡ e.key → e'.reading ≡ e.reading → e'.digest ≡ e.digest → is_resident e' ≡ is_resident e → IsHead o (followed h' o)
+follow_head e e' h h' o says is there key reading digest resident =
+    subst (λ (x : Header × Option Entry). IsHead x.1 (followed x.0 x.1)) (λ z. (is z, sym there z)) (says_changed e e' h says key reading digest resident)
 
 -- a header that says what an entry does stands where the entry does
 pub head_there : (o : Option Entry) (h : Option Header) (e : Entry) → IsHead o h → o ≡ Some e → (x : Header) × (h ≡ Some x) × Says e x
@@ -185,16 +189,13 @@ module _ {C : Type 0} (m : Meanings C) (g : Config) (ptr : Ptr) (b : Both) (q : 
     hit_made given history opening f =
         let e = found.entry in
         let e' = hit_entry q.number b.shard.now.mintime t e in
-        let header_is : found.header ≡ f.header = some_is found.header f.header (sym found.had ∙ f.had) in
-        let entry_is_now : e' ≡ f.entry = some_is e' f.entry (sym entry_now ∙ f.there) in
         let kept = accessed-keeps e.state b.shard.now.mintime t e in
-        let says : Says e' record found.header { state = e'.state; place = e'.place } = says_changed e e' found.header found.says kept.key kept.reading kept.digest (hit_resident q.number b.shard.now.mintime t e found.resident ∙ sym found.resident) in
         one_made m g ptr.key b q taken same valid (Hit q.number ptr.key t) record { hand = record b.hand { own = record b.hand.own { bucket = given } }; turn = b.turn; shard = l }
-        (Some record f.header { state = f.entry.state; place = f.entry.place }) refl refl (refl, refl) refl refl
+        (followed f.header (entry_of ptr.key l.now)) refl refl (refl, refl) refl refl
         (hit_legal q.number t ptr.key b.shard.now e few found.there found.resident) now history opening
         record { acts = inl refl; fit = tt; feeder = λ x. absurd (cc); own = λ k x. ap (shard_turn g) (some_is ptr.key k x) } f.with
-        (subst (λ (o : Option Entry). IsHead o (Some record f.header { state = f.entry.state; place = f.entry.place })) (sym f.there)
-        (subst (λ (x : Entry × Header). Says x.0 record x.1 { state = x.0.state; place = x.0.place }) (λ z. (entry_is_now z, header_is z)) says))
+        (follow_head e e' found.header f.header (entry_of ptr.key l.now) found.says (some_is found.header f.header (sym found.had ∙ f.had)) entry_now kept.key kept.reading kept.digest
+        (hit_resident q.number b.shard.now.mintime t e found.resident ∙ sym found.resident))
 
   -- a block that the header has is of the pointer
   pub block_of_it : (bytes : List ℕ) → bytes_at ptr.key b.hand.own.bucket.headers ≡ Some bytes → IsOf bytes ptr

@@ -1,24 +1,39 @@
 -- The events of holds: each is legal where the party lists the hold, is the party's own to make, and is one of which no header says anything.
-use Rattle.std.proofs.Common.{◌≡◌, ◌==◌, ℕ, ◌<◌, Bool, true, false, Option, Some, None, refl, sym, ap, ◌∙◌, subst, inl, inr, arith}
-use Rattle.std.specs.Prelude.{IsTrue, ◌&&◌, not, nat_lt}
-use Rattle.std.specs.Option.{option_map, option_map_or}
+use Rattle.std.proofs.Common.{◌≡◌, ◌==◌, if◌then◌else◌, ℕ, ◌<◌, ◌≤◌, List, [], ◌∷◌, Bool, true, false, Option, Some, None, refl, sym, ap, ◌∙◌, subst, inl, inr, eq-eqb, arith}
+use Rattle.std.specs.Prelude.{IsTrue, ◌&&◌, not, nat_le, nat_lt}
+use Rattle.std.specs.Option.{option_and_then, option_map, option_map_or}
 use Rattle.std.proofs.lemmas.Bool.Decides.{nat_tests}
+use mathlib.Core.Option.{some}
+use lib.ListN.{get_elem?}
+use Rattle.blk_ptr.specs.declared.digest.Digest.{Digest}
 use Rattle.blk_ptr.specs.declared.key.Key.{Key}
 use Rattle.blk_ptr.specs.declared.ptr.Ptr.{Ptr}
 use Rattle.arc_core.specs.declared.config.Config.{Config}
+use Rattle.arc_core.specs.Config.{IsConfig}
 use Rattle.arc_core.specs.declared.entry.Entry.{Entry}
+use Rattle.arc_core.specs.declared.event.Event.{Event}
 use Rattle.arc_core.specs.declared.event.Event.TheVariants.{Drop, Hand, Release}
 use Rattle.arc_core.specs.Changes.{one_less}
 use Rattle.arc_core.specs.Changing.{handed}
 use Rattle.arc_core.specs.PlainShard.{PlainShard, entry_is, entry_of, held_by, holds_of, is_at_rest, is_cell, numbers}
+use Rattle.arc_core.specs.ShardLog.{ShardLog}
 use Rattle.arc_core.specs.Sound.{IsSound}
 use Rattle.arc_core.specs.Step.{after, agree, holds, legal}
 use Rattle.arc_core.proofs.Others.{own-entry}
+use Rattle.hash_chain.specs.Chain.{Chain}
+use Rattle.turn_table.specs.Board.{IsAmong}
 use Rattle.turn_table.specs.Places.{Place}
+use Rattle.arc_table.specs.declared.about.About.{About}
 use Rattle.arc_table.specs.declared.view.Known.{Known}
+use Rattle.arc_table.specs.Booking.{digest_at, with_hold, without_hold}
+use Rattle.arc_table.specs.Both.{Makes, TakesBoth}
+use Rattle.arc_table.specs.Fronts.{list_at}
+use Rattle.arc_table.specs.Geometry.{IsCell, cell_number}
 use Rattle.arc_table.specs.Holding.{IsListed, own, cell}
-use Rattle.arc_table.specs.ShardGiving.{ActsFor, SameHead}
-use Rattle.arc_table.proofs.Reached.{IsHolding}
+use Rattle.arc_table.specs.Items.{Meanings}
+use Rattle.arc_table.specs.ShardGiving.{ActsFor, SameHead, holds_through, listed_after}
+use Rattle.arc_table.proofs.Reached.{IsHolding, cell_recorded, held_again, reached}
+use Rattle.arc_table.proofs.ShardGives.{listed_at}
 
 below : (x y : ℕ) → x < y → nat_lt x y ≡ true
 below x y h = grind (arith, nat_tests)
@@ -80,3 +95,41 @@ hand_alike n to k s sound ok = subst (SameHead (entry_of k s)) (sym (own-entry s
 
 pub release_alike : (n : ℕ) (k : Key) (s : PlainShard) → IsSound s → IsTrue (legal s (Release n k false)) → SameHead (entry_of k s) (entry_of k (after s (Release n k false)))
 release_alike n k s sound ok = subst (SameHead (entry_of k s)) (sym (own-entry s (Release n k false) k sound ok refl)) (alike (one_less n) (less_alike n) (entry_of k s))
+
+-- ---- a hold of a cell's
+
+pub cell_is : (g : Config) (i : ℕ) → IsConfig g → IsCell g i → is_cell (cell_number g i) ≡ true
+cell_is g i valid in_range =
+    let a = valid.counts.callers.0 in let b = valid.counts.callers.1 in let c = valid.counts.cells.1 in
+    and_true _ _ (at_least 2 (cell_number g i) (omega arith)) (below (cell_number g i) numbers (omega arith))
+  where
+    at_least : (x y : ℕ) → x ≤ y → nat_le x y ≡ true
+    at_least x y h = grind (arith, nat_tests)
+
+module _ {C : Type 0} (m : Meanings C) (g : Config) (k : Key) (chain : Chain) (before : ShardLog) (p q : Place (Known C)) (t : TakesBoth m g k chain before p q) (same : p.own.about.config ≡ g) (valid : IsConfig g)
+    (es : List Event) (r : Place (Known C)) (made : Makes m g k before es q r) where
+  -- the party has the turns that it had
+  pub held_after : r.held ≡ p.held
+  held_after = ap (λ (x : Place (Known C)). x.held) made.gave ∙ held_again m g k chain before p q t same valid
+
+  -- what it lists for a cell in hand follows the events
+  pub listed_now : (j : ℕ) → IsAmong j p.held → IsCell g j → list_at j r.own.listed ≡ holds_through (cell_number g j) before.now es (list_at j q.own.listed)
+  listed_now j among in_range =
+      let config : q.own.about.config ≡ g = ap (λ (a : About). a.config) (reached m g k chain before p q t).about ∙ same in
+      let there = cell_recorded m g k chain before p q t same valid j among in_range in
+      ap (λ (x : Place (Known C)). list_at j x.own.listed) made.gave
+      ∙ (listed_at q.own.about.config before.now es j q.own.records there.0 q.own.listed q.own.listed there.1
+      ∙ (ap (λ (c : Config). listed_after c before.now es j (list_at j q.own.listed)) config
+      ∙ ap (λ (b : Bool). if b then holds_through (cell_number g j) before.now es (list_at j q.own.listed) else list_at j q.own.listed) (below j g.cells in_range)))
+
+-- a hold that was handed to a cell is listed there
+pub handed_listed : {C : Type 0} (m : Meanings C) (g : Config) (x : Ptr) (chain : Chain) (before : ShardLog) (p q r : Place (Known C)) (n i : ℕ) → TakesBoth m g x.key chain before p q → p.own.about.config ≡ g → IsConfig g
+    → IsAmong i p.held → IsCell g i → IsHolding n x before.now → Makes m g x.key before (Hand n x.key (cell_number g i) ∷ []) q r → IsListed g r (cell_number g i) x
+handed_listed {C} m g x chain before p q r n i t same valid among in_range h made =
+    let hs = list_at i q.own.listed in
+    let to = cell_number g i in
+    let left : List Ptr = if to == n then without_hold x.key hs else hs in
+    let list : list_at i r.own.listed ≡ x ∷ left = listed_now m g x.key chain before p q t same valid (Hand n x.key to ∷ []) r made i among in_range
+    ∙ (ap (λ (b : Bool). if b then with_hold x.key (digest_at x.key before.now) left else left) (eq-eqb to to refl)
+    ∙ ap (λ (o : Option Digest). with_hold x.key o left) (ap (option_and_then (λ (y : Entry). y.digest)) h.there ∙ h.digest)) in
+    cell i refl in_range (subst (IsAmong i) (sym (held_after m g x.key chain before p q t same valid (Hand n x.key to ∷ []) r made)) among) (0, ap (λ (l : List Ptr). get_elem? l 0) list)

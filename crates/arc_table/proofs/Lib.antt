@@ -23,3 +23,5 @@ pub mod HoldEvents
 pub mod Taking
 pub mod Standings
 pub mod HitEvents
+pub mod FollowEvents
+pub mod FeedEvents

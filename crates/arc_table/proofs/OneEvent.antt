@@ -186,7 +186,7 @@ one_item {X} i j x y e = dite (ℕ_discrete j i)
     same : (x y : X) → ◌≡◌ {A = Option X} (Some x) (Some y) → x ≡ y
     same x y q = cc
 
-same_head : (o : Option Entry) → SameHead o o
+pub same_head : (o : Option Entry) → SameHead o o
 same_head None = tt
 same_head (Some e) = record { key = refl; state = refl; reading = refl; place = refl; digest = refl }
 

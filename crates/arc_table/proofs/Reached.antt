@@ -245,6 +245,19 @@ module _ {C : Type 0} (m : Meanings C) (g : Config) (k : Key) (chain : Chain) (b
         ∙ (list_else (shard_turn g k) j (holds_in m (item.Shard before)) t.between.own.listed else_shard
         ∙ (ap (list_at j) (sym knew.listed) ∙ (ap (λ (w : Known C). list_at j w.listed) (sym who) ∙ h.3)))
 
+    -- and the party has a record of it
+    pub cell_recorded : (j : ℕ) → IsAmong j p.held → IsCell g j → (x : Item C) × (item_at j q.own.records ≡ Some x)
+    cell_recorded j among in_range =
+        let among_then : IsAmong j before_shard.held = subst (IsAmong j) (sym first.held) (inr among) in
+        let h = moment.held.attached.taken j before_shard.number (taken_at moment.board before_shard j moment.stands among_then) in
+        let who : h.0 ≡ before_shard.own = some-injective h.0 before_shard.own (sym h.1 ∙ moment.stands.shows.0) in
+        let b = (shard_range g k valid).0 in
+        let else_shard : j ≢ shard_turn g k = λ e. omega arith in (
+          scene.now j,
+          ap (item_at j) second.records ∙ (item_else (shard_turn g k) j (item.Shard before) t.between.own.records else_shard
+              ∙ (ap (item_at j) (sym knew.records) ∙ (ap (λ (w : Known C). item_at j w.records) (sym who) ∙ h.2))),
+        )
+
     pub cell_counted : (i : ℕ) (j : Key) → IsAmong i p.held → IsCell g i → shard_turn g j ≡ shard_turn g k → count_of (cell_number g i) j before.now ≡ holds_on j (list_at i q.own.listed)
     cell_counted i j among in_range is =
         ap (λ (c : Config). count_of (cell_number c i) j before.now) (sym scene_config)

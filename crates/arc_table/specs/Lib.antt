@@ -33,3 +33,5 @@ pub mod Telling
 pub mod Making
 pub mod Standing
 pub mod Trying
+pub mod Handing
+pub mod Feeding

@@ -26,10 +26,12 @@ StandsSo ptr s (standing.Here) = is_cached_with ptr s
 abbrev pub bytes_at : Key → List Header → Option (List ℕ)
 bytes_at k hs = option_map (λ block. block.value) (option_and_then (λ h. h.block) (header_at k hs))
 
--- The key's header says the state and the place of its entry from now on; all else of the headers stays
+-- the header brought up to its entry: it says the entry's state and place, and goes where the entry is gone
+abbrev pub followed : Header → Option Entry → Option Header
+followed h o = option_map (λ e. record h { state = e.state; place = e.place }) o
+
+-- the header of the key is brought up to its entry, and all else of the headers stays
 pub record Follows (k : Key) (s : PlainShard) (hs gs : List Header) : Type 0 where
   pub header : Header
-  pub entry : Entry
   pub had : header_at k hs ≡ Some header
-  pub there : entry_of k s ≡ Some entry
-  pub with : IsWith k (Some record header { state = entry.state; place = entry.place }) hs gs
+  pub with : IsWith k (followed header (entry_of k s)) hs gs

@@ -1,6 +1,5 @@
 //! The header of a key in its bucket, read and brought up to its entry.
 ghost use Rattle.std.specs.Prelude.{◌≡◌, IfOk, IsSome, Some};
-ghost use Rattle.arc_core.specs.PlainShard.{entry_of};
 ghost use Rattle.hash_chain.specs.Chain.{header_at};
 ghost use Rattle.arc_table.specs.Standing.{Follows, bytes_at};
 
@@ -23,20 +22,18 @@ pub(crate) fn block_of(bucket: &Bucket, key: Key) -> Result<Arc<Block>, NoMemory
     Ok(Arc::try_clone(block)?)
 }
 
-// The key's header says the state and the place of its entry from now on. It takes no memory.
+// The key's header says the state and the place of its entry from now on, and goes where the entry is gone. It takes no memory.
 pub(crate) fn follow(bucket: &mut Bucket, shard: &Shard, key: Key)
-    requires header { IsSome (header_at key bucket.old.headers) }
-    requires entry { IsSome (entry_of key shard.now.now) }
+    requires { IsSome (header_at key bucket.old.headers) }
     ensures { Follows key shard.now.now bucket.old.headers bucket.new.headers }
 {
     let Some(at) = bucket.find(key) else {
         unreachable!()
     };
-    let Some(entry) = shard.entry(key) else {
-        unreachable!()
-    };
     let mut header = bucket.remove(at);
-    header.state = entry.state;
-    header.place = entry.place;
-    bucket.add(header);
+    if let Some(entry) = shard.entry(key) {
+        header.state = entry.state;
+        header.place = entry.place;
+        bucket.add(header);
+    }
 }

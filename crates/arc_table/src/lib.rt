@@ -8,9 +8,11 @@ mod cells;
 mod closed;
 mod evict;
 mod drops;
+mod feeds;
 mod front;
 mod gives;
 mod hand;
+mod hands;
 mod headers;
 mod hits;
 mod hold;
@@ -22,18 +24,21 @@ mod opening;
 mod pact;
 mod scan;
 mod spare;
+mod restores;
 mod view;
 
 pub use about::About;
 pub use arcs::{Arcs, Party};
 pub use closed::Closed;
 pub use drops::TryDrop;
+pub use feeds::Cleared;
 pub use front::Front;
 pub use hits::TryHit;
 pub use hold::Hold;
 pub use item::Item;
 pub use look::{BucketTurn, Look};
 pub use pact::{Pact, Settled};
+pub use restores::RestoreStop;
 pub use view::{Known, Ledger, Line, Mine, Note};
 
 #[cfg(test)]

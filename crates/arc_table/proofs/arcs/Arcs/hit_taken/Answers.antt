@@ -10,7 +10,7 @@ use Rattle.arc_table.specs.Both.{Makes}
 use Rattle.arc_table.specs.Holding.{IsListed}
 use Rattle.arc_table.specs.Items.{meanings}
 use Rattle.arc_table.specs.Making.{IsTaken}
-use Rattle.arc_table.proofs.HitEvents.{block_of_it, entry_now, found, hit_legal, hit_listed, hit_made, some_there}
+use Rattle.arc_table.proofs.HitEvents.{block_of_it, found, hit_legal, hit_listed, hit_made, some_there}
 use Rattle.arc_table.proofs.OneEvent.{makes_these, taken_few}
 use Rattle.arc_table.proofs.arcs.Arcs.hit_taken.Goals as goal
 
@@ -37,11 +37,10 @@ hit-requires-clause-legal g c =
     subst (λ (x : ℕ × PlainShard). IsTrue (legal x.1 (Hit x.0 c.args.ptr.key c.args.tick))) (λ z. (sym c.number-owner.ensures z, (sym c.reserve.ensures.log z).now))
     (hit_legal c.args.party.now.number c.args.tick c.args.ptr.key c.args.both.shard.now f.entry (taken_few m c.args.self.now.config c.args.ptr.key c.args.both c.args.party.now c.requires.taken c.requires.party.config valid) f.there f.resident)
 
-pub follow-requires-clause-entry : goal.follow-requires-clause-entry
-follow-requires-clause-entry g c =
+pub follow-requires : goal.follow-requires
+follow-requires g c =
     let m = meanings g.C.Keeps.holds g.C.Keeps.entries g.C.Keeps.opening g.C.Keeps.claims g.C.Keeps.sound in
-    some_there (entry_now m c.args.self.now.config c.args.ptr c.args.both c.args.party.now c.requires.taken c.requires.party.config c.requires.taken.kind.valid c.requires.here c.args.tick c.hit.new.self
-    (c.hit.ensures.makes.now ∙ (λ z. after (c.reserve.ensures.log z).now (Hit (c.number-owner.ensures z) c.args.ptr.key c.args.tick))))
+    some_there (found m c.args.self.now.config c.args.ptr c.args.both c.args.party.now c.requires.taken c.requires.party.config c.requires.taken.kind.valid c.requires.here).had
 
 pub give_both-requires-clause-made : goal.give_both-requires-clause-made
 give_both-requires-clause-made g c =

@@ -1,0 +1,102 @@
+use Rattle.std.proofs.Common.{◌≡◌, ◌⊎◌, ◌<◌, if◌then◌else◌, Bool, ℕ, List, [], ◌∷◌, ◌++◌, false, true, refl, sym, ap, ◌∙◌, subst, inl, inr}
+use Rattle.std.specs.Prelude.{IsTrue, not}
+use Rattle.arc_core.specs.declared.event.Event.TheVariants.{Set, Leave, Clear, Restore}
+use Rattle.arc_core.specs.declared.event.Why.{Why}
+use Rattle.arc_core.specs.declared.event.Why.TheVariants as why
+use Rattle.arc_core.specs.PlainShard.{PlainShard, numbers}
+use Rattle.arc_core.specs.ShardLog.{ShardLog}
+use Rattle.arc_core.specs.Step.{after, is_writing, legal, may_set}
+use Rattle.arc_table.specs.Both.{Does, Makes}
+use Rattle.arc_table.specs.Feeding.{has_place}
+use Rattle.arc_table.specs.Geometry.{shard_turn}
+use Rattle.arc_table.specs.Items.{Meanings, meanings}
+use Rattle.arc_table.specs.Making.{IsTaken}
+use Rattle.arc_table.proofs.FeedEvents.{clear_legal, clear_like, clear_there, feeder_is, leave_legal, leave_same, number_few, number_is, pick_there, reason_is, set_legal, set_like, set_there, writes}
+use Rattle.arc_table.proofs.FollowEvents.{follow_made, header_there}
+use Rattle.arc_table.proofs.HitEvents.{some_there}
+use Rattle.arc_table.proofs.OneEvent.{alike_made, makes_these, some_is, taken_sound}
+use Rattle.arc_table.proofs.Reached.{reached}
+use Rattle.arc_table.proofs.Taking.{tells}
+use Rattle.arc_table.proofs.arcs.Arcs.leave.Goals as goal
+
+pub reason_for-why-requires-clause-number : goal.reason_for-why-requires-clause-number
+reason_for-why-requires-clause-number g c =
+    let m = meanings g.C.Keeps.holds g.C.Keeps.entries g.C.Keeps.opening g.C.Keeps.claims g.C.Keeps.sound in
+    let b = c.take_both-both in
+    let q = b.new.party in
+    let p = c.args.party.now in
+    let k = c.args.key in
+    let config = c.args.self.now.config in
+    let valid = b.ensures.kind.valid in
+    let n = c.number-n.result in
+    let few = subst (λ (x : ℕ). x < numbers) (sym c.number-n.ensures) (number_few m config k b.result.hand.own.bucket b.result.shard p q b.ensures.takes c.requires.party.config valid c.requires.feeder) in
+    number_is n few
+
+pub reason_for-why-requires-clause-writing : goal.reason_for-why-requires-clause-writing
+reason_for-why-requires-clause-writing g c =
+    let m = meanings g.C.Keeps.holds g.C.Keeps.entries g.C.Keeps.opening g.C.Keeps.claims g.C.Keeps.sound in
+    let b = c.take_both-both in
+    let q = b.new.party in
+    let p = c.args.party.now in
+    let k = c.args.key in
+    let config = c.args.self.now.config in
+    let valid = b.ensures.kind.valid in
+    let writing = writes m config k b.result.hand.own.bucket b.result.shard p q b.ensures.takes c.requires.party.config valid c.requires.feeder c.requires.picked in
+    let there = pick_there m config k b.result.hand.own.bucket b.result.shard p q b.ensures.takes c.requires.party.config valid c.requires.feeder c.requires.picked in
+    writing
+
+pub leave-requires : goal.leave-requires
+leave-requires g c =
+    let m = meanings g.C.Keeps.holds g.C.Keeps.entries g.C.Keeps.opening g.C.Keeps.claims g.C.Keeps.sound in
+    let b = c.take_both-both in
+    let q = b.new.party in
+    let p = c.args.party.now in
+    let k = c.args.key in
+    let config = c.args.self.now.config in
+    let valid = b.ensures.kind.valid in
+    let n = c.number-n.result in
+    let few = subst (λ (x : ℕ). x < numbers) (sym c.number-n.ensures) (number_few m config k b.result.hand.own.bucket b.result.shard p q b.ensures.takes c.requires.party.config valid c.requires.feeder) in
+    let writing = writes m config k b.result.hand.own.bucket b.result.shard p q b.ensures.takes c.requires.party.config valid c.requires.feeder c.requires.picked in
+    let there = pick_there m config k b.result.hand.own.bucket b.result.shard p q b.ensures.takes c.requires.party.config valid c.requires.feeder c.requires.picked in
+    let w = c.reason_for-why.result in
+    let ok = leave_legal n k w b.result.shard.now few writing there (reason_is c.args.why w (may_set k b.result.shard.now) c.requires.why c.reason_for-why.ensures) in
+    ok
+
+pub give_both-requires-clause-made : goal.give_both-requires-clause-made
+give_both-requires-clause-made g c =
+    let m = meanings g.C.Keeps.holds g.C.Keeps.entries g.C.Keeps.opening g.C.Keeps.claims g.C.Keeps.sound in
+    let b = c.take_both-both in
+    let q = b.new.party in
+    let p = c.args.party.now in
+    let k = c.args.key in
+    let config = c.args.self.now.config in
+    let valid = b.ensures.kind.valid in
+    let n = c.number-n.result in
+    let few = subst (λ (x : ℕ). x < numbers) (sym c.number-n.ensures) (number_few m config k b.result.hand.own.bucket b.result.shard p q b.ensures.takes c.requires.party.config valid c.requires.feeder) in
+    let writing = writes m config k b.result.hand.own.bucket b.result.shard p q b.ensures.takes c.requires.party.config valid c.requires.feeder c.requires.picked in
+    let there = pick_there m config k b.result.hand.own.bucket b.result.shard p q b.ensures.takes c.requires.party.config valid c.requires.feeder c.requires.picked in
+    let taken : IsTaken m config k b.result q = record { kind = b.ensures.kind; new = b.ensures.new; from = p; takes = b.ensures.takes } in
+    let w = c.reason_for-why.result in
+    let ok = leave_legal n k w b.result.shard.now few writing there (reason_is c.args.why w (may_set k b.result.shard.now) c.requires.why c.reason_for-why.ensures) in
+    let made = c.leave.ensures.makes in
+    alike_made m config k b.result q taken b.ensures.party.config valid (Leave n k w) record { hand = b.result.hand; turn = b.result.turn; shard = c.leave.new.self } refl refl refl refl ok made.now made.history made.opening
+    record { acts = inl c.number-n.ensures; fit = tt; feeder = λ e. c.number-n.ensures ∙ feeder_is m config k b.result.hand.own.bucket b.result.shard p q b.ensures.takes c.requires.party.config valid c.requires.feeder; own = λ j e. ap (shard_turn config) (some_is k j e) } (leave_same n k w b.result.shard.now (taken_sound m config k b.result q taken b.ensures.party.config valid) ok)
+
+pub returns : goal.returns
+returns g c =
+    let m = meanings g.C.Keeps.holds g.C.Keeps.entries g.C.Keeps.opening g.C.Keeps.claims g.C.Keeps.sound in
+    let b = c.take_both-both in
+    let q = b.new.party in
+    let p = c.args.party.now in
+    let k = c.args.key in
+    let config = c.args.self.now.config in
+    let valid = b.ensures.kind.valid in
+    let n = c.number-n.result in
+    let w = c.reason_for-why.result in
+    let same : n ≡ p.number = c.number-n.ensures ∙ (reached m config k b.result.hand.own.bucket b.result.shard p q b.ensures.takes).number in
+    let makes = makes_these m config k b.result.hand.before.value b.result.shard c.leave.new.self (Leave n k w ∷ []) q c.give_both.new.party b.ensures.new c.leave.ensures.makes.history c.give_both.ensures in
+    (w, either (may_set k b.result.shard.now) c.reason_for-why.ensures, record { chain = b.result.hand.own.bucket; before = b.result.shard; reached = q; takes = b.ensures.takes; makes = subst (λ (x : ℕ). Makes m config k b.result.shard (Leave x k w ∷ []) q c.give_both.new.party) same makes })
+  where
+    either : {w v : Why} (b : Bool) → w ≡ (if b then v else why.Gone) → (w ≡ v) ⊎ (w ≡ why.Gone)
+    either true e = inl e
+    either false e = inr e

@@ -1,0 +1,93 @@
+//! Holds handed to cells, and given up for a copy of the bytes.
+ghost use Rattle.std.specs.Prelude.{◌≡◌, ◌==◌, ◌∷◌, [], ℕ, Bool, IfErr, IfOk, false};
+ghost use Rattle.std.specs.Option.{option_map_or};
+ghost use Rattle.arc_core.specs.declared.event.Event.{Event};
+ghost use Rattle.arc_core.specs.PlainShard.{entry_of, holds_of};
+ghost use Rattle.arc_table.specs.Both.{Makes};
+ghost use Rattle.arc_table.specs.Cache.{IsPartyOf};
+ghost use Rattle.arc_table.specs.Handing.{AnswersHand, IsCellInHand, Releases};
+ghost use Rattle.arc_table.specs.Holding.{IsHeld};
+ghost use Rattle.arc_table.specs.Items.{meanings};
+ghost use Rattle.arc_table.specs.Looking.{HasNoLook};
+ghost use Rattle.arc_table.specs.Making.{IsTaken};
+
+use crate::arcs::{Arcs, Party};
+use crate::both::Both;
+use crate::headers::follow;
+use crate::hold::Hold;
+use arc_core::{Event, Keeps, Shard};
+use blk_ptr::Key;
+use std::sync::Wait;
+
+// Whether there is one hold on the entry of the key.
+fn is_sole(shard: &Shard, key: Key) -> bool
+    ensures { result ≡ option_map_or (λ e. holds_of e == 1) (entry_of key shard.now.now) false }
+{
+    match shard.entry(key) {
+        Some(entry) => entry.held == 1,
+        None => false,
+    }
+}
+
+impl<C: Keeps> Arcs<C> {
+    /// Hands a hold of the party's own to the cell with the number `to`, which the party has in hand. Err is want of memory: the hold
+    /// comes back, and there is no event. It may wait.
+    pub fn hand(
+        &self,
+        rt: &impl Wait,
+        party: &mut Party<C>,
+        hold: Hold,
+        to: u32,
+    ) -> Result<Hold, Hold>
+        requires party { IsPartyOf self.now party.old }
+        requires look { HasNoLook self.now party.old }
+        requires hold { IsHeld self.now.config party.old hold }
+        requires owner { hold.owner ≡ party.old.number }
+        requires cell { IsCellInHand self.now.config party.old to }
+        ensures { AnswersHand (meanings C.holds C.entries C.opening C.claims C.sound) self.now.config hold to party.old party.new result }
+    {
+        let mut both = self.take_both(rt, party, hold.key);
+        let Ok(()) = both.shard.reserve(1, 0) else {
+            self.give_back(party, hold.key, both);
+            return Err(hold);
+        };
+        both.shard.hand(hold.owner, hold.key, to);
+        self.give_both(party, hold.key, both);
+        Ok(Hold {
+            key: hold.key,
+            owner: to,
+            block: hold.block,
+        })
+    }
+
+    /// Gives a hold up, whose owner is the party or a cell that the party has in hand, and keeps a private copy of its bytes. Where it was
+    /// the only hold, the entry goes. Err is want of memory: the hold comes back, and the party is as before. It may wait.
+    pub fn release(&self, rt: &impl Wait, party: &mut Party<C>, hold: Hold) -> Result<Vec<u8>, Hold>
+        requires party { IsPartyOf self.now party.old }
+        requires look { HasNoLook self.now party.old }
+        requires hold { IsHeld self.now.config party.old hold }
+        ensures bytes { IfOk result (λ bytes. bytes.items ≡ hold.block.value) }
+        ensures released { IfOk result (λ bytes. Releases (meanings C.holds C.entries C.opening C.claims C.sound) self.now.config hold party.old party.new) }
+        ensures err { IfErr result (λ back. (back ≡ hold) × (party.new ≡ party.old)) }
+    {
+        let Ok(bytes) = hold.block.bytes().to_vec(self.alloc) else {
+            return Err(hold);
+        };
+        let both = self.take_both(rt, party, hold.key);
+        self.release_taken(party, both, &hold);
+        Ok(bytes)
+    }
+
+    // Gives a hold up on the entry whose bucket and shard the party has just taken.
+    fn release_taken(&self, party: &mut Party<C>, mut both: Both, hold: &Hold)
+        requires party { IsPartyOf self.now party.old }
+        requires taken { IsTaken (meanings C.holds C.entries C.opening C.claims C.sound) self.now.config hold.now.key both party.old }
+        requires hold { IsHeld self.now.config party.old hold.now }
+        ensures { (sole : Bool) × Makes (meanings C.holds C.entries C.opening C.claims C.sound) self.now.config hold.now.key both.shard (Event.Release hold.now.owner hold.now.key sole ∷ []) party.old party.new }
+    {
+        let sole = is_sole(&both.shard, hold.key);
+        both.shard.release(hold.owner, hold.key, sole);
+        follow(&mut both.hand.own.bucket, &both.shard, hold.key);
+        self.give_both(party, hold.key, both);
+    }
+}
