@@ -16,6 +16,7 @@ pub mod Spares
 pub mod ScanRoom
 pub mod ScanSteps
 pub mod ScanBegins
+pub mod ScanEnds
 pub mod Reached
 pub mod OneEvent
 pub mod HoldEvents

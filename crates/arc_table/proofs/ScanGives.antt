@@ -157,7 +157,7 @@ same_head (Some e) = record { key = refl; state = refl; reading = refl; place = 
 
 -- ---- the keys that the event is about
 
-about_is : (j : Key) (o : Option Key) → option_map_or (key_eq j) o false ≡ true → o ≡ Some j
+pub about_is : (j : Key) (o : Option Key) → option_map_or (key_eq j) o false ≡ true → o ≡ Some j
 about_is j None h = absurd (cc)
 about_is j (Some k) h = ap (λ (x : Key). let o : Option Key = Some x in o) (sym (key_eq-is j k h))
 

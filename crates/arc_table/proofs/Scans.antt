@@ -344,7 +344,7 @@ module _ {C : Type 0} (m : Meanings C) (g : Config) (i : ℕ) (first : List (ℕ
 
 -- ---- buckets given back, one after the other
 
-among_without : (i j : ℕ) (held : List ℕ) → j ≢ i → IsAmong j held → IsAmong j (without i held)
+pub among_without : (i j : ℕ) (held : List ℕ) → j ≢ i → IsAmong j held → IsAmong j (without i held)
 among_without i j [] far h = absurd h
 among_without i j (k ∷ ks) far h = dite (ℕ_discrete k i)
     (λ q. subst (λ (b : Bool). IsAmong j (if b then ks else k ∷ without i ks)) (sym (eq-eqb k i q)) (⊎_elim (λ (is : k ≡ j). absurd (far (sym is ∙ q))) (λ (a : IsAmong j ks). a) h))

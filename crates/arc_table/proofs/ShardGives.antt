@@ -77,7 +77,7 @@ map_join f [] ys = refl
 map_join f (x ∷ xs) ys = ap (λ l. f x ∷ l) (map_join f xs ys)
 
 -- records of buckets in hand stand before the others
-front_items : {C : Type 0} (j : ℕ) (hand : List (ℕ × Chain)) (b : Chain) (rest : List (ℕ × Item C)) → item_at j hand ≡ Some b → item_at j (buckets_in hand ++ rest) ≡ Some (item.Bucket b)
+pub front_items : {C : Type 0} (j : ℕ) (hand : List (ℕ × Chain)) (b : Chain) (rest : List (ℕ × Item C)) → item_at j hand ≡ Some b → item_at j (buckets_in hand ++ rest) ≡ Some (item.Bucket b)
 front_items j [] b rest e = absurd (none-some b e)
 front_items {C} j (x ∷ hand) b rest e = by_test (front_items j hand b rest) (j == x.0) e
   where

@@ -122,16 +122,16 @@ module _ (g : Config) (before after : PlainShard) (key : Key) (rest : List Key) 
   heads_else : (j : ℕ) (b : Chain) → j ≢ bucket_turn g key → AreHeadsBut g before after (key ∷ rest) j b → AreHeadsBut g before after rest j b
   heads_else j b far h = record {
     heads = λ k is. ⊎_elim
-        (λ (old : IsTrue (stands_on k (key ∷ rest)) × IsHead (entry_of k before) (header_at k b.headers)). by_key k is (key_eq key k) refl old)
+        (λ (old : IsTrue (stands_on k (key ∷ rest)) × IsHead (entry_of k before) (header_at k b.headers) × IsSpared (entry_of k before) (entry_of k after)). by_key k is (key_eq key k) refl old)
         (λ (new : IsHead (entry_of k after) (header_at k b.headers)). inr new)
         (h.heads k is);
     own = h.own;
   }
     where
-      by_key : (k : Key) → bucket_turn g k ≡ j → (t : Bool) → key_eq key k ≡ t → IsTrue (stands_on k (key ∷ rest)) × IsHead (entry_of k before) (header_at k b.headers)
-          → (IsTrue (stands_on k rest) × IsHead (entry_of k before) (header_at k b.headers)) ⊎ IsHead (entry_of k after) (header_at k b.headers)
+      by_key : (k : Key) → bucket_turn g k ≡ j → (t : Bool) → key_eq key k ≡ t → IsTrue (stands_on k (key ∷ rest)) × IsHead (entry_of k before) (header_at k b.headers) × IsSpared (entry_of k before) (entry_of k after)
+          → (IsTrue (stands_on k rest) × IsHead (entry_of k before) (header_at k b.headers) × IsSpared (entry_of k before) (entry_of k after)) ⊎ IsHead (entry_of k after) (header_at k b.headers)
       by_key k is true t old = absurd (far (sym is ∙ ap (bucket_turn g) (sym (key_eq-is key k t))))
-      by_key k is false t old = inl (drop_key k t old.0, old.1)
+      by_key k is false t old = inl (drop_key k t old.0, old.1, old.2)
 
   all_else : (vs : List (ℕ × Chain)) → item_at (bucket_turn g key) vs ≡ None → AllPairs (AreHeadsBut g before after (key ∷ rest)) vs → AllPairs (AreHeadsBut g before after rest) vs
   all_else [] none all = tt
@@ -139,7 +139,7 @@ module _ (g : Config) (before after : PlainShard) (key : Key) (rest : List Key) 
       (λ q. absurd (none-some v.1 (sym none ∙ subst (λ (t : Bool). (if t then Some v.1 else item_at (bucket_turn g key) vs) ≡ Some v.1) (sym (eq-eqb (bucket_turn g key) v.0 q)) refl)))
       (λ q. (heads_else v.0 v.1 (λ r. q (sym r)) all.0, all_else vs (subst (λ (t : Bool). (if t then Some v.1 else item_at (bucket_turn g key) vs) ≡ None) (ne_eqb (bucket_turn g key) v.0 q) none) all.1))
 
-  module _ (b new : Chain) (with : IsWith key (spared_header (option_map view_of (entry_of key after)) (header_at key b.headers)) b.headers new.headers) (spared : IsSpared (entry_of key before) (entry_of key after)) where
+  module _ (b new : Chain) (with : IsWith key (spared_header (option_map view_of (entry_of key after)) (header_at key b.headers)) b.headers new.headers) where
     -- the bucket of the key's turn
     heads_here : (j : ℕ) → j ≡ bucket_turn g key → AreHeadsBut g before after (key ∷ rest) j b → AreHeadsBut g before after rest j new
     heads_here j here h = record {
@@ -147,20 +147,20 @@ module _ (g : Config) (before after : PlainShard) (key : Key) (rest : List Key) 
       own = λ k x there. own_by k x (key_eq key k) refl there;
     }
       where
-        now_says : (IsTrue (stands_on key (key ∷ rest)) × IsHead (entry_of key before) (header_at key b.headers)) ⊎ IsHead (entry_of key after) (header_at key b.headers)
+        now_says : (IsTrue (stands_on key (key ∷ rest)) × IsHead (entry_of key before) (header_at key b.headers) × IsSpared (entry_of key before) (entry_of key after)) ⊎ IsHead (entry_of key after) (header_at key b.headers)
             → IsHead (entry_of key after) (spared_header (option_map view_of (entry_of key after)) (header_at key b.headers))
-        now_says (inl old) = spared_says (entry_of key before) (entry_of key after) (header_at key b.headers) old.1 spared
+        now_says (inl old) = spared_says (entry_of key before) (entry_of key after) (header_at key b.headers) old.1 old.2
         now_says (inr late) = spared_says (entry_of key after) (entry_of key after) (header_at key b.headers) late (spared-same (entry_of key after))
         new_here : (k : Key) → key_eq key k ≡ true → header_at k new.headers ≡ spared_header (option_map view_of (entry_of key after)) (header_at key b.headers)
         new_here k t = with k ∙ ap (λ (x : Bool). if x then spared_header (option_map view_of (entry_of key after)) (header_at key b.headers) else header_at k b.headers) t
         new_else : (k : Key) → key_eq key k ≡ false → header_at k new.headers ≡ header_at k b.headers
         new_else k f = with k ∙ ap (λ (x : Bool). if x then spared_header (option_map view_of (entry_of key after)) (header_at key b.headers) else header_at k b.headers) f
         by_key : (k : Key) → bucket_turn g k ≡ j → (t : Bool) → key_eq key k ≡ t
-            → (IsTrue (stands_on k rest) × IsHead (entry_of k before) (header_at k new.headers)) ⊎ IsHead (entry_of k after) (header_at k new.headers)
+            → (IsTrue (stands_on k rest) × IsHead (entry_of k before) (header_at k new.headers) × IsSpared (entry_of k before) (entry_of k after)) ⊎ IsHead (entry_of k after) (header_at k new.headers)
         by_key k is true t = inr (subst (IsHead (entry_of k after)) (sym (new_here k t))
             (subst (λ (x : Key). IsHead (entry_of x after) (spared_header (option_map view_of (entry_of key after)) (header_at key b.headers))) (key_eq-is key k t) (now_says (h.heads key (sym here)))))
         by_key k is false t = ⊎_elim
-            (λ (old : IsTrue (stands_on k (key ∷ rest)) × IsHead (entry_of k before) (header_at k b.headers)). inl (drop_key k t old.0, subst (IsHead (entry_of k before)) (sym (new_else k t)) old.1))
+            (λ (old : IsTrue (stands_on k (key ∷ rest)) × IsHead (entry_of k before) (header_at k b.headers) × IsSpared (entry_of k before) (entry_of k after)). inl (drop_key k t old.0, subst (IsHead (entry_of k before)) (sym (new_else k t)) old.1, old.2))
             (λ (late : IsHead (entry_of k after) (header_at k b.headers)). inr (subst (IsHead (entry_of k after)) (sym (new_else k t)) late))
             (h.heads k is)
         own_by : (k : Key) (x : Header) (t : Bool) → key_eq key k ≡ t → header_at k new.headers ≡ Some x → j ≡ bucket_turn g k

@@ -26,6 +26,7 @@ pub mod Ended
 pub mod Scanning
 pub mod Sparing
 pub mod Evicting
+pub mod Ending
 pub mod Holding
 pub mod Both
 pub mod Telling

@@ -7,6 +7,7 @@ use Rattle.arc_lists.specs.Sequences.{stands_on}
 use Rattle.arc_core.specs.declared.config.Config.{Config}
 use Rattle.arc_core.specs.declared.shard.EntryView.{EntryView}
 use Rattle.arc_core.specs.PlainShard.{PlainShard, entry_of}
+use Rattle.arc_core.specs.Sparing.{IsSpared}
 use Rattle.hash_chain.specs.Chain.{Chain, IsWith, header_at}
 use Rattle.hash_chain.specs.declared.header.Header.{Header}
 use Rattle.arc_table.specs.declared.hand.Taken.{Taken}
@@ -29,10 +30,10 @@ with_bucket j b [] = []
 with_bucket j b (v ∷ vs) = if j == v.0 then (v.0, b) ∷ vs else (v ∷ with_bucket j b vs)
 
 -- The headers of the turn j are those of its own keys. Each says what its key's entry does after an event, but for those of these keys,
--- which say what it did before
+-- which say what it did before, and which the event spares or evicts
 pub record AreHeadsBut (g : Config) (before after : PlainShard) (rest : List Key) (j : ℕ) (b : Chain) : Type 0 where
   pub heads : (k : Key) → bucket_turn g k ≡ j
-      → (IsTrue (stands_on k rest) × IsHead (entry_of k before) (header_at k b.headers)) ⊎ IsHead (entry_of k after) (header_at k b.headers)
+      → (IsTrue (stands_on k rest) × IsHead (entry_of k before) (header_at k b.headers) × IsSpared (entry_of k before) (entry_of k after)) ⊎ IsHead (entry_of k after) (header_at k b.headers)
   pub own : (k : Key) (h : Header) → header_at k b.headers ≡ Some h → j ≡ bucket_turn g k
 
 -- the turns of buckets

@@ -1,15 +1,25 @@
 //! What an event evicts and drops: the scan for it, its headers, and its buckets given back.
-ghost use Rattle.std.specs.Prelude.{◌≡◌};
+ghost use Rattle.std.specs.Prelude.{◌≡◌, List};
+ghost use Rattle.arc_core.specs.declared.event.Event.{Event};
+ghost use Rattle.arc_core.specs.ShardLog.{ShardLog};
+ghost use Rattle.hash_chain.specs.Chain.{Chain};
 ghost use Rattle.arc_table.specs.Cache.{IsPartyOf};
 ghost use Rattle.arc_table.specs.Items.{meanings};
-ghost use Rattle.turn_table.specs.Places.{gave_back};
+ghost use Rattle.turn_table.specs.Places.{Place, gave_back};
 ghost use Rattle.arc_table.specs.Views.{after_same};
+ghost use Rattle.arc_table.specs.Ending.{GivesAll, HasMade};
+ghost use Rattle.arc_table.specs.InHand.{buckets_of, made_since};
+ghost use Rattle.arc_table.specs.Sparing.{turns_in};
+ghost use Rattle.arc_table.specs.declared.view.Known.{Known};
 ghost use Rattle.arc_table.specs.Scanning.{AllPairs, AreApart, IsInHand, gave_all, pairs_of};
 
 use crate::arcs::{Arcs, Party};
 use crate::gives;
-use crate::hand::Taken;
+use crate::both::Both;
+use crate::hand::{Hand, Taken};
 use crate::item::Item;
+use crate::scan::Scan;
+use crate::spare::spare_all;
 use arc_core::Keeps;
 
 impl<C: Keeps> Arcs<C> {
@@ -34,5 +44,30 @@ impl<C: Keeps> Arcs<C> {
         let Taken { turn, bucket } = taken;
         self.turns
             .give::<gives::Same>(party, turn, Item::Bucket(bucket));
+    }
+
+    // Gives all back once the event of a scan is made and the header of its own key is right: the victims' headers are put right first.
+    pub(crate) fn end_scan(&self, party: &mut Party<C>, scan: Scan)
+        requires party { IsPartyOf self.now party.old }
+        requires made { (e : Event) × (passes : List Event) × (p : Place (Known C)) × (l : ShardLog) × (chain : Chain)
+            × HasMade (meanings C.holds C.entries C.opening C.claims C.sound) self.now.config e passes p party.old l chain scan }
+        ensures { GivesAll (meanings C.holds C.entries C.opening C.claims C.sound) scan.both.turn (turns_in (buckets_of scan.both.hand)) scan.both.hand.before.value
+            (made_since scan.both.hand.before.value scan.both.shard) scan.both.shard party.old party.new }
+    {
+        let Scan { both, marked } = scan;
+        let Both {
+            mut hand,
+            turn,
+            shard,
+        } = both;
+        spare_all(&mut hand, &self.config, &shard, &marked);
+        self.give_shard(party, turn, shard, &hand);
+        let Hand {
+            own,
+            victims,
+            before: _,
+        } = hand;
+        self.give_bucket(party, own);
+        self.give_buckets(party, victims);
     }
 }

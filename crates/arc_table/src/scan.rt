@@ -1,5 +1,5 @@
 //! The scan for the keys that an event evicts and drops.
-ghost use Rattle.std.specs.Prelude.{◌≡◌, ℕ, ◌+◌, ◌<◌, ◌≤◌, ◌||◌, ◌++◌, ◌∷◌, [], List, false, IsTrue, IsSome, IfOk, IfErr, None, vec_len, vec_capacity};
+ghost use Rattle.std.specs.Prelude.{◌≡◌, ℕ, ◌+◌, ◌<◌, ◌≤◌, ◌||◌, ◌++◌, ◌∷◌, [], List, false, IsTrue, IsSome, IfOk, IfErr, OnErr, None, vec_len, vec_capacity};
 ghost use Rattle.blk_ptr.specs.declared.key.Key.{Key};
 ghost use Rattle.blk_ptr.specs.Order.{key_eq};
 ghost use Rattle.arc_lists.specs.Sequences.{stands_on};
@@ -60,13 +60,14 @@ fn mark(scan: &mut Scan, key: Key)
 fn reserve(both: &mut Both, alloc: Global) -> Result<Vec<Key>, NoMemory>
     ensures same { KeepsBoth both.old both.new }
     ensures room { IfOk result (λ keys. HasBothRoom both.new (vec_capacity keys) × (keys.items ≡ [])) }
+    ensures bucket { OnErr result (both.new.hand.own ≡ both.old.hand.own) }
 {
     let most = both.shard.entries();
     let events = most.checked_add(3).ok_or(NoMemory)?;
     both.shard.reserve(events, 1)?;
-    both.hand.own.bucket.reserve(1)?;
     both.hand.victims.reserve(most)?;
     let keys = Vec::with_capacity(alloc, most)?;
+    both.hand.own.bucket.reserve(1)?;
     Ok(keys)
 }
 
@@ -134,7 +135,7 @@ impl<C: Keeps> Arcs<C> {
         requires event { IsTrue (takes_room event.now) }
         requires legal { IsTrue (legal both.shard.now event.now) }
         ensures ok { IfOk result (λ scan. HasScanned (meanings C.holds C.entries C.opening C.claims C.sound) self.now.config both event.now party.old party.new scan) }
-        ensures err { IfErr result (λ back. KeepsBoth both back × (party.new ≡ party.old)) }
+        ensures err { IfErr result (λ back. KeepsBoth both back × (back.hand.own ≡ both.hand.own) × (party.new ≡ party.old)) }
     {
         let Ok(marked) = reserve(&mut both, self.alloc) else {
             return Err(both);

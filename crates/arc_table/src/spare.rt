@@ -3,8 +3,6 @@ ghost use Rattle.std.specs.Prelude.{◌≡◌, IsTrue, IsSome, Some, []};
 ghost use Rattle.blk_ptr.specs.declared.key.Key.{Key};
 ghost use Rattle.arc_lists.specs.Sequences.{stands_on};
 ghost use Rattle.arc_core.specs.Config.{IsConfig};
-ghost use Rattle.arc_core.specs.PlainShard.{entry_of};
-ghost use Rattle.arc_core.specs.Sparing.{IsSpared};
 ghost use Rattle.blk_ptr.specs.State.{is_cached};
 ghost use Rattle.hash_chain.specs.Chain.{Chain, header_at, IsWith};
 ghost use Rattle.arc_table.specs.Fronts.{item_at};
@@ -86,7 +84,6 @@ pub(crate) fn spare_all(hand: &mut Hand, config: &Config, shard: &Shard, keys: &
     requires valid { IsConfig config.now }
     requires apart { AreApart (buckets_of hand.old) }
     requires in_hand { (k : Key) → IsTrue (stands_on k keys.now) → IsSome (item_at (bucket_turn config.now k) (buckets_of hand.old)) }
-    requires spared { (k : Key) → IsTrue (stands_on k keys.now) → IsSpared (entry_of k hand.old.before.value.now) (entry_of k shard.now.now) }
     requires heads { AllPairs (AreHeadsBut config.now hand.old.before.value.now shard.now.now keys.now) (buckets_of hand.old) }
     ensures before { hand.new.before ≡ hand.old.before }
     ensures turns { turns_in (buckets_of hand.new) ≡ turns_in (buckets_of hand.old) }

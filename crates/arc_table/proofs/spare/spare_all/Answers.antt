@@ -54,7 +54,7 @@ loop-key-preserved c =
       before = c.spare_in.ensures.before ∙ c.loop-key.invariant.before;
       turns = ap turns_in gave ∙ (with_turns (bucket_turn g key) did.0 vs ∙ c.loop-key.invariant.turns);
       heads = subst (AllPairs (AreHeadsBut g before after rest)) (sym gave)
-          (heads_step g before after key rest b.0 did.0 with (c.requires.spared key stands) vs (apart_turns vs (buckets_of c.args.hand.now) c.loop-key.invariant.turns c.requires.apart)
+          (heads_step g before after key rest b.0 did.0 with vs (apart_turns vs (buckets_of c.args.hand.now) c.loop-key.invariant.turns c.requires.apart)
           (subst (λ (l : List Key). AllPairs (AreHeadsBut g before after l) vs) front c.loop-key.invariant.heads) b.1);
     }
 

@@ -1,0 +1,53 @@
+//! How a read of a block that isn't cached begins.
+ghost use Rattle.std.specs.Prelude.{◌≡◌, ℕ, ◌<◌, ◌∷◌, [], IsTrue, IsSome, IfOk, OnErr, Some, None, true};
+ghost use Rattle.std.specs.Option.{option_map};
+ghost use Rattle.blk_ptr.specs.Key.{is_well_formed};
+ghost use Rattle.arc_core.specs.declared.entry.Entry.{Entry};
+ghost use Rattle.arc_core.specs.declared.event.Event.{Event};
+ghost use Rattle.arc_core.specs.PlainShard.{entry_of};
+ghost use Rattle.arc_core.specs.Step.{is_missing};
+ghost use Rattle.arc_core.specs.View.{view_of};
+ghost use Rattle.hash_chain.specs.Chain.{header_at, IsWith};
+ghost use Rattle.turn_table.specs.Board.{IsAmong};
+ghost use Rattle.arc_table.specs.Both.{Makes};
+ghost use Rattle.arc_table.specs.Cache.{IsPartyOf};
+ghost use Rattle.arc_table.specs.Ending.{MakesRoomy};
+ghost use Rattle.arc_table.specs.Geometry.{IsBucket, bucket_turn};
+ghost use Rattle.arc_table.specs.Items.{meanings};
+ghost use Rattle.arc_table.specs.Making.{IsTaken};
+
+use crate::arcs::{Arcs, Party};
+use crate::both::Both;
+use arc_core::{EntryView, Event, Keeps, Shard};
+use blk_ptr::{Key, NoMemory};
+use hash_chain::{Bucket, Header};
+
+// The key has this header from now on.
+pub(crate) fn put_header(bucket: &mut Bucket, header: Header)
+    requires { 0 < bucket.old.spare }
+    ensures { IsWith header.key (Some header) bucket.old.headers bucket.new.headers }
+{
+    match bucket.find(header.key) {
+        Some(at) => bucket.change(at, header),
+        None => bucket.add(header),
+    }
+}
+
+// What a header says of an entry whose bytes are being read.
+fn reading_header(shard: &Shard, key: Key) -> Header
+    requires { IsSome (entry_of key shard.now.now) }
+    ensures { (e : Entry) × (entry_of key shard.now.now ≡ Some e)
+        × (result ≡ record { key = key; state = e.state; reading = true; place = e.place; digest = e.digest; block = None }) }
+{
+    let Some(entry) = shard.entry(key) else {
+        unreachable!()
+    };
+    Header {
+        key,
+        state: entry.state,
+        reading: true,
+        place: entry.place,
+        digest: entry.digest,
+        block: None,
+    }
+}
