@@ -101,6 +101,8 @@ fn oldest_of(kept: &[KeptRead], block: u32) -> Option<usize>
     kept.iter().position(|read| read.block == block)
 }
 
+// Where a body begins or ends with `let _events = self.shard.history();`, the list is not used: its clause says that the shard is the
+// replay of it, and so is sound.
 impl CallerCache {
     /// An empty cache.
     pub(crate) fn new(
@@ -132,7 +134,6 @@ impl CallerCache {
         ensures access { result ≡ access_of self.now.log.now ptr.now }
         ensures replayed { IsReplayed self.now.log }
     {
-        // The history is looked at for its clause alone: the shard is the replay of it, so it is sound.
         let _events = self.shard.history();
         match self.shard.resident(ptr.key) {
             Some(kept) if kept == ptr.digest => Access::Hit,

@@ -1,19 +1,13 @@
 //! The words of the command line behind the two file names.
-ghost use Rattle.std.specs.Prelude.{◌≡◌, ◌↔◌, IsTrue, Some, MatchResult, codes, option_map, slice_get};
-ghost use Rattle.trace_text.specs.Reading.{BeginsAsNumber, IsNumberRead};
+ghost use Rattle.std.specs.Prelude.{◌≡◌, Some, MatchResult, codes, option_map, slice_get};
+ghost use Rattle.trace_text.specs.Reading.{IsNumberRead};
 ghost use Rattle.trace_run.specs.Words.{IsCommand, IsFirstWrong, IsNumberAt, texts};
+
+use arc_paper::MOST_PAGES;
+use trace_text::{MOST_GENERATED_BLOCKS, MOST_GENERATED_READS};
 
 /// The greatest seed of a made trace.
 const MOST_SEED: u32 = 2_147_483_647;
-
-/// The most blocks of a made trace.
-const MOST_BLOCKS: u32 = 32_768;
-
-/// The most operations of a made trace.
-const MOST_OPS: u32 = 1_000_000;
-
-/// The most pages that may be cached.
-const MOST_CAPACITY: u32 = 65_536;
 
 /// What the program is asked to do.
 #[derive(Clone, Copy, Debug, PartialEq, Eq)]
@@ -65,8 +59,8 @@ fn parse_gen(words: &[String]) -> Result<Command, u32>
     ensures { MatchResult result (IsCommand (texts words.now)) (IsFirstWrong (texts words.now)) }
 {
     let seed = number_at(words, 1, 0, MOST_SEED)?;
-    let blocks = number_at(words, 2, 1, MOST_BLOCKS)?;
-    let ops = number_at(words, 3, 0, MOST_OPS)?;
+    let blocks = number_at(words, 2, 1, MOST_GENERATED_BLOCKS)?;
+    let ops = number_at(words, 3, 0, MOST_GENERATED_READS)?;
     match word_at(words, 4) {
         None => Ok(Command::Gen { seed, blocks, ops }),
         Some(_) => Err(4),
@@ -78,7 +72,7 @@ fn parse_paper(words: &[String]) -> Result<Command, u32>
     requires { slice_get (texts words.now) 0 ≡ Some (codes "paper") }
     ensures { MatchResult result (IsCommand (texts words.now)) (IsFirstWrong (texts words.now)) }
 {
-    let c = number_at(words, 1, 1, MOST_CAPACITY)?;
+    let c = number_at(words, 1, 1, MOST_PAGES)?;
     match word_at(words, 2) {
         None => Ok(Command::Paper { c }),
         Some(_) => Err(2),
@@ -111,22 +105,5 @@ fn number_at(words: &[String], index: u32, low: u32, high: u32) -> Result<u32, u
 fn number(word: &str, low: u32, high: u32) -> Option<u32>
     ensures { IsNumberRead low high word.now result }
 {
-    if !begins_as_number(word.as_bytes()) {
-        return None;
-    }
-    match word.parse::<u64>() {
-        Ok(value) if u64::from(low) <= value && value <= u64::from(high) => Some(value as u32),
-        _ => None,
-    }
-}
-
-/// Whether a word begins as a number may: `parse` takes a plus sign and leading zeros too.
-fn begins_as_number(word: &[u8]) -> bool
-    ensures { IsTrue result ↔ BeginsAsNumber word.now }
-{
-    match word.len() {
-        0 => false,
-        1 => word[0] != b'+',
-        _ => word[0] != b'+' && word[0] != b'0',
-    }
+    trace_text::number(word.as_bytes(), u64::from(low), u64::from(high)).map(|value| value as u32)
 }

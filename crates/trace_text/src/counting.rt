@@ -73,6 +73,10 @@ fn is_pool_read(event: &Event) -> bool
         Event::Arrive { from, .. } => *from == Origin::Pool,
         Event::Fail { at, .. } => *at == FailedAt::Pool,
         Event::Past { .. } => true,
-        _ => false,
+        Event::Pass { .. } | Event::Hit { .. } | Event::Miss { .. } | Event::Drop { .. } => false,
+        Event::Hand { .. } | Event::Insert { .. } | Event::Release { .. } => false,
+        Event::Pick { .. } | Event::FeedEnd { .. } | Event::Set { .. } => false,
+        Event::Leave { .. } | Event::Clear { .. } | Event::Restore { .. } => false,
+        Event::Resize { .. } => false,
     }
 }

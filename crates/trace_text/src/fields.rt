@@ -33,8 +33,9 @@ fn begins_as_number(field: &[u8]) -> bool
     }
 }
 
-/// The number that a field spells in decimal, with no sign and no leading zero, where it is from `low` to `high`.
-pub(crate) fn number(field: &[u8], low: u64, high: u64) -> Option<u64>
+/// The number that a field spells in decimal, with no sign and no leading zero, where it is from `low` to `high`. The words of the
+/// command line are read so too.
+pub fn number(field: &[u8], low: u64, high: u64) -> Option<u64>
     ensures { IsNumberRead low high field.now result }
 {
     if !begins_as_number(field) {

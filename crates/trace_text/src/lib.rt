@@ -38,6 +38,7 @@ pub use dbuf_state::{MOST_SHOWN, Shown, Window};
 pub use ends::ShardEnd;
 pub use events::event_text;
 pub use fault::{Kind, TraceFault};
+pub use fields::number;
 pub use generator::{MOST_GENERATED_BLOCKS, MOST_GENERATED_READS, gen_trace};
 pub use items::{Blocks, Ends, Histories, History, Items, Ops, Replies};
 pub use laws::{one_fault, one_trace, written_lines};
