@@ -9,6 +9,7 @@ mod closed;
 mod evict;
 mod drops;
 mod feeds;
+mod fetch;
 mod front;
 mod gives;
 mod hand;
