@@ -32,6 +32,7 @@ use Rattle.arc_table.specs.declared.scan.Scan.{Scan}
 use Rattle.arc_table.specs.declared.item.Item.TheVariants as item
 use Rattle.arc_table.specs.declared.view.Known.{Known}
 use Rattle.arc_table.specs.Both.{Makes, TakesBoth}
+use Rattle.arc_table.specs.Cache.{Cache, IsPartyOf}
 use Rattle.arc_table.specs.Ending.{GivesAll, HasMade, MakesRoomy}
 use Rattle.arc_table.specs.Evicting.{HasScanned, KeepsBoth, MayBegin}
 use Rattle.arc_table.specs.Fronts.{item_at, list_at}
@@ -48,7 +49,7 @@ use Rattle.arc_table.proofs.OneEvent.{made_is, none_given}
 use Rattle.arc_table.proofs.Ranges.{bucket_range, shard_range}
 use Rattle.arc_table.proofs.Reached.{bucket_below, fresh, heads, number_below, own_entries, own_headers, reached, sound_log}
 use Rattle.arc_table.proofs.Rows.{same_shard}
-use Rattle.arc_table.proofs.Scans.{replayed_more, scan_number}
+use Rattle.arc_table.proofs.Scans.{replayed_more, scan_number, won_about}
 
 -- ---- the party may scan
 
@@ -211,3 +212,26 @@ miss_made {C} m g k b q q' n tick s s' h kind own number makes turn first victim
     one x y e = cc
     one_entry : (x y : Entry) → ◌≡◌ {A = Option Entry} (Some x) (Some y) → x ≡ y
     one_entry x y e = cc
+
+-- no event was made in the end
+pub none_makes : {C : Type 0} (m : Meanings C) (g : Config) (k : Key) (b back : Both) (q q' r : Place (Known C)) → KeepsBoth b back → b.hand.before.value ≡ b.shard → q' ≡ q
+    → Makes m g k back.hand.before.value (made_since back.hand.before.value back.shard) q' r → Makes m g k b.shard [] q r
+none_makes {C} m g k b back q q' r keeps new same =
+    let before : back.hand.before.value ≡ b.shard = ap (λ x. x.value) keeps.before ∙ new in
+    let none : made_since back.hand.before.value back.shard ≡ [] = made_is back.hand.before.value back.shard [] (keeps.history ∙ (ap (λ (l : ShardLog). l.history) (sym before) ∙ sym (append-nil back.hand.before.value.history))) in
+    subst (λ (x : ShardLog × List Event × Place (Known C)). Makes m g k x.0 x.1 x.2 r) (λ z. (before z, none z, same z))
+
+-- the key has an entry once it is being read
+pub miss_there : (n tick : ℕ) (k : Key) (l l' : ShardLog) → IsReplayed l → IsTrue (legal l.now (Miss n k tick)) → makes_one (Miss n k tick) l l' → IsSome (entry_of k l'.now)
+miss_there n tick k l l' replayed ok makes = subst (λ (o : Option Entry). IsSome o) (sym (ap (entry_of k) makes.now ∙ own-entry l.now (Miss n k tick) k replayed.sound ok refl)) refl
+
+-- a party that has scanned is one of its cache still
+pub scanned_party : {C : Type 0} (m : Meanings C) (g : Config) (b : Both) (e : Event) (cache : Cache) (q q' : Place (Known C)) (s : Scan) → HasScanned m g b e q q' s → IsPartyOf cache q → IsPartyOf cache q'
+scanned_party {C} m g b e cache q q' s h of = record {
+  row = (ap (λ (x : Place (Known C)). x.table) h.scan.place ∙ of.row.0, ap (λ (x : Place (Known C)). x.parties) h.scan.place ∙ of.row.1);
+  config = ap (λ (x : Place (Known C)). x.own.about.config) h.scan.place ∙ (ap (λ (a : About). a.config) (won_about m (pairs_of s.both.hand.victims.items) q.own) ∙ of.config);
+}
+
+-- the shard was the replay of its history when it was taken
+pub scanned_replayed : {C : Type 0} (m : Meanings C) (g : Config) (b : Both) (e : Event) (q q' : Place (Known C)) (s : Scan) → HasScanned m g b e q q' s → b.hand.before.value ≡ b.shard → IsReplayed b.shard
+scanned_replayed m g b e q q' s h new = subst IsReplayed (ap (λ x. x.value) h.before ∙ new) h.may.sound.replayed
