@@ -17,6 +17,7 @@ pub mod ScanRoom
 pub mod ScanSteps
 pub mod ScanBegins
 pub mod ScanEnds
+pub mod MissEvents
 pub mod Reached
 pub mod OneEvent
 pub mod HoldEvents

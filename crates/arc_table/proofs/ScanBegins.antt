@@ -6,7 +6,6 @@ use Rattle.arc_lists.specs.Sequences.{stands_on}
 use Rattle.arc_core.specs.declared.config.Config.{Config}
 use Rattle.arc_core.specs.declared.event.Event.{Event}
 use Rattle.arc_core.specs.declared.event.Event.TheVariants.{Insert, Miss, Resize}
-use Rattle.arc_core.specs.Naming.{takes_room}
 use Rattle.arc_core.specs.Owed.{room_for}
 use Rattle.arc_core.specs.PlainShard.{PlainShard, entry_of}
 use Rattle.arc_core.specs.ShardLog.{ShardLog}
@@ -22,7 +21,7 @@ use Rattle.arc_table.specs.Evicting.{HasBothRoom, HasScanRoom, IsScan, KeepsBoth
 use Rattle.arc_table.specs.Fronts.{item_at}
 use Rattle.arc_table.specs.Headed.{IsHead}
 use Rattle.arc_table.specs.Items.{Meanings}
-use Rattle.arc_table.specs.Scanning.{IsBucketOf, MayScan, Scans, pairs_of}
+use Rattle.arc_table.specs.Scanning.{takes_room, IsBucketOf, MayScan, Scans, pairs_of}
 use Rattle.arc_table.proofs.Scans.{replayed_same}
 use Rattle.arc_table.proofs.ScanRoom.{open_at_most}
 

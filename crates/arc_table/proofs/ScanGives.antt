@@ -15,7 +15,6 @@ use Rattle.arc_core.specs.declared.config.Config.{Config}
 use Rattle.arc_core.specs.declared.entry.Entry.{Entry}
 use Rattle.arc_core.specs.declared.event.Event.{Event}
 use Rattle.arc_core.specs.declared.event.Event.TheVariants.{Pass, Hit, Miss, Arrive, Fail, Drop, Past, Hand, Insert, Release, Pick, FeedEnd, Set, Leave, Clear, Restore, Resize}
-use Rattle.arc_core.specs.Naming.{takes_room}
 use Rattle.arc_core.specs.Operations.{event_key, is_about, is_pass}
 use Rattle.arc_core.specs.PlainShard.{PlainShard, entry_of}
 use Rattle.arc_core.specs.ShardLog.{ShardLog}
@@ -34,7 +33,7 @@ use Rattle.arc_table.specs.Geometry.{IsBucket, bucket_turn, shard_turn}
 use Rattle.arc_table.specs.Headed.{IsHead}
 use Rattle.arc_table.specs.Items.{Meanings}
 use Rattle.arc_table.specs.Logged.{is_picking}
-use Rattle.arc_table.specs.Scanning.{AllPairs, AreApart, ArePasses, IsBucketOf, MayScan, Scans, added, notes_of, won_all}
+use Rattle.arc_table.specs.Scanning.{takes_room, AllPairs, AreApart, ArePasses, IsBucketOf, MayScan, Scans, added, notes_of, won_all}
 use Rattle.arc_table.specs.Sparing.{turns_in}
 use Rattle.arc_table.specs.ShardGiving.{ArePassesNoted, AreAlike, IsActor, IsGivenShard, SameHead, passes_in}
 use Rattle.arc_table.specs.Views.{note}

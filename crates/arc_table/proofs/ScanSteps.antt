@@ -12,7 +12,6 @@ use Rattle.arc_core.specs.Config.{IsConfig}
 use Rattle.arc_core.specs.declared.entry.Entry.{Entry}
 use Rattle.arc_core.specs.declared.event.Event.{Event}
 use Rattle.arc_core.specs.declared.event.Event.TheVariants.{Pass}
-use Rattle.arc_core.specs.Naming.{takes_room}
 use Rattle.arc_core.specs.PlainShard.{PlainShard, entry_of, is_number, is_party}
 use Rattle.arc_core.specs.ShardLog.{HasRoom, IsUnnamed, Makes, ShardLog}
 use Rattle.arc_core.specs.Step.{legal}
@@ -33,7 +32,7 @@ use Rattle.arc_table.specs.Geometry.{IsBucket, bucket_turn, parties_of, shard_tu
 use Rattle.arc_table.specs.InHand.{buckets_of}
 use Rattle.arc_table.specs.Items.{Meanings}
 use Rattle.arc_table.specs.Rule.{Pact}
-use Rattle.arc_table.specs.Scanning.{IsBucketOf, MayScan, Scans, pairs_of}
+use Rattle.arc_table.specs.Scanning.{takes_room, IsBucketOf, MayScan, Scans, pairs_of}
 use Rattle.arc_table.specs.Views.{after_lost, after_won}
 use Rattle.arc_table.proofs.Boards.{bucket_there}
 use Rattle.arc_table.proofs.Ranges.{bucket_range}

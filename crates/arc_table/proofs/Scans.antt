@@ -13,7 +13,6 @@ use Rattle.arc_core.specs.Config.{IsConfig}
 use Rattle.arc_core.specs.declared.entry.Entry.{Entry}
 use Rattle.arc_core.specs.declared.event.Event.{Event}
 use Rattle.arc_core.specs.declared.event.Event.TheVariants.{Pass, Miss, Insert, Resize}
-use Rattle.arc_core.specs.Naming.{takes_room}
 use Rattle.arc_core.specs.PlainShard.{PlainShard, entry_of}
 use Rattle.arc_core.specs.Replay.{is_legal_history, replay}
 use Rattle.arc_core.specs.ShardLog.{ShardLog, IsReplayed}
@@ -38,7 +37,7 @@ use Rattle.arc_table.specs.Geometry.{IsBucket, IsCell, IsShard, bucket_turn, sha
 use Rattle.arc_table.specs.Headed.{IsHead}
 use Rattle.arc_table.specs.Items.{Meanings, headers_in, shard_in}
 use Rattle.arc_table.specs.Rule.{Pact}
-use Rattle.arc_table.specs.Scanning.{AllPairs, AreApart, ArePasses, IsBucketOf, IsInHand, MayScan, Scans, added, after_scan, notes_of, won_all}
+use Rattle.arc_table.specs.Scanning.{takes_room, AllPairs, AreApart, ArePasses, IsBucketOf, IsInHand, MayScan, Scans, added, after_scan, notes_of, won_all}
 use Rattle.arc_table.specs.TableLaws.{item_else, item_here, list_else, without_else}
 use Rattle.arc_table.specs.Views.{after_lost, after_same, after_won, note, under_of}
 use Rattle.arc_table.proofs.Boards.{in_hand}

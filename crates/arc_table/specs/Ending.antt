@@ -4,7 +4,6 @@ use Rattle.blk_ptr.specs.declared.key.Key.{Key}
 use Rattle.arc_lists.specs.Sequences.{stands_on}
 use Rattle.arc_core.specs.declared.config.Config.{Config}
 use Rattle.arc_core.specs.declared.event.Event.{Event}
-use Rattle.arc_core.specs.Naming.{takes_room}
 use Rattle.arc_core.specs.Operations.{event_key, is_about}
 use Rattle.arc_core.specs.PlainShard.{entry_of}
 use Rattle.arc_core.specs.Replay.{is_legal_history, replay}
@@ -19,7 +18,7 @@ use Rattle.arc_table.specs.Geometry.{bucket_turn, shard_turn}
 use Rattle.arc_table.specs.Headed.{IsHead}
 use Rattle.arc_table.specs.InHand.{buckets_of}
 use Rattle.arc_table.specs.Items.{Meanings}
-use Rattle.arc_table.specs.Scanning.{ArePasses, MayScan, Scans, after_scan, gave_all, pairs_of}
+use Rattle.arc_table.specs.Scanning.{takes_room, ArePasses, MayScan, Scans, after_scan, gave_all, pairs_of}
 use Rattle.arc_table.specs.ShardGiving.{IsActor, after_shard}
 use Rattle.arc_table.specs.Sparing.{turns_in}
 

@@ -27,6 +27,7 @@ pub mod Scanning
 pub mod Sparing
 pub mod Evicting
 pub mod Ending
+pub mod Fetching
 pub mod Holding
 pub mod Both
 pub mod Telling

@@ -8,7 +8,7 @@ use Rattle.arc_lists.specs.Sequences.{stands_on}
 use Rattle.arc_core.specs.declared.config.Config.{Config}
 use Rattle.arc_core.specs.declared.entry.Entry.{Entry}
 use Rattle.arc_core.specs.declared.event.Event.{Event}
-use Rattle.arc_core.specs.declared.event.Event.TheVariants.{Pass}
+use Rattle.arc_core.specs.declared.event.Event.TheVariants.{Pass, Miss, Insert, Resize}
 use Rattle.arc_core.specs.PlainShard.{PlainShard, entry_of, is_passed}
 use Rattle.arc_core.specs.ShardLog.{ShardLog, IsReplayed}
 use Rattle.hash_chain.specs.Chain.{Chain, header_at}
@@ -27,6 +27,13 @@ use Rattle.arc_table.specs.Items.{Meanings}
 use Rattle.arc_table.specs.Logged.{IsSoundLog}
 use Rattle.arc_table.specs.Giving.{IsAsTaken}
 use Rattle.arc_table.specs.Views.{after_same, after_won, note, under_of}
+
+-- an event that makes room, and so may evict and drop
+abbrev pub takes_room : Event → Bool
+takes_room (Miss n k t) = true
+takes_room (Insert n k d t) = true
+takes_room (Resize n c) = true
+takes_room _ = false
 
 -- buckets in hand, each by its turn
 abbrev pub pairs_of : List Taken → List (ℕ × Chain)

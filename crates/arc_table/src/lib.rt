@@ -9,6 +9,7 @@ mod closed;
 mod drops;
 mod evict;
 mod feeds;
+mod fetch;
 mod front;
 mod gives;
 mod hand;

@@ -1,5 +1,5 @@
 //! How a read of a block that isn't cached begins.
-ghost use Rattle.std.specs.Prelude.{◌≡◌, ℕ, ◌<◌, ◌∷◌, [], IsTrue, IsSome, IfOk, OnErr, Some, None, true};
+ghost use Rattle.std.specs.Prelude.{◌≡◌, ℕ, ◌<◌, ◌∷◌, [], IsTrue, IsSome, IfOk, OnOk, OnErr, Some, None, true};
 ghost use Rattle.std.specs.Option.{option_map};
 ghost use Rattle.blk_ptr.specs.Key.{is_well_formed};
 ghost use Rattle.arc_core.specs.declared.entry.Entry.{Entry};
@@ -49,5 +49,42 @@ fn reading_header(shard: &Shard, key: Key) -> Header
         place: entry.place,
         digest: entry.digest,
         block: None,
+    }
+}
+
+impl<C: Keeps> Arcs<C> {
+    // Begins to read the key whose bucket and shard the party has just taken, and gives all back. It answers what was known of the key
+    // before. Where memory is refused there is no event.
+    pub(crate) fn miss_taken(
+        &self,
+        party: &mut Party<C>,
+        both: Both,
+        key: Key,
+        tick: u64,
+    ) -> Result<Option<EntryView>, NoMemory>
+        requires party { IsPartyOf self.now party.old }
+        requires taken { IsTaken (meanings C.holds C.entries C.opening C.claims C.sound) self.now.config key both party.old }
+        requires others { (j : ℕ) → IsAmong j party.old.held → IsBucket self.now.config j → j ≡ bucket_turn self.now.config key }
+        requires formed { IsTrue (is_well_formed key) }
+        requires missing { IsTrue (is_missing key both.shard.now) }
+        ensures found { IfOk result (λ found. found ≡ option_map view_of (entry_of key both.shard.now)) }
+        ensures ok { OnOk result (MakesRoomy (meanings C.holds C.entries C.opening C.claims C.sound) self.now.config key both.shard (Event.Miss party.old.number key tick) party.old party.new) }
+        ensures err { OnErr result (Makes (meanings C.holds C.entries C.opening C.claims C.sound) self.now.config key both.shard [] party.old party.new) }
+    {
+        let n = party.number();
+        let found = both.shard.entry(key);
+        let event = Event::Miss { n, key, t: tick };
+        let mut scan = match self.begin_scan(party, both, &event) {
+            Ok(scan) => scan,
+            Err(both) => {
+                self.give_both(party, key, both);
+                return Err(NoMemory);
+            }
+        };
+        scan.both.shard.miss(n, key, tick);
+        let header = reading_header(&scan.both.shard, key);
+        put_header(&mut scan.both.hand.own.bucket, header);
+        self.end_scan(party, scan);
+        Ok(found)
     }
 }

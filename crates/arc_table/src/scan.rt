@@ -4,7 +4,6 @@ ghost use Rattle.blk_ptr.specs.declared.key.Key.{Key};
 ghost use Rattle.blk_ptr.specs.Order.{key_eq};
 ghost use Rattle.arc_lists.specs.Sequences.{stands_on};
 ghost use Rattle.arc_core.specs.declared.event.Event.{Event};
-ghost use Rattle.arc_core.specs.Naming.{takes_room};
 ghost use Rattle.arc_core.specs.Owed.{room_for};
 ghost use Rattle.arc_core.specs.PlainShard.{entry_of};
 ghost use Rattle.arc_core.specs.ShardLog.{AreAllNamed, IsUnnamed};
@@ -15,6 +14,7 @@ ghost use Rattle.arc_table.specs.Evicting.{HasBothRoom, HasScanRoom, HasScanned,
 ghost use Rattle.arc_table.specs.Fronts.{item_at};
 ghost use Rattle.arc_table.specs.InHand.{buckets_of};
 ghost use Rattle.arc_table.specs.Items.{meanings};
+ghost use Rattle.arc_table.specs.Scanning.{takes_room};
 ghost use Rattle.arc_table.specs.declared.view.Known.{Known};
 
 use crate::arcs::{Arcs, Party};

@@ -1,0 +1,96 @@
+use Rattle.std.proofs.Common.{◌≡◌, ◌<◌, Some, None, true, ℕ, List, [], ◌∷◌, IsTrue, refl, sym, ap, ◌∙◌, subst}
+use Rattle.std.specs.Prelude.{IsSome}
+use Rattle.arc_core.specs.declared.entry.Entry.{Entry}
+use Rattle.arc_core.specs.declared.event.Event.{Event}
+use Rattle.arc_core.specs.declared.event.Event.TheVariants.{Miss}
+use Rattle.arc_core.specs.PlainShard.{entry_of}
+use Rattle.arc_core.specs.ShardLog.{ShardLog}
+use Rattle.arc_core.specs.Step.{legal}
+use Rattle.turn_table.specs.Places.{Place}
+use Rattle.arc_table.specs.declared.both.Both.{Both}
+use Rattle.arc_table.specs.declared.scan.Scan.{Scan}
+use Rattle.arc_table.specs.declared.view.Known.{Known}
+use Rattle.hash_chain.specs.Chain.{IsWith}
+use Rattle.hash_chain.specs.declared.header.Header.{Header}
+use Rattle.arc_table.specs.Cache.{IsPartyOf}
+use Rattle.arc_table.specs.Ending.{MakesRoomy}
+use Rattle.arc_table.specs.InHand.{made_since}
+use Rattle.arc_table.specs.Making.{IsMade}
+use Rattle.arc_table.specs.Items.{Meanings, meanings}
+use Rattle.arc_table.proofs.MissEvents.{makes_roomy, may_taken, miss_legal, miss_made, miss_there, none_makes, none_roomier, scanned_party, scanned_replayed}
+use Rattle.arc_table.proofs.arcs.Arcs.miss_taken.Goals as goal
+
+pub begin_scan-requires-clause-may : goal.begin_scan-requires-clause-may
+begin_scan-requires-clause-may g c =
+    let m : Meanings g.row.C.Denot = meanings g.C.Keeps.holds g.C.Keeps.entries g.C.Keeps.opening g.C.Keeps.claims g.C.Keeps.sound in
+    may_taken m c.args.self.now.config c.args.key c.args.both c.args.party.now c.requires.taken c.requires.party.config c.requires.taken.kind.valid c.requires.others
+
+pub begin_scan-requires-clause-new : goal.begin_scan-requires-clause-new
+begin_scan-requires-clause-new g c = c.requires.taken.new
+
+pub begin_scan-requires-clause-alone : goal.begin_scan-requires-clause-alone
+begin_scan-requires-clause-alone g c = c.requires.taken.kind.alone
+
+pub begin_scan-requires-clause-legal : goal.begin_scan-requires-clause-legal
+begin_scan-requires-clause-legal g c =
+    let m : Meanings g.row.C.Denot = meanings g.C.Keeps.holds g.C.Keeps.entries g.C.Keeps.opening g.C.Keeps.claims g.C.Keeps.sound in
+    miss_legal m c.args.self.now.config c.args.key c.args.both c.args.party.now c.requires.taken c.requires.party.config c.requires.taken.kind.valid c.number-n.result c.args.tick c.number-n.ensures c.requires.formed c.requires.missing
+
+pub miss-requires-clause-legal : goal.miss-requires-clause-legal
+miss-requires-clause-legal g c = c.in-Ok.ensures.ok.legal
+
+pub give_both-requires-clause-made : goal.give_both-requires-clause-made
+give_both-requires-clause-made g c =
+    let m : Meanings g.row.C.Denot = meanings g.C.Keeps.holds g.C.Keeps.entries g.C.Keeps.opening g.C.Keeps.claims g.C.Keeps.sound in
+    let e = c.in-Err.ensures.err in
+    subst (λ (q : Place (Known g.row.C.Denot)). IsMade m c.args.self.now.config c.args.key (made_since c.in-Err.both.hand.before.value c.in-Err.both.shard) c.in-Err.both q) (sym e.2)
+    (none_roomier m c.args.self.now.config c.args.key c.args.both c.args.party.now c.requires.taken c.requires.party.config c.requires.taken.kind.valid c.in-Err.both e.0 e.1)
+
+pub give_both-requires-clause-party : goal.give_both-requires-clause-party
+give_both-requires-clause-party g c = subst (IsPartyOf c.args.self.now) (sym c.in-Err.ensures.err.2) c.requires.party
+
+pub returns-in-Err-clause-err : goal.returns-in-Err-clause-err
+returns-in-Err-clause-err g c =
+    let m : Meanings g.row.C.Denot = meanings g.C.Keeps.holds g.C.Keeps.entries g.C.Keeps.opening g.C.Keeps.claims g.C.Keeps.sound in
+    let e = c.in-Err.ensures.err in
+    none_makes m c.args.self.now.config c.args.key c.args.both c.in-Err.both c.args.party.now c.begin_scan.new.party c.give_both.new.party e.0 c.requires.taken.new e.2 c.give_both.ensures
+
+pub reading_header-header-requires : goal.reading_header-header-requires
+reading_header-header-requires g c =
+    let h = c.in-Ok.ensures.ok in
+    miss_there c.number-n.result c.args.tick c.args.key c.in-Ok.scan.both.shard c.miss.new.self h.scan.replayed h.legal c.miss.ensures.makes
+
+pub end_scan-requires-clause-party : goal.end_scan-requires-clause-party
+end_scan-requires-clause-party g c =
+    let m : Meanings g.row.C.Denot = meanings g.C.Keeps.holds g.C.Keeps.entries g.C.Keeps.opening g.C.Keeps.claims g.C.Keeps.sound in
+    scanned_party m c.args.self.now.config c.args.both (Miss c.number-n.result c.args.key c.args.tick) c.args.self.now c.args.party.now c.begin_scan.new.party c.in-Ok.scan c.in-Ok.ensures.ok c.requires.party
+
+pub end_scan-requires-clause-made : goal.end_scan-requires-clause-made
+end_scan-requires-clause-made g c =
+    let m : Meanings g.row.C.Denot = meanings g.C.Keeps.holds g.C.Keeps.entries g.C.Keeps.opening g.C.Keeps.claims g.C.Keeps.sound in
+    let h = c.in-Ok.ensures.ok in
+    let s : Scan = c.in-Ok.scan in
+    let s' : Scan = record {
+      both = record { hand = record { own = record { turn = s.both.hand.own.turn; bucket = c.put_header.new.bucket }; victims = s.both.hand.victims; before = s.both.hand.before }; turn = s.both.turn; shard = c.miss.new.self };
+      marked = s.marked;
+    } in
+    let x = c.reading_header-header.ensures in
+    let with : IsWith c.args.key (Some (record { key = c.args.key; state = x.0.state; reading = true; place = x.0.place; digest = x.0.digest; block = None })) s.both.hand.own.bucket.headers c.put_header.new.bucket.headers =
+        subst (λ (y : Header). IsWith y.key (Some y) s.both.hand.own.bucket.headers c.put_header.new.bucket.headers) x.2 c.put_header.ensures in
+    (Miss c.number-n.result c.args.key c.args.tick, h.passes, c.args.party.now, s.both.shard, s.both.hand.own.bucket,
+    miss_made m c.args.self.now.config c.args.key c.args.both c.args.party.now c.begin_scan.new.party c.number-n.result c.args.tick s s' h c.requires.taken.kind.turn c.requires.taken.kind.own c.number-n.ensures
+    c.miss.ensures.makes refl refl refl refl refl x.0 x.1 with)
+
+pub returns-clause-ok : goal.returns-clause-ok
+returns-clause-ok g c =
+    let m : Meanings g.row.C.Denot = meanings g.C.Keeps.holds g.C.Keeps.entries g.C.Keeps.opening g.C.Keeps.claims g.C.Keeps.sound in
+    let h = c.in-Ok.ensures.ok in
+    let s : Scan = c.in-Ok.scan in
+    let s' : Scan = record {
+      both = record { hand = record { own = record { turn = s.both.hand.own.turn; bucket = c.put_header.new.bucket }; victims = s.both.hand.victims; before = s.both.hand.before }; turn = s.both.turn; shard = c.miss.new.self };
+      marked = s.marked;
+    } in
+    let e : Event = Miss c.number-n.result c.args.key c.args.tick in
+    let made = makes_roomy m c.args.self.now.config c.args.key c.args.both c.args.party.now c.begin_scan.new.party c.end_scan.new.party c.requires.taken.kind.turn c.requires.taken.kind.own c.requires.taken.new
+        e s s' h (scanned_replayed m c.args.self.now.config c.args.both e c.args.party.now c.begin_scan.new.party s h c.requires.taken.new) c.miss.ensures.makes refl refl refl refl c.end_scan.ensures in
+    subst (λ (n : ℕ). MakesRoomy m c.args.self.now.config c.args.key c.args.both.shard (Miss n c.args.key c.args.tick) c.args.party.now c.end_scan.new.party) c.number-n.ensures made
