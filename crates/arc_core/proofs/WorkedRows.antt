@@ -1,15 +1,17 @@
 -- Worked traces, computed from the definitions alone: the ends of a shard after a history.
-use Rattle.std.proofs.Common.{◌≡◌, ℕ, ◌*◌, true, false, List, [], ◌∷◌, ◌++◌, None, refl}
+use Rattle.std.proofs.Common.{◌≡◌, ℕ, ◌*◌, true, false, List, [], ◌∷◌, ◌++◌, None, Some, refl}
 use Rattle.blk_ptr.specs.declared.key.Key.{Key}
 use Rattle.blk_ptr.specs.declared.digest.Digest.{Digest}
 use Rattle.blk_ptr.specs.declared.state.State.TheVariants.{Anon, Mru, MruGhost, Mfu, MfuGhost, L2Only}
 use Rattle.arc_core.specs.declared.entry.Phase.TheVariants.{Idle}
 use Rattle.arc_core.specs.declared.event.Event.{Event}
-use Rattle.arc_core.specs.declared.event.Event.TheVariants.{Pass, Hit, Miss, Arrive, Fail, Drop, Hand, Insert, Release, Pick, FeedEnd, Set, Clear, Restore}
+use Rattle.arc_core.specs.declared.event.Event.TheVariants.{Pass, Hit, Miss, Arrive, Fail, Drop, Past, Hand, Insert, Release, Pick, FeedEnd, Set, Leave, Clear, Restore, Resize}
 use Rattle.arc_core.specs.declared.event.Origin.TheVariants as origin
 use Rattle.arc_core.specs.declared.event.FailedAt.TheVariants as failed
+use Rattle.arc_core.specs.declared.event.Why.TheVariants as why
 use Rattle.arc_core.specs.PlainShard.{PlainShard, opening_shard, size_in}
 use Rattle.arc_core.specs.Replay.{replay, is_legal_history}
+use Rattle.arc_core.specs.Sparing.{next_victim, victims}
 
 -- the target and the six sizes
 abbrev ends : PlainShard → List ℕ
@@ -95,3 +97,37 @@ empty_feed = (refl, refl)
 restored : (is_legal_history (shard 0) (Restore 1 (block 512 0) 4096 None ∷ (Clear 1 (block 512 0) ∷ [])) ≡ true)
     × (is_legal_history (shard 0) (Restore 1 (block 512 0) 4096 None ∷ (Clear 1 (block 512 0) ∷ (Clear 1 (block 512 0) ∷ []))) ≡ false)
 restored = (refl, refl)
+
+abbrev five : List Event
+five = fetch (block 1024 0) 1 ++ fetch (block 1024 1) 2 ++ fetch (block 1024 2) 3 ++ fetch (block 1024 3) 4 ++ fetch (block 1024 4) 5
+
+abbrev wide : PlainShard
+wide = opening_shard 8192 0 (record { write_max = 8388608; headroom = 2 })
+
+-- a capacity that shrinks evicts a block, and the target goes no higher than it may
+shrinks : HasEnds wide (five ++ fetch (block 1024 5) 6 ++ Resize 1 4096 ∷ []) (3840 ∷ (0 ∷ (4096 ∷ (0 ∷ (0 ∷ (0 ∷ (0 ∷ [])))))))
+shrinks = (refl, refl)
+
+-- and one that grows evicts nothing more
+grows : HasEnds (shard 0) (five ++ Resize 1 8192 ∷ fetch (block 1024 5) 6) (2048 ∷ (0 ∷ (5120 ∷ (1024 ∷ (0 ∷ (0 ∷ (0 ∷ [])))))))
+grows = (refl, refl)
+
+-- bytes of another digest are read past the cache
+past : HasEnds (shard 0) (fetch (block 512 0) 1 ++ Past 1 (block 512 0) zeros ∷ []) (2048 ∷ (0 ∷ (512 ∷ (0 ∷ (0 ∷ (0 ∷ (0 ∷ [])))))))
+past = (refl, refl)
+
+-- a picked block that the device fails to take leaves the picked list, and the feed has ended
+left : (is_legal_history (shard 0) (fetch (block 512 0) 1 ++ Pick 1 (block 512 0) ∷ (FeedEnd 1 ∷ (Leave 1 (block 512 0) why.Device ∷ []))) ≡ true)
+    × ((replay (shard 0) (fetch (block 512 0) 1 ++ Pick 1 (block 512 0) ∷ (FeedEnd 1 ∷ (Leave 1 (block 512 0) why.Device ∷ [])))).phase ≡ Idle)
+left = (refl, refl)
+
+-- a block of half of the capacity takes the two oldest ones of a quarter, and then the ghost that there was is above its bound
+victims_of_a_half : victims (replay (shard 0) five) (Miss 0 (block 2048 9) 6) ≡ block 1024 1 ∷ (block 1024 2 ∷ (block 1024 0 ∷ []))
+victims_of_a_half = refl
+
+-- where the first is marked, the second is named; where all are, none
+second_victim : next_victim (replay (shard 0) five) (block 1024 1 ∷ []) (Miss 0 (block 2048 9) 6) ≡ Some (block 1024 2)
+second_victim = refl
+
+no_victim : next_victim (replay (shard 0) five) (block 1024 0 ∷ (block 1024 1 ∷ (block 1024 2 ∷ []))) (Miss 0 (block 2048 9) 6) ≡ None
+no_victim = refl

@@ -18,6 +18,8 @@ const STATES: [State; 6] = [
     State::L2Only,
 ];
 
+const DIGEST: Digest = Digest([0; 32]);
+
 // The i-th of blocks of one size, one after the other.
 fn block(size: u64, i: u64) -> Key {
     Key {
@@ -27,114 +29,9 @@ fn block(size: u64, i: u64) -> Key {
     }
 }
 
-// Reads a block for caller 0: a hit where its bytes are cached, else a miss that the pool serves.
-fn read(shard: &mut Shard, key: Key, t: u64) -> Result<(), NoMemory> {
-    let digest = Digest([0; 32]);
-    shard.reserve(3, 1)?;
-    if shard.legal(&Event::Hit { n: 0, key, t }) {
-        shard.hit(0, key, t);
-    } else if shard.legal(&Event::Miss { n: 0, key, t }) {
-        shard.miss(0, key, t);
-        let from = Origin::Pool;
-        if shard.legal(&Event::Arrive {
-            n: 0,
-            key,
-            digest,
-            from,
-        }) {
-            shard.arrive(0, key, digest, from);
-        }
-    }
-    if shard.legal(&Event::Drop { n: 0, key }) {
-        shard.drop_one(0, key);
-    }
-    Ok(())
-}
-
 // The target, and the sizes in the order of the states.
 fn ends(shard: &Shard) -> (u64, [u128; 6]) {
     (shard.p(), STATES.map(|state| shard.size(state)))
-}
-
-#[test]
-fn five_quarters_and_the_first_again(rt: HostRuntime) -> Result<(), Fail> {
-    let mut shard = Shard::new(rt.alloc(), 4096, 0, BOUNDS);
-    for (t, i) in [(1, 0), (2, 1), (3, 2), (4, 3), (5, 4), (6, 0)] {
-        read(&mut shard, block(1024, i), t)?;
-    }
-    assert_eq!(rt; ends(&shard), (3072, [0, 3072, 1024, 1024, 0, 0]));
-    assert_eq!(rt; shard.history().len(), 18);
-    assert_eq!(rt; shard.c(), 4096);
-    Ok(())
-}
-
-#[test]
-fn three_halves_and_the_first_again(rt: HostRuntime) -> Result<(), Fail> {
-    let mut shard = Shard::new(rt.alloc(), 4096, 0, BOUNDS);
-    for (t, i) in [(1, 0), (2, 0), (3, 1), (4, 2), (5, 0)] {
-        read(&mut shard, block(2048, i), t)?;
-    }
-    assert_eq!(rt; ends(&shard), (256, [0, 2048, 2048, 2048, 0, 0]));
-    Ok(())
-}
-
-#[test]
-fn a_second_read_makes_it_mfu_after_the_least_time(rt: HostRuntime) -> Result<(), Fail> {
-    let mut shard = Shard::new(rt.alloc(), 4096, 10, BOUNDS);
-    let key = block(512, 0);
-    read(&mut shard, key, 5)?;
-    read(&mut shard, key, 15)?;
-    let early = shard.entry(key).expect(&rt, "it is there");
-    assert_eq!(rt; (early.state, early.last, early.held), (State::Mru, 5, 0));
-    read(&mut shard, key, 16)?;
-    let late = shard.entry(key).expect(&rt, "it is there");
-    assert_eq!(rt; (late.state, late.last, late.held), (State::Mfu, 16, 0));
-    assert_eq!(rt; shard.entry(block(512, 1)), None);
-    Ok(())
-}
-
-#[test]
-fn a_failed_read_leaves_nothing(rt: HostRuntime) -> Result<(), Fail> {
-    let mut shard = Shard::new(rt.alloc(), 4096, 0, BOUNDS);
-    let key = block(512, 0);
-    shard.reserve(3, 1)?;
-    assert!(rt; shard.legal(&Event::Miss { n: 0, key, t: 1 }));
-    shard.miss(0, key, 1);
-    let reading = shard.entry(key).expect(&rt, "it is there");
-    assert_eq!(rt;
-        (reading.state, reading.reader, reading.held),
-        (State::Anon, Some(0), 1)
-    );
-    let fail = Event::Fail {
-        n: 0,
-        key,
-        at: FailedAt::Pool,
-    };
-    assert!(rt; shard.legal(&fail));
-    shard.fail(0, key, FailedAt::Pool);
-    assert_eq!(rt; shard.entry(key), None);
-    assert_eq!(rt; ends(&shard), (2048, [0; 6]));
-    Ok(())
-}
-
-#[test]
-fn another_digest_goes_past(rt: HostRuntime) -> Result<(), Fail> {
-    let mut shard = Shard::new(rt.alloc(), 4096, 0, BOUNDS);
-    let key = block(512, 0);
-    read(&mut shard, key, 1)?;
-    shard.reserve(1, 0)?;
-    let kept = Digest([0; 32]);
-    assert!(rt;
-        !shard.legal(&Event::Past {
-            n: 0,
-            key,
-            kept: Digest([1; 32])
-        })
-    );
-    assert!(rt; shard.legal(&Event::Past { n: 0, key, kept }));
-    shard.past(0, key, kept);
-    assert_eq!(rt; ends(&shard), (2048, [0, 512, 0, 0, 0, 0]));
-    Ok(())
 }
 
 // Makes an event, where it may come.
@@ -147,52 +44,122 @@ fn make(shard: &mut Shard, event: Event) -> Result<bool, NoMemory> {
     Ok(true)
 }
 
-const DIGEST: Digest = Digest([0; 32]);
+// Makes events as far as they may come, and answers how many came.
+fn make_all(shard: &mut Shard, events: &[Event]) -> Result<usize, NoMemory> {
+    for (i, event) in events.iter().enumerate() {
+        if !make(shard, *event)? {
+            return Ok(i);
+        }
+    }
+    Ok(events.len())
+}
 
-// The events by which caller 0 reads a block that is missing, and gives it back.
-fn fetch(key: Key, t: u64) -> [Event; 3] {
-    [
-        Event::Miss { n: 0, key, t },
-        Event::Arrive {
-            n: 0,
-            key,
-            digest: DIGEST,
-            from: Origin::Pool,
-        },
-        Event::Drop { n: 0, key },
-    ]
+fn miss(key: Key, t: u64) -> Event {
+    Event::Miss { n: 0, key, t }
+}
+
+fn arrive(key: Key) -> Event {
+    Event::Arrive {
+        n: 0,
+        key,
+        digest: DIGEST,
+        from: Origin::Pool,
+    }
+}
+
+// Caller 0 reads a block that is missing, and gives it back.
+fn fetch(shard: &mut Shard, key: Key, t: u64) -> Result<usize, NoMemory> {
+    make_all(
+        shard,
+        &[miss(key, t), arrive(key), Event::Drop { n: 0, key }],
+    )
+}
+
+// Five blocks of a quarter of the smaller capacity, and the first again.
+fn fetch_quarters(shard: &mut Shard) -> Result<(), NoMemory> {
+    for (t, i) in [(1, 0), (2, 1), (3, 2), (4, 3), (5, 4), (6, 0)] {
+        let _made = fetch(shard, block(1024, i), t)?;
+    }
+    Ok(())
+}
+
+#[test]
+fn five_quarters_and_the_first_again(rt: HostRuntime) -> Result<(), Fail> {
+    let mut shard = Shard::new(rt.alloc(), 4096, 0, BOUNDS);
+    fetch_quarters(&mut shard)?;
+    assert_eq!(rt; ends(&shard), (3072, [0, 3072, 1024, 1024, 0, 0]));
+    assert_eq!(rt; (shard.history().len(), shard.c()), (18, 4096));
+    Ok(())
+}
+
+// A block that is being read, and one that is cached.
+#[test]
+fn entries_are_shown(rt: HostRuntime) -> Result<(), Fail> {
+    let mut shard = Shard::new(rt.alloc(), 4096, 0, BOUNDS);
+    let (a, b) = (block(512, 0), block(512, 1));
+    assert_eq!(rt; fetch(&mut shard, a, 1)?, 3);
+    assert_eq!(rt; make_all(&mut shard, &[miss(b, 2)])?, 1);
+    let shown = (
+        shard.entry(b).and_then(|e| e.reader),
+        shard.resident(a),
+        shard.resident(b),
+    );
+    assert_eq!(rt; shown, (Some(0), Some(DIGEST), None));
+    Ok(())
 }
 
 // A capacity that shrinks: a block is evicted, and asking for it again evicts from MFU, since the target is near the capacity.
 #[test]
 fn a_smaller_capacity_evicts(rt: HostRuntime) -> Result<(), Fail> {
     let mut shard = Shard::new(rt.alloc(), 8192, 0, BOUNDS);
-    for (t, i) in [(1, 0), (2, 1), (3, 2), (4, 3), (5, 4), (6, 0)] {
-        read(&mut shard, block(1024, i), t)?;
-    }
+    fetch_quarters(&mut shard)?;
+    let key = block(1024, 0);
+    let hit = Event::Hit { n: 0, key, t: 6 };
+    assert_eq!(rt; make_all(&mut shard, &[hit, Event::Drop { n: 0, key }])?, 2);
     assert!(rt; make(&mut shard, Event::Resize { n: 1, c: 4096 })?);
-    assert_eq!(rt; ends(&shard), (3840, [0, 3072, 1024, 1024, 0, 0]));
-    read(&mut shard, block(1024, 1), 7)?;
+    let before = ends(&shard);
+    assert_eq!(rt; fetch(&mut shard, block(1024, 1), 7)?, 3);
     assert_eq!(rt;
-        (shard.c(), ends(&shard)),
-        (4096, (3840, [0, 3072, 0, 1024, 1024, 0]))
+        (before, ends(&shard)),
+        (
+            (3840, [0, 3072, 1024, 1024, 0, 0]),
+            (3840, [0, 3072, 0, 1024, 1024, 0])
+        )
     );
     Ok(())
 }
 
-// Held blocks stay, however small the capacity becomes.
-#[test]
-fn a_smaller_capacity_spares_what_is_held(rt: HostRuntime) -> Result<(), Fail> {
-    let mut shard = Shard::new(rt.alloc(), 8192, 0, BOUNDS);
-    for i in 0..3 {
-        for event in &fetch(block(2048, i), i)[..2] {
-            assert!(rt; make(&mut shard, *event)?);
-        }
+// Names one victim of an event, and marks it.
+fn name_one(shard: &mut Shard, event: &Event) -> Option<Key> {
+    if !shard.legal(event) {
+        return None;
     }
-    assert!(rt; make(&mut shard, Event::Resize { n: 1, c: 4096 })?);
+    let key = shard.victim(event)?;
+    shard.mark(key);
+    Some(key)
+}
+
+// A block of half of the capacity takes the two oldest of a quarter.
+#[test]
+fn victims_are_named_one_by_one(rt: HostRuntime) -> Result<(), Fail> {
+    let mut shard = Shard::new(rt.alloc(), 4096, 0, BOUNDS);
+    for i in 0..4 {
+        let _made = fetch(&mut shard, block(1024, i), i)?;
+    }
+    let event = miss(block(2048, 9), 5);
+    let named = (
+        name_one(&mut shard, &event),
+        name_one(&mut shard, &event),
+        name_one(&mut shard, &event),
+    );
+    shard.unmark_all();
+    let again = name_one(&mut shard, &event);
     assert_eq!(rt;
-        (shard.c(), ends(&shard)),
-        (4096, (3840, [0, 6144, 0, 0, 0, 0]))
+        (named, again),
+        (
+            (Some(block(1024, 0)), Some(block(1024, 1)), None),
+            Some(block(1024, 0))
+        )
     );
     Ok(())
 }
@@ -211,9 +178,9 @@ fn every_kind_of_event(rt: HostRuntime) -> Result<(), Fail> {
             digest: Some(DIGEST),
         },
         Event::Clear { n: 1, key: lost },
-        fetch(a, 1)[0],
-        fetch(a, 1)[1],
-        fetch(a, 1)[2],
+        miss(a, 1),
+        arrive(a),
+        Event::Drop { n: 0, key: a },
         Event::Pick { n: 1, key: a },
         Event::FeedEnd { n: 1 },
         Event::Set {
@@ -222,8 +189,8 @@ fn every_kind_of_event(rt: HostRuntime) -> Result<(), Fail> {
             place: 4096,
         },
         Event::FeedEnd { n: 1 },
-        fetch(b, 2)[0],
-        fetch(b, 2)[1],
+        miss(b, 2),
+        arrive(b),
         Event::Hand {
             n: 0,
             key: b,
@@ -260,16 +227,14 @@ fn every_kind_of_event(rt: HostRuntime) -> Result<(), Fail> {
             key: b,
             why: Why::Device,
         },
-        fetch(lost, 5)[0],
+        miss(lost, 5),
         Event::Fail {
             n: 0,
             key: lost,
             at: FailedAt::Unread,
         },
     ];
-    for event in events {
-        assert!(rt; make(&mut shard, event)?);
-    }
+    assert_eq!(rt; make_all(&mut shard, &events)?, events.len());
     assert_eq!(rt; shard.history(), events.as_slice());
     assert_eq!(rt; ends(&shard), (2048, [0, 2048, 0, 2048, 0, 0]));
     Ok(())
@@ -280,22 +245,20 @@ fn every_kind_of_event(rt: HostRuntime) -> Result<(), Fail> {
 fn a_feed_passes_and_picks(rt: HostRuntime) -> Result<(), Fail> {
     let mut shard = Shard::new(rt.alloc(), 4096, 0, BOUNDS);
     let (a, b) = (block(512, 0), block(512, 1));
-    read(&mut shard, a, 1)?;
-    read(&mut shard, b, 2)?;
-    assert_eq!(rt; shard.candidate(), Some(a));
-    assert!(rt;
-        make(
-            &mut shard,
-            Event::Pass {
-                n: 1,
-                key: a,
-                owner: 0
-            }
-        )?
-    );
-    assert_eq!(rt; shard.candidate(), Some(b));
+    let _made = (fetch(&mut shard, a, 1)?, fetch(&mut shard, b, 2)?);
+    let first = shard.candidate();
+    let pass = Event::Pass {
+        n: 1,
+        key: a,
+        owner: 0,
+    };
+    assert!(rt; make(&mut shard, pass)?);
+    let second = shard.candidate();
     assert!(rt; make(&mut shard, Event::Pick { n: 1, key: b })?);
-    assert_eq!(rt; shard.candidate(), None);
+    assert_eq!(rt;
+        (first, second, shard.candidate()),
+        (Some(a), Some(b), None)
+    );
     Ok(())
 }
 
@@ -376,9 +339,10 @@ fn a_history_replays(rt: HostRuntime) -> Result<(), Fail> {
     }
     assert!(rt; shard.history().len() > 2000);
     let mut again = Shard::new(rt.alloc(), 8192, 3, BOUNDS);
-    for event in shard.history() {
-        assert!(rt; make(&mut again, *event)?);
-    }
+    assert_eq!(rt;
+        make_all(&mut again, shard.history())?,
+        shard.history().len()
+    );
     assert_eq!(rt; (again.c(), ends(&again)), (shard.c(), ends(&shard)));
     Ok(())
 }
