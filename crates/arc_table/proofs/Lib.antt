@@ -18,6 +18,7 @@ pub mod ScanSteps
 pub mod ScanBegins
 pub mod ScanEnds
 pub mod MissEvents
+pub mod InsertEvents
 pub mod Reached
 pub mod OneEvent
 pub mod HoldEvents

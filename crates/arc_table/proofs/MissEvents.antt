@@ -41,7 +41,7 @@ use Rattle.arc_table.specs.Headed.{IsHead, Says}
 use Rattle.arc_table.specs.InHand.{buckets_of, made_since}
 use Rattle.arc_table.specs.Items.{Meanings}
 use Rattle.arc_table.specs.Making.{IsMade, IsTaken}
-use Rattle.arc_table.specs.Scanning.{ArePasses, IsBucketOf, MayScan, Scans, after_scan, pairs_of}
+use Rattle.arc_table.specs.Scanning.{takes_room, ArePasses, IsBucketOf, MayScan, Scans, after_scan, pairs_of}
 use Rattle.arc_table.specs.ShardGiving.{IsActor, IsGivenShard}
 use Rattle.arc_table.specs.Sparing.{turns_in}
 use Rattle.arc_table.specs.TableLaws.{item_else, item_here, list_else, list_here}
@@ -176,6 +176,35 @@ makes_roomy {C} m g k b q q' r kind own new e s s' h replayed makes turn first v
       gives = subst (λ (x : ℕ × List ℕ × ShardLog × List Event × Place (Known C)). GivesAll m x.0 x.1 x.2 x.3 s'.both.shard x.4 r) (λ z. (turn_is z, turns_are z, was z, made z, place z)) gives;
     }
 
+-- an event of a key whose victims are named is made, and the key has this header, which says what the entry does
+pub event_made : {C : Type 0} (m : Meanings C) (g : Config) (k : Key) (b : Both) (e : Event) (q q' : Place (Known C)) (s s' : Scan) (h : HasScanned m g b e q q' s) → b.turn ≡ shard_turn g k → b.hand.own.turn ≡ bucket_turn g k → IsTrue (takes_room e)
+    → event_key e ≡ Some k → IsActor g q'.number q'.held (shard_turn g k) e → makes_one e s.both.shard s'.both.shard → s'.both.turn ≡ s.both.turn → s'.both.hand.own.turn ≡ s.both.hand.own.turn → s'.both.hand.victims ≡ s.both.hand.victims
+    → s'.both.hand.before ≡ s.both.hand.before → s'.marked ≡ s.marked → (o : Header) → IsHead (entry_of k s'.both.shard.now) (Some o) → IsWith k (Some o) s.both.hand.own.bucket.headers s'.both.hand.own.bucket.headers
+    → HasMade m g e h.passes q q' s.both.shard s.both.hand.own.bucket s'
+event_made {C} m g k b e q q' s s' h kind own takes key actor makes turn first victims before marked o head with =
+    let is_k : (j : Key) → event_key e ≡ Some j → k ≡ j = λ j is. one k j (sym key ∙ is) in
+    let apart : (j : Key) → is_about j e ≡ key_eq j k = λ j. ap (λ (x : Option Key). option_map_or (key_eq j) x false) key in record {
+      may = subst (λ (y : ℕ × ℕ × ShardLog). MayScan g y.0 ((y.1, s.both.hand.own.bucket) ∷ []) y.2 q) (λ z. (sym turn z, sym first z, (sym before z).value)) h.may;
+      scan = subst (λ (y : ℕ × ℕ × ShardLog × List (ℕ × Chain)). Scans m g y.0 ((y.1, s.both.hand.own.bucket) ∷ []) y.2 q q' s.both.shard s.both.shard.marked y.3 h.passes) (λ z. (sym turn z, sym first z, (sym before z).value, pairs_of (sym victims z).items)) h.scan;
+      takes = takes;
+      legal = h.legal;
+      named = h.named;
+      makes = makes;
+      keys = λ j. ap (λ v. Rattle.arc_lists.specs.Sequences.stands_on j v.items) marked ∙ h.room.marked j;
+      actor = subst (λ (i : ℕ). IsActor g q'.number q'.held i e) (sym (turn ∙ (h.turn ∙ kind))) actor;
+      about = λ j is. first ∙ (h.own ∙ (own ∙ ap (bucket_turn g) (is_k j is)));
+      own_header = λ j is. subst (λ (y : Key). IsHead (entry_of y s'.both.shard.now) (header_at y s'.both.hand.own.bucket.headers)) (is_k j is)
+          (subst (IsHead (entry_of k s'.both.shard.now)) (sym (with k ∙ ap (λ (t : Bool). if t then Some o else header_at k s.both.hand.own.bucket.headers) (key_eq-same k))) head);
+      other_headers = λ j far. with j ∙ ap (λ (t : Bool). if t then Some o else header_at j s.both.hand.own.bucket.headers) (key_eq-sym k j ∙ (sym (apart j) ∙ far));
+    }
+  where
+    one : (x y : Key) → ◌≡◌ {A = Option Key} (Some x) (Some y) → x ≡ y
+    one x y r = cc
+
+-- the party's number is the same behind a scan
+pub same_number : {C : Type 0} (m : Meanings C) (g : Config) (b : Both) (e : Event) (q q' : Place (Known C)) (s : Scan) (h : HasScanned m g b e q q' s) → q'.number ≡ q.number
+same_number m g b e q q' s h = scan_number m g s.both.turn ((s.both.hand.own.turn, s.both.hand.own.bucket) ∷ []) s.both.hand.before.value q h.may q' s.both.shard s.both.shard.marked (pairs_of s.both.hand.victims.items) h.passes h.scan
+
 -- the event of a miss, with the header that says that it is being read
 pub miss_made : {C : Type 0} (m : Meanings C) (g : Config) (k : Key) (b : Both) (q q' : Place (Known C)) (n tick : ℕ) (s s' : Scan) (h : HasScanned m g b (Miss n k tick) q q' s) → b.turn ≡ shard_turn g k → b.hand.own.turn ≡ bucket_turn g k → n ≡ q.number
     → makes_one (Miss n k tick) s.both.shard s'.both.shard → s'.both.turn ≡ s.both.turn → s'.both.hand.own.turn ≡ s.both.hand.own.turn → s'.both.hand.victims ≡ s.both.hand.victims → s'.both.hand.before ≡ s.both.hand.before
@@ -184,34 +213,16 @@ pub miss_made : {C : Type 0} (m : Meanings C) (g : Config) (k : Key) (b : Both) 
     → HasMade m g (Miss n k tick) h.passes q q' s.both.shard s.both.hand.own.bucket s'
 miss_made {C} m g k b q q' n tick s s' h kind own number makes turn first victims before marked x there with =
     let e : Event = Miss n k tick in
-    let is_k : (j : Key) → event_key e ≡ Some j → k ≡ j = λ j is. one k j is in
     let entry : x ≡ entry_to_read n k tick (entry_of k s.both.shard.now) = one_entry x (entry_to_read n k tick (entry_of k s.both.shard.now)) (sym there ∙ (ap (entry_of k) makes.now ∙ own-entry s.both.shard.now e k h.scan.replayed.sound h.legal refl)) in
-    record {
-      may = subst (λ (y : ℕ × ℕ × ShardLog). MayScan g y.0 ((y.1, s.both.hand.own.bucket) ∷ []) y.2 q) (λ z. (sym turn z, sym first z, (sym before z).value)) h.may;
-      scan = subst (λ (y : ℕ × ℕ × ShardLog × List (ℕ × Chain)). Scans m g y.0 ((y.1, s.both.hand.own.bucket) ∷ []) y.2 q q' s.both.shard s.both.shard.marked y.3 h.passes) (λ z. (sym turn z, sym first z, (sym before z).value, pairs_of (sym victims z).items)) h.scan;
-      takes = refl;
-      legal = h.legal;
-      named = h.named;
-      makes = makes;
-      keys = λ j. ap (λ v. Rattle.arc_lists.specs.Sequences.stands_on j v.items) marked ∙ h.room.marked j;
-      actor = record {
-        acts = inl (number ∙ sym (scan_number m g s.both.turn ((s.both.hand.own.turn, s.both.hand.own.bucket) ∷ []) s.both.hand.before.value q h.may q' s.both.shard s.both.shard.marked (pairs_of s.both.hand.victims.items) h.passes h.scan));
-        fit = number ∙ sym (scan_number m g s.both.turn ((s.both.hand.own.turn, s.both.hand.own.bucket) ∷ []) s.both.hand.before.value q h.may q' s.both.shard s.both.shard.marked (pairs_of s.both.hand.victims.items) h.passes h.scan);
-        feeder = λ f. absurd (cc);
-        own = λ j is. turn ∙ (h.turn ∙ (kind ∙ ap (shard_turn g) (is_k j is)));
-      };
-      about = λ j is. first ∙ (h.own ∙ (own ∙ ap (bucket_turn g) (is_k j is)));
-      own_header = λ j is. subst (λ (y : Key). IsHead (entry_of y s'.both.shard.now) (header_at y s'.both.hand.own.bucket.headers)) (is_k j is)
-          (subst (λ (y : Option Entry × Option Header). IsHead y.0 y.1) (λ z. (sym there z, sym (with k ∙ ap (λ (t : Bool). if t then Some (reading x) else header_at k s.both.hand.own.bucket.headers) (key_eq-same k)) z)) (reading_says n k tick (entry_of k s.both.shard.now) x entry));
-      other_headers = λ j far. with j ∙ ap (λ (t : Bool). if t then Some (reading x) else header_at j s.both.hand.own.bucket.headers) (key_eq-sym k j ∙ far);
-    }
+    let mine : n ≡ q'.number = number ∙ sym (same_number m g b e q q' s h) in
+    event_made m g k b e q q' s s' h kind own refl refl record { acts = inl mine; fit = mine; feeder = λ f. absurd (cc); own = λ j is. ap (shard_turn g) (one k j is) } makes turn first victims before marked
+    (record { key = k; state = x.state; reading = true; place = x.place; digest = x.digest; block = None })
+    (subst (λ (y : Option Entry). IsHead y (Some (record { key = k; state = x.state; reading = true; place = x.place; digest = x.digest; block = None }))) (sym there) (reading_says n k tick (entry_of k s.both.shard.now) x entry)) with
   where
-    reading : Entry → Header
-    reading y = record { key = k; state = y.state; reading = true; place = y.place; digest = y.digest; block = None }
     one : (x y : Key) → ◌≡◌ {A = Option Key} (Some x) (Some y) → x ≡ y
-    one x y e = cc
+    one x y r = cc
     one_entry : (x y : Entry) → ◌≡◌ {A = Option Entry} (Some x) (Some y) → x ≡ y
-    one_entry x y e = cc
+    one_entry x y r = cc
 
 -- no event was made in the end
 pub none_makes : {C : Type 0} (m : Meanings C) (g : Config) (k : Key) (b back : Both) (q q' r : Place (Known C)) → KeepsBoth b back → b.hand.before.value ≡ b.shard → q' ≡ q

@@ -28,6 +28,11 @@ abbrev pub CountsPool : Unfetched → (before now : ℕ) → Type 0
 CountsPool (unfetched.NoMemory failed.Unread) before now = now ≡ before
 CountsPool _ before now = CountsOne before now
 
+-- a read of a range compares no digest
+abbrev pub IsNoMismatch : Unfetched → Type 0
+IsNoMismatch (unfetched.Mismatch found) = ⊥
+IsNoMismatch _ = Unit {0}
+
 -- The cache device did not serve the pointer, whose bytes it may have at this place, where this is the digest that was known of them: the
 -- range lies outside of it; it failed, by its count of faults before and now; it gave other bytes, which are those that it tells; or the
 -- digest is another, and it was not asked

@@ -28,6 +28,7 @@ pub mod Sparing
 pub mod Evicting
 pub mod Ending
 pub mod Fetching
+pub mod Inserting
 pub mod Holding
 pub mod Both
 pub mod Telling

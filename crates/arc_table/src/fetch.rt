@@ -1,13 +1,13 @@
 //! How the bytes of a block are read, from the cache device or the pool, with no turn held.
-ghost use Rattle.std.specs.Prelude.{◌≡◌, ◌≢◌, ◌⊎◌, ℕ, ◌+◌, ◌≤◌, ◌<◌, vec_len, IfOk, IfErr, IfSome, MatchOption, Some, None, Ok};
+ghost use Rattle.std.specs.Prelude.{◌≡◌, ◌≢◌, ◌⊎◌, ℕ, ◌+◌, ◌≤◌, ◌<◌, vec_len, IfOk, IfErr, IfSome, OnOk, Some, None, Ok, Err};
 ghost use Rattle.blk_ptr.specs.Key.{IsValid};
 ghost use Rattle.blk_ptr.specs.Ptr.{IsOf, range_of};
 ghost use Rattle.vdev_io.specs.Device.{LeavesSame, Stands};
 ghost use Rattle.vdev_io.specs.Faults.{CountsOne, Rose};
-ghost use Rattle.arc_table.specs.Fetching.{CountsPool, FailsPool, HasFetched, ReadsPool, Unserved, WasPoolRead, bytes_from};
+ghost use Rattle.arc_table.specs.Fetching.{CountsPool, FailsPool, HasFetched, IsNoMismatch, ReadsPool, Unserved, WasPoolRead, bytes_from};
 
 use arc_core::{EntryView, FailedAt, Origin};
-use blk_ptr::{Block, Digest, NoMemory, Ptr};
+use blk_ptr::{Block, Digest, Key, NoMemory, Ptr};
 use std::alloc::Global;
 use std::sync::Arc;
 use vdev_io::{CacheDev, Failed, Pool};
@@ -23,30 +23,73 @@ pub(crate) enum Unfetched {
     NoMemory { at: FailedAt },
 }
 
+// Reads the bytes in a key's range from the pool, once.
+fn read_range<P: Pool>(alloc: Global, pool: &mut P, key: Key) -> Result<Vec<u8>, Unfetched>
+    requires { IsValid (P.size pool.old) key }
+    ensures size { IfOk result (λ bytes. vec_len bytes ≡ key.size) }
+    ensures bytes { IfOk result (λ bytes. IfSome (P.told pool.old) (λ image. bytes.items ≡ range_of image key)) }
+    ensures read { OnOk result (CountsOne (P.reads pool.old) (P.reads pool.new)) }
+    ensures err { IfErr result IsNoMismatch }
+    ensures rose { result ≡ Err Unfetched.PoolFault → Rose (P.faults pool.old) (P.faults pool.new) }
+    ensures counted { IfErr result (λ why. CountsPool why (P.reads pool.old) (P.reads pool.new)) }
+    ensures kept { P.faults pool.old ≤ P.faults pool.new }
+    ensures told { P.told pool.new ≡ P.told pool.old }
+    ensures size_kept { P.size pool.new ≡ P.size pool.old }
+{
+    let Ok(mut bytes) = vec![in alloc; 0u8; key.size as usize] else {
+        return Err(Unfetched::NoMemory {
+            at: FailedAt::Unread,
+        });
+    };
+    let Ok(()) = pool.read(key.offset, &mut bytes) else {
+        return Err(Unfetched::PoolFault);
+    };
+    Ok(bytes)
+}
+
 // Reads the block from the pool, once, and compares its digest.
 fn read_pool<P: Pool>(alloc: Global, pool: &mut P, ptr: &Ptr) -> Result<Block, Unfetched>
     requires { IsValid (P.size pool.old) ptr.now.key }
-    ensures ok { IfOk result (λ block. IsOf block ptr.now × IfSome (P.told pool.old) (λ image. block ≡ range_of image ptr.now.key) × CountsOne (P.reads pool.old) (P.reads pool.new)) }
+    ensures of { IfOk result (λ block. IsOf block ptr.now) }
+    ensures bytes { IfOk result (λ block. IfSome (P.told pool.old) (λ image. block ≡ range_of image ptr.now.key)) }
+    ensures read { OnOk result (CountsOne (P.reads pool.old) (P.reads pool.new)) }
     ensures err { IfErr result (FailsPool (P.faults pool.old) (P.faults pool.new) (P.told pool.old) ptr.now) }
     ensures counted { IfErr result (λ why. CountsPool why (P.reads pool.old) (P.reads pool.new)) }
     ensures kept { P.faults pool.old ≤ P.faults pool.new }
     ensures told { P.told pool.new ≡ P.told pool.old }
     ensures size { P.size pool.new ≡ P.size pool.old }
 {
-    let Ok(mut bytes) = vec![in alloc; 0u8; ptr.key.size as usize] else {
-        return Err(Unfetched::NoMemory {
-            at: FailedAt::Unread,
-        });
-    };
-    let Ok(()) = pool.read(ptr.key.offset, &mut bytes) else {
-        return Err(Unfetched::PoolFault);
-    };
-    let block = Block::seal(bytes);
+    let block = Block::seal(read_range(alloc, pool, ptr.key)?);
     let found = block.digest();
     if found != ptr.digest {
         return Err(Unfetched::Mismatch { found });
     }
     Ok(block)
+}
+
+// Reads so many bytes from this place of the cache device, where it doesn't fail.
+fn read_place<D: CacheDev>(
+    alloc: Global,
+    cache: &mut D,
+    place: u64,
+    key: Key,
+) -> Result<Option<Vec<u8>>, NoMemory>
+    requires { place + key.size ≤ D.size cache.old }
+    ensures size { IfOk result (λ answer. IfSome answer (λ bytes. vec_len bytes ≡ key.size)) }
+    ensures bytes { IfOk result (λ answer. IfSome answer (λ bytes. IfSome (D.told cache.old) (λ image. bytes.items ≡ bytes_from image place key))) }
+    ensures none { result ≡ Ok None → Rose (D.faults cache.old) (D.faults cache.new) }
+    ensures kept { D.faults cache.old ≤ D.faults cache.new }
+    ensures told { D.told cache.new ≡ D.told cache.old }
+    ensures size_kept { D.size cache.new ≡ D.size cache.old }
+    ensures kind { D.has_sectors cache.new ≡ D.has_sectors cache.old }
+    ensures crash { LeavesSame (D.may_leave cache.old) (D.may_leave cache.new) }
+    ensures time { Stands (D.moment cache.old) (D.moment cache.new) (D.left_since cache.old) (D.left_since cache.new) }
+{
+    let mut bytes = vec![in alloc; 0u8; key.size as usize]?;
+    let Ok(()) = cache.read(place, &mut bytes) else {
+        return Ok(None);
+    };
+    Ok(Some(bytes))
 }
 
 // Reads the block from this place of the cache device, where the device doesn't fail and has bytes of the pointer there.
@@ -66,8 +109,7 @@ fn read_cache<D: CacheDev>(
     ensures crash { LeavesSame (D.may_leave cache.old) (D.may_leave cache.new) }
     ensures time { Stands (D.moment cache.old) (D.moment cache.new) (D.left_since cache.old) (D.left_since cache.new) }
 {
-    let mut bytes = vec![in alloc; 0u8; ptr.key.size as usize]?;
-    let Ok(()) = cache.read(place, &mut bytes) else {
+    let Some(bytes) = read_place(alloc, cache, place, ptr.key)? else {
         return Ok(None);
     };
     let block = Block::seal(bytes);
