@@ -10,7 +10,7 @@ use Rattle.l2_dev.specs.Chain.{numbers_in}
 use Rattle.l2_dev.specs.Standing.{Candidate, leading, staying}
 use Rattle.l2_dev.specs.Cursor.{CursorState, numbers_from}
 use Rattle.l2_dev.specs.Promise.{Promise, IsKept}
-use Rattle.l2_dev.specs.PromiseLaws.{left_by, HasTaken, IsHeaderFrom}
+use Rattle.l2_dev.specs.PromiseLaws.{left_by, HasTaken, IsHeaderFrom, same_plan}
 use Rattle.l2_dev.specs.Planned.{HasPlanned}
 use Rattle.l2_dev.specs.Steps.{HasFlushed, HeaderWritten}
 use Rattle.l2_dev.specs.Calls.{LeavesWith}
@@ -47,6 +47,9 @@ opened_header mid new header h ring base newest second =
       version = h.version;
     }
 
+planned_numbers : (n : ℕ) (old new : CursorState) (h : HasPlanned n old new) → h.plan ≡ numbers_from new
+planned_numbers n old new h = sym (same_plan (numbers_from new) h.plan h.base h.numbers.evict h.numbers.top h.numbers.lap)
+
 taken_of : (n : ℕ) (old new : CursorState) (h : HasPlanned n old new) → old.base ≡ old.ring.hand → new.ring.lap < last_lap → HasTaken n h.plan old new
 taken_of n old new h at below =
     let lap = h.numbers.lap in
@@ -81,10 +84,10 @@ module _ {D : Type 0} (tells : D → Option (List ℕ)) (has_sectors : D → Boo
   pub begin_failed : {T E : Type 0} (n : ℕ) (old new : D) (cursor after : CursorState) (p : Promise) (header : DevHeader) (result : Result T E) → IsKept tells has_sectors leaves old cursor p → HasPlanned n cursor after
       → cursor.base ≡ cursor.ring.hand → after.ring.lap < last_lap → IsHeaderFrom after header → HeaderWritten tells has_sectors leaves moment since header old new result
       → IsPlain tells has_sectors leaves moment since old header_len → after.ready ≡ false
-      → (plan : Plan) × (k : Candidate) × Left old new after p plan k × IsKept tells has_sectors leaves new after (left_by plan p (k ∷ p.candidates))
+      → (k : Candidate) × Left old new after p (numbers_from after) k × IsKept tells has_sectors leaves new after (left_by (numbers_from after) p (k ∷ p.candidates))
   begin_failed n old new cursor after p header result kept h at below from w plain shut =
-      let b = begins n old new cursor after p header result kept h at below from w plain in (
-        h.plan,
+      let b = begins n old new cursor after p header result kept h at below from w plain in
+      subst (λ (q : Plan). (k : Candidate) × Left old new after p q k × IsKept tells has_sectors leaves new after (left_by q p (k ∷ p.candidates))) (planned_numbers n cursor after h) (
         record { sector = w.sector; blocks = leading h.plan p.blocks; kept = staying h.plan p.kept },
         begun_leaves tells has_sectors leaves moment since n h.plan old new cursor after p header w.sector b,
         begun_failed tells has_sectors leaves moment since n h.plan old new cursor after p header w.sector b shut,
@@ -96,10 +99,10 @@ module _ {D : Type 0} (tells : D → Option (List ℕ)) (has_sectors : D → Boo
   pub begin_kept : {T E : Type 0} (n : ℕ) (old new : D) (cursor after : CursorState) (p : Promise) (header : DevHeader) (result : Result T E) → IsKept tells has_sectors leaves old cursor p → HasPlanned n cursor after
       → cursor.base ≡ cursor.ring.hand → after.ring.lap < last_lap → IsHeaderFrom after header → (w : HeaderWritten tells has_sectors leaves moment since header old new result)
       → IfSome (tells old) (λ image. HasFlushed tells leaves new (put 0 w.sector image)) → IsPlain tells has_sectors leaves moment since old header_len
-      → (plan : Plan) × (k : Candidate) × Left old new after p plan k × IsKept tells has_sectors leaves new after (left_by plan p (k ∷ []))
+      → (k : Candidate) × Left old new after p (numbers_from after) k × IsKept tells has_sectors leaves new after (left_by (numbers_from after) p (k ∷ []))
   begin_kept n old new cursor after p header result kept h at below from w done plain =
-      let b = begins n old new cursor after p header result kept h at below from w plain in (
-        h.plan,
+      let b = begins n old new cursor after p header result kept h at below from w plain in
+      subst (λ (q : Plan). (k : Candidate) × Left old new after p q k × IsKept tells has_sectors leaves new after (left_by q p (k ∷ []))) (planned_numbers n cursor after h) (
         record { sector = w.sector; blocks = leading h.plan p.blocks; kept = staying h.plan p.kept },
         begun_leaves tells has_sectors leaves moment since n h.plan old new cursor after p header w.sector b,
         begun_kept tells has_sectors leaves moment since n h.plan old new cursor after p header w.sector b kept.image kept.told

@@ -355,7 +355,7 @@ module _ {D : Type 0} (tells : D → Option (List ℕ)) (has_sectors : D → Boo
 
   told_if : (bytes : List ℕ) (block : LogBlock) (sector : List ℕ) (header : DevHeader) (mid new : D) (cursor : CursorState) (ptr : LogPtr) (o : Option (List ℕ)) → IsBlockOf cursor bytes ptr block → IsHeader sector header → IsHeaderWith cursor ptr header
       → IfSome o (λ image. HasFlushed tells leaves mid (put cursor.ring.hand bytes image)) → IfSome (tells mid) (λ image. HasFlushed tells leaves new (put 0 sector image)) → HasCommitWritten o (tells new) cursor ptr
-  told_if bytes block sector header mid new cursor ptr None of is with logged done = tt
+  told_if bytes block sector header mid new cursor ptr None of is with logged done = (bytes, block, sector, header, of, is, with, tt)
   told_if bytes block sector header mid new cursor ptr (Some image) of is with logged done =
       let one : List ℕ = put cursor.ring.hand bytes image in
       let flushed = flushed_of tells has_sectors leaves moment since (tells mid) one (λ image. HasFlushed tells leaves new (put 0 sector image)) logged.told done in

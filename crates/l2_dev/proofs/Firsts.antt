@@ -1,18 +1,23 @@
 -- The first entry of each key: by the keys that were met before it, and once more.
-use Rattle.std.proofs.Common.{◌≡◌, List, [], ◌∷◌, ◌++◌, ℕ, ◌+◌, ◌<◌, length, take, get_or, Bool, true, false, not, cond, map, ◌||◌, refl, sym, ap, ◌∙◌, arith}
+use Rattle.std.proofs.Common.{◌≡◌, ◌≢◌, List, [], ◌∷◌, ◌++◌, ℕ, ◌+◌, ◌<◌, length, take, get_or, Bool, true, false, not, cond, map, ◌||◌, refl, sym, ap, subst, ◌∙◌, arith}
 use Rattle.std.proofs.lemmas.Bool.{false≢true}
-use Rattle.std.proofs.lemmas.List.Elements.{filter-append}
-use Rattle.std.specs.List.{AllByRecursion, filter, list_any}
+use Rattle.std.proofs.lemmas.List.Elements.{filter-append, recursion_from_All}
+use Rattle.std.specs.List.{All, AllByRecursion, filter, list_any}
+use Rattle.blk_ptr.specs.Key.{IsWellFormed}
+use Rattle.l2_ring.specs.declared.plan.Plan.{Plan}
+use Rattle.arc_core.specs.declared.served.Restored.{Restored}
+use Rattle.l2_dev.specs.Rebuilding.{HaveKeys}
+use Rattle.l2_dev.specs.Walking.{IsFit}
 use Rattle.std.specs.BTreeMap.{is_at}
 use Rattle.std.specs.BTreeSet.{BTreeSet, contains}
 use Rattle.std.proofs.lemmas.Bool.Decides.{nat_tests}
 use Rattle.std.proofs.lemmas.List.{append-nil, take_more}
 use Rattle.blk_ptr.specs.Order.{key_eq, key_cmp}
 use Rattle.blk_ptr.specs.declared.key.Key.{Key}
-use Rattle.blk_ptr.proofs.Keys.{key_eq-is}
+use Rattle.blk_ptr.proofs.Keys.{key_eq-is, key_eq-same}
 use Rattle.l2_ring.specs.declared.live.Written.{Written}
 use Rattle.l2_ring.specs.Ranges.{IsInOrder, IsOlder, range_of}
-use Rattle.l2_dev.specs.Restoring.{firsts, is_same_key}
+use Rattle.l2_dev.specs.Restoring.{firsts, is_same_key, restored_of}
 use Rattle.l2_dev.specs.ListLaws.{filter_yes, filter_no, filter_whole, filter_swap, filter_all, all_passes, all_weaker, all_map, all_unmap, firsts_all}
 
 -- whether one of the entries has the key
@@ -141,3 +146,37 @@ firsts_ordered (x ∷ xs) ordered =
           (filter_all (λ (y : Written). IsOlder (range_of x) (range_of y)) p (firsts xs) (firsts_all (λ (y : Written). IsOlder (range_of x) (range_of y)) xs (all_unmap (IsOlder (range_of x)) range_of xs ordered.0))),
       ordered_filter p (firsts xs) (firsts_ordered xs ordered.1),
     )
+
+has_keys_if : (p : Written → Bool) (x : Written) (xs : List Written) (b : Bool) → IsWellFormed x.live.key → AllByRecursion (λ (s : Restored). s.key ≢ x.live.key) (map restored_of (filter p xs))
+    → HaveKeys (map restored_of (filter p xs)) → HaveKeys (map restored_of (cond b (x ∷ filter p xs) (filter p xs)))
+has_keys_if p x xs true formed apart rest = (formed, apart, rest)
+has_keys_if p x xs false formed apart rest = rest
+
+keys_filter : (p : Written → Bool) (xs : List Written) → HaveKeys (map restored_of xs) → HaveKeys (map restored_of (filter p xs))
+keys_filter p [] keys = tt
+keys_filter p (x ∷ xs) keys =
+    has_keys_if p x xs (p x) keys.0
+    (all_map (λ (s : Restored). s.key ≢ x.live.key) restored_of (filter p xs)
+    (filter_all (λ (y : Written). y.live.key ≢ x.live.key) p xs (all_unmap (λ (s : Restored). s.key ≢ x.live.key) restored_of xs keys.1)))
+    (keys_filter p xs keys.2)
+
+apart_if : (x y : Written) (b : Bool) → is_same_key y x ≡ b → not b ≡ true → y.live.key ≢ x.live.key
+apart_if x y true e other same = false≢true other
+apart_if x y false e other same = false≢true (sym e ∙ ap (λ (k : Key). key_eq k x.live.key) same ∙ key_eq-same x.live.key)
+
+-- no two of the first entries have one key
+pub firsts_keys : (xs : List Written) → AllByRecursion (λ (w : Written). IsWellFormed w.live.key) xs → HaveKeys (map restored_of (firsts xs))
+firsts_keys [] formed = tt
+firsts_keys (x ∷ xs) formed =
+    let p : Written → Bool = λ y. not (is_same_key y x) in (
+      formed.0,
+      all_map (λ (s : Restored). s.key ≢ x.live.key) restored_of (filter p (firsts xs))
+          (all_weaker (λ (y : Written). p y ≡ true) (λ (y : Written). y.live.key ≢ x.live.key) (filter p (firsts xs)) (λ y other. apart_if x y (is_same_key y x) refl other) (all_passes p (firsts xs))),
+      keys_filter p (firsts xs) (firsts_keys xs formed.1),
+    )
+
+-- the same of what was found, by a list that is equal
+pub restored_keys : (plan : Plan) (found : List Written) (restored : List Restored) → restored ≡ map restored_of (firsts found) → All (IsFit plan) found → HaveKeys restored
+restored_keys plan found restored is fit =
+    subst (λ (rs : List Restored). HaveKeys rs) (sym is)
+    (firsts_keys found (all_weaker (IsFit plan) (λ (w : Written). IsWellFormed w.live.key) found (λ w f. f.formed) (recursion_from_All (IsFit plan) found fit)))

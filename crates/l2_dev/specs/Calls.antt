@@ -13,10 +13,9 @@ use Rattle.l2_dev.specs.PromiseLaws.{left_by, with_block}
 use Rattle.blk_ptr.specs.Ptr.{sha256_of}
 use Rattle.l2_log.specs.HeaderBytes.{IsHeader}
 use Rattle.l2_log.specs.declared.header.DevHeader.{DevHeader}
-use Rattle.l2_ring.specs.declared.plan.Plan.{Plan}
 use Rattle.l2_dev.specs.Chain.{Visit}
 use Rattle.l2_dev.specs.Standing.{Candidate, Kept, IsNamed, leading, staying}
-use Rattle.l2_dev.specs.Cursor.{CursorState}
+use Rattle.l2_dev.specs.Cursor.{CursorState, numbers_from}
 use Rattle.l2_dev.specs.Promise.{Promise, IsOf, AreGood, IsKept, LeftAmong, LeavesOnlyWith}
 
 -- a header with a list and entries: each crash since the old device leaves it or one of those before it, and each of these
@@ -42,8 +41,9 @@ abbrev pub BeginKeeps : {D : Type 0} → (D → Option (List ℕ)) → (D → Bo
     → D → D → CursorState → CursorState → Promise → Result (Unit {0}) DevErr → Type 0
 BeginKeeps tells has_sectors leaves moment since old new cursor after p result =
     IsErrOf result NoMemory
-    ⊎ ((plan : Plan) × (k : Candidate) × LeavesWith moment since after.ring.end old new p (leading plan p.blocks) (staying plan p.kept) (staying plan p.kept) k
-    × MatchResult result (λ _. IsKept tells has_sectors leaves new after (left_by plan p (k ∷ []))) (λ _. IsKept tells has_sectors leaves new after (left_by plan p (k ∷ p.candidates))))
+    ⊎ ((k : Candidate) × LeavesWith moment since after.ring.end old new p (leading (numbers_from after) p.blocks) (staying (numbers_from after) p.kept) (staying (numbers_from after) p.kept) k
+    × MatchResult result (λ _. IsKept tells has_sectors leaves new after (left_by (numbers_from after) p (k ∷ [])))
+    (λ _. IsKept tells has_sectors leaves new after (left_by (numbers_from after) p (k ∷ p.candidates))))
 
 -- the entry of a put, with the block's bytes
 abbrev pub put_entry : Key → ℕ → List ℕ → ℕ → Kept
@@ -87,8 +87,9 @@ LogWritten tells has_sectors leaves moment since cursor old new result =
     ⊎ ((bytes : List ℕ) × (block : LogBlock) × (ptr : LogPtr) × IsBlockOf cursor bytes ptr block × Wrote tells has_sectors leaves moment since cursor.ring.hand bytes old new
     × MatchResult result (λ told. (told ≡ ptr) × IfSome (tells old) (λ image. HasFlushed tells leaves new (put cursor.ring.hand bytes image))) (λ _. Unit {0}))
 
--- where the device tells its image: the log block of the pending entries stands behind their blocks, the header with it in the first sector, and all else is
--- as before
+-- the pointer names the log block of the pending entries; where the device tells its image, that log block stands behind their blocks, the header that names
+-- it in the first sector, and all else is as before
 abbrev pub HasCommitWritten : Option (List ℕ) → Option (List ℕ) → CursorState → LogPtr → Type 0
-HasCommitWritten before now cursor ptr = IfSome before (λ image. (bytes : List ℕ) × (block : LogBlock) × (sector : List ℕ) × (header : DevHeader)
-    × IsBlockOf cursor bytes ptr block × IsHeader sector header × IsHeaderWith cursor ptr header × (now ≡ Some (put 0 sector (put cursor.ring.hand bytes image))))
+HasCommitWritten before now cursor ptr = (bytes : List ℕ) × (block : LogBlock) × (sector : List ℕ) × (header : DevHeader)
+    × IsBlockOf cursor bytes ptr block × IsHeader sector header × IsHeaderWith cursor ptr header
+    × IfSome before (λ image. now ≡ Some (put 0 sector (put cursor.ring.hand bytes image)))

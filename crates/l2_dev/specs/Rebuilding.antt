@@ -1,6 +1,8 @@
 -- Where a device is written after a start, and what was restored there.
-use Rattle.std.specs.Prelude.{◌≡◌, ℕ, ◌*◌, ◌/◌, ◌⊎◌, List, [], map, reverse, false, None}
+use Rattle.std.specs.Prelude.{◌≡◌, ◌≢◌, ◌∷◌, ℕ, ◌*◌, ◌/◌, ◌⊎◌, List, [], map, reverse, false, None}
+use Rattle.std.specs.List.{AllByRecursion}
 use Rattle.blk_ptr.specs.Size.{sector}
+use Rattle.blk_ptr.specs.Key.{IsWellFormed}
 use Rattle.l2_log.specs.Rules.{ring_start}
 use Rattle.l2_log.specs.declared.header.DevHeader.{DevHeader}
 use Rattle.l2_ring.specs.declared.live.Written.{Written}
@@ -14,6 +16,11 @@ use Rattle.l2_dev.specs.Cursor.{CursorState}
 -- where the ring of a device of this many bytes ends: at its last whole sector
 abbrev pub ring_end_of : ℕ → ℕ
 ring_end_of size = size / sector * sector
+
+-- no two of the restored entries have one key, and each key is one of a block
+abbrev pub HaveKeys : List Restored → Type 0
+HaveKeys [] = Unit {0}
+HaveKeys (r ∷ rs) = IsWellFormed r.key × AllByRecursion (λ (s : Restored). s.key ≢ r.key) rs × HaveKeys rs
 
 -- nothing is pending and no plan was taken, and the restored entries are the ring's live ones, whose newest stands last
 pub record IsOpened (end : ℕ) (cursor : CursorState) (restored : List Restored) : Type 0 where

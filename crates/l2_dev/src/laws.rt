@@ -5,5 +5,5 @@ use vdev_io::CacheDev;
 /// A law of a device that is lent: what was promised of its crashes stays promised where it was only read, forked and given
 /// forks back.
 pub fn reads_keep_promises<D: CacheDev>()
-    ensures { ReadsKeepPromises D.size D.told D.has_sectors D.may_leave D.moment D.left_since D.faults }
+    ensures { ReadsKeepPromises D.told D.has_sectors D.may_leave }
 {}

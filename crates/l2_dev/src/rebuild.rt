@@ -7,7 +7,7 @@ ghost use Rattle.l2_ring.specs.Ring.{IsSameRing, numbers_of};
 ghost use Rattle.l2_dev.specs.Chain.{numbers_in};
 ghost use Rattle.l2_dev.specs.Restoring.{IsHeaderOf, IsUnread, first_sector, firsts, restored_of};
 ghost use Rattle.l2_dev.specs.Reading.{OnlyRead};
-ghost use Rattle.l2_dev.specs.Rebuilding.{IsBuilt, IsOpened, IsFresh, IsStarted};
+ghost use Rattle.l2_dev.specs.Rebuilding.{HaveKeys, IsBuilt, IsOpened, IsFresh, IsStarted};
 ghost use Rattle.l2_dev.specs.Walking.{IsFit};
 ghost use Rattle.l2_dev.specs.declared.stop.Stop.TheVariants as why;
 
@@ -114,6 +114,7 @@ fn bare(alloc: Global, end: u64, stop: Stop) -> Rebuilt
 fn along(alloc: Global, header: &DevHeader, walked: Walked) -> Result<Rebuilt, NoMemory>
     requires { All (IsFit (numbers_in header.now)) walked.found.items }
     ensures opened { IfOk result (λ r. IsOpened header.now.end r.cursor r.restored.items) }
+    ensures keys { IfOk result (λ r. HaveKeys r.restored.items) }
     ensures built { IfOk result (λ r. IsBuilt header.now walked.found.items r.cursor r.restored.items × (r.stop ≡ walked.stop)) }
 {
     let Walked { found, stop } = walked;
@@ -138,6 +139,7 @@ pub(crate) fn rebuild<D: CacheDev>(
     requires ends { IsRingEnd end }
     requires inside { end ≤ D.size dev.old }
     ensures opened { IfOk result (λ r. IsOpened end r.cursor r.restored.items) }
+    ensures keys { IfOk result (λ r. HaveKeys r.restored.items) }
     ensures started { IfOk result (λ r. (image : List ℕ) → D.told dev.old ≡ Some image → IsStarted end image r.cursor r.restored.items r.stop) }
     ensures read { OnlyRead D.size D.told D.has_sectors D.may_leave D.moment D.left_since D.faults dev.old dev.new }
     ensures cause { IfOk result (λ r. r.stop ≡ why.DevFault → Rose (D.faults dev.old) (D.faults dev.new)) }

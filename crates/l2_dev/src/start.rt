@@ -37,7 +37,7 @@ pub enum Started<D: CacheDev> {
 impl<D: CacheDev> L2Dev<D> {
     ghost use Rattle.l2_dev.specs.Reading.{OnlyRead};
     ghost use Rattle.l2_dev.specs.Restoring.{IsRebuilt};
-    ghost use Rattle.l2_dev.specs.Rebuilding.{IsOpened, IsStarted, ring_end_of};
+    ghost use Rattle.l2_dev.specs.Rebuilding.{HaveKeys, IsOpened, IsStarted, ring_end_of};
     ghost use Rattle.l2_dev.specs.Starting.{OnReady, OnShort, OnRefused, IsShort, StartKeeps};
 
     /// Reads the header and walks along the chain of log blocks, each of which is read once. Nothing is written. A header that
@@ -48,6 +48,7 @@ impl<D: CacheDev> L2Dev<D> {
         ensures refused { OnRefused result (λ d. OnlyRead D.size D.told D.has_sectors D.may_leave D.moment D.left_since D.faults dev d) }
         ensures read { OnReady result (λ l2 restored stop. OnlyRead D.size D.told D.has_sectors D.may_leave D.moment D.left_since D.faults dev l2.dev) }
         ensures opened { OnReady result (λ l2 restored stop. IsOpened (ring_end_of (D.size dev)) l2.cursor restored) }
+        ensures keys { OnReady result (λ l2 restored stop. HaveKeys restored) }
         ensures started { OnReady result (λ l2 restored stop. (image : List ℕ) → D.told dev ≡ Some image → IsStarted (ring_end_of (D.size dev)) image l2.cursor restored stop) }
         ensures rebuilt { OnReady result (λ l2 restored stop. (image : List ℕ) → D.told dev ≡ Some image → IsRebuilt (ring_end_of (D.size dev)) image restored stop) }
         ensures cause { OnReady result (λ l2 restored stop. stop ≡ why.DevFault → Rose (D.faults dev) (D.faults l2.dev)) }
