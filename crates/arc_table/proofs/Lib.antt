@@ -27,3 +27,4 @@ pub mod Standings
 pub mod HitEvents
 pub mod FollowEvents
 pub mod FeedEvents
+pub mod Afterwards

@@ -1,9 +1,9 @@
 // Each call once, with ample memory, over cells that keep nothing.
 ghost use Rattle.std.specs.Prelude.{◌≡◌, []};
 
-use crate::{Arcs, Look};
-use arc_core::{Bounds, Config, Keeps};
-use blk_ptr::Key;
+use crate::{Arcs, Cleared, Front, Look, TryHit};
+use arc_core::{Bounds, Config, Keeps, Restored};
+use blk_ptr::{Digest, Key, Ptr};
 use std::test::Fail;
 
 // A cell that keeps nothing.
@@ -75,5 +75,48 @@ fn a_new_cache_is_closed_without_events(rt: HostRuntime) -> Result<(), Fail> {
             .iter()
             .all(|shard| shard.history().is_empty())
     );
+    Ok(())
+}
+
+#[test]
+fn a_block_that_was_never_read_is_not_here(rt: HostRuntime) -> Result<(), Fail> {
+    let cells = vec![in rt.alloc(); Plain]?;
+    let made = Arcs::new(rt.alloc(), &SMALL, cells);
+    let (arcs, mut parties) = made.ok().ok_or("memory")?;
+    let mut one = parties.pop().ok_or("one")?;
+    let ptr = Ptr {
+        key: A,
+        digest: Digest([0; 32]),
+    };
+    let TryHit::NotHere(front) = arcs.try_hit(&mut one, &ptr, 1) else {
+        panic!(rt; "the cache is empty")
+    };
+    assert!(rt; front == Front { shard: 0, len: 0 });
+    Ok(())
+}
+
+#[test]
+fn a_key_is_restored(rt: HostRuntime) -> Result<(), Fail> {
+    let cells = vec![in rt.alloc(); Plain]?;
+    let made = Arcs::new(rt.alloc(), &SMALL, cells);
+    let (arcs, mut parties) = made.ok().ok_or("memory")?;
+    let mut feeder = parties.pop().ok_or("feeder")?;
+    let list = [Restored {
+        key: A,
+        place: 8192,
+        digest: None,
+    }];
+    assert!(rt; arcs.restore(&rt, &mut feeder, &list).is_ok());
+    Ok(())
+}
+
+#[test]
+fn a_key_that_is_not_there_has_no_place(rt: HostRuntime) -> Result<(), Fail> {
+    let cells = vec![in rt.alloc(); Plain]?;
+    let made = Arcs::new(rt.alloc(), &SMALL, cells);
+    let (arcs, mut parties) = made.ok().ok_or("memory")?;
+    let mut feeder = parties.pop().ok_or("feeder")?;
+    let none = arcs.clear(&rt, &mut feeder, A, 8192).ok();
+    assert!(rt; none == Some(Cleared::Not(Front { shard: 0, len: 0 })));
     Ok(())
 }
