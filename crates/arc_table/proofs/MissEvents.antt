@@ -41,7 +41,7 @@ use Rattle.arc_table.specs.Headed.{IsHead, Says}
 use Rattle.arc_table.specs.InHand.{buckets_of, made_since}
 use Rattle.arc_table.specs.Items.{Meanings}
 use Rattle.arc_table.specs.Making.{IsMade, IsTaken}
-use Rattle.arc_table.specs.Scanning.{takes_room, ArePasses, IsBucketOf, MayScan, Scans, after_scan, pairs_of}
+use Rattle.arc_table.specs.Scanning.{takes_room, AllPairs, ArePasses, IsBucketOf, MayScan, Scans, after_scan, pairs_of}
 use Rattle.arc_table.specs.ShardGiving.{IsActor, IsGivenShard}
 use Rattle.arc_table.specs.Sparing.{turns_in}
 use Rattle.arc_table.specs.TableLaws.{item_else, item_here, list_else, list_here}
@@ -168,6 +168,7 @@ makes_roomy {C} m g k b q q' r kind own new e s s' h replayed makes turn first v
       won = pairs_of s.both.hand.victims.items;
       passes = h.passes;
       after = s'.both.shard;
+      buckets = all_ranges (pairs_of s.both.hand.victims.items) h.scan.buckets;
       own = subst (λ (i : ℕ). ArePasses g q.number i h.passes) (h.turn ∙ kind) h.scan.passes;
       legal = subst (λ (x : PlainShard). is_legal_history x es ≡ true) (replayed.replayed)
           (suffix_legal b.shard.opening b.shard.history es (subst (λ (x : PlainShard × List Event). is_legal_history x.0 x.1 ≡ true) (λ z. (opening z, history z)) last.legal));
@@ -175,6 +176,10 @@ makes_roomy {C} m g k b q q' r kind own new e s s' h replayed makes turn first v
       history = history;
       gives = subst (λ (x : ℕ × List ℕ × ShardLog × List Event × Place (Known C)). GivesAll m x.0 x.1 x.2 x.3 s'.both.shard x.4 r) (λ z. (turn_is z, turns_are z, was z, made z, place z)) gives;
     }
+  where
+    all_ranges : (vs : List (ℕ × Chain)) → AllPairs (IsBucketOf g s.both.turn s.both.hand.before.value.now) vs → AllPairs (λ j b. IsBucket g j) vs
+    all_ranges [] all = tt
+    all_ranges (v ∷ vs) all = (all.0.range, all_ranges vs all.1)
 
 -- an event of a key whose victims are named is made, and the key has this header, which says what the entry does
 pub event_made : {C : Type 0} (m : Meanings C) (g : Config) (k : Key) (b : Both) (e : Event) (q q' : Place (Known C)) (s s' : Scan) (h : HasScanned m g b e q q' s) → b.turn ≡ shard_turn g k → b.hand.own.turn ≡ bucket_turn g k → IsTrue (takes_room e)
