@@ -28,3 +28,4 @@ pub mod Standings
 pub mod HitEvents
 pub mod FollowEvents
 pub mod FeedEvents
+pub mod Afterwards

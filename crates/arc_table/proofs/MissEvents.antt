@@ -82,12 +82,15 @@ module _ {C : Type 0} (m : Meanings C) (g : Config) (k : Key) (b : Both) (q : Pl
           ),
           tt,
         );
-        buckets = (record {
-          range = bucket_range g k valid;
-          shard = λ j is. same_shard g k j valid (sym is);
-          heads = λ j is. heads m g k b.hand.own.bucket b.shard t.from q t.takes from_config valid j is;
-          own = λ j h there. own_headers m g k b.hand.own.bucket b.shard t.from q t.takes from_config valid j h there;
-        }, tt);
+        buckets = (
+          record {
+            range = bucket_range g k valid;
+            shard = λ j is. same_shard g k j valid (sym is);
+            heads = λ j is. heads m g k b.hand.own.bucket b.shard t.from q t.takes from_config valid j is;
+            own = λ j h there. own_headers m g k b.hand.own.bucket b.shard t.from q t.takes from_config valid j h there;
+          },
+          tt,
+        );
         fresh = fresh m g k b.hand.own.bucket b.shard t.from q t.takes from_config valid;
       }
     where
@@ -161,9 +164,9 @@ makes_roomy {C} m g k b q q' r kind own new e s s' h replayed makes turn first v
     let made : made_since s'.both.hand.before.value s'.both.shard ≡ es = made_is s'.both.hand.before.value s'.both.shard es (history ∙ ap (λ (l : ShardLog). l.history ++ es) (sym was)) in
     let turn_is : s'.both.turn ≡ shard_turn g k = turn ∙ (h.turn ∙ kind) in
     let turns_are : turns_in (buckets_of s'.both.hand) ≡ bucket_turn g k ∷ turns_in (pairs_of s.both.hand.victims.items) =
-        (λ z. (first ∙ (h.own ∙ own)) z ∷ turns_in (pairs_of (victims z).items)) in
+    (λ z. (first ∙ (h.own ∙ own)) z ∷ turns_in (pairs_of (victims z).items)) in
     let place : q' ≡ after_scan m g (shard_turn g k) (length b.shard.history) (pairs_of s.both.hand.victims.items) h.passes q =
-        h.scan.place ∙ (λ z. after_scan m g ((h.turn ∙ kind) z) (length (was_then z).history) (pairs_of s.both.hand.victims.items) h.passes q) in
+    h.scan.place ∙ (λ z. after_scan m g ((h.turn ∙ kind) z) (length (was_then z).history) (pairs_of s.both.hand.victims.items) h.passes q) in
     record {
       won = pairs_of s.both.hand.victims.items;
       passes = h.passes;
@@ -226,6 +229,7 @@ miss_made {C} m g k b q q' n tick s s' h kind own number makes turn first victim
   where
     one : (x y : Key) → ◌≡◌ {A = Option Key} (Some x) (Some y) → x ≡ y
     one x y r = cc
+
     one_entry : (x y : Entry) → ◌≡◌ {A = Option Entry} (Some x) (Some y) → x ≡ y
     one_entry x y r = cc
 

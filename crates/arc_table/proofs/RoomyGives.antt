@@ -74,20 +74,21 @@ inserted_listed {C} m g k before d t i q r x valid same in_range among recorded 
     let there : item_at i q'.own.records ≡ Some x = won_records m made.won q.own i far ∙ recorded in
     let hs : List Ptr = list_at i q'.own.listed in
     let list : list_at i r.own.listed ≡ record { key = k; digest = d } ∷ hs =
-        ap (λ (y : Place (Known C)). list_at i y.own.listed) made.gives.gave
-        ∙ (ap (list_at i) (gave_listed given z)
-        ∙ (listed_at q'.own.about.config before.now es i q'.own.records x q'.own.listed q'.own.listed there
-        ∙ (ap (λ (c : Config). listed_after c before.now es i hs) config
-        ∙ (ap (λ (b : Bool). if b then holds_through (cell_number g i) before.now es hs else hs) (below i g.cells in_range)
-        ∙ through_passes g q.number (shard_turn g k) (cell_number g i) 0 t k d before.now made.passes hs made.own)))) in
+    ap (λ (y : Place (Known C)). list_at i y.own.listed) made.gives.gave
+    ∙ (ap (list_at i) (gave_listed given z)
+    ∙ (listed_at q'.own.about.config before.now es i q'.own.records x q'.own.listed q'.own.listed there
+    ∙ (ap (λ (c : Config). listed_after c before.now es i hs) config
+    ∙ (ap (λ (b : Bool). if b then holds_through (cell_number g i) before.now es hs else hs) (below i g.cells in_range)
+    ∙ through_passes g q.number (shard_turn g k) (cell_number g i) 0 t k d before.now made.passes hs made.own)))) in
     let shard = (shard_range g k valid).0 in
     let apart : (y : ℕ) → IsAmong y (turns_in given) → i ≢ y = λ y h. not_bucket y (subst (IsAmong y) made.gives.same h) in
     let held : IsAmong i r.held = subst (λ (y : Place (Known C)). IsAmong i y.held) (sym made.gives.gave)
-        (gave_held given z i apart (among_without (shard_turn g k) i q'.held (λ is. let b = in_range in omega arith) (added_among made.won q.held i among))) in
+    (gave_held given z i apart (among_without (shard_turn g k) i q'.held (λ is. let b = in_range in omega arith) (added_among made.won q.held i among))) in
     cell i refl in_range held (0, ap (λ (l : List Ptr). get_elem? l 0) list)
   where
     below : (x y : ℕ) → x < y → nat_lt x y ≡ true
     below x y h = grind (arith, nat_tests)
+
     not_bucket : (y : ℕ) → IsAmong y (bucket_turn g k ∷ turns_in made.won) → i ≢ y
     not_bucket y (inl is) far = let a = (bucket_range g k valid).0 in let b = in_range in omega arith
     not_bucket y (inr h) far = let a = (among_turns g y made.won made.buckets h).0 in let b = in_range in omega arith

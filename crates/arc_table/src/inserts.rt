@@ -12,7 +12,6 @@ ghost use Rattle.arc_table.specs.Cache.{IsPartyOf};
 ghost use Rattle.arc_table.specs.Ending.{MakesRoomy};
 ghost use Rattle.arc_table.specs.Geometry.{IsBucket, IsCell, bucket_turn};
 ghost use Rattle.arc_table.specs.Handing.{IsCellInHand};
-
 ghost use Rattle.arc_table.specs.Inserting.{AnswersInsert};
 ghost use Rattle.arc_table.specs.Items.{meanings};
 ghost use Rattle.arc_table.specs.Looking.{HasNoLook};

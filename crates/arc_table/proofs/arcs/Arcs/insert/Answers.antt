@@ -59,7 +59,7 @@ returns-clause-ok g c =
     let owner : c.self.inside.config.callers + 1 + i ≡ cell_number config i = ap (λ (x : Cache). x.config.callers + 1 + i) c.self.view_is in
     let bytes : sha256_of c.in-Ok.shared.value ≡ sha256_of c.args.block.value = ap sha256_of c.in-Ok.ensures in
     let made : MakesRoomy m config k b.result.shard (Insert (cell_number config i) k (sha256_of c.args.block.value) c.args.tick) q r =
-        subst (λ (x : ℕ × Digest). MakesRoomy m config k b.result.shard (Insert x.0 k x.1 c.args.tick) q r) (λ z. (owner z, bytes z)) c.in_ok-insert_taken.ensures.ok in
+    subst (λ (x : ℕ × Digest). MakesRoomy m config k b.result.shard (Insert x.0 k x.1 c.args.tick) q r) (λ z. (owner z, bytes z)) c.in_ok-insert_taken.ensures.ok in
     let reach = reached m config k b.result.hand.own.bucket b.result.shard c.args.party.now q b.ensures.takes in
     let among : IsAmong i q.held = subst (IsAmong i) (sym reach.held) (inr (inr c.requires.cell.1)) in
     let there = cell_recorded m config k b.result.hand.own.bucket b.result.shard c.args.party.now q b.ensures.takes c.requires.party.config valid i c.requires.cell.1 c.requires.cell.0 in (
