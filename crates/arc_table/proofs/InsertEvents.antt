@@ -57,8 +57,10 @@ insert_made {C} m g k b q q' n tick d s s' h kind own cell makes turn first vict
   where
     one : (x y : Key) → ◌≡◌ {A = Option Key} (Some x) (Some y) → x ≡ y
     one x y r = cc
+
     one_entry : (x y : Entry) → ◌≡◌ {A = Option Entry} (Some x) (Some y) → x ≡ y
     one_entry x y r = cc
+
     says : (o : Header) (y : Entry) → y ≡ written_entry n k d tick → o.state ≡ y.state → o.reading ≡ false → o.place ≡ y.place → o.digest ≡ y.digest
         → MatchOption o.block ⊥ (λ c. (sha256_of c.value ≡ d) × (length c.value ≡ k.size)) → Says y o
     says o y is state reading place digest block = record {

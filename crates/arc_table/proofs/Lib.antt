@@ -19,6 +19,7 @@ pub mod ScanBegins
 pub mod ScanEnds
 pub mod MissEvents
 pub mod InsertEvents
+pub mod RoomyGives
 pub mod Reached
 pub mod OneEvent
 pub mod HoldEvents

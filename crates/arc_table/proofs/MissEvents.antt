@@ -41,7 +41,7 @@ use Rattle.arc_table.specs.Headed.{IsHead, Says}
 use Rattle.arc_table.specs.InHand.{buckets_of, made_since}
 use Rattle.arc_table.specs.Items.{Meanings}
 use Rattle.arc_table.specs.Making.{IsMade, IsTaken}
-use Rattle.arc_table.specs.Scanning.{takes_room, ArePasses, IsBucketOf, MayScan, Scans, after_scan, pairs_of}
+use Rattle.arc_table.specs.Scanning.{takes_room, AllPairs, ArePasses, IsBucketOf, MayScan, Scans, after_scan, pairs_of}
 use Rattle.arc_table.specs.ShardGiving.{IsActor, IsGivenShard}
 use Rattle.arc_table.specs.Sparing.{turns_in}
 use Rattle.arc_table.specs.TableLaws.{item_else, item_here, list_else, list_here}
@@ -82,12 +82,15 @@ module _ {C : Type 0} (m : Meanings C) (g : Config) (k : Key) (b : Both) (q : Pl
           ),
           tt,
         );
-        buckets = (record {
-          range = bucket_range g k valid;
-          shard = λ j is. same_shard g k j valid (sym is);
-          heads = λ j is. heads m g k b.hand.own.bucket b.shard t.from q t.takes from_config valid j is;
-          own = λ j h there. own_headers m g k b.hand.own.bucket b.shard t.from q t.takes from_config valid j h there;
-        }, tt);
+        buckets = (
+          record {
+            range = bucket_range g k valid;
+            shard = λ j is. same_shard g k j valid (sym is);
+            heads = λ j is. heads m g k b.hand.own.bucket b.shard t.from q t.takes from_config valid j is;
+            own = λ j h there. own_headers m g k b.hand.own.bucket b.shard t.from q t.takes from_config valid j h there;
+          },
+          tt,
+        );
         fresh = fresh m g k b.hand.own.bucket b.shard t.from q t.takes from_config valid;
       }
     where
@@ -161,13 +164,14 @@ makes_roomy {C} m g k b q q' r kind own new e s s' h replayed makes turn first v
     let made : made_since s'.both.hand.before.value s'.both.shard ≡ es = made_is s'.both.hand.before.value s'.both.shard es (history ∙ ap (λ (l : ShardLog). l.history ++ es) (sym was)) in
     let turn_is : s'.both.turn ≡ shard_turn g k = turn ∙ (h.turn ∙ kind) in
     let turns_are : turns_in (buckets_of s'.both.hand) ≡ bucket_turn g k ∷ turns_in (pairs_of s.both.hand.victims.items) =
-        (λ z. (first ∙ (h.own ∙ own)) z ∷ turns_in (pairs_of (victims z).items)) in
+    (λ z. (first ∙ (h.own ∙ own)) z ∷ turns_in (pairs_of (victims z).items)) in
     let place : q' ≡ after_scan m g (shard_turn g k) (length b.shard.history) (pairs_of s.both.hand.victims.items) h.passes q =
-        h.scan.place ∙ (λ z. after_scan m g ((h.turn ∙ kind) z) (length (was_then z).history) (pairs_of s.both.hand.victims.items) h.passes q) in
+    h.scan.place ∙ (λ z. after_scan m g ((h.turn ∙ kind) z) (length (was_then z).history) (pairs_of s.both.hand.victims.items) h.passes q) in
     record {
       won = pairs_of s.both.hand.victims.items;
       passes = h.passes;
       after = s'.both.shard;
+      buckets = all_ranges (pairs_of s.both.hand.victims.items) h.scan.buckets;
       own = subst (λ (i : ℕ). ArePasses g q.number i h.passes) (h.turn ∙ kind) h.scan.passes;
       legal = subst (λ (x : PlainShard). is_legal_history x es ≡ true) (replayed.replayed)
           (suffix_legal b.shard.opening b.shard.history es (subst (λ (x : PlainShard × List Event). is_legal_history x.0 x.1 ≡ true) (λ z. (opening z, history z)) last.legal));
@@ -175,6 +179,10 @@ makes_roomy {C} m g k b q q' r kind own new e s s' h replayed makes turn first v
       history = history;
       gives = subst (λ (x : ℕ × List ℕ × ShardLog × List Event × Place (Known C)). GivesAll m x.0 x.1 x.2 x.3 s'.both.shard x.4 r) (λ z. (turn_is z, turns_are z, was z, made z, place z)) gives;
     }
+  where
+    all_ranges : (vs : List (ℕ × Chain)) → AllPairs (IsBucketOf g s.both.turn s.both.hand.before.value.now) vs → AllPairs (λ j b. IsBucket g j) vs
+    all_ranges [] all = tt
+    all_ranges (v ∷ vs) all = (all.0.range, all_ranges vs all.1)
 
 -- an event of a key whose victims are named is made, and the key has this header, which says what the entry does
 pub event_made : {C : Type 0} (m : Meanings C) (g : Config) (k : Key) (b : Both) (e : Event) (q q' : Place (Known C)) (s s' : Scan) (h : HasScanned m g b e q q' s) → b.turn ≡ shard_turn g k → b.hand.own.turn ≡ bucket_turn g k → IsTrue (takes_room e)
@@ -221,6 +229,7 @@ miss_made {C} m g k b q q' n tick s s' h kind own number makes turn first victim
   where
     one : (x y : Key) → ◌≡◌ {A = Option Key} (Some x) (Some y) → x ≡ y
     one x y r = cc
+
     one_entry : (x y : Entry) → ◌≡◌ {A = Option Entry} (Some x) (Some y) → x ≡ y
     one_entry x y r = cc
 

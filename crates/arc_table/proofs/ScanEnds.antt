@@ -89,6 +89,7 @@ module _ {C : Type 0} (m : Meanings C) (g : Config) (e : Event) (passes : List E
           ⊎ IsHead (entry_of k s.both.shard.now) (header_at k s.both.hand.own.bucket.headers)
       by_about k is true t = inr (h.own_header k (about_is k (event_key e) t))
       by_about k is false t = other k (header_at k s.both.hand.own.bucket.headers) t (subst (IsHead (entry_of k s.both.hand.before.value.now)) (sym (h.other_headers k t)) (h.may.buckets.0.heads k is))
+
       own_by : (k : Key) (x : Header) (t : Bool) → is_about k e ≡ t → header_at k s.both.hand.own.bucket.headers ≡ Some x → s.both.hand.own.turn ≡ bucket_turn g k
       own_by k x true t there = h.about k (about_is k (event_key e) t)
       own_by k x false t there = h.may.buckets.0.own k x (sym (h.other_headers k t) ∙ there)
@@ -137,6 +138,7 @@ module _ {C : Type 0} (m : Meanings C) (g : Config) (e : Event) (passes : List E
       where
         first : (a b : ℕ) (xs ys : List ℕ) → (a ∷ xs) ≡ (b ∷ ys) → a ≡ b
         first a b xs ys r = cc
+
         rest : (a b : ℕ) (xs ys : List ℕ) → (a ∷ xs) ≡ (b ∷ ys) → xs ≡ ys
         rest a b xs ys r = cc
 
@@ -168,15 +170,16 @@ module _ {C : Type 0} (m : Meanings C) (g : Config) (e : Event) (passes : List E
         by_test : (t : Bool) → IsSome (item_at x w.records) → IsSome (if t then Some (item.Bucket b) else item_at x w.records)
         by_test true r = refl
         by_test false r = r
+
         by_list : (t : Bool) → list_at x w.listed ≡ [] → (if t then [] else list_at x w.listed) ≡ []
         by_list true r = refl
         by_list false r = r
 
     known_here : (w : Known C) (j : ℕ) (b : Chain) → IsKnownBucket (after_won m j (item.Bucket b) w) j
     known_here w j b = (
-        subst (λ (t : Bool). IsSome (if t then Some (item.Bucket b) else item_at j w.records)) (sym (eq-eqb j j refl)) refl,
-        subst (λ (t : Bool). (if t then [] else list_at j w.listed) ≡ []) (sym (eq-eqb j j refl)) refl,
-      )
+      subst (λ (t : Bool). IsSome (if t then Some (item.Bucket b) else item_at j w.records)) (sym (eq-eqb j j refl)) refl,
+      subst (λ (t : Bool). (if t then [] else list_at j w.listed) ≡ []) (sym (eq-eqb j j refl)) refl,
+    )
 
     won_kept : (vs : List (ℕ × Chain)) (w : Known C) (x : ℕ) → IsKnownBucket w x → IsKnownBucket (won_all m vs w) x
     won_kept [] w x k = k
@@ -192,10 +195,13 @@ module _ {C : Type 0} (m : Meanings C) (g : Config) (e : Event) (passes : List E
         none_or_some : (o : Option Chain) → (o ≡ None) ⊎ IsSome o
         none_or_some None = inl refl
         none_or_some (Some x) = inr refl
+
         vs : List (ℕ × Chain)
         vs = pairs_of s.both.hand.victims.items
+
         in_all : (x : Chain) × (item_at j (((s.both.hand.own.turn, chain) ∷ []) ++ pairs_of s.both.hand.victims.items) ≡ Some x)
         in_all = some_is (item_at j (((s.both.hand.own.turn, chain) ∷ []) ++ pairs_of s.both.hand.victims.items)) (same_some j (buckets_of hand) (((s.both.hand.own.turn, chain) ∷ []) ++ pairs_of s.both.hand.victims.items) b turns there)
+
         by_place : (item_at j ((s.both.hand.own.turn, chain) ∷ []) ≡ None) ⊎ IsSome (item_at j ((s.both.hand.own.turn, chain) ∷ [])) → IsKnownBucket (won_all m (pairs_of s.both.hand.victims.items) p.own) j
         by_place (inl none) = pair_at (λ x c. IsKnownBucket (won_all m (pairs_of s.both.hand.victims.items) p.own) x) (pairs_of s.both.hand.victims.items) j in_all.0 (won_known (pairs_of s.both.hand.victims.items) p.own)
             (sym (item_past j ((s.both.hand.own.turn, chain) ∷ []) (pairs_of s.both.hand.victims.items) none) ∙ in_all.1)
@@ -235,6 +241,7 @@ module _ {C : Type 0} (m : Meanings C) (g : Config) (e : Event) (passes : List E
       where
         dite_turn : (j : ℕ) → (j ≡ v.0) ⊎ (j ≢ v.0)
         dite_turn j = dite (ℕ_discrete j v.0) (λ r. inl r) (λ r. inr r)
+
         past : (j : ℕ) (b : Chain) → item_at j vs ≡ Some b → (j ≡ v.0) ⊎ (j ≢ v.0) → item_at j (v ∷ vs) ≡ Some b
         past j b there (inl is) = absurd (none-some b (sym apart.0 ∙ (ap (λ (x : ℕ). item_at x vs) (sym is) ∙ there)))
         past j b there (inr far) = subst (λ (t : Bool). (if t then Some v.1 else item_at j vs) ≡ Some b) (sym (ne_eqb j v.0 far)) there

@@ -78,7 +78,7 @@ passes_noted g n i len front (Pass a k owner ∷ es) e h last =
     let x : Note = note (bucket_turn g k) owner (Some (i, len)) in (
       get_behind front x (notes_of g i len es),
       subst (λ (y : ℕ × List Note). ArePassesNoted g i len y.0 y.1 (es ++ e ∷ [])) (λ z. (length_more front x z, append_assoc front (x ∷ []) (notes_of g i len es) z))
-      (passes_noted g n i len (front ++ x ∷ []) es e h.1 last),
+          (passes_noted g n i len (front ++ x ∷ []) es e h.1 last),
     )
 passes_noted g n i len front (_ ∷ es) e h last = absurd h
 
@@ -121,8 +121,10 @@ same_none j (x ∷ xs) (y ∷ ys) e none = by_test (same_none j xs ys (tails (x.
   where
     heads : (a b : ℕ) (xs ys : List ℕ) → (a ∷ xs) ≡ (b ∷ ys) → a ≡ b
     heads a b xs ys q = cc
+
     tails : (a b : ℕ) (xs ys : List ℕ) → (a ∷ xs) ≡ (b ∷ ys) → xs ≡ ys
     tails a b xs ys q = cc
+
     by_test : (item_at j xs ≡ None → item_at j ys ≡ None) → (t : Bool) → t ≡ (j == y.0) → (if t then Some x.1 else item_at j xs) ≡ None → (if (j == y.0) then Some y.1 else item_at j ys) ≡ None
     by_test ih true same f = absurd (none-some x.1 (sym f))
     by_test ih false same f = subst (λ (b : Bool). (if b then Some y.1 else item_at j ys) ≡ None) same (ih f)
@@ -141,12 +143,13 @@ pub apart_turns : (xs ys : List (ℕ × Chain)) → turns_in xs ≡ turns_in ys 
 apart_turns [] ys e apart = tt
 apart_turns (x ∷ xs) [] e apart = absurd (cc)
 apart_turns (x ∷ xs) (y ∷ ys) e apart = (
-    subst (λ (j : ℕ). item_at j xs ≡ None) (sym (heads x.0 y.0 (turns_in xs) (turns_in ys) e)) (same_none y.0 ys xs (sym (tails x.0 y.0 (turns_in xs) (turns_in ys) e)) apart.0),
-    apart_turns xs ys (tails x.0 y.0 (turns_in xs) (turns_in ys) e) apart.1,
-  )
+  subst (λ (j : ℕ). item_at j xs ≡ None) (sym (heads x.0 y.0 (turns_in xs) (turns_in ys) e)) (same_none y.0 ys xs (sym (tails x.0 y.0 (turns_in xs) (turns_in ys) e)) apart.0),
+  apart_turns xs ys (tails x.0 y.0 (turns_in xs) (turns_in ys) e) apart.1,
+)
   where
     heads : (a b : ℕ) (xs ys : List ℕ) → (a ∷ xs) ≡ (b ∷ ys) → a ≡ b
     heads a b xs ys q = cc
+
     tails : (a b : ℕ) (xs ys : List ℕ) → (a ∷ xs) ≡ (b ∷ ys) → xs ≡ ys
     tails a b xs ys q = cc
 
@@ -193,7 +196,7 @@ module _ {C : Type 0} (m : Meanings C) (g : Config) (i : ℕ) (first : List (ℕ
   in_hand : (j : ℕ) (b : Chain) → item_at j hand ≡ Some b → IsAmong j q.held
   in_hand j b there = ⊎_elim
       (λ (f : item_at j first ≡ None).
-          let x = some_is (item_at j (first ++ vs)) (same_some j hand (first ++ vs) b turns there) in held_won j x.0 (sym (item_past j first vs f) ∙ x.1))
+      let x = some_is (item_at j (first ++ vs)) (same_some j hand (first ++ vs) b turns there) in held_won j x.0 (sym (item_past j first vs f) ∙ x.1))
       (λ (f : IsSome (item_at j first)). let x = some_is (item_at j first) f in held_first j x.0 x.1)
       (none_or_some (item_at j first))
 

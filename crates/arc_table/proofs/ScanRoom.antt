@@ -87,6 +87,7 @@ fewer_marked s s' marked marked' k x same more there unmarked unpassed =
     covers e h = both (not (stands_on e.key marked)) (not (is_passed s e.key))
         (not_or (key_eq k e.key) (stands_on e.key marked) (ap not (sym (more e.key)) ∙ and_left (not (stands_on e.key marked')) (not (is_passed s e.key)) h))
         (and_right (not (stands_on e.key marked')) (not (is_passed s e.key)) h)
+
     at : (e : Entry) → key_eq e.key k ≡ true → (is_open s marked e ≡ true) × (is_open s marked' e ≡ false)
     at e is = subst (λ (z : Key). ((not (stands_on z marked) && not (is_passed s z)) ≡ true) × ((not (stands_on z marked') && not (is_passed s z)) ≡ false)) (sym (same_key e k is)) (
       both (not (stands_on k marked)) (not (is_passed s k)) (ap not unmarked) (ap not unpassed),
@@ -119,8 +120,10 @@ fewer_passed s s' marked n owner k x same there unmarked unpassed =
     covers e h = both (not (stands_on e.key marked)) (not (is_passed s e.key))
         (and_left (not (stands_on e.key marked)) (not (is_passed (after s (Pass n k owner)) e.key)) h)
         (not_or (key_eq k e.key) (is_passed s e.key) (ap not (sym (stands_with e.key k s.passed)) ∙ and_right (not (stands_on e.key marked)) (not (is_passed (after s (Pass n k owner)) e.key)) h))
+
     passed_now : is_passed (after s (Pass n k owner)) k ≡ true
     passed_now = stands_with k k s.passed ∙ ap (λ (b : Bool). b || stands_on k s.passed) (key_eq-same k)
+
     at : (e : Entry) → key_eq e.key k ≡ true → (is_open s marked e ≡ true) × (is_open (after s (Pass n k owner)) marked e ≡ false)
     at e is = subst (λ (z : Key). ((not (stands_on z marked) && not (is_passed s z)) ≡ true) × ((not (stands_on z marked) && not (is_passed (after s (Pass n k owner)) z)) ≡ false)) (sym (same_key e k is)) (
       both (not (stands_on k marked)) (not (is_passed s k)) (ap not unmarked) (ap not unpassed),

@@ -137,10 +137,11 @@ module _ {C : Type 0} (m : Meanings C) (g : Config) (valid : IsConfig g) (key : 
         → (more : List Event) × IsScan m g p (saw q (after_lost (bucket_turn g key) owner q.own)) passed_scan more
     passed_step p q es may scan number ok =
         let num : n ≡ p.number = number ∙ scan_number m g s.both.turn (first_of s.both) s.both.hand.before.value p may q s.both.shard s.both.shard.marked (pairs_of s.both.hand.victims.items) es scan in
-        let made : Makes (Pass p.number key owner) s.both.shard l' = subst (λ (z : ℕ). Makes (Pass z key owner) s.both.shard l') num makes in
-        (es ++ Pass p.number key owner ∷ [],
-        scan_passed m g s.both.turn (first_of s.both) s.both.hand.before.value p may q s.both.shard s.both.shard.marked (pairs_of s.both.hand.victims.items) es scan
-        l' l'.marked key owner (subst (λ (z : ℕ). IsTrue (legal s.both.shard.now (Pass z key owner))) num ok) made.now made.history made.opening made.marked (own_key p q es may scan))
+        let made : Makes (Pass p.number key owner) s.both.shard l' = subst (λ (z : ℕ). Makes (Pass z key owner) s.both.shard l') num makes in (
+          es ++ Pass p.number key owner ∷ [],
+          scan_passed m g s.both.turn (first_of s.both) s.both.hand.before.value p may q s.both.shard s.both.shard.marked (pairs_of s.both.hand.victims.items) es scan
+              l' l'.marked key owner (subst (λ (z : ℕ). IsTrue (legal s.both.shard.now (Pass z key owner))) num ok) made.now made.history made.opening made.marked (own_key p q es may scan),
+        )
 
   -- a pass may be made
   pub pass_legal : (q : Place (Known C)) (n owner : ℕ) → IsScanning m g s q → n ≡ q.number → owner < parties_of g → owner ≢ q.number → IsTrue (legal s.both.shard.now (Pass n key owner))
@@ -184,7 +185,7 @@ module _ {C : Type 0} (m : Meanings C) (g : Config) (valid : IsConfig g) (key : 
         let vs : List (ℕ × Chain) = pairs_of s.both.hand.victims.items in
         let bucket = won_bucket m g s.both.turn (first_of s.both) s.both.hand.before.value p may q s.both.shard s.both.shard.marked vs es scan key b valid (own_key p q es may scan) free in
         let step = scan_won m g s.both.turn (first_of s.both) s.both.hand.before.value p may q s.both.shard s.both.shard.marked vs es scan s'.both.shard s'.both.shard.marked key b now history opening
-            (only_one key s.both.shard.marked s'.both.shard.marked more) none bucket in
+        (only_one key s.both.shard.marked s'.both.shard.marked more) none bucket in
         let pairs : pairs_of s'.both.hand.victims.items ≡ vs ++ (bucket_turn g key, b) ∷ [] = ap pairs_of (items ∙ victims) ∙ pairs_more s.both.hand.victims.items record { turn = bucket_turn g key; bucket = b } in
         subst (λ (x : ℕ × (List (ℕ × Chain)) × ShardLog × (List (ℕ × Chain))). Scans m g x.0 x.1 x.2 p q' s'.both.shard s'.both.shard.marked x.3 es)
         (λ z. (sym turn z, (let o : Taken = sym own z in (o.turn, o.bucket) ∷ []), (sym before z).value, sym pairs z)) step
@@ -233,6 +234,6 @@ pub party_after : {C : Type 0} (m : Meanings C) (g : Config) (p : Place (Known C
 party_after {C} m g p cache q q' s s' es es' keeps scan scan' of =
     let here : IsScan m g p q s es = scan in
     let there = subst (λ (x : ℕ × (List (ℕ × Chain)) × ShardLog). Scans m g x.0 x.1 x.2 p q' s'.both.shard s'.both.shard.marked (pairs_of s'.both.hand.victims.items) es')
-        (λ z. (keeps.turn z, (let o : Taken = keeps.own z in (o.turn, o.bucket) ∷ []), (keeps.before z).value)) scan' in
+    (λ z. (keeps.turn z, (let o : Taken = keeps.own z in (o.turn, o.bucket) ∷ []), (keeps.before z).value)) scan' in
     scan_party m g s.both.turn (first_of s.both) s.both.hand.before.value p cache q q' s.both.shard s'.both.shard s.both.shard.marked s'.both.shard.marked
     (pairs_of s.both.hand.victims.items) (pairs_of s'.both.hand.victims.items) es es' here there of

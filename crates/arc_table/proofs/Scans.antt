@@ -95,7 +95,7 @@ pub pair_at : (P : ℕ → Chain → Type 0) (vs : List (ℕ × Chain)) (j : ℕ
 pair_at P [] j b all e = absurd (none-some b e)
 pair_at P (v ∷ vs) j b all e = dite (ℕ_discrete j v.0)
     (λ q. let same : v.1 ≡ b = is_same v.1 b (subst (λ (t : Bool). (if t then Some v.1 else item_at j vs) ≡ Some b) (eq-eqb j v.0 q) e) in
-      subst (λ (x : ℕ × Chain). P x.0 x.1) (λ z. (sym q z, same z)) all.0)
+    subst (λ (x : ℕ × Chain). P x.0 x.1) (λ z. (sym q z, same z)) all.0)
     (λ q. pair_at P vs j b all.1 (subst (λ (t : Bool). (if t then Some v.1 else item_at j vs) ≡ Some b) (ne_eqb j v.0 q) e))
   where
     is_same : (x y : Chain) → ◌≡◌ {A = Option Chain} (Some x) (Some y) → x ≡ y
@@ -140,6 +140,7 @@ among_added (v ∷ vs) held i h = ⊎_elim
         by_test : (b : Bool) → IsSome (if b then Some v.1 else item_at i vs)
         by_test true = refl
         by_test false = s
+
     first : v.0 ≡ i → IsSome (item_at i (v ∷ vs))
     first q = subst (λ (t : Bool). IsSome (if t then Some v.1 else item_at i vs)) (sym (eq-eqb i v.0 (sym q))) refl
 
@@ -239,6 +240,7 @@ module _ {C : Type 0} (m : Meanings C) (g : Config) (i : ℕ) (first : List (ℕ
       where
         no_first : IsSome (item_at j first) → ⊥
         no_first h = let x = some_is (item_at j first) h in none-some x.0 (sym none ∙ item_front j first vs x.0 x.1)
+
         no_item : IsSome (item_at j vs) → ⊥
         no_item h = ⊎_elim
             (λ (f : item_at j first ≡ None). let x = some_is (item_at j vs) h in none-some x.0 (sym none ∙ (item_past j first vs f ∙ x.1)))
@@ -270,7 +272,7 @@ module _ {C : Type 0} (m : Meanings C) (g : Config) (i : ℕ) (first : List (ℕ
         shard = shard_is;
         heads = λ k e.
             let here : IsHead (entry_of k (shard_in g (f.held.scene.now (shard_turn g k)))) (header_at k (headers_in (f.held.scene.now (bucket_turn g k)))) =
-                subst (λ (c : Config). IsHead (entry_of k (shard_in c (f.held.scene.now (shard_turn c k)))) (header_at k (headers_in (f.held.scene.now (bucket_turn c k))))) then_config (f.held.headed.heads k) in
+            subst (λ (c : Config). IsHead (entry_of k (shard_in c (f.held.scene.now (shard_turn c k)))) (header_at k (headers_in (f.held.scene.now (bucket_turn c k))))) then_config (f.held.headed.heads k) in
             let shard : f.held.scene.now (shard_turn g k) ≡ item.Shard before = ap f.held.scene.now (sym (shard_is k e)) ∙ then_shard in
             let bucket : f.held.scene.now (bucket_turn g k) ≡ item.Bucket b = ap f.held.scene.now e ∙ then_bucket in
             subst (λ (z : Item C × Item C). IsHead (entry_of k (shard_in g z.0)) (header_at k (headers_in z.1))) (λ j. (shard j, bucket j)) here;

@@ -38,22 +38,28 @@ IsPlaceOf j ts i = (w : Taken) → w ≡ get_or ts i w
 find_turn : (ts : List Taken) (n m j : ℕ) → position_from (λ t. t.turn == j) n ts ≡ Some m → (i : ℕ) × (m ≡ n + i) × IsPlaceOf j ts i
 find_turn [] n m j e = absurd (none-some m e)
 find_turn (t ∷ ts) n m j e = dite (ℕ_discrete t.turn j)
-    (λ q. let is : n ≡ m = some_same n m (subst (λ (b : Bool). cond b (Some n) (position_from (λ t. t.turn == j) (n + 1) ts) ≡ Some m) (eq-eqb t.turn j q) e) in
-    (0, (let o : m ≡ n + 0 = omega arith in o), λ w at.
-        let yes : (j == t.turn) ≡ true = eq-eqb j t.turn (sym q) in (
-          subst (λ (b : Bool). (if b then Some t.bucket else item_at j (pairs_of ts)) ≡ Some w.bucket) (sym yes) (ap (λ (x : Taken). Some x.bucket) (sym at)),
-          λ new. subst (λ (b : Bool). (w.turn, new) ∷ pairs_of ts ≡ (if b then (t.turn, new) ∷ pairs_of ts else ((t.turn, t.bucket) ∷ with_bucket j new (pairs_of ts)))) (sym yes)
-              (ap (λ (x : Taken). (x.turn, new) ∷ pairs_of ts) at),
-        )))
+    (λ q. let is : n ≡ m = some_same n m (subst (λ (b : Bool). cond b (Some n) (position_from (λ t. t.turn == j) (n + 1) ts) ≡ Some m) (eq-eqb t.turn j q) e) in (
+      0,
+      (let o : m ≡ n + 0 = omega arith in o),
+      λ w at.
+          let yes : (j == t.turn) ≡ true = eq-eqb j t.turn (sym q) in (
+            subst (λ (b : Bool). (if b then Some t.bucket else item_at j (pairs_of ts)) ≡ Some w.bucket) (sym yes) (ap (λ (x : Taken). Some x.bucket) (sym at)),
+            λ new. subst (λ (b : Bool). (w.turn, new) ∷ pairs_of ts ≡ (if b then (t.turn, new) ∷ pairs_of ts else ((t.turn, t.bucket) ∷ with_bucket j new (pairs_of ts)))) (sym yes)
+                (ap (λ (x : Taken). (x.turn, new) ∷ pairs_of ts) at),
+          ),
+    ))
     (λ q. let rest = find_turn ts (n + 1) m j (subst (λ (b : Bool). cond b (Some n) (position_from (λ t. t.turn == j) (n + 1) ts) ≡ Some m) (ne_eqb t.turn j q) e) in
-    let at = rest.1 in
-    (suc rest.0, (let o : m ≡ n + suc rest.0 = omega arith in o), λ w is.
-        let no : (j == t.turn) ≡ false = ne_eqb j t.turn (λ r. q (sym r)) in
-        let inside = rest.2 w is in (
-          subst (λ (b : Bool). (if b then Some t.bucket else item_at j (pairs_of ts)) ≡ Some w.bucket) (sym no) inside.0,
-          λ new. subst (λ (b : Bool). (t.turn, t.bucket) ∷ pairs_of (set ts rest.0 record { turn = w.turn; bucket = new }) ≡ (if b then (t.turn, new) ∷ pairs_of ts else ((t.turn, t.bucket) ∷ with_bucket j new (pairs_of ts)))) (sym no)
-              (ap (λ (l : List (ℕ × Chain)). (t.turn, t.bucket) ∷ l) (inside.1 new)),
-        )))
+    let at = rest.1 in (
+      suc rest.0,
+      (let o : m ≡ n + suc rest.0 = omega arith in o),
+      λ w is.
+          let no : (j == t.turn) ≡ false = ne_eqb j t.turn (λ r. q (sym r)) in
+          let inside = rest.2 w is in (
+            subst (λ (b : Bool). (if b then Some t.bucket else item_at j (pairs_of ts)) ≡ Some w.bucket) (sym no) inside.0,
+            λ new. subst (λ (b : Bool). (t.turn, t.bucket) ∷ pairs_of (set ts rest.0 record { turn = w.turn; bucket = new }) ≡ (if b then (t.turn, new) ∷ pairs_of ts else ((t.turn, t.bucket) ∷ with_bucket j new (pairs_of ts)))) (sym no)
+                (ap (λ (l : List (ℕ × Chain)). (t.turn, t.bucket) ∷ l) (inside.1 new)),
+          ),
+    ))
 
 pub found_turn : (ts : List Taken) (j i : ℕ) → turn_place j ts ≡ Some i → IsPlaceOf j ts i
 found_turn ts j i e = let f = find_turn ts 0 i j e in let is : i ≡ f.0 = let a = f.1 in omega arith in subst (IsPlaceOf j ts) (sym is) f.2
@@ -99,9 +105,11 @@ spared_says (Some e) (Some e') (Some h) head spared = by_state (is_cached e'.sta
     same_but_state : (e' ≡ e) ⊎ (IsTrue (may_go e) × (is_cached e'.state ≡ false) × (e' ≡ record e { state = e'.state })) → (e'.reading ≡ e.reading) × (e'.place ≡ e.place) × (e'.digest ≡ e.digest)
     same_but_state (inl is) = (ap (λ (x : Entry). x.reading) is, ap (λ (x : Entry). x.place) is, ap (λ (x : Entry). x.digest) is)
     same_but_state (inr lost) = (ap (λ (x : Entry). x.reading) lost.2, ap (λ (x : Entry). x.place) lost.2, ap (λ (x : Entry). x.digest) lost.2)
+
     cached_same : is_cached e'.state ≡ true → (e' ≡ e) ⊎ (IsTrue (may_go e) × (is_cached e'.state ≡ false) × (e' ≡ record e { state = e'.state })) → e' ≡ e
     cached_same t (inl is) = is
     cached_same t (inr lost) = absurd (cc)
+
     by_state : (b : Bool) → is_cached e'.state ≡ b → IsHead (Some e') (if b then Some h else Some (record h { state = e'.state; block = None }))
     by_state true t = let is : e' ≡ e = cached_same t spared in subst (λ (x : Entry). Says x h) (sym is) head
     by_state false f = let same = same_but_state spared in record {
@@ -151,10 +159,13 @@ module _ (g : Config) (before after : PlainShard) (key : Key) (rest : List Key) 
             → IsHead (entry_of key after) (spared_header (option_map view_of (entry_of key after)) (header_at key b.headers))
         now_says (inl old) = spared_says (entry_of key before) (entry_of key after) (header_at key b.headers) old.1 old.2
         now_says (inr late) = spared_says (entry_of key after) (entry_of key after) (header_at key b.headers) late (spared-same (entry_of key after))
+
         new_here : (k : Key) → key_eq key k ≡ true → header_at k new.headers ≡ spared_header (option_map view_of (entry_of key after)) (header_at key b.headers)
         new_here k t = with k ∙ ap (λ (x : Bool). if x then spared_header (option_map view_of (entry_of key after)) (header_at key b.headers) else header_at k b.headers) t
+
         new_else : (k : Key) → key_eq key k ≡ false → header_at k new.headers ≡ header_at k b.headers
         new_else k f = with k ∙ ap (λ (x : Bool). if x then spared_header (option_map view_of (entry_of key after)) (header_at key b.headers) else header_at k b.headers) f
+
         by_key : (k : Key) → bucket_turn g k ≡ j → (t : Bool) → key_eq key k ≡ t
             → (IsTrue (stands_on k rest) × IsHead (entry_of k before) (header_at k new.headers) × IsSpared (entry_of k before) (entry_of k after)) ⊎ IsHead (entry_of k after) (header_at k new.headers)
         by_key k is true t = inr (subst (IsHead (entry_of k after)) (sym (new_here k t))
@@ -163,6 +174,7 @@ module _ (g : Config) (before after : PlainShard) (key : Key) (rest : List Key) 
             (λ (old : IsTrue (stands_on k (key ∷ rest)) × IsHead (entry_of k before) (header_at k b.headers) × IsSpared (entry_of k before) (entry_of k after)). inl (drop_key k t old.0, subst (IsHead (entry_of k before)) (sym (new_else k t)) old.1, old.2))
             (λ (late : IsHead (entry_of k after) (header_at k b.headers)). inr (subst (IsHead (entry_of k after)) (sym (new_else k t)) late))
             (h.heads k is)
+
         own_by : (k : Key) (x : Header) (t : Bool) → key_eq key k ≡ t → header_at k new.headers ≡ Some x → j ≡ bucket_turn g k
         own_by k x true t there = here ∙ ap (bucket_turn g) (key_eq-is key k t)
         own_by k x false t there = h.own k x (sym (new_else k t) ∙ there)
@@ -172,11 +184,11 @@ module _ (g : Config) (before after : PlainShard) (key : Key) (rest : List Key) 
     heads_step [] apart all there = tt
     heads_step (v ∷ vs) apart all there = dite (ℕ_discrete v.0 (bucket_turn g key))
         (λ q. let f = at_first (bucket_turn g key) v vs b q there in
-          subst (AllPairs (AreHeadsBut g before after rest)) (f.1 new)
-          (heads_here v.0 q (subst (AreHeadsBut g before after (key ∷ rest) v.0) f.0 all.0), all_else vs (subst (λ (x : ℕ). item_at x vs ≡ None) q apart.0) all.1))
+        subst (AllPairs (AreHeadsBut g before after rest)) (f.1 new)
+        (heads_here v.0 q (subst (AreHeadsBut g before after (key ∷ rest) v.0) f.0 all.0), all_else vs (subst (λ (x : ℕ). item_at x vs ≡ None) q apart.0) all.1))
         (λ q. let f = past_first (bucket_turn g key) v vs b q there in
-          subst (AllPairs (AreHeadsBut g before after rest)) (f.1 new)
-          (heads_else v.0 v.1 q all.0, heads_step vs apart.1 all.1 f.0))
+        subst (AllPairs (AreHeadsBut g before after rest)) (f.1 new)
+        (heads_else v.0 v.1 q all.0, heads_step vs apart.1 all.1 f.0))
 
 -- the turns stay
 pub with_turns : (j : ℕ) (new : Chain) (vs : List (ℕ × Chain)) → turns_in (with_bucket j new vs) ≡ turns_in vs

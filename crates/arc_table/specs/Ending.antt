@@ -14,11 +14,11 @@ use Rattle.turn_table.specs.Places.{Place, gave_back}
 use Rattle.arc_table.specs.declared.scan.Scan.{Scan}
 use Rattle.arc_table.specs.declared.view.Known.{Known}
 use Rattle.arc_table.specs.Both.{TakesBoth}
-use Rattle.arc_table.specs.Geometry.{bucket_turn, shard_turn}
+use Rattle.arc_table.specs.Geometry.{IsBucket, bucket_turn, shard_turn}
 use Rattle.arc_table.specs.Headed.{IsHead}
 use Rattle.arc_table.specs.InHand.{buckets_of}
 use Rattle.arc_table.specs.Items.{Meanings}
-use Rattle.arc_table.specs.Scanning.{takes_room, ArePasses, MayScan, Scans, after_scan, gave_all, pairs_of}
+use Rattle.arc_table.specs.Scanning.{takes_room, AllPairs, ArePasses, MayScan, Scans, after_scan, gave_all, pairs_of}
 use Rattle.arc_table.specs.ShardGiving.{IsActor, after_shard}
 use Rattle.arc_table.specs.Sparing.{turns_in}
 
@@ -50,6 +50,7 @@ module _ {C : Type 0} (m : Meanings C) where
     pub won : List (ℕ × Chain)
     pub passes : List Event
     pub after : ShardLog
+    pub buckets : AllPairs (λ j b. IsBucket g j) won
     pub own : ArePasses g q.number (shard_turn g k) passes
     pub legal : IsTrue (is_legal_history before.now (passes ++ e ∷ []))
     pub now : after.now ≡ replay before.now (passes ++ e ∷ [])

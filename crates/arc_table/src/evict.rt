@@ -14,8 +14,8 @@ ghost use Rattle.arc_table.specs.declared.view.Known.{Known};
 ghost use Rattle.arc_table.specs.Scanning.{AllPairs, AreApart, IsInHand, gave_all, pairs_of};
 
 use crate::arcs::{Arcs, Party};
-use crate::gives;
 use crate::both::Both;
+use crate::gives;
 use crate::hand::{Hand, Taken};
 use crate::item::Item;
 use crate::scan::Scan;

@@ -12,7 +12,7 @@ ghost use Rattle.arc_table.specs.Cache.{IsPartyOf};
 ghost use Rattle.arc_table.specs.Ending.{MakesRoomy};
 ghost use Rattle.arc_table.specs.Geometry.{IsBucket, IsCell, bucket_turn};
 ghost use Rattle.arc_table.specs.Handing.{IsCellInHand};
-
+ghost use Rattle.arc_table.specs.Inserting.{AnswersInsert};
 ghost use Rattle.arc_table.specs.Items.{meanings};
 ghost use Rattle.arc_table.specs.Looking.{HasNoLook};
 ghost use Rattle.arc_table.specs.Making.{IsTaken};
@@ -106,5 +106,40 @@ impl<C: Keeps> Arcs<C> {
         put_header(&mut scan.both.hand.own.bucket, header);
         self.end_scan(party, scan);
         Ok(())
+    }
+
+    /// Puts in a block that a cell wrote, with one hold of the cell, which the party has in hand. The key's numbers are in their ranges,
+    /// and the block has its size. Where the key is there, and not on the cache device alone, there is no event; nor where memory is
+    /// refused. It may wait.
+    pub fn insert(
+        &self,
+        rt: &impl Wait,
+        party: &mut Party<C>,
+        cell: u32,
+        key: Key,
+        block: Arc<Block>,
+        tick: u64,
+    ) -> Result<Inserted, NoMemory>
+        requires party { IsPartyOf self.now party.old }
+        requires look { HasNoLook self.now party.old }
+        requires cell { IsCell self.now.config cell × IsAmong cell party.old.held }
+        requires formed { IsTrue (is_well_formed key) }
+        requires size { length block.value ≡ key.size }
+        ensures ok { IfOk result (AnswersInsert (meanings C.holds C.entries C.opening C.claims C.sound) self.now.config cell key block.value tick party.old party.new) }
+        ensures err { OnErr result (Does (meanings C.holds C.entries C.opening C.claims C.sound) self.now.config key [] party.old party.new) }
+    {
+        let both = self.take_both(rt, party, key);
+        if !is_new_here(&both.shard, key) {
+            let front = self.front_of(key, &both.shard);
+            self.give_back(party, key, both);
+            return Ok(Inserted::There(front));
+        }
+        let Ok(shared) = Arc::try_clone(&block) else {
+            self.give_back(party, key, both);
+            return Err(NoMemory);
+        };
+        let owner = self.config.callers + 1 + cell;
+        self.insert_taken(party, both, owner, key, shared, tick)?;
+        Ok(Inserted::Held(Hold { key, owner, block }))
     }
 }

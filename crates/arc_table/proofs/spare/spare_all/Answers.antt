@@ -49,7 +49,7 @@ loop-key-preserved c =
     let did = c.spare_in.ensures.spared b.0 (ap (λ (j : ℕ). item_at j vs) turn ∙ b.1) in
     let gave : buckets_of c.spare_in.new.hand ≡ with_bucket (bucket_turn g key) did.0 vs = did.2 ∙ ap (λ (j : ℕ). with_bucket j did.0 vs) turn in
     let with : IsWith key (spared_header (option_map view_of (entry_of key after)) (header_at key b.0.headers)) b.0.headers did.0.headers =
-        subst (λ (v : Option EntryView). IsWith key (spared_header v (header_at key b.0.headers)) b.0.headers did.0.headers) c.entry.ensures did.1 in
+    subst (λ (v : Option EntryView). IsWith key (spared_header v (header_at key b.0.headers)) b.0.headers did.0.headers) c.entry.ensures did.1 in
     record {
       before = c.spare_in.ensures.before ∙ c.loop-key.invariant.before;
       turns = ap turns_in gave ∙ (with_turns (bucket_turn g key) did.0 vs ∙ c.loop-key.invariant.turns);

@@ -84,11 +84,16 @@ end_scan-requires-clause-made g c =
     let with : IsWith c.args.key (Some o) s.both.hand.own.bucket.headers c.put_header.new.bucket.headers = subst (λ (y : Key). IsWith y (Some o) s.both.hand.own.bucket.headers c.put_header.new.bucket.headers) key c.put_header.ensures in
     let digest_is : sha256_of c.args.block.value ≡ c.digest-digest.result = ap sha256_of (sym c.deref.ensures) ∙ sym c.digest-digest.ensures in
     let block : MatchOption o.block ⊥ (λ b. (sha256_of b.value ≡ c.digest-digest.result) × (length b.value ≡ c.args.key.size)) =
-        subst (λ (y : Header). MatchOption y.block ⊥ (λ b. (sha256_of b.value ≡ c.digest-digest.result) × (length b.value ≡ c.args.key.size))) (sym x.2) (digest_is, c.requires.size) in
-    (Insert c.args.n c.args.key c.digest-digest.result c.args.tick, h.passes, c.args.party.now, s.both.shard, s.both.hand.own.bucket,
-    insert_made m c.args.self.now.config c.args.key c.args.both c.args.party.now c.begin_scan.new.party c.args.n c.args.tick c.digest-digest.result s s' h c.requires.taken.kind.turn c.requires.taken.kind.own c.requires.cell
-    c.insert.ensures.makes refl refl refl refl refl x.0 x.1 o
-    (ap (λ (y : Header). y.state) x.2, ap (λ (y : Header). y.reading) x.2, ap (λ (y : Header). y.place) x.2, ap (λ (y : Header). y.digest) x.2, block) with)
+    subst (λ (y : Header). MatchOption y.block ⊥ (λ b. (sha256_of b.value ≡ c.digest-digest.result) × (length b.value ≡ c.args.key.size))) (sym x.2) (digest_is, c.requires.size) in (
+      Insert c.args.n c.args.key c.digest-digest.result c.args.tick,
+      h.passes,
+      c.args.party.now,
+      s.both.shard,
+      s.both.hand.own.bucket,
+      insert_made m c.args.self.now.config c.args.key c.args.both c.args.party.now c.begin_scan.new.party c.args.n c.args.tick c.digest-digest.result s s' h c.requires.taken.kind.turn c.requires.taken.kind.own c.requires.cell
+          c.insert.ensures.makes refl refl refl refl refl x.0 x.1 o
+          (ap (λ (y : Header). y.state) x.2, ap (λ (y : Header). y.reading) x.2, ap (λ (y : Header). y.place) x.2, ap (λ (y : Header). y.digest) x.2, block) with,
+    )
 
 pub returns-clause-ok : goal.returns-clause-ok
 returns-clause-ok g c =
@@ -101,5 +106,5 @@ returns-clause-ok g c =
     } in
     let e : Event = Insert c.args.n c.args.key c.digest-digest.result c.args.tick in
     let made = makes_roomy m c.args.self.now.config c.args.key c.args.both c.args.party.now c.begin_scan.new.party c.end_scan.new.party c.requires.taken.kind.turn c.requires.taken.kind.own c.requires.taken.new
-        e s s' h (scanned_replayed m c.args.self.now.config c.args.both e c.args.party.now c.begin_scan.new.party s h c.requires.taken.new) c.insert.ensures.makes refl refl refl refl c.end_scan.ensures in
+    e s s' h (scanned_replayed m c.args.self.now.config c.args.both e c.args.party.now c.begin_scan.new.party s h c.requires.taken.new) c.insert.ensures.makes refl refl refl refl c.end_scan.ensures in
     subst (λ (d : Digest). MakesRoomy m c.args.self.now.config c.args.key c.args.both.shard (Insert c.args.n c.args.key d c.args.tick) c.args.party.now c.end_scan.new.party) (c.digest-digest.ensures ∙ ap sha256_of c.deref.ensures) made

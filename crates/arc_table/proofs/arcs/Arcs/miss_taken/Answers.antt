@@ -76,10 +76,15 @@ end_scan-requires-clause-made g c =
     } in
     let x = c.reading_header-header.ensures in
     let with : IsWith c.args.key (Some (record { key = c.args.key; state = x.0.state; reading = true; place = x.0.place; digest = x.0.digest; block = None })) s.both.hand.own.bucket.headers c.put_header.new.bucket.headers =
-        subst (λ (y : Header). IsWith y.key (Some y) s.both.hand.own.bucket.headers c.put_header.new.bucket.headers) x.2 c.put_header.ensures in
-    (Miss c.number-n.result c.args.key c.args.tick, h.passes, c.args.party.now, s.both.shard, s.both.hand.own.bucket,
-    miss_made m c.args.self.now.config c.args.key c.args.both c.args.party.now c.begin_scan.new.party c.number-n.result c.args.tick s s' h c.requires.taken.kind.turn c.requires.taken.kind.own c.number-n.ensures
-    c.miss.ensures.makes refl refl refl refl refl x.0 x.1 with)
+    subst (λ (y : Header). IsWith y.key (Some y) s.both.hand.own.bucket.headers c.put_header.new.bucket.headers) x.2 c.put_header.ensures in (
+      Miss c.number-n.result c.args.key c.args.tick,
+      h.passes,
+      c.args.party.now,
+      s.both.shard,
+      s.both.hand.own.bucket,
+      miss_made m c.args.self.now.config c.args.key c.args.both c.args.party.now c.begin_scan.new.party c.number-n.result c.args.tick s s' h c.requires.taken.kind.turn c.requires.taken.kind.own c.number-n.ensures
+          c.miss.ensures.makes refl refl refl refl refl x.0 x.1 with,
+    )
 
 pub returns-clause-ok : goal.returns-clause-ok
 returns-clause-ok g c =
@@ -92,5 +97,5 @@ returns-clause-ok g c =
     } in
     let e : Event = Miss c.number-n.result c.args.key c.args.tick in
     let made = makes_roomy m c.args.self.now.config c.args.key c.args.both c.args.party.now c.begin_scan.new.party c.end_scan.new.party c.requires.taken.kind.turn c.requires.taken.kind.own c.requires.taken.new
-        e s s' h (scanned_replayed m c.args.self.now.config c.args.both e c.args.party.now c.begin_scan.new.party s h c.requires.taken.new) c.miss.ensures.makes refl refl refl refl c.end_scan.ensures in
+    e s s' h (scanned_replayed m c.args.self.now.config c.args.both e c.args.party.now c.begin_scan.new.party s h c.requires.taken.new) c.miss.ensures.makes refl refl refl refl c.end_scan.ensures in
     subst (λ (n : ℕ). MakesRoomy m c.args.self.now.config c.args.key c.args.both.shard (Miss n c.args.key c.args.tick) c.args.party.now c.end_scan.new.party) c.number-n.ensures made

@@ -39,9 +39,11 @@ returns-then-has_bucket-clause-scan g c p es may scan =
     let cfg : Config = c.args.self.now.config in
     let valid : IsConfig cfg = subst IsConfig (ap (λ (x : Cache). x.config) c.self.view_is) c.self.invariant.valid in
     let e = c.mark.ensures in
-    let turn : c.bucket_turn_of-turn.result ≡ bucket_turn cfg c.args.key = c.bucket_turn_of-turn.ensures ∙ ap (λ (x : Cache). bucket_turn x.config c.args.key) c.self.view_is in
-    (es, marked_step m cfg valid c.args.key c.requires.victim.0 c.args.scan.now c.requires.victim.1 c.mark.new.scan e.both e.marked e.keys e.len e.capacity p c.args.party.now es may scan
-    (subst (λ (j : ℕ). IsSome (item_at j (buckets_of c.args.scan.now.both.hand))) turn (c.has_bucket.ensures.yes c.if-has_bucket.true)))
+    let turn : c.bucket_turn_of-turn.result ≡ bucket_turn cfg c.args.key = c.bucket_turn_of-turn.ensures ∙ ap (λ (x : Cache). bucket_turn x.config c.args.key) c.self.view_is in (
+      es,
+      marked_step m cfg valid c.args.key c.requires.victim.0 c.args.scan.now c.requires.victim.1 c.mark.new.scan e.both e.marked e.keys e.len e.capacity p c.args.party.now es may scan
+          (subst (λ (j : ℕ). IsSome (item_at j (buckets_of c.args.scan.now.both.hand))) turn (c.has_bucket.ensures.yes c.if-has_bucket.true)),
+    )
 
 pub returns-then-has_bucket-clause-room : goal.returns-then-has_bucket-clause-room
 returns-then-has_bucket-clause-room g c =
@@ -100,14 +102,16 @@ returns-in-Taken-clause-scan g c p es may scan =
     let b : Chain = c.into_bucket-bucket.result in
     let is : c.in-Taken.value ≡ item.Bucket b = c.into_bucket-bucket.ensures in
     let free : WasFree (Pact m) c.args.party.now (bucket_turn cfg c.args.key) (item.Bucket b) =
-        subst (λ (x : ℕ × Item g.row.C.Denot). WasFree (Pact m) c.args.party.now x.0 x.1) (λ z. (turn z, is z)) c.in-Taken.ensures.taken.0 in
+    subst (λ (x : ℕ × Item g.row.C.Denot). WasFree (Pact m) c.args.party.now x.0 x.1) (λ z. (turn z, is z)) c.in-Taken.ensures.taken.0 in
     let step = won_step m cfg valid c.args.key c.requires.victim.0 c.args.scan.now c.requires.victim.1 b c.push_reserved.new.self.items c.mark-in-Taken.new.scan
-        (c.push_reserved.ensures.items ∙ ap (λ (j : ℕ). c.args.scan.now.both.hand.victims.items ++ record { turn = j; bucket = b } ∷ []) turn)
-        (ap (λ (x : Both). x.hand.victims.items) e.both) (ap (λ (x : Both). x.turn) e.both) (ap (λ (x : Both). x.hand.own) e.both) (ap (λ (x : Both). x.hand.before) e.both)
-        (ap (λ (x : Both). x.shard.now) e.both) (ap (λ (x : Both). x.shard.history) e.both) (ap (λ (x : Both). x.shard.opening) e.both) e.marked
-        p c.args.party.now es may scan none free in
-    (es, subst (λ (q : Place (Known g.row.C.Denot)). IsScan m cfg p q c.mark-in-Taken.new.scan es)
-    (sym (c.in-Taken.ensures.taken.1 ∙ ap (λ (x : ℕ × Item g.row.C.Denot). Rattle.turn_table.specs.Places.took c.args.party.now x.0 (Rattle.arc_table.specs.Views.after_won m x.0 x.1 c.args.party.now.own)) (λ z. (turn z, is z)))) step)
+    (c.push_reserved.ensures.items ∙ ap (λ (j : ℕ). c.args.scan.now.both.hand.victims.items ++ record { turn = j; bucket = b } ∷ []) turn)
+    (ap (λ (x : Both). x.hand.victims.items) e.both) (ap (λ (x : Both). x.turn) e.both) (ap (λ (x : Both). x.hand.own) e.both) (ap (λ (x : Both). x.hand.before) e.both)
+    (ap (λ (x : Both). x.shard.now) e.both) (ap (λ (x : Both). x.shard.history) e.both) (ap (λ (x : Both). x.shard.opening) e.both) e.marked
+    p c.args.party.now es may scan none free in (
+      es,
+      subst (λ (q : Place (Known g.row.C.Denot)). IsScan m cfg p q c.mark-in-Taken.new.scan es)
+          (sym (c.in-Taken.ensures.taken.1 ∙ ap (λ (x : ℕ × Item g.row.C.Denot). Rattle.turn_table.specs.Places.took c.args.party.now x.0 (Rattle.arc_table.specs.Views.after_won m x.0 x.1 c.args.party.now.own)) (λ z. (turn z, is z)))) step,
+    )
 
 pub returns-in-Taken-clause-room : goal.returns-in-Taken-clause-room
 returns-in-Taken-clause-room g c n room =
@@ -164,9 +168,11 @@ returns-in-Busy-clause-scan g c p es may scan =
     let parties : c.self.inside.turns.parties ≡ parties_of cfg = c.self.invariant.parties ∙ ap (λ (x : Cache). parties_of x.config) c.self.view_is in
     let a = own.0 in
     let ok = pass_legal m cfg valid c.args.key c.requires.victim.0 c.args.scan.now c.requires.victim.1 c.args.party.now c.number.result c.in-Busy.owner c.requires.scan number (omega arith) own.1 in
-    let step = passed_step m cfg valid c.args.key c.requires.victim.0 c.args.scan.now c.requires.victim.1 c.pass.new.self c.number.result c.in-Busy.owner c.pass.ensures.makes p c.args.party.now es may scan number ok in
-    (step.0, subst (λ (q : Place (Known g.row.C.Denot)). IsScan m cfg p q (record { both = record { hand = c.args.scan.now.both.hand; turn = c.args.scan.now.both.turn; shard = c.pass.new.self }; marked = c.args.scan.now.marked }) step.0)
-    (sym (c.in-Busy.ensures.busy.1 ∙ ap (λ (j : ℕ). Rattle.turn_table.specs.Places.saw c.args.party.now (Rattle.arc_table.specs.Views.after_lost j c.in-Busy.owner c.args.party.now.own)) turn)) step.1)
+    let step = passed_step m cfg valid c.args.key c.requires.victim.0 c.args.scan.now c.requires.victim.1 c.pass.new.self c.number.result c.in-Busy.owner c.pass.ensures.makes p c.args.party.now es may scan number ok in (
+      step.0,
+      subst (λ (q : Place (Known g.row.C.Denot)). IsScan m cfg p q (record { both = record { hand = c.args.scan.now.both.hand; turn = c.args.scan.now.both.turn; shard = c.pass.new.self }; marked = c.args.scan.now.marked }) step.0)
+          (sym (c.in-Busy.ensures.busy.1 ∙ ap (λ (j : ℕ). Rattle.turn_table.specs.Places.saw c.args.party.now (Rattle.arc_table.specs.Views.after_lost j c.in-Busy.owner c.args.party.now.own)) turn)) step.1,
+    )
 
 pub returns-in-Busy-clause-room : goal.returns-in-Busy-clause-room
 returns-in-Busy-clause-room g c =

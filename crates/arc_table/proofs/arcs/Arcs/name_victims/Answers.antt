@@ -65,9 +65,9 @@ loop-key-preserved g c =
     let r = c.requires.scan in
     let before = c.loop-key.invariant in
     let step : (p : Place (Known g.row.C.Denot)) (es : List Event) → MayBegin cfg c.args.scan.now.both p → IsScan m cfg p c.args.party.now c.args.scan.now es → (more : List Event) × IsScan m cfg p c.name_victim.new.party c.name_victim.new.scan more =
-        λ p es may scan. let s = before.scan p es may scan in
-        subst (λ (l : ShardLog). IsScan m cfg p c.loop-key.party (S l) s.0 → (more : List Event) × IsScan m cfg p c.name_victim.new.party c.name_victim.new.scan more) log
-        (did.scan p s.0 (may_after cfg c.args.scan.now.both (S c.victim.new.self).both p (record { turn = before.hand.turn; own = before.hand.own; before = before.hand.before }) may)) s.1 in
+    λ p es may scan. let s = before.scan p es may scan in
+    subst (λ (l : ShardLog). IsScan m cfg p c.loop-key.party (S l) s.0 → (more : List Event) × IsScan m cfg p c.name_victim.new.party c.name_victim.new.scan more) log
+    (did.scan p s.0 (may_after cfg c.args.scan.now.both (S c.victim.new.self).both p (record { turn = before.hand.turn; own = before.hand.own; before = before.hand.before }) may)) s.1 in
     let s = before.scan r.from r.passes r.may r.scan in
     let s' = step r.from r.passes r.may r.scan in
     record {
