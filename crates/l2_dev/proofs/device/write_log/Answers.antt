@@ -10,7 +10,7 @@ returns-in_err-reserve-clause-cause g c =
     rw (p.1, p.2) record { kept = omega arith; rose = λ e. absurd (cc) }
 
 pub returns-clause-cause : goal.returns-clause-cause
-returns-clause-cause g c = record { kept = c.write_through.ensures.cause.kept; rose = λ e. absurd (cc) }
+returns-clause-cause g c = record { kept = c.write_through.ensures.cause.never_falls; rose = λ e. absurd (cc) }
 
 pub returns-in_err-write_through-clause-logged : goal.returns-in_err-write_through-clause-logged
 returns-in_err-write_through-clause-logged g c =
