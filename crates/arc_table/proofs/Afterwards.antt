@@ -14,7 +14,7 @@ use Rattle.arc_table.specs.Both.{Does}
 use Rattle.arc_table.specs.Cache.{Cache, IsPartyOf}
 use Rattle.arc_table.specs.Feeding.{Restores}
 use Rattle.arc_table.specs.Fronts.{front_of}
-use Rattle.arc_table.specs.Geometry.{IsCell, shard_turn}
+use Rattle.arc_table.specs.Geometry.{shard_turn}
 use Rattle.arc_table.specs.Items.{Meanings}
 use Rattle.arc_table.specs.Looking.{HasNoLook}
 use Rattle.arc_table.specs.ShardGiving.{ledger_through, mines_of, passes_in}

@@ -1,6 +1,6 @@
 -- The feeder's events on one key: where they are legal, and what they make of the key's entry.
-use Rattle.std.proofs.Common.{◌≡◌, ◌≢◌, ◌==◌, if◌then◌else◌, ℕ, zero, suc, ◌+◌, ◌<◌, get_or, length, take, List, [], ◌∷◌, ◌++◌, Bool, true, false, Option, Some, None, refl, sym, ap, ◌∙◌, subst, inl, arith}
-use Rattle.std.specs.Prelude.{IsTrue, ◌&&◌, ◌↔◌, Err, not, is_some, nat_lt}
+use Rattle.std.proofs.Common.{◌≡◌, ◌≢◌, ◌==◌, if◌then◌else◌, ℕ, zero, suc, ◌+◌, ◌<◌, get_or, length, take, List, [], ◌∷◌, ◌++◌, Bool, true, false, Option, Some, None, refl, sym, ap, ◌∙◌, subst, arith}
+use Rattle.std.specs.Prelude.{IsTrue, ◌&&◌, ◌↔◌, Err, not, is_some}
 use Rattle.std.specs.Option.{option_and_then, option_map, option_map_or}
 use Rattle.std.proofs.lemmas.Bool.Decides.{nat_tests}
 use Rattle.std.proofs.lemmas.Option.{none-some}
@@ -18,7 +18,6 @@ use Rattle.arc_core.specs.declared.entry.Entry.{Entry}
 use Rattle.arc_core.specs.declared.entry.Picked.{Picked}
 use Rattle.arc_core.specs.declared.entry.Phase.{Phase}
 use Rattle.arc_core.specs.declared.entry.Phase.TheVariants.{Idle, Picking, Writing}
-use Rattle.arc_core.specs.declared.event.Event.{Event}
 use Rattle.arc_core.specs.declared.event.Event.TheVariants.{Set, Leave, Clear, Restore}
 use Rattle.arc_core.specs.declared.event.Why.{Why}
 use Rattle.arc_core.specs.declared.event.Why.TheVariants as why
@@ -26,7 +25,7 @@ use Rattle.arc_core.specs.declared.served.Restored.{Restored}
 use Rattle.arc_core.specs.declared.shard.EntryView.{EntryView}
 use Rattle.arc_core.specs.Changes.{pick_of}
 use Rattle.arc_core.specs.Changing.{placed_at, without_place}
-use Rattle.arc_core.specs.PlainShard.{PlainShard, entry_of, is_absent, is_number, is_resident, numbers, place_of}
+use Rattle.arc_core.specs.PlainShard.{PlainShard, entry_of, is_number, numbers, place_of}
 use Rattle.arc_core.specs.ShardLog.{ShardLog}
 use Rattle.arc_core.specs.Sound.{IsSound, fits_phase}
 use Rattle.arc_core.specs.Step.{after, agree, is_gone, is_writing, legal, may_set, restored_entry}
@@ -36,7 +35,6 @@ use Rattle.arc_core.proofs.Soundness.{placed-entry, settable}
 use Rattle.turn_table.specs.Places.{Place}
 use Rattle.hash_chain.specs.Chain.{Chain}
 use Rattle.hash_chain.specs.declared.header.Header.{Header}
-use Rattle.arc_table.specs.declared.about.About.{About}
 use Rattle.arc_table.specs.declared.restores.Refused.{Refused}
 use Rattle.arc_table.specs.declared.restores.Refused.TheVariants as refused
 use Rattle.arc_table.specs.declared.view.Known.{Known}
@@ -50,7 +48,7 @@ use Rattle.arc_table.specs.Items.{Meanings}
 use Rattle.arc_table.specs.Logged.{is_picking}
 use Rattle.arc_table.specs.ShardGiving.{SameHead}
 use Rattle.arc_table.proofs.FollowEvents.{IsLike, IsLikeIf, like_none, like_some}
-use Rattle.arc_table.proofs.OneEvent.{same_head, some_is}
+use Rattle.arc_table.proofs.OneEvent.{same_head}
 use Rattle.arc_table.proofs.Reached.{number_below, picked_is, reached, sound_log}
 
 pub number_is : (n : ℕ) → n < numbers → is_number n ≡ true

@@ -1,19 +1,15 @@
 -- Events after which the header of their key is brought up to its entry: what the entry keeps but its state and place.
-use Rattle.std.proofs.Common.{◌≡◌, ◌==◌, if◌then◌else◌, ℕ, ◌<◌, List, [], ◌∷◌, ◌++◌, Bool, true, false, Option, Some, None, refl, sym, ap, ◌∙◌, subst, inl, arith}
-use Rattle.std.specs.Prelude.{IsTrue, ◌&&◌, not, is_some, nat_lt}
-use Rattle.std.specs.Option.{option_and_then, option_map, option_map_or}
+use Rattle.std.proofs.Common.{◌≡◌, ◌==◌, ℕ, [], ◌∷◌, ◌++◌, Bool, true, false, Option, Some, None, refl, sym, ap, ◌∙◌, subst}
+use Rattle.std.specs.Prelude.{IsTrue}
+use Rattle.std.specs.Option.{option_map, option_map_or}
 use Rattle.std.proofs.lemmas.Option.{none-some}
 use Rattle.blk_ptr.specs.declared.key.Key.{Key}
-use Rattle.blk_ptr.specs.declared.ptr.Ptr.{Ptr}
-use Rattle.blk_ptr.specs.declared.state.State.TheVariants.{L2Only}
-use Rattle.blk_ptr.specs.State.{is_same_state}
 use Rattle.arc_core.specs.declared.config.Config.{Config}
 use Rattle.arc_core.specs.Config.{IsConfig}
 use Rattle.arc_core.specs.declared.entry.Entry.{Entry}
 use Rattle.arc_core.specs.declared.event.Event.{Event}
 use Rattle.arc_core.specs.declared.event.Event.TheVariants.{Release}
 use Rattle.arc_core.specs.Changes.{one_less}
-use Rattle.arc_core.specs.Changing.{without_place}
 use Rattle.arc_core.specs.Operations.{event_key}
 use Rattle.arc_core.specs.PlainShard.{PlainShard, entry_of, holds_of, is_resident}
 use Rattle.arc_core.specs.ShardLog.{ShardLog}

@@ -1,6 +1,6 @@
 -- A cell puts a block in.
-use Rattle.std.proofs.Common.{◌≡◌, ◌==◌, ℕ, ◌<◌, ◌≤◌, List, [], ◌∷◌, length, Bool, true, false, Option, Some, None, refl, sym, ap, ◌∙◌, subst, inl, inr}
-use Rattle.std.specs.Prelude.{IsTrue, IsSome, MatchOption, ◌&&◌}
+use Rattle.std.proofs.Common.{◌≡◌, ℕ, length, true, false, Option, Some, None, refl, sym, ap, ◌∙◌, subst, inr}
+use Rattle.std.specs.Prelude.{IsTrue, IsSome, MatchOption}
 use Rattle.blk_ptr.specs.declared.digest.Digest.{Digest}
 use Rattle.blk_ptr.specs.declared.key.Key.{Key}
 use Rattle.blk_ptr.specs.Key.{is_well_formed}
@@ -24,11 +24,11 @@ use Rattle.arc_table.specs.declared.scan.Scan.{Scan}
 use Rattle.arc_table.specs.declared.view.Known.{Known}
 use Rattle.arc_table.specs.Ending.{HasMade}
 use Rattle.arc_table.specs.Evicting.{HasScanned}
-use Rattle.arc_table.specs.Geometry.{IsCell, bucket_turn, cell_number, shard_turn}
+use Rattle.arc_table.specs.Geometry.{bucket_turn, shard_turn}
 use Rattle.arc_table.specs.Handing.{IsCellInHand}
 use Rattle.arc_table.specs.Headed.{IsHead, Says}
 use Rattle.arc_table.specs.Items.{Meanings}
-use Rattle.arc_table.specs.Scanning.{added, pairs_of}
+use Rattle.arc_table.specs.Scanning.{pairs_of}
 use Rattle.arc_table.proofs.HoldEvents.{cell_is}
 use Rattle.arc_table.proofs.MissEvents.{event_made}
 use Rattle.arc_table.proofs.Scans.{added_among}

@@ -1,14 +1,12 @@
 -- A read of a block that isn't cached begins: the party has just taken the key's bucket and its shard.
-use Rattle.std.proofs.Common.{◌≡◌, ◌≢◌, ◌⊎◌, ◌==◌, if◌then◌else◌, ℕ, ◌+◌, ◌<◌, ◌≤◌, List, [], ◌∷◌, ◌++◌, length, Bool, true, false, Option, Some, None, refl, sym, ap, ◌∙◌, subst, inl, inr, arith, append-nil, append_assoc, eq-eqb, ne_eqb}
-use Rattle.std.specs.Prelude.{IsTrue, IsSome, ◌&&◌, is_some, nat_lt}
-use Rattle.std.specs.Option.{option_and_then, option_map_or}
+use Rattle.std.proofs.Common.{◌≡◌, if◌then◌else◌, ℕ, ◌<◌, List, [], ◌∷◌, ◌++◌, length, Bool, true, false, Option, Some, None, refl, sym, ap, ◌∙◌, subst, inl, inr, arith, append-nil, append_assoc, eq-eqb}
+use Rattle.std.specs.Prelude.{IsTrue, IsSome, ◌&&◌}
+use Rattle.std.specs.Option.{option_map_or}
 use Rattle.std.proofs.lemmas.Bool.Decides.{nat_tests}
-use mathlib.Core.Logic.{dite}
-use native.Mathlib.Decide.{ℕ_discrete}
 use Rattle.blk_ptr.specs.declared.key.Key.{Key}
 use Rattle.blk_ptr.specs.Key.{is_well_formed}
 use Rattle.blk_ptr.specs.Order.{key_eq}
-use Rattle.blk_ptr.proofs.Keys.{key_eq-is, key_eq-same, key_eq-sym}
+use Rattle.blk_ptr.proofs.Keys.{key_eq-same, key_eq-sym}
 use Rattle.arc_lists.proofs.Standing.{and_right, both as both_true}
 use Rattle.arc_core.specs.declared.config.Config.{Config}
 use Rattle.arc_core.specs.Config.{IsConfig}

@@ -1,8 +1,7 @@
 -- What a party holds and lists once it has given all back behind a scan.
-use Rattle.std.proofs.Common.{◌≡◌, ◌≢◌, ◌⊎◌, ◌==◌, if◌then◌else◌, ℕ, ◌<◌, ◌≤◌, List, [], ◌∷◌, ◌++◌, length, Bool, true, false, Option, Some, refl, sym, ap, ◌∙◌, subst, inl, inr, eq-eqb, arith}
+use Rattle.std.proofs.Common.{◌≡◌, ◌≢◌, if◌then◌else◌, ℕ, ◌<◌, List, [], ◌∷◌, ◌++◌, length, Bool, true, Some, refl, sym, ap, ◌∙◌, subst, inl, inr, eq-eqb, arith}
 use Rattle.std.specs.Prelude.{nat_lt}
 use Rattle.std.proofs.lemmas.Bool.Decides.{nat_tests}
-use mathlib.Core.Option.{some}
 use lib.ListN.{get_elem?}
 use Rattle.blk_ptr.specs.declared.digest.Digest.{Digest}
 use Rattle.blk_ptr.specs.declared.key.Key.{Key}
@@ -25,12 +24,12 @@ use Rattle.arc_table.specs.Fronts.{item_at, list_at}
 use Rattle.arc_table.specs.Geometry.{IsBucket, IsCell, bucket_turn, cell_number, shard_turn}
 use Rattle.arc_table.specs.Holding.{IsListed, cell}
 use Rattle.arc_table.specs.Items.{Meanings}
-use Rattle.arc_table.specs.Scanning.{AllPairs, ArePasses, after_scan, gave_all, won_all}
+use Rattle.arc_table.specs.Scanning.{AllPairs, ArePasses, after_scan, gave_all}
 use Rattle.arc_table.specs.ShardGiving.{after_shard, holds_through, listed_after}
 use Rattle.arc_table.specs.Sparing.{turns_in}
 use Rattle.arc_table.specs.Views.{after_same}
 use Rattle.arc_table.proofs.Ranges.{bucket_range, shard_range}
-use Rattle.arc_table.proofs.Scans.{added_among, among_without, won_about, won_listed, won_records}
+use Rattle.arc_table.proofs.Scans.{added_among, among_without, won_about, won_records}
 use Rattle.arc_table.proofs.ShardGives.{listed_at}
 
 -- ---- buckets given back

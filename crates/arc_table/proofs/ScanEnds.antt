@@ -1,32 +1,25 @@
 -- A scan ends: all headers in hand say what their entries do, and all may be given back.
-use Rattle.std.proofs.Common.{◌≡◌, ◌≢◌, ◌⊎◌, ◌==◌, if◌then◌else◌, ℕ, zero, suc, ◌+◌, ◌<◌, ◌≤◌, List, [], ◌∷◌, ◌++◌, length, drop, map, Bool, true, false, Option, Some, None, refl, sym, ap, ◌∙◌, subst, inl, inr, ⊎_elim, eq-eqb, ne_eqb, arith}
+use Rattle.std.proofs.Common.{◌≡◌, ◌≢◌, ◌⊎◌, ◌==◌, if◌then◌else◌, ℕ, List, [], ◌∷◌, ◌++◌, Bool, true, false, Option, Some, None, refl, sym, ap, ◌∙◌, subst, inl, inr, eq-eqb, ne_eqb, arith}
 use Rattle.std.specs.Prelude.{IsTrue, IsSome, not, nat_lt}
-use Rattle.std.specs.Option.{option_map_or}
 use Rattle.std.proofs.lemmas.Option.{none-some}
 use Rattle.std.proofs.lemmas.Bool.Decides.{nat_tests}
 use mathlib.Core.Logic.{dite}
 use native.Mathlib.Decide.{ℕ_discrete}
 use Rattle.blk_ptr.specs.declared.key.Key.{Key}
-use Rattle.blk_ptr.specs.declared.ptr.Ptr.{Ptr}
-use Rattle.blk_ptr.specs.Order.{key_eq}
 use Rattle.arc_lists.specs.Sequences.{stands_on}
 use Rattle.arc_core.specs.declared.config.Config.{Config}
-use Rattle.arc_core.specs.Config.{IsConfig}
 use Rattle.arc_core.specs.declared.entry.Entry.{Entry}
 use Rattle.arc_core.specs.declared.event.Event.{Event}
 use Rattle.arc_core.specs.Operations.{event_key, is_about}
 use Rattle.arc_core.specs.PlainShard.{PlainShard, entry_of}
 use Rattle.arc_core.specs.ShardLog.{ShardLog}
 use Rattle.arc_core.specs.Sparing.{IsSpared}
-use Rattle.arc_core.specs.Step.{after}
 use Rattle.arc_core.proofs.Others.{sparing}
 use Rattle.hash_chain.specs.Chain.{Chain, header_at}
 use Rattle.hash_chain.specs.declared.header.Header.{Header}
-use Rattle.turn_table.specs.Board.{IsAmong, without}
 use Rattle.turn_table.specs.Places.{Place, gave_back}
 use Rattle.arc_table.specs.declared.hand.Hand.{Hand}
 use Rattle.arc_table.specs.declared.scan.Scan.{Scan}
-use Rattle.arc_table.specs.declared.item.Item.{Item}
 use Rattle.arc_table.specs.declared.item.Item.TheVariants as item
 use Rattle.arc_table.specs.declared.view.Known.{Known}
 use Rattle.arc_table.specs.Ending.{HasMade}
@@ -35,7 +28,7 @@ use Rattle.arc_table.specs.Geometry.{IsBucket, IsShard, bucket_turn, shard_turn}
 use Rattle.arc_table.specs.Headed.{IsHead}
 use Rattle.arc_table.specs.InHand.{buckets_of, made_since}
 use Rattle.arc_table.specs.Items.{Meanings}
-use Rattle.arc_table.specs.Scanning.{AllPairs, AreApart, IsBucketOf, IsInHand, IsKnownBucket, added, pairs_of, won_all}
+use Rattle.arc_table.specs.Scanning.{AllPairs, AreApart, IsBucketOf, IsInHand, IsKnownBucket, pairs_of, won_all}
 use Rattle.arc_table.specs.ShardGiving.{IsGivenShard, after_shard, buckets_in, listed_through}
 use Rattle.arc_table.specs.Sparing.{AreHeadsBut, turns_in}
 use Rattle.arc_table.specs.TableLaws.{item_here}

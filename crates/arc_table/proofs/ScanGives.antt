@@ -1,6 +1,6 @@
 -- A scan has ended and its event was made: the shard may be given back where the headers in hand say what the entries do.
-use Rattle.std.proofs.Common.{◌≡◌, ◌≢◌, ◌⊎◌, ◌==◌, if◌then◌else◌, ℕ, zero, suc, ◌+◌, ◌-◌, ◌<◌, ◌≤◌, List, [], ◌∷◌, ◌++◌, length, map, Bool, true, false, Option, Some, None, refl, sym, ap, ◌∙◌, subst, inl, inr, ⊎_elim, eq-eqb, ne_eqb, arith, append_assoc, append-nil, length-append}
-use Rattle.std.specs.Prelude.{IsTrue, IsSome, ◌&&◌, not, count_by}
+use Rattle.std.proofs.Common.{◌≡◌, ◌⊎◌, ◌==◌, if◌then◌else◌, ℕ, zero, suc, ◌+◌, ◌-◌, ◌<◌, List, [], ◌∷◌, ◌++◌, length, Bool, true, false, Option, Some, None, refl, sym, ap, ◌∙◌, subst, inl, inr, ⊎_elim, arith, append_assoc, length-append}
+use Rattle.std.specs.Prelude.{IsTrue, IsSome, not}
 use Rattle.std.specs.Option.{option_map_or}
 use Rattle.std.specs.Prelude.{cond}
 use Rattle.std.proofs.lemmas.List.Sums.{sum_by-cons}
@@ -14,31 +14,29 @@ use Rattle.arc_lists.specs.Sequences.{stands_on}
 use Rattle.arc_core.specs.declared.config.Config.{Config}
 use Rattle.arc_core.specs.declared.entry.Entry.{Entry}
 use Rattle.arc_core.specs.declared.event.Event.{Event}
-use Rattle.arc_core.specs.declared.event.Event.TheVariants.{Pass, Hit, Miss, Arrive, Fail, Drop, Past, Hand, Insert, Release, Pick, FeedEnd, Set, Leave, Clear, Restore, Resize}
+use Rattle.arc_core.specs.declared.event.Event.TheVariants.{Pass, Miss, Insert, Pick, Resize}
 use Rattle.arc_core.specs.Operations.{event_key, is_about, is_pass}
 use Rattle.arc_core.specs.PlainShard.{PlainShard, entry_of}
 use Rattle.arc_core.specs.ShardLog.{ShardLog}
 use Rattle.arc_core.specs.Sparing.{IsSpared}
 use Rattle.arc_core.specs.Step.{after, legal}
 use Rattle.arc_core.proofs.Others.{frame-kept, sparing}
-use Rattle.hash_chain.specs.Chain.{Chain, header_at}
-use Rattle.hash_chain.specs.declared.header.Header.{Header}
+use Rattle.hash_chain.specs.Chain.{Chain}
 use Rattle.turn_table.specs.Board.{IsAmong}
 use Rattle.turn_table.specs.Places.{Place}
 use Rattle.arc_table.specs.declared.view.Known.{Known}
 use Rattle.arc_table.specs.declared.view.Mine.{Mine}
 use Rattle.arc_table.specs.declared.view.Note.{Note}
-use Rattle.arc_table.specs.Fronts.{item_at, list_at}
-use Rattle.arc_table.specs.Geometry.{IsBucket, bucket_turn, shard_turn}
-use Rattle.arc_table.specs.Headed.{IsHead}
+use Rattle.arc_table.specs.Fronts.{item_at}
+use Rattle.arc_table.specs.Geometry.{bucket_turn, shard_turn}
 use Rattle.arc_table.specs.Items.{Meanings}
 use Rattle.arc_table.specs.Logged.{is_picking}
-use Rattle.arc_table.specs.Scanning.{takes_room, AllPairs, AreApart, ArePasses, IsBucketOf, MayScan, Scans, added, notes_of, won_all}
+use Rattle.arc_table.specs.Scanning.{takes_room, AllPairs, AreApart, ArePasses, IsBucketOf, MayScan, Scans, added, notes_of}
 use Rattle.arc_table.specs.Sparing.{turns_in}
-use Rattle.arc_table.specs.ShardGiving.{ArePassesNoted, AreAlike, IsActor, IsGivenShard, SameHead, passes_in}
+use Rattle.arc_table.specs.ShardGiving.{ArePassesNoted, IsActor, IsGivenShard, SameHead, passes_in}
 use Rattle.arc_table.specs.Views.{note}
 use Rattle.arc_table.proofs.OneEvent.{is_pick, stays_settled}
-use Rattle.arc_table.proofs.Scans.{added_among, each_held, is_there, item_front, item_past, pair_at, replayed_more, scan_listed, scan_number, scan_recorded, some_is, won_mine}
+use Rattle.arc_table.proofs.Scans.{added_among, each_held, item_past, pair_at, replayed_more, scan_listed, scan_number, scan_recorded, some_is, won_mine}
 
 -- ---- passes and their notes
 

@@ -1,6 +1,6 @@
 -- One victim of a scan is named: its bucket was in hand, or was won, or another party has it.
 use Rattle.std.proofs.Common.{◌≡◌, ◌≢◌, ◌⊎◌, ◌==◌, ℕ, zero, suc, ◌+◌, ◌<◌, ◌≤◌, List, [], ◌∷◌, ◌++◌, map, Bool, true, false, Option, Some, None, refl, sym, ap, ◌∙◌, subst, inl, inr, ⊎_elim, arith}
-use Rattle.std.specs.Prelude.{IsTrue, IsSome, ◌&&◌, ◌||◌, not, nat_le, nat_lt, vec_len, vec_capacity}
+use Rattle.std.specs.Prelude.{IsTrue, IsSome, ◌||◌, not, nat_le, nat_lt, vec_len, vec_capacity}
 use Rattle.std.proofs.lemmas.Bool.Decides.{nat_tests}
 use Rattle.blk_ptr.specs.declared.key.Key.{Key}
 use Rattle.blk_ptr.specs.Order.{key_eq}
@@ -12,7 +12,7 @@ use Rattle.arc_core.specs.Config.{IsConfig}
 use Rattle.arc_core.specs.declared.entry.Entry.{Entry}
 use Rattle.arc_core.specs.declared.event.Event.{Event}
 use Rattle.arc_core.specs.declared.event.Event.TheVariants.{Pass}
-use Rattle.arc_core.specs.PlainShard.{PlainShard, entry_of, is_number, is_party}
+use Rattle.arc_core.specs.PlainShard.{PlainShard, entry_of, is_number}
 use Rattle.arc_core.specs.ShardLog.{HasRoom, IsUnnamed, Makes, ShardLog}
 use Rattle.arc_core.specs.Step.{legal}
 use Rattle.hash_chain.specs.Chain.{Chain}
@@ -20,7 +20,6 @@ use Rattle.turn_table.specs.Board.{IsAmong}
 use Rattle.turn_table.specs.Moments.{WasFree}
 use Rattle.turn_table.specs.Places.{Place, saw, took}
 use Rattle.arc_table.specs.declared.both.Both.{Both}
-use Rattle.arc_table.specs.declared.hand.Hand.{Hand}
 use Rattle.arc_table.specs.declared.hand.Taken.{Taken}
 use Rattle.arc_table.specs.declared.scan.Scan.{Scan}
 use Rattle.arc_table.specs.declared.item.Item.TheVariants as item
@@ -36,7 +35,7 @@ use Rattle.arc_table.specs.Scanning.{takes_room, IsBucketOf, MayScan, Scans, pai
 use Rattle.arc_table.specs.Views.{after_lost, after_won}
 use Rattle.arc_table.proofs.Boards.{bucket_there}
 use Rattle.arc_table.proofs.Ranges.{bucket_range}
-use Rattle.arc_table.proofs.Scans.{not_in_hand, scan_config, scan_marked, scan_number, scan_party, scan_passed, scan_won, some_is, still_legal, won_bucket}
+use Rattle.arc_table.proofs.Scans.{not_in_hand, scan_config, scan_marked, scan_number, scan_party, scan_passed, scan_won, still_legal, won_bucket}
 use Rattle.arc_table.proofs.ScanRoom.{fewer_marked, fewer_passed}
 
 pairs_more : (ts : List Taken) (t : Taken) → pairs_of (ts ++ t ∷ []) ≡ pairs_of ts ++ (t.turn, t.bucket) ∷ []

@@ -1,6 +1,6 @@
 -- What a shard says of a pointer.
-use Rattle.std.proofs.Common.{◌≡◌, ◌≢◌, ◌==◌, if◌then◌else◌, ℕ, zero, suc, ◌+◌, ◌-◌, ◌<◌, ◌≤◌, List, [], ◌∷◌, Bool, true, false, Option, Some, None, refl, sym, ap, ◌∙◌, subst, ne_eqb, arith, get_or}
-use Rattle.std.specs.Prelude.{IsTrue, ◌&&◌, ◌||◌, not, is_some, sum, length}
+use Rattle.std.proofs.Common.{◌≡◌, ◌==◌, if◌then◌else◌, ℕ, zero, suc, ◌+◌, ◌-◌, ◌<◌, ◌≤◌, List, [], ◌∷◌, Bool, true, false, Option, Some, None, refl, sym, ap, ◌∙◌, subst, ne_eqb, arith, get_or}
+use Rattle.std.specs.Prelude.{IsTrue, ◌&&◌, ◌||◌, not, is_some, sum}
 use Rattle.std.specs.Option.{option_and_then, option_map, option_map_or}
 use Rattle.std.proofs.lemmas.Bool.Decides.{nat_tests}
 use Rattle.std.proofs.lemmas.Option.{none-some}
@@ -15,7 +15,7 @@ use Rattle.arc_core.specs.PlainShard.{PlainShard, entry_is, entry_of, held_by, h
 use Rattle.arc_core.specs.Sound.{IsSound, fits_reading, fits_state}
 use Rattle.arc_core.specs.Step.{is_missing, is_without_bytes, reads}
 use Rattle.arc_core.specs.View.{first_holder, holder_of, view_of}
-use Rattle.arc_table.proofs.ShardGives.{entry_sound, option_case}
+use Rattle.arc_table.proofs.ShardGives.{entry_sound}
 
 some_is : {X : Type 0} (x y : X) → ◌≡◌ {A = Option X} (Some x) (Some y) → x ≡ y
 some_is x y e = cc

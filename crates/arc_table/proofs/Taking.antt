@@ -1,5 +1,5 @@
 -- Taking the bucket and the shard of a key, and giving both back.
-use Rattle.std.proofs.Common.{◌≡◌, ◌⊎◌, ℕ, List, [], ◌∷◌, ◌++◌, map, length, Option, Some, append-nil, refl, sym, ap, ◌∙◌, subst, inl, inr, arith}
+use Rattle.std.proofs.Common.{◌≡◌, ℕ, List, [], ◌∷◌, map, length, Some, append-nil, sym, ap, ◌∙◌, subst, inl, inr, arith}
 use Rattle.std.specs.Prelude.{IsTrue}
 use Rattle.arc_core.specs.Replay.{is_legal_history, replay}
 use Rattle.blk_ptr.specs.declared.key.Key.{Key}

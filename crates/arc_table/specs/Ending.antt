@@ -16,7 +16,6 @@ use Rattle.arc_table.specs.declared.view.Known.{Known}
 use Rattle.arc_table.specs.Both.{TakesBoth}
 use Rattle.arc_table.specs.Geometry.{IsBucket, bucket_turn, shard_turn}
 use Rattle.arc_table.specs.Headed.{IsHead}
-use Rattle.arc_table.specs.InHand.{buckets_of}
 use Rattle.arc_table.specs.Items.{Meanings}
 use Rattle.arc_table.specs.Scanning.{takes_room, AllPairs, ArePasses, MayScan, Scans, after_scan, gave_all, pairs_of}
 use Rattle.arc_table.specs.ShardGiving.{IsActor, after_shard}

@@ -1,5 +1,5 @@
 -- What the feeder's calls on one key or on a list of them answer.
-use Rattle.std.specs.Prelude.{◌≡◌, ◌⊎◌, ℕ, Bool, true, false, not, ◌==◌, IsTrue, List, [], ◌∷◌, Result, Ok, Err, take, is_some, Some}
+use Rattle.std.specs.Prelude.{◌≡◌, ◌⊎◌, ℕ, Bool, true, false, not, ◌==◌, IsTrue, List, [], ◌∷◌, Result, Ok, Err, take, is_some}
 use Rattle.std.specs.Option.{option_map_or}
 use mathlib.Core.Option.{some}
 use lib.ListN.{get_elem?}

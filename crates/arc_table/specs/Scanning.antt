@@ -1,6 +1,6 @@
 -- A scan for victims. It holds a shard and only tries the buckets of the keys that an event evicts or drops. A bucket that it wins stays
 -- in hand and the key is marked; a key whose bucket another party has is passed, and the party keeps the note of the lost try.
-use Rattle.std.specs.Prelude.{◌≡◌, ◌≢◌, ◌⊎◌, ℕ, ◌<◌, Bool, true, false, IsTrue, not, ◌&&◌, List, [], ◌∷◌, ◌++◌, length, map, count_by, IsSome, Option, Some, None}
+use Rattle.std.specs.Prelude.{◌≡◌, ℕ, ◌<◌, Bool, true, false, IsTrue, not, ◌&&◌, List, [], ◌∷◌, ◌++◌, length, map, count_by, IsSome, Some, None}
 use mathlib.Core.Option.{some}
 use lib.ListN.{get_elem?}
 use Rattle.blk_ptr.specs.declared.key.Key.{Key}
@@ -21,7 +21,7 @@ use Rattle.arc_table.specs.declared.view.Known.{Known}
 use Rattle.arc_table.specs.declared.view.Mine.{Mine}
 use Rattle.arc_table.specs.declared.view.Note.{Note}
 use Rattle.arc_table.specs.Fronts.{item_at, list_at}
-use Rattle.arc_table.specs.Geometry.{IsBucket, IsCell, IsShard, bucket_turn, parties_of, shard_turn}
+use Rattle.arc_table.specs.Geometry.{IsBucket, IsShard, bucket_turn, parties_of, shard_turn}
 use Rattle.arc_table.specs.Headed.{IsHead}
 use Rattle.arc_table.specs.Items.{Meanings}
 use Rattle.arc_table.specs.Logged.{IsSoundLog}

@@ -1,4 +1,4 @@
-use Rattle.std.proofs.Common.{sym, ◌∙◌}
+use Rattle.std.proofs.Common.{sym}
 use Rattle.arc_table.proofs.Standings.{shown_missing, shown_reader}
 use Rattle.arc_table.proofs.hits.standing_of.Goals as goal
 

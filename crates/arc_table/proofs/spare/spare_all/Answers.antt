@@ -1,5 +1,5 @@
-use Rattle.std.proofs.Common.{◌≡◌, ◌+◌, ◌<◌, ℕ, List, [], ◌∷◌, drop, get_or, length, zero, suc, Bool, Option, Some, true, false, refl, IsTrue, sym, ap, ◌∙◌, subst, add-one, arith}
-use Rattle.std.specs.Prelude.{IsSome, ◌||◌}
+use Rattle.std.proofs.Common.{◌≡◌, ◌+◌, ◌<◌, ℕ, List, [], ◌∷◌, drop, get_or, length, zero, suc, Bool, Option, true, false, refl, IsTrue, sym, ap, ◌∙◌, subst, add-one, arith}
+use Rattle.std.specs.Prelude.{◌||◌}
 use Rattle.std.specs.Option.{option_map}
 use Rattle.std.proofs.Math.Seq.{drop-cons}
 use Rattle.std.proofs.lemmas.List.{drop_all}

@@ -1,13 +1,10 @@
-use Rattle.std.proofs.Common.{◌≡◌, ℕ, ◌+◌, ◌<◌, ◌≤◌, List, [], IsTrue, refl, sym, ap, ◌∙◌, subst, arith}
-use Rattle.turn_table.specs.Places.{Place}
+use Rattle.std.proofs.Common.{◌≡◌, ◌<◌, [], sym, ap, ◌∙◌, subst, arith}
 use Rattle.arc_core.specs.ShardLog.{ShardLog}
 use Rattle.arc_core.specs.Step.{legal}
-use Rattle.hash_chain.specs.Chain.{Chain}
 use Rattle.arc_table.specs.declared.both.Both.{Both}
 use Rattle.arc_table.specs.declared.hand.Taken.{Taken}
 use Rattle.arc_table.specs.declared.scan.Scan.{Scan}
-use Rattle.arc_table.specs.declared.view.Known.{Known}
-use Rattle.arc_table.specs.Evicting.{HasScanRoom, IsScan, IsScanning, KeepsHand, MayBegin}
+use Rattle.arc_table.specs.Evicting.{MayBegin}
 use Rattle.arc_table.specs.Items.{Meanings, meanings}
 use Rattle.arc_table.proofs.ScanBegins.{may_keeps, scan_begins}
 use Rattle.arc_table.proofs.ScanSteps.{legal_then, may_after}

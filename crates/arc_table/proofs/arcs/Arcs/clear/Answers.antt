@@ -1,20 +1,18 @@
-use Rattle.std.proofs.Common.{◌≡◌, ◌⊎◌, ◌<◌, if◌then◌else◌, Bool, ℕ, List, [], ◌∷◌, ◌++◌, false, true, refl, sym, ap, ◌∙◌, subst, inl, inr}
+use Rattle.std.proofs.Common.{◌≡◌, ◌<◌, ℕ, [], ◌∷◌, ◌++◌, true, refl, sym, ap, ◌∙◌, subst, inl}
 use Rattle.std.specs.Prelude.{IsTrue, not}
-use Rattle.arc_core.specs.declared.event.Event.TheVariants.{Set, Leave, Clear, Restore}
-use Rattle.arc_core.specs.declared.event.Why.{Why}
-use Rattle.arc_core.specs.declared.event.Why.TheVariants as why
+use Rattle.arc_core.specs.declared.event.Event.TheVariants.{Clear}
 use Rattle.arc_core.specs.PlainShard.{PlainShard, numbers}
 use Rattle.arc_core.specs.ShardLog.{ShardLog}
-use Rattle.arc_core.specs.Step.{after, is_writing, legal, may_set}
-use Rattle.arc_table.specs.Both.{Does, Makes}
+use Rattle.arc_core.specs.Step.{after, legal}
+use Rattle.arc_table.specs.Both.{Makes}
 use Rattle.arc_table.specs.Feeding.{has_place}
 use Rattle.arc_table.specs.Geometry.{shard_turn}
-use Rattle.arc_table.specs.Items.{Meanings, meanings}
+use Rattle.arc_table.specs.Items.{meanings}
 use Rattle.arc_table.specs.Making.{IsTaken}
-use Rattle.arc_table.proofs.FeedEvents.{clear_legal, clear_like, clear_there, feeder_is, leave_legal, leave_same, number_few, number_is, pick_there, reason_is, set_legal, set_like, set_there, writes}
+use Rattle.arc_table.proofs.FeedEvents.{clear_legal, clear_like, clear_there, feeder_is, number_few}
 use Rattle.arc_table.proofs.FollowEvents.{follow_made, header_there}
 use Rattle.arc_table.proofs.HitEvents.{some_there}
-use Rattle.arc_table.proofs.OneEvent.{alike_made, makes_these, some_is, taken_sound}
+use Rattle.arc_table.proofs.OneEvent.{makes_these, some_is, taken_sound}
 use Rattle.arc_table.proofs.Reached.{reached}
 use Rattle.arc_table.proofs.Taking.{tells}
 use Rattle.arc_table.proofs.arcs.Arcs.clear.Goals as goal

@@ -1,22 +1,20 @@
-use Rattle.std.proofs.Common.{◌≡◌, ℕ, List, [], ◌∷◌, ◌++◌, IsTrue, refl, sym, ap, ◌∙◌, subst}
+use Rattle.std.proofs.Common.{◌≡◌, ℕ, List, [], ◌∷◌, ◌++◌, IsTrue, sym, ap, ◌∙◌, subst}
 use Rattle.blk_ptr.specs.declared.key.Key.{Key}
 use Rattle.arc_lists.specs.Sequences.{stands_on}
 use Rattle.arc_core.specs.declared.config.Config.{Config}
 use Rattle.arc_core.specs.declared.event.Event.{Event}
-use Rattle.arc_core.specs.PlainShard.{PlainShard}
 use Rattle.arc_core.specs.ShardLog.{ShardLog}
 use Rattle.hash_chain.specs.Chain.{Chain}
 use Rattle.turn_table.specs.Places.{Place, gave_back}
 use Rattle.arc_table.specs.declared.hand.Hand.{Hand}
-use Rattle.arc_table.specs.declared.scan.Scan.{Scan}
 use Rattle.arc_table.specs.declared.view.Known.{Known}
 use Rattle.arc_table.specs.Cache.{Cache, IsPartyOf}
 use Rattle.arc_table.specs.Ending.{HasMade}
 use Rattle.arc_table.specs.InHand.{buckets_of, made_since}
 use Rattle.arc_table.specs.Items.{Meanings, meanings}
-use Rattle.arc_table.specs.Scanning.{AllPairs, AreApart, IsInHand, gave_all, pairs_of}
+use Rattle.arc_table.specs.Scanning.{AllPairs, IsInHand, gave_all, pairs_of}
 use Rattle.arc_table.specs.ShardGiving.{IsGivenShard, after_shard}
-use Rattle.arc_table.specs.Sparing.{AreHeadsBut, turns_in}
+use Rattle.arc_table.specs.Sparing.{AreHeadsBut}
 use Rattle.arc_table.specs.Views.{after_same}
 use Rattle.arc_table.proofs.Scans.{all_in_hand_else, scan_among, scan_config}
 use Rattle.arc_table.proofs.ScanEnds.{all_heads, all_in_hand, hand_apart, made_events, marked_in_hand, may_give, still_apart}

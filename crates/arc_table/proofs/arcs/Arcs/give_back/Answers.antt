@@ -1,5 +1,4 @@
-use Rattle.std.proofs.Common.{[], refl, sym, ap, ◌∙◌}
-use Rattle.arc_core.specs.ShardLog.{ShardLog}
+use Rattle.std.proofs.Common.{[], refl}
 use Rattle.arc_table.specs.Items.{meanings}
 use Rattle.arc_table.proofs.OneEvent.{makes_these, none_made, none_since}
 use Rattle.arc_table.proofs.arcs.Arcs.give_back.Goals as goal

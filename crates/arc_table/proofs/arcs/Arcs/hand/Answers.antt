@@ -1,19 +1,18 @@
-use Rattle.std.proofs.Common.{◌≡◌, ℕ, List, [], ◌∷◌, ◌++◌, refl, sym, ap, ◌∙◌, subst, inr}
+use Rattle.std.proofs.Common.{◌≡◌, ℕ, [], ◌∷◌, ◌++◌, refl, sym, ap, ◌∙◌, subst, inr}
 use Rattle.std.specs.Prelude.{IsTrue, true}
-use Rattle.blk_ptr.specs.declared.ptr.Ptr.{Ptr}
 use Rattle.arc_core.specs.declared.event.Event.TheVariants.{Hand}
 use Rattle.arc_core.specs.PlainShard.{PlainShard, is_cell}
 use Rattle.arc_core.specs.ShardLog.{ShardLog}
 use Rattle.arc_core.specs.Step.{after, legal}
 use Rattle.turn_table.specs.Board.{IsAmong}
 use Rattle.arc_table.specs.Both.{Makes}
-use Rattle.arc_table.specs.Geometry.{cell_number, shard_turn}
+use Rattle.arc_table.specs.Geometry.{shard_turn}
 use Rattle.arc_table.specs.Holding.{IsListed, ptr_of}
-use Rattle.arc_table.specs.Items.{Meanings, meanings}
+use Rattle.arc_table.specs.Items.{meanings}
 use Rattle.arc_table.specs.Making.{IsTaken}
 use Rattle.arc_table.proofs.HoldEvents.{acts_for, cell_is, hand_alike, hand_legal, handed_listed}
 use Rattle.arc_table.proofs.OneEvent.{alike_made, makes_these, some_is, taken_holding, taken_sound}
-use Rattle.arc_table.proofs.Reached.{IsHolding, listed_still, reached}
+use Rattle.arc_table.proofs.Reached.{listed_still, reached}
 use Rattle.arc_table.proofs.arcs.Arcs.hand.Goals as goal
 
 pub hand-requires-clause-legal : goal.hand-requires-clause-legal

@@ -1,11 +1,10 @@
-use Rattle.std.proofs.Common.{◌≡◌, List, ℕ, [], ◌∷◌, ◌++◌, Some, refl, sym, ap, ◌∙◌, subst}
+use Rattle.std.proofs.Common.{ℕ, [], ◌∷◌, ◌++◌, refl, sym, ap, ◌∙◌, subst}
 use Rattle.std.specs.Prelude.{IsTrue}
 use Rattle.blk_ptr.specs.declared.ptr.Ptr.{Ptr}
 use Rattle.arc_core.specs.declared.event.Event.TheVariants.{Hit}
 use Rattle.arc_core.specs.PlainShard.{PlainShard}
 use Rattle.arc_core.specs.ShardLog.{ShardLog}
 use Rattle.arc_core.specs.Step.{after, legal}
-use Rattle.arc_table.specs.declared.both.Both.{Both}
 use Rattle.arc_table.specs.Both.{Makes}
 use Rattle.arc_table.specs.Holding.{IsListed}
 use Rattle.arc_table.specs.Items.{meanings}

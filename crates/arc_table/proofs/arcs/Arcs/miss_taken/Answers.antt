@@ -1,13 +1,7 @@
-use Rattle.std.proofs.Common.{◌≡◌, ◌<◌, Some, None, true, ℕ, List, [], ◌∷◌, IsTrue, refl, sym, ap, ◌∙◌, subst}
-use Rattle.std.specs.Prelude.{IsSome}
-use Rattle.arc_core.specs.declared.entry.Entry.{Entry}
+use Rattle.std.proofs.Common.{Some, None, true, ℕ, refl, sym, subst}
 use Rattle.arc_core.specs.declared.event.Event.{Event}
 use Rattle.arc_core.specs.declared.event.Event.TheVariants.{Miss}
-use Rattle.arc_core.specs.PlainShard.{entry_of}
-use Rattle.arc_core.specs.ShardLog.{ShardLog}
-use Rattle.arc_core.specs.Step.{legal}
 use Rattle.turn_table.specs.Places.{Place}
-use Rattle.arc_table.specs.declared.both.Both.{Both}
 use Rattle.arc_table.specs.declared.scan.Scan.{Scan}
 use Rattle.arc_table.specs.declared.view.Known.{Known}
 use Rattle.hash_chain.specs.Chain.{IsWith}

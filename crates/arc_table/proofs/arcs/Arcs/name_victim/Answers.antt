@@ -1,15 +1,11 @@
-use Rattle.std.proofs.Common.{◌≡◌, ◌<◌, ℕ, ◌+◌, List, ◌∷◌, ◌++◌, [], None, true, sym, ap, ◌∙◌, subst, arith}
+use Rattle.std.proofs.Common.{◌≡◌, ℕ, ◌∷◌, ◌++◌, [], None, sym, ap, ◌∙◌, subst, arith}
 use Rattle.std.specs.Prelude.{vec_len, vec_capacity, IsSome}
-use Rattle.blk_ptr.specs.declared.key.Key.{Key}
 use Rattle.arc_core.specs.declared.config.Config.{Config}
 use Rattle.arc_core.specs.Config.{IsConfig}
-use Rattle.arc_core.specs.declared.event.Event.{Event}
 use Rattle.hash_chain.specs.Chain.{Chain}
 use Rattle.turn_table.specs.Moments.{WasFree}
 use Rattle.turn_table.specs.Places.{Place}
 use Rattle.arc_table.specs.declared.both.Both.{Both}
-use Rattle.arc_table.specs.declared.hand.Taken.{Taken}
-use Rattle.arc_table.specs.declared.scan.Scan.{Scan}
 use Rattle.arc_table.specs.declared.item.Item.{Item}
 use Rattle.arc_table.specs.declared.item.Item.TheVariants as item
 use Rattle.arc_table.specs.declared.view.Known.{Known}
@@ -20,7 +16,7 @@ use Rattle.arc_table.specs.Geometry.{bucket_turn, parties_of}
 use Rattle.arc_table.specs.InHand.{buckets_of}
 use Rattle.arc_table.specs.Items.{Meanings, meanings}
 use Rattle.arc_table.specs.Rule.{Pact}
-use Rattle.arc_table.proofs.ScanSteps.{free_bucket, free_not_held, mark_room, marked_fewer, marked_hand, marked_room, marked_step, pass_legal, pass_room, passed_fewer, passed_room, passed_step, won_fewer, won_room, won_step}
+use Rattle.arc_table.proofs.ScanSteps.{free_bucket, free_not_held, mark_room, marked_fewer, marked_room, marked_step, pass_legal, pass_room, passed_fewer, passed_room, passed_step, won_fewer, won_room, won_step}
 use Rattle.arc_table.proofs.arcs.Arcs.name_victim.Goals as goal
 
 pub mark-requires-clause-room : goal.mark-requires-clause-room

@@ -1,17 +1,12 @@
-use Rattle.std.proofs.Common.{◌≡◌, ℕ, ◌+◌, ◌<◌, ◌≤◌, List, IsTrue, refl, sym, ap, ◌∙◌, subst, arith}
+use Rattle.std.proofs.Common.{◌≡◌, ◌<◌, List, sym, ap, subst, arith}
 use Rattle.arc_core.specs.declared.event.Event.{Event}
 use Rattle.arc_core.specs.Owed.{room_for}
-use Rattle.arc_core.specs.PlainShard.{PlainShard}
 use Rattle.arc_core.specs.ShardLog.{IsUnnamed, ShardLog}
-use Rattle.arc_core.specs.Step.{legal}
 use Rattle.turn_table.specs.Places.{Place}
-use Rattle.arc_table.specs.declared.both.Both.{Both}
 use Rattle.arc_table.specs.declared.scan.Scan.{Scan}
 use Rattle.arc_table.specs.declared.view.Known.{Known}
-use Rattle.arc_table.specs.Cache.{IsPartyOf}
-use Rattle.arc_table.specs.Evicting.{HasScanRoom, IsScan, IsScanning, KeepsHand, MayBegin, first_of, left_of}
+use Rattle.arc_table.specs.Evicting.{HasScanRoom, IsScan, IsScanning, MayBegin, left_of}
 use Rattle.arc_table.specs.Items.{Meanings, meanings}
-use Rattle.arc_table.specs.Scanning.{pairs_of}
 use Rattle.arc_table.proofs.ScanSteps.{keeps_none, keeps_then, legal_then, may_after, party_after, room_below}
 use Rattle.arc_table.proofs.arcs.Arcs.name_victims.Goals as goal
 

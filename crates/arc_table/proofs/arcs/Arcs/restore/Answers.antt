@@ -1,4 +1,4 @@
-use Rattle.std.proofs.Common.{◌≡◌, ℕ, List, None, get_or, refl, sym, ap, ◌∙◌, subst, arith}
+use Rattle.std.proofs.Common.{None, get_or, refl, sym, ◌∙◌, subst}
 use Rattle.turn_table.specs.Board.{IsAmong}
 use Rattle.arc_core.specs.declared.served.Restored.{Restored}
 use Rattle.arc_table.specs.Items.{meanings}

@@ -1,27 +1,21 @@
-use Rattle.std.proofs.Common.{◌≡◌, ◌⊎◌, ◌<◌, if◌then◌else◌, Bool, ℕ, List, [], ◌∷◌, ◌++◌, false, true, Option, Some, None, refl, sym, ap, ◌∙◌, subst, inl, inr}
+use Rattle.std.proofs.Common.{◌≡◌, ◌<◌, Bool, ℕ, List, [], ◌∷◌, ◌++◌, false, true, Some, refl, sym, ap, ◌∙◌, subst, inl}
 use Rattle.std.specs.Prelude.{IsTrue, not}
-use Rattle.arc_core.specs.declared.event.Event.TheVariants.{Set, Leave, Clear, Restore}
-use Rattle.arc_core.specs.declared.event.Why.{Why}
-use Rattle.arc_core.specs.declared.event.Why.TheVariants as why
-use Rattle.arc_core.specs.declared.entry.Entry.{Entry}
-use Rattle.arc_core.specs.PlainShard.{PlainShard, entry_of, is_absent, numbers}
+use Rattle.arc_core.specs.declared.event.Event.TheVariants.{Restore}
+use Rattle.arc_core.specs.PlainShard.{entry_of, is_absent, numbers}
 use Rattle.hash_chain.specs.Chain.{Chain, header_at}
 use Rattle.hash_chain.specs.declared.header.Header.{Header}
 use Rattle.arc_core.specs.ShardLog.{ShardLog}
 use Rattle.arc_core.proofs.Others.{own-entry}
-use Rattle.arc_core.specs.Step.{after, is_writing, legal, may_set}
-use Rattle.arc_table.specs.Both.{Does, Makes}
-use Rattle.arc_table.specs.Feeding.{has_place}
+use Rattle.arc_core.specs.Step.{after}
+use Rattle.arc_table.specs.Both.{Makes}
 use Rattle.blk_ptr.specs.declared.key.Key.{Key}
 use Rattle.hash_chain.specs.Chain.{IsWith}
 use Rattle.arc_table.specs.Geometry.{shard_turn}
 use Rattle.arc_table.specs.Headed.{IsHead}
 use Rattle.arc_table.specs.InHand.{made_since}
-use Rattle.arc_table.specs.Items.{Meanings, meanings}
+use Rattle.arc_table.specs.Items.{meanings}
 use Rattle.arc_table.specs.Making.{IsMade, IsTaken}
-use Rattle.arc_table.proofs.FeedEvents.{no_header, none_there, restore_legal, restored_head, shown_there, clear_legal, clear_like, clear_there, feeder_is, leave_legal, leave_same, number_few, number_is, pick_there, reason_is, set_legal, set_like, set_there, writes}
-use Rattle.arc_table.proofs.FollowEvents.{follow_made, header_there}
-use Rattle.arc_table.proofs.HitEvents.{some_there}
+use Rattle.arc_table.proofs.FeedEvents.{no_header, none_there, restore_legal, restored_head, shown_there, feeder_is, number_few}
 use Rattle.arc_table.proofs.OneEvent.{makes_these, none_made, one_made, some_is, taken_head, taken_sound}
 use Rattle.arc_table.proofs.Reached.{reached}
 use Rattle.arc_table.proofs.Taking.{tells}

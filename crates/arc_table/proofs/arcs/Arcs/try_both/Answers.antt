@@ -1,6 +1,6 @@
 use Rattle.std.proofs.Common.{◌≡◌, ℕ, List, ◌∷◌, [], refl, sym, ap, ◌∙◌, subst}
 use Rattle.turn_table.specs.Board.{IsAmong}
-use Rattle.turn_table.specs.Places.{Place, gave_back}
+use Rattle.turn_table.specs.Places.{Place}
 use Rattle.arc_core.specs.declared.config.Config.{Config}
 use Rattle.arc_table.specs.declared.item.Item.{Item}
 use Rattle.arc_table.specs.declared.item.Item.TheVariants as item
@@ -9,8 +9,6 @@ use Rattle.arc_table.specs.Both.{Takes}
 use Rattle.arc_table.specs.Cache.{Cache}
 use Rattle.arc_table.specs.Geometry.{IsBucket, IsCell, IsShard, bucket_turn, shard_turn}
 use Rattle.arc_table.specs.Items.{meanings}
-use Rattle.arc_table.specs.Trying.{FindsBusy, at_shard}
-use Rattle.arc_table.specs.Views.{after_same}
 use Rattle.arc_table.proofs.Boards.{bucket_there, given_same, shard_there}
 use Rattle.arc_table.proofs.Ranges.{bucket_range, shard_range}
 use Rattle.arc_table.proofs.Taking.{busy_at_shard, lost_as_taken, no_bucket, no_shard}

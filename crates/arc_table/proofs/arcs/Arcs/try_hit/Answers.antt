@@ -1,4 +1,3 @@
-use Rattle.std.proofs.Common.{[]}
 use Rattle.std.specs.Prelude.{IsTrue, ◌&&◌}
 use Rattle.arc_core.specs.PlainShard.{entry_is, is_resident, keeps_digest}
 use Rattle.arc_core.specs.Step.{is_missing, reads}
