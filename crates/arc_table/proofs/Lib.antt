@@ -24,3 +24,8 @@ pub mod Standings
 pub mod HitEvents
 pub mod FollowEvents
 pub mod FeedEvents
+pub mod Tries
+pub mod Candidates
+pub mod FeedScan
+pub mod FeedBegins
+pub mod FeedTries

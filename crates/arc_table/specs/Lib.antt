@@ -34,3 +34,4 @@ pub mod Standing
 pub mod Trying
 pub mod Handing
 pub mod Feeding
+pub mod Picking
