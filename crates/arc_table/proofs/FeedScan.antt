@@ -2,6 +2,7 @@
 use Rattle.std.proofs.Common.{◌≡◌, ◌≢◌, ◌⊎◌, ◌==◌, if◌then◌else◌, ℕ, zero, suc, ◌+◌, ◌-◌, ◌<◌, ◌≤◌, List, [], ◌∷◌, ◌++◌, length, take, drop, Bool, true, false, cond, Option, Some, None, refl, sym, ap, ◌∙◌, subst, inl, inr, append-nil, append_assoc, length-append, arith}
 use Rattle.std.specs.Prelude.{IsTrue, ◌&&◌, not, count_by}
 use Rattle.std.specs.List.{AllByRecursion}
+use Rattle.std.specs.Option.{option_and_then}
 use Rattle.std.proofs.lemmas.List.Sums.{sum_by-cons}
 use Rattle.std.proofs.lemmas.Option.{none-some}
 use mathlib.Core.Option.{some, some-injective, some-ne-none}
@@ -27,6 +28,7 @@ use Rattle.turn_table.specs.Board.{IsAmong}
 use Rattle.turn_table.specs.Places.{Place, gave_back}
 use Rattle.arc_table.specs.declared.item.Item.TheVariants as item
 use Rattle.arc_table.specs.declared.picks.Feed.{Feed}
+use Rattle.arc_table.specs.declared.picks.Picked.{Picked as Block}
 use Rattle.arc_table.specs.declared.view.Known.{Known}
 use Rattle.arc_table.specs.declared.view.Mine.{Mine}
 use Rattle.arc_table.specs.declared.view.Note.{Note}
@@ -34,7 +36,7 @@ use Rattle.arc_table.specs.Geometry.{bucket_turn, shard_turn}
 use Rattle.arc_table.specs.InHand.{made_since}
 use Rattle.arc_table.specs.Items.{Meanings}
 use Rattle.arc_table.specs.Logged.{is_picking}
-use Rattle.arc_table.specs.Picking.{ArePicks, EndsFeed, HasPicked, HasTried, KeepsFeed}
+use Rattle.arc_table.specs.Picking.{ArePicks, ArePicksOf, EndsFeed, HasNoted, HasPicked, HasTried, IsBlockOf, IsFeeding, IsPickOf, KeepsFeed}
 use Rattle.arc_table.specs.Scanning.{notes_of}
 use Rattle.arc_table.specs.ShardGiving.{ArePassesNoted, IsActor, IsGivenShard, SameHead, after_shard, passes_in}
 use Rattle.arc_table.specs.Views.{note}
@@ -310,3 +312,63 @@ module _ {C : Type 0} (g : Config) (f : Feed C) (r : Place (Known C)) (es : List
 
   pub idle_picks : f.before.value.now.picked ≡ []
   idle_picks = no_picks f.before.value.now.phase f.before.value.now.picked has.may.sound.replayed.sound.feed has.idle
+
+-- ---- the scan with the blocks
+
+picks_of_more : (ps : List Picked) (xs : List Block) (p : Picked) (x : Block) → ArePicksOf ps xs → IsPickOf p x → ArePicksOf (ps ++ p ∷ []) (xs ++ x ∷ [])
+picks_of_more [] [] p x h one = (one, tt)
+picks_of_more (q ∷ ps) (y ∷ xs) p x h one = (h.0, picks_of_more ps xs p x h.1 one)
+picks_of_more [] (y ∷ xs) p x h one = absurd h
+picks_of_more (q ∷ ps) [] p x h one = absurd h
+
+take_within : {A : Type 0} (n : ℕ) (xs ys : List A) → n ≤ length xs → take n (xs ++ ys) ≡ take n xs
+take_within zero xs ys h = refl
+take_within (suc n) [] ys h = absurd (omega arith)
+take_within {A} (suc n) (x ∷ xs) ys h = ap (λ (l : List A). x ∷ l) (take_within n xs ys (omega arith))
+
+module _ {C : Type 0} (g : Config) (f : Feed C) (r : Place (Known C)) (out : List Block) (h : IsFeeding g f r out) where
+  pub feeding_same : (l : ShardLog) → l.now ≡ f.shard.now → l.history ≡ f.shard.history → l.opening ≡ f.shard.opening → IsFeeding g (record f { shard = l }) r out
+  feeding_same l now history opening = record {
+    es = h.es;
+    scan = picked_same g f r h.es h.scan l now history opening;
+    gained = h.gained;
+    had = h.had;
+    out_is = h.out_is;
+    blocks = subst (λ (s : PlainShard). ArePicksOf s.picked h.gained) (sym now) h.blocks;
+  }
+
+  pub feeding_tried : (t : Place (Known C)) → ((es : List Event) → HasPicked g f r es → HasPicked g f t es) → IsFeeding g f t out
+  feeding_tried t moved = record { es = h.es; scan = moved h.es h.scan; gained = h.gained; had = h.had; out_is = h.out_is; blocks = h.blocks }
+
+  module _ (k : Key) (n : ℕ) (l : ShardLog) (t : Place (Known C)) (x : Entry) (there : entry_of k f.shard.now ≡ Some x) (number : n ≡ t.number) where
+    pub feeding_passed : (owner : ℕ) → ((es : List Event) → HasPicked g f r es → HasNoted g f t k owner es) → IsTrue (legal f.shard.now (Pass n k owner)) → l.now ≡ after f.shard.now (Pass n k owner) → l.history ≡ f.shard.history ++ Pass n k owner ∷ [] → l.opening ≡ f.shard.opening
+        → IsFeeding g (record f { shard = l }) t out
+    feeding_passed owner noted ok now history opening =
+        let at = (noted h.es h.scan).tried in
+        let len = length f.before.value.history in record {
+          es = h.es ++ Pass n k owner ∷ [];
+          scan = picked_step g f r h.es h.scan (Pass n k owner) l t ((number ∙ at.number, own_key g f r h.es h.scan k x there), tt) ok now history opening refl h.scan.phase
+              (subst (λ (ns : List Note). HasTried g f.turn f.before.value ns f.began.value t) (sym (notes_passed g f.began.value.number f.turn len h.es n k owner h.scan.picks)) at);
+          gained = h.gained;
+          had = h.had;
+          out_is = h.out_is;
+          blocks = subst (λ (s : PlainShard). ArePicksOf s.picked h.gained) (sym now) h.blocks;
+        }
+
+    pub feeding_picked : (b : Block) → ((es : List Event) → HasPicked g f r es → HasPicked g f t es) → b.key ≡ k → IsBlockOf k f.shard.now b.block.value → IsTrue (legal f.shard.now (Pick n k)) → l.now ≡ after f.shard.now (Pick n k) → l.history ≡ f.shard.history ++ Pick n k ∷ [] → l.opening ≡ f.shard.opening
+        → IsFeeding g (record f { shard = l }) t (out ++ b ∷ [])
+    feeding_picked b moved key block ok now history opening =
+        let at = (moved h.es h.scan).tried in
+        let len = length f.before.value.history in record {
+          es = h.es ++ Pick n k ∷ [];
+          scan = picked_step g f r h.es h.scan (Pick n k) l t ((number ∙ at.number, own_key g f r h.es h.scan k x there), tt) ok now history opening refl refl
+              (subst (λ (ns : List Note). HasTried g f.turn f.before.value ns f.began.value t) (sym (notes_picked g f.began.value.number f.turn len h.es n k h.scan.picks)) at);
+          gained = h.gained ++ b ∷ [];
+          had = let a : length (out ++ b ∷ []) ≡ length out + 1 = length-append out (b ∷ []) in let c = h.had in omega arith;
+          out_is = ap (λ (xs : List Block). xs ++ b ∷ []) h.out_is ∙ (append_assoc (take f.had out) h.gained (b ∷ []) ∙ ap (λ (xs : List Block). xs ++ (h.gained ++ b ∷ [])) (sym (take_within f.had out (b ∷ []) h.had)));
+          blocks = subst (λ (s : PlainShard). ArePicksOf s.picked (h.gained ++ b ∷ [])) (sym now)
+              (picks_of_more f.shard.now.picked h.gained record { key = k; digest = option_and_then (λ e. e.digest) (entry_of k f.shard.now) } b h.blocks record { key = key; digest = block.digest; size = block.size });
+        }
+
+    pub front_same : (b : Block) → take f.had (out ++ b ∷ []) ≡ take f.had out
+    front_same b = take_within f.had out (b ∷ []) h.had

@@ -1,6 +1,6 @@
 -- A feed's scan tries the bucket of its candidate.
 use Rattle.std.proofs.Common.{◌≡◌, ◌⊎◌, ℕ, List, [], ◌∷◌, ◌++◌, length, Bool, true, false, Option, Some, None, refl, sym, ap, ◌∙◌, subst, arith}
-use Rattle.std.specs.Prelude.{IsTrue, IsSome, ◌&&◌}
+use Rattle.std.specs.Prelude.{IsTrue, IsSome, IfOk, Result, Ok, Err, ◌&&◌}
 use Rattle.std.specs.Option.{option_and_then, option_map_or}
 use Rattle.blk_ptr.specs.declared.digest.Digest.{Digest}
 use Rattle.blk_ptr.specs.declared.key.Key.{Key}
@@ -113,3 +113,9 @@ module _ {C : Type 0} (m : Meanings C) (g : Config) (f : Feed C) (r : Place (Kno
     tried = subst (λ (x : ℕ). HasTried g f.turn f.before.value (notes_of g f.turn (length f.before.value.history) xs ++ note x owner (Some (f.turn, length f.before.value.history)) ∷ []) f.began.value t) j_is
         (tried_lost m g f.turn f.before.value h.may.range j (subst (IsBucket g) (sym j_is) (bucket_range g k h.valid)) (notes_of g f.turn (length f.before.value.history) xs) f.began.value r t owner h.tried lost);
   }
+
+-- the block that was found is of the entry
+pub block_if : {C : Type 0} {X E : Type 0} (m : Meanings C) (g : Config) (f : Feed C) (r : Place (Known C)) (es : List Event) (has : HasPicked g f r es) (k : Key) (is : candidate f.shard.now ≡ Some k) (b : Chain) (free : WasFree (Pact m) r (bucket_turn g k) (item.Bucket b))
+    (value : X → List ℕ) (result : Result X E) → IfOk result (λ x. bytes_at k b.headers ≡ Some (value x)) → IfOk result (λ x. IsBlockOf k f.shard.now (value x))
+block_if m g f r es has k is b free value (Ok x) h = block_is m g f r es has k is b free (value x) h
+block_if m g f r es has k is b free value (Err e) h = tt

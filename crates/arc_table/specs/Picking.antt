@@ -152,5 +152,6 @@ module _ {C : Type 0} where
     pub es : List Event
     pub scan : HasPicked g f r es
     pub gained : List Picked
+    pub had : f.had ≤ length out
     pub out_is : out ≡ take f.had out ++ gained
     pub blocks : ArePicksOf f.shard.now.picked gained

@@ -1,5 +1,5 @@
 //! The feed's picks.
-ghost use Rattle.std.specs.Prelude.{◌≡◌, ◌<◌, ◌≤◌, ◌++◌, ◌∷◌, IfOk, OnErr, OnOk, List, [], Some, None, length};
+ghost use Rattle.std.specs.Prelude.{◌≡◌, ◌<◌, ◌≤◌, ◌++◌, ◌∷◌, IfOk, OnErr, OnOk, List, [], Some, None, length, take};
 ghost use Rattle.arc_core.specs.declared.event.Event.{Event};
 ghost use Rattle.arc_core.specs.Candidate.{candidate};
 ghost use Rattle.turn_table.specs.Board.{IsAmong};
@@ -123,6 +123,7 @@ impl<C: Keeps> Arcs<C> {
         ensures party { IsPartyOf self.now party.new }
         ensures kept { KeepsFeed feed.old feed.new }
         ensures feeding { IsFeeding self.now.config feed.new party.new out.new.items }
+        ensures front { take feed.old.had out.new.items ≡ take feed.old.had out.old.items }
         ensures end { OnOk result (candidate feed.new.shard.now ≡ None) }
         ensures room { OnOk result (1 ≤ feed.new.shard.event_room) }
     {
@@ -147,6 +148,7 @@ impl<C: Keeps> Arcs<C> {
         ensures party { IsPartyOf self.now party.new }
         ensures kept { KeepsFeed feed.old feed.new }
         ensures feeding { IsFeeding self.now.config feed.new party.new out.new.items }
+        ensures front { take feed.old.had out.new.items ≡ take feed.old.had out.old.items }
         ensures room { OnOk result (1 ≤ feed.new.shard.event_room) }
         ensures fewer { OnOk result (left_to_pick feed.new.shard.now < left_to_pick feed.old.shard.now) }
     {

@@ -9,7 +9,7 @@ use Rattle.arc_table.specs.Geometry.{IsBucket, bucket_turn}
 use Rattle.arc_table.specs.Items.{meanings}
 use Rattle.arc_table.specs.Rule.{Pact}
 use Rattle.arc_table.proofs.Boards.{bucket_there, given_same}
-use Rattle.arc_table.proofs.FeedTries.{block_is, noted, not_held, still_picked, there, won_as_taken}
+use Rattle.arc_table.proofs.FeedTries.{block_if, noted, not_held, still_picked, there, won_as_taken}
 use Rattle.arc_table.proofs.HitEvents.{some_there}
 use Rattle.arc_table.proofs.Ranges.{bucket_range}
 use Rattle.arc_table.proofs.arcs.Arcs.try_block.Goals as goal
@@ -58,7 +58,7 @@ returns-in-Taken-clause-block g c =
     let same = ap (λ (x : Cache). x.config) c.self.view_is in
     let s = c.requires.scan in
     let free = subst (λ (x : ℕ × Item g.row.C.Denot). WasFree (Pact m) c.args.party.now x.0 x.1) (λ z. ((c.bucket_turn_of-turn.ensures ∙ ap (λ (x : Config). bucket_turn x c.args.key) same) z, c.into_bucket-bucket.ensures z)) c.in-Taken.ensures.taken.0 in
-    ?
+    block_if m c.args.self.now.config c.args.feed.now c.args.party.now s.0 s.1 c.args.key c.requires.candidate c.into_bucket-bucket.result free (λ x. x.value) c.block_of-block.result c.block_of-block.ensures
 
 pub returns-in-Busy-clause-busy : goal.returns-in-Busy-clause-busy
 returns-in-Busy-clause-busy g c =
