@@ -1,6 +1,6 @@
 use Rattle.std.proofs.Common.{sym, ◌∙◌, arith}
 use Rattle.arc_core.proofs.Feeding.{pick-at, pick-nowhere}
-use Rattle.arc_core.proofs.entries.take_pick.Goals as goal
+use Rattle.arc_core.proofs.picks.take_pick.Goals as goal
 
 pub remove-requires : goal.remove-requires
 remove-requires c =

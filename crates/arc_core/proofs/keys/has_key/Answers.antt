@@ -5,7 +5,7 @@ use Rattle.blk_ptr.specs.declared.key.Key.{Key}
 use Rattle.blk_ptr.specs.Order.{key_eq}
 use Rattle.arc_lists.proofs.Tables.{cases_true, item_at-read, item_at-read_end, item_at-read_other}
 use Rattle.arc_core.proofs.Feeding.{has_key-stands}
-use Rattle.arc_core.proofs.entries.has_key.Goals as goal
+use Rattle.arc_core.proofs.keys.has_key.Goals as goal
 
 pub returns-in-Some : goal.returns-in-Some
 returns-in-Some c =

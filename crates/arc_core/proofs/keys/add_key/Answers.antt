@@ -3,7 +3,7 @@ use Rattle.std.proofs.lemmas.List.Sums.{prefix_len-le-length}
 use Rattle.blk_ptr.specs.Order.{key_lt}
 use Rattle.arc_lists.proofs.Tables.{insert-rank}
 use Rattle.arc_core.proofs.Feeding.{has_key-stands}
-use Rattle.arc_core.proofs.entries.add_key.Goals as goal
+use Rattle.arc_core.proofs.keys.add_key.Goals as goal
 
 pub insert-requires : goal.insert-requires
 insert-requires c = rw (c.rank_of_key-at.ensures, c.deref.ensures.value) (omega (arith, prefix_len-le-length (λ k. key_lt k c.args.key) c.args.keys.now.items))

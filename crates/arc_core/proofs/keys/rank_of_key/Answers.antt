@@ -2,7 +2,7 @@ use Rattle.std.proofs.Common.{rules}
 use Rattle.std.proofs.lemmas.Fn.{always_returns_same}
 use Rattle.blk_ptr.specs.Order.{key_lt}
 use Rattle.arc_lists.proofs.Tables.{searched}
-use Rattle.arc_core.proofs.entries.rank_of_key.Goals as goal
+use Rattle.arc_core.proofs.keys.rank_of_key.Goals as goal
 
 pub returns : goal.returns
 returns c =
