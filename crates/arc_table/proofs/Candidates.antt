@@ -196,9 +196,11 @@ fewer_passed n owner k s x there wanted = count_less (λ e. may_be_picked s e.ke
         (and_true _ _ w.0 (or_none (key_eq k e.key) (is_passed s e.key) (ap not (sym (stands_with e.key k s.passed)) ∙ w.1)))
 
     at : (e : Entry) → key_eq e.key k ≡ true → (may_be_picked s e.key ≡ true) × (may_be_picked (after s (Pass n k owner)) e.key ≡ false)
-    at e is = subst (λ (z : Key). (may_be_picked s z ≡ true) × (may_be_picked (after s (Pass n k owner)) z ≡ false)) (sym (key_eq-is e.key k is))
-        (wanted, no_more (is_some (place_of k s)) (is_some (pick_of k s.picked)) (is_passed (after s (Pass n k owner)) k)
-        (stands_with k k s.passed ∙ ap (λ (b : Bool). b || stands_on k s.passed) (key_eq-same k)))
+    at e is = subst (λ (z : Key). (may_be_picked s z ≡ true) × (may_be_picked (after s (Pass n k owner)) z ≡ false)) (sym (key_eq-is e.key k is)) (
+      wanted,
+      no_more (is_some (place_of k s)) (is_some (pick_of k s.picked)) (is_passed (after s (Pass n k owner)) k)
+          (stands_with k k s.passed ∙ ap (λ (b : Bool). b || stands_on k s.passed) (key_eq-same k)),
+    )
 
 pick_last : (k : Key) (picks : List Picked) (p : Picked) → key_eq p.key k ≡ true → is_some (pick_of k (picks ++ p ∷ [])) ≡ true
 pick_last k [] p h = ap (λ (b : Bool). is_some (if b then Some p else None)) h
@@ -231,6 +233,8 @@ fewer_picked n k s x there wanted = count_less (λ e. may_be_picked s e.key) (λ
         (and_true _ _ (ap not (pick_front e.key s.picked record { key = k; digest = option_and_then (λ y. y.digest) (entry_of k s) } (not_true _ w.0))) w.1)
 
     at : (e : Entry) → key_eq e.key k ≡ true → (may_be_picked s e.key ≡ true) × (may_be_picked (after s (Pick n k)) e.key ≡ false)
-    at e is = subst (λ (z : Key). (may_be_picked s z ≡ true) × (may_be_picked (after s (Pick n k)) z ≡ false)) (sym (key_eq-is e.key k is))
-        (wanted, no_pick (is_some (place_of k s)) (is_some (pick_of k (after s (Pick n k)).picked)) (is_passed s k)
-        (pick_last k s.picked record { key = k; digest = option_and_then (λ y. y.digest) (entry_of k s) } (key_eq-same k)))
+    at e is = subst (λ (z : Key). (may_be_picked s z ≡ true) × (may_be_picked (after s (Pick n k)) z ≡ false)) (sym (key_eq-is e.key k is)) (
+      wanted,
+      no_pick (is_some (place_of k s)) (is_some (pick_of k (after s (Pick n k)).picked)) (is_passed s k)
+          (pick_last k s.picked record { key = k; digest = option_and_then (λ y. y.digest) (entry_of k s) } (key_eq-same k)),
+    )

@@ -95,7 +95,7 @@ all_noted g n i len b front (Pass a k o ∷ es) h =
     let x : Note = note (bucket_turn g k) o (Some (i, len)) in (
       get_behind front x (notes_of g i len es),
       subst (λ (y : ℕ × List Note). ArePassesNoted g i len y.0 y.1 (es ++ FeedEnd b ∷ [])) (λ z. (length_more front x z, append_assoc front (x ∷ []) (notes_of g i len es) z))
-      (all_noted g n i len b (front ++ x ∷ []) es h.1),
+          (all_noted g n i len b (front ++ x ∷ []) es h.1),
     )
 all_noted g n i len b front (Pick a k ∷ es) h = all_noted g n i len b front es h.1
 all_noted g n i len b front (_ ∷ es) h = absurd h

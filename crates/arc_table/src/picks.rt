@@ -173,7 +173,12 @@ impl<C: Keeps> Arcs<C> {
     }
 
     // The block of a candidate, where its bucket is free. The bucket is given back.
-    fn try_block(&self, party: &mut Party<C>, feed: &Feed<C>, key: Key) -> Take<Result<Arc<Block>, NoMemory>>
+    fn try_block(
+        &self,
+        party: &mut Party<C>,
+        feed: &Feed<C>,
+        key: Key,
+    ) -> Take<Result<Arc<Block>, NoMemory>>
         requires party { IsPartyOf self.now party.old }
         requires candidate { candidate feed.now.shard.now ≡ Some key }
         requires scan { (es : List Event) × HasPicked self.now.config feed.now party.old es }
