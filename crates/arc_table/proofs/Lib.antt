@@ -38,3 +38,4 @@ pub mod PickSteps
 pub mod FeedEnds
 pub mod CapacityEvents
 pub mod RoomyAfter
+pub mod Holders
