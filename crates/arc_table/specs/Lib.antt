@@ -38,3 +38,5 @@ pub mod Standing
 pub mod Trying
 pub mod Handing
 pub mod Feeding
+pub mod Picking
+pub mod Resizing
