@@ -102,8 +102,9 @@ impl<D: CacheDev> L2Dev<D> {
         ensures crash { (p : Promise) → IsKept D.told D.has_sectors D.may_leave self.old.dev self.old.cursor p → self.new.cursor.ring.lap < last_lap
             → BeginKeeps D.told D.has_sectors D.may_leave D.moment D.left_since self.old.dev self.new.dev self.old.cursor self.new.cursor p result }
     {
-        dropped.reserve(self.cursor.ring().live().len())?;
-        self.cursor.plan(n, dropped);
+        let plan = self.cursor.room(n);
+        dropped.reserve(self.cursor.dropped_by(plan))?;
+        self.cursor.take(plan, dropped);
         let header = self.cursor.header();
         write_header(&mut self.dev, &header)?;
         self.cursor.open();
