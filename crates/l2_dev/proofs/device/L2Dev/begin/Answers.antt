@@ -5,6 +5,9 @@ use Rattle.l2_ring.specs.declared.live.Live.{Live}
 use Rattle.l2_ring.specs.Stays.{falls, live_of}
 use Rattle.l2_dev.proofs.Begins.{begin_failed, begin_kept, opened_planned, opened_header}
 use Rattle.l2_dev.proofs.Cursors.{base_at_rest}
+use Rattle.l2_dev.proofs.Puts.{written_err, written_ok}
+use Rattle.vdev_io.specs.declared.fault.Failed.{Failed}
+use Rattle.l2_dev.specs.declared.fault.DevErr.{DevErr}
 use Rattle.l2_dev.proofs.device.L2Dev.begin.Goals as goal
 
 pub returns-in_err-write_header-clause-dropped : goal.returns-in_err-write_header-clause-dropped
@@ -62,18 +65,36 @@ returns-clause-crash g c =
 pub returns-in_err-write_header-clause-written : goal.returns-in_err-write_header-clause-written
 returns-in_err-write_header-clause-written g c =
     λ h.
+    let d = g.D.CacheDev in
     let e = err_from_is_err_and c.from_residual-in_err-write_header.result c.from_residual-in_err-write_header.ensures.1 in
-    let w = c.write_header.ensures.written in
-    rw e.1 (c.header-header.result, c.header-header.ensures.header, record { sector = w.sector; is = w.is; wrote = w.wrote; done = tt })
+    let w = c.in_err-write_header.ensures.written in
+    rw e.1 (
+      c.header-header.result,
+      c.header-header.ensures.header,
+      record {
+        sector = w.sector;
+        is = w.is;
+        wrote = w.wrote;
+        image = written_err (Unit {0}) Failed (Unit {0}) DevErr 0 w.sector (d.told c.args.self.now.dev) (d.told c.write_header.new.dev) _ _ c.in_err-write_header.ensures.written.image;
+        done = tt;
+      },
+    )
 
 pub returns-clause-written : goal.returns-clause-written
 returns-clause-written g c =
     λ h.
+    let d = g.D.CacheDev in
     let same = c.open.ensures.same in
     let w = c.in_ok-write_header.ensures.written in (
       c.header-header.result,
       opened_header c.take.new.self c.open.new.self c.header-header.result c.header-header.ensures.header same.0 same.1 same.2 same.3,
-      record { sector = w.sector; is = w.is; wrote = w.wrote; done = w.done },
+      record {
+        sector = w.sector;
+        is = w.is;
+        wrote = w.wrote;
+        image = written_ok (Unit {0}) Failed (Unit {0}) DevErr 0 w.sector (d.told c.args.self.now.dev) (d.told c.write_header.new.dev) _ _ w.image;
+        done = w.done;
+      },
     )
 
 pub returns-clause-planned : goal.returns-clause-planned
