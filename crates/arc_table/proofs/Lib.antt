@@ -29,6 +29,8 @@ pub mod HitEvents
 pub mod FollowEvents
 pub mod FeedEvents
 pub mod Afterwards
+pub mod ArriveEvents
+pub mod Awaiting
 pub mod Tries
 pub mod Candidates
 pub mod FeedScan
