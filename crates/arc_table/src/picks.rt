@@ -66,6 +66,7 @@ impl<C: Keeps> Arcs<C> {
         requires settled { list_at (nth_shard_turn self.now.config shard) party.old.own.ledger.picked ≡ [] }
         ensures party { IsPartyOf self.now party.new }
         ensures free { HasNoLook self.now party.new }
+        ensures held { party.new.held ≡ party.old.held }
         ensures number { party.new.number ≡ party.old.number }
         ensures ok { OnOk result (PicksAll (meanings C.holds C.entries C.opening C.claims C.sound) self.now.config (nth_shard_turn self.now.config shard) party.old party.new out.old.items out.new.items) }
         ensures err { OnErr result (Feeds (meanings C.holds C.entries C.opening C.claims C.sound) self.now.config (nth_shard_turn self.now.config shard) [] party.old party.new) }

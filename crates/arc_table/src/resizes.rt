@@ -46,6 +46,7 @@ impl<C: Keeps> Arcs<C> {
         requires capacity { IsCapacity c }
         ensures party { IsPartyOf self.now party.new }
         ensures free { HasNoLook self.now party.new }
+        ensures held { party.new.held ≡ party.old.held }
         ensures number { party.new.number ≡ party.old.number }
         ensures answer { AnswersResize (meanings C.holds C.entries C.opening C.claims C.sound) self.now.config c party.old party.new result }
     {

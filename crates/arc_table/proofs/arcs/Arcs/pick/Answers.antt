@@ -62,3 +62,14 @@ pub returns-in-Err-clause-free : goal.returns-in-Err-clause-free
 returns-in-Err-clause-free g c =
     let m = meanings g.C.Keeps.holds g.C.Keeps.entries g.C.Keeps.opening g.C.Keeps.claims g.C.Keeps.sound in
     stays_free c.args.self.now c.args.party.now c.end_unpicked.new.party (feeds_stays m c.args.self.now.config _ [] c.args.party.now c.end_unpicked.new.party (returns-in-Err-clause-err g c)) c.requires.look
+
+pub returns-in-Ok-clause-held : goal.returns-in-Ok-clause-held
+returns-in-Ok-clause-held g c =
+    let m = meanings g.C.Keeps.holds g.C.Keeps.entries g.C.Keeps.opening g.C.Keeps.claims g.C.Keeps.sound in
+    let d = returns-in-Ok-clause-ok g c in
+    (feeds_stays m c.args.self.now.config _ _ c.args.party.now c.end_feed.new.party d.feeds).held
+
+pub returns-in-Err-clause-held : goal.returns-in-Err-clause-held
+returns-in-Err-clause-held g c =
+    let m = meanings g.C.Keeps.holds g.C.Keeps.entries g.C.Keeps.opening g.C.Keeps.claims g.C.Keeps.sound in
+    (feeds_stays m c.args.self.now.config _ [] c.args.party.now c.end_unpicked.new.party (returns-in-Err-clause-err g c)).held
