@@ -29,7 +29,7 @@ use Rattle.trace_run.specs.Told.{IsTold}
 use Rattle.trace_run.proofs.OwnLemmas.{no-own-moments, own-append}
 use Rattle.trace_run.proofs.SeenLemmas.{finds-then, get-behind}
 
-get-map : {A B : Type 0} (f : A → B) (l : List A) (i : ℕ) (a : A) → get_elem? l i ≡ some a → get_elem? (map f l) i ≡ some (f a)
+pub get-map : {A B : Type 0} (f : A → B) (l : List A) (i : ℕ) (a : A) → get_elem? l i ≡ some a → get_elem? (map f l) i ≡ some (f a)
 get-map f [] i a at = absurd (some-ne-none a (sym at))
 get-map f (x ∷ xs) zero a at = ap (λ y. some (f y)) (some-injective x a at)
 get-map f (x ∷ xs) (suc i) a at = get-map f xs i a at
@@ -41,7 +41,7 @@ module _ {C : Type 0} (m : Meanings C) (cache : Cache) (ps : List (Place (Known 
   abbrev values : List (Item C)
   values = map item.Cell e.cells ++ (map item.Bucket ends.buckets ++ map item.Shard e.shards)
 
-  value-at : get_elem? values (turn_of g i) ≡ some (item.Shard l)
+  pub value-at : get_elem? values (turn_of g i) ≡ some (item.Shard l)
   value-at =
       let cells : length (map item.Cell e.cells) ≡ g.cells = length-map e.cells item.Cell ∙ ends.cells in
       let buckets : length (map item.Bucket ends.buckets) ≡ g.shards * g.buckets = length-map ends.buckets item.Bucket ∙ ends.chains in

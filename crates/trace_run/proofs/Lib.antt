@@ -11,9 +11,11 @@ pub mod MoveLemmas
 pub mod OutcomeLemmas
 pub mod OverShardLemmas
 pub mod OwnLemmas
+pub mod PlacedLemmas
 pub mod PlainLemmas
 pub mod ReadMoments
 pub mod ReportLemmas
+pub mod RestLemmas
 pub mod RoomyLemmas
 pub mod RunLemmas
 pub mod SeenLemmas
