@@ -19,6 +19,7 @@ pub mod Making
 pub mod Marking
 pub mod Others
 pub mod Owing
+pub mod PickNames
 pub mod Placing
 pub mod Scan
 pub mod Scanning

@@ -15,6 +15,8 @@ pub mod KeyRows
 pub mod Keys
 pub mod Operations
 pub mod Owed
+pub mod PickNames
+pub mod Picks
 pub mod PlainShard
 pub mod PlainTable
 pub mod Replay

@@ -1,5 +1,5 @@
 -- What the vectors of a shard's table mean, and what they keep.
-use Rattle.std.specs.Prelude.{◌≡◌, ◌+◌, ◌^◌, ◌<◌, ◌≤◌, length, map, vec_len, vec_capacity}
+use Rattle.std.specs.Prelude.{◌≡◌, ◌+◌, ◌^◌, ◌<◌, ◌≤◌, length, map}
 use Rattle.arc_core.specs.declared.table.Table.TheInside.{Inside}
 use Rattle.arc_core.specs.Candidate.{picked_bytes}
 use Rattle.arc_core.specs.PlainShard.{PlainShard, member_of}
@@ -33,6 +33,6 @@ pub record IsKept (t : Inside) : Type 0 where
   -- and as much for marked keys
   pub marked_room : length t.entries.items + t.lists.spare ≤ length t.marked.items + t.marked.spare
   pub passed_room : t.marks ≤ t.passed.spare
-  pub picked_room : vec_len t.picked + t.marks ≤ vec_capacity t.picked
+  pub picked_room : t.marks ≤ t.picked.spare
   -- what is picked is counted
   pub bytes : t.picked_bytes ≡ picked_bytes (shard_in t)

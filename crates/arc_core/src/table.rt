@@ -16,8 +16,9 @@ pub mod walk;
 
 use crate::config::Bounds;
 use crate::entries::Entries;
-use crate::entry::{Entry, Phase, Picked};
+use crate::entry::{Entry, Phase};
 use crate::keys::Keys;
+use crate::picks::Picks;
 use arc_lists::Lists;
 use blk_ptr::{Key, NoMemory, State};
 use std::alloc::Global;
@@ -32,7 +33,7 @@ pub struct Table {
     bounds: Bounds,
     passed: Keys,
     phase: Phase,
-    picked: Vec<Picked>,
+    picked: Picks,
     picked_bytes: u64,
     marks: usize,
     marked: Keys,
@@ -70,7 +71,7 @@ impl Table {
             bounds,
             passed: Keys::new(alloc),
             phase: Phase::Idle,
-            picked: Vec::new(alloc),
+            picked: Picks::new(alloc),
             picked_bytes: 0,
             marks: 0,
             marked: Keys::new(alloc),

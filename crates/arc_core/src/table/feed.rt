@@ -31,24 +31,12 @@ pub fn restored_entry(key: Key, place: u64, digest: Option<Digest>) -> Entry
     }
 }
 
-/// The pick of a key.
-pub fn pick_of(picks: &[Picked], key: Key) -> Option<Picked>
-    ensures { result ≡ pick_of key picks.now }
-{
-    for pick in picks {
-        if pick.key == key {
-            return Some(*pick);
-        }
-    }
-    None
-}
-
 impl Table {
     /// The pick of a key.
     pub fn pick_of(&self, key: Key) -> Option<Picked>
         ensures { result ≡ pick_of key self.now.shard.picked }
     {
-        pick_of(&self.picked, key)
+        self.picked.find(key)
     }
 
     /// How far a feed has come.
@@ -106,7 +94,7 @@ impl Table {
         ensures { self.new ≡ record self.old { shard = effect self.old.shard (Event.Pick n key); marks = self.old.marks - 1 } }
     {
         let digest = self.find(key).and_then(|entry| entry.digest);
-        picks::push_pick(&mut self.picked, Picked { key, digest });
+        self.picked.push(Picked { key, digest });
         self.picked_bytes += key.size;
         self.phase = Phase::Picking;
         self.marks -= 1;
@@ -116,11 +104,7 @@ impl Table {
     fn go_on_writing(&mut self)
         ensures { self.new ≡ record self.old { shard = record self.old.shard { phase = writing_phase self.old.shard.picked } } }
     {
-        self.phase = if self.picked.is_empty() {
-            Phase::Idle
-        } else {
-            Phase::Writing
-        };
+        self.phase = self.picked.phase();
     }
 
     /// The feed has picked all that it may.
@@ -134,7 +118,7 @@ impl Table {
     pub fn settle(&mut self, key: Key)
         ensures { self.new ≡ record self.old { shard = settled key self.old.shard } }
     {
-        self.picked_bytes -= picks::take_pick(&mut self.picked, key);
+        self.picked_bytes -= self.picked.take(key);
         self.go_on_writing();
     }
 

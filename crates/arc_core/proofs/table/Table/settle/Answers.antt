@@ -13,6 +13,6 @@ invariant_of-self c =
       few = kept.few;
       marked_room = kept.marked_room;
       passed_room = kept.passed_room;
-      picked_room = omega (arith, kept.picked_room, c.take_pick.ensures.len, c.take_pick.ensures.capacity);
-      bytes = omega (arith, kept.bytes, c.take_pick.ensures.bytes);
+      picked_room = omega (arith, kept.picked_room, c.take.ensures.spare);
+      bytes = omega (arith, kept.bytes, c.take.ensures.bytes);
     }

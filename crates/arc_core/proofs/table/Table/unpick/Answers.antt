@@ -13,6 +13,6 @@ invariant_of-self c =
       few = kept.few;
       marked_room = omega (arith, kept.marked_room, ap length c.clear-2.ensures.items, c.clear-2.ensures.spare);
       passed_room = omega (arith, kept.passed_room, c.clear.ensures.spare);
-      picked_room = omega (arith, kept.picked_room, c.clear-3.ensures.len, c.clear-3.ensures.capacity);
+      picked_room = omega (arith, kept.picked_room, c.clear-3.ensures.spare);
       bytes = rw c.clear-3.ensures.items refl;
     }

@@ -1,6 +1,6 @@
 use Rattle.std.proofs.Common.{◌≡◌, drop}
 use Rattle.arc_core.specs.Changes.{pick_of}
-use Rattle.arc_core.proofs.table.feed.pick_of.Given as goal
+use Rattle.arc_core.proofs.picks.pick_of.Given as goal
 
 -- the rest of the picks decides
 abbrev pub invariant-loop-pick : goal.invariant-loop-pick
