@@ -9,9 +9,11 @@ pub mod Ending
 pub mod EntriesAfter
 pub mod EntryRows
 pub mod Evictions
+pub mod FeedWalks
 pub mod Feeding
 pub mod Frames
 pub mod Keeping
+pub mod KeyRows
 pub mod Legal
 pub mod Making
 pub mod Marking

@@ -8,7 +8,11 @@ pub mod Edits
 pub mod Ending
 pub mod Entries
 pub mod EntryRows
+pub mod FeedWalk
+pub mod Halts
 pub mod Keeps
+pub mod KeyRows
+pub mod Keys
 pub mod Operations
 pub mod Owed
 pub mod PlainShard
@@ -16,6 +20,7 @@ pub mod PlainTable
 pub mod Replay
 pub mod Rules
 pub mod Scan
+pub mod Search
 pub mod ShardLog
 pub mod ShardModel
 pub mod Sound

@@ -1,10 +1,14 @@
 -- What a begin keeps of every crash, from the steps of its body.
-use Rattle.std.proofs.Common.{◌≡◌, ℕ, ◌<◌, ◌≤◌, List, [], ◌∷◌, Bool, false, Option, Some, Result, refl, sym, ap, subst, ◌∙◌, arith}
+use Rattle.std.proofs.Common.{◌≡◌, ℕ, ◌<◌, ◌≤◌, List, [], ◌∷◌, ◌++◌, map, Bool, false, Option, Some, Result, refl, sym, ap, subst, ◌∙◌, arith}
+use Rattle.std.specs.List.{filter}
 use Rattle.std.specs.Option.{IfSome}
 use Rattle.vdev_io.specs.Device.{put}
 use Rattle.l2_log.specs.Rules.{ring_start, header_len}
 use Rattle.l2_log.specs.declared.header.DevHeader.{DevHeader}
+use Rattle.l2_ring.specs.declared.live.Live.{Live}
+use Rattle.l2_ring.specs.declared.live.Written.{Written}
 use Rattle.l2_ring.specs.declared.plan.Plan.{Plan}
+use Rattle.l2_ring.specs.Stays.{falls, live_of}
 use Rattle.l2_ring.specs.Ring.{RingState, HasPlan, last_lap, with_hand, numbers_of}
 use Rattle.l2_dev.specs.Chain.{numbers_in}
 use Rattle.l2_dev.specs.Standing.{Candidate, leading, staying}
@@ -21,6 +25,10 @@ header_evict cursor header same =
     let e : header.evict ≡ cursor.ring.evict = ap (λ (p : Plan). p.evict) same in
     let from = header.evict_in.from in
     omega arith
+
+-- what a plan drops stands behind what was there before there was room for it
+pub dropped_of : (plan : Plan) (live : List Written) (was mid now : List Live) → mid ≡ was → now ≡ mid ++ map live_of (filter (falls plan) live) → now ≡ was ++ map live_of (filter (falls plan) live)
+dropped_of plan live was mid now same more = more ∙ ap (λ (xs : List Live). xs ++ map live_of (filter (falls plan) live)) same
 
 -- the cursor that may be put to has planned the same
 pub opened_planned : (n : ℕ) (old mid new : CursorState) → HasPlanned n old mid → new.ring ≡ mid.ring → new.base ≡ mid.base → new.newest ≡ mid.newest → new.second ≡ mid.second → new.pending ≡ mid.pending → HasPlanned n old new

@@ -1,9 +1,6 @@
-use Rattle.std.proofs.Common.{List, ◌++◌, map, inr, ap, ◌∙◌, arith}
-use Rattle.std.specs.List.{filter}
+use Rattle.std.proofs.Common.{inr, arith}
 use Rattle.std.proofs.lemmas.Result.{err_from_is_err_and}
-use Rattle.l2_ring.specs.declared.live.Live.{Live}
-use Rattle.l2_ring.specs.Stays.{falls, live_of}
-use Rattle.l2_dev.proofs.Begins.{begin_failed, begin_kept, opened_planned, opened_header}
+use Rattle.l2_dev.proofs.Begins.{begin_failed, begin_kept, dropped_of, opened_planned, opened_header}
 use Rattle.l2_dev.proofs.Cursors.{base_at_rest}
 use Rattle.l2_dev.proofs.Puts.{written_err, written_ok}
 use Rattle.vdev_io.specs.declared.fault.Failed.{Failed}
@@ -14,13 +11,13 @@ pub returns-in_err-write_header-clause-dropped : goal.returns-in_err-write_heade
 returns-in_err-write_header-clause-dropped g c =
     λ h.
     let plan = c.room-plan.result in
-    (plan, c.room-plan.ensures.plan, c.take.ensures.dropped ∙ ap (λ (xs : List Live). xs ++ map live_of (filter (falls plan) c.args.self.now.cursor.ring.live)) c.in_ok-reserve.ensures.items)
+    (plan, c.room-plan.ensures.plan, dropped_of plan c.args.self.now.cursor.ring.live c.args.dropped.now.items c.reserve.new.self.items c.take.new.dropped.items c.in_ok-reserve.ensures.items c.take.ensures.dropped)
 
 pub returns-clause-dropped : goal.returns-clause-dropped
 returns-clause-dropped g c =
     λ h.
     let plan = c.room-plan.result in
-    (plan, c.room-plan.ensures.plan, c.take.ensures.dropped ∙ ap (λ (xs : List Live). xs ++ map live_of (filter (falls plan) c.args.self.now.cursor.ring.live)) c.in_ok-reserve.ensures.items)
+    (plan, c.room-plan.ensures.plan, dropped_of plan c.args.self.now.cursor.ring.live c.args.dropped.now.items c.reserve.new.self.items c.take.new.dropped.items c.in_ok-reserve.ensures.items c.take.ensures.dropped)
 
 pub returns-in_err-write_header-clause-crash : goal.returns-in_err-write_header-clause-crash
 returns-in_err-write_header-clause-crash g c =
