@@ -32,9 +32,7 @@ impl<C: Keeps> Arcs<C> {
         requires party { IsPartyOf self.now party.old }
         requires look { HasNoLook self.now party.old }
         requires hold { IsHeld self.now.config party.old hold }
-        ensures party { IsPartyOf self.now party.new }
-        ensures free { HasNoLook self.now party.new }
-        ensures drops { Does (meanings C.holds C.entries C.opening C.claims C.sound) self.now.config hold.key (Event.Drop hold.owner hold.key ∷ []) party.old party.new }
+        ensures { Does (meanings C.holds C.entries C.opening C.claims C.sound) self.now.config hold.key (Event.Drop hold.owner hold.key ∷ []) party.old party.new }
     {
         let both = self.take_both(rt, party, hold.key);
         self.drop_taken(party, both, &hold);

@@ -1,9 +1,5 @@
-use Rattle.std.proofs.Common.{[], ◌∷◌}
-use Rattle.arc_core.specs.declared.event.Event.TheVariants.{Drop}
-use Rattle.arc_table.specs.Both.{Does}
 use Rattle.arc_table.specs.Holding.{ptr_of}
 use Rattle.arc_table.specs.Items.{meanings}
-use Rattle.arc_table.proofs.Afterwards.{does_stays, stays_free, stays_party}
 use Rattle.arc_table.proofs.Reached.{listed_still}
 use Rattle.arc_table.proofs.Taking.{still_party}
 use Rattle.arc_table.proofs.arcs.Arcs.drop_hold.Goals as goal
@@ -20,19 +16,3 @@ drop_taken-requires-clause-hold g c =
     let b = c.take_both-both in
     let h = c.args.hold in
     listed_still m c.args.self.now.config h.key b.result.hand.own.bucket b.result.shard c.args.party.now b.new.party b.ensures.takes c.requires.party.config b.ensures.kind.valid h.owner (ptr_of h) c.requires.hold
-
-pub returns-clause-party : goal.returns-clause-party
-returns-clause-party g c =
-    let m = meanings g.C.Keeps.holds g.C.Keeps.entries g.C.Keeps.opening g.C.Keeps.claims g.C.Keeps.sound in
-    let b = c.take_both-both in
-    let h = c.args.hold in
-    let d : Does m c.args.self.now.config h.key (Drop h.owner h.key ∷ []) c.args.party.now c.drop_taken.new.party = record { chain = b.result.hand.own.bucket; before = b.result.shard; reached = b.new.party; takes = b.ensures.takes; makes = c.drop_taken.ensures } in
-    stays_party c.args.self.now c.args.party.now c.drop_taken.new.party (does_stays m c.args.self.now.config b.ensures.kind.valid h.key (Drop h.owner h.key ∷ []) c.args.party.now c.drop_taken.new.party c.requires.party.config d) c.requires.party
-
-pub returns-clause-free : goal.returns-clause-free
-returns-clause-free g c =
-    let m = meanings g.C.Keeps.holds g.C.Keeps.entries g.C.Keeps.opening g.C.Keeps.claims g.C.Keeps.sound in
-    let b = c.take_both-both in
-    let h = c.args.hold in
-    let d : Does m c.args.self.now.config h.key (Drop h.owner h.key ∷ []) c.args.party.now c.drop_taken.new.party = record { chain = b.result.hand.own.bucket; before = b.result.shard; reached = b.new.party; takes = b.ensures.takes; makes = c.drop_taken.ensures } in
-    stays_free c.args.self.now c.args.party.now c.drop_taken.new.party (does_stays m c.args.self.now.config b.ensures.kind.valid h.key (Drop h.owner h.key ∷ []) c.args.party.now c.drop_taken.new.party c.requires.party.config d) c.requires.look
