@@ -37,3 +37,4 @@ pub mod Standing
 pub mod Trying
 pub mod Handing
 pub mod Feeding
+pub mod Reading

@@ -24,6 +24,7 @@ mod looks;
 mod misses;
 mod opening;
 mod pact;
+mod read;
 mod restores;
 mod scan;
 mod spare;
@@ -41,6 +42,7 @@ pub use inserts::Inserted;
 pub use item::Item;
 pub use look::{BucketTurn, Look};
 pub use pact::{Pact, Settled};
+pub use read::Read;
 pub use restores::RestoreStop;
 pub use view::{Known, Ledger, Line, Mine, Note};
 
