@@ -28,6 +28,7 @@ pub mod Sparing
 pub mod Evicting
 pub mod Ending
 pub mod Fetching
+pub mod Arriving
 pub mod Inserting
 pub mod Holding
 pub mod Both

@@ -3,6 +3,7 @@
 
 mod about;
 mod arcs;
+mod arrivals;
 mod both;
 mod cells;
 mod closed;
