@@ -29,3 +29,5 @@ pub mod HitEvents
 pub mod FollowEvents
 pub mod FeedEvents
 pub mod Afterwards
+pub mod RoomyAfter
+pub mod PastEvents

@@ -38,4 +38,5 @@ pub mod Standing
 pub mod Trying
 pub mod Handing
 pub mod Feeding
+pub mod PoolCalls
 pub mod Reading

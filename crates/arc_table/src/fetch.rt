@@ -1,5 +1,5 @@
 //! How the bytes of a block are read, from the cache device or the pool, with no turn held.
-ghost use Rattle.std.specs.Prelude.{◌≡◌, ◌≢◌, ◌⊎◌, ◌×◌, ℕ, List, Option, ◌+◌, ◌≤◌, ◌<◌, vec_len, IfOk, IfErr, IfSome, OnOk, Some, None, Ok, Err};
+ghost use Rattle.std.specs.Prelude.{◌≡◌, ◌≢◌, ◌⊎◌, ℕ, List, Option, ◌+◌, ◌≤◌, ◌<◌, vec_len, IfOk, IfErr, IfSome, OnOk, Some, None, Ok, Err};
 ghost use Rattle.blk_ptr.specs.Key.{IsValid};
 ghost use Rattle.blk_ptr.specs.Ptr.{IsOf, range_of};
 ghost use Rattle.vdev_io.specs.Device.{LeavesSame, Stands};

@@ -25,6 +25,7 @@ mod looks;
 mod misses;
 mod opening;
 mod pact;
+mod past;
 mod read;
 mod restores;
 mod scan;

@@ -1,15 +1,20 @@
 //! Reading a block: from the cache, or through it, or past it.
-ghost use Rattle.std.specs.Prelude.{◌≡◌, ◌≤◌};
-ghost use Rattle.vdev_io.specs.Device.{LeavesSame, Stands};
+ghost use Rattle.std.specs.Prelude.{◌≡◌};
+ghost use Rattle.blk_ptr.specs.Key.{IsValid};
+ghost use Rattle.arc_table.specs.Arriving.{IsReading};
 ghost use Rattle.arc_table.specs.Cache.{IsPartyOf};
 ghost use Rattle.arc_table.specs.Items.{meanings};
 ghost use Rattle.arc_table.specs.Looking.{HasNoLook};
-ghost use Rattle.arc_table.specs.Reading.{AnswersRead, outside};
+ghost use Rattle.arc_table.specs.PoolCalls.{KeepsPool};
+ghost use Rattle.arc_table.specs.Reading.{AnswersRead, AnswersRound, EndsMiss, GoesToPool, KeepsDevice, failed_at, fault_of, outside, served_as};
 
 use crate::arcs::{Arcs, Party};
+use crate::fetch::{Unfetched, fetch, fetch_pool};
+use crate::hits::{Standing, standing_of};
 use crate::hold::Hold;
-use arc_core::{Keeps, ReadFault, Served};
-use blk_ptr::{Block, Digest, Ptr};
+use crate::past::read_past;
+use arc_core::{EntryView, FailedAt, Keeps, Origin, ReadFault, Served};
+use blk_ptr::{Block, Digest, NoMemory, Ptr};
 use std::sync::{Arc, Wait};
 use std::thread;
 use vdev_io::{CacheDev, Pool};
@@ -22,6 +27,48 @@ pub enum Read {
     /// The cache keeps bytes of the digest `kept` under the key, which isn't the pointer's. The block was read from the pool, past the
     /// cache.
     Past { block: Arc<Block>, kept: Digest },
+}
+
+/// What one round of a read came to.
+#[derive(Drop)]
+pub(crate) enum Round {
+    /// The read is over.
+    Answered(Result<Read, ReadFault>),
+    /// The key is being read.
+    Reading,
+}
+
+// Where bytes that were fetched came from, as it is answered.
+fn served_from(from: Origin) -> Served
+    ensures { result ≡ served_as from }
+{
+    match from {
+        Origin::Pool => Served::Pool,
+        Origin::L2 => Served::L2,
+    }
+}
+
+impl Unfetched {
+    // What a read answers that had no bytes.
+    fn fault(self) -> ReadFault
+        ensures { result ≡ fault_of self }
+    {
+        match self {
+            Unfetched::PoolFault => ReadFault::PoolFault,
+            Unfetched::Mismatch { found } => ReadFault::Mismatch { found },
+            Unfetched::NoMemory { at: _ } => ReadFault::NoMemory,
+        }
+    }
+
+    // Where its entry fails.
+    fn failed_at(self) -> FailedAt
+        ensures { result ≡ failed_at self }
+    {
+        match self {
+            Unfetched::NoMemory { at } => at,
+            Unfetched::PoolFault | Unfetched::Mismatch { found: _ } => FailedAt::Pool,
+        }
+    }
 }
 
 impl<C: Keeps> Arcs<C> {
@@ -40,23 +87,128 @@ impl<C: Keeps> Arcs<C> {
     ) -> Result<Read, ReadFault>
         requires party { IsPartyOf self.now party.old }
         requires look { HasNoLook self.now party.old }
-        ensures answer { AnswersRead (meanings C.holds C.entries C.opening C.claims C.sound) self.now.config ptr.now tick
-            (outside P.size P.told P.faults P.reads D.size D.told D.faults pool.old cache.old) (outside P.size P.told P.faults P.reads D.size D.told D.faults pool.new cache.new)
+        ensures answer { AnswersRead (meanings C.holds C.entries C.opening C.claims C.sound) P.Pool D.CacheDev self.now.config ptr.now tick
+            (outside pool.old cache.old) (outside pool.new cache.new)
             party.old party.new result }
-        ensures pool_faults { P.faults pool.old ≤ P.faults pool.new }
-        ensures pool_told { P.told pool.new ≡ P.told pool.old }
-        ensures pool_size { P.size pool.new ≡ P.size pool.old }
-        ensures cache_faults { D.faults cache.old ≤ D.faults cache.new }
-        ensures cache_told { D.told cache.new ≡ D.told cache.old }
-        ensures cache_size { D.size cache.new ≡ D.size cache.old }
-        ensures cache_kind { D.has_sectors cache.new ≡ D.has_sectors cache.old }
-        ensures cache_crash { LeavesSame (D.may_leave cache.old) (D.may_leave cache.new) }
-        ensures cache_time { Stands (D.moment cache.old) (D.moment cache.new) (D.left_since cache.old) (D.left_since cache.new) }
+        ensures pool { KeepsPool P.Pool pool.old pool.new }
+        ensures cache { KeepsDevice D.CacheDev cache.old cache.new }
     {
-        let _ = (party, ptr, tick, pool, cache);
+        if let Err(fault) = ptr.key.check(pool.len()) {
+            return Err(ReadFault::Key(fault));
+        }
         for _ in rt.forever() {
-            thread::yield_now();
+            match self.read_round(rt, party, *ptr, tick, pool, cache) {
+                Round::Answered(answer) => return answer,
+                Round::Reading => thread::yield_now(),
+            }
         }
         unreachable!()
+    }
+
+    // One round of a read: an answer, or the key is being read, and nothing was done.
+    fn read_round<P: Pool, D: CacheDev>(
+        &self,
+        rt: &impl Wait,
+        party: &mut Party<C>,
+        ptr: Ptr,
+        tick: u64,
+        pool: &mut P,
+        cache: &mut D,
+    ) -> Round
+        requires party { IsPartyOf self.now party.old }
+        requires look { HasNoLook self.now party.old }
+        requires valid { IsValid (P.size pool.old) ptr.key }
+        ensures answer { AnswersRound (meanings C.holds C.entries C.opening C.claims C.sound) P.Pool D.CacheDev self.now.config ptr tick
+            (outside pool.old cache.old) (outside pool.new cache.new)
+            party.old party.new result }
+        ensures pool { KeepsPool P.Pool pool.old pool.new }
+        ensures cache { KeepsDevice D.CacheDev cache.old cache.new }
+    {
+        let both = self.take_both(rt, party, ptr.key);
+        let answer = match standing_of(&both.shard, ptr) {
+            Standing::Reading { owner: _ } => {
+                self.give_back(party, ptr.key, both);
+                return Round::Reading;
+            }
+            Standing::Here => match self.hit_taken(party, both, ptr, tick) {
+                Ok(hold) => Ok(Read::Held(hold, Served::Hit)),
+                Err(NoMemory) => Err(ReadFault::NoMemory),
+            },
+            Standing::Other { kept } => match self.past_taken(party, both, ptr.key, kept) {
+                Ok(bytes) => read_past(self.alloc, pool, &ptr, bytes, kept),
+                Err(NoMemory) => Err(ReadFault::NoMemory),
+            },
+            Standing::Missing => match self.miss_taken(party, both, ptr.key, tick) {
+                Ok(found) => self.end_miss(rt, party, &ptr, found, pool, cache),
+                Err(NoMemory) => Err(ReadFault::NoMemory),
+            },
+        };
+        Round::Answered(answer)
+    }
+
+    // Ends a read that the party has begun, where this was known of the key right before: its bytes are fetched with no turn held, and
+    // arrive, or it fails.
+    fn end_miss<P: Pool, D: CacheDev>(
+        &self,
+        rt: &impl Wait,
+        party: &mut Party<C>,
+        ptr: &Ptr,
+        found: Option<EntryView>,
+        pool: &mut P,
+        cache: &mut D,
+    ) -> Result<Read, ReadFault>
+        requires party { IsPartyOf self.now party.old }
+        requires look { HasNoLook self.now party.old }
+        requires reading { IsReading ptr.now.key party.old }
+        requires valid { IsValid (P.size pool.old) ptr.now.key }
+        ensures answer { EndsMiss (meanings C.holds C.entries C.opening C.claims C.sound) P.Pool D.CacheDev self.now.config ptr.now found
+            (outside pool.old cache.old) (outside pool.new cache.new)
+            party.old party.new result }
+        ensures pool { KeepsPool P.Pool pool.old pool.new }
+        ensures cache { KeepsDevice D.CacheDev cache.old cache.new }
+    {
+        let fetched = match fetch(self.alloc, pool, cache, ptr, found) {
+            Ok(fetched) => fetched,
+            Err(why) => {
+                self.fail_read(rt, party, ptr.key, why.failed_at());
+                return Err(why.fault());
+            }
+        };
+        let from = served_from(fetched.from);
+        match self.arrive_read(rt, party, ptr, fetched) {
+            Some(hold) => Ok(Read::Held(hold, from)),
+            None => self.end_cleared(rt, party, ptr, pool),
+        }
+    }
+
+    // Ends a read that the party has begun, and whose bytes came from the cache device, but whose place there was cleared since: the block
+    // is fetched from the pool, and arrives, or the read fails.
+    fn end_cleared<P: Pool>(
+        &self,
+        rt: &impl Wait,
+        party: &mut Party<C>,
+        ptr: &Ptr,
+        pool: &mut P,
+    ) -> Result<Read, ReadFault>
+        requires party { IsPartyOf self.now party.old }
+        requires look { HasNoLook self.now party.old }
+        requires reading { IsReading ptr.now.key party.old }
+        requires valid { IsValid (P.size pool.old) ptr.now.key }
+        ensures answer { GoesToPool (meanings C.holds C.entries C.opening C.claims C.sound) P.Pool self.now.config ptr.now
+            pool.old pool.new party.old party.new result }
+        ensures pool { KeepsPool P.Pool pool.old pool.new }
+    {
+        match fetch_pool(self.alloc, pool, ptr) {
+            Ok(fetched) => {
+                let Some(hold) = self.arrive_read(rt, party, ptr, fetched) else {
+                    unreachable!()
+                };
+                Ok(Read::Held(hold, Served::Pool))
+            }
+            Err(why) => {
+                self.fail_read(rt, party, ptr.key, why.failed_at());
+                Err(why.fault())
+            }
+        }
     }
 }
