@@ -31,3 +31,5 @@ pub mod FeedEvents
 pub mod Afterwards
 pub mod RoomyAfter
 pub mod PastEvents
+pub mod ArriveEvents
+pub mod Awaiting

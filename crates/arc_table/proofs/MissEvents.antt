@@ -142,7 +142,7 @@ reading_says n k t o x is = record {
     and_false true = refl
     and_false false = refl
 
-suffix_legal : (s : PlainShard) (front rest : List Event) → is_legal_history s (front ++ rest) ≡ true → is_legal_history (replay s front) rest ≡ true
+pub suffix_legal : (s : PlainShard) (front rest : List Event) → is_legal_history s (front ++ rest) ≡ true → is_legal_history (replay s front) rest ≡ true
 suffix_legal s [] rest h = h
 suffix_legal s (e ∷ front) rest h = suffix_legal (after s e) front rest (and_right (legal s e) (is_legal_history (after s e) (front ++ rest)) h)
 

@@ -29,6 +29,13 @@ abbrev pub CountsPool : Unfetched → (before now : ℕ) → Type 0
 CountsPool (unfetched.NoMemory failed.Unread) before now = now ≡ before
 CountsPool _ before now = CountsOne before now
 
+-- one fault more was counted exactly where the pool failed
+abbrev pub CountsPoolFault : {T : Type 0} → (before now : ℕ) → Result T Unfetched → Type 0
+CountsPoolFault before now (Ok t) = now ≡ before
+CountsPoolFault before now (Err (unfetched.PoolFault)) = CountsOne before now
+CountsPoolFault before now (Err (unfetched.Mismatch found)) = now ≡ before
+CountsPoolFault before now (Err (unfetched.NoMemory at)) = now ≡ before
+
 -- a read of a range compares no digest
 abbrev pub IsNoMismatch : Unfetched → Type 0
 IsNoMismatch (unfetched.Mismatch found) = ⊥
@@ -80,3 +87,9 @@ abbrev pub WasPoolRead : {T : Type 0} → (T → Origin) → Result T Unfetched 
 WasPoolRead from (Ok t) = from t ≡ origin.Pool
 WasPoolRead from (Err (unfetched.NoMemory failed.Unread)) = ⊥
 WasPoolRead from (Err _) = Unit {0}
+
+-- the pool was not read: the device served the block, or memory was refused first
+abbrev pub WasUnread : {T : Type 0} → (T → Origin) → Result T Unfetched → Type 0
+WasUnread from (Ok t) = from t ≡ origin.L2
+WasUnread from (Err (unfetched.NoMemory failed.Unread)) = Unit {0}
+WasUnread from (Err _) = ⊥

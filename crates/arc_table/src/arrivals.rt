@@ -1,8 +1,8 @@
 //! How a read ends: its bytes arrive, or it has failed.
-ghost use Rattle.std.specs.Prelude.{◌≡◌, IsSome, IsTrue, IfSome, IfNone, is_some, Some, None, [], ◌∷◌};
+ghost use Rattle.std.specs.Prelude.{◌≡◌, IsSome, IsTrue, IfSome, IfNone, Some, None, [], ◌∷◌};
 ghost use Rattle.blk_ptr.specs.Ptr.{IsOf};
 ghost use Rattle.arc_core.specs.declared.event.Event.{Event};
-ghost use Rattle.arc_core.specs.PlainShard.{entry_is, place_of};
+ghost use Rattle.arc_core.specs.PlainShard.{entry_is};
 ghost use Rattle.arc_core.specs.Step.{may_come_from};
 ghost use Rattle.hash_chain.specs.Chain.{IsWith, header_at};
 ghost use Rattle.arc_table.specs.Arriving.{FindsCleared, IsReading};
@@ -24,12 +24,15 @@ use blk_ptr::{Key, Ptr};
 use hash_chain::{Bucket, Header};
 use std::sync::Wait;
 
-// Whether bytes of the cache device may arrive: the entry has a place there still.
-fn has_place(shard: &Shard, key: Key) -> bool
-    ensures { result ≡ is_some (place_of key shard.now.now) }
+// Whether bytes from there may arrive: those of the cache device only while the entry has a place there.
+fn may_come(shard: &Shard, key: Key, from: Origin) -> bool
+    ensures { result ≡ entry_is (may_come_from from) key shard.now.now }
 {
     match shard.entry(key) {
-        Some(entry) => entry.place.is_some(),
+        Some(entry) => match from {
+            Origin::Pool => true,
+            Origin::L2 => entry.place.is_some(),
+        },
         None => false,
     }
 }
@@ -67,9 +70,7 @@ impl<C: Keeps> Arcs<C> {
         ensures cleared { IfNone result ((fetched.from ≡ Origin.L2) × FindsCleared (meanings C.holds C.entries C.opening C.claims C.sound) self.now.config ptr.now.key party.old party.new) }
     {
         let both = self.take_both(rt, party, ptr.key);
-        if let Origin::L2 = fetched.from
-            && !has_place(&both.shard, ptr.key)
-        {
+        if !may_come(&both.shard, ptr.key, fetched.from) {
             self.give_back(party, ptr.key, both);
             return None;
         }

@@ -4,7 +4,7 @@ ghost use Rattle.blk_ptr.specs.Key.{IsValid};
 ghost use Rattle.blk_ptr.specs.Ptr.{IsOf, range_of};
 ghost use Rattle.vdev_io.specs.Device.{LeavesSame, Stands};
 ghost use Rattle.vdev_io.specs.Faults.{CountsOne, Rose};
-ghost use Rattle.arc_table.specs.Fetching.{CameFromCache, CameFromPool, CountsPool, FailsPool, HasFetched, IsNoMismatch, ReadsPool, WasPoolRead, bytes_from, origin_of};
+ghost use Rattle.arc_table.specs.Fetching.{CameFromCache, CameFromPool, CountsPool, CountsPoolFault, FailsPool, HasFetched, IsNoMismatch, ReadsPool, WasPoolRead, WasUnread, bytes_from, origin_of};
 
 use arc_core::{EntryView, FailedAt, Origin};
 use blk_ptr::{Block, Digest, Key, NoMemory, Ptr};
@@ -40,6 +40,8 @@ fn read_range<P: Pool>(alloc: Global, pool: &mut P, key: Key) -> Result<Vec<u8>,
     ensures err { IfErr result IsNoMismatch }
     ensures rose { result ≡ Err Unfetched.PoolFault → Rose (P.faults pool.old) (P.faults pool.new) }
     ensures counted { IfErr result (λ why. CountsPool why (P.reads pool.old) (P.reads pool.new)) }
+    ensures fault { CountsPoolFault (P.faults pool.old) (P.faults pool.new) result }
+    ensures unread { result ≡ Err (Unfetched.NoMemory FailedAt.Unread) → pool.new ≡ pool.old }
     ensures kept { P.faults pool.old ≤ P.faults pool.new }
     ensures told { P.told pool.new ≡ P.told pool.old }
     ensures size_kept { P.size pool.new ≡ P.size pool.old }
@@ -63,6 +65,8 @@ fn read_pool<P: Pool>(alloc: Global, pool: &mut P, ptr: &Ptr) -> Result<Block, U
     ensures read { OnOk result (CountsOne (P.reads pool.old) (P.reads pool.new)) }
     ensures err { IfErr result (FailsPool (P.faults pool.old) (P.faults pool.new) (P.told pool.old) ptr.now) }
     ensures counted { IfErr result (λ why. CountsPool why (P.reads pool.old) (P.reads pool.new)) }
+    ensures fault { CountsPoolFault (P.faults pool.old) (P.faults pool.new) result }
+    ensures unread { result ≡ Err (Unfetched.NoMemory FailedAt.Unread) → pool.new ≡ pool.old }
     ensures kept { P.faults pool.old ≤ P.faults pool.new }
     ensures told { P.told pool.new ≡ P.told pool.old }
     ensures size { P.size pool.new ≡ P.size pool.old }
@@ -197,6 +201,8 @@ pub(crate) fn fetch_pool<P: Pool>(
     ensures from { IfOk result (λ f. f.from ≡ Origin.Pool) }
     ensures err { IfErr result (FailsPool (P.faults pool.old) (P.faults pool.new) (P.told pool.old) ptr.now) }
     ensures counted { IfErr result (λ why. CountsPool why (P.reads pool.old) (P.reads pool.new)) }
+    ensures fault { CountsPoolFault (P.faults pool.old) (P.faults pool.new) result }
+    ensures unread { WasUnread origin_of result → pool.new ≡ pool.old }
     ensures kept { P.faults pool.old ≤ P.faults pool.new }
     ensures told { P.told pool.new ≡ P.told pool.old }
     ensures size { P.size pool.new ≡ P.size pool.old }
@@ -223,6 +229,8 @@ pub(crate) fn fetch<P: Pool, D: CacheDev>(
     ensures pool { WasPoolRead origin_of result → ReadsPool ptr.now found (D.size cache.old) (D.faults cache.old) (D.faults cache.new) (D.told cache.old) }
     ensures err { IfErr result (FailsPool (P.faults pool.old) (P.faults pool.new) (P.told pool.old) ptr.now) }
     ensures counted { IfErr result (λ why. CountsPool why (P.reads pool.old) (P.reads pool.new)) }
+    ensures fault { CountsPoolFault (P.faults pool.old) (P.faults pool.new) result }
+    ensures unread { WasUnread origin_of result → pool.new ≡ pool.old }
     ensures kept { P.faults pool.old ≤ P.faults pool.new }
     ensures told { P.told pool.new ≡ P.told pool.old }
     ensures size { P.size pool.new ≡ P.size pool.old }
