@@ -33,3 +33,5 @@ pub mod RoomyAfter
 pub mod PastEvents
 pub mod ArriveEvents
 pub mod Awaiting
+pub mod ReadEnds
+pub mod AfterRead

@@ -6,7 +6,7 @@ ghost use Rattle.arc_table.specs.Cache.{IsPartyOf};
 ghost use Rattle.arc_table.specs.Items.{meanings};
 ghost use Rattle.arc_table.specs.Looking.{HasNoLook};
 ghost use Rattle.arc_table.specs.PoolCalls.{KeepsPool};
-ghost use Rattle.arc_table.specs.Reading.{AnswersRead, AnswersRound, EndsMiss, GoesToPool, KeepsDevice, failed_at, fault_of, outside, served_as};
+ghost use Rattle.arc_table.specs.Reading.{AnswersRead, AnswersRound, EndsMiss, GoesToPool, IfReading, KeepsDevice, failed_at, fault_of, outside, served_as};
 
 use crate::arcs::{Arcs, Party};
 use crate::fetch::{Unfetched, fetch, fetch_pool};
@@ -121,29 +121,31 @@ impl<C: Keeps> Arcs<C> {
         ensures answer { AnswersRound (meanings C.holds C.entries C.opening C.claims C.sound) P.Pool D.CacheDev self.now.config ptr tick
             (outside pool.old cache.old) (outside pool.new cache.new)
             party.old party.new result }
+        ensures party { IfReading result (IsPartyOf self.now party.new × HasNoLook self.now party.new) }
         ensures pool { KeepsPool P.Pool pool.old pool.new }
         ensures cache { KeepsDevice D.CacheDev cache.old cache.new }
     {
         let both = self.take_both(rt, party, ptr.key);
-        let answer = match standing_of(&both.shard, ptr) {
+        match standing_of(&both.shard, ptr) {
             Standing::Reading { owner: _ } => {
                 self.give_back(party, ptr.key, both);
-                return Round::Reading;
+                Round::Reading
             }
             Standing::Here => match self.hit_taken(party, both, ptr, tick) {
-                Ok(hold) => Ok(Read::Held(hold, Served::Hit)),
-                Err(NoMemory) => Err(ReadFault::NoMemory),
+                Ok(hold) => Round::Answered(Ok(Read::Held(hold, Served::Hit))),
+                Err(NoMemory) => Round::Answered(Err(ReadFault::NoMemory)),
             },
             Standing::Other { kept } => match self.past_taken(party, both, ptr.key, kept) {
-                Ok(bytes) => read_past(self.alloc, pool, &ptr, bytes, kept),
-                Err(NoMemory) => Err(ReadFault::NoMemory),
+                Ok(bytes) => Round::Answered(read_past(self.alloc, pool, &ptr, bytes, kept)),
+                Err(NoMemory) => Round::Answered(Err(ReadFault::NoMemory)),
             },
             Standing::Missing => match self.miss_taken(party, both, ptr.key, tick) {
-                Ok(found) => self.end_miss(rt, party, &ptr, found, pool, cache),
-                Err(NoMemory) => Err(ReadFault::NoMemory),
+                Ok(found) => {
+                    Round::Answered(self.end_miss(rt, party, &ptr, found, pool, cache))
+                }
+                Err(NoMemory) => Round::Answered(Err(ReadFault::NoMemory)),
             },
-        };
-        Round::Answered(answer)
+        }
     }
 
     // Ends a read that the party has begun, where this was known of the key right before: its bytes are fetched with no turn held, and
