@@ -35,3 +35,4 @@ pub mod ArriveEvents
 pub mod Awaiting
 pub mod ReadEnds
 pub mod AfterRead
+pub mod Rounds

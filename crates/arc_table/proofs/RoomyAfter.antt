@@ -114,7 +114,7 @@ module _ {C : Type 0} (m : Meanings C) (g : Config) (valid : IsConfig g) (k : Ke
   scanned = after_scan m g i (length d.before.history) d.makes.won d.makes.passes d.reached
 
   abbrev given_shard : Place (Known C)
-  given_shard = gave_back scanned i (after_shard m d.makes.gives.given i d.before es d.makes.gives.after scanned.own)
+  given_shard = gave_back scanned i (after_shard m d.makes.gives.given i d.before es d.makes.after scanned.own)
 
   left : GaveAll d.makes.gives.given given_shard r
   left = subst (GaveAll d.makes.gives.given given_shard) (sym d.makes.gives.gave) (gave_leaves d.makes.gives.given given_shard)
@@ -136,16 +136,16 @@ module _ {C : Type 0} (m : Meanings C) (g : Config) (valid : IsConfig g) (k : Ke
       (won_mine m d.makes.won d.reached.own ∙ (reached m g k d.chain d.before p d.reached d.takes).mine)
 
   -- its holds, readings and picks follow them
-  pub does_roomy_ledger : r.own.ledger ≡ ledger_through g.callers p.number i d.before.now es d.makes.gives.after.now p.own.ledger
+  pub does_roomy_ledger : r.own.ledger ≡ ledger_through g.callers p.number i d.before.now es d.makes.after.now p.own.ledger
   does_roomy_ledger =
       let t = reached m g k d.chain d.before p d.reached d.takes in
       let config : scanned.own.about.config ≡ g = ap (λ (a : About). a.config) (won_about m d.makes.won d.reached.own ∙ t.about) ∙ same in
       let number : scanned.own.number ≡ p.number = won_number m d.makes.won d.reached.own ∙ (own_number_is m g k d.chain d.before p d.reached d.takes same valid ∙ t.number) in
-      left.ledger ∙ (λ z. ledger_through (config z).callers (number z) i d.before.now es d.makes.gives.after.now ((won_ledger m d.makes.won d.reached.own ∙ t.ledger) z))
+      left.ledger ∙ (λ z. ledger_through (config z).callers (number z) i d.before.now es d.makes.after.now ((won_ledger m d.makes.won d.reached.own ∙ t.ledger) z))
 
   -- it has seen all of the shard's history, the passes and the event included
   pub does_roomy_seen : front_of i r.own.seen ≡ map line.Event (d.before.history ++ es)
-  does_roomy_seen = ap (front_of i) left.seen ∙ (front_here i (map line.Event d.makes.gives.after.history) scanned.own.seen ∙ ap (map line.Event) d.makes.history)
+  does_roomy_seen = ap (front_of i) left.seen ∙ (front_here i (map line.Event d.makes.after.history) scanned.own.seen ∙ ap (map line.Event) d.makes.history)
 
 -- ---- a miss
 
