@@ -42,10 +42,10 @@ module _ {C : Type 0} (m : Meanings C) (g : Config) (k : Key) (chain : Chain) (b
   pub taken_number : q.number ≡ p.number
   taken_number = (reached m g k chain before p q takes).number
 
-  pub does_these : (es : List Event) → Makes m g k before es q r → Does m g k es p r
+  abbrev pub does_these : (es : List Event) → Makes m g k before es q r → Does m g k es p r
   does_these es makes = record { chain = chain; before = before; reached = q; takes = takes; makes = makes }
 
-  pub does_missed : (t : ℕ) → MakesRoomy m g k before (Miss q.number k t) q r → DoesRoomy m g k (Miss p.number k t) p r
+  abbrev pub does_missed : (t : ℕ) → MakesRoomy m g k before (Miss q.number k t) q r → DoesRoomy m g k (Miss p.number k t) p r
   does_missed t makes = record { chain = chain; before = before; reached = q; takes = takes; makes = subst (λ (n : ℕ). MakesRoomy m g k before (Miss n k t) q r) taken_number makes }
 
   module _ (valid : IsConfig g) (same : p.own.about.config ≡ g) where

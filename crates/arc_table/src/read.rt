@@ -140,9 +140,7 @@ impl<C: Keeps> Arcs<C> {
                 Err(NoMemory) => Round::Answered(Err(ReadFault::NoMemory)),
             },
             Standing::Missing => match self.miss_taken(party, both, ptr.key, tick) {
-                Ok(found) => {
-                    Round::Answered(self.end_miss(rt, party, &ptr, found, pool, cache))
-                }
+                Ok(found) => { Round::Answered(self.end_miss(rt, party, &ptr, found, pool, cache)) }
                 Err(NoMemory) => Round::Answered(Err(ReadFault::NoMemory)),
             },
         }

@@ -39,11 +39,14 @@ end_miss-requires-clause-reading g c κs within =
 pub returns-in-Reading-clause-answer : goal.returns-in-Reading-clause-answer
 returns-in-Reading-clause-answer g c =
     let m = meanings g.C.Keeps.holds g.C.Keeps.entries g.C.Keeps.opening g.C.Keeps.claims g.C.Keeps.sound in
-    let b = c.take_both-both in record {
-      does = does_these m c.args.self.now.config c.args.ptr.key b.result.hand.own.bucket b.result.shard c.args.party.now b.new.party c.give_back.new.party b.ensures.takes [] c.give_back.ensures;
-      owner = c.in-Reading.owner;
-      reading = c.in-Reading.ensures;
-    }
+    let b = c.take_both-both in (
+      record {
+        does = does_these m c.args.self.now.config c.args.ptr.key b.result.hand.own.bucket b.result.shard c.args.party.now b.new.party c.give_back.new.party b.ensures.takes [] c.give_back.ensures;
+        owner = c.in-Reading.owner;
+        reading = c.in-Reading.ensures;
+      },
+      refl,
+    )
 
 pub returns-in-Reading-clause-party : goal.returns-in-Reading-clause-party
 returns-in-Reading-clause-party g c =
