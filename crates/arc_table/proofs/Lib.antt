@@ -36,3 +36,12 @@ pub mod Awaiting
 pub mod ReadEnds
 pub mod AfterRead
 pub mod Rounds
+pub mod Tries
+pub mod Candidates
+pub mod FeedScan
+pub mod FeedBegins
+pub mod FeedTries
+pub mod PickSteps
+pub mod FeedEnds
+pub mod CapacityEvents
+pub mod Holders

@@ -40,3 +40,5 @@ pub mod Handing
 pub mod Feeding
 pub mod PoolCalls
 pub mod Reading
+pub mod Picking
+pub mod Resizing

@@ -27,6 +27,8 @@ mod opening;
 mod pact;
 mod past;
 mod read;
+mod picks;
+mod resizes;
 mod restores;
 mod scan;
 mod spare;
@@ -45,6 +47,8 @@ pub use item::Item;
 pub use look::{BucketTurn, Look};
 pub use pact::{Pact, Settled};
 pub use read::Read;
+pub use picks::Picked;
+pub use resizes::ResizeStop;
 pub use restores::RestoreStop;
 pub use view::{Known, Ledger, Line, Mine, Note};
 

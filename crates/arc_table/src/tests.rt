@@ -2,7 +2,7 @@
 ghost use Rattle.std.specs.Prelude.{◌≡◌, []};
 
 use crate::{Arcs, Cleared, Front, Look, TryHit};
-use arc_core::{Bounds, Config, Keeps, Restored};
+use arc_core::{Bounds, Config, Event, Keeps, Restored};
 use blk_ptr::{Digest, Key, Ptr};
 use std::test::Fail;
 
@@ -118,5 +118,44 @@ fn a_key_that_is_not_there_has_no_place(rt: HostRuntime) -> Result<(), Fail> {
     let mut feeder = parties.pop().ok_or("feeder")?;
     let none = arcs.clear(&rt, &mut feeder, A, 8192).ok();
     assert!(rt; none == Some(Cleared::Not(Front { shard: 0, len: 0 })));
+    Ok(())
+}
+
+#[test]
+fn nothing_is_picked_of_an_empty_shard(rt: HostRuntime) -> Result<(), Fail> {
+    let cells = vec![in rt.alloc(); Plain]?;
+    let made = Arcs::new(rt.alloc(), &SMALL, cells);
+    let (arcs, mut parties) = made.ok().ok_or("memory")?;
+    let mut feeder = parties.pop().ok_or("feeder")?;
+    let mut out = Vec::new(rt.alloc());
+    assert!(rt; arcs.pick(&rt, &mut feeder, 0, &mut out).is_ok() && out.is_empty());
+    parties.push(feeder).ok().ok_or("memory")?;
+    let closed = arcs.close(parties).ok().ok_or("memory")?;
+    let events = [Event::FeedEnd { n: 1 }];
+    assert!(rt; closed.shards().len() == 1);
+    assert!(rt;
+        closed
+            .shards()
+            .iter()
+            .all(|shard| shard.history() == events.as_slice())
+    );
+    Ok(())
+}
+
+#[test]
+fn a_shard_has_a_new_capacity(rt: HostRuntime) -> Result<(), Fail> {
+    let cells = vec![in rt.alloc(); Plain]?;
+    let made = Arcs::new(rt.alloc(), &SMALL, cells);
+    let (arcs, mut parties) = made.ok().ok_or("memory")?;
+    let mut feeder = parties.pop().ok_or("feeder")?;
+    assert!(rt; arcs.resize(&rt, &mut feeder, 8192).is_ok());
+    parties.push(feeder).ok().ok_or("memory")?;
+    let closed = arcs.close(parties).ok().ok_or("memory")?;
+    let events = [Event::Resize { n: 1, c: 8192 }];
+    assert!(rt; closed.shards().len() == 1);
+    assert!(rt;
+        closed.shards().iter().all(|shard| shard.c() == 8192
+            && shard.history() == events.as_slice())
+    );
     Ok(())
 }
