@@ -203,8 +203,3 @@ module _ {C P D : Type 0} (m : Meanings C) (pools : PoolGhosts P) (devices : Dev
   abbrev pub AnswersRound : Config → Ptr → (tick : ℕ) → (before now : Outside P D) → Place (Known C) → Place (Known C) → Round → Type 0
   AnswersRound g ptr t before now p q (round.Answered result) = Answers g ptr t before now p q result
   AnswersRound g ptr t before now p q (round.Reading) = FindsReading m g ptr.key p q × (now ≡ before)
-
--- a fact of a round after which the party waits
-abbrev pub IfReading : Round → Type 0 → Type 0
-IfReading (round.Answered result) P = Unit {0}
-IfReading (round.Reading) P = P

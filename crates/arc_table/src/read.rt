@@ -6,7 +6,7 @@ ghost use Rattle.arc_table.specs.Cache.{IsPartyOf};
 ghost use Rattle.arc_table.specs.Items.{meanings};
 ghost use Rattle.arc_table.specs.Looking.{HasNoLook};
 ghost use Rattle.arc_table.specs.PoolCalls.{KeepsPool};
-ghost use Rattle.arc_table.specs.Reading.{AnswersRead, AnswersRound, EndsMiss, GoesToPool, IfReading, KeepsDevice, failed_at, fault_of, outside, served_as};
+ghost use Rattle.arc_table.specs.Reading.{AnswersRead, AnswersRound, EndsMiss, GoesToPool, KeepsDevice, failed_at, fault_of, outside, served_as};
 
 use crate::arcs::{Arcs, Party};
 use crate::fetch::{Unfetched, fetch, fetch_pool};
@@ -90,6 +90,8 @@ impl<C: Keeps> Arcs<C> {
         ensures answer { AnswersRead (meanings C.holds C.entries C.opening C.claims C.sound) P.Pool D.CacheDev self.now.config ptr.now tick
             (outside pool.old cache.old) (outside pool.new cache.new)
             party.old party.new result }
+        ensures party { IsPartyOf self.now party.new }
+        ensures held { party.new.held ≡ party.old.held }
         ensures pool { KeepsPool P.Pool pool.old pool.new }
         ensures cache { KeepsDevice D.CacheDev cache.old cache.new }
     {
@@ -121,7 +123,8 @@ impl<C: Keeps> Arcs<C> {
         ensures answer { AnswersRound (meanings C.holds C.entries C.opening C.claims C.sound) P.Pool D.CacheDev self.now.config ptr tick
             (outside pool.old cache.old) (outside pool.new cache.new)
             party.old party.new result }
-        ensures party { IfReading result (IsPartyOf self.now party.new × HasNoLook self.now party.new) }
+        ensures party { IsPartyOf self.now party.new }
+        ensures held { party.new.held ≡ party.old.held }
         ensures pool { KeepsPool P.Pool pool.old pool.new }
         ensures cache { KeepsDevice D.CacheDev cache.old cache.new }
     {

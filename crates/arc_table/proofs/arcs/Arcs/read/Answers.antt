@@ -1,5 +1,6 @@
 use Rattle.std.proofs.Common.{◌≡◌, ℕ, suc, refl, sym, ap, ◌∙◌, subst}
 use Rattle.blk_ptr.specs.Key.{IsFirstFault, IsValid}
+use Rattle.turn_table.specs.Board.{IsAmong}
 use Rattle.arc_table.specs.Items.{meanings}
 use Rattle.arc_table.specs.PoolCalls.{KeepsPool}
 use Rattle.arc_table.specs.Reading.{Answers, KeepsDevice, Outside, answered, outside, refused}
@@ -9,13 +10,13 @@ pub returns-in-Err-clause-answer : goal.returns-in-Err-clause-answer
 returns-in-Err-clause-answer g c = refused c.in-Err.fault refl (subst (λ (n : ℕ). IsFirstFault n c.args.ptr.now.key c.in-Err.fault) c.len.ensures c.in-Err.ensures.valid) refl refl
 
 pub loop-init : goal.loop-init
-loop-init g c = record { party = c.requires.party; look = c.requires.look; waits = (0, refl); pool = refl; cache = refl }
+loop-init g c = record { party = c.requires.party; held = refl; waits = (0, refl); pool = refl; cache = refl }
 
 pub read_round-requires-clause-party : goal.read_round-requires-clause-party
 read_round-requires-clause-party g c κs within = c.loop.invariant.party
 
 pub read_round-requires-clause-look : goal.read_round-requires-clause-look
-read_round-requires-clause-look g c κs within = c.loop.invariant.look
+read_round-requires-clause-look g c κs within = λ i among. c.requires.look i (subst (IsAmong i) c.loop.invariant.held among)
 
 pub read_round-requires-clause-valid : goal.read_round-requires-clause-valid
 read_round-requires-clause-valid g c κs within =
@@ -39,9 +40,12 @@ pub loop-preserved : goal.loop-preserved
 loop-preserved g c =
     let i = c.loop.invariant in
     let e = c.in-Reading.ensures in record {
-      party = e.party.0;
-      look = e.party.1;
+      party = e.party;
+      held = e.held ∙ i.held;
       waits = (suc i.waits.0, (c.loop.party, i.waits.1, e.answer.0));
       pool = ap (λ (x : Outside g.row.P.Denot g.row.D.Denot). x.pool) e.answer.1 ∙ i.pool;
       cache = ap (λ (x : Outside g.row.P.Denot g.row.D.Denot). x.device) e.answer.1 ∙ i.cache;
     }
+
+pub returns-in-Answered-clause-held : goal.returns-in-Answered-clause-held
+returns-in-Answered-clause-held g c = c.in-Answered.ensures.held ∙ c.loop.invariant.held
