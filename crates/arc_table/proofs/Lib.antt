@@ -29,8 +29,13 @@ pub mod HitEvents
 pub mod FollowEvents
 pub mod FeedEvents
 pub mod Afterwards
+pub mod RoomyAfter
+pub mod PastEvents
 pub mod ArriveEvents
 pub mod Awaiting
+pub mod ReadEnds
+pub mod AfterRead
+pub mod Rounds
 pub mod Tries
 pub mod Candidates
 pub mod FeedScan
@@ -39,5 +44,4 @@ pub mod FeedTries
 pub mod PickSteps
 pub mod FeedEnds
 pub mod CapacityEvents
-pub mod RoomyAfter
 pub mod Holders

@@ -1,103 +1,162 @@
--- What a party is after a call with a scan: the turns that it holds are those that it had.
-use Rattle.std.proofs.Common.{◌≡◌, ◌≢◌, ◌==◌, if◌then◌else◌, ℕ, ◌<◌, ◌≤◌, List, [], ◌∷◌, ◌++◌, length, Bool, true, false, Option, None, refl, sym, ap, ◌∙◌, subst, eq-eqb, ne_eqb, arith}
+-- What a party is after a call with a scan: it is a party of the cache still, with the turns that it had. What it lists and what it has made follow the passes and the event.
+use Rattle.std.proofs.Common.{◌≡◌, ◌≢◌, ◌==◌, if◌then◌else◌, ℕ, ◌-◌, List, [], ◌∷◌, ◌++◌, length, map, Bool, true, false, refl, sym, ap, ◌∙◌, subst, eq-eqb}
+use Rattle.std.proofs.lemmas.Bool.{eqb-true}
 use Rattle.blk_ptr.specs.declared.key.Key.{Key}
 use Rattle.arc_core.specs.declared.config.Config.{Config}
 use Rattle.arc_core.specs.Config.{IsConfig}
 use Rattle.arc_core.specs.declared.event.Event.{Event}
-use Rattle.arc_core.specs.ShardLog.{ShardLog}
+use Rattle.arc_core.specs.declared.event.Event.TheVariants.{Miss, Pass}
 use Rattle.hash_chain.specs.Chain.{Chain}
 use Rattle.turn_table.specs.Board.{without}
 use Rattle.turn_table.specs.Places.{Place, gave_back}
 use Rattle.arc_table.specs.declared.about.About.{About}
+use Rattle.arc_table.specs.declared.item.Item.TheVariants as item
 use Rattle.arc_table.specs.declared.view.Known.{Known}
-use Rattle.arc_table.specs.Ending.{DoesRoomy, MakesRoomy}
-use Rattle.arc_table.specs.Fronts.{item_at}
-use Rattle.arc_table.specs.Geometry.{IsBucket, IsShard, bucket_turn, shard_turn}
+use Rattle.arc_table.specs.declared.view.Ledger.{Ledger}
+use Rattle.arc_table.specs.declared.view.Line.TheVariants as line
+use Rattle.arc_table.specs.declared.view.Mine.{Mine}
+use Rattle.arc_table.specs.Ending.{DoesRoomy}
+use Rattle.arc_table.specs.Fronts.{front_of}
+use Rattle.arc_table.specs.Geometry.{bucket_turn, shard_turn}
 use Rattle.arc_table.specs.Items.{Meanings}
-use Rattle.arc_table.specs.Scanning.{AllPairs, AreApart, added, after_scan, gave_all}
-use Rattle.arc_table.specs.ShardGiving.{after_shard}
+use Rattle.arc_table.specs.Scanning.{ArePasses, added, after_scan, gave_all, notes_of, won_all}
+use Rattle.arc_table.specs.ShardGiving.{after_shard, ledger_through, mines_of, passes_in, readings_through}
 use Rattle.arc_table.specs.Sparing.{turns_in}
-use Rattle.arc_table.specs.Views.{after_same}
+use Rattle.arc_table.specs.TableLaws.{front_here}
+use Rattle.arc_table.specs.Views.{after_same, after_won}
 use Rattle.arc_table.proofs.Afterwards.{Stays}
-use Rattle.arc_table.proofs.Ranges.{shard_range}
-use Rattle.arc_table.proofs.Reached.{reached}
-use Rattle.arc_table.proofs.Scans.{won_about}
+use Rattle.arc_table.proofs.Reached.{own_number_is, reached}
+use Rattle.arc_table.proofs.Scans.{won_about, won_mine}
 
 -- ---- turns taken and given back
 
--- none of these is i
-abbrev AllFar : ℕ → List ℕ → Type 0
-AllFar i [] = Unit {0}
-AllFar i (x ∷ xs) = (x ≢ i) × AllFar i xs
-
--- the numbers without each of these
+-- a list without the first of each of these, one after the other
 abbrev without_all : List ℕ → List ℕ → List ℕ
-without_all [] held = held
-without_all (i ∷ is) held = without_all is (without i held)
+without_all [] ks = ks
+without_all (x ∷ xs) ks = without_all xs (without x ks)
 
-past_far : (i : ℕ) (xs held : List ℕ) → AllFar i xs → without i (xs ++ i ∷ held) ≡ xs ++ held
-past_far i [] held far = ap (λ (b : Bool). if b then held else (i ∷ without i held)) (eq-eqb i i refl)
-past_far i (x ∷ xs) held far = ap (λ (b : Bool). if b then (xs ++ i ∷ held) else (x ∷ without i (xs ++ i ∷ held))) (ne_eqb x i far.0) ∙ ap (λ (l : List ℕ). x ∷ l) (past_far i xs held far.1)
-
--- where the table has no line of i, its first line is of another number
-other_first : (i : ℕ) (v : ℕ × Chain) (vs : List (ℕ × Chain)) → item_at i (v ∷ vs) ≡ None → (v.0 ≢ i) × (item_at i vs ≡ None)
-other_first i v vs none = by_test (i == v.0) refl
+-- the order doesn't matter
+without_both : (x y : ℕ) (ks : List ℕ) → without x (without y ks) ≡ without y (without x ks)
+without_both x y [] = refl
+without_both x y (k ∷ ks) = by_tests (k == x) refl (k == y) refl (without_both x y ks)
   where
-    by_test : (b : Bool) → (i == v.0) ≡ b → (v.0 ≢ i) × (item_at i vs ≡ None)
-    by_test true is = absurd (let e : (if true then Rattle.std.specs.Prelude.Some v.1 else item_at i vs) ≡ None = ap (λ (b : Bool). if b then Rattle.std.specs.Prelude.Some v.1 else item_at i vs) (sym is) ∙ none in cc)
-    by_test false is = ((λ (e : v.0 ≡ i). let t : (i == v.0) ≡ true = eq-eqb i v.0 (sym e) in absurd (let f : false ≡ true = sym is ∙ t in cc)), ap (λ (b : Bool). if b then Rattle.std.specs.Prelude.Some v.1 else item_at i vs) (sym is) ∙ none)
+    head_is : (z : ℕ) (l : List ℕ) (b : Bool) → (k == z) ≡ b → without z (k ∷ l) ≡ (if b then l else k ∷ without z l)
+    head_is z l b e = ap (λ (c : Bool). if c then l else k ∷ without z l) e
 
-without_added : (i : ℕ) (vs : List (ℕ × Chain)) (xs held : List ℕ) → item_at i vs ≡ None → AllFar i xs → without i (added vs (xs ++ i ∷ held)) ≡ added vs (xs ++ held)
-without_added i [] xs held none far = past_far i xs held far
-without_added i (v ∷ vs) xs held none far = let o = other_first i v vs none in without_added i vs (v.0 ∷ xs) held o.1 (o.0, far)
+    same : (a b : ℕ) → (k == a) ≡ true → (k == b) ≡ true → a ≡ b
+    same a b e f = sym (eqb-true k a e) ∙ eqb-true k b f
 
--- buckets that were taken and are given back
-all_back : (vs : List (ℕ × Chain)) (held : List ℕ) → AreApart vs → without_all (turns_in vs) (added vs held) ≡ held
-all_back [] held apart = refl
-all_back (v ∷ vs) held apart = ap (without_all (turns_in vs)) (without_added v.0 vs [] held apart.0 tt) ∙ all_back vs held apart.1
+    by_tests : (b : Bool) → (k == x) ≡ b → (c : Bool) → (k == y) ≡ c → without x (without y ks) ≡ without y (without x ks) → without x (without y (k ∷ ks)) ≡ without y (without x (k ∷ ks))
+    by_tests true ex true ey ih = let is = same x y ex ey in (λ z. without (is z) (without (sym is z) (k ∷ ks)))
+    by_tests true ex false ey ih = ap (without x) (head_is y ks false ey) ∙ (head_is x (without y ks) true ex ∙ ap (without y) (sym (head_is x ks true ex)))
+    by_tests false ex true ey ih = ap (without x) (head_is y ks true ey) ∙ (sym (head_is y (without x ks) true ey) ∙ ap (without y) (sym (head_is x ks false ex)))
+    by_tests false ex false ey ih = ap (without x) (head_is y ks false ey) ∙ (head_is x (without y ks) false ex
+        ∙ (ap (λ (l : List ℕ). k ∷ l) ih ∙ (sym (head_is y (without x ks) false ey) ∙ ap (without y) (sym (head_is x ks false ex)))))
 
-no_shard : (g : Config) (i : ℕ) (vs : List (ℕ × Chain)) → IsShard g i → AllPairs (λ j b. IsBucket g j) vs → item_at i vs ≡ None
-no_shard g i [] shard all = refl
-no_shard g i (v ∷ vs) shard all = ap (λ (b : Bool). if b then Rattle.std.specs.Prelude.Some v.1 else item_at i vs) (ne_eqb i v.0 (λ e. let a = shard.0 in let b = all.0.1 in omega arith)) ∙ no_shard g i vs shard all.1
+without_last : (xs : List ℕ) (y : ℕ) (ks : List ℕ) → without_all xs (without y ks) ≡ without y (without_all xs ks)
+without_last [] y ks = refl
+without_last (x ∷ xs) y ks = ap (without_all xs) (without_both x y ks) ∙ without_last xs y (without x ks)
 
--- ---- buckets given back
+without_head : (x : ℕ) (ks : List ℕ) → without x (x ∷ ks) ≡ ks
+without_head x ks = ap (λ (b : Bool). if b then ks else x ∷ without x ks) (eq-eqb x x refl)
 
-record SameParty {C : Type 0} (p q : Place (Known C)) : Type 0 where
-  pub table : q.table ≡ p.table
-  pub parties : q.parties ≡ p.parties
-  pub number : q.number ≡ p.number
-  pub joined : q.joined ≡ p.joined
-  pub about : q.own.about ≡ p.own.about
+-- buckets that were taken and given back leave what was held
+given_added : (vs : List (ℕ × Chain)) (held : List ℕ) → without_all (turns_in vs) (added vs held) ≡ held
+given_added [] held = refl
+given_added (v ∷ vs) held = without_last (turns_in vs) v.0 (added vs (v.0 ∷ held)) ∙ (ap (without v.0) (given_added vs (v.0 ∷ held)) ∙ without_head v.0 held)
+
+-- the shard, its key's bucket and the buckets of a scan
+all_given : (won : List (ℕ × Chain)) (i j : ℕ) (held : List ℕ) → without_all (j ∷ turns_in won) (without i (added won (i ∷ (j ∷ held)))) ≡ held
+all_given won i j held = without_last (turns_in won) j (without i (added won (i ∷ (j ∷ held))))
+    ∙ (ap (without j) (without_last (turns_in won) i (added won (i ∷ (j ∷ held))) ∙ (ap (without i) (given_added won (i ∷ (j ∷ held))) ∙ without_head i (j ∷ held)))
+    ∙ without_head j held)
+
+-- ---- what giving buckets back leaves
 
 module _ {C : Type 0} where
-  gave_same : (vs : List (ℕ × Chain)) (p : Place (Known C)) → SameParty p (gave_all vs p)
-  gave_same [] p = record { table = refl; parties = refl; number = refl; joined = refl; about = refl }
-  gave_same (v ∷ vs) p = let h = gave_same vs (gave_back p v.0 (after_same v.0 p.own)) in record { table = h.table; parties = h.parties; number = h.number; joined = h.joined; about = h.about }
+  -- but for the turns held and their records it changes nothing
+  record GaveAll (vs : List (ℕ × Chain)) (p q : Place (Known C)) : Type 0 where
+    pub table : q.table ≡ p.table
+    pub parties : q.parties ≡ p.parties
+    pub number : q.number ≡ p.number
+    pub joined : q.joined ≡ p.joined
+    pub held : q.held ≡ without_all (turns_in vs) p.held
+    pub about : q.own.about ≡ p.own.about
+    pub seen : q.own.seen ≡ p.own.seen
+    pub mine : q.own.mine ≡ p.own.mine
+    pub ledger : q.own.ledger ≡ p.own.ledger
 
-  gave_held : (vs : List (ℕ × Chain)) (p : Place (Known C)) → (gave_all vs p).held ≡ without_all (turns_in vs) p.held
-  gave_held [] p = refl
-  gave_held (v ∷ vs) p = gave_held vs (gave_back p v.0 (after_same v.0 p.own))
+  gave_leaves : (vs : List (ℕ × Chain)) (p : Place (Known C)) → GaveAll vs p (gave_all vs p)
+  gave_leaves [] p = record { table = refl; parties = refl; number = refl; joined = refl; held = refl; about = refl; seen = refl; mine = refl; ledger = refl }
+  gave_leaves (v ∷ vs) p = let h = gave_leaves vs (gave_back p v.0 (after_same v.0 p.own)) in
+      record { table = h.table; parties = h.parties; number = h.number; joined = h.joined; held = h.held; about = h.about; seen = h.seen; mine = h.mine; ledger = h.ledger }
 
-module _ {C : Type 0} (m : Meanings C) (g : Config) (valid : IsConfig g) where
-  -- a call with a scan leaves the party what it was to the cache
-  pub does_roomy_stays : (k : Key) (e : Event) (p r : Place (Known C)) → p.own.about.config ≡ g → DoesRoomy m g k e p r → Stays p r
-  does_roomy_stays k e p r same d =
-      let i = shard_turn g k in
-      let j = bucket_turn g k in
-      let t = reached m g k d.chain d.before p d.reached d.takes in
-      let makes : MakesRoomy m g k d.before e d.reached r = d.makes in
-      let given = makes.gives.given in
-      let q : Place (Known C) = after_scan m g i (length d.before.history) makes.won makes.passes d.reached in
-      let z : Place (Known C) = gave_back q i (after_shard m given i d.before (makes.passes ++ e ∷ []) makes.after q.own) in
-      let h = gave_same given z in
-      let gave : r ≡ gave_all given z = makes.gives.gave in record {
-        table = ap (λ (x : Place (Known C)). x.table) gave ∙ (h.table ∙ t.table);
-        parties = ap (λ (x : Place (Known C)). x.parties) gave ∙ (h.parties ∙ t.parties);
-        number = ap (λ (x : Place (Known C)). x.number) gave ∙ (h.number ∙ t.number);
-        joined = ap (λ (x : Place (Known C)). x.joined) gave ∙ (h.joined ∙ t.joined);
-        held = ap (λ (x : Place (Known C)). x.held) gave ∙ (gave_held given z ∙ ((λ y. without_all (makes.gives.same y) (without i (added makes.won (t.held y))))
-            ∙ (ap (λ (l : List ℕ). without_all (turns_in makes.won) (without j l)) (without_added i makes.won [] (j ∷ p.held) (no_shard g i makes.won (shard_range g k valid) makes.buckets) tt)
-            ∙ (ap (without_all (turns_in makes.won)) (without_added j makes.won [] p.held makes.first tt)
-            ∙ all_back makes.won p.held makes.apart))));
-        about = ap (λ (x : Place (Known C)). x.own.about) gave ∙ (h.about ∙ (won_about m makes.won d.reached.own ∙ t.about));
+module _ {C : Type 0} (m : Meanings C) where
+  won_ledger : (vs : List (ℕ × Chain)) (w : Known C) → (won_all m vs w).ledger ≡ w.ledger
+  won_ledger [] w = refl
+  won_ledger (v ∷ vs) w = won_ledger vs (after_won m v.0 (item.Bucket v.1) w)
+
+  won_number : (vs : List (ℕ × Chain)) (w : Known C) → (won_all m vs w).number ≡ w.number
+  won_number [] w = refl
+  won_number (v ∷ vs) w = won_number vs (after_won m v.0 (item.Bucket v.1) w)
+
+-- ---- the call
+
+module _ {C : Type 0} (m : Meanings C) (g : Config) (valid : IsConfig g) (k : Key) (e : Event) (p r : Place (Known C)) (same : p.own.about.config ≡ g) (d : DoesRoomy m g k e p r) where
+  abbrev i : ℕ
+  i = shard_turn g k
+
+  -- what was made: the passes, and then the event
+  abbrev es : List Event
+  es = d.makes.passes ++ e ∷ []
+
+  abbrev scanned : Place (Known C)
+  scanned = after_scan m g i (length d.before.history) d.makes.won d.makes.passes d.reached
+
+  abbrev given_shard : Place (Known C)
+  given_shard = gave_back scanned i (after_shard m d.makes.gives.given i d.before es d.makes.after scanned.own)
+
+  left : GaveAll d.makes.gives.given given_shard r
+  left = subst (GaveAll d.makes.gives.given given_shard) (sym d.makes.gives.gave) (gave_leaves d.makes.gives.given given_shard)
+
+  pub does_roomy_stays : Stays p r
+  does_roomy_stays =
+      let t = reached m g k d.chain d.before p d.reached d.takes in record {
+        table = left.table ∙ t.table;
+        parties = left.parties ∙ t.parties;
+        number = left.number ∙ t.number;
+        joined = left.joined ∙ t.joined;
+        held = left.held ∙ ((λ z. without_all (d.makes.gives.same z) (without i (added d.makes.won (t.held z)))) ∙ all_given d.makes.won i (bucket_turn g k) p.held);
+        about = left.about ∙ (won_about m d.makes.won d.reached.own ∙ t.about);
       }
+
+  -- its own lines are those that it had, and then the passes and the event, behind the history that it found; the passes have the notes that the scan took
+  pub does_roomy_mine : r.own.mine ≡ p.own.mine ++ mines_of i (length d.before.history) (length (d.reached.own.notes ++ notes_of g i (length d.before.history) d.makes.passes) - passes_in es) es
+  does_roomy_mine = left.mine ∙ ap (λ (l : List Mine). l ++ mines_of i (length d.before.history) (length scanned.own.notes - passes_in es) es)
+      (won_mine m d.makes.won d.reached.own ∙ (reached m g k d.chain d.before p d.reached d.takes).mine)
+
+  -- its holds, readings and picks follow them
+  pub does_roomy_ledger : r.own.ledger ≡ ledger_through g.callers p.number i d.before.now es d.makes.after.now p.own.ledger
+  does_roomy_ledger =
+      let t = reached m g k d.chain d.before p d.reached d.takes in
+      let config : scanned.own.about.config ≡ g = ap (λ (a : About). a.config) (won_about m d.makes.won d.reached.own ∙ t.about) ∙ same in
+      let number : scanned.own.number ≡ p.number = won_number m d.makes.won d.reached.own ∙ (own_number_is m g k d.chain d.before p d.reached d.takes same valid ∙ t.number) in
+      left.ledger ∙ (λ z. ledger_through (config z).callers (number z) i d.before.now es d.makes.after.now ((won_ledger m d.makes.won d.reached.own ∙ t.ledger) z))
+
+  -- it has seen all of the shard's history, the passes and the event included
+  pub does_roomy_seen : front_of i r.own.seen ≡ map line.Event (d.before.history ++ es)
+  does_roomy_seen = ap (front_of i) left.seen ∙ (front_here i (map line.Event d.makes.after.history) scanned.own.seen ∙ ap (map line.Event) d.makes.history)
+
+-- ---- a miss
+
+readings_then : (g : Config) (n i t : ℕ) (k : Key) (es : List Event) (ks : List Key) → ArePasses g n i es → readings_through n (es ++ Miss n k t ∷ []) ks ≡ k ∷ ks
+readings_then g n i t k [] ks h = ap (λ (b : Bool). if b then k ∷ ks else ks) (eq-eqb n n refl)
+readings_then g n i t k (Pass a x owner ∷ es) ks h = readings_then g n i t k es ks h.1
+readings_then g n i t k (_ ∷ es) ks h = absurd h
+
+module _ {C : Type 0} (m : Meanings C) (g : Config) (valid : IsConfig g) (k : Key) (t : ℕ) (p r : Place (Known C)) (same : p.own.about.config ≡ g) (d : DoesRoomy m g k (Miss p.number k t) p r) where
+  -- the party reads the key from then on
+  pub missed_readings : r.own.ledger.readings ≡ k ∷ p.own.ledger.readings
+  missed_readings =
+      let own : ArePasses g p.number (shard_turn g k) d.makes.passes = subst (λ (n : ℕ). ArePasses g n (shard_turn g k) d.makes.passes) (reached m g k d.chain d.before p d.reached d.takes).number d.makes.own in
+      ap (λ (l : Ledger). l.readings) (does_roomy_ledger m g valid k (Miss p.number k t) p r same d) ∙ readings_then g p.number (shard_turn g k) t k d.makes.passes p.own.ledger.readings own

@@ -38,5 +38,7 @@ pub mod Standing
 pub mod Trying
 pub mod Handing
 pub mod Feeding
+pub mod PoolCalls
+pub mod Reading
 pub mod Picking
 pub mod Resizing
