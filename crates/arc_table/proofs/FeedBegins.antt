@@ -142,6 +142,7 @@ module _ {C : Type 0} (m : Meanings C) (g : Config) (i : ℕ) (before : ShardLog
           notes = sym (append-nil q.own.notes);
         };
         picks = tt;
+        others = tt;
         legal = refl;
         now = ap (λ (l : ShardLog). l.now) (shard ∙ sym was);
         history = ap (λ (l : ShardLog). l.history) (shard ∙ sym was) ∙ sym (append-nil f.before.value.history);

@@ -106,6 +106,7 @@ module _ {C : Type 0} (m : Meanings C) (g : Config) (f : Feed C) (p r s : Place 
           history = ended.history;
           gave = ended.gave;
         };
+        others = h.scan.others;
         notes = refl;
         gained = h.gained;
         out = h.out_is ∙ ap (λ (l : List Block). l ++ h.gained) front;

@@ -27,7 +27,8 @@ use Rattle.arc_core.specs.Sound.{fits_phase}
 use Rattle.arc_core.specs.Step.{after, legal, may_pick}
 use Rattle.arc_core.proofs.Stepping.{legal-append, replay-append}
 use Rattle.turn_table.specs.Board.{IsAmong}
-use Rattle.turn_table.specs.Places.{Place, gave_back}
+use Rattle.turn_table.specs.declared.standing.Kept.{Kept}
+use Rattle.turn_table.specs.Places.{Apart, IsOther, Place, gave_back}
 use Rattle.arc_table.specs.declared.item.Item.TheVariants as item
 use Rattle.arc_table.specs.declared.picks.Feed.{Feed}
 use Rattle.arc_table.specs.declared.picks.Picked.{Picked as Block}
@@ -39,11 +40,11 @@ use Rattle.arc_table.specs.InHand.{made_since}
 use Rattle.arc_table.specs.Items.{Meanings}
 use Rattle.arc_table.specs.Logged.{is_picking}
 use Rattle.arc_table.specs.Picking.{ArePicks, ArePicksOf, EndsFeed, HasNoted, HasPicked, HasTried, IsBlockOf, IsFeeding, IsPickOf, KeepsFeed}
-use Rattle.arc_table.specs.Scanning.{notes_of}
+use Rattle.arc_table.specs.Scanning.{AreOfOthers, notes_of}
 use Rattle.arc_table.specs.ShardGiving.{ArePassesNoted, IsActor, IsGivenShard, SameHead, after_shard, passes_in}
 use Rattle.arc_table.specs.Views.{note}
 use Rattle.arc_table.proofs.OneEvent.{made_is, same_head, stays_settled}
-use Rattle.arc_table.proofs.Scans.{replayed_more, replayed_same}
+use Rattle.arc_table.proofs.Scans.{others_more, replayed_more, replayed_same}
 use Rattle.arc_table.proofs.ShardGives.{entry_sound}
 
 -- ---- picks and passes
@@ -128,13 +129,15 @@ module _ {C : Type 0} (g : Config) (f : Feed C) (r : Place (Known C)) (es : List
 
   pub picked_step : (e : Event) (l : ShardLog) (t : Place (Known C)) → ArePicks g f.began.value.number f.turn (e ∷ []) → IsTrue (legal f.shard.now e) → l.now ≡ after f.shard.now e → l.history ≡ f.shard.history ++ e ∷ [] → l.opening ≡ f.shard.opening
       → (after f.shard.now e).entries ≡ f.shard.now.entries → IsTrue (may_pick (after f.shard.now e).phase)
-      → HasTried g f.turn f.before.value (notes_of g f.turn (length f.before.value.history) (es ++ e ∷ [])) f.began.value t → HasPicked g (record f { shard = l }) t (es ++ e ∷ [])
-  picked_step e l t one ok now history opening entries phase tried = record {
+      → HasTried g f.turn f.before.value (notes_of g f.turn (length f.before.value.history) (es ++ e ∷ [])) f.began.value t
+      → AreOfOthers f.began.value (e ∷ []) → HasPicked g (record f { shard = l }) t (es ++ e ∷ [])
+  picked_step e l t one ok now history opening entries phase tried others = record {
     valid = has.valid;
     may = has.may;
     idle = has.idle;
     tried = tried;
     picks = picks_more g f.began.value.number f.turn es e has.picks one;
+    others = others_more f.began.value es e has.others others;
     legal = legal-append f.before.value.now es e has.legal (subst (λ (s : PlainShard). IsTrue (legal s e)) has.now ok);
     now = now ∙ (ap (λ (s : PlainShard). after s e) has.now ∙ sym (replay-append f.before.value.now es (e ∷ [])));
     history = history ∙ (ap (λ (h : List Event). h ++ e ∷ []) has.history ∙ append_assoc f.before.value.history es (e ∷ []));
@@ -153,6 +156,7 @@ module _ {C : Type 0} (g : Config) (f : Feed C) (r : Place (Known C)) (es : List
     idle = has.idle;
     tried = has.tried;
     picks = has.picks;
+    others = has.others;
     legal = has.legal;
     now = now ∙ has.now;
     history = history ∙ has.history;
@@ -343,15 +347,22 @@ module _ {C : Type 0} (g : Config) (f : Feed C) (r : Place (Known C)) (out : Lis
   pub feeding_tried : (t : Place (Known C)) → ((es : List Event) → HasPicked g f r es → HasPicked g f t es) → IsFeeding g f t out
   feeding_tried t moved = record { es = h.es; scan = moved h.es h.scan; gained = h.gained; had = h.had; out_is = h.out_is; blocks = h.blocks }
 
+  -- a party that is another one now was so when the feed began
+  other_began : (owner : ℕ) → IsOther owner r → IsOther owner f.began.value
+  other_began owner other =
+      let tried = h.scan.tried in
+      (subst (λ (n : ℕ). owner < n) tried.parties other.0, subst (λ (n : ℕ). owner ≢ n) tried.number other.1, subst (λ (ks : List (Kept (Known C))). Apart owner ks) tried.joined other.2)
+
   module _ (k : Key) (n : ℕ) (l : ShardLog) (t : Place (Known C)) (x : Entry) (there : entry_of k f.shard.now ≡ Some x) (number : n ≡ t.number) where
-    pub feeding_passed : (owner : ℕ) → ((es : List Event) → HasPicked g f r es → HasNoted g f t k owner es) → IsTrue (legal f.shard.now (Pass n k owner)) → l.now ≡ after f.shard.now (Pass n k owner) → l.history ≡ f.shard.history ++ Pass n k owner ∷ [] → l.opening ≡ f.shard.opening
+    pub feeding_passed : (owner : ℕ) → IsOther owner r → ((es : List Event) → HasPicked g f r es → HasNoted g f t k owner es) → IsTrue (legal f.shard.now (Pass n k owner)) → l.now ≡ after f.shard.now (Pass n k owner) → l.history ≡ f.shard.history ++ Pass n k owner ∷ [] → l.opening ≡ f.shard.opening
         → IsFeeding g (record f { shard = l }) t out
-    feeding_passed owner noted ok now history opening =
+    feeding_passed owner other noted ok now history opening =
         let at = (noted h.es h.scan).tried in
         let len = length f.before.value.history in record {
           es = h.es ++ Pass n k owner ∷ [];
           scan = picked_step g f r h.es h.scan (Pass n k owner) l t ((number ∙ at.number, own_key g f r h.es h.scan k x there), tt) ok now history opening refl h.scan.phase
-              (subst (λ (ns : List Note). HasTried g f.turn f.before.value ns f.began.value t) (sym (notes_passed g f.began.value.number f.turn len h.es n k owner h.scan.picks)) at);
+              (subst (λ (ns : List Note). HasTried g f.turn f.before.value ns f.began.value t) (sym (notes_passed g f.began.value.number f.turn len h.es n k owner h.scan.picks)) at)
+              (other_began owner other, tt);
           gained = h.gained;
           had = h.had;
           out_is = h.out_is;
@@ -365,7 +376,8 @@ module _ {C : Type 0} (g : Config) (f : Feed C) (r : Place (Known C)) (out : Lis
         let len = length f.before.value.history in record {
           es = h.es ++ Pick n k ∷ [];
           scan = picked_step g f r h.es h.scan (Pick n k) l t ((number ∙ at.number, own_key g f r h.es h.scan k x there), tt) ok now history opening refl refl
-              (subst (λ (ns : List Note). HasTried g f.turn f.before.value ns f.began.value t) (sym (notes_picked g f.began.value.number f.turn len h.es n k h.scan.picks)) at);
+              (subst (λ (ns : List Note). HasTried g f.turn f.before.value ns f.began.value t) (sym (notes_picked g f.began.value.number f.turn len h.es n k h.scan.picks)) at)
+              tt;
           gained = h.gained ++ b ∷ [];
           had = let a : length (out ++ b ∷ []) ≡ length out + 1 = length-append out (b ∷ []) in let c = h.had in omega arith;
           out_is = ap (λ (xs : List Block). xs ++ b ∷ []) h.out_is ∙ (append_assoc (take f.had out) h.gained (b ∷ []) ∙ ap (λ (xs : List Block). xs ++ (h.gained ++ b ∷ [])) (sym (take_within f.had out (b ∷ []) h.had)));

@@ -96,6 +96,7 @@ module _ {C : Type 0} (m : Meanings C) (g : Config) (f : Feed C) (r : Place (Kno
     idle = h.idle;
     tried = tried_won m g f.turn f.before.value h.may.range j (subst (IsBucket g) (sym j_is) (bucket_range g k h.valid)) (notes_of g f.turn (length f.before.value.history) xs) f.began.value r s t v b v_is h.tried won gave;
     picks = h.picks;
+    others = h.others;
     legal = h.legal;
     now = h.now;
     history = h.history;

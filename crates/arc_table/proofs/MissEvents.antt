@@ -173,6 +173,7 @@ makes_roomy {C} m g k b q q' r kind own new e s s' h replayed makes turn first v
       first = subst (λ (j : ℕ). item_at j (pairs_of s.both.hand.victims.items) ≡ None) (h.own ∙ own) h.scan.apart.0;
       apart = h.scan.apart.1;
       own = subst (λ (i : ℕ). ArePasses g q.number i h.passes) (h.turn ∙ kind) h.scan.passes;
+      others = h.scan.others;
       legal = subst (λ (x : PlainShard). is_legal_history x es ≡ true) (replayed.replayed)
           (suffix_legal b.shard.opening b.shard.history es (subst (λ (x : PlainShard × List Event). is_legal_history x.0 x.1 ≡ true) (λ z. (opening z, history z)) last.legal));
       now = sym last.replayed ∙ (ap (λ (x : PlainShard × List Event). replay x.0 x.1) (λ z. (opening z, history z)) ∙ (replay-append b.shard.opening b.shard.history es ∙ ap (λ (x : PlainShard). replay x es) replayed.replayed));

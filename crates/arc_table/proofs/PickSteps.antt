@@ -10,7 +10,7 @@ use Rattle.arc_core.specs.PlainShard.{PlainShard, numbers}
 use Rattle.arc_core.specs.ShardLog.{Makes, ShardLog}
 use Rattle.arc_core.specs.Step.{after, legal}
 use Rattle.arc_core.proofs.Feeding.{candidate-wanted}
-use Rattle.turn_table.specs.Places.{Place}
+use Rattle.turn_table.specs.Places.{IsOther, Place}
 use Rattle.arc_table.specs.declared.picks.Feed.{Feed}
 use Rattle.arc_table.specs.declared.picks.Picked.{Picked as Block}
 use Rattle.arc_table.specs.declared.view.Known.{Known}
@@ -49,8 +49,8 @@ module _ {C : Type 0} (g : Config) (f : Feed C) (r t : Place (Known C)) (out : L
     pub may_pass : owner ≤ 16 → owner ≢ r.number → IsTrue (legal l.now (Pass n k owner))
     may_pass least apart = pass_legal n owner k l.now (few n pass_number) least (λ e. apart (e ∙ pass_number)) is_still
 
-    pub passed : (l' : ShardLog) → owner ≤ 16 → owner ≢ r.number → Makes (Pass n k owner) l l' → IsFeeding g (record f { shard = l' }) t out
-    passed l' least apart makes = feeding_passed g roomy r out feeding k n l' t entry.entry entry.there number owner noted (may_pass least apart) makes.now makes.history makes.opening
+    pub passed : (l' : ShardLog) → owner ≤ 16 → IsOther owner r → Makes (Pass n k owner) l l' → IsFeeding g (record f { shard = l' }) t out
+    passed l' least other makes = feeding_passed g roomy r out feeding k n l' t entry.entry entry.there number owner other noted (may_pass least other.1) makes.now makes.history makes.opening
 
     pub passed_fewer : (l' : ShardLog) → Makes (Pass n k owner) l l' → left_to_pick l'.now < left_to_pick f.shard.now
     passed_fewer l' makes = fewer (Pass n k owner) l' makes.now (fewer_passed n owner k l.now entry.entry entry.there wanted)

@@ -74,6 +74,7 @@ scan_begins {C} m g b b' p s k may new alone is =
     let here : Scans m g i first before p p l [] [] [] = record {
       place = ap (λ (ns : List Note). let r : Place (Known C) = record { table = p.table; parties = p.parties; number = p.number; own = record p.own { notes = ns }; joined = p.joined; held = p.held } in r) (sym (append-nil p.own.notes));
       passes = tt;
+      others = tt;
       history = history ∙ sym (append-nil before.history);
       opening = opening;
       now = now ∙ ap (λ (x : PlainShard). record before.now { passed = x.passed }) (sym now);

@@ -18,7 +18,7 @@ use Rattle.arc_core.specs.Step.{legal}
 use Rattle.hash_chain.specs.Chain.{Chain}
 use Rattle.turn_table.specs.Board.{IsAmong}
 use Rattle.turn_table.specs.Moments.{WasFree}
-use Rattle.turn_table.specs.Places.{Place, saw, took}
+use Rattle.turn_table.specs.Places.{IsOther, Place, saw, took}
 use Rattle.arc_table.specs.declared.both.Both.{Both}
 use Rattle.arc_table.specs.declared.hand.Taken.{Taken}
 use Rattle.arc_table.specs.declared.scan.Scan.{Scan}
@@ -132,14 +132,14 @@ module _ {C : Type 0} (m : Meanings C) (g : Config) (valid : IsConfig g) (key : 
           marked = λ j. room.marked j ∙ ap (stands_on j) (sym makes.marked);
         }
 
-    pub passed_step : (p q : Place (Known C)) (es : List Event) → MayBegin g s.both p → IsScan m g p q s es → n ≡ q.number → IsTrue (legal s.both.shard.now (Pass n key owner))
+    pub passed_step : (p q : Place (Known C)) (es : List Event) → MayBegin g s.both p → IsScan m g p q s es → n ≡ q.number → IsTrue (legal s.both.shard.now (Pass n key owner)) → IsOther owner q
         → (more : List Event) × IsScan m g p (saw q (after_lost (bucket_turn g key) owner q.own)) passed_scan more
-    passed_step p q es may scan number ok =
+    passed_step p q es may scan number ok other =
         let num : n ≡ p.number = number ∙ scan_number m g s.both.turn (first_of s.both) s.both.hand.before.value p may q s.both.shard s.both.shard.marked (pairs_of s.both.hand.victims.items) es scan in
         let made : Makes (Pass p.number key owner) s.both.shard l' = subst (λ (z : ℕ). Makes (Pass z key owner) s.both.shard l') num makes in (
           es ++ Pass p.number key owner ∷ [],
           scan_passed m g s.both.turn (first_of s.both) s.both.hand.before.value p may q s.both.shard s.both.shard.marked (pairs_of s.both.hand.victims.items) es scan
-              l' l'.marked key owner (subst (λ (z : ℕ). IsTrue (legal s.both.shard.now (Pass z key owner))) num ok) made.now made.history made.opening made.marked (own_key p q es may scan),
+              l' l'.marked key owner (subst (λ (z : ℕ). IsTrue (legal s.both.shard.now (Pass z key owner))) num ok) made.now made.history made.opening made.marked (own_key p q es may scan) other,
         )
 
   -- a pass may be made

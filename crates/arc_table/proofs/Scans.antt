@@ -20,7 +20,7 @@ use Rattle.arc_core.proofs.Stepping.{legal-append, replay-append}
 use Rattle.hash_chain.specs.Chain.{Chain, header_at}
 use Rattle.turn_table.specs.Board.{IsAmong, without}
 use Rattle.turn_table.specs.Moments.{WasFree}
-use Rattle.turn_table.specs.Places.{Place, gave_back, saw, took}
+use Rattle.turn_table.specs.Places.{IsOther, Place, gave_back, saw, took}
 use Rattle.turn_table.proofs.Moments.{taken_at}
 use Rattle.arc_table.specs.declared.item.Item.{Item}
 use Rattle.arc_table.specs.declared.item.Item.TheVariants as item
@@ -32,7 +32,7 @@ use Rattle.arc_table.specs.Geometry.{IsBucket, IsShard, bucket_turn, shard_turn}
 use Rattle.arc_table.specs.Headed.{IsHead}
 use Rattle.arc_table.specs.Items.{Meanings, headers_in, shard_in}
 use Rattle.arc_table.specs.Rule.{Pact}
-use Rattle.arc_table.specs.Scanning.{takes_room, AllPairs, AreApart, ArePasses, IsBucketOf, IsInHand, MayScan, Scans, added, notes_of, won_all}
+use Rattle.arc_table.specs.Scanning.{takes_room, AllPairs, AreApart, AreOfOthers, ArePasses, IsBucketOf, IsInHand, MayScan, Scans, added, notes_of, won_all}
 use Rattle.arc_table.specs.TableLaws.{item_else, item_here, list_else, without_else}
 use Rattle.arc_table.specs.Views.{after_lost, after_same, after_won, note, under_of}
 use Rattle.arc_table.proofs.Boards.{in_hand}
@@ -106,6 +106,11 @@ passes_more : (g : Config) (n i : ℕ) (es : List Event) (k : Key) (owner : ℕ)
 passes_more g n i [] k owner h own = ((refl, own), tt)
 passes_more g n i (Pass a x o ∷ es) k owner h own = (h.0, passes_more g n i es k owner h.1 own)
 passes_more g n i (_ ∷ es) k owner h own = absurd h
+
+pub others_more : {C : Type 0} (p : Place (Known C)) (es : List Event) (e : Event) → AreOfOthers p es → AreOfOthers p (e ∷ []) → AreOfOthers p (es ++ e ∷ [])
+others_more p [] e h one = one
+others_more p (Pass a x o ∷ es) e h one = (h.0, others_more p es e h.1 one)
+others_more p (_ ∷ es) e h one = others_more p es e h one
 
 notes_more : (g : Config) (n i len : ℕ) (es : List Event) (k : Key) (owner : ℕ) → ArePasses g n i es
     → notes_of g i len (es ++ Pass n k owner ∷ []) ≡ notes_of g i len es ++ note (bucket_turn g k) owner (Some (i, len)) ∷ []
@@ -284,6 +289,7 @@ module _ {C : Type 0} (m : Meanings C) (g : Config) (i : ℕ) (first : List (ℕ
     scan_marked l' marked' key now history opening only there = record {
       place = s.place;
       passes = s.passes;
+      others = s.others;
       history = history ∙ s.history;
       opening = opening ∙ s.opening;
       now = now ∙ (s.now ∙ ap (λ (x : PlainShard). record before.now { passed = x.passed }) (sym now));
@@ -304,6 +310,7 @@ module _ {C : Type 0} (m : Meanings C) (g : Config) (i : ℕ) (first : List (ℕ
               ∙ ap (λ (x : Known C × List ℕ). let r : Place (Known C) = record { table = p.table; parties = p.parties; number = p.number; own = record x.0 { notes = p.own.notes ++ notes_of g i (length before.history) es }; joined = p.joined; held = x.1 } in r)
               (λ z. (sym (won_more m vs j b p.own) z, sym (added_more vs j b p.held) z));
           passes = s.passes;
+          others = s.others;
           history = history ∙ s.history;
           opening = opening ∙ s.opening;
           now = now ∙ (s.now ∙ ap (λ (x : PlainShard). record before.now { passed = x.passed }) (sym now));
@@ -318,9 +325,9 @@ module _ {C : Type 0} (m : Meanings C) (g : Config) (i : ℕ) (first : List (ℕ
 
     -- a key was passed
     pub scan_passed : (l' : ShardLog) (marked' : List Key) (key : Key) (owner : ℕ) → IsTrue (legal l.now (Pass p.number key owner)) → l'.now ≡ after l.now (Pass p.number key owner)
-        → l'.history ≡ l.history ++ Pass p.number key owner ∷ [] → l'.opening ≡ l.opening → marked' ≡ marked → i ≡ shard_turn g key
+        → l'.history ≡ l.history ++ Pass p.number key owner ∷ [] → l'.opening ≡ l.opening → marked' ≡ marked → i ≡ shard_turn g key → IsOther owner q
         → Scans m g i first before p (saw q (after_lost (bucket_turn g key) owner q.own)) l' marked' vs (es ++ Pass p.number key owner ∷ [])
-    scan_passed l' marked' key owner ok now history opening same own =
+    scan_passed l' marked' key owner ok now history opening same own other =
         let j : ℕ = bucket_turn g key in
         let len : ℕ = length before.history in
         let x : Note = note j owner (Some (i, len)) in record {
@@ -329,6 +336,7 @@ module _ {C : Type 0} (m : Meanings C) (g : Config) (i : ℕ) (first : List (ℕ
               ∙ ap (λ (ns : List Note). let r : Place (Known C) = record { table = p.table; parties = p.parties; number = p.number; own = record (won_all m vs p.own) { notes = ns }; joined = p.joined; held = added vs p.held } in r)
               (append_assoc p.own.notes (notes_of g i len es) (x ∷ []) ∙ ap (λ (ns : List Note). p.own.notes ++ ns) (sym (notes_more g p.number i len es key owner s.passes))));
           passes = passes_more g p.number i es key owner s.passes own;
+          others = others_more p es (Pass p.number key owner) s.others (subst (IsOther owner) s.place other, tt);
           history = history ∙ (ap (λ (h : List Event). h ++ Pass p.number key owner ∷ []) s.history ∙ append_assoc before.history es (Pass p.number key owner ∷ []));
           opening = opening ∙ s.opening;
           now = now ∙ (ap (λ (y : PlainShard). after y (Pass p.number key owner)) s.now ∙ ap (λ (y : PlainShard). record before.now { passed = y.passed }) (sym now));

@@ -18,7 +18,7 @@ use Rattle.arc_table.specs.Fronts.{item_at}
 use Rattle.arc_table.specs.Geometry.{IsBucket, bucket_turn, shard_turn}
 use Rattle.arc_table.specs.Headed.{IsHead}
 use Rattle.arc_table.specs.Items.{Meanings}
-use Rattle.arc_table.specs.Scanning.{takes_room, AllPairs, AreApart, ArePasses, MayScan, Scans, after_scan, gave_all, pairs_of}
+use Rattle.arc_table.specs.Scanning.{takes_room, AllPairs, AreApart, AreOfOthers, ArePasses, MayScan, Scans, after_scan, gave_all, pairs_of}
 use Rattle.arc_table.specs.ShardGiving.{IsActor, after_shard}
 use Rattle.arc_table.specs.Sparing.{turns_in}
 
@@ -55,6 +55,7 @@ module _ {C : Type 0} (m : Meanings C) where
     pub first : item_at (bucket_turn g k) won ≡ None
     pub apart : AreApart won
     pub own : ArePasses g q.number (shard_turn g k) passes
+    pub others : AreOfOthers q passes
     pub legal : IsTrue (is_legal_history before.now (passes ++ e ∷ []))
     pub now : after.now ≡ replay before.now (passes ++ e ∷ [])
     pub history : after.history ≡ before.history ++ (passes ++ e ∷ [])

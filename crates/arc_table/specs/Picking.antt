@@ -30,7 +30,7 @@ use Rattle.arc_table.specs.Feeding.{IsPicked}
 use Rattle.arc_table.specs.Fronts.{front_of, item_at, list_at}
 use Rattle.arc_table.specs.Geometry.{IsBucket, IsCell, bucket_turn, shard_turn}
 use Rattle.arc_table.specs.Items.{Meanings}
-use Rattle.arc_table.specs.Scanning.{MayScan, notes_of}
+use Rattle.arc_table.specs.Scanning.{AreOfOthers, MayScan, notes_of}
 use Rattle.arc_table.specs.ShardGiving.{after_shard}
 use Rattle.arc_table.specs.Views.{note, under_of}
 
@@ -110,6 +110,7 @@ module _ {C : Type 0} (m : Meanings C) where
     pub picks : List Event
     pub scan : ArePicks g p.number i picks
     pub feeds : Feeds g i (picks ++ FeedEnd p.number ∷ []) p r
+    pub others : AreOfOthers feeds.reached picks
     pub notes : feeds.more ≡ notes_of g i (length feeds.before.history) picks
     pub gained : List Picked
     pub out : new ≡ old ++ gained
@@ -143,6 +144,7 @@ module _ {C : Type 0} where
     pub idle : f.before.value.now.phase ≡ Idle
     pub tried : HasTried g f.turn f.before.value (notes_of g f.turn (length f.before.value.history) es) f.began.value r
     pub picks : ArePicks g f.began.value.number f.turn es
+    pub others : AreOfOthers f.began.value es
     pub legal : IsTrue (is_legal_history f.before.value.now es)
     pub now : f.shard.now ≡ replay f.before.value.now es
     pub history : f.shard.history ≡ f.before.value.history ++ es

@@ -14,7 +14,7 @@ use Rattle.arc_core.specs.ShardLog.{ShardLog, IsReplayed}
 use Rattle.hash_chain.specs.Chain.{Chain, header_at}
 use Rattle.hash_chain.specs.declared.header.Header.{Header}
 use Rattle.turn_table.specs.Board.{IsAmong}
-use Rattle.turn_table.specs.Places.{Place, gave_back}
+use Rattle.turn_table.specs.Places.{IsOther, Place, gave_back}
 use Rattle.arc_table.specs.declared.hand.Taken.{Taken}
 use Rattle.arc_table.specs.declared.item.Item.TheVariants as item
 use Rattle.arc_table.specs.declared.view.Known.{Known}
@@ -65,6 +65,14 @@ ArePasses g n i (_ ∷ es) = ⊥
 abbrev pub added : List (ℕ × Chain) → List ℕ → List ℕ
 added [] held = held
 added (v ∷ vs) held = added vs (v.0 ∷ held)
+
+module _ {C : Type 0} where
+  -- each of these passes names an owner that is neither the party's own number nor one that it keeps by a join: so a party that has all
+  -- others by a join makes no pass
+  abbrev pub AreOfOthers : Place (Known C) → List Event → Type 0
+  AreOfOthers p [] = Unit {0}
+  AreOfOthers p (Pass a k owner ∷ es) = IsOther owner p × AreOfOthers p es
+  AreOfOthers p (_ ∷ es) = AreOfOthers p es
 
 module _ {C : Type 0} (m : Meanings C) where
   -- what a party knows that has won these buckets, one after the other
@@ -125,6 +133,7 @@ module _ {C : Type 0} (m : Meanings C) where
   pub record Scans (g : Config) (i : ℕ) (first : List (ℕ × Chain)) (before : ShardLog) (p q : Place (Known C)) (l : ShardLog) (marked : List Key) (vs : List (ℕ × Chain)) (es : List Event) : Type 0 where
     pub place : q ≡ after_scan m g i (length before.history) vs es p
     pub passes : ArePasses g p.number i es
+    pub others : AreOfOthers p es
     pub history : l.history ≡ before.history ++ es
     pub opening : l.opening ≡ before.opening
     pub now : l.now ≡ record before.now { passed = l.now.passed }

@@ -1,10 +1,10 @@
-use Rattle.std.proofs.Common.{◌≡◌, ℕ, ◌∷◌, ◌++◌, [], None, sym, ap, ◌∙◌, subst, arith}
+use Rattle.std.proofs.Common.{◌≡◌, ℕ, ◌<◌, ◌∷◌, ◌++◌, [], None, sym, ap, ◌∙◌, subst, arith}
 use Rattle.std.specs.Prelude.{vec_len, vec_capacity, IsSome}
 use Rattle.arc_core.specs.declared.config.Config.{Config}
 use Rattle.arc_core.specs.Config.{IsConfig}
 use Rattle.hash_chain.specs.Chain.{Chain}
 use Rattle.turn_table.specs.Moments.{WasFree}
-use Rattle.turn_table.specs.Places.{Place}
+use Rattle.turn_table.specs.Places.{IsOther, Place}
 use Rattle.arc_table.specs.declared.both.Both.{Both}
 use Rattle.arc_table.specs.declared.item.Item.{Item}
 use Rattle.arc_table.specs.declared.item.Item.TheVariants as item
@@ -164,7 +164,9 @@ returns-in-Busy-clause-scan g c p es may scan =
     let parties : c.self.inside.turns.parties ≡ parties_of cfg = c.self.invariant.parties ∙ ap (λ (x : Cache). parties_of x.config) c.self.view_is in
     let a = own.0 in
     let ok = pass_legal m cfg valid c.args.key c.requires.victim.0 c.args.scan.now c.requires.victim.1 c.args.party.now c.number.result c.in-Busy.owner c.requires.scan number (omega arith) own.1 in
-    let step = passed_step m cfg valid c.args.key c.requires.victim.0 c.args.scan.now c.requires.victim.1 c.pass.new.self c.number.result c.in-Busy.owner c.pass.ensures.makes p c.args.party.now es may scan number ok in (
+    let same : c.self.inside.turns.parties ≡ c.args.party.now.parties = ap (λ (x : Cache). x.row.parties) c.self.view_is ∙ sym c.requires.party.row.1 in
+    let other : IsOther c.in-Busy.owner c.args.party.now = (subst (λ (n : ℕ). c.in-Busy.owner < n) same own.0, own.1, own.2) in
+    let step = passed_step m cfg valid c.args.key c.requires.victim.0 c.args.scan.now c.requires.victim.1 c.pass.new.self c.number.result c.in-Busy.owner c.pass.ensures.makes p c.args.party.now es may scan number ok other in (
       step.0,
       subst (λ (q : Place (Known g.row.C.Denot)). IsScan m cfg p q (record { both = record { hand = c.args.scan.now.both.hand; turn = c.args.scan.now.both.turn; shard = c.pass.new.self }; marked = c.args.scan.now.marked }) step.0)
           (sym (c.in-Busy.ensures.busy.1 ∙ ap (λ (j : ℕ). Rattle.turn_table.specs.Places.saw c.args.party.now (Rattle.arc_table.specs.Views.after_lost j c.in-Busy.owner c.args.party.now.own)) turn)) step.1,

@@ -23,7 +23,7 @@ returns-in-Busy-clause-feeding g c =
     let history : l.history ≡ c.args.feed.now.shard.history = ap (λ (x : ShardLog). x.history) log in
     let opening : l.opening ≡ c.args.feed.now.shard.opening = ap (λ (x : ShardLog). x.opening) log in
     subst (λ (out : List Picked). IsFeeding c.args.self.now.config record c.args.feed.now { shard = c.pass.new.self } c.try_block.new.party out) (sym c.reserve-2.ensures.items)
-    (passed c.args.self.now.config c.args.feed.now c.args.party.now c.try_block.new.party c.args.out.now.items c.requires.feeding c.args.key c.requires.candidate l now history opening c.number.result c.number.ensures c.in-Busy.owner c.in-Busy.ensures.busy c.pass.new.self c.in-Busy.ensures.few c.in-Busy.ensures.owner.1 c.pass.ensures.makes)
+    (passed c.args.self.now.config c.args.feed.now c.args.party.now c.try_block.new.party c.args.out.now.items c.requires.feeding c.args.key c.requires.candidate l now history opening c.number.result c.number.ensures c.in-Busy.owner c.in-Busy.ensures.busy c.pass.new.self c.in-Busy.ensures.few c.in-Busy.ensures.owner c.pass.ensures.makes)
 
 pub returns-in-Busy-clause-fewer : goal.returns-in-Busy-clause-fewer
 returns-in-Busy-clause-fewer g c =
