@@ -4,6 +4,8 @@ pub mod Chain
 pub mod ChainLaws
 pub mod CommitLaws
 pub mod Cursor
+pub mod EndLaws
+pub mod Ends
 pub mod Lending
 pub mod ListLaws
 pub mod Planned

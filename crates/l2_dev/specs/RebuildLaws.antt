@@ -37,7 +37,7 @@ header_of_both : (end : ℕ) (sector : List ℕ) (a b : DevHeader) → IsHeaderO
 header_of_both end sector a b x y = same_header_of_bytes sector a b x.bytes y.bytes
 
 -- a header that stands in the first sector is not refused
-not_refused : (end : ℕ) (sector : List ℕ) (header : DevHeader) (f : LogFault) → IsHeaderOf end sector header → IsRefused end sector f → ⊥
+pub not_refused : (end : ℕ) (sector : List ℕ) (header : DevHeader) (f : LogFault) → IsHeaderOf end sector header → IsRefused end sector f → ⊥
 not_refused end sector header f named (inl first) = header_not_refused sector header f named.bytes first
 not_refused end sector header f named (inr other) =
     other.3 (ap (λ (h : DevHeader). h.end) (same_header_of_bytes sector other.1 header other.2 named.bytes) ∙ named.ends)
