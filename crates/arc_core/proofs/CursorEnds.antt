@@ -1,5 +1,5 @@
 -- The first key that isn't marked, of those that are evicted and those that are dropped.
-use Rattle.std.proofs.Common.{◌≡◌, ℕ, zero, suc, ◌+◌, ◌^◌, ◌≤◌, ◌<◌, length, arith, Bool, true, false, not, IsTrue, IfSome, IfNone, List, [], ◌∷◌, Option, Some, None, is_some, inl, inr, refl, sym, ap, subst, ◌∙◌}
+use Rattle.std.proofs.Common.{◌≡◌, ℕ, zero, suc, ◌+◌, ◌^◌, ◌≤◌, ◌<◌, length, arith, Bool, true, false, not, ◌||◌, IsTrue, IfSome, IfNone, List, [], ◌∷◌, Option, Some, None, is_some, inl, inr, refl, sym, ap, subst, ◌∙◌}
 use Rattle.std.specs.List.{find}
 use Rattle.std.specs.Option.{option_map_or}
 use Rattle.std.proofs.lemmas.Bool.{false≢true}
@@ -17,14 +17,19 @@ use Rattle.arc_core.specs.declared.event.Event.{Event}
 use Rattle.arc_core.specs.declared.table.scan.Scan.{Scan}
 use Rattle.arc_core.specs.Changes.{come, gone}
 use Rattle.arc_core.specs.Cursor.{IsScanOf, first_unmarked, size_by, with_size}
-use Rattle.arc_core.specs.Edits.{is_off}
+use Rattle.arc_core.specs.declared.table.search.Search.{Search}
+use Rattle.arc_core.specs.declared.shard.halts.Sought.{Sought}
+use Rattle.arc_core.specs.Edits.{is_evictable, is_off}
+use Rattle.arc_core.specs.Halts.{IsSought, IsSoughtFor}
+use Rattle.arc_core.specs.Search.{AtRoom, AtTrim, Covers, Stands, StandsBy, count}
 use Rattle.arc_core.specs.PlainShard.{PlainShard, entry_key, entry_of, is_passed}
 use Rattle.arc_core.specs.Rules.{evicted, evicting, next_evicted, with_room}
 use Rattle.arc_core.specs.ShardLog.{AreAllNamed, IsUnnamed, ShardLog}
 use Rattle.arc_core.specs.Sound.{IsSound, IsSoundEntry, IsTidy}
 use Rattle.arc_core.specs.Sparing.{dropped_by_trim, evicted_for, fitting_victims, next_victim, victims, victims_of_entry}
 use Rattle.arc_core.specs.Step.{legal}
-use Rattle.arc_core.proofs.CursorStart.{scan-come, unmarked-append}
+use Rattle.arc_core.proofs.CursorStart.{scan-come}
+use Rattle.arc_core.proofs.Ending.{count-le}
 use Rattle.arc_core.proofs.CursorSteps.{length-evicted, size-small}
 use Rattle.arc_core.proofs.Evictions.{entry_of-is}
 use Rattle.arc_core.proofs.Others.{sparing-unmarked, standing-victim}
@@ -78,30 +83,59 @@ scan-into s p e tidy off sound few x at =
     let o = out s p e in
     scan-come (Some e.key) s (with_room e.key.size o) x e at (tidy-into s p e tidy off sound) (omega (arith, few, length-evicting (length o.entries) e.key.size o, length-gone e.key s))
 
-module _ (s : PlainShard) (p : ℕ) (e : Entry) (marked : List Key) where
-  pub found-first : (found : Option Key) → found ≡ first_unmarked marked (evicted_for e.key.size (out s p e)) → is_some found ≡ true → found ≡ first_unmarked marked (victims_of_entry e (record s { p = p }))
-  found-first found is some =
-      let k = is_some_of found some in
-      k.1 ∙ sym (unmarked-append marked (evicted_for e.key.size (out s p e)) (dropped_by_trim (into s p e)) ∙ ap (λ o. or_else o (first_unmarked marked (dropped_by_trim (into s p e)))) (sym is ∙ k.1))
+-- ---- a search at its start
 
-  pub found-second : (first second : Option Key) → first ≡ first_unmarked marked (evicted_for e.key.size (out s p e)) → first ≡ None → second ≡ first_unmarked marked (dropped_by_trim (into s p e))
-      → second ≡ first_unmarked marked (victims_of_entry e (record s { p = p }))
-  found-second first second is none then =
-      then ∙ sym (unmarked-append marked (evicted_for e.key.size (out s p e)) (dropped_by_trim (into s p e)) ∙ ap (λ o. or_else o (first_unmarked marked (dropped_by_trim (into s p e)))) (sym is ∙ none))
+pub at-entry : (s : PlainShard) (p : ℕ) (e : Entry) (marked : List Key) → IsTidy s → IsTrue (is_off e) → IsSoundEntry e → length s.entries < 2 ^ 64 → (x : Scan) → IsScanOf (Some e.key) s x (out s p e)
+    → AtRoom (Some e.key) s marked e.key.size e.state (victims_of_entry e (record s { p = p })) x
+at-entry s p e marked tidy off sound few x at = record {
+  at = out s p e;
+  turns = length (out s p e).entries;
+  behind = into s p e;
+  scan = at;
+  enough = omega (arith, count-le is_evictable (out s p e).entries);
+  left = λ more covers. refl;
+  enters = λ y made. scan-into s p e tidy off sound few y made;
+}
 
-pub fitting-first : (s : PlainShard) (marked : List Key) (found : Option Key) → found ≡ first_unmarked marked (evicted_for 0 s) → is_some found ≡ true → found ≡ first_unmarked marked (fitting_victims s)
-fitting-first s marked found is some =
-    let k = is_some_of found some in
-    k.1 ∙ sym (unmarked-append marked (evicted_for 0 s) (dropped_by_trim (with_room 0 s)) ∙ ap (λ o. or_else o (first_unmarked marked (dropped_by_trim (with_room 0 s)))) (sym is ∙ k.1))
+pub at-capacity : (s r : PlainShard) (marked : List Key) (x : Scan) → IsScanOf None s x r → AtRoom None s marked 0 L2Only (fitting_victims r) x
+at-capacity s r marked x at = record {
+  at = r;
+  turns = length r.entries;
+  behind = with_room 0 r;
+  scan = at;
+  enough = omega (arith, count-le is_evictable r.entries);
+  left = λ more covers. refl;
+  enters = λ y made. made;
+}
 
-pub fitting-second : (s : PlainShard) (marked : List Key) (first second : Option Key) → first ≡ first_unmarked marked (evicted_for 0 s) → first ≡ None → second ≡ first_unmarked marked (dropped_by_trim (with_room 0 s))
-    → second ≡ first_unmarked marked (fitting_victims s)
-fitting-second s marked first second is none then =
-    then ∙ sym (unmarked-append marked (evicted_for 0 s) (dropped_by_trim (with_room 0 s)) ∙ ap (λ o. or_else o (first_unmarked marked (dropped_by_trim (with_room 0 s)))) (sym is ∙ none))
+-- ---- where a search stands
 
-pub none-of : (o : Option Key) → is_some o ≡ false → o ≡ None
-none-of None none = refl
-none-of (Some k) none = absurd (false≢true (sym none))
+pub at-room : (s : PlainShard) (marked vs : List Key) (x : Search) → x.trims ≡ false → Stands s marked vs x → AtRoom x.about s marked x.z x.comes vs x.scan
+at-room s marked vs x room stands = subst (λ b. StandsBy b s marked vs x) room stands
+
+pub at-trim : (s : PlainShard) (marked vs : List Key) (x : Search) → x.trims ≡ true → Stands s marked vs x → AtTrim x.about s marked vs x.scan
+at-trim s marked vs x trim stands = subst (λ b. StandsBy b s marked vs x) trim stands
+
+-- ---- a search where more is marked
+
+pub stands-more : (s : PlainShard) (marked more vs : List Key) (x : Search) → Covers marked more → Stands s marked vs x → Stands s more vs x
+stands-more s marked more vs x covers = go x.trims
+  where
+    go : (b : Bool) → StandsBy b s marked vs x → StandsBy b s more vs x
+    go true on = record { at = on.at; turns = on.turns; scan = on.scan; enough = on.enough; left = λ most into. on.left most (λ k there. into k (covers k there)) }
+    go false on = record { at = on.at; turns = on.turns; behind = on.behind; scan = on.scan; enough = on.enough; left = λ most into. on.left most (λ k there. into k (covers k there)); enters = on.enters }
+
+pub sought-more : (s : PlainShard) (marked more : List Key) (o : Option Sought) → Covers marked more → IsSought s marked o → IsSought s more o
+sought-more s marked more None covers sought = tt
+sought-more s marked more (Some v) covers sought = stands-more s marked more (victims s v.event) v.search covers sought
+
+pub or_there : (a b : Bool) → b ≡ true → (a || b) ≡ true
+or_there true b is = refl
+or_there false b is = is
+
+pub sought-for : (s : PlainShard) (marked : List Key) (o : Option Sought) (e : Event) (x : Search) → IsSought s marked o → IsSoughtFor o e x → Stands s marked (victims s e) x
+sought-for s marked None e x sought begun = absurd begun
+sought-for s marked (Some v) e x sought begun = subst (λ d. Stands s marked (victims s d) x) begun.0 (subst (λ y. Stands s marked (victims s v.event) y) begun.1 sought)
 
 -- ---- what the owner of the shard learns
 

@@ -1,5 +1,5 @@
 -- A scan that goes on as far as the keys are marked finds the first that isn't.
-use Rattle.std.proofs.Common.{◌≡◌, ℕ, zero, suc, ◌+◌, ◌≤◌, ◌<◌, length, arith, true, false, List, [], ◌∷◌, Option, Some, None, inl, inr, refl, sym, ap, subst, ◌∙◌, length-append}
+use Rattle.std.proofs.Common.{◌≡◌, ℕ, zero, suc, ◌+◌, ◌≤◌, ◌<◌, length, arith, true, false, List, [], ◌∷◌, ◌++◌, Option, Some, None, inl, inr, refl, sym, ap, subst, ◌∙◌, length-append}
 use Rattle.std.specs.Option.{option_map_or}
 use Rattle.blk_ptr.specs.declared.key.Key.{Key}
 use Rattle.blk_ptr.specs.declared.state.State.{State}
@@ -9,15 +9,16 @@ use Rattle.arc_lists.specs.Walks.{first_of}
 use Rattle.arc_lists.proofs.Tables.{some_is}
 use Rattle.arc_core.specs.declared.table.scan.Kind.{Kind}
 use Rattle.arc_core.specs.declared.table.scan.Scan.{Scan}
-use Rattle.arc_core.specs.Cursor.{IsEvictedOn, IsKindOf, IsScanOf, dropped_by, evicted_by, first_unmarked}
+use Rattle.arc_core.specs.Cursor.{IsKindOf, IsScanOf, dropped_by, evicted_by, first_unmarked, size_by, with_size}
 use Rattle.arc_core.specs.Edits.{is_droppable, is_evictable}
 use Rattle.arc_core.specs.PlainShard.{PlainShard}
 use Rattle.arc_core.specs.Rules.{dropped, evicted, evicting, next_dropped, next_evicted}
 use Rattle.arc_core.specs.Scan.{PlainKind, PlainScan, from_next, going, going_but, kind_in}
+use Rattle.arc_core.specs.Search.{AreLeft, AtRoom, AtTrim, count}
 use Rattle.arc_core.specs.Sound.{IsTidy}
-use Rattle.arc_core.specs.Sparing.{drops, evictions}
+use Rattle.arc_core.specs.Sparing.{dropped_by_trim, drops, evictions}
 use Rattle.arc_core.proofs.CursorSteps.{distinct-going, mfu-ghost, mfu-next, mru-ghost, mru-next}
-use Rattle.arc_core.proofs.Ending.{count, count-dropped, count-evicted, count-le}
+use Rattle.arc_core.proofs.Ending.{count-dropped, count-evicted, count-le}
 use Rattle.arc_core.proofs.Scan.{dropped-turn, evicted-turn, next_dropped-scan, next_evicted-scan, scan-dropped_mfu, scan-dropped_mru, scan-evicted_mfu, scan-evicted_mru, without-first}
 
 module _ (about : Option Key) (s : PlainShard) (tidy : IsTidy s) where
@@ -94,24 +95,13 @@ fewer-dropped about s x y t k at chosen after =
           omega (arith, mru, mfu, mru', mfu', ap (λ (v : PlainScan). length v.mru.keys) is, ap (λ (v : PlainScan). length v.mru.ghosts) is, ap (λ (v : PlainScan). length v.mfu.keys) is, ap (λ (v : PlainScan). length v.mfu.ghosts) is, fewer-going MfuGhost k t at.tidy turn.heads.first)
     ]
 
--- ---- the turns of room that are left from where the scan stands
-
-pub record EvictsOn (about : Option Key) (s : PlainShard) (marked : List Key) (z n : ℕ) (t : PlainShard) (x : Scan) : Type 0 where
-  pub at : PlainShard
-  pub turns : ℕ
-  pub scan : IsScanOf about s x at
-  pub enough : count is_evictable at.entries ≤ turns
-  pub rest : first_unmarked marked (evictions n z t) ≡ first_unmarked marked (evictions turns z at)
-  pub whole : evicting n z t ≡ evicting turns z at
-
-pub evicts-first : (about : Option Key) (s : PlainShard) (marked : List Key) (z n : ℕ) (t : PlainShard) (x : Scan) → IsScanOf about s x t → length t.entries ≤ n → EvictsOn about s marked z n t x
-evicts-first about s marked z n t x scan few = record { at = t; turns = n; scan = scan; enough = omega (arith, few, count-le is_evictable t.entries); rest = refl; whole = refl }
+-- ---- a search through what room evicts
 
 some-turn : (n : ℕ) → 0 < n → (m : ℕ) × (n ≡ suc m)
 some-turn zero some = absurd (omega (arith, some))
 some-turn (suc m) some = (m, refl)
 
-module _ (about : Option Key) (s : PlainShard) (marked : List Key) (z n : ℕ) (t : PlainShard) (x : Scan) (on : EvictsOn about s marked z n t x) where
+module _ (about : Option Key) (s : PlainShard) (marked : List Key) (z : ℕ) (comes : State) (vs : List Key) (x : Scan) (on : AtRoom about s marked z comes vs x) where
   evictions-none : (m : ℕ) → next_evicted z on.at ≡ None → evictions m z on.at ≡ []
   evictions-none zero none = refl
   evictions-none (suc m) none = rw none refl
@@ -120,78 +110,81 @@ module _ (about : Option Key) (s : PlainShard) (marked : List Key) (z n : ℕ) (
   evicting-none zero none = refl
   evicting-none (suc m) none = rw none refl
 
-  pub evicts-none : next_evicted z on.at ≡ None → IsEvictedOn about s marked z n t x None
-  evicts-none none = record {
-    value = sym (on.rest ∙ ap (first_unmarked marked) (evictions-none on.turns none));
-    scan = λ _. subst (IsScanOf about s x) (sym (on.whole ∙ evicting-none on.turns none)) on.scan;
+  -- room is made
+  pub room-made : next_evicted z on.at ≡ None → IsScanOf about s (with_size comes (size_by comes x + z) x) on.behind
+  room-made none = on.enters x (subst (IsScanOf about s x) (sym (evicting-none on.turns none)) on.scan)
+
+  pub room-left : next_evicted z on.at ≡ None → AreLeft marked vs (dropped_by_trim on.behind)
+  room-left none = λ more covers. on.left more covers ∙ ap (λ l. first_unmarked more (l ++ dropped_by_trim on.behind)) (evictions-none on.turns none)
+
+  pub room-ends : next_evicted z on.at ≡ None → AtTrim about s marked vs (with_size comes (size_by comes x + z) x)
+  room-ends none = record {
+    at = on.behind;
+    turns = length on.behind.entries;
+    scan = room-made none;
+    enough = omega (arith, count-le is_droppable on.behind.entries);
+    left = room-left none;
   }
 
   turn-left : (k : Key) → next_evicted z on.at ≡ Some k → (m : ℕ) × (on.turns ≡ suc m)
   turn-left k chosen = some-turn on.turns (omega (arith, on.enough, count-evicted k z on.at on.scan.tidy chosen))
 
-  pub evicts-found : (y : Scan) (k : Key) → next_evicted z on.at ≡ Some k → stands_on k marked ≡ false → IsEvictedOn about s marked z n t y (Some k)
-  evicts-found y k chosen unmarked =
-      let m = turn-left k chosen in
-      let is : evictions on.turns z on.at ≡ k ∷ evictions m.0 z (evicted k on.at) = ap (λ u. evictions u z on.at) m.1 ∙ ap (λ o. option_map_or (λ h. h ∷ evictions m.0 z (evicted h on.at)) o []) chosen in
-      let here : first_unmarked marked (k ∷ evictions m.0 z (evicted k on.at)) ≡ Some k = rw unmarked refl in
-      record {
-        value = sym (on.rest ∙ ap (first_unmarked marked) is ∙ here);
-        scan = λ is. cc;
-      }
+  turn-is : (k : Key) (m : ℕ) → next_evicted z on.at ≡ Some k → on.turns ≡ suc m → evictions on.turns z on.at ≡ k ∷ evictions m z (evicted k on.at)
+  turn-is k m chosen turns = ap (λ u. evictions u z on.at) turns ∙ ap (λ o. option_map_or (λ h. h ∷ evictions m z (evicted h on.at)) o []) chosen
 
-  pub evicts-more : (y : Scan) (k : Key) → next_evicted z on.at ≡ Some k → stands_on k marked ≡ true → IsScanOf about s y (evicted k on.at) → EvictsOn about s marked z n t y
-  evicts-more y k chosen there after =
+  pub room-found : (k : Key) → next_evicted z on.at ≡ Some k → stands_on k marked ≡ false → Some k ≡ first_unmarked marked vs
+  room-found k chosen unmarked =
       let m = turn-left k chosen in
-      let is : evictions on.turns z on.at ≡ k ∷ evictions m.0 z (evicted k on.at) = ap (λ u. evictions u z on.at) m.1 ∙ ap (λ o. option_map_or (λ h. h ∷ evictions m.0 z (evicted h on.at)) o []) chosen in
-      let over : first_unmarked marked (k ∷ evictions m.0 z (evicted k on.at)) ≡ first_unmarked marked (evictions m.0 z (evicted k on.at)) = rw there refl in
+      let here : first_unmarked marked ((k ∷ evictions m.0 z (evicted k on.at)) ++ dropped_by_trim on.behind) ≡ Some k = rw unmarked refl in
+      sym (on.left marked (λ j there. there) ∙ ap (λ l. first_unmarked marked (l ++ dropped_by_trim on.behind)) (turn-is k m.0 chosen m.1) ∙ here)
+
+  pub room-more : (y : Scan) (k : Key) → next_evicted z on.at ≡ Some k → stands_on k marked ≡ true → IsScanOf about s y (evicted k on.at) → AtRoom about s marked z comes vs y
+  room-more y k chosen there after =
+      let m = turn-left k chosen in
+      let rest = evictions m.0 z (evicted k on.at) ++ dropped_by_trim on.behind in
+      let over : (more : List Key) → stands_on k more ≡ true → first_unmarked more (k ∷ rest) ≡ first_unmarked more rest = λ more in_more. rw in_more refl in
+      let whole : evicting on.turns z on.at ≡ evicting m.0 z (evicted k on.at) =
+      ap (λ u. evicting u z on.at) m.1 ∙ ap (λ o. option_map_or (λ h. evicting m.0 z (evicted h on.at)) o on.at) chosen in
       record {
         at = evicted k on.at;
         turns = m.0;
+        behind = on.behind;
         scan = after;
         enough = omega (arith, on.enough, m.1, count-evicted k z on.at on.scan.tidy chosen);
-        rest = on.rest ∙ ap (first_unmarked marked) is ∙ over;
-        whole = on.whole ∙ ap (λ u. evicting u z on.at) m.1 ∙ ap (λ o. option_map_or (λ h. evicting m.0 z (evicted h on.at)) o on.at) chosen;
+        left = λ more covers. on.left more covers ∙ ap (λ l. first_unmarked more (l ++ dropped_by_trim on.behind)) (turn-is k m.0 chosen m.1) ∙ over more (covers k there);
+        enters = λ w at. on.enters w (subst (IsScanOf about s w) (sym whole) at);
       }
 
--- ---- the turns of trim that are left
+-- ---- a search through what trim drops
 
-pub record DropsOn (about : Option Key) (s : PlainShard) (marked : List Key) (n : ℕ) (t : PlainShard) (x : Scan) : Type 0 where
-  pub at : PlainShard
-  pub turns : ℕ
-  pub scan : IsScanOf about s x at
-  pub enough : count is_droppable at.entries ≤ turns
-  pub rest : first_unmarked marked (drops n t) ≡ first_unmarked marked (drops turns at)
+module _ (about : Option Key) (s : PlainShard) (marked vs : List Key) (x : Scan) (on : AtTrim about s marked vs x) where
+  drops-none : (m : ℕ) → next_dropped on.at ≡ None → drops m on.at ≡ []
+  drops-none zero none = refl
+  drops-none (suc m) none = rw none refl
 
-pub drops-first : (about : Option Key) (s : PlainShard) (marked : List Key) (n : ℕ) (t : PlainShard) (x : Scan) → IsScanOf about s x t → length t.entries ≤ n → DropsOn about s marked n t x
-drops-first about s marked n t x scan few = record { at = t; turns = n; scan = scan; enough = omega (arith, few, count-le is_droppable t.entries); rest = refl }
+  pub trim-none : next_dropped on.at ≡ None → None ≡ first_unmarked marked vs
+  trim-none none = sym (on.left marked (λ j there. there) ∙ ap (first_unmarked marked) (drops-none on.turns none))
 
-module _ (about : Option Key) (s : PlainShard) (marked : List Key) (n : ℕ) (t : PlainShard) (x : Scan) (on : DropsOn about s marked n t x) where
-  pub drops-none : next_dropped on.at ≡ None → None ≡ first_unmarked marked (drops n t)
-  drops-none none = sym (on.rest ∙ ap (first_unmarked marked) (go on.turns))
-    where
-      go : (m : ℕ) → drops m on.at ≡ []
-      go zero = refl
-      go (suc m) = rw none refl
+  drop-left : (k : Key) → next_dropped on.at ≡ Some k → (m : ℕ) × (on.turns ≡ suc m)
+  drop-left k chosen = some-turn on.turns (omega (arith, on.enough, count-dropped k on.at on.scan.tidy chosen))
 
-  left : (k : Key) → next_dropped on.at ≡ Some k → (m : ℕ) × (on.turns ≡ suc m)
-  left k chosen = some-turn on.turns (omega (arith, on.enough, count-dropped k on.at on.scan.tidy chosen))
+  drop-is : (k : Key) (m : ℕ) → next_dropped on.at ≡ Some k → on.turns ≡ suc m → drops on.turns on.at ≡ k ∷ drops m (dropped k on.at)
+  drop-is k m chosen turns = ap (λ u. drops u on.at) turns ∙ ap (λ o. option_map_or (λ h. h ∷ drops m (dropped h on.at)) o []) chosen
 
-  pub drops-found : (k : Key) → next_dropped on.at ≡ Some k → stands_on k marked ≡ false → Some k ≡ first_unmarked marked (drops n t)
-  drops-found k chosen unmarked =
-      let m = left k chosen in
-      let is : drops on.turns on.at ≡ k ∷ drops m.0 (dropped k on.at) = ap (λ u. drops u on.at) m.1 ∙ ap (λ o. option_map_or (λ h. h ∷ drops m.0 (dropped h on.at)) o []) chosen in
+  pub trim-found : (k : Key) → next_dropped on.at ≡ Some k → stands_on k marked ≡ false → Some k ≡ first_unmarked marked vs
+  trim-found k chosen unmarked =
+      let m = drop-left k chosen in
       let here : first_unmarked marked (k ∷ drops m.0 (dropped k on.at)) ≡ Some k = rw unmarked refl in
-      sym (on.rest ∙ ap (first_unmarked marked) is ∙ here)
+      sym (on.left marked (λ j there. there) ∙ ap (first_unmarked marked) (drop-is k m.0 chosen m.1) ∙ here)
 
-  pub drops-more : (y : Scan) (k : Key) → next_dropped on.at ≡ Some k → stands_on k marked ≡ true → IsScanOf about s y (dropped k on.at) → DropsOn about s marked n t y
-  drops-more y k chosen there after =
-      let m = left k chosen in
-      let is : drops on.turns on.at ≡ k ∷ drops m.0 (dropped k on.at) = ap (λ u. drops u on.at) m.1 ∙ ap (λ o. option_map_or (λ h. h ∷ drops m.0 (dropped h on.at)) o []) chosen in
-      let over : first_unmarked marked (k ∷ drops m.0 (dropped k on.at)) ≡ first_unmarked marked (drops m.0 (dropped k on.at)) = rw there refl in
+  pub trim-more : (y : Scan) (k : Key) → next_dropped on.at ≡ Some k → stands_on k marked ≡ true → IsScanOf about s y (dropped k on.at) → AtTrim about s marked vs y
+  trim-more y k chosen there after =
+      let m = drop-left k chosen in
+      let over : (more : List Key) → stands_on k more ≡ true → first_unmarked more (k ∷ drops m.0 (dropped k on.at)) ≡ first_unmarked more (drops m.0 (dropped k on.at)) = λ more in_more. rw in_more refl in
       record {
         at = dropped k on.at;
         turns = m.0;
         scan = after;
         enough = omega (arith, on.enough, m.1, count-dropped k on.at on.scan.tidy chosen);
-        rest = on.rest ∙ ap (first_unmarked marked) is ∙ over;
+        left = λ more covers. on.left more covers ∙ ap (first_unmarked more) (drop-is k m.0 chosen m.1) ∙ over more (covers k there);
       }

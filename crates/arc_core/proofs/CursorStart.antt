@@ -261,12 +261,3 @@ scan-come about s t x e at tidy few =
     go Mfu other = at.mfu.size
     go MfuGhost other = at.mfu.ghost_size
     go L2Only other = absurd (true≢false other)
-
--- ---- of two lists, the first that isn't marked
-
-pub unmarked-append : (marked xs ys : List Key) → first_unmarked marked (xs ++ ys) ≡ or_else (first_unmarked marked xs) (first_unmarked marked ys)
-unmarked-append marked [] ys = refl
-unmarked-append marked (x ∷ xs) ys = elim (cases_true (stands_on x marked)) [
-  | inl there ↦ rw there (unmarked-append marked xs ys)
-  | inr off ↦ rw off refl
-]

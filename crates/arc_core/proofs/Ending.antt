@@ -12,14 +12,10 @@ use Rattle.arc_core.specs.PlainShard.{PlainShard, entry_key, is_unheld}
 use Rattle.arc_core.specs.Changes.{changed, off_sequence}
 use Rattle.arc_core.specs.Edits.{is_droppable, is_evictable}
 use Rattle.arc_core.specs.Rules.{dropped, evicted, evicted_entry, evicting, next_dropped, next_evicted, trimmed, trimming, with_room}
+use Rattle.arc_core.specs.Search.{count}
 use Rattle.arc_core.specs.Sound.{IsTidy}
 use Rattle.arc_core.proofs.Evictions.{at_head-entries, dropped-gone, dropped-placed, entry_of-is, found, l2_only, next_dropped-is, next_evicted-is}
 use Rattle.arc_core.proofs.Sparing.{sparing-dropped, sparing-evicted, uncached}
-
--- how many entries pass a test
-abbrev pub count : (Entry → Bool) → List Entry → ℕ
-count test [] = 0
-count test (e ∷ es) = (if test e then 1 else 0) + count test es
 
 module _ (test : Entry → Bool) where
   pub count-le : (es : List Entry) → count test es ≤ length es

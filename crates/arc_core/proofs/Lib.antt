@@ -9,14 +9,17 @@ pub mod Ending
 pub mod EntriesAfter
 pub mod EntryRows
 pub mod Evictions
+pub mod FeedWalks
 pub mod Feeding
 pub mod Frames
 pub mod Keeping
+pub mod KeyRows
 pub mod Legal
 pub mod Making
 pub mod Marking
 pub mod Others
 pub mod Owing
+pub mod PickNames
 pub mod Placing
 pub mod Scan
 pub mod Scanning

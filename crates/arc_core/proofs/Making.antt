@@ -5,7 +5,9 @@ use Rattle.arc_lists.specs.declared.member.Member.{Member}
 use Rattle.arc_lists.specs.Queues.{IsSequenceOf}
 use Rattle.arc_core.specs.declared.shard.Shard.TheInside.{Inside}
 use Rattle.arc_core.specs.declared.event.Event.{Event}
-use Rattle.arc_core.specs.PlainShard.{members}
+use Rattle.arc_core.specs.PlainShard.{PlainShard, members}
+use Rattle.arc_core.specs.declared.shard.halts.Halts.{Halts}
+use Rattle.arc_core.specs.Halts.{AreHalts, no_halts}
 use Rattle.arc_core.specs.Owed.{room_for}
 use Rattle.arc_core.specs.ShardModel.{IsKept}
 use Rattle.arc_core.specs.Step.{after, legal}
@@ -15,11 +17,15 @@ use Rattle.arc_core.proofs.Soundness.{IsSound-after}
 
 pub made : (s n : Inside) (e : Event) → IsKept s → IsTrue (legal s.table.shard e) → n.table.shard ≡ after s.table.shard e → n.opened ≡ s.opened
     → n.history.items ≡ s.history.items ++ e ∷ [] → vec_len n.history ≡ vec_len s.history + 1 → vec_capacity s.history ≤ vec_capacity n.history
-    → n.spare_events + room_for e ≡ s.spare_events → IsSequenceOf (members n.table.shard) n.table.marked → IsKept n
-made s n e kept ok step opened history len capacity spare marked =
+    → n.spare_events + room_for e ≡ s.spare_events → IsSequenceOf (members n.table.shard) n.table.marked → AreHalts n.table.shard n.table.marked n.halts → IsKept n
+made s n e kept ok step opened history len capacity spare marked halts =
     let sound = kept.replayed.sound in
-    IsKept-step s n e kept ok step (rw step (IsSound-after s.table.shard e sound ok)) opened history len capacity spare marked (owed-after s.table.shard e sound ok)
+    IsKept-step s n e kept ok step (rw step (IsSound-after s.table.shard e sound ok)) opened history len capacity spare marked halts (owed-after s.table.shard e sound ok)
 
 -- where no key is marked, each marked one has an entry
 pub none-marked : (ms : List Member) (ks : List Key) → ks ≡ [] → IsSequenceOf ms ks
 none-marked ms ks none = rw none (record { once = refl; members = tt })
+
+-- where no scan has begun, each stands where it was left
+pub none-halted : (s : PlainShard) (ks : List Key) (h : Halts) → h ≡ no_halts → AreHalts s ks h
+none-halted s ks h none = rw none (record { sought = tt; walk = tt })

@@ -126,8 +126,3 @@ pub record CanDrop (about : Option Key) (s : PlainShard) (x : Scan) (k : Key) : 
 -- the first of these that isn't marked
 abbrev pub first_unmarked : (marked : List Key) → List Key → Option Key
 first_unmarked marked = find (λ k. not (stands_on k marked))
-
--- what was found of the evictions for z bytes, and where the scan stands when all of them were marked
-pub record IsEvictedOn (about : Option Key) (s : PlainShard) (marked : List Key) (z n : ℕ) (t : PlainShard) (x : Scan) (found : Option Key) : Type 0 where
-  pub value : found ≡ first_unmarked marked (evictions n z t)
-  pub scan : found ≡ None → IsScanOf about s x (Rules.evicting n z t)

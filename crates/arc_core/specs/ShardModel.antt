@@ -2,6 +2,7 @@
 use Rattle.std.specs.Prelude.{◌+◌, ◌≤◌, min, vec_len, vec_capacity}
 use Rattle.arc_core.specs.declared.shard.Shard.TheInside.{Inside}
 use Rattle.arc_lists.specs.Queues.{IsSequenceOf}
+use Rattle.arc_core.specs.Halts.{AreHalts}
 use Rattle.arc_core.specs.Owed.{owed_of}
 use Rattle.arc_core.specs.PlainShard.{members, opening_shard}
 use Rattle.arc_core.specs.ShardLog.{IsReplayed, ShardLog}
@@ -23,3 +24,5 @@ pub record IsKept (s : Inside) : Type 0 where
   pub room : owed_of s.table.shard + s.spare_events + vec_len s.history ≤ vec_capacity s.history
   -- each marked key has an entry, and is marked once
   pub marked : IsSequenceOf (members s.table.shard) s.table.marked
+  -- the scans stand where they were left
+  pub halts : AreHalts s.table.shard s.table.marked s.halts

@@ -1,7 +1,6 @@
 -- What the vectors of a shard's table mean, and what they keep.
-use Rattle.std.specs.Prelude.{◌≡◌, ◌+◌, ◌≤◌, length, map, vec_len, vec_capacity}
+use Rattle.std.specs.Prelude.{◌≡◌, ◌+◌, ◌^◌, ◌<◌, ◌≤◌, length, map}
 use Rattle.arc_core.specs.declared.table.Table.TheInside.{Inside}
-use Rattle.arc_lists.specs.ByKey.{IsRising}
 use Rattle.arc_core.specs.Candidate.{picked_bytes}
 use Rattle.arc_core.specs.PlainShard.{PlainShard, member_of}
 use Rattle.arc_core.specs.PlainTable.{PlainTable}
@@ -30,11 +29,10 @@ pub record IsKept (t : Inside) : Type 0 where
   pub members : t.lists.members ≡ map member_of t.entries.items
   -- there is room for the entries that the lists have room for, and for so many picks and passed keys
   pub room : t.lists.spare ≤ t.entries.spare
+  pub few : length t.entries.items + t.lists.spare < 2 ^ 64
   -- and as much for marked keys
-  pub marked_room : length t.entries.items + t.lists.spare ≤ vec_capacity t.marked
-  pub passed_room : vec_len t.passed + t.marks ≤ vec_capacity t.passed
-  pub picked_room : vec_len t.picked + t.marks ≤ vec_capacity t.picked
-  -- the passed keys rise, and so do the marked ones; what is picked is counted
-  pub passed_rising : IsRising (λ k. k) t.passed.items
-  pub marked_rising : IsRising (λ k. k) t.marked.items
+  pub marked_room : length t.entries.items + t.lists.spare ≤ length t.marked.items + t.marked.spare
+  pub passed_room : t.marks ≤ t.passed.spare
+  pub picked_room : t.marks ≤ t.picked.spare
+  -- what is picked is counted
   pub bytes : t.picked_bytes ≡ picked_bytes (shard_in t)

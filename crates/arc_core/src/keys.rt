@@ -1,38 +1,116 @@
-//! Keys in rising order, found by halves.
-ghost use Rattle.std.specs.Prelude.{◌≡◌, ◌+◌, ◌<◌, false, vec_len, vec_capacity};
+//! Keys that are found by their hashes, and forgotten all at once in as much time as there are.
+ghost use Rattle.std.specs.Prelude.{◌≡◌, ℕ, ◌+◌, ◌-◌, ◌<◌, ◌≤◌, false, [], ◌++◌, ◌∷◌, length, vec_len, vec_capacity, OnOk, OnErr};
+ghost use Rattle.arc_lists.specs.ByKey.{with_item};
 ghost use Rattle.arc_lists.specs.Sequences.{stands_on};
-ghost use Rattle.arc_lists.specs.ByKey.{rank, with_item, IsRising};
+ghost use Rattle.arc_core.specs.Keys.{empty_keys};
+ghost use Rattle.arc_core.specs.KeyRows.{AreListed, AreListedBut};
 
-use blk_ptr::Key;
+use arc_lists::Name;
+use blk_ptr::{Key, NoMemory};
+use key_table::Table;
+use std::alloc::Global;
+use std::marker::Model;
 
-// How many of keys that rise are smaller.
-fn rank_of_key(keys: &[Key], key: Key) -> usize
-    requires { IsRising (λ k. k) keys.now }
-    ensures { result ≡ rank (λ k. k) key keys.now }
-{
-    keys.partition_point(|k| k.cmp(&key).is_lt())
+/// Keys. Contracts see them in rising order, and the room that is left.
+#[derive(Debug, Drop)]
+pub struct Keys {
+    rows: Table<Name, ()>,
+    // The same keys, in the order in which they came.
+    order: Vec<Key>,
 }
 
-/// Whether a key is one of keys that rise.
-pub fn has_key(keys: &[Key], key: Key) -> bool
-    requires { IsRising (λ k. k) keys.now }
-    ensures { result ≡ stands_on key keys.now }
+impl Model for Keys {
+    ghost use Rattle.arc_core.specs.Keys.{PlainKeys};
+
+    ghost Value = { PlainKeys };
+
+    ghost use Rattle.arc_core.specs.KeyRows.{keys, AreKept};
+
+    ghost view = { keys };
+
+    ghost invariant = { AreKept };
+}
+
+// Takes one key off, where it is there.
+fn take_off(rows: &mut Table<Name, ()>, order: &[Key], key: Key)
+    requires { AreListedBut key rows.old.rows order.now }
+    ensures listed { AreListed rows.new.rows order.now }
+    ensures room { rows.new.spare + length rows.new.rows ≡ rows.old.spare + length rows.old.rows }
 {
-    match keys.get(rank_of_key(keys, key)) {
-        Some(k) => *k == key,
-        None => false,
+    if rows.get(&Name(key)).is_some() {
+        let () = rows.remove(&Name(key));
     }
 }
 
-/// Adds a key to keys that rise, among which it isn't.
-pub fn add_key(keys: &mut Vec<Key>, key: Key)
-    requires rising { IsRising (λ k. k) keys.old.items }
-    requires absent { stands_on key keys.old.items ≡ false }
-    requires room { vec_len keys.old < vec_capacity keys.old }
-    ensures items { keys.new.items ≡ with_item (λ k. k) key keys.old.items }
-    ensures len { vec_len keys.new ≡ vec_len keys.old + 1 }
-    ensures capacity { vec_capacity keys.new ≡ vec_capacity keys.old }
+// Takes the keys off that are listed, which are all.
+fn take_all(rows: &mut Table<Name, ()>, order: &mut Vec<Key>)
+    requires { AreListed rows.old.rows order.old.items }
+    ensures rows { rows.new.rows ≡ [] }
+    ensures order { order.new.items ≡ [] }
+    ensures spare { rows.new.spare ≡ rows.old.spare + length rows.old.rows }
+    ensures capacity { vec_capacity order.new ≡ vec_capacity order.old }
 {
-    let at = rank_of_key(keys, key);
-    let _ = keys.insert(at, key);
+    while let Some(key) = order.pop() {
+        take_off(rows, order, key);
+    }
+}
+
+// Puts a key behind the others, for which there is room.
+fn put_last(order: &mut Vec<Key>, key: Key)
+    requires { vec_len order.old < vec_capacity order.old }
+    ensures items { order.new.items ≡ order.old.items ++ key ∷ [] }
+    ensures len { vec_len order.new ≡ vec_len order.old + 1 }
+    ensures capacity { vec_capacity order.old ≤ vec_capacity order.new }
+{
+    let _ = order.push(key);
+}
+
+impl Keys {
+    pub fn new(alloc: Global) -> Keys
+        ensures { result ≡ empty_keys }
+    {
+        Keys {
+            rows: Table::new(alloc),
+            order: Vec::new(alloc),
+        }
+    }
+
+    /// Makes room for `n` more keys.
+    pub fn reserve(&mut self, n: usize) -> Result<(), NoMemory>
+        ensures items { self.new.items ≡ self.old.items }
+        ensures ok { OnOk result (n ≤ self.new.spare) }
+        ensures more { self.old.spare ≤ self.new.spare }
+    {
+        self.order.reserve(n)?;
+        if self.rows.reserve(n).is_err() {
+            return Err(NoMemory);
+        }
+        Ok(())
+    }
+
+    /// Whether a key is one of them.
+    pub fn has(&self, key: Key) -> bool
+        ensures { result ≡ stands_on key self.now.items }
+    {
+        self.rows.get(&Name(key)).is_some()
+    }
+
+    /// Adds a key that isn't there.
+    pub fn add(&mut self, key: Key)
+        requires room { 0 < self.old.spare }
+        requires absent { stands_on key self.old.items ≡ false }
+        ensures items { self.new.items ≡ with_item (λ k. k) key self.old.items }
+        ensures spare { self.new.spare ≡ self.old.spare - 1 }
+    {
+        self.rows.insert(Name(key), ());
+        put_last(&mut self.order, key);
+    }
+
+    /// Forgets them all.
+    pub fn clear(&mut self)
+        ensures items { self.new.items ≡ [] }
+        ensures spare { self.new.spare ≡ self.old.spare + length self.old.items }
+    {
+        take_all(&mut self.rows, &mut self.order);
+    }
 }

@@ -8,6 +8,7 @@ ghost use Rattle.arc_core.specs.View.{first_holder, view_of};
 
 mod counting;
 mod feeding;
+mod halts;
 mod naming;
 mod rules;
 
@@ -16,6 +17,7 @@ use crate::entry::Entry;
 use crate::event::{Event, FailedAt, Origin};
 use crate::table::Table;
 use blk_ptr::{Digest, Key, NoMemory, State};
+use halts::Halts;
 use std::alloc::Global;
 use std::marker::Model;
 
@@ -52,6 +54,7 @@ pub struct Shard {
     opened: Opened,
     history: Vec<Event>,
     spare_events: usize,
+    halts: Halts,
 }
 
 impl Model for Shard {
@@ -124,6 +127,7 @@ impl Shard {
             opened: Opened { c, mintime, bounds },
             history: Vec::new(alloc),
             spare_events: 0,
+            halts: Halts::none(),
         }
     }
 
@@ -160,6 +164,7 @@ impl Shard {
         let event = Event::Hit { n, key, t };
         self.table.hit(n, key, t);
         self.table.end_scan();
+        self.halts.forget();
         append(&mut self.history, event);
         self.spare_events -= 2;
         event
@@ -175,6 +180,7 @@ impl Shard {
         let event = Event::Miss { n, key, t };
         self.table.miss(n, key, t);
         self.table.end_scan();
+        self.halts.forget();
         append(&mut self.history, event);
         self.spare_events -= 3;
         event
@@ -194,6 +200,7 @@ impl Shard {
         };
         self.table.arrive(n, key, digest, from);
         self.table.end_scan();
+        self.halts.forget();
         append(&mut self.history, event);
         event
     }
@@ -207,6 +214,7 @@ impl Shard {
         let event = Event::Fail { n, key, at };
         self.table.fail(n, key, at);
         self.table.end_scan();
+        self.halts.forget();
         append(&mut self.history, event);
         event
     }
@@ -220,6 +228,7 @@ impl Shard {
         let event = Event::Drop { n, key };
         self.table.give_back(n, key);
         self.table.end_scan();
+        self.halts.forget();
         append(&mut self.history, event);
         event
     }
@@ -233,6 +242,7 @@ impl Shard {
     {
         let event = Event::Past { n, key, kept };
         self.table.end_scan();
+        self.halts.forget();
         append(&mut self.history, event);
         self.spare_events -= 1;
         event

@@ -11,10 +11,14 @@ mod feed;
 mod naming;
 mod room;
 mod scan;
+pub mod search;
+pub mod walk;
 
 use crate::config::Bounds;
 use crate::entries::Entries;
-use crate::entry::{Entry, Phase, Picked};
+use crate::entry::{Entry, Phase};
+use crate::keys::Keys;
+use crate::picks::Picks;
 use arc_lists::Lists;
 use blk_ptr::{Key, NoMemory, State};
 use std::alloc::Global;
@@ -27,12 +31,12 @@ pub struct Table {
     lists: Lists,
     mintime: u64,
     bounds: Bounds,
-    passed: Vec<Key>,
+    passed: Keys,
     phase: Phase,
-    picked: Vec<Picked>,
+    picked: Picks,
     picked_bytes: u64,
     marks: usize,
-    marked: Vec<Key>,
+    marked: Keys,
 }
 
 impl Model for Table {
@@ -65,12 +69,12 @@ impl Table {
             lists: Lists::new(alloc, c),
             mintime,
             bounds,
-            passed: Vec::new(alloc),
+            passed: Keys::new(alloc),
             phase: Phase::Idle,
-            picked: Vec::new(alloc),
+            picked: Picks::new(alloc),
             picked_bytes: 0,
             marks: 0,
-            marked: Vec::new(alloc),
+            marked: Keys::new(alloc),
         }
     }
 

@@ -1,7 +1,7 @@
 use crate::config::Bounds;
 use crate::event::{Event, FailedAt, Origin, Why};
 use crate::shard::Shard;
-use blk_ptr::{Digest, Key, NoMemory, State};
+use blk_ptr::{Digest, Key, State};
 use std::test::Fail;
 
 const BOUNDS: Bounds = Bounds {
@@ -34,24 +34,23 @@ fn ends(shard: &Shard) -> (u64, [u128; 6]) {
     (shard.p(), STATES.map(|state| shard.size(state)))
 }
 
-// Makes an event, where it may come.
-fn make(shard: &mut Shard, event: Event) -> Result<bool, NoMemory> {
-    shard.reserve(3, 1)?;
-    if !shard.legal(&event) {
-        return Ok(false);
+// Makes an event, where it may come and memory is there.
+fn make(shard: &mut Shard, event: Event) -> bool {
+    if shard.reserve(3, 1).is_err() || !shard.legal(&event) {
+        return false;
     }
     shard.step(event);
-    Ok(true)
+    true
 }
 
 // Makes events as far as they may come, and answers how many came.
-fn make_all(shard: &mut Shard, events: &[Event]) -> Result<usize, NoMemory> {
+fn make_all(shard: &mut Shard, events: &[Event]) -> usize {
     for (i, event) in events.iter().enumerate() {
-        if !make(shard, *event)? {
-            return Ok(i);
+        if !make(shard, *event) {
+            return i;
         }
     }
-    Ok(events.len())
+    events.len()
 }
 
 fn miss(key: Key, t: u64) -> Event {
@@ -68,27 +67,29 @@ fn arrive(key: Key) -> Event {
 }
 
 // Caller 0 reads a block that is missing, and gives it back.
-fn fetch(shard: &mut Shard, key: Key, t: u64) -> Result<usize, NoMemory> {
-    make_all(
-        shard,
-        &[miss(key, t), arrive(key), Event::Drop { n: 0, key }],
-    )
+fn fetch(shard: &mut Shard, key: Key, t: u64) -> bool {
+    make(shard, miss(key, t)) && make(shard, arrive(key)) && make(shard, Event::Drop { n: 0, key })
 }
 
-// Five blocks of a quarter of the smaller capacity, and the first again.
-fn fetch_quarters(shard: &mut Shard) -> Result<(), NoMemory> {
-    for (t, i) in [(1, 0), (2, 1), (3, 2), (4, 3), (5, 4), (6, 0)] {
-        let _made = fetch(shard, block(1024, i), t)?;
+// Reads blocks of a quarter of the smaller capacity, one after the other, and answers how many were missing.
+fn fetch_quarters(shard: &mut Shard, blocks: &[u64]) -> usize {
+    for (t, i) in blocks.iter().enumerate() {
+        if !fetch(shard, block(1024, *i), t as u64) {
+            return t;
+        }
     }
-    Ok(())
+    blocks.len()
 }
+
+// Five blocks of a quarter, and the first again.
+const AND_AGAIN: [u64; 6] = [0, 1, 2, 3, 4, 0];
 
 #[test]
 fn five_quarters_and_the_first_again(rt: HostRuntime) -> Result<(), Fail> {
     let mut shard = Shard::new(rt.alloc(), 4096, 0, BOUNDS);
-    fetch_quarters(&mut shard)?;
-    assert_eq!(rt; ends(&shard), (3072, [0, 3072, 1024, 1024, 0, 0]));
-    assert_eq!(rt; (shard.history().len(), shard.c()), (18, 4096));
+    let made = fetch_quarters(&mut shard, &AND_AGAIN);
+    let seen = (made, shard.history().len(), shard.c(), ends(&shard));
+    assert_eq!(rt; seen, (6, 18, 4096, (3072, [0, 3072, 1024, 1024, 0, 0])));
     Ok(())
 }
 
@@ -97,14 +98,10 @@ fn five_quarters_and_the_first_again(rt: HostRuntime) -> Result<(), Fail> {
 fn entries_are_shown(rt: HostRuntime) -> Result<(), Fail> {
     let mut shard = Shard::new(rt.alloc(), 4096, 0, BOUNDS);
     let (a, b) = (block(512, 0), block(512, 1));
-    assert_eq!(rt; fetch(&mut shard, a, 1)?, 3);
-    assert_eq!(rt; make_all(&mut shard, &[miss(b, 2)])?, 1);
-    let shown = (
-        shard.entry(b).and_then(|e| e.reader),
-        shard.resident(a),
-        shard.resident(b),
-    );
-    assert_eq!(rt; shown, (Some(0), Some(DIGEST), None));
+    let made = (fetch(&mut shard, a, 1), make(&mut shard, miss(b, 2)));
+    let reader = shard.entry(b).and_then(|e| e.reader);
+    let shown = (made, reader, shard.resident(a), shard.resident(b));
+    assert_eq!(rt; shown, ((true, true), Some(0), Some(DIGEST), None));
     Ok(())
 }
 
@@ -112,19 +109,21 @@ fn entries_are_shown(rt: HostRuntime) -> Result<(), Fail> {
 #[test]
 fn a_smaller_capacity_evicts(rt: HostRuntime) -> Result<(), Fail> {
     let mut shard = Shard::new(rt.alloc(), 8192, 0, BOUNDS);
-    fetch_quarters(&mut shard)?;
     let key = block(1024, 0);
-    let hit = Event::Hit { n: 0, key, t: 6 };
-    assert_eq!(rt; make_all(&mut shard, &[hit, Event::Drop { n: 0, key }])?, 2);
-    assert!(rt; make(&mut shard, Event::Resize { n: 1, c: 4096 })?);
+    let events = [
+        Event::Hit { n: 0, key, t: 6 },
+        Event::Drop { n: 0, key },
+        Event::Resize { n: 1, c: 4096 },
+    ];
+    let fetched = fetch_quarters(&mut shard, &[0, 1, 2, 3, 4]);
+    let made = (fetched, make_all(&mut shard, &events));
     let before = ends(&shard);
-    assert_eq!(rt; fetch(&mut shard, block(1024, 1), 7)?, 3);
+    let again = fetch(&mut shard, block(1024, 1), 7);
+    let small = (3840, [0, 3072, 1024, 1024, 0, 0]);
+    let after = (3840, [0, 3072, 0, 1024, 1024, 0]);
     assert_eq!(rt;
-        (before, ends(&shard)),
-        (
-            (3840, [0, 3072, 1024, 1024, 0, 0]),
-            (3840, [0, 3072, 0, 1024, 1024, 0])
-        )
+        (made, before, again, ends(&shard)),
+        ((5, 3), small, true, after)
     );
     Ok(())
 }
@@ -139,56 +138,66 @@ fn name_one(shard: &mut Shard, event: &Event) -> Option<Key> {
     Some(key)
 }
 
-// A block of half of the capacity takes the two oldest of a quarter.
+// Names three victims of a block of half of the capacity.
+fn name_three(shard: &mut Shard) -> [Option<Key>; 3] {
+    let event = miss(block(2048, 9), 5);
+    [
+        name_one(shard, &event),
+        name_one(shard, &event),
+        name_one(shard, &event),
+    ]
+}
+
+// A block of half of the capacity takes the two oldest of a quarter; where one of them is passed, the next.
 #[test]
 fn victims_are_named_one_by_one(rt: HostRuntime) -> Result<(), Fail> {
     let mut shard = Shard::new(rt.alloc(), 4096, 0, BOUNDS);
-    for i in 0..4 {
-        let _made = fetch(&mut shard, block(1024, i), i)?;
-    }
-    let event = miss(block(2048, 9), 5);
-    let named = (
-        name_one(&mut shard, &event),
-        name_one(&mut shard, &event),
-        name_one(&mut shard, &event),
-    );
+    let made = fetch_quarters(&mut shard, &[0, 1, 2, 3]);
+    let first = name_three(&mut shard);
     shard.unmark_all();
-    let again = name_one(&mut shard, &event);
+    let again = name_three(&mut shard);
+    let pass = Event::Pass {
+        n: 0,
+        key: block(1024, 0),
+        owner: 1,
+    };
+    let passed = make(&mut shard, pass);
+    let behind = name_three(&mut shard);
+    let two = [Some(block(1024, 0)), Some(block(1024, 1)), None];
+    let third = [Some(block(1024, 2)), None, None];
     assert_eq!(rt;
-        (named, again),
-        (
-            (Some(block(1024, 0)), Some(block(1024, 1)), None),
-            Some(block(1024, 0))
-        )
+        (made, first, again, passed, behind),
+        (4, two, two, true, third)
     );
     Ok(())
 }
 
-// A feed, a block that comes back from the cache device, and what a cell does with it.
-#[test]
-fn every_kind_of_event(rt: HostRuntime) -> Result<(), Fail> {
-    let mut shard = Shard::new(rt.alloc(), 4096, 0, BOUNDS);
-    let (a, b) = (block(2048, 0), block(2048, 1));
-    let lost = block(2048, 9);
-    let events = [
+// What an earlier run left goes; a block is read, and a feed writes it.
+fn fed(a: Key, lost: Key) -> [Event; 9] {
+    let digest = Some(DIGEST);
+    let (n, place) = (1, 4096);
+    [
         Event::Restore {
-            n: 1,
+            n,
             key: lost,
-            place: 8192,
-            digest: Some(DIGEST),
+            place,
+            digest,
         },
-        Event::Clear { n: 1, key: lost },
+        Event::Clear { n, key: lost },
         miss(a, 1),
         arrive(a),
         Event::Drop { n: 0, key: a },
-        Event::Pick { n: 1, key: a },
-        Event::FeedEnd { n: 1 },
-        Event::Set {
-            n: 1,
-            key: a,
-            place: 4096,
-        },
-        Event::FeedEnd { n: 1 },
+        Event::Pick { n, key: a },
+        Event::FeedEnd { n },
+        Event::Set { n, key: a, place },
+        Event::FeedEnd { n },
+    ]
+}
+
+// A cell takes a block over, makes it private, and writes it.
+fn written(a: Key, b: Key) -> [Event; 8] {
+    let digest = DIGEST;
+    [
         miss(b, 2),
         arrive(b),
         Event::Hand {
@@ -205,7 +214,7 @@ fn every_kind_of_event(rt: HostRuntime) -> Result<(), Fail> {
         Event::Past {
             n: 1,
             key: a,
-            kept: DIGEST,
+            kept: digest,
         },
         Event::Release {
             n: 2,
@@ -215,28 +224,47 @@ fn every_kind_of_event(rt: HostRuntime) -> Result<(), Fail> {
         Event::Insert {
             n: 2,
             key: b,
-            digest: DIGEST,
+            digest,
             t: 4,
         },
+    ]
+}
+
+// A larger capacity, a feed that the device fails, and a read that does not begin.
+fn failed(b: Key, lost: Key) -> [Event; 7] {
+    let (why, at) = (Why::Device, FailedAt::Unread);
+    [
         Event::Resize { n: 1, c: 8192 },
         Event::Drop { n: 2, key: b },
         Event::Pick { n: 1, key: b },
         Event::FeedEnd { n: 1 },
-        Event::Leave {
-            n: 1,
-            key: b,
-            why: Why::Device,
-        },
+        Event::Leave { n: 1, key: b, why },
         miss(lost, 5),
         Event::Fail {
             n: 0,
             key: lost,
-            at: FailedAt::Unread,
+            at,
         },
+    ]
+}
+
+#[test]
+fn every_kind_of_event(rt: HostRuntime) -> Result<(), Fail> {
+    let mut shard = Shard::new(rt.alloc(), 4096, 0, BOUNDS);
+    let (a, b, lost) = (block(2048, 0), block(2048, 1), block(2048, 9));
+    let (first, second, third) = (fed(a, lost), written(a, b), failed(b, lost));
+    let made = [
+        make_all(&mut shard, &first),
+        make_all(&mut shard, &second),
+        make_all(&mut shard, &third),
     ];
-    assert_eq!(rt; make_all(&mut shard, &events)?, events.len());
-    assert_eq!(rt; shard.history(), events.as_slice());
-    assert_eq!(rt; ends(&shard), (2048, [0, 2048, 0, 2048, 0, 0]));
+    assert_eq!(rt;
+        (made, ends(&shard)),
+        ([9, 8, 7], (2048, [0, 2048, 0, 2048, 0, 0]))
+    );
+    assert_eq!(rt; shard.history().get(..9), Some(first.as_slice()));
+    assert_eq!(rt; shard.history().get(9..17), Some(second.as_slice()));
+    assert_eq!(rt; shard.history().get(17..), Some(third.as_slice()));
     Ok(())
 }
 
@@ -244,22 +272,33 @@ fn every_kind_of_event(rt: HostRuntime) -> Result<(), Fail> {
 #[test]
 fn a_feed_passes_and_picks(rt: HostRuntime) -> Result<(), Fail> {
     let mut shard = Shard::new(rt.alloc(), 4096, 0, BOUNDS);
-    let (a, b) = (block(512, 0), block(512, 1));
-    let _made = (fetch(&mut shard, a, 1)?, fetch(&mut shard, b, 2)?);
-    let first = shard.candidate();
-    let pass = Event::Pass {
-        n: 1,
-        key: a,
-        owner: 0,
-    };
-    assert!(rt; make(&mut shard, pass)?);
-    let second = shard.candidate();
-    assert!(rt; make(&mut shard, Event::Pick { n: 1, key: b })?);
+    let [a, b, c] = [0, 1, 2].map(|i| block(512, i));
+    let made = [a, b, c].map(|key| fetch(&mut shard, key, 1));
+    let n = 1;
+    let chosen = [
+        shard.candidate(),
+        next_behind(
+            &mut shard,
+            Event::Pass {
+                n,
+                key: a,
+                owner: 0,
+            },
+        ),
+        next_behind(&mut shard, Event::Pick { n, key: b }),
+        next_behind(&mut shard, Event::Pick { n, key: c }),
+    ];
     assert_eq!(rt;
-        (first, second, shard.candidate()),
-        (Some(a), Some(b), None)
+        (made, chosen),
+        ([true; 3], [Some(a), Some(b), Some(c), None])
     );
     Ok(())
+}
+
+// The candidate behind an event.
+fn next_behind(shard: &mut Shard, event: Event) -> Option<Key> {
+    let _made = make(shard, event);
+    shard.candidate()
 }
 
 // An event of any kind, by a number that was drawn.
@@ -335,14 +374,14 @@ fn a_history_replays(rt: HostRuntime) -> Result<(), Fail> {
         x = x
             .wrapping_mul(6364136223846793005)
             .wrapping_add(1442695040888963407);
-        let _made = make(&mut shard, drawn(x >> 20, t))?;
+        let _made = make(&mut shard, drawn(x >> 20, t));
     }
-    assert!(rt; shard.history().len() > 2000);
     let mut again = Shard::new(rt.alloc(), 8192, 3, BOUNDS);
+    let made = make_all(&mut again, shard.history());
+    assert_eq!(rt; made, shard.history().len());
     assert_eq!(rt;
-        make_all(&mut again, shard.history())?,
-        shard.history().len()
+        (made > 2000, again.c(), ends(&again)),
+        (true, shard.c(), ends(&shard))
     );
-    assert_eq!(rt; (again.c(), ends(&again)), (shard.c(), ends(&shard)));
     Ok(())
 }

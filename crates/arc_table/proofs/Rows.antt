@@ -1,5 +1,5 @@
--- A bucket's turn tells its shard.
-use Rattle.std.proofs.Common.{◌≡◌, ◌⊎◌, ℕ, zero, suc, ◌+◌, ◌*◌, ◌/◌, ◌<◌, ◌≤◌, refl, ap, inl, inr, ⊎_elim, arith, mul-le-mul_right, suc-mul}
+-- A bucket's turn tells its shard; and what is so of each of several turns.
+use Rattle.std.proofs.Common.{◌≡◌, ◌⊎◌, ℕ, zero, suc, ◌+◌, ◌*◌, ◌/◌, ◌<◌, ◌≤◌, List, ◌∷◌, refl, ap, subst, inl, inr, ⊎_elim, arith, mul-le-mul_right, suc-mul}
 use Rattle.std.proofs.lemmas.Nat.{mod_below}
 use mathlib.Core.Logic.{dite}
 use native.Mathlib.Decide.{ℕ_discrete}
@@ -7,6 +7,7 @@ use Rattle.blk_ptr.specs.declared.key.Key.{Key}
 use Rattle.blk_ptr.specs.Hash.{hash_of_key, shard_of, bucket_of}
 use Rattle.arc_core.specs.declared.config.Config.{Config}
 use Rattle.arc_core.specs.Config.{IsConfig}
+use Rattle.turn_table.specs.Board.{IsAmong}
 use Rattle.arc_table.specs.Geometry.{bucket_turn, shard_turn}
 
 -- an earlier row ends before a later one begins
@@ -31,3 +32,8 @@ same_shard g k j h e =
     let b : bucket_of g.shards g.buckets k < g.buckets = mod_below (hash_of_key k / g.shards) g.buckets some in
     let d : bucket_of g.shards g.buckets j < g.buckets = mod_below (hash_of_key j / g.shards) g.buckets some in
     ap (λ (s : ℕ). g.cells + (g.shards * g.buckets + s)) (same_row (shard_of g.shards k) (shard_of g.shards j) (bucket_of g.shards g.buckets k) (bucket_of g.shards g.buckets j) g.buckets b d (omega arith))
+
+-- what is so of the first turn and of each of the others is so of each
+pub first_or_rest : (P : ℕ → Type 0) (i : ℕ) (held : List ℕ) → P i → ((j : ℕ) → IsAmong j held → P j) → (j : ℕ) → IsAmong j (i ∷ held) → P j
+first_or_rest P i held first rest j (inl is) = subst P is first
+first_or_rest P i held first rest j (inr among) = rest j among

@@ -28,7 +28,9 @@ impl<C: Keeps> Arcs<C> {
         requires look { HasNoLook self.now party.old }
         requires range { IsCell self.now.config i }
         requires not_held { ¬ IsAmong i party.old.held }
-        ensures { (owners : List ℕ) × (w : Known C) × Loses (pact (meanings C.holds C.entries C.opening C.claims C.sound)) (λ _. after_lost) i owners party.old (saw party.old w)
+        ensures party { IsPartyOf self.now party.new }
+        ensures free { HasNoLook self.now party.new }
+        ensures took { (owners : List ℕ) × (w : Known C) × Loses (pact (meanings C.holds C.entries C.opening C.claims C.sound)) (λ _. after_lost) i owners party.old (saw party.old w)
             × WasFree (pact (meanings C.holds C.entries C.opening C.claims C.sound)) (saw party.old w) i (item.Cell result)
             × (party.new ≡ took party.old i (after_won (meanings C.holds C.entries C.opening C.claims C.sound) i (item.Cell result) w)) }
     {

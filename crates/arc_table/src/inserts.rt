@@ -125,6 +125,8 @@ impl<C: Keeps> Arcs<C> {
         requires cell { IsCell self.now.config cell × IsAmong cell party.old.held }
         requires formed { IsTrue (is_well_formed key) }
         requires size { length block.value ≡ key.size }
+        ensures party { IsPartyOf self.now party.new }
+        ensures free { HasNoLook self.now party.new }
         ensures ok { IfOk result (AnswersInsert (meanings C.holds C.entries C.opening C.claims C.sound) self.now.config cell key block.value tick party.old party.new) }
         ensures err { OnErr result (Does (meanings C.holds C.entries C.opening C.claims C.sound) self.now.config key [] party.old party.new) }
     {

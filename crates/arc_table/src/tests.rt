@@ -1,9 +1,10 @@
 // Each call once, with ample memory, over cells that keep nothing.
-ghost use Rattle.std.specs.Prelude.{◌≡◌, []};
+ghost use Rattle.std.specs.Prelude.{◌≡◌, [], IfOk, length};
 
-use crate::{Arcs, Cleared, Front, Look, TryHit};
+use crate::{Arcs, Cleared, Front, Inserted, Look, TryHit};
 use arc_core::{Bounds, Config, Event, Keeps, Restored};
-use blk_ptr::{Digest, Key, Ptr};
+use blk_ptr::{Block, Digest, Key, Ptr};
+use std::sync::Arc;
 use std::test::Fail;
 
 // A cell that keeps nothing.
@@ -157,5 +158,28 @@ fn a_shard_has_a_new_capacity(rt: HostRuntime) -> Result<(), Fail> {
         closed.shards().iter().all(|shard| shard.c() == 8192
             && shard.history() == events.as_slice())
     );
+    Ok(())
+}
+
+// A block of zero bytes.
+fn zeros(rt: &HostRuntime) -> Result<Arc<Block>, Fail>
+    ensures { IfOk result (λ block. length block.value ≡ 512) }
+{
+    let block = Block::seal(vec![in rt.alloc(); 0; 512]?);
+    Ok(Arc::new(rt.alloc(), block)?)
+}
+
+#[test]
+fn a_block_of_a_cell_is_given_back(rt: HostRuntime) -> Result<(), Fail> {
+    let cells = vec![in rt.alloc(); Plain]?;
+    let made = Arcs::new(rt.alloc(), &SMALL, cells);
+    let (arcs, mut parties) = made.ok().ok_or("memory")?;
+    let mut feeder = parties.pop().ok_or("feeder")?;
+    let _cell = arcs.take_cell(&rt, &mut feeder, 0);
+    let put = arcs.insert(&rt, &mut feeder, 0, A, zeros(&rt)?, 1);
+    let Ok(Inserted::Held(hold)) = put else {
+        panic!(rt; "the key was there")
+    };
+    arcs.drop_hold(&rt, &mut feeder, hold);
     Ok(())
 }

@@ -5,6 +5,7 @@ ghost use Rattle.arc_core.specs.Candidate.{candidate};
 ghost use Rattle.arc_core.specs.ShardLog.{HasRoom, IsUnpicked, Makes, MayUnpick};
 ghost use Rattle.arc_core.specs.Step.{legal};
 
+use super::halts::Halts;
 use super::{Shard, append};
 use crate::event::{Event, Why};
 use blk_ptr::{Digest, Key};
@@ -21,6 +22,8 @@ impl Shard {
         self.table.pass(n, key, owner);
         append(&mut self.history, event);
         self.spare_events -= 1;
+        let walk = self.table.walked_if_begun(self.halts.walk);
+        self.halts = Halts { sought: None, walk };
         event
     }
 
@@ -34,6 +37,7 @@ impl Shard {
         let event = Event::Hand { n, key, to };
         self.table.hand(n, key, to);
         self.table.end_scan();
+        self.halts.forget();
         append(&mut self.history, event);
         self.spare_events -= 1;
         event
@@ -49,6 +53,7 @@ impl Shard {
         let event = Event::Insert { n, key, digest, t };
         self.table.insert(n, key, digest, t);
         self.table.end_scan();
+        self.halts.forget();
         append(&mut self.history, event);
         self.spare_events -= 2;
         event
@@ -63,6 +68,7 @@ impl Shard {
         let event = Event::Release { n, key, sole };
         self.table.release(n, key, sole);
         self.table.end_scan();
+        self.halts.forget();
         append(&mut self.history, event);
         event
     }
@@ -75,9 +81,14 @@ impl Shard {
         ensures makes { Makes (Event.Pick n key) self.old self.new }
     {
         let event = Event::Pick { n, key };
+        let walk = self.table.walk_from(self.halts.walk);
         self.table.pick(n, key);
         append(&mut self.history, event);
         self.spare_events -= 2;
+        self.halts = Halts {
+            sought: None,
+            walk: Some(self.table.walked(walk)),
+        };
         event
     }
 
@@ -91,6 +102,7 @@ impl Shard {
         let event = Event::FeedEnd { n };
         self.table.feed_end(n);
         self.table.end_scan();
+        self.halts.forget();
         append(&mut self.history, event);
         self.spare_events -= 1;
         event
@@ -105,6 +117,7 @@ impl Shard {
         let event = Event::Set { n, key, place };
         self.table.set(n, key, place);
         self.table.end_scan();
+        self.halts.forget();
         append(&mut self.history, event);
         event
     }
@@ -118,6 +131,7 @@ impl Shard {
         let event = Event::Leave { n, key, why };
         self.table.settle(key);
         self.table.end_scan();
+        self.halts.forget();
         append(&mut self.history, event);
         event
     }
@@ -132,6 +146,7 @@ impl Shard {
         let event = Event::Clear { n, key };
         self.table.clear(n, key);
         self.table.end_scan();
+        self.halts.forget();
         append(&mut self.history, event);
         self.spare_events -= 1;
         event
@@ -152,6 +167,7 @@ impl Shard {
         };
         self.table.restore(n, key, place, digest);
         self.table.end_scan();
+        self.halts.forget();
         append(&mut self.history, event);
         self.spare_events -= 1;
         event
@@ -167,6 +183,7 @@ impl Shard {
         let event = Event::Resize { n, c };
         self.table.resize(c);
         self.table.end_scan();
+        self.halts.forget();
         append(&mut self.history, event);
         self.spare_events -= 1;
         event
@@ -176,7 +193,7 @@ impl Shard {
     pub fn candidate(&self) -> Option<Key>
         ensures { result ≡ candidate self.now.now }
     {
-        self.table.candidate()
+        self.table.candidate(self.halts.walk)
     }
 
     /// Takes back the events from this place on, which are picks and passes alone, made since there was no feed and no passed key. The
@@ -187,5 +204,6 @@ impl Shard {
     {
         self.history.truncate(len);
         self.table.unpick();
+        self.halts.forget();
     }
 }

@@ -5,23 +5,29 @@ ghost use Rattle.blk_ptr.specs.Order.{key_eq};
 ghost use Rattle.arc_lists.specs.Sequences.{stands_on};
 ghost use Rattle.arc_core.specs.PlainShard.{entry_of};
 ghost use Rattle.arc_core.specs.ShardLog.{AreAllNamed, IsUnnamed};
-ghost use Rattle.arc_core.specs.Sparing.{next_victim};
+ghost use Rattle.arc_core.specs.Search.{Stands};
+ghost use Rattle.arc_core.specs.Sparing.{next_victim, victims};
 ghost use Rattle.arc_core.specs.Step.{legal};
 
 use super::Shard;
+use super::halts::{Sought, search_of};
 use crate::event::Event;
+use crate::table::search::Search;
 use blk_ptr::Key;
 
 impl Shard {
-    // The first key that an event evicts or drops, and that isn't marked.
-    fn next_victim(&self, e: &Event) -> Option<Key>
+    // The search for an event's victims from its start, where the event has any.
+    fn search_from_start(&self, e: &Event) -> Option<Search>
         requires { IsTrue (legal self.now.now e.now) }
-        ensures { result ≡ next_victim self.now.now self.now.marked e.now }
+        ensures some { IfSome result (λ x. Stands self.now.now self.now.marked (victims self.now.now e.now) x) }
+        ensures none { IfNone result (victims self.now.now e.now ≡ []) }
     {
         match *e {
-            Event::Miss { n, key, t } => self.table.victim_of_miss(n, key, t),
-            Event::Insert { n, key, digest, t } => self.table.victim_of_insert(n, key, digest, t),
-            Event::Resize { c, .. } => self.table.victim_of_capacity(c),
+            Event::Miss { n, key, t } => Some(self.table.search_of_miss(n, key, t)),
+            Event::Insert { n, key, digest, t } => {
+                Some(self.table.search_of_insert(n, key, digest, t))
+            }
+            Event::Resize { c, .. } => Some(self.table.search_of_capacity(c)),
             Event::Pass { .. }
             | Event::Hit { .. }
             | Event::Arrive { .. }
@@ -36,6 +42,34 @@ impl Shard {
             | Event::Leave { .. }
             | Event::Clear { .. }
             | Event::Restore { .. } => None,
+        }
+    }
+
+    // The search for an event's victims from where it stands, or else from its start.
+    fn search_for(&self, e: &Event) -> Option<Search>
+        requires { IsTrue (legal self.now.now e.now) }
+        ensures some { IfSome result (λ x. Stands self.now.now self.now.marked (victims self.now.now e.now) x) }
+        ensures none { IfNone result (victims self.now.now e.now ≡ []) }
+    {
+        match search_of(self.halts.sought, e) {
+            Some(search) => Some(search),
+            None => self.search_from_start(e),
+        }
+    }
+
+    // The first key that an event evicts or drops, and that isn't marked.
+    fn next_victim(&mut self, e: &Event) -> Option<Key>
+        requires { IsTrue (legal self.old.now e.now) }
+        ensures log { self.new ≡ self.old }
+        ensures value { result ≡ next_victim self.old.now self.old.marked e.now }
+    {
+        match self.search_for(e) {
+            Some(search) => {
+                let (search, found) = self.table.search_on(search);
+                self.halts.sought = Some(Sought { event: *e, search });
+                found
+            }
+            None => None,
         }
     }
 
@@ -69,5 +103,6 @@ impl Shard {
         ensures { self.new ≡ record self.old { marked = [] } }
     {
         self.table.unmark_all();
+        self.halts.sought = None;
     }
 }

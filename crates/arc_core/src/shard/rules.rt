@@ -192,7 +192,7 @@ impl Shard {
     {
         is_number(n)
             && may_pick(self.table.phase())
-            && match self.table.candidate() {
+            && match self.candidate() {
                 Some(candidate) => candidate == key,
                 None => false,
             }
@@ -201,7 +201,7 @@ impl Shard {
     fn may_end_picks(&self, n: u32) -> bool
         ensures { result ≡ legal self.now.now (Event.FeedEnd n) }
     {
-        is_number(n) && may_pick(self.table.phase()) && self.table.candidate().is_none()
+        is_number(n) && may_pick(self.table.phase()) && self.candidate().is_none()
     }
 
     fn may_set(&self, n: u32, key: Key, place: u64) -> bool

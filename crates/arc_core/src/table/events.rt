@@ -3,10 +3,12 @@ ghost use Rattle.arc_core.specs.declared.event.Event.{Event};
 ghost use Rattle.arc_core.specs.PlainShard.{numbers, one_hold};
 ghost use Rattle.arc_core.specs.Owed.{entries_for, owed_of};
 ghost use Rattle.arc_core.specs.Rules.{arrived_state, target_after};
-ghost use Rattle.arc_core.specs.Sparing.{next_victim};
+ghost use Rattle.arc_core.specs.Search.{Stands};
+ghost use Rattle.arc_core.specs.Sparing.{victims};
 ghost use Rattle.arc_core.specs.Step.{effect, entry_to_read, legal, written_entry};
 
 use super::Table;
+use super::search::Search;
 use crate::entry::{Entry, NUMBERS};
 use crate::event::{FailedAt, Origin};
 use arc_lists::Ghost;
@@ -181,21 +183,21 @@ impl Table {
         }
     }
 
-    /// The first key that a miss evicts or drops, and that isn't marked.
-    pub fn victim_of_miss(&self, n: u32, key: Key, t: u64) -> Option<Key>
+    /// The search for the victims of a miss, from its start.
+    pub fn search_of_miss(&self, n: u32, key: Key, t: u64) -> Search
         requires { IsTrue (legal self.now.shard (Event.Miss n key t)) }
-        ensures { result ≡ next_victim self.now.shard self.now.marked (Event.Miss n key t) }
+        ensures { Stands self.now.shard self.now.marked (victims self.now.shard (Event.Miss n key t)) result }
     {
         let entry = entry_to_read(n, key, t, self.find(key));
-        self.victim_of_entry(&entry, self.target_after(key))
+        self.search_of_entry(&entry, self.target_after(key))
     }
 
-    /// The first key that an insertion evicts or drops, and that isn't marked.
-    pub fn victim_of_insert(&self, n: u32, key: Key, digest: Digest, t: u64) -> Option<Key>
+    /// The search for the victims of an insertion, from its start.
+    pub fn search_of_insert(&self, n: u32, key: Key, digest: Digest, t: u64) -> Search
         requires { IsTrue (legal self.now.shard (Event.Insert n key digest t)) }
-        ensures { result ≡ next_victim self.now.shard self.now.marked (Event.Insert n key digest t) }
+        ensures { Stands self.now.shard self.now.marked (victims self.now.shard (Event.Insert n key digest t)) result }
     {
         let entry = written_entry(n, key, digest, t);
-        self.victim_of_entry(&entry, self.p())
+        self.search_of_entry(&entry, self.p())
     }
 }

@@ -1,10 +1,8 @@
 //! What the feed of the cache device and the scans of other parties do to a shard's table, and a new capacity.
 ghost use Rattle.std.specs.Prelude.{◌≡◌, ℕ, ◌+◌, ◌-◌, ◌*◌, ◌<◌, ◌≤◌, ◌^◌, [], false, length, IsTrue, IsSome, None};
 ghost use Rattle.blk_ptr.specs.declared.key.Key.{Key};
-ghost use Rattle.arc_lists.specs.Sequences.{stands, stands_on};
-ghost use Rattle.arc_lists.specs.Walks.{oldest_first};
+ghost use Rattle.arc_lists.specs.Sequences.{stands};
 ghost use Rattle.arc_core.specs.declared.event.Event.{Event};
-ghost use Rattle.arc_core.specs.Candidate.{candidate, chosen, may_be_picked, walk};
 ghost use Rattle.arc_core.specs.Changes.{changed, may_have, pick_of, settled, unpicked, with_place, writing_phase};
 ghost use Rattle.blk_ptr.specs.State.{is_same_state};
 ghost use Rattle.arc_core.specs.PlainShard.{entry_is, entry_of, is_passed, no_holds};
@@ -33,24 +31,12 @@ pub fn restored_entry(key: Key, place: u64, digest: Option<Digest>) -> Entry
     }
 }
 
-/// The pick of a key.
-pub fn pick_of(picks: &[Picked], key: Key) -> Option<Picked>
-    ensures { result ≡ pick_of key picks.now }
-{
-    for pick in picks {
-        if pick.key == key {
-            return Some(*pick);
-        }
-    }
-    None
-}
-
 impl Table {
     /// The pick of a key.
     pub fn pick_of(&self, key: Key) -> Option<Picked>
         ensures { result ≡ pick_of key self.now.shard.picked }
     {
-        pick_of(&self.picked, key)
+        self.picked.find(key)
     }
 
     /// How far a feed has come.
@@ -64,7 +50,7 @@ impl Table {
     pub fn is_passed(&self, key: Key) -> bool
         ensures { result ≡ is_passed self.now.shard key }
     {
-        keys::has_key(&self.passed, key)
+        self.passed.has(key)
     }
 
     /// Whether a key stands on a sequence: nobody holds its entry, and its state has one.
@@ -91,69 +77,13 @@ impl Table {
         }
     }
 
-    // Whether the feed may pick a key.
-    fn may_be_picked(&self, key: Key) -> bool
-        ensures { result ≡ may_be_picked self.now.shard key }
-    {
-        let placed = match self.find(key) {
-            Some(entry) => entry.place.is_some(),
-            None => false,
-        };
-        !placed && self.pick_of(key).is_none() && !self.is_passed(key)
-    }
-
-    // The first key of a state's sequence, from its oldest on, that the feed may pick; it ends before the key with which the bytes met
-    // exceed the limit.
-    fn first_wanted(&self, state: State, limit: u128) -> Option<Key>
-        requires { limit + 2 ^ 64 ≤ 2 ^ 128 }
-        ensures { result ≡ walk limit 0 (may_be_picked self.now.shard) (oldest_first state self.now.shard.sequences) }
-    {
-        let mut met: u128 = 0;
-        let mut next = self.lists.oldest(state);
-        while let Some(key) = next {
-            met += u128::from(key.size);
-            if met > limit {
-                return None;
-            }
-            if self.may_be_picked(key) {
-                return Some(key);
-            }
-            next = self.lists.newer(key);
-        }
-        None
-    }
-
-    // The key that the two walks choose: over MFU first, then over MRU.
-    fn chosen(&self) -> Option<Key>
-        ensures { result ≡ chosen self.now.shard }
-    {
-        let limit = u128::from(self.bounds.write_max) * u128::from(self.bounds.headroom);
-        match self.first_wanted(State::Mfu, limit) {
-            Some(key) => Some(key),
-            None => self.first_wanted(State::Mru, limit),
-        }
-    }
-
-    /// The next key that the feed may pick.
-    pub fn candidate(&self) -> Option<Key>
-        ensures { result ≡ candidate self.now.shard }
-    {
-        let key = self.chosen()?;
-        let bytes = u128::from(self.picked_bytes) + u128::from(key.size);
-        if bytes <= u128::from(self.bounds.write_max) {
-            Some(key)
-        } else {
-            None
-        }
-    }
-
     /// The scan in hand passes a key.
     pub fn pass(&mut self, n: u32, key: Key, owner: u32)
         requires room { 0 < self.old.marks }
         requires unpassed { is_passed self.old.shard key ≡ false }
         ensures { self.new ≡ record self.old { shard = effect self.old.shard (Event.Pass n key owner); marks = self.old.marks - 1 } }
     {
-        keys::add_key(&mut self.passed, key);
+        self.passed.add(key);
         self.marks -= 1;
     }
 
@@ -164,7 +94,7 @@ impl Table {
         ensures { self.new ≡ record self.old { shard = effect self.old.shard (Event.Pick n key); marks = self.old.marks - 1 } }
     {
         let digest = self.find(key).and_then(|entry| entry.digest);
-        picks::push_pick(&mut self.picked, Picked { key, digest });
+        self.picked.push(Picked { key, digest });
         self.picked_bytes += key.size;
         self.phase = Phase::Picking;
         self.marks -= 1;
@@ -174,11 +104,7 @@ impl Table {
     fn go_on_writing(&mut self)
         ensures { self.new ≡ record self.old { shard = record self.old.shard { phase = writing_phase self.old.shard.picked } } }
     {
-        self.phase = if self.picked.is_empty() {
-            Phase::Idle
-        } else {
-            Phase::Writing
-        };
+        self.phase = self.picked.phase();
     }
 
     /// The feed has picked all that it may.
@@ -192,7 +118,7 @@ impl Table {
     pub fn settle(&mut self, key: Key)
         ensures { self.new ≡ record self.old { shard = settled key self.old.shard } }
     {
-        self.picked_bytes -= picks::take_pick(&mut self.picked, key);
+        self.picked_bytes -= self.picked.take(key);
         self.go_on_writing();
     }
 

@@ -9,7 +9,6 @@ ghost use Rattle.arc_lists.specs.Walks.{oldest_first};
 ghost use Rattle.arc_core.specs.PlainShard.{entry_of, members};
 
 use super::Table;
-use crate::keys;
 use blk_ptr::Key;
 
 impl Table {
@@ -17,7 +16,7 @@ impl Table {
     pub fn is_marked(&self, key: Key) -> bool
         ensures { result ≡ stands_on key self.now.marked }
     {
-        keys::has_key(&self.marked, key)
+        self.marked.has(key)
     }
 
     /// Marks a key that has an entry.
@@ -27,7 +26,7 @@ impl Table {
         requires unmarked { stands_on key self.old.marked ≡ false }
         ensures { self.new ≡ record self.old { marked = with_item (λ k. k) key self.old.marked } }
     {
-        keys::add_key(&mut self.marked, key);
+        self.marked.add(key);
     }
 
     /// Forgets the marked keys.

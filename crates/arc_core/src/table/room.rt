@@ -1,6 +1,5 @@
 ghost use Rattle.std.specs.Prelude.{◌≡◌, ℕ, ◌+◌, ◌<◌, ◌≤◌, IsTrue, IsSome, None};
 ghost use Rattle.blk_ptr.specs.declared.key.Key.{Key};
-ghost use Rattle.arc_lists.specs.Sequences.{stands_on};
 ghost use Rattle.arc_core.specs.PlainShard.{entry_is, entry_of};
 ghost use Rattle.arc_core.specs.Changes.{gone};
 ghost use Rattle.arc_core.specs.Edits.{is_droppable, is_evictable, is_off};
@@ -12,18 +11,6 @@ use super::Table;
 use crate::entry::Entry;
 use arc_lists::Ghost;
 use blk_ptr::{Key, State};
-
-/// Whether a key is one of these.
-pub fn stands_on(keys: &[Key], key: Key) -> bool
-    ensures { result ≡ stands_on key keys.now }
-{
-    for k in keys {
-        if *k == key {
-            return true;
-        }
-    }
-    false
-}
 
 // The ghost of a state whose bytes are cached.
 fn evicted_state(state: State) -> State
@@ -44,7 +31,7 @@ impl Table {
     {
         let (c, p) = (self.lists.c(), self.lists.p());
         let passed = &self.passed;
-        self.lists.pick(c, p, z, 0, 0, |key| stands_on(passed, key))
+        self.lists.pick(c, p, z, 0, 0, |key| passed.has(key))
     }
 
     // The ghost that trim drops next.
@@ -63,7 +50,7 @@ impl Table {
             mru,
             mru_ghost,
             mfu_ghost,
-            |key| stands_on(passed, key),
+            |key| passed.has(key),
         )
     }
 

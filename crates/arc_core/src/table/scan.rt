@@ -1,21 +1,15 @@
 //! What room and trim would take from a shard, found without taking it.
-ghost use Rattle.std.specs.Prelude.{◌≡◌, ℕ, ◌+◌, ◌-◌, ◌<◌, ◌≤◌, ◌^◌, IsTrue, MatchOption, Some, length};
+ghost use Rattle.std.specs.Prelude.{◌≡◌, ℕ, ◌+◌, ◌-◌, ◌<◌, ◌≤◌, ◌^◌, IsTrue, MatchOption, Some};
 ghost use Rattle.blk_ptr.specs.declared.key.Key.{Key};
 ghost use Rattle.blk_ptr.specs.declared.state.State.{State};
 ghost use Rattle.arc_lists.specs.Sequences.{stands, stands_on};
 ghost use Rattle.arc_lists.specs.Walks.{first_of, next_to, oldest_first};
-ghost use Rattle.arc_core.specs.Cursor.{is_at, behind_dropped, behind_evicted, kind_at, scan_at, size_by, with_size, CanDrop, CanEvict, IsEvictedOn, IsScanOf, first_unmarked};
-ghost use Rattle.arc_core.specs.Sparing.{drops, fitting_victims, victims_of_entry};
+ghost use Rattle.arc_core.specs.Cursor.{is_at, behind_dropped, behind_evicted, kind_at, size_by, with_size, CanDrop, CanEvict, IsScanOf};
 ghost use Rattle.arc_core.specs.PlainShard.{PlainShard};
-ghost use Rattle.arc_lists.specs.Adapting.{IsCapacity};
-ghost use Rattle.arc_core.specs.Changes.{gone};
-ghost use Rattle.arc_core.specs.Edits.{is_off};
-ghost use Rattle.arc_core.specs.Rules.{dropped, evicted, next_dropped, next_evicted, resized};
-ghost use Rattle.arc_core.specs.Sound.{IsSoundEntry};
+ghost use Rattle.arc_core.specs.Rules.{dropped, evicted, next_dropped, next_evicted};
 ghost use Rattle.arc_core.specs.Scan.{first_going, going_but, may_go};
 
 use super::Table;
-use crate::entry::Entry;
 use blk_ptr::{Key, State};
 
 /// How far a scan has come in MRU or in MFU, with its ghost.
@@ -97,8 +91,8 @@ impl Scan {
     }
 }
 
-// Takes bytes from the size of a state.
-fn take_size(scan: &mut Scan, state: State, size: u64)
+/// Takes bytes from the size of a state.
+pub(super) fn take_size(scan: &mut Scan, state: State, size: u64)
     requires { size ≤ size_by state scan.old }
     ensures { scan.new ≡ with_size state (size_by state scan.old - size) scan.old }
 {
@@ -113,8 +107,8 @@ fn take_size(scan: &mut Scan, state: State, size: u64)
     }
 }
 
-// Adds bytes to the size of a state.
-fn add_size(scan: &mut Scan, state: State, size: u64)
+/// Adds bytes to the size of a state.
+pub(super) fn add_size(scan: &mut Scan, state: State, size: u64)
     requires { size_by state scan.old + size < 2 ^ 128 }
     ensures { scan.new ≡ with_size state (size_by state scan.old + size) scan.old }
 {
@@ -182,7 +176,7 @@ impl Table {
     }
 
     // A kind as it stands, from which nothing is evicted or dropped yet.
-    fn kind(&self, about: Option<Key>, state: State, lost: State) -> Kind
+    pub(super) fn kind(&self, about: Option<Key>, state: State, lost: State) -> Kind
         ensures { result ≡ kind_at about state lost self.now.shard }
     {
         let next = self.first_going(about, state);
@@ -233,7 +227,7 @@ impl Table {
     }
 
     // The scan behind the eviction of the next key.
-    fn scan_evicted(&self, about: Option<Key>, scan: Scan, key: Key) -> Scan
+    pub(super) fn scan_evicted(&self, about: Option<Key>, scan: Scan, key: Key) -> Scan
         requires { CanEvict about self.now.shard scan key }
         ensures { (t : PlainShard) (z : ℕ) → IsScanOf about self.now.shard scan t → next_evicted z t ≡ Some key → IsScanOf about self.now.shard result (evicted key t) }
     {
@@ -248,7 +242,7 @@ impl Table {
     }
 
     // The scan behind the drop of the next ghost.
-    fn scan_dropped(&self, about: Option<Key>, scan: Scan, key: Key) -> Scan
+    pub(super) fn scan_dropped(&self, about: Option<Key>, scan: Scan, key: Key) -> Scan
         requires { CanDrop about self.now.shard scan key }
         ensures { (t : PlainShard) → IsScanOf about self.now.shard scan t → next_dropped t ≡ Some key → IsScanOf about self.now.shard result (dropped key t) }
     {
@@ -260,101 +254,5 @@ impl Table {
             scan.mfu = self.dropped_of(about, State::Mfu, State::MfuGhost, scan.mfu, key);
         }
         scan
-    }
-
-    // Goes on with room for `z` bytes as far as the keys that it evicts are marked.
-    fn unmarked_eviction(&self, about: Option<Key>, z: u64, scan: Scan) -> (Scan, Option<Key>)
-        requires { (t : PlainShard) × IsScanOf about self.now.shard scan t }
-        ensures { (t : PlainShard) (n : ℕ) → IsScanOf about self.now.shard scan t → length t.entries ≤ n → IsEvictedOn about self.now.shard self.now.marked z n t result.0 result.1 }
-    {
-        let _lists = &self.lists;
-        let mut scan = scan;
-        while let Some(key) = scan.next_evicted(z) {
-            if !self.is_marked(key) {
-                return (scan, Some(key));
-            }
-            scan = self.scan_evicted(about, scan, key);
-        }
-        (scan, None)
-    }
-
-    // Goes on with trim as far as the ghosts that it drops are marked.
-    fn unmarked_drop(&self, about: Option<Key>, scan: Scan) -> Option<Key>
-        requires { (t : PlainShard) × IsScanOf about self.now.shard scan t }
-        ensures { (t : PlainShard) (n : ℕ) → IsScanOf about self.now.shard scan t → length t.entries ≤ n → result ≡ first_unmarked self.now.marked (drops n t) }
-    {
-        let _lists = &self.lists;
-        let mut scan = scan;
-        while let Some(key) = scan.next_dropped() {
-            if !self.is_marked(key) {
-                return Some(key);
-            }
-            scan = self.scan_dropped(about, scan, key);
-        }
-        None
-    }
-
-    // The scan of the table without a key, with this target.
-    fn scan_without(&self, key: Key, p: u64) -> Scan
-        ensures { IsScanOf (Some key) self.now.shard result (record (gone key self.now.shard) { p = p }) }
-    {
-        let _entries = &self.entries;
-        let mut scan = self.scan_but(Some(key), self.c(), p);
-        if let Some(entry) = self.find(key) {
-            take_size(&mut scan, entry.state, key.size);
-        }
-        scan
-    }
-
-    // The scan of the table where nothing is evicted or dropped yet.
-    fn scan_but(&self, about: Option<Key>, c: u64, p: u64) -> Scan
-        ensures { result ≡ scan_at about c p self.now.shard }
-    {
-        Scan {
-            mru: self.kind(about, State::Mru, State::MruGhost),
-            mfu: self.kind(about, State::Mfu, State::MfuGhost),
-            anon: self.size(State::Anon),
-            c,
-            p,
-        }
-    }
-
-    /// The first key that is evicted or dropped as an entry comes in with this target, and that isn't marked.
-    pub fn victim_of_entry(&self, entry: &Entry, p: u64) -> Option<Key>
-        requires off { IsTrue (is_off entry.now) }
-        requires sound { IsSoundEntry entry.now }
-        ensures { result ≡ first_unmarked self.now.marked (victims_of_entry entry.now (record self.now.shard { p = p })) }
-    {
-        let _lists = &self.lists;
-        let (key, state) = (entry.key, entry.state);
-        let (scan, found) = self.unmarked_eviction(Some(key), key.size, self.scan_without(key, p));
-        if found.is_some() {
-            return found;
-        }
-        let mut scan = scan;
-        add_size(&mut scan, state, key.size);
-        self.unmarked_drop(Some(key), scan)
-    }
-
-    // The scan of the table with another capacity.
-    fn scan_resized(&self, c: u64) -> Scan
-        requires { IsCapacity c }
-        ensures { IsScanOf None self.now.shard result (resized c self.now.shard) }
-    {
-        let _entries = &self.entries;
-        let p = self.p().max(c / 16).min(c - c / 16);
-        self.scan_but(None, c, p)
-    }
-
-    /// The first key that is evicted or dropped as the capacity becomes `c`, and that isn't marked.
-    pub fn victim_of_capacity(&self, c: u64) -> Option<Key>
-        requires { IsCapacity c }
-        ensures { result ≡ first_unmarked self.now.marked (fitting_victims (resized c self.now.shard)) }
-    {
-        let (scan, found) = self.unmarked_eviction(None, 0, self.scan_resized(c));
-        if found.is_some() {
-            return found;
-        }
-        self.unmarked_drop(None, scan)
     }
 }

@@ -2,7 +2,7 @@ use Rattle.std.proofs.Common.{min, ◌≤◌, IsTrue, refl, sym, ap, subst, ◌�
 use Rattle.arc_core.specs.declared.event.Event.TheVariants.{Insert}
 use Rattle.arc_core.specs.Changes.{with_none_passed}
 use Rattle.arc_core.specs.Step.{legal}
-use Rattle.arc_core.proofs.Making.{made, none-marked}
+use Rattle.arc_core.proofs.Making.{made, none-halted, none-marked}
 use Rattle.arc_core.proofs.shard.Shard.insert.Goals as goal
 
 pub invariant_of-self : goal.invariant_of-self
@@ -13,4 +13,4 @@ invariant_of-self c =
     let all : 2 ≤ min s.spare_events s.table.marks = subst (λ l. 2 ≤ l.event_room) (sym c.self.view_is) c.requires.room.events in
     let room : 2 ≤ s.spare_events = omega (arith, all) in
     let step = ap (λ t. t.shard) c.end_scan.ensures.now ∙ ap with_none_passed c.insert.ensures.shard in
-    made s _ e c.self.invariant ok step refl c.append.ensures.items c.append.ensures.len c.append.ensures.capacity (omega (arith, room)) (none-marked _ _ (ap (λ t. t.marked) c.end_scan.ensures.now))
+    made s _ e c.self.invariant ok step refl c.append.ensures.items c.append.ensures.len c.append.ensures.capacity (omega (arith, room)) (none-marked _ _ (ap (λ t. t.marked) c.end_scan.ensures.now)) (none-halted _ _ _ c.forget.ensures)

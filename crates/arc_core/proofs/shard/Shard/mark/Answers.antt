@@ -7,6 +7,7 @@ use Rattle.arc_lists.specs.Sequences.{stands_on}
 use Rattle.arc_core.specs.PlainShard.{entry_of, members}
 use Rattle.arc_core.specs.PlainTable.{PlainTable}
 use Rattle.arc_core.specs.ShardLog.{ShardLog}
+use Rattle.arc_core.proofs.CursorEnds.{or_there, sought-more}
 use Rattle.arc_core.proofs.Marking.{IsSequenceOf-with_key, stands_on-with_key}
 use Rattle.arc_core.proofs.Tables.{has_key-members}
 use Rattle.arc_core.proofs.shard.Shard.mark.Goals as goal
@@ -23,6 +24,7 @@ invariant_of-self c =
     record {
       replayed = rw c.mark.ensures (record { sound = kept.replayed.sound; replayed = kept.replayed.replayed; legal = kept.replayed.legal });
       room = rw c.mark.ensures kept.room;
+      halts = rw c.mark.ensures (record { sought = sought-more s.table.shard s.table.marked _ s.halts.sought (λ j there. stands_on-with_key j s.table.marked k ∙ or_there (key_eq k j) _ there) kept.halts.sought; walk = kept.halts.walk });
       marked = subst (λ (t : PlainTable). IsSequenceOf (members t.shard) t.marked) (sym c.mark.ensures) more;
     }
 

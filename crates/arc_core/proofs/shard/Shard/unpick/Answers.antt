@@ -4,7 +4,7 @@ use Rattle.arc_core.specs.ShardModel.{log_in}
 use Rattle.arc_core.specs.Owed.{owed_of}
 use Rattle.arc_core.specs.Replay.{replay}
 use Rattle.arc_core.specs.ShardLog.{ShardLog}
-use Rattle.arc_core.proofs.Making.{none-marked}
+use Rattle.arc_core.proofs.Making.{none-halted, none-marked}
 use Rattle.arc_core.proofs.Unpicking.{before-scan, front-legal, sound-unpicked}
 use Rattle.arc_core.proofs.shard.Shard.unpick.Goals as goal
 
@@ -24,6 +24,7 @@ invariant_of-self c =
       };
       room = omega (arith, kept.room, ap owed_of now, c.truncate.ensures.len, c.truncate.ensures.capacity);
       marked = none-marked _ _ (ap (λ t. t.marked) c.unpick.ensures.now);
+      halts = none-halted _ _ _ c.forget.ensures;
     }
 
 pub returns : goal.returns

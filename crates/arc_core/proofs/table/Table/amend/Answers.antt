@@ -18,10 +18,9 @@ invariant_of-self c =
           (IsTidy-amended e (shard_in c.self.inside) old.value old.is (belongs_on-alike e old.value old.fact.0 old.fact.1) c.requires.sound kept.tidy);
       members = kept.members ∙ rw c.write.ensures.items (sym (members-amended e old.value c.self.inside.entries.items old.is old.fact.0));
       room = omega (arith, kept.room, c.write.ensures.spare);
+      few = omega (arith, kept.few, ap length c.write.ensures.items, length-with_change entry_key e.key (λ old. e) c.self.inside.entries.items);
       marked_room = omega (arith, kept.marked_room, ap length c.write.ensures.items, length-with_change entry_key e.key (λ old. e) c.self.inside.entries.items);
       passed_room = kept.passed_room;
       picked_room = kept.picked_room;
-      passed_rising = kept.passed_rising;
-      marked_rising = kept.marked_rising;
       bytes = kept.bytes;
     }

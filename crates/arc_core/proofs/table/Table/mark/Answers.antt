@@ -1,19 +1,19 @@
-use Rattle.std.proofs.Common.{refl, ◌≡◌, IsSome, IsTrue, arith, false, map, sym, subst, ◌∙◌}
+use Rattle.std.proofs.Common.{length, ap, refl, ◌≡◌, IsSome, IsTrue, arith, false, map, sym, subst, ◌∙◌}
 use Rattle.std.proofs.lemmas.List.{length-map}
+use Rattle.blk_ptr.specs.declared.key.Key.{Key}
 use Rattle.arc_lists.specs.ByKey.{has_key}
 use Rattle.arc_lists.specs.PlainLists.{member_key}
 use Rattle.arc_lists.specs.Queues.{IsSequenceOf}
 use Rattle.arc_lists.specs.Sequences.{stands_on}
 use Rattle.arc_core.specs.PlainShard.{entry_of, member_of, members}
 use Rattle.arc_core.specs.TableModel.{shard_in}
-use Rattle.arc_lists.proofs.Tables.{IsRising-with_item}
-use Rattle.arc_core.proofs.Feeding.{has_key-stands}
+use Rattle.arc_lists.proofs.Tables.{length-with_item}
 use Rattle.arc_core.proofs.Marking.{fewer-marked}
 use Rattle.arc_core.proofs.Tables.{IsTidy-same, has_key-members, members-rising}
 use Rattle.arc_core.proofs.table.Table.mark.Goals as goal
 
-pub add_key-requires-clause-room : goal.add_key-requires-clause-room
-add_key-requires-clause-room c =
+pub add-requires-clause-room : goal.add-requires-clause-room
+add-requires-clause-room c =
     let t = c.self.inside in
     let kept = c.self.invariant in
     let k = c.args.key in
@@ -22,7 +22,7 @@ add_key-requires-clause-room c =
     let unmarked : stands_on k t.marked.items ≡ false = subst (λ p. stands_on k p.marked ≡ false) (sym c.self.view_is) c.requires.unmarked in
     let has : IsTrue (has_key member_key k (map member_of t.entries.items)) = has_key-members k t.entries.items ∙ there in
     let fewer = fewer-marked (members (shard_in t)) t.marked.items k (members-rising t.entries.items kept.tidy.once) has unmarked marked in
-    omega (arith, fewer, kept.marked_room, length-map t.entries.items member_of, t.marked.ok.0)
+    omega (arith, fewer, kept.marked_room, length-map t.entries.items member_of)
 
 pub invariant_of-self : goal.invariant_of-self
 invariant_of-self c =
@@ -32,10 +32,9 @@ invariant_of-self c =
       tidy = IsTidy-same (shard_in c.self.inside) _ refl refl kept.tidy;
       members = kept.members;
       room = kept.room;
-      marked_room = omega (arith, kept.marked_room, c.add_key.ensures.capacity);
+      few = kept.few;
+      marked_room = omega (arith, kept.marked_room, ap length c.add.ensures.items, length-with_item (λ (k : Key). k) c.args.key c.self.inside.marked.items, c.add.ensures.spare);
       passed_room = kept.passed_room;
       picked_room = kept.picked_room;
-      passed_rising = kept.passed_rising;
-      marked_rising = rw c.add_key.ensures.items (IsRising-with_item (λ k. k) c.args.key c.self.inside.marked.items kept.marked_rising (has_key-stands c.args.key c.self.inside.marked.items ∙ unmarked));
       bytes = kept.bytes;
     }

@@ -15,10 +15,9 @@ invariant_of-self c =
       tidy = IsTidy-same (shard_in c.self.inside) _ refl refl kept.tidy;
       members = kept.members;
       room = kept.room;
+      few = kept.few;
       marked_room = kept.marked_room;
-      passed_room = omega (arith, kept.passed_room, c.add_key.ensures.len, c.add_key.ensures.capacity, room);
+      passed_room = omega (arith, kept.passed_room, c.add.ensures.spare, room);
       picked_room = omega (arith, kept.picked_room);
-      passed_rising = rw c.add_key.ensures.items (IsRising-with_item (λ k. k) c.args.key c.self.inside.passed.items kept.passed_rising (has_key-stands c.args.key c.self.inside.passed.items ∙ unpassed));
-      marked_rising = kept.marked_rising;
       bytes = kept.bytes;
     }

@@ -29,10 +29,9 @@ invariant_of-self c =
       members = ap (λ l. l.members) c.put.ensures ∙ rw (c.take_out.ensures, kept.members, c.write.ensures.items)
           (members-placed c.args.entry c.self.inside.entries.items (members-rising c.self.inside.entries.items kept.tidy.once) there);
       room = omega (arith, kept.room, c.write.ensures.spare, spare, taken);
+      few = omega (arith, kept.few, ap length c.write.ensures.items, length-with_change entry_key c.args.entry.key (λ old. c.args.entry) c.self.inside.entries.items, spare, taken);
       marked_room = omega (arith, kept.marked_room, ap length c.write.ensures.items, length-with_change entry_key c.args.entry.key (λ old. c.args.entry) c.self.inside.entries.items, spare, taken);
       passed_room = kept.passed_room;
       picked_room = kept.picked_room;
-      passed_rising = kept.passed_rising;
-      marked_rising = kept.marked_rising;
       bytes = kept.bytes;
     }

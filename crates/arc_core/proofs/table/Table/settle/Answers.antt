@@ -10,10 +10,9 @@ invariant_of-self c =
       tidy = IsTidy-same (shard_in c.self.inside) _ refl refl kept.tidy;
       members = kept.members;
       room = kept.room;
+      few = kept.few;
       marked_room = kept.marked_room;
       passed_room = kept.passed_room;
-      picked_room = omega (arith, kept.picked_room, c.take_pick.ensures.len, c.take_pick.ensures.capacity);
-      passed_rising = kept.passed_rising;
-      marked_rising = kept.marked_rising;
-      bytes = omega (arith, kept.bytes, c.take_pick.ensures.bytes);
+      picked_room = omega (arith, kept.picked_room, c.take.ensures.spare);
+      bytes = omega (arith, kept.bytes, c.take.ensures.bytes);
     }

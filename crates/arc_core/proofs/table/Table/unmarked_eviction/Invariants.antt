@@ -1,15 +1,13 @@
-use Rattle.std.proofs.Common.{ℕ, ◌≤◌, length}
-use Rattle.arc_core.specs.Cursor.{IsScanOf}
-use Rattle.arc_core.specs.PlainShard.{PlainShard}
-use Rattle.arc_core.proofs.CursorRuns.{EvictsOn, left_of}
+use Rattle.std.proofs.Common.{List}
+use Rattle.blk_ptr.specs.declared.key.Key.{Key}
+use Rattle.blk_ptr.specs.declared.state.State.{State}
+use Rattle.arc_core.specs.Search.{AtRoom}
+use Rattle.arc_core.proofs.CursorRuns.{left_of}
 use Rattle.arc_core.proofs.table.Table.unmarked_eviction.Given as goal
 
--- the turns that are left decide
+-- the search stands further on
 abbrev pub invariant-loop-key : goal.invariant-loop-key
-invariant-loop-key l = record {
-  some : (t : PlainShard) × IsScanOf l.fn.about l.self.shard l.scan t;
-  each : (t : PlainShard) (n : ℕ) → IsScanOf l.fn.about l.self.shard l.fn.scan t → length t.entries ≤ n → EvictsOn l.fn.about l.self.shard l.self.marked l.fn.z n t l.scan;
-}
+invariant-loop-key l = (comes : State) (vs : List Key) → AtRoom l.fn.about l.self.shard l.self.marked l.fn.z comes vs l.fn.scan → AtRoom l.fn.about l.self.shard l.self.marked l.fn.z comes vs l.scan
 
 abbrev pub decreases-loop-key : goal.decreases-loop-key
 decreases-loop-key l = left_of l.fn.about l.self.shard l.scan

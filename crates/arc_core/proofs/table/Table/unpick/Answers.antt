@@ -1,4 +1,4 @@
-use Rattle.std.proofs.Common.{refl, arith}
+use Rattle.std.proofs.Common.{length, refl, ap, arith}
 use Rattle.arc_core.specs.TableModel.{shard_in}
 use Rattle.arc_core.proofs.Tables.{IsTidy-same}
 use Rattle.arc_core.proofs.table.Table.unpick.Goals as goal
@@ -10,10 +10,9 @@ invariant_of-self c =
       tidy = IsTidy-same (shard_in c.self.inside) _ refl refl kept.tidy;
       members = kept.members;
       room = kept.room;
-      marked_room = omega (arith, kept.marked_room, c.clear-2.ensures.len, c.clear-2.ensures.capacity);
-      passed_room = omega (arith, kept.passed_room, c.clear.ensures.len, c.clear.ensures.capacity);
-      picked_room = omega (arith, kept.picked_room, c.clear-3.ensures.len, c.clear-3.ensures.capacity);
-      passed_rising = rw c.clear.ensures.items tt;
-      marked_rising = rw c.clear-2.ensures.items tt;
+      few = kept.few;
+      marked_room = omega (arith, kept.marked_room, ap length c.clear-2.ensures.items, c.clear-2.ensures.spare);
+      passed_room = omega (arith, kept.passed_room, c.clear.ensures.spare);
+      picked_room = omega (arith, kept.picked_room, c.clear-3.ensures.spare);
       bytes = rw c.clear-3.ensures.items refl;
     }

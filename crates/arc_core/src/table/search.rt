@@ -1,0 +1,206 @@
+//! The victims of an event, found one after another: what is found is marked, and the search goes on from where it stands.
+ghost use Rattle.std.specs.Prelude.{◌≡◌, ℕ, ◌+◌, ◌-◌, ◌<◌, ◌^◌, false, true, IsTrue, List};
+ghost use Rattle.blk_ptr.specs.declared.key.Key.{Key};
+ghost use Rattle.blk_ptr.specs.declared.state.State.{State};
+ghost use Rattle.arc_core.specs.Cursor.{IsScanOf, scan_at, size_by, with_size};
+ghost use Rattle.arc_core.specs.Search.{AtRoom, AtTrim, IsFound, IsRoomSearched, IsTrimSearched, Stands, entered};
+ghost use Rattle.arc_core.specs.Sparing.{fitting_victims, victims_of_entry};
+ghost use Rattle.arc_lists.specs.Adapting.{IsCapacity};
+ghost use Rattle.arc_core.specs.Changes.{gone};
+ghost use Rattle.arc_core.specs.Edits.{is_off};
+ghost use Rattle.arc_core.specs.Rules.{resized};
+ghost use Rattle.arc_core.specs.Sound.{IsSoundEntry};
+
+use super::Table;
+use super::scan::{Scan, add_size, take_size};
+use crate::entry::Entry;
+use blk_ptr::{Key, State};
+
+/// How far the search for an event's victims has come.
+#[derive(Clone, Copy, Debug, Drop)]
+pub struct Search {
+    /// The event's own key.
+    pub about: Option<Key>,
+    /// For how many bytes there is to be room.
+    pub z: u64,
+    /// The state in which so many bytes come in then; L2-only where none do.
+    pub comes: State,
+    /// Whether room is made, so that ghosts are dropped now.
+    pub trims: bool,
+    pub scan: Scan,
+}
+
+// The search behind all that room evicts: what comes in has come.
+fn enter(about: Option<Key>, z: u64, comes: State, scan: Scan) -> Search
+    requires { size_by comes scan + z < 2 ^ 128 }
+    ensures { result ≡ entered about z comes scan }
+{
+    let mut scan = scan;
+    add_size(&mut scan, comes, z);
+    Search {
+        about,
+        z,
+        comes,
+        trims: true,
+        scan,
+    }
+}
+
+impl Table {
+    // Goes on with room for `z` bytes as far as the keys that it evicts are marked.
+    fn unmarked_eviction(&self, about: Option<Key>, z: u64, scan: Scan) -> (Scan, Option<Key>)
+        requires { (comes : State) × (vs : List Key) × AtRoom about self.now.shard self.now.marked z comes vs scan }
+        ensures { (comes : State) (vs : List Key) → AtRoom about self.now.shard self.now.marked z comes vs scan
+            → IsRoomSearched about self.now.shard self.now.marked z comes vs result.0 result.1 }
+    {
+        let _lists = &self.lists;
+        let mut scan = scan;
+        while let Some(key) = scan.next_evicted(z) {
+            if !self.is_marked(key) {
+                return (scan, Some(key));
+            }
+            scan = self.scan_evicted(about, scan, key);
+        }
+        (scan, None)
+    }
+
+    // Goes on with trim as far as the ghosts that it drops are marked.
+    fn unmarked_drop(&self, about: Option<Key>, scan: Scan) -> (Scan, Option<Key>)
+        requires { (vs : List Key) × AtTrim about self.now.shard self.now.marked vs scan }
+        ensures { (vs : List Key) → AtTrim about self.now.shard self.now.marked vs scan
+            → IsTrimSearched about self.now.shard self.now.marked vs result.0 result.1 }
+    {
+        let _lists = &self.lists;
+        let mut scan = scan;
+        while let Some(key) = scan.next_dropped() {
+            if !self.is_marked(key) {
+                return (scan, Some(key));
+            }
+            scan = self.scan_dropped(about, scan, key);
+        }
+        (scan, None)
+    }
+
+    // Goes on with room; where it is made, the search goes over to trim.
+    fn search_room(&self, search: Search) -> (Search, Option<Key>)
+        requires room { search.trims ≡ false }
+        requires stands { (vs : List Key) × Stands self.now.shard self.now.marked vs search }
+        ensures { (vs : List Key) → Stands self.now.shard self.now.marked vs search → IsFound self.now.shard self.now.marked vs false result.0 result.1 }
+    {
+        let _lists = &self.lists;
+        let (about, z, comes) = (search.about, search.z, search.comes);
+        let (scan, found) = self.unmarked_eviction(about, z, search.scan);
+        match found {
+            Some(key) => {
+                let on = Search {
+                    about,
+                    z,
+                    comes,
+                    trims: false,
+                    scan,
+                };
+                (on, Some(key))
+            }
+            None => (enter(about, z, comes, scan), None),
+        }
+    }
+
+    // Goes on with trim.
+    fn search_trim(&self, search: Search) -> (Search, Option<Key>)
+        requires trim { search.trims ≡ true }
+        requires stands { (vs : List Key) × Stands self.now.shard self.now.marked vs search }
+        ensures { (vs : List Key) → Stands self.now.shard self.now.marked vs search → IsFound self.now.shard self.now.marked vs true result.0 result.1 }
+    {
+        let (about, z, comes) = (search.about, search.z, search.comes);
+        let (scan, found) = self.unmarked_drop(about, search.scan);
+        let on = Search {
+            about,
+            z,
+            comes,
+            trims: true,
+            scan,
+        };
+        (on, found)
+    }
+
+    /// Goes on with a search as far as its victims are marked, and answers the first that isn't.
+    pub fn search_on(&self, search: Search) -> (Search, Option<Key>)
+        requires { (vs : List Key) × Stands self.now.shard self.now.marked vs search }
+        ensures { (vs : List Key) → Stands self.now.shard self.now.marked vs search → IsFound self.now.shard self.now.marked vs true result.0 result.1 }
+    {
+        if search.trims {
+            return self.search_trim(search);
+        }
+        let (on, found) = self.search_room(search);
+        match found {
+            Some(key) => (on, Some(key)),
+            None => self.search_trim(on),
+        }
+    }
+
+    // The scan of the table without a key, with this target.
+    fn scan_without(&self, key: Key, p: u64) -> Scan
+        ensures { IsScanOf (Some key) self.now.shard result (record (gone key self.now.shard) { p = p }) }
+    {
+        let _entries = &self.entries;
+        let mut scan = self.scan_but(Some(key), self.c(), p);
+        if let Some(entry) = self.find(key) {
+            take_size(&mut scan, entry.state, key.size);
+        }
+        scan
+    }
+
+    // The scan of the table where nothing is evicted or dropped yet.
+    fn scan_but(&self, about: Option<Key>, c: u64, p: u64) -> Scan
+        ensures { result ≡ scan_at about c p self.now.shard }
+    {
+        Scan {
+            mru: self.kind(about, State::Mru, State::MruGhost),
+            mfu: self.kind(about, State::Mfu, State::MfuGhost),
+            anon: self.size(State::Anon),
+            c,
+            p,
+        }
+    }
+
+    /// The search for what is evicted and dropped as an entry comes in with this target, from its start.
+    pub fn search_of_entry(&self, entry: &Entry, p: u64) -> Search
+        requires off { IsTrue (is_off entry.now) }
+        requires sound { IsSoundEntry entry.now }
+        ensures { Stands self.now.shard self.now.marked (victims_of_entry entry.now (record self.now.shard { p = p })) result }
+    {
+        let _lists = &self.lists;
+        let (key, comes) = (entry.key, entry.state);
+        Search {
+            about: Some(key),
+            z: key.size,
+            comes,
+            trims: false,
+            scan: self.scan_without(key, p),
+        }
+    }
+
+    // The scan of the table with another capacity.
+    fn scan_resized(&self, c: u64) -> Scan
+        requires { IsCapacity c }
+        ensures { IsScanOf None self.now.shard result (resized c self.now.shard) }
+    {
+        let _entries = &self.entries;
+        let p = self.p().max(c / 16).min(c - c / 16);
+        self.scan_but(None, c, p)
+    }
+
+    /// The search for what is evicted and dropped as the capacity becomes `c`, from its start.
+    pub fn search_of_capacity(&self, c: u64) -> Search
+        requires { IsCapacity c }
+        ensures { Stands self.now.shard self.now.marked (fitting_victims (resized c self.now.shard)) result }
+    {
+        Search {
+            about: None,
+            z: 0,
+            comes: State::L2Only,
+            trims: false,
+            scan: self.scan_resized(c),
+        }
+    }
+}
