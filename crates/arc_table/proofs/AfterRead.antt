@@ -70,16 +70,17 @@ module _ {C P : Type 0} (m : Meanings C) (g : Config) (valid : IsConfig g) (pool
   goes_stays ptr old new p q result same (read e) = at_pool_stays ptr old new p q result same e
   goes_stays ptr old new p q result same (unread e) = does_stays m g valid ptr.key _ p q same e.does
 
-module _ {C P D : Type 0} (m : Meanings C) (g : Config) (valid : IsConfig g) (pools : PoolGhosts P) (devices : DeviceGhosts D) where
+module _ {C D : Type 0} (m : Meanings C) (g : Config) (valid : IsConfig g) (devices : DeviceGhosts D) where
   pub turns_stays : (ptr : Ptr) (found : Option EntryView) (old new : D) (p q : Place (Known C)) → p.own.about.config ≡ g → TurnsToPool m devices g ptr found old new p q → Stays p q
   turns_stays ptr found old new p q same (unserved why is) = stays_same p q is
   turns_stays ptr found old new p q same (cleared c) = does_stays m g valid ptr.key _ p q same c.does
 
+module _ {C P D : Type 0} (m : Meanings C) (g : Config) (valid : IsConfig g) (pools : PoolGhosts P) (devices : DeviceGhosts D) where
   pub ends_stays : (ptr : Ptr) (found : Option EntryView) (before now : Outside P D) (p q : Place (Known C)) (result : Result Read ReadFault) → p.own.about.config ≡ g → EndsMiss m pools devices g ptr found before now p q result → Stays p q
   ends_stays ptr found before now p q result same (from_device hold is e) = does_stays m g valid ptr.key _ p q same e.does
   ends_stays ptr found before now p q result same (from_none e) = does_stays m g valid ptr.key _ p q same e.does
   ends_stays ptr found before now p q result same (from_pool back turns e) =
-      let s = turns_stays ptr found before.device now.device p back same turns in
+      let s = turns_stays m g valid devices ptr found before.device now.device p back same turns in
       stays_then p back q s (goes_stays m g valid pools ptr before.pool now.pool back q result (stays_config g p back s same) e)
 
   pub answers_stays : (ptr : Ptr) (t : ℕ) (before now : Outside P D) (p q : Place (Known C)) (result : Result Read ReadFault) → p.own.about.config ≡ g → Answers m pools devices g ptr t before now p q result → Stays p q

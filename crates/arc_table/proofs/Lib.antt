@@ -45,3 +45,5 @@ pub mod PickSteps
 pub mod FeedEnds
 pub mod CapacityEvents
 pub mod Holders
+pub mod Placed
+pub mod Readers
