@@ -49,7 +49,7 @@ module _ {C P : Type 0} (m : Meanings C) (pools : PoolGhosts P) (g : Config) (pt
   pub fails_so : (old new : P) (p q : Place (Known C)) (why : Unfetched) → Unread pools ptr old new why → Does m g ptr.key (Fail p.number ptr.key (failed_at why) ∷ []) p q
       → GoesToPool m pools g ptr old new p q (Err (fault_of why))
   fails_so old new p q (unfetched.PoolFault) u does = read (does, record { keeps = u.keeps; reads = u.counted; faults = u.fault })
-  fails_so old new p q (unfetched.Mismatch found) u does = read (does, record { call = record { keeps = u.keeps; reads = u.counted; faults = u.fault }; other = u.fails.0; told = u.fails.1 })
+  fails_so old new p q (unfetched.Mismatch found) u does = read (does, record { call = record { keeps = u.keeps; reads = u.counted; faults = u.fault }; bytes = u.fails.1; other = u.fails.0; told = u.fails.2 })
   fails_so old new p q (unfetched.NoMemory failed.Pool) u does = read (does, record { keeps = u.keeps; reads = u.counted; faults = u.fault })
   fails_so old new p q (unfetched.NoMemory failed.Unread) u does = unread record { answer = refl; none = u.none tt; does = does }
 

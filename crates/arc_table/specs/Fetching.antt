@@ -1,5 +1,5 @@
 -- Where the bytes of a block come from, with no turn held.
-use Rattle.std.specs.Prelude.{◌≡◌, ◌≢◌, ℕ, ◌+◌, ◌<◌, ◌≤◌, IfSome, List, take, drop, Option, Some, None, MatchOption, Result, Ok, Err}
+use Rattle.std.specs.Prelude.{◌≡◌, ◌≢◌, ℕ, ◌+◌, ◌<◌, ◌≤◌, IfSome, List, length, take, drop, Option, Some, None, MatchOption, Result, Ok, Err}
 use Rattle.blk_ptr.specs.declared.key.Key.{Key}
 use Rattle.blk_ptr.specs.declared.ptr.Ptr.{Ptr}
 use Rattle.blk_ptr.specs.declared.digest.Digest.{Digest}
@@ -17,11 +17,17 @@ use Rattle.arc_table.specs.declared.fetch.Unfetched.TheVariants as unfetched
 abbrev pub bytes_from : List ℕ → (place : ℕ) → Key → List ℕ
 bytes_from image place key = take key.size (drop place image)
 
+-- Bytes were read, as many as the key's block has, and this is their digest.
+pub record IsFound (key : Key) (found : Digest) : Type 0 where
+  pub bytes : List ℕ
+  pub size : length bytes ≡ key.size
+  pub digest : found ≡ sha256_of bytes
+
 -- The pool gave no bytes of the pointer: it failed, by its count of faults before and now; or it gave bytes of another digest, which are
 -- those that it tells
 abbrev pub FailsPool : (before now : ℕ) → Option (List ℕ) → Ptr → Unfetched → Type 0
 FailsPool before now told ptr (unfetched.PoolFault) = Rose before now
-FailsPool before now told ptr (unfetched.Mismatch found) = (found ≢ ptr.digest) × IfSome told (λ image. found ≡ sha256_of (range_of image ptr.key))
+FailsPool before now told ptr (unfetched.Mismatch found) = (found ≢ ptr.digest) × IsFound ptr.key found × IfSome told (λ image. found ≡ sha256_of (range_of image ptr.key))
 FailsPool before now told ptr (unfetched.NoMemory at) = Unit {0}
 
 -- the pool was read, by its count of reads before and now, unless memory was refused first

@@ -37,7 +37,7 @@ use Rattle.arc_table.specs.declared.view.Known.{Known}
 use Rattle.arc_table.specs.Arriving.{FindsCleared}
 use Rattle.arc_table.specs.Both.{Does}
 use Rattle.arc_table.specs.Ending.{DoesRoomy}
-use Rattle.arc_table.specs.Fetching.{CameFromCache, ReadsPool}
+use Rattle.arc_table.specs.Fetching.{CameFromCache, IsFound, ReadsPool}
 use Rattle.arc_table.specs.Holding.{IsHeld, IsHoldOf}
 use Rattle.arc_table.specs.Items.{Meanings}
 use Rattle.arc_table.specs.PoolCalls.{Failed, Gave, KeepsPool, MakesCall}
@@ -96,6 +96,7 @@ module _ {P : Type 0} (pools : PoolGhosts P) where
   -- key's range
   pub record GivesOthers (ptr : Ptr) (old new : P) (found : Digest) : Type 0 where
     pub call : MakesCall pools Gave old new
+    pub bytes : IsFound ptr.key found
     pub other : found ≢ ptr.digest
     pub told : IfSome (pools.told old) (λ image. found ≡ sha256_of (range_of image ptr.key))
 
