@@ -25,7 +25,7 @@ use Rattle.trace_run.specs.Answers.{Answers, AnswersAll, AnswersRead, is_pool_fa
 use Rattle.trace_run.specs.Ends.{opening_of}
 use Rattle.trace_run.specs.Outcome.{generated}
 use Rattle.trace_run.specs.PlainRun.{report_of, report_with}
-use Rattle.trace_run.specs.PoolCalls.{Failed, Gave, MakesCalls, PoolCall}
+use Rattle.arc_table.specs.PoolCalls.{Failed, Gave, MakesCalls, PoolCall}
 use Rattle.trace_run.proofs.PlainLemmas.{AllGive, plain-gives}
 
 -- ---- lists by their places

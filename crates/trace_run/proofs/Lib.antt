@@ -1,3 +1,4 @@
+pub mod AccessLemmas
 pub mod AnswerLemmas
 pub mod BlockLemmas
 pub mod CacheLemmas
@@ -6,6 +7,7 @@ pub mod CloseLemmas
 pub mod DropLemmas
 pub mod EachLemmas
 pub mod GenLemmas
+pub mod GetLemmas
 pub mod GiveLemmas
 pub mod HoldLemmas
 pub mod KeptBlockLemmas
@@ -17,11 +19,14 @@ pub mod OverShardLemmas
 pub mod OwnLemmas
 pub mod PlacedLemmas
 pub mod PlainLemmas
+pub mod ReadLemmas
 pub mod ReadMoments
+pub mod ReadStands
 pub mod ReportLemmas
 pub mod RestLemmas
 pub mod RoomyLemmas
 pub mod RunLemmas
+pub mod ScanAlone
 pub mod SeenLemmas
 pub mod ServeLemmas
 pub mod StreamLemmas

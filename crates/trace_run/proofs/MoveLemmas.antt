@@ -6,6 +6,7 @@ use Rattle.arc_core.specs.Config.{IsConfig}
 use Rattle.arc_core.specs.declared.config.Config.{Config}
 use Rattle.arc_core.specs.declared.event.Event.{Event}
 use Rattle.arc_core.specs.Operations.{Moment, goes_on, is_pass, moments, number_of, own_moments}
+use Rattle.arc_core.specs.Replay.{replay}
 use Rattle.arc_core.specs.ShardLog.{ShardLog}
 use Rattle.turn_table.specs.Places.{Place}
 use Rattle.arc_table.specs.declared.view.Known.{Known}
@@ -15,7 +16,8 @@ use Rattle.arc_table.specs.Items.{Meanings}
 use Rattle.trace_run.specs.Ends.{opening_of}
 use Rattle.trace_run.specs.Seen.{AddsAll, AddsOwn, AreOwn, HasAll, HasSeenItsOwn, Made, seen_of}
 use Rattle.trace_run.proofs.MadeLemmas.{does-made}
-use Rattle.trace_run.proofs.OwnLemmas.{made-all, made-alone, made-own, made-sees}
+use Rattle.trace_run.proofs.OwnLemmas.{made-all, made-alone, made-now, made-own, made-sees}
+use Rattle.trace_run.proofs.ReadMoments.{moment, own-one, own-single}
 use Rattle.trace_run.proofs.RoomyLemmas.{roomy-made}
 use Rattle.trace_run.proofs.ToldLemmas.{adds-all-then, adds-own-then}
 
@@ -62,3 +64,15 @@ module _ {C : Type 0} (m : Meanings C) (g : Config) (valid : IsConfig g) (k : Ke
   pub roomy-moves : (e : Event) → (number_of e ≡ p.number) × (is_pass e ≡ false) × IsTrue (goes_on p.number e) → (d : DoesRoomy m g k e p q)
       → Moves g (shard_of g.shards k) (own_moments p.number (moments d.before.now (d.makes.passes ++ e ∷ []))) (d.makes.passes ++ e ∷ []) p q
   roomy-moves e fits d = made-moves g (shard_of g.shards k) d.before (d.makes.passes ++ e ∷ []) p q config seen (roomy-made m g valid k e p q config seen fits d)
+
+  -- what a party finds that has every number
+  pub does-now : (es : List Event) → AreOwn p.number es → (d : Does m g k es p q) → HasAll p → d.before.now ≡ replay (opening_of g) (seen_of g (shard_of g.shards k) p)
+  does-now es mine d = made-now g (shard_of g.shards k) d.before es p q (does-made m g valid k es p q config seen mine d)
+
+  pub roomy-now : (e : Event) → (number_of e ≡ p.number) × (is_pass e ≡ false) × IsTrue (goes_on p.number e) → (d : DoesRoomy m g k e p q) → HasAll p
+      → d.before.now ≡ replay (opening_of g) (seen_of g (shard_of g.shards k) p)
+  roomy-now e fits d = made-now g (shard_of g.shards k) d.before (d.makes.passes ++ e ∷ []) p q (roomy-made m g valid k e p q config seen fits d)
+
+  -- one event that is no pass
+  pub one-moves : (e : Event) → number_of e ≡ p.number → is_pass e ≡ false → (d : Does m g k (e ∷ []) p q) → Moves g (shard_of g.shards k) (moment d.before.now e ∷ []) (e ∷ []) p q
+  one-moves e his none d = subst (λ (ms : List Moment). Moves g (shard_of g.shards k) ms (e ∷ []) p q) (own-one p.number d.before.now e his none) (does-moves (e ∷ []) (own-single p.number e his none) d)

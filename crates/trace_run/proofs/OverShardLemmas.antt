@@ -22,7 +22,7 @@ use Rattle.trace_run.specs.OverShards.{AllLinesOver, events_over, kept_in_shard,
 use Rattle.trace_run.specs.PlainCache.{kept_read}
 use Rattle.trace_run.specs.PlainLines.{IsPlainLine}
 use Rattle.trace_run.specs.PlainRun.{next_call, replies_to, reply_to, shards_after}
-use Rattle.trace_run.specs.PoolCalls.{PoolCall}
+use Rattle.arc_table.specs.PoolCalls.{PoolCall}
 use Rattle.trace_run.proofs.PlainLemmas.{drop-front, next-is}
 
 -- ---- the kept reads of one shard

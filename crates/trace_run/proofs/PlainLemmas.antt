@@ -31,7 +31,7 @@ use Rattle.trace_run.specs.Lines.{shard_of_line}
 use Rattle.trace_run.specs.OneCaller.{AllLines, IsFoundAs, NamesSource, events_of, kept_after, oldest_kept}
 use Rattle.trace_run.specs.PlainLines.{IsNext, IsPlainLine}
 use Rattle.trace_run.specs.PlainRun.{key_fault, next_call, refused_access, replies_to, reply_to, reply_to_drop, reply_to_hold, reply_to_read, shards_after}
-use Rattle.trace_run.specs.PoolCalls.{Failed, Gave, PoolCall}
+use Rattle.arc_table.specs.PoolCalls.{Failed, Gave, PoolCall}
 use Rattle.trace_run.specs.Tally.{AnswersNow, kept_of_block}
 use Rattle.trace_run.proofs.CacheLemmas.{digest_eq-is}
 use Rattle.trace_run.proofs.DropLemmas.{absent-counted, found-counted}

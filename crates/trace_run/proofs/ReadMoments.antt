@@ -13,7 +13,7 @@ use Rattle.arc_core.specs.Step.{after}
 use Rattle.arc_table.specs.Scanning.{ArePasses}
 use Rattle.trace_run.specs.Seen.{AreOwn}
 
-abbrev moment : PlainShard → Event → Moment
+abbrev pub moment : PlainShard → Event → Moment
 moment s e = record { before = s; event = e }
 
 -- an event of one's own that is no pass

@@ -37,7 +37,7 @@ use Rattle.trace_run.specs.Outcome.{IsRun}
 use Rattle.trace_run.specs.PlainCache.{MakesAll, PlainCache}
 use Rattle.trace_run.specs.PlainLines.{IsPlainLine}
 use Rattle.trace_run.specs.PlainRun.{replies_to, report_of, report_with, status_of}
-use Rattle.trace_run.specs.PoolCalls.{MakesCalls}
+use Rattle.arc_table.specs.PoolCalls.{MakesCalls}
 use Rattle.trace_run.specs.Tally.{IsOfCaller}
 use Rattle.trace_run.proofs.PlainLemmas.{plain-all}
 use Rattle.trace_run.proofs.RunLemmas.{calls-faults, calls-few, calls-reads, failed-all, pool_reads-append, reads-drop}

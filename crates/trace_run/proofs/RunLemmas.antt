@@ -31,7 +31,7 @@ use Rattle.trace_run.specs.Effects.{Effect, Answered, GivenBack, PoolRefused, No
 use Rattle.trace_run.specs.OneCaller.{AllLines, AreFoundAs, IsFoundAs, NamesSource, events_of, events_of_all, events_of_dropping, events_of_hold, events_of_read, kept_after, kept_after_all, oldest_key}
 use Rattle.trace_run.specs.PlainCache.{MakesAll, PlainCache}
 use Rattle.trace_run.specs.PlainLines.{IsPlainLine}
-use Rattle.trace_run.specs.PoolCalls.{CountsCall, Failed, Gave, KeepsPool, MakesCalls, PoolCall, is_failed}
+use Rattle.arc_table.specs.PoolCalls.{CountsCall, Failed, Gave, KeepsPool, MakesCalls, PoolCall, is_failed}
 use Rattle.trace_run.specs.Tally.{AnswersNow, kept_of_block}
 use Rattle.trace_run.proofs.PlainLemmas.{plain-line}
 

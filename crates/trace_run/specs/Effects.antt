@@ -6,7 +6,7 @@ use Rattle.trace_text.specs.declared.reply.Refusal.{Refusal}
 use Rattle.trace_text.specs.declared.reply.Refusal.TheVariants as refusals
 use Rattle.trace_text.specs.declared.reply.Reply.{Reply}
 use Rattle.trace_text.specs.declared.reply.Reply.TheVariants as replies
-use Rattle.trace_run.specs.PoolCalls.{PoolCall, Gave, Failed}
+use Rattle.arc_table.specs.PoolCalls.{PoolCall, Gave, Failed}
 
 pub data Effect : Type 0 where
   -- the read was answered, and its bytes came from here

@@ -17,7 +17,7 @@ use Rattle.trace_run.specs.Ends.{ends_of, opening_of}
 use Rattle.trace_run.specs.Lines.{is_in_shard, replies_where}
 use Rattle.trace_run.specs.OneCaller.{AreFoundAs, one_caller_histories}
 use Rattle.trace_run.specs.PlainRun.{report_of}
-use Rattle.trace_run.specs.PoolCalls.{MakesCalls, PoolCall}
+use Rattle.arc_table.specs.PoolCalls.{MakesCalls, PoolCall}
 
 -- The histories explain the replies, for any number of callers and shards.
 pub record Explain (trace : Trace) (replies : List Reply) (shard_ends : List ShardEnd) (histories : List (List Event)) : Type 0 where

@@ -15,9 +15,9 @@ pub mod OverShards
 pub mod PlainCache
 pub mod PlainLines
 pub mod PlainRun
-pub mod PoolCalls
 pub mod Read
 pub mod ReadFault
+pub mod Reads
 pub mod Seen
 pub mod Serving
 pub mod States

@@ -7,7 +7,7 @@ use Rattle.trace_text.specs.declared.reply.Reply.{Reply}
 use Rattle.trace_run.specs.declared.access.KeptRead.{KeptRead}
 use Rattle.trace_run.specs.Effects.{calls_of, effect_of}
 use Rattle.trace_run.specs.PlainRun.{reply_to}
-use Rattle.trace_run.specs.PoolCalls.{PoolCall}
+use Rattle.arc_table.specs.PoolCalls.{PoolCall}
 
 -- the first of these calls, where there is one
 abbrev pub IsNext : List PoolCall → PoolCall → Type 0

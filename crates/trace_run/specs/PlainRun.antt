@@ -31,7 +31,7 @@ use Rattle.trace_run.specs.Effects.{calls_of, effect_of}
 use Rattle.trace_run.specs.Ends.{ends_of, opening_of}
 use Rattle.trace_run.specs.Lines.{shard_of_line}
 use Rattle.trace_run.specs.OneCaller.{events_of, kept_after, oldest_kept, one_caller_histories}
-use Rattle.trace_run.specs.PoolCalls.{PoolCall, Gave, Failed}
+use Rattle.arc_table.specs.PoolCalls.{PoolCall, Gave, Failed}
 
 -- ---- the reply to one operation
 

@@ -6,7 +6,7 @@ use Rattle.trace_text.specs.declared.reply.Refusal.{Refusal}
 use Rattle.trace_text.specs.declared.reply.Refusal.TheVariants as refusals
 use Rattle.trace_run.specs.declared.read.ReadFault.{ReadFault}
 use Rattle.trace_run.specs.declared.read.ReadFault.TheVariants.{PoolFault, Mismatch, Key, NoMemory}
-use Rattle.trace_run.specs.PoolCalls.{PoolCall, Gave, Failed}
+use Rattle.arc_table.specs.PoolCalls.{PoolCall, Gave, Failed}
 use Rattle.trace_run.specs.Read.{IsMismatch}
 
 -- what each refusal of a read says; want of memory says nothing

@@ -12,7 +12,7 @@ use Rattle.trace_run.specs.Access.{AsksPool, access_of, events_of_answered, even
 use Rattle.trace_run.specs.Answers.{window_of}
 use Rattle.trace_run.specs.Effects.{calls_from}
 use Rattle.trace_run.specs.PlainCache.{MakesAll, PlainCache, kept_read}
-use Rattle.trace_run.specs.PoolCalls.{MakesCalls, Gave, Failed}
+use Rattle.arc_table.specs.PoolCalls.{MakesCalls, Gave, Failed}
 use Rattle.trace_run.specs.Read.{IsReadOf}
 
 -- the window of bytes that are of the pointer

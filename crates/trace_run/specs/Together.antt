@@ -11,7 +11,7 @@ use Rattle.vdev_io.specs.declared.pool.Pool.{Ghosts}
 use Rattle.trace_run.specs.Effects.{calls_of_all}
 use Rattle.trace_run.specs.Ends.{end_of}
 use Rattle.trace_run.specs.Lines.{is_of_caller, replies_where}
-use Rattle.trace_run.specs.PoolCalls.{MakesCalls}
+use Rattle.arc_table.specs.PoolCalls.{MakesCalls}
 
 -- The report tells what the closed cache had: the history of each shard, and what the shard ends with.
 pub record TellsClosed {C : Type 0} (closed : Ended C) (report : Report) : Type 0 where

@@ -10,7 +10,7 @@ ghost use Rattle.trace_run.specs.Lines.{caller_of};
 ghost use Rattle.trace_run.specs.OneCaller.{AllLines, AreFoundAs, NamesSource, events_of_all, events_of_dropping, events_of_hold, events_of_read, kept_after_all, kept_after_drop, kept_after_hold};
 ghost use Rattle.trace_run.specs.PlainCache.{MakesAll};
 ghost use Rattle.trace_run.specs.PlainLines.{IsPlainLine};
-ghost use Rattle.trace_run.specs.PoolCalls.{KeepsPool, MakesCalls};
+ghost use Rattle.arc_table.specs.PoolCalls.{KeepsPool, MakesCalls};
 ghost use Rattle.trace_run.specs.ReadFault.{IsRefusalOf};
 ghost use Rattle.trace_text.specs.Grammar.{block_of};
 ghost use Rattle.trace_run.specs.Tally.{AnswersNow, IsOfCaller, kept_of_block};

@@ -5,6 +5,7 @@ mod access;
 mod answer;
 mod block_map;
 mod caller_cache;
+mod get;
 mod kept_blocks;
 mod paper;
 mod read;

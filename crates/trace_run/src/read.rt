@@ -2,7 +2,7 @@
 ghost use Rattle.std.specs.Prelude.{◌≡◌, ◌⊎◌, vec_len, IfOk, IfErr, IfSome};
 ghost use Rattle.blk_ptr.specs.Key.{IsValid};
 ghost use Rattle.blk_ptr.specs.Ptr.{range_of};
-ghost use Rattle.trace_run.specs.PoolCalls.{KeepsPool, MakesCalls};
+ghost use Rattle.arc_table.specs.PoolCalls.{KeepsPool, MakesCalls};
 ghost use Rattle.trace_run.specs.Read.{IsReadOf};
 ghost use Rattle.trace_run.specs.ReadFault.{IsCause, IsPastKey, calls_for_block};
 

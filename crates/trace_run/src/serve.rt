@@ -4,7 +4,7 @@ ghost use Rattle.blk_ptr.specs.Key.{IsValid};
 ghost use Rattle.trace_run.specs.Access.{access_of};
 ghost use Rattle.trace_run.specs.Answers.{IsInside, window_of};
 ghost use Rattle.trace_run.specs.Blocks.{AreOfImage};
-ghost use Rattle.trace_run.specs.PoolCalls.{KeepsPool};
+ghost use Rattle.arc_table.specs.PoolCalls.{KeepsPool};
 ghost use Rattle.trace_run.specs.ReadFault.{IsCause};
 ghost use Rattle.trace_run.specs.Serving.{CallsForRead, IsGiven, MakesRead, ShowsRange};
 

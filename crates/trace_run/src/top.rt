@@ -3,7 +3,7 @@ ghost use Rattle.std.specs.Prelude.{◌≡◌, ◌≤◌, ◌<◌, ◌^◌, IfSo
 ghost use Rattle.trace_text.specs.Grammar.{IsFormed, longest_text};
 ghost use Rattle.trace_run.specs.Stream.{TakesAtMost};
 ghost use Rattle.trace_run.specs.Outcome.{AnswersWords, AnswersSource, AnswersSink, Does, DoesRun, IfUsage, IsDelivered, IsGenReport, IsGenStatus, IsReadStatus, WasRead, has_report};
-ghost use Rattle.trace_run.specs.PoolCalls.{KeepsPool};
+ghost use Rattle.arc_table.specs.PoolCalls.{KeepsPool};
 ghost use Rattle.trace_run.specs.States.{handed, sink_state, source_state};
 ghost use Rattle.trace_run.specs.Words.{IsInRange, texts};
 ghost use Rattle.trace_run.specs.declared.words.Command.TheVariants as command;

@@ -3,7 +3,7 @@ use Rattle.trace_run.specs.Blocks.{AreOfImage}
 use Rattle.trace_run.specs.Effects.{calls_of_all}
 use Rattle.trace_run.specs.OneCaller.{AllLines}
 use Rattle.trace_run.specs.PlainLines.{IsPlainLine}
-use Rattle.trace_run.specs.PoolCalls.{KeepsPool, MakesCalls}
+use Rattle.arc_table.specs.PoolCalls.{KeepsPool, MakesCalls}
 use Rattle.trace_run.specs.Tally.{IsTally}
 use Rattle.trace_run.proofs.AnswerLemmas.{EachAnswers}
 use Rattle.trace_run.proofs.RunLemmas.{HasRun}

@@ -1,0 +1,239 @@
+-- A read through the shared cache, as its caller gets it: what it stands with then, what was done, what was got and which reads of the pool were made.
+use Rattle.std.proofs.Common.{◌≡◌, ◌≢◌, ℕ, ◌+◌, List, [], ◌∷◌, ◌++◌, length, Option, Some, None, Result, Ok, Err, refl, sym, ap, ◌∙◌, subst, arith, append-nil}
+use Rattle.std.specs.Prelude.{IfSome}
+use Rattle.std.specs.List.{AllByRecursion}
+use Rattle.blk_ptr.specs.declared.digest.Digest.{Digest}
+use Rattle.blk_ptr.specs.declared.key.Key.{Key}
+use Rattle.blk_ptr.specs.declared.ptr.Ptr.{Ptr}
+use Rattle.blk_ptr.specs.Key.{IsFirstFault, IsValid}
+use Rattle.blk_ptr.specs.Ptr.{IsOf, IsPlainRead, range_of, sha256_of}
+use Rattle.vdev_io.specs.declared.device.CacheDev.{Ghosts as DeviceGhosts}
+use Rattle.vdev_io.specs.declared.pool.Pool.{Ghosts as PoolGhosts}
+use Rattle.arc_core.specs.Config.{IsConfig}
+use Rattle.arc_core.specs.declared.config.Config.{Config}
+use Rattle.arc_core.specs.declared.event.Event.{Event}
+use Rattle.arc_core.specs.declared.served.ReadFault.{ReadFault}
+use Rattle.arc_core.specs.declared.served.ReadFault.TheVariants as fault
+use Rattle.arc_core.specs.declared.served.Served.{Served}
+use Rattle.arc_core.specs.declared.served.Served.TheVariants as served
+use Rattle.arc_core.specs.declared.shard.EntryView.{EntryView}
+use Rattle.arc_core.specs.Operations.{Act, Fails, Keeps}
+use Rattle.dbuf_cells.specs.declared.kept.Kept.{Kept}
+use Rattle.dbuf_cells.specs.declared.kept.Kept.TheVariants.{Held, Loose}
+use Rattle.turn_table.specs.Places.{Place}
+use Rattle.arc_table.specs.declared.hold.Hold.{Hold}
+use Rattle.arc_table.specs.declared.read.Read.{Read}
+use Rattle.arc_table.specs.declared.read.Read.TheVariants as gave
+use Rattle.arc_table.specs.declared.view.Known.{Known}
+use Rattle.arc_table.specs.declared.view.Ledger.{Ledger}
+use Rattle.arc_table.specs.Cache.{Cache}
+use Rattle.arc_table.specs.Holding.{IsHoldOf, ptr_of}
+use Rattle.arc_table.specs.Items.{Meanings}
+use Rattle.arc_table.specs.PoolCalls.{Failed, MakesCall, MakesCalls, PoolCall}
+use Rattle.arc_table.specs.Reading.{Answers, AnswersRead, EndsAtPool, EndsMiss, EndsPast, GivesBlock, GivesOthers, GoesToPool, Outside, answered, from_device, from_none, from_pool, hit, missed, no_memory, past, read, refused, unread}
+use Rattle.arc_table.proofs.AfterRead.{read_stays}
+use Rattle.arc_table.proofs.Afterwards.{Stays, stays_party}
+use Rattle.trace_run.specs.declared.get.Got.{Got}
+use Rattle.trace_run.specs.declared.kept_blocks.KeptBlock.{KeptBlock}
+use Rattle.trace_run.specs.KeptBlocks.{IsOwnedBy, Stands, listed_all, listed_for, times}
+use Rattle.trace_run.specs.Read.{IsMismatch}
+use Rattle.trace_run.specs.PlainCache.{kept_read}
+use Rattle.trace_run.specs.Reads.{DidAnswer, DidFail, DidRead, IsAlone, IsGot}
+use Rattle.trace_run.specs.Seen.{AddsAll, HasSeenItsOwn}
+use Rattle.trace_run.proofs.KeptBlockLemmas.{times-append, times-middle}
+use Rattle.trace_run.proofs.ReadLemmas.{AddsFailed, AddsRead, AddsServed, read-adds, read-seen}
+use Rattle.trace_run.proofs.ReadStands.{Lists, ListsAnswer, read-lists}
+use Rattle.trace_run.proofs.ServeLemmas.{read-of}
+
+-- ---- what the caller stands with
+
+pub all-last : {X : Type 0} (P : X → Type 0) (xs : List X) (x : X) → AllByRecursion P xs → P x → AllByRecursion P (xs ++ x ∷ [])
+all-last P [] x all last = (last, tt)
+all-last P (y ∷ ys) x all last = (all.0, all-last P ys x all.1 last)
+
+-- a hold of a pointer is listed as the pointer
+pub hold-ptr : (ptr : Ptr) (n : ℕ) (hold : Hold) → IsHoldOf ptr n hold → ptr ≡ ptr_of hold
+hold-ptr ptr n hold h = λ i. record { key = sym h.key i; digest = sym h.block.digest i }
+
+module _ {C : Type 0} (cache : Cache) (p q : Place (Known C)) (kept : List KeptBlock) (stands : Stands cache p kept) (stays : Stays p q) (seen : HasSeenItsOwn cache.config q) where
+  pub stands-same : Lists [] p q → Stands cache q kept
+  stands-same lists = record {
+    valid = stands.valid;
+    of = stays_party cache p q stays stands.of;
+    free = stays.held ∙ stands.free;
+    idle = lists.readings ∙ stands.idle;
+    seen = seen;
+    owned = subst (λ (n : ℕ). AllByRecursion (λ b. IsOwnedBy n b.kept) kept) (sym stays.number) stands.owned;
+    listed = λ x. ap (times x) lists.holds ∙ stands.listed x;
+  }
+
+  pub stands-more : (b : KeptBlock) → IsOwnedBy p.number b.kept → Lists (listed_for b.kept) p q → Stands cache q (kept ++ b ∷ [])
+  stands-more b owned lists = record {
+    valid = stands.valid;
+    of = stays_party cache p q stays stands.of;
+    free = stays.held ∙ stands.free;
+    idle = lists.readings ∙ stands.idle;
+    seen = seen;
+    owned = subst (λ (n : ℕ). AllByRecursion (λ b. IsOwnedBy n b.kept) (kept ++ b ∷ [])) (sym stays.number) (all-last (λ b. IsOwnedBy p.number b.kept) kept b stands.owned owned);
+    listed = λ x.
+        ap (times x) lists.holds
+        ∙ (times-append x (listed_for b.kept) p.own.ledger.holds
+        ∙ (ap (λ (n : ℕ). times x (listed_for b.kept) + n) (stands.listed x ∙ ap (λ (l : List KeptBlock). times x (listed_all l)) (sym (append-nil kept)))
+        ∙ sym (times-middle x kept [] b)));
+  }
+
+  pub stands-held : (block : ℕ) (ptr : Ptr) (hold : Hold) → IsHoldOf ptr p.number hold → Lists (ptr ∷ []) p q → Stands cache q (kept ++ record { block = block; kept = Held hold } ∷ [])
+  stands-held block ptr hold h lists = stands-more (record { block = block; kept = Held hold }) h.owner_is (subst (λ (x : Ptr). Lists (x ∷ []) p q) (hold-ptr ptr p.number hold h) lists)
+
+-- ---- what was done
+
+module _ {C P D : Type 0} (m : Meanings C) (g : Config) (valid : IsConfig g) (pools : PoolGhosts P) (devices : DeviceGhosts D) (ptr : Ptr) (t size : ℕ) (p q : Place (Known C)) where
+  pub did-answer : (from : Served) → AddsServed m g valid pools devices ptr t size from p q → DidAnswer g size t ptr from p q
+  did-answer from a = record {
+    act = record {
+      made = a.ms;
+      own = a.moves.own;
+      act_is = record { events = a.events; digests = a.digests };
+      alone = λ x. subst (λ (es : List Event). AddsAll g _ es p q) (a.alone x).0 (a.moves.alone x.all);
+      all = a.moves.all;
+    };
+    source = λ x. (a.alone x).1;
+  }
+
+  pub did-fail : AddsFailed m g valid pools devices ptr t size p q → DidFail g size t ptr p q
+  did-fail a = record {
+    act = record {
+      made = a.ms;
+      own = a.moves.own;
+      act_is = record { events = a.events; digests = a.digests };
+      alone = λ x. subst (λ (es : List Event). AddsAll g _ es p q) (a.alone x).0 (a.moves.alone x.all);
+      all = a.moves.all;
+    };
+    asked = λ x. (a.alone x).1;
+  }
+
+-- ---- what was got
+
+module _ {P : Type 0} (pools : PoolGhosts P) (ptr : Ptr) where
+  -- by what a read came to: what the pool did for it, and that its block is of the pointer
+  abbrev pub PoolDid : (old new : P) → Result Read ReadFault → Type 0
+  PoolDid old new (Ok (gave.Held hold served.Hit)) = (new ≡ old) × IsOf hold.block.value ptr
+  PoolDid old new (Ok (gave.Held hold served.L2)) = (new ≡ old) × IsOf hold.block.value ptr
+  PoolDid old new (Ok (gave.Held hold served.Pool)) = GivesBlock pools ptr old new hold.block.value
+  PoolDid old new (Ok (gave.Held hold served.Past)) = ⊥
+  PoolDid old new (Ok (gave.Past block kept)) = GivesBlock pools ptr old new block.value
+  PoolDid old new (Err (fault.PoolFault)) = MakesCall pools Failed old new × IsValid (pools.size old) ptr.key
+  PoolDid old new (Err (fault.Mismatch found)) = GivesOthers pools ptr old new found × IsValid (pools.size old) ptr.key
+  PoolDid old new (Err (fault.Key why)) = (new ≡ old) × IsFirstFault (pools.size old) ptr.key why
+  PoolDid old new (Err (fault.NoMemory)) = Unit {0}
+
+  pub one-call : (old new : P) (call : PoolCall) → MakesCall pools call old new → MakesCalls pools (call ∷ []) old new
+  one-call old new call made = (new, made, refl)
+
+  -- a digest that was found is that of bytes that were read
+  pub mismatch : (old new : P) (found : Digest) → GivesOthers pools ptr old new found → IsMismatch (pools.told old) ptr found
+  mismatch old new found h = record { bytes = h.bytes.bytes; size = h.bytes.size; digest = h.bytes.digest; other = h.other; plain = go (pools.told old) h.told }
+    where
+      go : (o : Option (List ℕ)) → IfSome o (λ image. found ≡ sha256_of (range_of image ptr.key)) → IfSome o (λ told. IsPlainRead told ptr (Err found))
+      go None told = tt
+      go (Some image) told = (told, λ (of : IsOf (range_of image ptr.key) ptr). h.other (told ∙ of.digest))
+
+module _ {C P D : Type 0} (m : Meanings C) (pools : PoolGhosts P) (devices : DeviceGhosts D) (g : Config) (ptr : Ptr) (t : ℕ) where
+  end-did : (old new : P) (p q : Place (Known C)) (result : Result Read ReadFault) → IsValid (pools.size old) ptr.key → EndsAtPool m pools g ptr old new p q result → PoolDid pools ptr old new result
+  end-did old new p q (Ok (gave.Held hold served.Pool)) ok h = h.2
+  end-did old new p q (Ok (gave.Held hold served.Hit)) ok h = absurd h
+  end-did old new p q (Ok (gave.Held hold served.L2)) ok h = absurd h
+  end-did old new p q (Ok (gave.Held hold served.Past)) ok h = absurd h
+  end-did old new p q (Ok (gave.Past block kept)) ok h = absurd h
+  end-did old new p q (Err (fault.PoolFault)) ok h = (h.1, ok)
+  end-did old new p q (Err (fault.Mismatch found)) ok h = (h.1, ok)
+  end-did old new p q (Err (fault.Key why)) ok h = absurd h
+  end-did old new p q (Err (fault.NoMemory)) ok h = tt
+
+  goes-did : (old new : P) (p q : Place (Known C)) (result : Result Read ReadFault) → IsValid (pools.size old) ptr.key → GoesToPool m pools g ptr old new p q result → PoolDid pools ptr old new result
+  goes-did old new p q result ok (read ends) = end-did old new p q result ok ends
+  goes-did old new p q result ok (unread f) = subst (PoolDid pools ptr old new) (sym f.answer) tt
+
+  miss-did : (found : Option EntryView) (before now : Outside P D) (p q : Place (Known C)) (result : Result Read ReadFault) → IsValid (pools.size before.pool) ptr.key
+      → EndsMiss m pools devices g ptr found before now p q result → PoolDid pools ptr before.pool now.pool result
+  miss-did found before now p q result ok (from_device hold is a) = subst (PoolDid pools ptr before.pool now.pool) (sym is) (a.none, a.bytes.of)
+  miss-did found before now p q result ok (from_pool back turns goes) = goes-did before.pool now.pool back q result ok goes
+  miss-did found before now p q result ok (from_none f) = subst (PoolDid pools ptr before.pool now.pool) (sym f.answer) tt
+
+  past-pool : (old new : P) (kept : Digest) (result : Result Read ReadFault) → IsValid (pools.size old) ptr.key → EndsPast pools ptr kept old new result → PoolDid pools ptr old new result
+  past-pool old new kept (Ok (gave.Past block digest)) ok h = h.1
+  past-pool old new kept (Ok (gave.Held hold from)) ok h = absurd h
+  past-pool old new kept (Err (fault.PoolFault)) ok h = (h, ok)
+  past-pool old new kept (Err (fault.Mismatch found)) ok h = (h, ok)
+  past-pool old new kept (Err (fault.Key why)) ok h = absurd h
+  past-pool old new kept (Err (fault.NoMemory)) ok h = tt
+
+  answer-did : (before now : Outside P D) (p q : Place (Known C)) (result : Result Read ReadFault) → IsValid (pools.size before.pool) ptr.key → Answers m pools devices g ptr t before now p q result
+      → PoolDid pools ptr before.pool now.pool result
+  answer-did before now p q result ok (hit hold is d cached held same) = subst (PoolDid pools ptr before.pool now.pool) (sym is) (ap (λ (x : Outside P D). x.pool) same, held.0.block)
+  answer-did before now p q result ok (missed r d missing ends) = miss-did _ before now r q result ok ends
+  answer-did before now p q result ok (past kept other d cached device ends) = past-pool before.pool now.pool kept result ok ends
+  answer-did before now p q result ok (no_memory is d same) = subst (PoolDid pools ptr before.pool now.pool) (sym is) tt
+
+  pub pool-did : (before now : Outside P D) (p q : Place (Known C)) (result : Result Read ReadFault) → AnswersRead m pools devices g ptr t before now p q result → PoolDid pools ptr before.pool now.pool result
+  pool-did before now p q result (refused why is first same none) = subst (PoolDid pools ptr before.pool now.pool) (sym is) (ap (λ (x : Outside P D). x.pool) none, first)
+  pool-did before now p q result (answered ok times r waits answer) = answer-did before now r q result ok answer
+
+-- ---- the call
+
+module _ {C P D : Type 0} (m : Meanings C) (cache : Cache) (pools : PoolGhosts P) (devices : DeviceGhosts D) (ptr : Ptr) (t block : ℕ) (before now : Outside P D) (p q : Place (Known C)) (kept : List KeptBlock)
+    (stands : Stands cache p kept) (result : Result Read ReadFault) (answer : AnswersRead m pools devices cache.config ptr t before now p q result) where
+  abbrev size : ℕ
+  size = devices.size before.device
+
+  stays : Stays p q
+  stays = read_stays m cache.config stands.valid pools devices ptr t before now p q result stands.of.config answer
+
+  pub adds : AddsRead m cache.config stands.valid pools devices ptr t size p q result
+  adds = read-adds m cache.config stands.valid pools devices ptr t size before now p q result refl stands.of.config stands.seen answer
+
+  seen : HasSeenItsOwn cache.config q
+  seen = read-seen m cache.config stands.valid pools devices ptr t size p q result stands.seen adds
+
+  pub lists : ListsAnswer ptr p q result
+  lists = read-lists m cache.config stands.valid pools devices ptr t before now p q result stands.of.config answer
+
+  module _ (hold : Hold) (from : Served) (is : result ≡ Ok (gave.Held hold from)) where
+    held-lists : ListsAnswer ptr p q (Ok (gave.Held hold from))
+    held-lists = subst (ListsAnswer ptr p q) is lists
+
+    pub held-stands : Stands cache q (kept ++ record { block = block; kept = Held hold } ∷ [])
+    held-stands = stands-held cache p q kept stands stays seen block ptr hold held-lists.1 held-lists.0
+
+    pub held-did : DidAnswer cache.config size t ptr from p q
+    held-did = did-answer m cache.config stands.valid pools devices ptr t size p q from (subst (AddsRead m cache.config stands.valid pools devices ptr t size p q) is adds)
+
+    pub held-got : IsGot (pools.told before.pool) block ptr (record { served = from; read = record { block = block; kept = Held hold } })
+    held-got = go from (subst (PoolDid pools ptr before.pool now.pool) is (pool-did m pools devices cache.config ptr t before now p q result answer))
+      where
+        key : hold.key ≡ ptr.key
+        key = held-lists.1.key
+
+        go : (f : Served) → PoolDid pools ptr before.pool now.pool (Ok (gave.Held hold f)) → IsGot (pools.told before.pool) block ptr (record { served = f; read = record { block = block; kept = Held hold } })
+        go served.Hit d = record { read = read-of (pools.told before.pool) ptr hold.block.value d.1; range = λ none. absurd none; kept = ap (λ (k : Key). kept_read block (Some k)) key }
+        go served.L2 d = record { read = read-of (pools.told before.pool) ptr hold.block.value d.1; range = λ none. absurd none; kept = ap (λ (k : Key). kept_read block (Some k)) key }
+        go served.Pool d = record { read = read-of (pools.told before.pool) ptr hold.block.value d.of; range = λ from_pool. d.told; kept = ap (λ (k : Key). kept_read block (Some k)) key }
+        go served.Past d = absurd d
+
+  pub past-stands : Lists [] p q → (b : KeptBlock) → listed_for b.kept ≡ [] → IsOwnedBy p.number b.kept → Stands cache q (kept ++ b ∷ [])
+  past-stands same b none owned = stands-more cache p q kept stands stays seen b owned (subst (λ (l : List Ptr). Lists l p q) (sym none) same)
+
+  pub past-did : AddsServed m cache.config stands.valid pools devices ptr t size served.Past p q → DidAnswer cache.config size t ptr served.Past p q
+  past-did a = did-answer m cache.config stands.valid pools devices ptr t size p q served.Past a
+
+  pub fault-stands : (why : ReadFault) → result ≡ Err why → Stands cache q kept
+  fault-stands why is = stands-same cache p q kept stands stays seen (subst (ListsAnswer ptr p q) is lists)
+
+  pub fault-did : (why : ReadFault) → result ≡ Err why → DidRead cache.config size t ptr p q (Err why)
+  fault-did why is = go why (subst (AddsRead m cache.config stands.valid pools devices ptr t size p q) is adds)
+    where
+      go : (w : ReadFault) → AddsRead m cache.config stands.valid pools devices ptr t size p q (Err w) → DidRead cache.config size t ptr p q (Err w)
+      go (fault.PoolFault) a = did-fail m cache.config stands.valid pools devices ptr t size p q a
+      go (fault.Mismatch found) a = did-fail m cache.config stands.valid pools devices ptr t size p q a
+      go (fault.Key why) a = a
+      go (fault.NoMemory) a = tt

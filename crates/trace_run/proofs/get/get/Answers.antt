@@ -1,0 +1,52 @@
+use Rattle.std.proofs.Common.{Ok, refl, ap, ◌∙◌, subst}
+use Rattle.arc_table.specs.Items.{meanings}
+use Rattle.arc_table.specs.Reading.{outside}
+use Rattle.dbuf_cells.specs.declared.kept.Kept.TheVariants.{Held, Loose}
+use Rattle.trace_run.proofs.GetLemmas.{adds, fault-did, fault-stands, held-did, held-got, held-stands, lists, past-did, past-stands}
+use Rattle.trace_run.proofs.ReadLemmas.{AddsRead}
+use Rattle.trace_run.proofs.ReadStands.{ListsAnswer}
+use Rattle.trace_run.proofs.get.get.Goals as goal
+
+pub returns-in-Ok-Held-clause-stands : goal.returns-in-Ok-Held-clause-stands
+returns-in-Ok-Held-clause-stands g c = λ kept stands.
+    held-stands (meanings g.C.Keeps.holds g.C.Keeps.entries g.C.Keeps.opening g.C.Keeps.claims g.C.Keeps.sound) c.args.arcs.now g.P.Pool g.D.CacheDev c.args.ptr.now c.args.t c.args.block
+    (outside c.args.pool.now c.args.device.now) (outside c.read.new.pool c.read.new.cache) c.args.party.now c.read.new.party kept stands c.read.result c.read.ensures.answer c.in-Ok-Held.hold c.in-Ok-Held.served (c.in-Ok-Held.is ∙ ap Ok c.in-Ok-Held.field-0-is)
+
+pub returns-in-Ok-Held-clause-did : goal.returns-in-Ok-Held-clause-did
+returns-in-Ok-Held-clause-did g c =
+    held-did (meanings g.C.Keeps.holds g.C.Keeps.entries g.C.Keeps.opening g.C.Keeps.claims g.C.Keeps.sound) c.args.arcs.now g.P.Pool g.D.CacheDev c.args.ptr.now c.args.t c.args.block
+    (outside c.args.pool.now c.args.device.now) (outside c.read.new.pool c.read.new.cache) c.args.party.now c.read.new.party c.requires.0 c.requires.1 c.read.result c.read.ensures.answer c.in-Ok-Held.hold c.in-Ok-Held.served (c.in-Ok-Held.is ∙ ap Ok c.in-Ok-Held.field-0-is)
+
+pub returns-in-Ok-Held-clause-got : goal.returns-in-Ok-Held-clause-got
+returns-in-Ok-Held-clause-got g c =
+    held-got (meanings g.C.Keeps.holds g.C.Keeps.entries g.C.Keeps.opening g.C.Keeps.claims g.C.Keeps.sound) c.args.arcs.now g.P.Pool g.D.CacheDev c.args.ptr.now c.args.t c.args.block
+    (outside c.args.pool.now c.args.device.now) (outside c.read.new.pool c.read.new.cache) c.args.party.now c.read.new.party c.requires.0 c.requires.1 c.read.result c.read.ensures.answer c.in-Ok-Held.hold c.in-Ok-Held.served (c.in-Ok-Held.is ∙ ap Ok c.in-Ok-Held.field-0-is)
+
+pub returns-in-Ok-Past-clause-stands : goal.returns-in-Ok-Past-clause-stands
+returns-in-Ok-Past-clause-stands g c = λ kept stands.
+    let m = meanings g.C.Keeps.holds g.C.Keeps.entries g.C.Keeps.opening g.C.Keeps.claims g.C.Keeps.sound in
+    let before = outside c.args.pool.now c.args.device.now in
+    let after = outside c.read.new.pool c.read.new.cache in
+    past-stands m c.args.arcs.now g.P.Pool g.D.CacheDev c.args.ptr.now c.args.t c.args.block before after c.args.party.now c.read.new.party kept stands c.read.result c.read.ensures.answer
+    (subst (ListsAnswer c.args.ptr.now c.args.party.now c.read.new.party) (c.in-Ok-Past.is ∙ ap Ok c.in-Ok-Past.field-0-is)
+    (lists m c.args.arcs.now g.P.Pool g.D.CacheDev c.args.ptr.now c.args.t c.args.block before after c.args.party.now c.read.new.party kept stands c.read.result c.read.ensures.answer))
+    (record { block = c.args.block; kept = Loose c.args.ptr.now.key c.in-Ok-Past.bytes }) refl tt
+
+pub returns-in-Ok-Past-clause-did : goal.returns-in-Ok-Past-clause-did
+returns-in-Ok-Past-clause-did g c =
+    let m = meanings g.C.Keeps.holds g.C.Keeps.entries g.C.Keeps.opening g.C.Keeps.claims g.C.Keeps.sound in
+    let before = outside c.args.pool.now c.args.device.now in
+    let after = outside c.read.new.pool c.read.new.cache in
+    past-did m c.args.arcs.now g.P.Pool g.D.CacheDev c.args.ptr.now c.args.t c.args.block before after c.args.party.now c.read.new.party c.requires.0 c.requires.1 c.read.result c.read.ensures.answer
+    (subst (AddsRead m c.args.arcs.now.config c.requires.1.valid g.P.Pool g.D.CacheDev c.args.ptr.now c.args.t (g.D.CacheDev.size c.args.device.now) c.args.party.now c.read.new.party) (c.in-Ok-Past.is ∙ ap Ok c.in-Ok-Past.field-0-is)
+    (adds m c.args.arcs.now g.P.Pool g.D.CacheDev c.args.ptr.now c.args.t c.args.block before after c.args.party.now c.read.new.party c.requires.0 c.requires.1 c.read.result c.read.ensures.answer))
+
+pub returns-in-Err-clause-stands : goal.returns-in-Err-clause-stands
+returns-in-Err-clause-stands g c = λ kept stands.
+    fault-stands (meanings g.C.Keeps.holds g.C.Keeps.entries g.C.Keeps.opening g.C.Keeps.claims g.C.Keeps.sound) c.args.arcs.now g.P.Pool g.D.CacheDev c.args.ptr.now c.args.t c.args.block
+    (outside c.args.pool.now c.args.device.now) (outside c.read.new.pool c.read.new.cache) c.args.party.now c.read.new.party kept stands c.read.result c.read.ensures.answer c.in-Err.fault c.in-Err.is
+
+pub returns-in-Err-clause-did : goal.returns-in-Err-clause-did
+returns-in-Err-clause-did g c =
+    fault-did (meanings g.C.Keeps.holds g.C.Keeps.entries g.C.Keeps.opening g.C.Keeps.claims g.C.Keeps.sound) c.args.arcs.now g.P.Pool g.D.CacheDev c.args.ptr.now c.args.t c.args.block
+    (outside c.args.pool.now c.args.device.now) (outside c.read.new.pool c.read.new.cache) c.args.party.now c.read.new.party c.requires.0 c.requires.1 c.read.result c.read.ensures.answer c.in-Err.fault c.in-Err.is

@@ -1,0 +1,121 @@
+-- What a read through the shared cache comes to for a caller between its lines.
+use Rattle.std.specs.Prelude.{◌≡◌, ℕ, List, [], ◌∷◌, ◌++◌, IfSome, Option, Result, Ok, Err}
+use Rattle.blk_ptr.specs.declared.ptr.Ptr.{Ptr}
+use Rattle.blk_ptr.specs.Hash.{shard_of}
+use Rattle.blk_ptr.specs.Key.{IsValid, IsFirstFault}
+use Rattle.blk_ptr.specs.Ptr.{range_of}
+use Rattle.arc_core.specs.declared.config.Config.{Config}
+use Rattle.arc_core.specs.declared.event.Event.{Event}
+use Rattle.arc_core.specs.declared.served.ReadFault.{ReadFault}
+use Rattle.arc_core.specs.declared.served.ReadFault.TheVariants as fault
+use Rattle.arc_core.specs.declared.served.Served.{Served}
+use Rattle.arc_core.specs.declared.served.Served.TheVariants as served
+use Rattle.arc_core.specs.Operations.{Act, Fails, Keeps, Moment, StandsFor, act_key}
+use Rattle.arc_core.specs.PlainShard.{PlainShard}
+use Rattle.arc_core.specs.Replay.{replay}
+use Rattle.arc_table.specs.PoolCalls.{PoolCall, Gave, Failed, MakesCalls}
+use Rattle.dbuf_cells.specs.Kept.{bytes_of}
+use Rattle.turn_table.specs.Places.{Place}
+use Rattle.arc_table.specs.declared.view.Known.{Known}
+use Rattle.vdev_io.specs.declared.pool.Pool.{Ghosts}
+use Rattle.trace_text.specs.declared.reply.Refusal.{Refusal}
+use Rattle.trace_text.specs.declared.reply.Refusal.TheVariants as refusals
+use Rattle.trace_run.specs.declared.access.Access.{Access}
+use Rattle.trace_run.specs.declared.get.Got.{Got}
+use Rattle.trace_run.specs.declared.kept_blocks.KeptBlock.{KeptBlock}
+use Rattle.trace_run.specs.Access.{AsksPool, access_of, events_of_answered, events_of_refused, source_of}
+use Rattle.trace_run.specs.Effects.{calls_from}
+use Rattle.trace_run.specs.Ends.{opening_of}
+use Rattle.trace_run.specs.KeptBlocks.{read_of}
+use Rattle.trace_run.specs.OneCaller.{key_held_by}
+use Rattle.trace_run.specs.PlainCache.{kept_read}
+use Rattle.trace_run.specs.Read.{IsMismatch, IsReadOf}
+use Rattle.trace_run.specs.Seen.{AddsAll, AddsOwn, HasAll, seen_of}
+use Rattle.trace_run.specs.Told.{IsTold}
+
+module _ {C : Type 0} where
+  -- what a party that has every number finds of a shard: the replay of what it has seen
+  abbrev pub now_of : Config → (shard : ℕ) → Place (Known C) → PlainShard
+  now_of g shard p = replay (opening_of g) (seen_of g shard p)
+
+  -- how its read finds its block there
+  abbrev pub access_now : Config → Ptr → Place (Known C) → Access
+  access_now g ptr p = access_of (now_of g (shard_of g.shards ptr.key) p) ptr
+
+  -- it has every number, and there is no cache device, or one of this length, which is 0
+  pub record IsAlone (device : ℕ) (p : Place (Known C)) : Type 0 where
+    pub all : HasAll p
+    pub none : device ≡ 0
+
+  -- The party did this act, once. A party that is alone has seen just these events more.
+  pub record DidAct (g : Config) (device : ℕ) (act : Act) (es : List Event) (p q : Place (Known C)) : Type 0 where
+    pub made : List Moment
+    pub own : AddsOwn g (shard_of g.shards (act_key act)) made p q
+    pub act_is : StandsFor act made
+    pub alone : IsAlone device p → AddsAll g (shard_of g.shards (act_key act)) es p q
+    pub all : HasAll p → HasAll q
+
+  -- the read was answered, and its bytes came from here; or the pool was asked for them, and failed or gave others
+  pub record DidAnswer (g : Config) (device t : ℕ) (ptr : Ptr) (from : Served) (p q : Place (Known C)) : Type 0 where
+    pub act : DidAct g device (Keeps p.number t ptr from) (events_of_answered p.number t ptr (access_now g ptr p)) p q
+    pub source : IsAlone device p → from ≡ source_of (access_now g ptr p)
+
+  pub record DidFail (g : Config) (device t : ℕ) (ptr : Ptr) (p q : Place (Known C)) : Type 0 where
+    pub act : DidAct g device (Fails p.number t ptr) (events_of_refused p.number t ptr (access_now g ptr p)) p q
+    pub asked : IsAlone device p → AsksPool (access_now g ptr p)
+
+  -- In one shard the party's own number has these acts more. A party that is alone has seen just these events more, and in no other shard any.
+  pub record DidActs (g : Config) (device shard : ℕ) (acts : List Act) (es : List Event) (p q : Place (Known C)) : Type 0 where
+    pub number : q.number ≡ p.number
+    pub told : (before : List Act) → IsTold g before p → IsTold g (before ++ acts) q
+    pub alone : IsAlone device p → AddsAll g shard es p q
+    pub all : HasAll p → HasAll q
+
+  -- What a read at this tick that came to this did. Of want of memory nothing is said.
+  abbrev pub DidRead : Config → (device t : ℕ) → Ptr → (p q : Place (Known C)) → Result Got ReadFault → Type 0
+  DidRead g device t ptr p q (Ok got) = DidAnswer g device t ptr got.served p q
+  DidRead g device t ptr p q (Err (fault.PoolFault)) = DidFail g device t ptr p q
+  DidRead g device t ptr p q (Err (fault.Mismatch found)) = DidFail g device t ptr p q
+  DidRead g device t ptr p q (Err (fault.Key why)) = q ≡ p
+  DidRead g device t ptr p q (Err (fault.NoMemory)) = Unit {0}
+
+-- what a caller keeps once a read is kept that came to this
+abbrev pub kept_then : List KeptBlock → Result Got ReadFault → List KeptBlock
+kept_then kept (Ok got) = kept ++ got.read ∷ []
+kept_then kept (Err why) = kept
+
+-- the bytes came from the pool in this call
+abbrev pub IsFromPool : Served → Type 0
+IsFromPool served.Hit = ⊥
+IsFromPool served.L2 = ⊥
+IsFromPool served.Pool = Unit {0}
+IsFromPool served.Past = Unit {0}
+
+-- What was got: a read of this block, whose bytes are of the pointer. Over a pool that tells its bytes they are those in the key's range,
+-- where they came from there in this call, and else those of a plain read unless two contents share a digest.
+pub record IsGot (image : Option (List ℕ)) (block : ℕ) (ptr : Ptr) (got : Got) : Type 0 where
+  pub read : IsReadOf image ptr (bytes_of got.read.kept)
+  pub range : IsFromPool got.served → IfSome image (λ told. bytes_of got.read.kept ≡ range_of told ptr.key)
+  pub kept : read_of got.read ≡ kept_read block (key_held_by ptr got.served)
+
+-- why nothing was got
+abbrev pub IsCauseOf : (pool_len : ℕ) → (image : Option (List ℕ)) → Ptr → ReadFault → Type 0
+IsCauseOf pool_len image ptr (fault.PoolFault) = IsValid pool_len ptr.key
+IsCauseOf pool_len image ptr (fault.Mismatch found) = IsValid pool_len ptr.key × IsMismatch image ptr found
+IsCauseOf pool_len image ptr (fault.Key why) = IsFirstFault pool_len ptr.key why
+IsCauseOf pool_len image ptr (fault.NoMemory) = Unit {0}
+
+-- The reads of the pool that were made for it. Of want of memory nothing is said.
+abbrev pub CallsFor : {P : Type 0} → Ghosts P → (old new : P) → Result Got ReadFault → Type 0
+CallsFor pool old new (Ok got) = MakesCalls pool (calls_from got.served) old new
+CallsFor pool old new (Err (fault.PoolFault)) = MakesCalls pool (Failed ∷ []) old new
+CallsFor pool old new (Err (fault.Mismatch found)) = MakesCalls pool (Gave ∷ []) old new
+CallsFor pool old new (Err (fault.Key why)) = new ≡ old
+CallsFor pool old new (Err (fault.NoMemory)) = Unit {0}
+
+-- the refusal that tells this fault
+abbrev pub IsRefused : ReadFault → Refusal → Type 0
+IsRefused (fault.PoolFault) refusal = refusal ≡ refusals.PoolFault
+IsRefused (fault.Mismatch found) refusal = refusal ≡ refusals.Mismatch found
+IsRefused (fault.Key why) refusal = refusal ≡ refusals.Key why
+IsRefused (fault.NoMemory) refusal = ⊥
