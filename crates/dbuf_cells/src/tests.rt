@@ -20,7 +20,7 @@ fn loose(alloc: Global) -> Result<Kept, Fail> {
 }
 
 #[test]
-fn a_loose_block_is_no_hold(rt: TestRuntime) -> Result<(), Fail> {
+fn a_loose_block_is_no_hold(rt: HostRuntime) -> Result<(), Fail> {
     let kept = loose(rt.alloc())?;
     assert_eq!(rt; kept.key().size, 512);
     assert_eq!(rt; kept.block().bytes().len(), 512);
