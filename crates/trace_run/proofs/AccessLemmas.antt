@@ -1,5 +1,5 @@
 -- How a read finds its block, by what the shared cache says of its key.
-use Rattle.std.proofs.Common.{◌≡◌, ◌≢◌, Bool, true, false, Option, Some, None, inl, inr, refl, sym, ap}
+use Rattle.std.proofs.Common.{◌≡◌, ◌≢◌, true, false, Option, Some, None, inl, inr, refl, ap}
 use Rattle.std.specs.Prelude.{IsTrue, ◌&&◌}
 use Rattle.std.specs.Option.{option_map_or}
 use Rattle.std.proofs.lemmas.Bool.{false≢true}
@@ -16,7 +16,6 @@ use Rattle.arc_core.specs.PlainShard.{PlainShard, entry_of, is_resident, keeps_d
 use Rattle.arc_core.specs.Step.{is_missing, is_without_bytes}
 use Rattle.arc_table.specs.Standing.{is_cached_with}
 use Rattle.arc_table.specs.Reading.{ptr_with}
-use Rattle.trace_run.specs.declared.access.Access.{Access}
 use Rattle.trace_run.specs.declared.access.Access.TheVariants as access
 use Rattle.trace_run.specs.Access.{access_of, found}
 use Rattle.trace_run.proofs.CacheLemmas.{digest_eq-is}

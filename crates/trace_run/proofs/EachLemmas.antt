@@ -1,10 +1,10 @@
 -- Each event of a closed cache is one party's own, and behind a pass stands what it was passed for.
-use Rattle.std.proofs.Common.{◌≡◌, ◌≢◌, ◌⊎◌, ℕ, zero, suc, ◌+◌, ◌*◌, ◌<◌, ◌≤◌, IsTrue, List, [], ◌∷◌, ◌++◌, length, map, refl, sym, ap, ◌∙◌, subst, inl, inr, arith}
+use Rattle.std.proofs.Common.{◌≡◌, ℕ, zero, suc, ◌<◌, ◌≤◌, IsTrue, List, [], ◌∷◌, map, refl, sym, ap, ◌∙◌, subst, inl, inr, arith}
 use mathlib.Core.Option.{some, some-injective, some-ne-none}
 use lib.ListN.{get_elem?}
 use Rattle.arc_core.specs.declared.config.Config.{Config}
 use Rattle.arc_core.specs.declared.event.Event.{Event}
-use Rattle.arc_core.specs.Operations.{Moment, are_passes_placed, goes_on, is_pass, moments, number_of, own_moments}
+use Rattle.arc_core.specs.Operations.{are_passes_placed, goes_on, is_pass, moments, number_of, own_moments}
 use Rattle.arc_core.specs.ShardLog.{ShardLog}
 use Rattle.turn_table.specs.Board.{free}
 use Rattle.turn_table.specs.Moments.{WasFree}
@@ -21,10 +21,10 @@ use Rattle.arc_table.specs.Items.{Meanings, lines_in}
 use Rattle.arc_table.specs.Rule.{Pact}
 use Rattle.arc_table.specs.TableLaws.{get_front, same_at, within}
 use Rattle.trace_run.specs.Ends.{opening_of}
-use Rattle.trace_run.specs.Seen.{HasSeenItsOwn, IsSeen, turn_of}
+use Rattle.trace_run.specs.Seen.{HasSeenItsOwn, turn_of}
 use Rattle.trace_run.proofs.CloseLemmas.{closed-starts, get-map, last, value-at}
 use Rattle.trace_run.proofs.OwnLemmas.{no-own-moments}
-use Rattle.trace_run.proofs.PlacedLemmas.{EachGoesOn, placed-of}
+use Rattle.trace_run.proofs.PlacedLemmas.{placed-of}
 use Rattle.trace_run.proofs.SeenLemmas.{events-at, line-owner, line-seen}
 
 -- what is so of a party at the end

@@ -1,5 +1,5 @@
 -- A read through the shared cache, as its caller gets it: what it stands with then, what was done, what was got and which reads of the pool were made.
-use Rattle.std.proofs.Common.{◌≡◌, ◌≢◌, ℕ, ◌+◌, List, [], ◌∷◌, ◌++◌, length, Option, Some, None, Result, Ok, Err, refl, sym, ap, ◌∙◌, subst, arith, append-nil}
+use Rattle.std.proofs.Common.{◌≡◌, ℕ, ◌+◌, List, [], ◌∷◌, ◌++◌, Option, Some, None, Result, Ok, Err, refl, sym, ap, ◌∙◌, subst, append-nil}
 use Rattle.std.specs.Prelude.{IfSome}
 use Rattle.std.specs.List.{AllByRecursion}
 use Rattle.blk_ptr.specs.declared.digest.Digest.{Digest}
@@ -17,15 +17,12 @@ use Rattle.arc_core.specs.declared.served.ReadFault.TheVariants as fault
 use Rattle.arc_core.specs.declared.served.Served.{Served}
 use Rattle.arc_core.specs.declared.served.Served.TheVariants as served
 use Rattle.arc_core.specs.declared.shard.EntryView.{EntryView}
-use Rattle.arc_core.specs.Operations.{Act, Fails, Keeps}
-use Rattle.dbuf_cells.specs.declared.kept.Kept.{Kept}
-use Rattle.dbuf_cells.specs.declared.kept.Kept.TheVariants.{Held, Loose}
+use Rattle.dbuf_cells.specs.declared.kept.Kept.TheVariants.{Held}
 use Rattle.turn_table.specs.Places.{Place}
 use Rattle.arc_table.specs.declared.hold.Hold.{Hold}
 use Rattle.arc_table.specs.declared.read.Read.{Read}
 use Rattle.arc_table.specs.declared.read.Read.TheVariants as gave
 use Rattle.arc_table.specs.declared.view.Known.{Known}
-use Rattle.arc_table.specs.declared.view.Ledger.{Ledger}
 use Rattle.arc_table.specs.Cache.{Cache}
 use Rattle.arc_table.specs.Holding.{IsHoldOf, ptr_of}
 use Rattle.arc_table.specs.Items.{Meanings}
@@ -33,12 +30,11 @@ use Rattle.arc_table.specs.PoolCalls.{Failed, MakesCall, MakesCalls, PoolCall}
 use Rattle.arc_table.specs.Reading.{Answers, AnswersRead, EndsAtPool, EndsMiss, EndsPast, GivesBlock, GivesOthers, GoesToPool, Outside, answered, from_device, from_none, from_pool, hit, missed, no_memory, past, read, refused, unread}
 use Rattle.arc_table.proofs.AfterRead.{read_stays}
 use Rattle.arc_table.proofs.Afterwards.{Stays, stays_party}
-use Rattle.trace_run.specs.declared.get.Got.{Got}
 use Rattle.trace_run.specs.declared.kept_blocks.KeptBlock.{KeptBlock}
 use Rattle.trace_run.specs.KeptBlocks.{IsOwnedBy, Stands, listed_all, listed_for, times}
 use Rattle.trace_run.specs.Read.{IsMismatch}
 use Rattle.trace_run.specs.PlainCache.{kept_read}
-use Rattle.trace_run.specs.Reads.{DidAnswer, DidFail, DidRead, IsAlone, IsGot}
+use Rattle.trace_run.specs.Reads.{DidAnswer, DidFail, DidRead, IsGot}
 use Rattle.trace_run.specs.Seen.{AddsAll, HasSeenItsOwn}
 use Rattle.trace_run.proofs.KeptBlockLemmas.{times-append, times-middle}
 use Rattle.trace_run.proofs.ReadLemmas.{AddsFailed, AddsRead, AddsServed, read-adds, read-seen}

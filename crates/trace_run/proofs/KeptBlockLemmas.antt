@@ -1,10 +1,9 @@
 -- What a party lists for the reads that its caller keeps, and what is left once one of them is given back.
-use Rattle.std.proofs.Common.{◌≡◌, ◌≢◌, ℕ, zero, suc, ◌+◌, ◌<◌, ◌≤◌, ◌==◌, ◌&&◌, cond, Bool, true, false, List, [], ◌∷◌, ◌++◌, length, Option, Some, None, map, get_or, refl, sym, ap, ◌∙◌, subst, inl, inr, arith, eq-eqb, append_assoc}
-use Rattle.std.specs.Prelude.{count_by}
+use Rattle.std.proofs.Common.{◌≡◌, ℕ, zero, suc, ◌+◌, ◌<◌, cond, true, false, List, [], ◌∷◌, ◌++◌, length, Option, Some, map, get_or, refl, sym, ap, ◌∙◌, subst, inl, inr, arith, eq-eqb, append_assoc}
 use Rattle.std.specs.List.{AllByRecursion, remove}
 use Rattle.std.proofs.lemmas.Bool.{false≢true}
 use Rattle.std.proofs.lemmas.List.Sums.{sum_by-append, sum_by-cons}
-use mathlib.Core.Option.{some, some-injective, some-ne-none}
+use mathlib.Core.Option.{some}
 use lib.ListN.{get_elem?}
 use Rattle.blk_ptr.specs.declared.key.Key.{Key}
 use Rattle.blk_ptr.specs.declared.digest.Digest.{Digest}
@@ -17,14 +16,12 @@ use Rattle.arc_lists.proofs.Tables.{cases_true}
 use Rattle.arc_core.specs.Config.{IsConfig}
 use Rattle.arc_core.specs.declared.config.Config.{Config}
 use Rattle.arc_core.specs.declared.entry.Entry.{Entry}
-use Rattle.arc_core.specs.declared.event.Event.{Event}
 use Rattle.arc_core.specs.declared.event.Event.TheVariants.{Drop}
-use Rattle.arc_core.specs.Operations.{Act, GivesBack as GivenBack, Moment, StandsFor, moments, own_moments}
-use Rattle.arc_core.specs.PlainShard.{PlainShard, entry_of}
+use Rattle.arc_core.specs.Operations.{GivesBack as GivenBack, Moment, moments, own_moments}
+use Rattle.arc_core.specs.PlainShard.{entry_of}
 use Rattle.dbuf_cells.specs.declared.kept.Kept.{Kept}
 use Rattle.dbuf_cells.specs.declared.kept.Kept.TheVariants.{Held, Loose}
 use Rattle.turn_table.specs.Places.{Place}
-use Rattle.arc_table.specs.declared.about.About.{About}
 use Rattle.arc_table.specs.declared.hold.Hold.{Hold}
 use Rattle.arc_table.specs.declared.view.Known.{Known}
 use Rattle.arc_table.specs.declared.view.Ledger.{Ledger}
@@ -33,7 +30,7 @@ use Rattle.arc_table.specs.Both.{Does}
 use Rattle.arc_table.specs.Cache.{Cache}
 use Rattle.arc_table.specs.Counted.{Rests}
 use Rattle.arc_table.specs.Geometry.{shard_turn}
-use Rattle.arc_table.specs.Holding.{IsHeld, IsListed, IsOneOf, own, ptr_of}
+use Rattle.arc_table.specs.Holding.{IsHeld, IsOneOf, own, ptr_of}
 use Rattle.arc_table.specs.Items.{Meanings}
 use Rattle.arc_table.specs.ShardGiving.{ledger_through}
 use Rattle.arc_table.proofs.Afterwards.{does_ledger, does_stays, stays_party}
@@ -41,7 +38,7 @@ use Rattle.arc_table.proofs.Reached.{reached, rests}
 use Rattle.trace_run.specs.declared.access.KeptRead.{KeptRead}
 use Rattle.trace_run.specs.declared.kept_blocks.KeptBlock.{KeptBlock}
 use Rattle.trace_run.specs.KeptBlocks.{Adds, Drops, GivesBack, IsOwnedBy, Stands, held_key, is_ptr, listed_all, listed_for, read_of, times}
-use Rattle.trace_run.specs.Seen.{AddsAll, AddsOwn, HasSeenItsOwn, Made}
+use Rattle.trace_run.specs.Seen.{AddsAll, AddsOwn, Made}
 use Rattle.trace_run.specs.Access.{events_of_drop}
 use Rattle.trace_run.specs.Acts.{acts_of_drop}
 use Rattle.trace_run.proofs.CacheLemmas.{digest_eq-is}

@@ -1,8 +1,5 @@
 -- Each call of the shared cache that makes events is one that a party makes of what it finds.
-use Rattle.std.proofs.Common.{◌≡◌, ◌≢◌, ℕ, ◌+◌, ◌*◌, ◌<◌, ◌≤◌, ◌-◌, List, [], ◌∷◌, ◌++◌, length, map, refl, sym, ap, ◌∙◌, subst, arith, length-append}
-use Rattle.std.proofs.lemmas.List.{length-map}
-use mathlib.Core.Option.{some}
-use lib.ListN.{get_elem?}
+use Rattle.std.proofs.Common.{◌≡◌, ◌≢◌, ℕ, ◌-◌, List, [], length, map, sym, ap, ◌∙◌, arith}
 use Rattle.blk_ptr.specs.declared.key.Key.{Key}
 use Rattle.blk_ptr.specs.Hash.{shard_of}
 use Rattle.arc_core.specs.Config.{IsConfig}
@@ -22,7 +19,6 @@ use Rattle.arc_table.specs.TableLaws.{front_else, within}
 use Rattle.arc_table.proofs.Afterwards.{does_mine, does_seen, does_stays}
 use Rattle.arc_table.proofs.PassMines.{mines_of_are}
 use Rattle.arc_table.proofs.Reached.{reached, sound_log}
-use Rattle.trace_run.specs.Ends.{opening_of}
 use Rattle.trace_run.specs.Seen.{AreOwn, HasSeenItsOwn, Made, turn_of}
 use Rattle.trace_run.proofs.SeenLemmas.{finds, shard-is-above}
 

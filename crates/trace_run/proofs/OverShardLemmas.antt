@@ -1,8 +1,8 @@
 -- One caller's lines over several shards: each shard's history is that of the lines on its blocks, and the replies are those of the plain run.
-use Rattle.std.proofs.Common.{◌≡◌, ◌≢◌, ℕ, zero, suc, ◌==◌, Bool, true, false, if◌then◌else◌, List, [], ◌∷◌, ◌++◌, length, drop, Option, Some, None, inl, inr, refl, sym, ap, subst, ◌∙◌, arith, append-nil}
+use Rattle.std.proofs.Common.{◌≡◌, ℕ, ◌==◌, Bool, true, false, List, [], ◌∷◌, ◌++◌, length, drop, Option, Some, None, inl, inr, refl, sym, ap, ◌∙◌, arith, append-nil}
 use Rattle.std.specs.Prelude.{filter, find, slice_get, option_and_then}
 use Rattle.std.specs.Option.{option_map_or}
-use Rattle.std.proofs.lemmas.Bool.{eqb-true, false≢true}
+use Rattle.std.proofs.lemmas.Bool.{eqb-true}
 use Rattle.std.proofs.lemmas.Bool.Decides.{nat_tests}
 use Rattle.std.proofs.lemmas.List.Elements.{filter-append}
 use Rattle.arc_lists.proofs.Tables.{cases_true}
@@ -17,9 +17,8 @@ use Rattle.trace_run.specs.declared.access.KeptRead.{KeptRead}
 use Rattle.trace_run.specs.Access.{events_of_drop}
 use Rattle.trace_run.specs.Effects.{Effect, Answered, GivenBack, PoolRefused, NoEffect, calls_of, calls_of_all, effect_of}
 use Rattle.trace_run.specs.Lines.{is_in_shard, replies_where, shard_of_line}
-use Rattle.trace_run.specs.OneCaller.{events_of, events_of_all, events_of_dropping, is_of_block, kept_after, kept_after_all, kept_after_drop, kept_after_hold, oldest_kept, without_oldest}
+use Rattle.trace_run.specs.OneCaller.{events_of, events_of_all, events_of_dropping, is_of_block, kept_after, kept_after_all, kept_after_drop, kept_after_hold, without_oldest}
 use Rattle.trace_run.specs.OverShards.{AllLinesOver, events_over, kept_in_shard, shard_of_block}
-use Rattle.trace_run.specs.PlainCache.{kept_read}
 use Rattle.trace_run.specs.PlainLines.{IsPlainLine}
 use Rattle.trace_run.specs.PlainRun.{next_call, replies_to, reply_to, shards_after}
 use Rattle.arc_table.specs.PoolCalls.{PoolCall}

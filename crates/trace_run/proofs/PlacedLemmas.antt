@@ -1,13 +1,11 @@
 -- Each event of a closed cache has a number that it may have, and each pass stands in front of what it was passed for.
-use Rattle.std.proofs.Common.{◌≡◌, ◌≢◌, ℕ, zero, suc, ◌+◌, ◌<◌, ◌==◌, ◌&&◌, ◌||◌, Bool, true, false, IsTrue, not, List, [], ◌∷◌, ◌++◌, length, refl, sym, ap, ◌∙◌, subst, inl, inr, arith}
+use Rattle.std.proofs.Common.{◌≡◌, ℕ, suc, IsTrue, List, [], ◌∷◌, refl, sym, subst, inl, inr}
 use Rattle.std.specs.List.{AllByRecursion}
-use Rattle.std.proofs.lemmas.Bool.{false≢true}
 use mathlib.Core.Option.{some, some-injective, some-ne-none}
 use lib.ListN.{get_elem?}
 use Rattle.arc_lists.proofs.Tables.{cases_true}
 use Rattle.arc_core.specs.declared.event.Event.{Event}
 use Rattle.arc_core.specs.Operations.{are_passes_placed, goes_on, is_pass, number_of, scan_goes_on}
-use Rattle.trace_run.specs.Seen.{AreOwn}
 
 -- each pass of these events is followed by an event with which its number's scan goes on
 abbrev pub EachGoesOn : List Event → Type 0

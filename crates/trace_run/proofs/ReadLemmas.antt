@@ -1,9 +1,8 @@
 -- What a read that the shared cache answered adds to what its party has seen: its own moments, whatever other parties did between; and of a
 -- party that is alone just these events.
-use Rattle.std.proofs.Common.{◌≡◌, ◌≢◌, ℕ, zero, suc, ◌+◌, ◌<◌, ◌≤◌, ◌&&◌, Bool, true, false, IsTrue, List, [], ◌∷◌, ◌++◌, map, Option, Some, None, Result, Ok, Err, refl, sym, ap, ◌∙◌, subst, inl, inr, arith, append-nil, eq-eqb}
+use Rattle.std.proofs.Common.{◌≡◌, ◌≢◌, ℕ, zero, suc, ◌<◌, ◌&&◌, false, IsTrue, List, [], ◌∷◌, ◌++◌, map, Option, Some, None, Result, Ok, Err, refl, sym, ap, ◌∙◌, subst, inl, inr, arith, append-nil, eq-eqb}
 use Rattle.std.specs.List.{AllByRecursion}
 use Rattle.std.specs.Option.{option_map_or}
-use Rattle.std.proofs.lemmas.Bool.{false≢true}
 use Rattle.blk_ptr.specs.declared.digest.Digest.{Digest}
 use Rattle.blk_ptr.specs.declared.ptr.Ptr.{Ptr}
 use Rattle.blk_ptr.specs.Hash.{shard_of}
@@ -16,7 +15,6 @@ use Rattle.arc_core.specs.declared.entry.Entry.{Entry}
 use Rattle.arc_core.specs.declared.event.Event.{Event}
 use Rattle.arc_core.specs.declared.event.Event.TheVariants.{Hit, Miss, Arrive, Fail, Past}
 use Rattle.arc_core.specs.declared.event.FailedAt.TheVariants as failed
-use Rattle.arc_core.specs.declared.event.Origin.{Origin}
 use Rattle.arc_core.specs.declared.event.Origin.TheVariants as origin
 use Rattle.arc_core.specs.declared.served.ReadFault.{ReadFault}
 use Rattle.arc_core.specs.declared.served.ReadFault.TheVariants as fault
@@ -43,7 +41,7 @@ use Rattle.trace_run.specs.declared.access.Access.TheVariants as access
 use Rattle.trace_run.specs.Access.{AsksPool, access_of, events_of_answered, events_of_refused, source_of}
 use Rattle.trace_run.specs.Ends.{opening_of}
 use Rattle.trace_run.specs.Reads.{IsAlone, access_now, now_of}
-use Rattle.trace_run.specs.Seen.{HasAll, HasSeenItsOwn, seen_of}
+use Rattle.trace_run.specs.Seen.{HasSeenItsOwn, seen_of}
 use Rattle.trace_run.proofs.AccessLemmas.{access-cached, access-missed, access-other}
 use Rattle.trace_run.proofs.MoveLemmas.{Moves, does-moves, does-now, moves-none, moves-then, one-moves, roomy-moves, roomy-now}
 use Rattle.trace_run.proofs.ScanAlone.{scan-alone}

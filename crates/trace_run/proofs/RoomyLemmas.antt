@@ -1,8 +1,5 @@
 -- A call with a scan is one that a party makes of what it finds: the passes of the scan, and then its event.
-use Rattle.std.proofs.Common.{◌≡◌, ◌≢◌, ℕ, ◌+◌, ◌*◌, ◌<◌, ◌≤◌, ◌-◌, false, IsTrue, List, [], ◌∷◌, ◌++◌, length, map, refl, sym, ap, ◌∙◌, subst, arith, length-append}
-use Rattle.std.proofs.lemmas.List.{length-map}
-use mathlib.Core.Option.{some}
-use lib.ListN.{get_elem?}
+use Rattle.std.proofs.Common.{◌≡◌, ◌≢◌, ℕ, ◌-◌, false, IsTrue, List, [], ◌∷◌, ◌++◌, length, map, refl, sym, ap, ◌∙◌, subst, arith}
 use Rattle.blk_ptr.specs.declared.key.Key.{Key}
 use Rattle.blk_ptr.specs.Hash.{shard_of}
 use Rattle.arc_core.specs.Config.{IsConfig}
@@ -12,12 +9,8 @@ use Rattle.arc_core.specs.Operations.{goes_on, is_pass, number_of}
 use Rattle.arc_core.specs.PlainShard.{PlainShard}
 use Rattle.arc_core.specs.Replay.{replay}
 use Rattle.hash_chain.specs.Chain.{Chain}
-use Rattle.turn_table.specs.declared.standing.Kept.{Kept}
 use Rattle.turn_table.specs.Places.{Place, gave_back}
-use Rattle.arc_table.specs.declared.item.Item.TheVariants as item
 use Rattle.arc_table.specs.declared.view.Known.{Known}
-use Rattle.arc_table.specs.declared.view.Ledger.{Ledger}
-use Rattle.arc_table.specs.declared.view.Line.{Line}
 use Rattle.arc_table.specs.declared.view.Line.TheVariants as line
 use Rattle.arc_table.specs.declared.view.Mine.{Mine}
 use Rattle.arc_table.specs.Ending.{DoesRoomy}
@@ -30,7 +23,6 @@ use Rattle.arc_table.specs.TableLaws.{front_else, front_here, within}
 use Rattle.arc_table.specs.Views.{after_same}
 use Rattle.arc_table.proofs.PassMines.{mines_of_are}
 use Rattle.arc_table.proofs.Reached.{reached, sound_log}
-use Rattle.trace_run.specs.Ends.{opening_of}
 use Rattle.trace_run.specs.Seen.{HasSeenItsOwn, Made, turn_of}
 use Rattle.trace_run.proofs.ReadMoments.{own-scan}
 use Rattle.trace_run.proofs.SeenLemmas.{finds, shard-is-above}

@@ -1,11 +1,11 @@
 -- The scan of a party that has every number passes no key: nobody else has a bucket.
-use Rattle.std.proofs.Common.{◌≡◌, ◌≢◌, ◌⊎◌, ℕ, ◌<◌, List, [], ◌∷◌, refl, sym, ap, ◌∙◌, subst, ⊎_elim}
+use Rattle.std.proofs.Common.{◌≡◌, ◌⊎◌, ℕ, ◌<◌, List, [], ◌∷◌, refl, sym, subst, ⊎_elim}
 use Rattle.blk_ptr.specs.declared.key.Key.{Key}
 use Rattle.arc_core.specs.declared.config.Config.{Config}
 use Rattle.arc_core.specs.declared.event.Event.{Event}
 use Rattle.arc_core.specs.declared.event.Event.TheVariants.{Pass}
 use Rattle.turn_table.specs.declared.standing.Kept.{Kept}
-use Rattle.turn_table.specs.Places.{Apart, HasNumber, IsIn, IsOther, Place}
+use Rattle.turn_table.specs.Places.{Apart, IsIn, Place}
 use Rattle.arc_table.specs.declared.view.Known.{Known}
 use Rattle.arc_table.specs.Ending.{DoesRoomy}
 use Rattle.arc_table.specs.Items.{Meanings}

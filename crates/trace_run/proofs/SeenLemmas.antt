@@ -1,6 +1,5 @@
 -- What a party finds of a shard: what it had seen, and then what others did. So its own events are those that it makes.
-use Rattle.std.proofs.Common.{◌≡◌, ◌≢◌, ◌⊎◌, ℕ, zero, suc, ◌+◌, ◌*◌, ◌<◌, ◌≤◌, List, [], ◌∷◌, ◌++◌, length, map, refl, sym, ap, ◌∙◌, subst, inl, inr, arith, append_assoc, append-nil, length-append}
-use Rattle.std.proofs.lemmas.List.{length-map}
+use Rattle.std.proofs.Common.{◌≡◌, ◌≢◌, ◌⊎◌, ℕ, zero, suc, ◌+◌, ◌<◌, List, [], ◌∷◌, ◌++◌, length, map, refl, sym, ap, ◌∙◌, subst, inl, inr, arith}
 use mathlib.Core.Option.{some, some-injective, some-ne-none}
 use lib.ListN.{get_elem?}
 use Rattle.blk_ptr.specs.declared.key.Key.{Key}
@@ -14,8 +13,6 @@ use Rattle.hash_chain.specs.Chain.{Chain}
 use Rattle.turn_table.specs.declared.standing.Kept.{Kept}
 use Rattle.turn_table.specs.Moments.{WasFree}
 use Rattle.turn_table.specs.Places.{AllShow, HasNumber, IsIn, Place, saw}
-use Rattle.arc_table.specs.declared.about.About.{About}
-use Rattle.arc_table.specs.declared.item.Item.{Item}
 use Rattle.arc_table.specs.declared.item.Item.TheVariants as item
 use Rattle.arc_table.specs.declared.view.Known.{Known}
 use Rattle.arc_table.specs.declared.view.Line.{Line}
@@ -33,7 +30,7 @@ use Rattle.arc_table.specs.TableLaws.{front_else, within}
 use Rattle.arc_table.proofs.HandHeads.{config_then, shard_then}
 use Rattle.arc_table.proofs.Ranges.{bucket_range}
 use Rattle.arc_table.proofs.Reached.{SameButNotes, Took, loses_same, took_is}
-use Rattle.trace_run.specs.Seen.{AllSeen, AreSeen, Finds, HasAll, HasSeenItsOwn, IsSeen, events_in, seen_of, turn_of}
+use Rattle.trace_run.specs.Seen.{AllSeen, AreSeen, Finds, HasAll, HasSeenItsOwn, IsSeen, events_in, turn_of}
 
 -- ---- lines and events
 

@@ -14,7 +14,6 @@ use Rattle.arc_core.specs.Operations.{Act}
 use Rattle.dbuf_cells.specs.declared.kept.Kept.{Kept}
 use Rattle.dbuf_cells.specs.declared.kept.Kept.TheVariants.{Held, Loose}
 use Rattle.turn_table.specs.Places.{Place}
-use Rattle.arc_table.specs.declared.hold.Hold.{Hold}
 use Rattle.arc_table.specs.declared.view.Known.{Known}
 use Rattle.arc_table.specs.Both.{Does}
 use Rattle.arc_table.specs.Cache.{Cache, IsPartyOf}

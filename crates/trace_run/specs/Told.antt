@@ -1,5 +1,5 @@
 -- What it means that what a party did stands in what it has seen of the shards.
-use Rattle.std.specs.Prelude.{◌≡◌, ℕ, List}
+use Rattle.std.specs.Prelude.{ℕ, List}
 use Rattle.blk_ptr.specs.Hash.{shard_of}
 use Rattle.arc_core.specs.declared.config.Config.{Config}
 use Rattle.arc_core.specs.Operations.{Act, Tell, acts_in, moments, own_moments}

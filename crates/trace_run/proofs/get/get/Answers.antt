@@ -1,7 +1,7 @@
 use Rattle.std.proofs.Common.{Ok, refl, ap, ◌∙◌, subst}
 use Rattle.arc_table.specs.Items.{meanings}
 use Rattle.arc_table.specs.Reading.{outside}
-use Rattle.dbuf_cells.specs.declared.kept.Kept.TheVariants.{Held, Loose}
+use Rattle.dbuf_cells.specs.declared.kept.Kept.TheVariants.{Loose}
 use Rattle.trace_run.proofs.GetLemmas.{adds, fault-did, fault-stands, held-did, held-got, held-stands, lists, past-did, past-stands}
 use Rattle.trace_run.proofs.ReadLemmas.{AddsRead}
 use Rattle.trace_run.proofs.ReadStands.{ListsAnswer}

@@ -6,9 +6,9 @@ use Rattle.arc_table.specs.Items.{meanings}
 use Rattle.dbuf_state.proofs.CellLemmas.{position-map}
 use Rattle.trace_run.specs.declared.access.KeptRead.{KeptRead}
 use Rattle.trace_run.specs.declared.kept_blocks.KeptBlock.{KeptBlock}
-use Rattle.trace_run.specs.KeptBlocks.{Drops, Stands, held_key, read_of}
+use Rattle.trace_run.specs.KeptBlocks.{Drops, Stands, read_of}
 use Rattle.trace_run.specs.OneCaller.{is_of_block}
-use Rattle.trace_run.proofs.DropLemmas.{IsOldest, oldest-at, oldest-none}
+use Rattle.trace_run.proofs.DropLemmas.{oldest-at, oldest-none}
 use Rattle.trace_run.proofs.KeptBlockLemmas.{given-drops, read-at, reads-removed, split-at}
 use Rattle.trace_run.proofs.kept_blocks.give_back_oldest.Goals as goal
 
