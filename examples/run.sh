@@ -21,7 +21,7 @@ if [ -n "$unproved" ]; then
     exit
 fi
 if [ ! -x "$crate/out/arc_tool" ]; then
-    echo 'examples/run.sh: proving and building the program; the first time this takes about ten minutes on four processors' >&2
+    echo 'examples/run.sh: proving and building the program; the first time this takes about fifteen minutes on four processors' >&2
     (cd "$crate" && rt run -- --version) >&2
 fi
 "$crate/out/arc_tool" "$pool" "${words[@]}" "${@:2}" <"$trace"
