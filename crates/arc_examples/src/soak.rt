@@ -1,0 +1,173 @@
+//! A soak: four callers do drawn calls at the same time on few keys and little room, and then the histories are replayed.
+ghost use Rattle.std.specs.Prelude.{◌≡◌, IfOk};
+ghost use Rattle.arc_core.specs.Config.{IsConfig};
+ghost use Rattle.arc_examples.specs.Ready.{IsReady, IsReadyAs};
+
+use crate::calls::{look_at, read_and_try, read_one, try_one};
+use crate::scene::{Scene, close_all, opened};
+use crate::plain::{Caller, Plain, config_of, draw, ptr_of};
+use arc_core::{Config, Event, Shard};
+use arc_table::{Arcs, Party};
+use blk_ptr::{NoMemory, State};
+use std::alloc::Global;
+use std::sync::Wait;
+use std::thread;
+use std::thread::Threads;
+
+// How many keys there are, and how many calls each caller does.
+const KEYS: u64 = 24;
+const CALLS: u64 = 10_000;
+
+/// What a soak came to.
+#[derive(Clone, Copy, Drop)]
+pub struct Soaked {
+    pub events: u64,
+    pub passes: u64,
+    pub replay: bool,
+}
+
+// One drawn call: of the key that `x` draws, and of the kind that `y` does.
+fn call_one<R: Wait>(
+    rt: &R,
+    arcs: &Arcs<Plain>,
+    caller: &mut Caller,
+    x: u64,
+    y: u64,
+    tick: u64,
+)
+    requires { IsReady arcs.now caller.old.party }
+    ensures { IsReadyAs arcs.now caller.old.party caller.new.party }
+{
+    let Caller {
+        party,
+        pool,
+        seed: _,
+    } = caller;
+    let ptr = ptr_of(x / 65_536 % KEYS);
+    let _ = match y / 65_536 % 4 {
+        0 => try_one(rt, arcs, party, &ptr, tick),
+        1 => read_and_try(rt, arcs, party, pool, &ptr, tick),
+        2 => look_at(arcs, party, &ptr),
+        _ => read_one(rt, arcs, party, pool, &ptr, tick),
+    };
+}
+
+// All calls of one caller.
+fn call_all<R: Wait>(rt: &R, arcs: &Arcs<Plain>, mut caller: Caller) -> Caller
+    requires { IsReady arcs.now caller.party }
+    ensures { IsReadyAs arcs.now caller.party result.party }
+{
+    let mut y = caller.seed;
+    for tick in 0..CALLS {
+        let x = draw(y);
+        y = draw(x);
+        call_one(rt, arcs, &mut caller, x, y, tick);
+    }
+    caller
+}
+
+// Two callers at the same time.
+fn call_two<R: Threads + Wait + Sync>(
+    rt: &R,
+    arcs: &Arcs<Plain>,
+    one: Caller,
+    two: Caller,
+) -> (Caller, Caller)
+    requires one { IsReady arcs.now one.party }
+    requires two { IsReady arcs.now two.party }
+    ensures one { IsReadyAs arcs.now one.party result.0.party }
+    ensures two { IsReadyAs arcs.now two.party result.1.party }
+{
+    thread::join(
+        rt,
+        move || -> Caller
+            requires { IsReady arcs.now one.party }
+            ensures { IsReadyAs arcs.now one.entry.party result.party }
+        { call_all(rt, arcs, one) },
+        move || -> Caller
+            requires { IsReady arcs.now two.party }
+            ensures { IsReadyAs arcs.now two.entry.party result.party }
+        { call_all(rt, arcs, two) },
+    )
+}
+
+// Four callers at the same time.
+fn call_four<R: Threads + Wait + Sync>(
+    rt: &R,
+    arcs: &Arcs<Plain>,
+    callers: (Caller, Caller, Caller, Caller),
+) -> ((Caller, Caller), (Caller, Caller))
+    requires one { IsReady arcs.now callers.0.party }
+    requires two { IsReady arcs.now callers.1.party }
+    requires three { IsReady arcs.now callers.2.party }
+    requires four { IsReady arcs.now callers.3.party }
+    ensures one { IsReadyAs arcs.now callers.0.party result.0.0.party }
+    ensures two { IsReadyAs arcs.now callers.1.party result.0.1.party }
+    ensures three { IsReadyAs arcs.now callers.2.party result.1.0.party }
+    ensures four { IsReadyAs arcs.now callers.3.party result.1.1.party }
+{
+    let (one, two, three, four) = callers;
+    thread::join(
+        rt,
+        move || -> (Caller, Caller)
+            requires { Rattle.std.specs.Thread.IsSync R.row × IsReady arcs.now one.party × IsReady arcs.now two.party }
+            ensures { IsReadyAs arcs.now one.entry.party result.0.party × IsReadyAs arcs.now two.entry.party result.1.party }
+        { call_two(rt, arcs, one, two) },
+        move || -> (Caller, Caller)
+            requires { Rattle.std.specs.Thread.IsSync R.row × IsReady arcs.now three.party × IsReady arcs.now four.party }
+            ensures { IsReadyAs arcs.now three.entry.party result.0.party × IsReadyAs arcs.now four.entry.party result.1.party }
+        { call_two(rt, arcs, three, four) },
+    )
+}
+
+// Whether the shard's history replays from its start, event by event, each legal when it comes, and ends where the shard does.
+fn replays(alloc: Global, config: &Config, shard: &Shard) -> Result<bool, NoMemory>
+    requires { IsConfig config.now }
+{
+    let mut fresh = Shard::new(alloc, config.c, config.mintime, config.bounds);
+    for event in shard.history() {
+        fresh.reserve(3, 1)?;
+        if !fresh.legal(event) {
+            return Ok(false);
+        }
+        fresh.step(*event);
+    }
+    let same = [State::Mru, State::Mfu, State::MruGhost, State::MfuGhost]
+        .iter()
+        .all(|state| fresh.size(*state) == shard.size(*state));
+    Ok(same && fresh.p() == shard.p() && fresh.history() == shard.history())
+}
+
+// How many passes these events have.
+fn passes_in(events: &[Event]) -> u64 {
+    events.iter().filter(|event| matches!(event, Event::Pass { n: _, key: _, owner: _ })).count() as u64
+}
+
+// Replays the histories of all shards.
+fn judge(alloc: Global, config: &Config, shards: &[Shard]) -> Result<Soaked, NoMemory>
+    requires { IsConfig config.now }
+{
+    let mut soaked = Soaked { events: 0, passes: 0, replay: true };
+    for shard in shards {
+        soaked.events = soaked.events.wrapping_add(shard.history().len() as u64);
+        soaked.passes = soaked.passes.wrapping_add(passes_in(shard.history()));
+        soaked.replay = soaked.replay && replays(alloc, config, shard)?;
+    }
+    Ok(soaked)
+}
+
+/// Four callers do their calls, and the histories are replayed.
+pub fn run_soak<R: Threads + Wait + Sync>(rt: &R, alloc: Global) -> Result<Soaked, NoMemory> {
+    let config = config_of(2, 2, 4096);
+    if !config.check() {
+        return Err(NoMemory);
+    }
+    let Scene {
+        arcs,
+        feeder,
+        callers,
+    } = opened(alloc, &config, KEYS)?;
+    let (low, high) = call_four(rt, &arcs, callers);
+    let closed = close_all(alloc, arcs, low, high, feeder)?;
+    judge(alloc, &config, closed.shards())
+}
