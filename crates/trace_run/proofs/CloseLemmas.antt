@@ -16,8 +16,10 @@ use Rattle.turn_table.specs.Places.{AllHeld, AllOnce, Apart, Place, Shows}
 use Rattle.arc_table.specs.declared.item.Item.{Item}
 use Rattle.arc_table.specs.declared.item.Item.TheVariants as item
 use Rattle.arc_table.specs.declared.view.Known.{Known}
+use Rattle.arc_table.specs.declared.view.Line.TheVariants as line
 use Rattle.arc_table.specs.Cache.{Cache, IsPartyOf}
 use Rattle.arc_table.specs.Ended.{Ended, Ends}
+use Rattle.arc_table.specs.Fronts.{StartsWith, front_of}
 use Rattle.arc_table.specs.Geometry.{parties_of}
 use Rattle.arc_table.specs.Items.{Meanings}
 use Rattle.arc_table.specs.Logged.{IsSoundItem, IsSoundLog}
@@ -52,7 +54,7 @@ module _ {C : Type 0} (m : Meanings C) (cache : Cache) (ps : List (Place (Known 
 
   module _ (p : Place (Known C)) (shows : Shows ends.views p) (parties : p.parties ≡ parties_of cache.config) (held : p.held ≡ []) (apart : Apart p.number p.joined) where
     -- at the end the shard was free, as it is told
-    last : WasFree (Pact m) p (turn_of g i) (item.Shard l)
+    abbrev pub last : WasFree (Pact m) p (turn_of g i) (item.Shard l)
     last = record {
       board = opening values ends.views;
       held = ends.pact;
@@ -69,6 +71,9 @@ module _ {C : Type 0} (m : Meanings C) (cache : Cache) (ps : List (Place (Known 
     module _ (config : p.own.about.config ≡ g) (seen : HasSeenItsOwn g p) where
       pub closed-finds : Finds g i p l.history
       closed-finds = finds-then m g p i l last seen
+
+      pub closed-starts : StartsWith (map line.Event l.history) (front_of (turn_of g i) p.own.seen)
+      closed-starts = closed-finds.starts
 
       pub closed-sound : IsSoundLog g l
       closed-sound = subst (λ (c : Config). IsSoundLog c l) (config_then m p (turn_of g i) l last ∙ config)

@@ -225,6 +225,7 @@ module _ {C : Type 0} (m : Meanings C) (cache : Cache) (p q : Place (Known C)) (
 
     pub held-adds : Adds g (shard_of g.shards hold.key) (acts_of_drop p.number (Some hold.key)) (events_of_drop p.number (Some hold.key)) p q
     held-adds = record {
+      number = made.same.number;
       told = λ before told. told-more g before (GivenBack p.number hold.key) (record { before = d.before.now; event = Drop p.number hold.key } ∷ []) p q refl told
           (subst (λ (ms : List Moment). AddsOwn g (shard_of g.shards hold.key) ms p q) moments-are (made-own g (shard_of g.shards hold.key) d.before (Drop hold.owner hold.key ∷ []) p q made))
           (record { events = refl; digests = (tt, tt) });

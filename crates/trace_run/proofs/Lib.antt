@@ -1,13 +1,17 @@
 pub mod AnswerLemmas
 pub mod BlockLemmas
 pub mod CacheLemmas
+pub mod CallerActLemmas
 pub mod CloseLemmas
 pub mod DropLemmas
+pub mod EachLemmas
 pub mod GenLemmas
+pub mod GiveLemmas
 pub mod HoldLemmas
 pub mod KeptBlockLemmas
 pub mod MadeLemmas
 pub mod MoveLemmas
+pub mod NamedLemmas
 pub mod OutcomeLemmas
 pub mod OverShardLemmas
 pub mod OwnLemmas

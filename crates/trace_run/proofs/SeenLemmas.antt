@@ -146,6 +146,21 @@ module _ {C : Type 0} (m : Meanings C) (g : Config) where
       alone = λ all. none-there more.0 (nobody-else all);
     }
 
+    -- a line of a number that the party has stands in what it has seen
+    at-place : (x : ℕ) (e : Event) → get_elem? before.history x ≡ some e → get_elem? (lines_in m (scene.now (turn_of g i))) x ≡ some (line.Event e)
+    at-place x e at = ap (λ (l : List Line). get_elem? l x) now-is ∙ events-at (map line.Event before.history) before.history refl x e at
+
+    listed-at : (x : ℕ) (e : Event) → get_elem? before.history x ≡ some e → HasPlace m scene (turn_of g i) x (scene.owner (turn_of g i) x)
+    listed-at x e at = f.held.logged.places (turn_of g i) x (within (lines_in m (scene.now (turn_of g i))) x (line.Event e) (at-place x e at))
+
+    pub line-seen : (x : ℕ) (e : Event) → get_elem? before.history x ≡ some e → HasNumber (scene.owner (turn_of g i) x) p → IsSeen (scene.owner (turn_of g i) x) (front_of (turn_of g i) p.own.seen) x
+    line-seen x e at has =
+        let h = listed-at x e at in
+        subst (λ (n : ℕ). IsSeen (scene.owner (turn_of g i) x) (front_of (turn_of g i) p.own.seen) n) h.place (mine-seen (scene.owner (turn_of g i) x) has i h.index h.line h.at h.turn)
+
+    pub line-owner : p.own.about.config ≡ g → (x : ℕ) (e : Event) → get_elem? before.history x ≡ some e → scene.owner (turn_of g i) x < parties_of g
+    line-owner config x e at = subst (λ (c : Config). scene.owner (turn_of g i) x < parties_of c) (config_then m p (turn_of g i) before f ∙ config) (listed-at x e at).party
+
 -- ---- a take of the bucket and the shard of a key
 
 module _ {C : Type 0} (m : Meanings C) (g : Config) (valid : IsConfig g) where

@@ -291,7 +291,7 @@ act-drops : (n : ℕ) (kept : List KeptRead) → AllByRecursion (λ act. actor_o
 act-drops n [] = tt
 act-drops n (read ∷ reads) = all-append (λ act. actor_of act ≡ n) (acts_of_drop n read.held) _ (act-drop n read.held) (act-drops n reads)
 
-act-caller : (blocks : List Ptr) (n : ℕ) (os : List Op) (replies : List Reply) → AllByRecursion (λ op. caller_of op ≡ n) os → AllByRecursion (λ act. actor_of act ≡ n) (acts_of_caller blocks n os replies)
+pub act-caller : (blocks : List Ptr) (n : ℕ) (os : List Op) (replies : List Reply) → AllByRecursion (λ op. caller_of op ≡ n) os → AllByRecursion (λ act. actor_of act ≡ n) (acts_of_caller blocks n os replies)
 act-caller blocks n os replies own = all-append (λ act. actor_of act ≡ n) (acts_of_all blocks [] os replies) _ (act-all n blocks [] os replies own) (act-drops n (kept_after_all blocks [] os replies))
 
 mine-events : (blocks : List Ptr) (n : ℕ) (s : PlainShard) (os : List Op) (replies : List Reply) → AllByRecursion (λ op. caller_of op ≡ n) os

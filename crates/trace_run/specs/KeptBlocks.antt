@@ -1,6 +1,7 @@
 -- The reads that a caller of the shared cache keeps, and the holds that its party lists for them.
-use Rattle.std.specs.Prelude.{◌≡◌, ℕ, Bool, ◌&&◌, List, [], ◌∷◌, ◌++◌, count_by, Option, Some, None}
+use Rattle.std.specs.Prelude.{◌≡◌, ℕ, Bool, ◌&&◌, List, [], ◌∷◌, ◌++◌, ◌==◌, false, filter, count_by, Option, Some, None}
 use Rattle.std.specs.List.{AllByRecursion}
+use Rattle.std.specs.Option.{option_map_or}
 use Rattle.blk_ptr.specs.declared.key.Key.{Key}
 use Rattle.blk_ptr.specs.declared.ptr.Ptr.{Ptr}
 use Rattle.blk_ptr.specs.Hash.{shard_of}
@@ -22,7 +23,8 @@ use Rattle.arc_table.specs.Items.{Meanings}
 use Rattle.trace_run.specs.declared.access.KeptRead.{KeptRead}
 use Rattle.trace_run.specs.declared.kept_blocks.KeptBlock.{KeptBlock}
 use Rattle.trace_run.specs.PlainCache.{kept_read}
-use Rattle.trace_run.specs.Seen.{AddsAll, AddsOwn, HasAll, HasSeenItsOwn}
+use Rattle.trace_run.specs.OneCaller.{events_of_drops}
+use Rattle.trace_run.specs.Seen.{AddsAll, HasAll, HasSeenItsOwn, seen_of}
 use Rattle.trace_run.specs.Access.{events_of_drop}
 use Rattle.trace_run.specs.Acts.{acts_of_drop}
 use Rattle.trace_run.specs.Told.{IsTold}
@@ -80,6 +82,7 @@ module _ {C : Type 0} (m : Meanings C) where
 module _ {C : Type 0} where
   -- In one shard the party's own number has these acts more. A party that has every number has seen just these events more, and in no other shard any.
   pub record Adds (g : Config) (shard : ℕ) (acts : List Act) (es : List Event) (p q : Place (Known C)) : Type 0 where
+    pub number : q.number ≡ p.number
     pub told : (before : List Act) → IsTold g before p → IsTold g (before ++ acts) q
     pub alone : HasAll p → AddsAll g shard es p q
     pub all : HasAll p → HasAll q
@@ -88,3 +91,21 @@ module _ {C : Type 0} where
   abbrev pub Drops : Config → Option Key → Place (Known C) → Place (Known C) → Type 0
   Drops g None p q = q ≡ p
   Drops g (Some k) p q = Adds g (shard_of g.shards k) (acts_of_drop p.number (Some k)) (events_of_drop p.number (Some k)) p q
+
+-- ---- all that is kept is given back
+
+-- the kept reads that hold an entry of this shard
+abbrev pub holds_in : Config → (shard : ℕ) → List KeptRead → List KeptRead
+holds_in g shard = filter (λ (read : KeptRead). option_map_or (λ k. shard_of g.shards k == shard) read.held false)
+
+module _ {C : Type 0} (m : Meanings C) where
+  -- what is kept is given back, one read after another
+  abbrev pub GivesAll : Config → List KeptBlock → Place (Known C) → Place (Known C) → Type 0
+  GivesAll g [] p q = q ≡ p
+  GivesAll g (b ∷ bs) p q = (r : Place (Known C)) × GivesBack m g b.kept p r × GivesAll g bs r q
+
+module _ {C : Type 0} where
+  -- A party that has every number has seen just the drops of these reads more, each in the shard of its entry.
+  pub record DroppedAlone (g : Config) (reads : List KeptRead) (p q : Place (Known C)) : Type 0 where
+    pub all : HasAll q
+    pub seen : (shard : ℕ) → seen_of g shard q ≡ seen_of g shard p ++ events_of_drops p.number (holds_in g shard reads)

@@ -1,5 +1,6 @@
 -- One caller's lines over several shards, one after another, each in the shard of its block.
-use Rattle.std.specs.Prelude.{ℕ, ◌==◌, Bool, if◌then◌else◌, List, [], ◌∷◌, ◌++◌, filter, slice_get}
+use Rattle.std.specs.Prelude.{◌≡◌, ℕ, ◌==◌, Bool, if◌then◌else◌, List, [], ◌∷◌, ◌++◌, filter, slice_get, Some, IfSome}
+use Rattle.std.specs.List.{AllByRecursion}
 use Rattle.std.specs.Option.{option_map_or}
 use Rattle.blk_ptr.specs.declared.ptr.Ptr.{Ptr}
 use Rattle.blk_ptr.specs.Hash.{shard_of}
@@ -37,3 +38,10 @@ shard_of_block shards blocks block = option_map_or (λ (ptr : Ptr). shard_of sha
 -- the kept reads of blocks of this shard
 abbrev pub kept_in_shard : (shards : ℕ) → List Ptr → (shard : ℕ) → List KeptRead → List KeptRead
 kept_in_shard shards blocks shard = filter (λ (read : KeptRead). shard_of_block shards blocks read.block == shard)
+
+-- a kept read holds the entry of its own block, where it holds one
+abbrev pub IsNamed : List Ptr → KeptRead → Type 0
+IsNamed blocks read = IfSome read.held (λ k. (ptr : Ptr) × (slice_get blocks read.block ≡ Some ptr) × (k ≡ ptr.key))
+
+abbrev pub AreNamed : List Ptr → List KeptRead → Type 0
+AreNamed blocks = AllByRecursion (IsNamed blocks)

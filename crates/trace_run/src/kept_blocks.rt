@@ -1,9 +1,13 @@
 //! The reads that a caller of the shared cache keeps, each with its block, and how they are given back (arc_buf_destroy of OpenZFS 2.1's
 //! arc.c).
-ghost use Rattle.std.specs.Prelude.{◌≡◌, ◌==◌, ◌++◌, ◌∷◌, is_some, map, position, List};
+ghost use Rattle.std.specs.Prelude.{◌≡◌, ◌==◌, ◌++◌, ◌∷◌, [], is_some, map, position, List};
+ghost use Rattle.arc_core.specs.Operations.{Act};
 ghost use Rattle.arc_table.specs.Items.{meanings};
-ghost use Rattle.trace_run.specs.KeptBlocks.{Drops, GivesBack, Stands, read_of};
+ghost use Rattle.trace_run.specs.Acts.{acts_of_drops};
+ghost use Rattle.trace_run.specs.KeptBlocks.{DroppedAlone, Drops, GivesAll, GivesBack, Stands, read_of};
 ghost use Rattle.trace_run.specs.OneCaller.{oldest_key, oldest_kept, without_oldest};
+ghost use Rattle.trace_run.specs.Seen.{HasAll};
+ghost use Rattle.trace_run.specs.Told.{IsTold};
 ghost use Rattle.trace_run.specs.declared.kept_blocks.KeptBlock.{KeptBlock};
 
 use arc_core::Keeps;
@@ -59,4 +63,23 @@ pub(crate) fn give_back_oldest<C: Keeps>(
     let read = kept.remove(at);
     give_back(rt, arcs, party, read);
     true
+}
+
+/// Gives back all reads that a caller keeps, the oldest first. Then it holds nothing.
+pub(crate) fn give_back_all<C: Keeps>(
+    rt: &impl Wait,
+    arcs: &Arcs<C>,
+    party: &mut Party<C>,
+    kept: Vec<KeptBlock>,
+)
+    requires { Stands arcs.now party.old kept.items }
+    ensures stands { Stands arcs.now party.new [] }
+    ensures gives { GivesAll (meanings C.holds C.entries C.opening C.claims C.sound) arcs.now.config kept.items party.old party.new }
+    ensures told { (before : List Act) → IsTold arcs.now.config before party.old
+        → IsTold arcs.now.config (before ++ acts_of_drops party.old.number (map read_of kept.items)) party.new }
+    ensures alone { HasAll party.old → DroppedAlone arcs.now.config (map read_of kept.items) party.old party.new }
+{
+    for read in kept {
+        give_back(rt, arcs, party, read);
+    }
 }
