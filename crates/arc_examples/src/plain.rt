@@ -1,4 +1,6 @@
 //! What both loads stand on: cells that keep nothing, the blocks, and draws.
+ghost use Rattle.std.specs.Prelude.{◌≡◌};
+
 use arc_core::{Bounds, Config, Keeps};
 use arc_table::Party;
 use blk_ptr::{Digest, Key, Ptr};
@@ -60,7 +62,8 @@ pub fn draw(x: u64) -> u64 {
 
 /// The numbers of a cache of four callers.
 pub fn config_of(shards: u32, buckets: u32, c: u64) -> Config
-    ensures { result.callers ≡ 4 }
+    ensures callers { result.callers ≡ 4 }
+    ensures cells { result.cells ≡ 1 }
 {
     let bounds = Bounds {
         write_max: 8_388_608,

@@ -1,5 +1,5 @@
 //! A cache with its callers.
-ghost use Rattle.std.specs.Prelude.{◌≡◌, IfOk};
+ghost use Rattle.std.specs.Prelude.{◌≡◌, IfOk, Some};
 ghost use Rattle.arc_core.specs.Config.{IsConfig};
 ghost use Rattle.arc_examples.specs.Ready.{IsReady};
 
@@ -30,7 +30,7 @@ fn caller_of(
     blocks: u64,
     seed: u64,
 ) -> Result<Caller, NoMemory>
-    ensures { IfOk result (λ c. party ≡ Rattle.std.specs.Prelude.Some c.party) }
+    ensures { IfOk result (λ c. party ≡ Some c.party) }
 {
     let pool = zeros(alloc, blocks)?;
     match party {
@@ -81,7 +81,6 @@ pub fn close_all(
     requires feeder { IsReady arcs feeder.party × (feeder.party.number ≡ 4) }
 {
     let ((one, two), (three, four)) = (low, high);
-    let parties =
-        vec![in alloc; one.party, two.party, three.party, four.party, feeder.party]?;
+    let parties = vec![in alloc; one.party, two.party, three.party, four.party, feeder.party]?;
     arcs.close(parties)
 }

@@ -1,11 +1,11 @@
 //! A soak: four callers do drawn calls at the same time on few keys and little room, and then the histories are replayed.
-ghost use Rattle.std.specs.Prelude.{◌≡◌, IfOk};
+ghost use Rattle.std.specs.Thread.{IsSync};
 ghost use Rattle.arc_core.specs.Config.{IsConfig};
 ghost use Rattle.arc_examples.specs.Ready.{IsReady, IsReadyAs};
 
 use crate::calls::{look_at, read_and_try, read_one, try_one};
-use crate::scene::{Scene, close_all, opened};
 use crate::plain::{Caller, Plain, config_of, draw, ptr_of};
+use crate::scene::{Scene, close_all, opened};
 use arc_core::{Config, Event, Shard};
 use arc_table::{Arcs, Party};
 use blk_ptr::{NoMemory, State};
@@ -16,6 +16,7 @@ use std::thread::Threads;
 
 // How many keys there are, and how many calls each caller does.
 const KEYS: u64 = 24;
+
 const CALLS: u64 = 10_000;
 
 /// What a soak came to.
@@ -27,14 +28,7 @@ pub struct Soaked {
 }
 
 // One drawn call: of the key that `x` draws, and of the kind that `y` does.
-fn call_one<R: Wait>(
-    rt: &R,
-    arcs: &Arcs<Plain>,
-    caller: &mut Caller,
-    x: u64,
-    y: u64,
-    tick: u64,
-)
+fn call_one<R: Wait>(rt: &R, arcs: &Arcs<Plain>, caller: &mut Caller, x: u64, y: u64, tick: u64)
     requires { IsReady arcs.now caller.old.party }
     ensures { IsReadyAs arcs.now caller.old.party caller.new.party }
 {
@@ -82,11 +76,11 @@ fn call_two<R: Threads + Wait + Sync>(
         rt,
         move || -> Caller
             requires { IsReady arcs.now one.party }
-            ensures { IsReadyAs arcs.now one.entry.party result.party }
+            ensures { IsReadyAs arcs.entry.now one.party result.party }
         { call_all(rt, arcs, one) },
         move || -> Caller
             requires { IsReady arcs.now two.party }
-            ensures { IsReadyAs arcs.now two.entry.party result.party }
+            ensures { IsReadyAs arcs.entry.now two.party result.party }
         { call_all(rt, arcs, two) },
     )
 }
@@ -110,12 +104,12 @@ fn call_four<R: Threads + Wait + Sync>(
     thread::join(
         rt,
         move || -> (Caller, Caller)
-            requires { Rattle.std.specs.Thread.IsSync R.row × IsReady arcs.now one.party × IsReady arcs.now two.party }
-            ensures { IsReadyAs arcs.now one.entry.party result.0.party × IsReadyAs arcs.now two.entry.party result.1.party }
+            requires { IsSync R.row × IsReady arcs.now one.party × IsReady arcs.now two.party }
+            ensures { IsReadyAs arcs.entry.now one.party result.0.party × IsReadyAs arcs.entry.now two.party result.1.party }
         { call_two(rt, arcs, one, two) },
         move || -> (Caller, Caller)
-            requires { Rattle.std.specs.Thread.IsSync R.row × IsReady arcs.now three.party × IsReady arcs.now four.party }
-            ensures { IsReadyAs arcs.now three.entry.party result.0.party × IsReadyAs arcs.now four.entry.party result.1.party }
+            requires { IsSync R.row × IsReady arcs.now three.party × IsReady arcs.now four.party }
+            ensures { IsReadyAs arcs.entry.now three.party result.0.party × IsReadyAs arcs.entry.now four.party result.1.party }
         { call_two(rt, arcs, three, four) },
     )
 }
@@ -140,14 +134,28 @@ fn replays(alloc: Global, config: &Config, shard: &Shard) -> Result<bool, NoMemo
 
 // How many passes these events have.
 fn passes_in(events: &[Event]) -> u64 {
-    events.iter().filter(|event| matches!(event, Event::Pass { n: _, key: _, owner: _ })).count() as u64
+    events
+        .iter()
+        .filter(|event| matches!(
+            event,
+            Event::Pass {
+                n: _,
+                key: _,
+                owner: _
+            }
+        ))
+        .count() as u64
 }
 
 // Replays the histories of all shards.
 fn judge(alloc: Global, config: &Config, shards: &[Shard]) -> Result<Soaked, NoMemory>
     requires { IsConfig config.now }
 {
-    let mut soaked = Soaked { events: 0, passes: 0, replay: true };
+    let mut soaked = Soaked {
+        events: 0,
+        passes: 0,
+        replay: true,
+    };
     for shard in shards {
         soaked.events = soaked.events.wrapping_add(shard.history().len() as u64);
         soaked.passes = soaked.passes.wrapping_add(passes_in(shard.history()));
