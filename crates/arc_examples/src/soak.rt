@@ -114,22 +114,39 @@ fn call_four<R: Threads + Wait + Sync>(
     )
 }
 
-// Whether the shard's history replays from its start, event by event, each legal when it comes, and ends where the shard does.
-fn replays(alloc: Global, config: &Config, shard: &Shard) -> Result<bool, NoMemory>
+// Makes an event, where it may come and memory is there.
+fn make(shard: &mut Shard, event: Event) -> bool {
+    if shard.reserve(3, 1).is_err() || !shard.legal(&event) {
+        return false;
+    }
+    shard.step(event);
+    true
+}
+
+// Makes all these events, one after another. False where one may not come, or memory is refused.
+fn make_all(shard: &mut Shard, events: &[Event]) -> bool {
+    for event in events {
+        if !make(shard, *event) {
+            return false;
+        }
+    }
+    true
+}
+
+// Whether two shards have the same target, sizes and history.
+fn are_same(one: &Shard, two: &Shard) -> bool {
+    let sizes = [State::Mru, State::Mfu, State::MruGhost, State::MfuGhost]
+        .iter()
+        .all(|state| one.size(*state) == two.size(*state));
+    sizes && one.p() == two.p() && one.history() == two.history()
+}
+
+// Whether the shard's history replays from its start, each event legal when it comes, and ends where the shard does.
+fn replays(alloc: Global, config: &Config, shard: &Shard) -> bool
     requires { IsConfig config.now }
 {
     let mut fresh = Shard::new(alloc, config.c, config.mintime, config.bounds);
-    for event in shard.history() {
-        fresh.reserve(3, 1)?;
-        if !fresh.legal(event) {
-            return Ok(false);
-        }
-        fresh.step(*event);
-    }
-    let same = [State::Mru, State::Mfu, State::MruGhost, State::MfuGhost]
-        .iter()
-        .all(|state| fresh.size(*state) == shard.size(*state));
-    Ok(same && fresh.p() == shard.p() && fresh.history() == shard.history())
+    make_all(&mut fresh, shard.history()) && are_same(&fresh, shard)
 }
 
 // How many passes these events have.
@@ -148,7 +165,7 @@ fn passes_in(events: &[Event]) -> u64 {
 }
 
 // Replays the histories of all shards.
-fn judge(alloc: Global, config: &Config, shards: &[Shard]) -> Result<Soaked, NoMemory>
+fn judge(alloc: Global, config: &Config, shards: &[Shard]) -> Soaked
     requires { IsConfig config.now }
 {
     let mut soaked = Soaked {
@@ -159,9 +176,9 @@ fn judge(alloc: Global, config: &Config, shards: &[Shard]) -> Result<Soaked, NoM
     for shard in shards {
         soaked.events = soaked.events.wrapping_add(shard.history().len() as u64);
         soaked.passes = soaked.passes.wrapping_add(passes_in(shard.history()));
-        soaked.replay = soaked.replay && replays(alloc, config, shard)?;
+        soaked.replay = soaked.replay && replays(alloc, config, shard);
     }
-    Ok(soaked)
+    soaked
 }
 
 /// Four callers do their calls, and the histories are replayed.
@@ -177,5 +194,5 @@ pub fn run_soak<R: Threads + Wait + Sync>(rt: &R, alloc: Global) -> Result<Soake
     } = opened(alloc, &config, KEYS)?;
     let (low, high) = call_four(rt, &arcs, callers);
     let closed = close_all(alloc, arcs, low, high, feeder)?;
-    judge(alloc, &config, closed.shards())
+    Ok(judge(alloc, &config, closed.shards()))
 }
