@@ -3,6 +3,7 @@ pub mod Acts
 pub mod Answering
 pub mod Answers
 pub mod Blocks
+pub mod CallerLines
 pub mod CallerCache
 pub mod Effects
 pub mod Ends
