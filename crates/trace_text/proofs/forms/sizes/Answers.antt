@@ -8,13 +8,13 @@ pub returns-in_err-callers : goal.returns-in_err-callers
 returns-in_err-callers c =
     let exit = err_from_is_err_and c.from_residual.result c.from_residual.ensures.1 in
     number-fault c.args.seen words.Arc c.args.fields.now _ exit.0 _ exit.1 exit.2 c.in_err-callers.ensures.0
-    (λ line said. let p = spell-arc c.args.seen.callers c.args.fields.now line said in c.in_err-callers.ensures.1 p.0.callers _ p.3.ranged.counts.callers.0 p.3.one_caller p.2)
+    (λ line said. let p = spell-arc c.args.seen.callers c.args.fields.now line said in c.in_err-callers.ensures.1 p.0.callers _ p.3.ranged.counts.callers.0 p.3.ranged.counts.callers.1 p.2)
 
 pub returns-in_err-shards : goal.returns-in_err-shards
 returns-in_err-shards c =
     let exit = err_from_is_err_and c.from_residual-in_err-shards.result c.from_residual-in_err-shards.ensures.1 in
     number-fault c.args.seen words.Arc c.args.fields.now _ exit.0 _ exit.1 exit.2 c.in_err-shards.ensures.0
-    (λ line said. let p = spell-arc c.args.seen.callers c.args.fields.now line said in c.in_err-shards.ensures.1 p.0.shards _ p.3.ranged.counts.shards.0 p.3.one_shard (next-fields c.in_ok-callers.ensures.0 p.2))
+    (λ line said. let p = spell-arc c.args.seen.callers c.args.fields.now line said in c.in_err-shards.ensures.1 p.0.shards _ p.3.ranged.counts.shards.0 p.3.ranged.counts.shards.1 (next-fields c.in_ok-callers.ensures.0 p.2))
 
 pub returns-in_err-buckets : goal.returns-in_err-buckets
 returns-in_err-buckets c =
