@@ -7,6 +7,7 @@ pub mod CursorStart
 pub mod CursorSteps
 pub mod Ending
 pub mod EntriesAfter
+pub mod EntryRows
 pub mod Evictions
 pub mod Feeding
 pub mod Frames

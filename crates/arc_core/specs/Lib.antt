@@ -6,6 +6,8 @@ pub mod Cursor
 pub mod Digests
 pub mod Edits
 pub mod Ending
+pub mod Entries
+pub mod EntryRows
 pub mod Keeps
 pub mod Operations
 pub mod Owed

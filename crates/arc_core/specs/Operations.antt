@@ -15,7 +15,7 @@ use Rattle.arc_core.specs.declared.event.FailedAt.{FailedAt}
 use Rattle.arc_core.specs.declared.event.FailedAt.TheVariants as failed
 use Rattle.arc_core.specs.declared.served.Served.{Served}
 use Rattle.arc_core.specs.declared.served.Served.TheVariants as served
-use Rattle.arc_core.specs.PlainShard.{PlainShard, entry_is, is_free, keeps_digest}
+use Rattle.arc_core.specs.PlainShard.{PlainShard, entry_is, is_cell, is_free, keeps_digest}
 use Rattle.arc_core.specs.Step.{after}
 
 -- ---- what is read off an event
@@ -231,9 +231,9 @@ abbrev pub is_cell_of : (callers cells : ℕ) → ℕ → Bool
 is_cell_of callers cells n = nat_lt callers n && nat_le n (callers + cells)
 
 -- Callers read, and hand holds to cells; cells insert, and make blocks private; both give holds back; and the feeder makes the feed's
--- events. A pass names a caller or the feeder as the owner.
+-- events. A caller or the feeder passes a key, as it scans, and names another of these as the owner.
 abbrev pub has_its_number : (callers cells : ℕ) → Event → Bool
-has_its_number callers cells (Pass n k owner) = nat_le n (callers + cells) && nat_le owner callers
+has_its_number callers cells (Pass n k owner) = nat_le n callers && nat_le owner callers
 has_its_number callers cells (Hit n k t) = is_caller callers n
 has_its_number callers cells (Miss n k t) = is_caller callers n
 has_its_number callers cells (Arrive n k d from) = is_caller callers n
@@ -251,13 +251,13 @@ has_its_number callers cells (Clear n k) = is_feeder callers n
 has_its_number callers cells (Restore n k place d) = is_feeder callers n
 has_its_number callers cells (Resize n c) = is_feeder callers n
 
--- ---- where a pass may stand: in front of a miss, an insertion, a pick, the end of a feed's picks or a resize of the same number, with
--- nothing but passes of that number between
+-- ---- where a pass may stand: in front of a miss, a pick, the end of a feed's picks or a resize of the same number, or of an insertion,
+-- with nothing but passes of that number between. An insertion has its cell's number, whichever party scans for it.
 
 abbrev pub goes_on : ℕ → Event → Bool
 goes_on n (Pass m k owner) = m == n
 goes_on n (Miss m k t) = m == n
-goes_on n (Insert m k d t) = m == n
+goes_on n (Insert m k d t) = is_cell m
 goes_on n (Pick m k) = m == n
 goes_on n (FeedEnd m) = m == n
 goes_on n (Resize m c) = m == n

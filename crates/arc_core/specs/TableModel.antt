@@ -1,5 +1,5 @@
 -- What the vectors of a shard's table mean, and what they keep.
-use Rattle.std.specs.Prelude.{◌≡◌, ◌+◌, ◌≤◌, map, vec_len, vec_capacity}
+use Rattle.std.specs.Prelude.{◌≡◌, ◌+◌, ◌≤◌, length, map, vec_len, vec_capacity}
 use Rattle.arc_core.specs.declared.table.Table.TheInside.{Inside}
 use Rattle.arc_lists.specs.ByKey.{IsRising}
 use Rattle.arc_core.specs.Candidate.{picked_bytes}
@@ -29,9 +29,9 @@ pub record IsKept (t : Inside) : Type 0 where
   -- the lists have each entry's key and state
   pub members : t.lists.members ≡ map member_of t.entries.items
   -- there is room for the entries that the lists have room for, and for so many picks and passed keys
-  pub room : vec_len t.entries + t.lists.spare ≤ vec_capacity t.entries
+  pub room : t.lists.spare ≤ t.entries.spare
   -- and as much for marked keys
-  pub marked_room : vec_len t.entries + t.lists.spare ≤ vec_capacity t.marked
+  pub marked_room : length t.entries.items + t.lists.spare ≤ vec_capacity t.marked
   pub passed_room : vec_len t.passed + t.marks ≤ vec_capacity t.passed
   pub picked_room : vec_len t.picked + t.marks ≤ vec_capacity t.picked
   -- the passed keys rise, and so do the marked ones; what is picked is counted

@@ -13,7 +13,7 @@ mod room;
 mod scan;
 
 use crate::config::Bounds;
-use crate::entries;
+use crate::entries::Entries;
 use crate::entry::{Entry, Phase, Picked};
 use arc_lists::Lists;
 use blk_ptr::{Key, NoMemory, State};
@@ -23,7 +23,7 @@ use std::marker::Model;
 /// The entries of a shard, with the lists on which they stand. Contracts see a plain shard.
 #[derive(Debug, Drop)]
 pub struct Table {
-    entries: Vec<Entry>,
+    entries: Entries,
     lists: Lists,
     mintime: u64,
     bounds: Bounds,
@@ -61,7 +61,7 @@ impl Table {
         ensures marked { result.marked ≡ [] }
     {
         Table {
-            entries: Vec::new(alloc),
+            entries: Entries::new(alloc),
             lists: Lists::new(alloc, c),
             mintime,
             bounds,
@@ -104,7 +104,7 @@ impl Table {
         ensures value { result ≡ entry_of key self.now.shard }
         ensures tidy { IsTidy self.now.shard }
     {
-        entries::find(&self.entries, key)
+        self.entries.find(key)
     }
 
     /// Writes an entry over its key's, and puts the key at its sequence's head where nobody holds it.
@@ -116,7 +116,7 @@ impl Table {
         let unheld = is_unheld(&entry);
         self.lists.take_out(entry.key);
         self.lists.put(entry.key, entry.state, unheld);
-        entries::write(&mut self.entries, entry);
+        self.entries.write(entry);
     }
 
     /// Writes an entry over its key's, which has the same state and holds, and leaves the key where it stands.
@@ -125,7 +125,7 @@ impl Table {
         requires sound { IsSoundEntry entry }
         ensures { self.new ≡ record self.old { shard = amended entry self.old.shard } }
     {
-        entries::write(&mut self.entries, entry);
+        self.entries.write(entry);
     }
 
     /// Adds an entry of a key that has none, on no sequence.
@@ -137,7 +137,7 @@ impl Table {
         ensures { self.new ≡ record self.old { shard = come entry self.old.shard; spare = self.old.spare - 1 } }
     {
         self.lists.put(entry.key, entry.state, false);
-        entries::add(&mut self.entries, entry);
+        self.entries.add(entry);
     }
 
     /// Removes the entry of a key.
@@ -146,7 +146,7 @@ impl Table {
         ensures { self.new ≡ record self.old { shard = gone key self.old.shard; spare = self.old.spare + 1 } }
     {
         self.lists.take_out(key);
-        entries::remove(&mut self.entries, key);
+        self.entries.remove(key);
     }
 
     /// Forgets the passed keys and the marked ones.

@@ -19,8 +19,8 @@ state_of Mfu = state.MfuGhost
 abbrev pub least_target : ℕ → ℕ
 least_target c = c / 16
 
--- The target under a new capacity: no lower than its least, and no higher than what that leaves. (In arc.c a change of the capacity
--- leaves the target where it may stay; so here.)
+-- The target under a new capacity: no lower than its least, and no higher than what that leaves. (In arc.c the target starts anew;
+-- that it stays as far as it may is this project's choice.)
 abbrev pub clamped_target : (c p : ℕ) → ℕ
 clamped_target c p = min (max p (least_target c)) (c - least_target c)
 

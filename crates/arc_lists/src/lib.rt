@@ -14,6 +14,7 @@ mod target;
 pub use ghost_list::Ghost;
 pub use lists::Lists;
 pub use member::Member;
+pub use name::Name;
 
 #[cfg(test)]
 mod tests;

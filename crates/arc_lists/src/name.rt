@@ -1,8 +1,8 @@
-//! A key as the table of members hashes it.
+//! A key as a table by key hashes it.
 use blk_ptr::{Key, hash_of};
 use key_table::Hashed;
 
-/// A key.
+/// A key, found in a table by its hash.
 #[derive(Clone, Copy, Debug)]
 pub struct Name(pub Key);
 

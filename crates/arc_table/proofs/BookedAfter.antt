@@ -45,7 +45,7 @@ use Rattle.arc_table.proofs.ShardGives.{entry_sound, option_case}
 some_is : {A : Type 0} (a b : A) → ◌≡◌ {A = Option A} (Some a) (Some b) → a ≡ b
 some_is a b q = cc
 
-both : (a b : Bool) → IsTrue (a && b) → IsTrue a × IsTrue b
+pub both : (a b : Bool) → IsTrue (a && b) → IsTrue a × IsTrue b
 both true b h = (refl, h)
 both false b h = absurd (cc)
 
@@ -53,7 +53,7 @@ and_true : (a b : Bool) → IsTrue a → IsTrue b → IsTrue (a && b)
 and_true true b h k = k
 and_true false b h k = h
 
-not_zero : (x : ℕ) → IsTrue (not (x == 0)) → 0 < x
+pub not_zero : (x : ℕ) → IsTrue (not (x == 0)) → 0 < x
 not_zero x h = grind (arith, nat_tests)
 
 zero_not : (x : ℕ) → 0 < x → IsTrue (not (x == 0))
@@ -62,12 +62,12 @@ zero_not x h = grind (arith, nat_tests)
 below_true : (x y : ℕ) → IsTrue (nat_lt x y) → x < y
 below_true x y h = grind (arith, nat_tests)
 
-at_rest : (b : Bool) → IsTrue (not b) → b ≡ false
+pub at_rest : (b : Bool) → IsTrue (not b) → b ≡ false
 at_rest false h = refl
 at_rest true h = absurd (cc)
 
 -- a test that an entry passes
-there_is : (test : Entry → Bool) (k : Key) (s : PlainShard) → IsTrue (entry_is test k s) → (x : Entry) × (entry_of k s ≡ Some x) × IsTrue (test x)
+pub there_is : (test : Entry → Bool) (k : Key) (s : PlainShard) → IsTrue (entry_is test k s) → (x : Entry) × (entry_of k s ≡ Some x) × IsTrue (test x)
 there_is test k s h = ⊎_elim
     (λ e. let f : false ≡ true = sym (ap (λ (o : Option Entry). option_map_or test o false) e) ∙ h in absurd (cc))
     (λ x. (x.0, x.1, sym (ap (λ (o : Option Entry). option_map_or test o false) x.1) ∙ h))
@@ -78,12 +78,12 @@ there_is test k s h = ⊎_elim
 sum_cons : (x : ℕ) (xs : List ℕ) → sum (x ∷ xs) ≡ x + sum xs
 sum_cons x xs = sum_by-cons (λ (y : ℕ). y) x xs
 
-one_le : (xs : List ℕ) (a : ℕ) → get_or xs a 0 ≤ sum xs
+pub one_le : (xs : List ℕ) (a : ℕ) → get_or xs a 0 ≤ sum xs
 one_le [] a = omega arith
 one_le (x ∷ xs) zero = let e = sum_cons x xs in omega arith
 one_le (x ∷ xs) (suc a) = let e = sum_cons x xs in let r = one_le xs a in omega arith
 
-two_le : (xs : List ℕ) (a c : ℕ) → a ≢ c → get_or xs a 0 + get_or xs c 0 ≤ sum xs
+pub two_le : (xs : List ℕ) (a c : ℕ) → a ≢ c → get_or xs a 0 + get_or xs c 0 ≤ sum xs
 two_le [] a c far = omega arith
 two_le (x ∷ xs) zero zero far = absurd (far refl)
 two_le (x ∷ xs) zero (suc c) far = let e = sum_cons x xs in let r = one_le xs c in omega arith

@@ -91,7 +91,7 @@ head_there (Some x) (Some h) e head is = (h, refl, subst (λ (y : Entry). Says y
 digest_is : (a b : Digest) → digest_eq a b ≡ true → a ≡ b
 digest_is a b same = ap (λ (bytes : List ℕ). record { 0 = bytes }) ((bytes_eq-Decides a.0 b.0).0 same)
 
-kept_is : (o : Option Digest) (d : Digest) → option_map_or (λ kept. digest_eq kept d) o false ≡ true → o ≡ Some d
+pub kept_is : (o : Option Digest) (d : Digest) → option_map_or (λ kept. digest_eq kept d) o false ≡ true → o ≡ Some d
 kept_is None d h = absurd (cc)
 kept_is (Some x) d h = ap Some (digest_is x d h)
 

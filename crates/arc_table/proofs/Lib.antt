@@ -29,3 +29,15 @@ pub mod HitEvents
 pub mod FollowEvents
 pub mod FeedEvents
 pub mod Afterwards
+pub mod ArriveEvents
+pub mod Awaiting
+pub mod Tries
+pub mod Candidates
+pub mod FeedScan
+pub mod FeedBegins
+pub mod FeedTries
+pub mod PickSteps
+pub mod FeedEnds
+pub mod CapacityEvents
+pub mod RoomyAfter
+pub mod Holders

@@ -142,7 +142,7 @@ reading_says n k t o x is = record {
     and_false true = refl
     and_false false = refl
 
-suffix_legal : (s : PlainShard) (front rest : List Event) → is_legal_history s (front ++ rest) ≡ true → is_legal_history (replay s front) rest ≡ true
+pub suffix_legal : (s : PlainShard) (front rest : List Event) → is_legal_history s (front ++ rest) ≡ true → is_legal_history (replay s front) rest ≡ true
 suffix_legal s [] rest h = h
 suffix_legal s (e ∷ front) rest h = suffix_legal (after s e) front rest (and_right (legal s e) (is_legal_history (after s e) (front ++ rest)) h)
 
@@ -170,6 +170,8 @@ makes_roomy {C} m g k b q q' r kind own new e s s' h replayed makes turn first v
       passes = h.passes;
       after = s'.both.shard;
       buckets = all_ranges (pairs_of s.both.hand.victims.items) h.scan.buckets;
+      first = subst (λ (j : ℕ). item_at j (pairs_of s.both.hand.victims.items) ≡ None) (h.own ∙ own) h.scan.apart.0;
+      apart = h.scan.apart.1;
       own = subst (λ (i : ℕ). ArePasses g q.number i h.passes) (h.turn ∙ kind) h.scan.passes;
       legal = subst (λ (x : PlainShard). is_legal_history x es ≡ true) (replayed.replayed)
           (suffix_legal b.shard.opening b.shard.history es (subst (λ (x : PlainShard × List Event). is_legal_history x.0 x.1 ≡ true) (λ z. (opening z, history z)) last.legal));

@@ -30,9 +30,10 @@ use Rattle.arc_table.specs.declared.view.Line.{Line}
 use Rattle.arc_table.specs.declared.view.Line.TheVariants as line
 use Rattle.arc_table.specs.declared.view.Mine.{Mine}
 use Rattle.arc_table.specs.declared.view.Note.{Note}
+use Rattle.arc_table.specs.Arriving.{IsReading}
 use Rattle.arc_table.specs.Attached.{IsShown}
 use Rattle.arc_table.specs.Both.{Takes, TakesBoth}
-use Rattle.arc_table.specs.Counted.{Rests, begun, shard_at}
+use Rattle.arc_table.specs.Counted.{IsRead, Rests, begun, shard_at}
 use Rattle.arc_table.specs.Fronts.{StartsWith, front_of, item_at, list_at, put, without_item}
 use Rattle.arc_table.specs.Giving.{IsAsTaken}
 use Rattle.arc_table.specs.Geometry.{IsCell, IsShard, bucket_turn, cell_number, numbers_of, parties_of, shard_turn}
@@ -125,7 +126,7 @@ module _ {C : Type 0} (m : Meanings C) (g : Config) (k : Key) (chain : Chain) (b
   first : Took m (bucket_turn g k) (item.Bucket chain) p t.between
   first = took_is m (bucket_turn g k) (item.Bucket chain) p t.between t.bucket
 
-  second : Took m (shard_turn g k) (item.Shard before) t.between q
+  pub second : Took m (shard_turn g k) (item.Shard before) t.between q
   second = took_is m (shard_turn g k) (item.Shard before) t.between q t.shard
 
   pub reached : Reached g k chain before p q
@@ -146,29 +147,29 @@ module _ {C : Type 0} (m : Meanings C) (g : Config) (k : Key) (chain : Chain) (b
 
   -- ---- the moment at which the shard was free
 
-  abbrev before_shard : Place (Known C)
+  abbrev pub before_shard : Place (Known C)
   before_shard = saw t.between t.shard.knew
 
-  knew : SameButNotes t.between.own t.shard.knew
+  pub knew : SameButNotes t.between.own t.shard.knew
   knew = loses_same m (shard_turn g k) t.shard.owners t.between (saw t.between t.shard.knew) t.shard.lost
 
-  abbrev moment : WasFree (Pact m) before_shard (shard_turn g k) (item.Shard before)
+  abbrev pub moment : WasFree (Pact m) before_shard (shard_turn g k) (item.Shard before)
   moment = t.shard.free
 
   module _ (same : p.own.about.config ≡ g) (valid : IsConfig g) where
     config : before_shard.own.about.config ≡ g
     config = ap (λ (a : About). a.config) (knew.about ∙ first.about) ∙ same
 
-    abbrev scene : Scene C
+    abbrev pub scene : Scene C
     scene = moment.held.scene
 
-    scene_config : scene.about.config ≡ g
+    pub scene_config : scene.about.config ≡ g
     scene_config = config_then m before_shard (shard_turn g k) before moment ∙ config
 
-    shown : IsShown scene before_shard.number before_shard.own
+    pub shown : IsShown scene before_shard.number before_shard.own
     shown = moment.held.attached.views before_shard.number before_shard.own moment.stands.shows.0
 
-    shard_is : scene.now (shard_turn g k) ≡ item.Shard before
+    pub shard_is : scene.now (shard_turn g k) ≡ item.Shard before
     shard_is = shard_then m before_shard (shard_turn g k) before moment
 
     -- the shard is sound, and its history is the replay
@@ -232,6 +233,14 @@ module _ {C : Type 0} (m : Meanings C) (g : Config) (k : Key) (chain : Chain) (b
         subst (λ (s : PlainShard). Rests s x) (shard_of_key x.key is)
         (moment.held.counted.holds before_shard.number one.0 x below
         (subst (λ (l : Ledger). get_elem? l.holds one.0 ≡ some x) (second.ledger ∙ (sym knew.ledger ∙ shown.ledger)) one.1))
+
+    -- and what it lists as read is being read
+    pub is_read : (j : Key) → shard_turn g j ≡ shard_turn g k → IsReading j q → IsRead before.now j
+    is_read j is one =
+        let below : before_shard.number < parties_of scene.about.config = let a = number_below in let c : parties_of scene.about.config ≡ parties_of g = ap parties_of scene_config in let d : q.number ≡ before_shard.number = second.number in omega arith in
+        subst (λ (s : PlainShard). IsRead s j) (shard_of_key j is)
+        (moment.held.counted.readings before_shard.number one.0 j below
+        (subst (λ (l : Ledger). get_elem? l.readings one.0 ≡ some j) (second.ledger ∙ (sym knew.ledger ∙ shown.ledger)) one.1))
 
     -- what is listed for a cell in hand
     kept_is : (j : ℕ) → IsAmong j p.held → IsCell g j → list_at j q.own.listed ≡ scene.kept j
@@ -305,7 +314,7 @@ one_counts x (h ∷ hs) zero e =
     omega arith
 one_counts x (h ∷ hs) (suc q) e = let ih = one_counts x hs q e in let sum = holds_cons x.key h hs in omega arith
 
-counted_there : (n : ℕ) (k : Key) (s : PlainShard) (entry : Entry) → entry_of k s ≡ Some entry → count_of n k s ≡ held_by n entry
+pub counted_there : (n : ℕ) (k : Key) (s : PlainShard) (entry : Entry) → entry_of k s ≡ Some entry → count_of n k s ≡ held_by n entry
 counted_there n k s entry e = ap (λ (o : Option Entry). option_map_or (held_by n) o 0) e
 
 module _ {C : Type 0} (m : Meanings C) (g : Config) (k : Key) (chain : Chain) (before : ShardLog) (p q : Place (Known C)) (t : TakesBoth m g k chain before p q) (same : p.own.about.config ≡ g) (valid : IsConfig g) where

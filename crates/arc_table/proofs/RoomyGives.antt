@@ -35,7 +35,7 @@ use Rattle.arc_table.proofs.ShardGives.{listed_at}
 -- ---- buckets given back
 
 module _ {C : Type 0} where
-  gave_listed : (vs : List (ℕ × Chain)) (p : Place (Known C)) → (gave_all vs p).own.listed ≡ p.own.listed
+  pub gave_listed : (vs : List (ℕ × Chain)) (p : Place (Known C)) → (gave_all vs p).own.listed ≡ p.own.listed
   gave_listed [] p = refl
   gave_listed (v ∷ vs) p = gave_listed vs (gave_back p v.0 (after_same v.0 p.own))
 

@@ -36,7 +36,7 @@ count_more f f' (x ∷ xs) h =
     omega arith
 
 -- and at the entry of a key f passes, and f' doesn't
-count_less : (f f' : Entry → Bool) (k : Key) (xs : List Entry) (x : Entry) → Covers f f' → item_at entry_key k xs ≡ Some x → ((e : Entry) → key_eq e.key k ≡ true → (f e ≡ true) × (f' e ≡ false)) → count_by f' xs < count_by f xs
+pub count_less : (f f' : Entry → Bool) (k : Key) (xs : List Entry) (x : Entry) → Covers f f' → item_at entry_key k xs ≡ Some x → ((e : Entry) → key_eq e.key k ≡ true → (f e ≡ true) × (f' e ≡ false)) → count_by f' xs < count_by f xs
 count_less f f' k [] x h there at = absurd (none-some x there)
 count_less f f' k (y ∷ xs) x h there at =
     let a : count_by f' (y ∷ xs) ≡ cond (f' y) 1 0 + count_by f' xs = sum_by-cons (λ z. cond (f' z) 1 0) y xs in
@@ -102,7 +102,7 @@ swap_or true false c = refl
 swap_or false true c = refl
 swap_or false false c = refl
 
-stands_with : (j k : Key) (ks : List Key) → stands_on j (with_item (λ x. x) k ks) ≡ (key_eq k j || stands_on j ks)
+pub stands_with : (j k : Key) (ks : List Key) → stands_on j (with_item (λ x. x) k ks) ≡ (key_eq k j || stands_on j ks)
 stands_with j k [] = refl
 stands_with j k (y ∷ ys) = by_test (stands_with j k ys) (key_lt k y)
   where

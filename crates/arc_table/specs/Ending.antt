@@ -1,5 +1,5 @@
 -- A scan whose event is made, and all given back.
-use Rattle.std.specs.Prelude.{◌≡◌, ℕ, false, IsTrue, List, [], ◌∷◌, ◌++◌, length, Some}
+use Rattle.std.specs.Prelude.{◌≡◌, ℕ, false, IsTrue, List, [], ◌∷◌, ◌++◌, length, None, Some}
 use Rattle.blk_ptr.specs.declared.key.Key.{Key}
 use Rattle.arc_lists.specs.Sequences.{stands_on}
 use Rattle.arc_core.specs.declared.config.Config.{Config}
@@ -14,10 +14,11 @@ use Rattle.turn_table.specs.Places.{Place, gave_back}
 use Rattle.arc_table.specs.declared.scan.Scan.{Scan}
 use Rattle.arc_table.specs.declared.view.Known.{Known}
 use Rattle.arc_table.specs.Both.{TakesBoth}
+use Rattle.arc_table.specs.Fronts.{item_at}
 use Rattle.arc_table.specs.Geometry.{IsBucket, bucket_turn, shard_turn}
 use Rattle.arc_table.specs.Headed.{IsHead}
 use Rattle.arc_table.specs.Items.{Meanings}
-use Rattle.arc_table.specs.Scanning.{takes_room, AllPairs, ArePasses, MayScan, Scans, after_scan, gave_all, pairs_of}
+use Rattle.arc_table.specs.Scanning.{takes_room, AllPairs, AreApart, ArePasses, MayScan, Scans, after_scan, gave_all, pairs_of}
 use Rattle.arc_table.specs.ShardGiving.{IsActor, after_shard}
 use Rattle.arc_table.specs.Sparing.{turns_in}
 
@@ -50,6 +51,9 @@ module _ {C : Type 0} (m : Meanings C) where
     pub passes : List Event
     pub after : ShardLog
     pub buckets : AllPairs (λ j b. IsBucket g j) won
+    -- no bucket stands twice among these and the key's
+    pub first : item_at (bucket_turn g k) won ≡ None
+    pub apart : AreApart won
     pub own : ArePasses g q.number (shard_turn g k) passes
     pub legal : IsTrue (is_legal_history before.now (passes ++ e ∷ []))
     pub now : after.now ≡ replay before.now (passes ++ e ∷ [])

@@ -28,6 +28,7 @@ pub mod Sparing
 pub mod Evicting
 pub mod Ending
 pub mod Fetching
+pub mod Arriving
 pub mod Inserting
 pub mod Holding
 pub mod Both
@@ -37,3 +38,5 @@ pub mod Standing
 pub mod Trying
 pub mod Handing
 pub mod Feeding
+pub mod Picking
+pub mod Resizing

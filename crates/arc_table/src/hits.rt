@@ -1,16 +1,16 @@
 //! Hits that never wait.
-ghost use Rattle.std.specs.Prelude.{◌≡◌, IfOk, OnErr, [], ◌∷◌, length};
+ghost use Rattle.std.specs.Prelude.{◌≡◌, ℕ, IfOk, OnErr, [], ◌∷◌, length};
 ghost use Rattle.blk_ptr.specs.Hash.{shard_of};
 ghost use Rattle.arc_core.specs.declared.event.Event.{Event};
 ghost use Rattle.arc_core.specs.ShardLog.{IsReplayed};
 ghost use Rattle.arc_table.specs.Both.{Makes};
 ghost use Rattle.arc_table.specs.Cache.{IsPartyOf};
-ghost use Rattle.arc_table.specs.Holding.{IsHeld, IsHoldOf};
+ghost use Rattle.arc_table.specs.Holding.{IsHeld, IsHoldOf, IsListed};
 ghost use Rattle.arc_table.specs.Items.{meanings};
 ghost use Rattle.arc_table.specs.Looking.{HasNoLook};
 ghost use Rattle.arc_table.specs.Making.{IsTaken};
 ghost use Rattle.arc_table.specs.Standing.{StandsSo, is_cached_with};
-ghost use Rattle.arc_table.specs.Trying.{AnswersHit};
+ghost use Rattle.arc_table.specs.Trying.{AnswersHit, IsServed};
 
 use crate::arcs::{Arcs, Party};
 use crate::both::Both;
@@ -73,11 +73,13 @@ pub(crate) fn standing_of(shard: &Shard, ptr: Ptr) -> Standing
 
 impl<C: Keeps> Arcs<C> {
     /// Asks for a block at a tick, and takes a hold on it where its bytes are cached with the pointer's digest. It never waits. All answers
-    /// but `Held` make no event.
+    /// but `Held` make no event. A party that holds the block already gets a hold, unless another party has its bucket or its shard, or
+    /// memory is refused.
     pub fn try_hit(&self, party: &mut Party<C>, ptr: &Ptr, tick: u64) -> TryHit
         requires party { IsPartyOf self.now party.old }
         requires look { HasNoLook self.now party.old }
-        ensures { AnswersHit (meanings C.holds C.entries C.opening C.claims C.sound) self.now.config ptr.now tick party.old party.new result }
+        ensures answer { AnswersHit (meanings C.holds C.entries C.opening C.claims C.sound) self.now.config ptr.now tick party.old party.new result }
+        ensures holder { (n : ℕ) → IsListed self.now.config party.old n ptr.now → IsServed result }
     {
         let both = match self.try_both(party, ptr.key) {
             Take::Busy { owner } => return TryHit::Busy { owner },

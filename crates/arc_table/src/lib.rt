@@ -3,6 +3,7 @@
 
 mod about;
 mod arcs;
+mod arrivals;
 mod both;
 mod cells;
 mod closed;
@@ -24,6 +25,8 @@ mod looks;
 mod misses;
 mod opening;
 mod pact;
+mod picks;
+mod resizes;
 mod restores;
 mod scan;
 mod spare;
@@ -41,6 +44,8 @@ pub use inserts::Inserted;
 pub use item::Item;
 pub use look::{BucketTurn, Look};
 pub use pact::{Pact, Settled};
+pub use picks::Picked;
+pub use resizes::ResizeStop;
 pub use restores::RestoreStop;
 pub use view::{Known, Ledger, Line, Mine, Note};
 

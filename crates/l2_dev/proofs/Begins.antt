@@ -9,7 +9,7 @@ use Rattle.l2_ring.specs.Ring.{RingState, HasPlan, last_lap, with_hand, numbers_
 use Rattle.l2_dev.specs.Chain.{numbers_in}
 use Rattle.l2_dev.specs.Standing.{Candidate, leading, staying}
 use Rattle.l2_dev.specs.Cursor.{CursorState, numbers_from}
-use Rattle.l2_dev.specs.Promise.{Promise, IsKept}
+use Rattle.l2_dev.specs.Promise.{Promise, KeepsPromise}
 use Rattle.l2_dev.specs.PromiseLaws.{left_by, HasTaken, IsHeaderFrom, same_plan}
 use Rattle.l2_dev.specs.Planned.{HasPlanned}
 use Rattle.l2_dev.specs.Steps.{HasFlushed, HeaderWritten}
@@ -66,7 +66,7 @@ taken_of n old new h at below =
     }
 
 module _ {D : Type 0} (tells : D → Option (List ℕ)) (has_sectors : D → Bool) (leaves : D → List ℕ → Type 0) (moment : D → ℕ) (since : D → ℕ → List ℕ → Type 0) where
-  begins : {T E : Type 0} (n : ℕ) (old new : D) (cursor after : CursorState) (p : Promise) (header : DevHeader) (result : Result T E) → IsKept tells has_sectors leaves old cursor p → (h : HasPlanned n cursor after)
+  begins : {T E : Type 0} (n : ℕ) (old new : D) (cursor after : CursorState) (p : Promise) (header : DevHeader) (result : Result T E) → KeepsPromise tells has_sectors leaves old cursor p → (h : HasPlanned n cursor after)
       → cursor.base ≡ cursor.ring.hand → after.ring.lap < last_lap → IsHeaderFrom after header → (w : HeaderWritten tells has_sectors leaves moment since header old new result)
       → IsPlain tells has_sectors leaves moment since old header_len → Begins tells has_sectors leaves moment since n h.plan old new cursor after p header w.sector
   begins n old new cursor after p header result kept h at below from w plain = record {
@@ -79,15 +79,15 @@ module _ {D : Type 0} (tells : D → Option (List ℕ)) (has_sectors : D → Boo
   }
 
   abbrev pub Left : D → D → CursorState → Promise → Plan → Candidate → Type 0
-  Left old new after p plan k = LeavesWith moment since after.ring.end old new p (leading plan p.blocks) (staying plan p.kept) (staying plan p.kept) k
+  Left old new after p plan k = LeavesWith moment since (IsHeaderFrom after) after.ring.end old new p (leading plan p.blocks) (staying plan p.kept) (staying plan p.kept) k
 
-  pub begin_failed : {T E : Type 0} (n : ℕ) (old new : D) (cursor after : CursorState) (p : Promise) (header : DevHeader) (result : Result T E) → IsKept tells has_sectors leaves old cursor p → HasPlanned n cursor after
+  pub begin_failed : {T E : Type 0} (n : ℕ) (old new : D) (cursor after : CursorState) (p : Promise) (header : DevHeader) (result : Result T E) → KeepsPromise tells has_sectors leaves old cursor p → HasPlanned n cursor after
       → cursor.base ≡ cursor.ring.hand → after.ring.lap < last_lap → IsHeaderFrom after header → HeaderWritten tells has_sectors leaves moment since header old new result
       → IsPlain tells has_sectors leaves moment since old header_len → after.ready ≡ false
-      → (k : Candidate) × Left old new after p (numbers_from after) k × IsKept tells has_sectors leaves new after (left_by (numbers_from after) p (k ∷ p.candidates))
+      → (k : Candidate) × Left old new after p (numbers_from after) k × KeepsPromise tells has_sectors leaves new after (left_by (numbers_from after) p (k ∷ p.candidates))
   begin_failed n old new cursor after p header result kept h at below from w plain shut =
       let b = begins n old new cursor after p header result kept h at below from w plain in
-      subst (λ (q : Plan). (k : Candidate) × Left old new after p q k × IsKept tells has_sectors leaves new after (left_by q p (k ∷ p.candidates))) (planned_numbers n cursor after h) (
+      subst (λ (q : Plan). (k : Candidate) × Left old new after p q k × KeepsPromise tells has_sectors leaves new after (left_by q p (k ∷ p.candidates))) (planned_numbers n cursor after h) (
         record { sector = w.sector; blocks = leading h.plan p.blocks; kept = staying h.plan p.kept },
         begun_leaves tells has_sectors leaves moment since n h.plan old new cursor after p header w.sector b,
         begun_failed tells has_sectors leaves moment since n h.plan old new cursor after p header w.sector b shut,
@@ -96,13 +96,13 @@ module _ {D : Type 0} (tells : D → Option (List ℕ)) (has_sectors : D → Boo
   pub flushed_of : (o : Option (List ℕ)) (image : List ℕ) (P : List ℕ → Type 0) → o ≡ Some image → IfSome o P → P image
   flushed_of o image P e f = subst (λ (x : Option (List ℕ)). IfSome x P) e f
 
-  pub begin_kept : {T E : Type 0} (n : ℕ) (old new : D) (cursor after : CursorState) (p : Promise) (header : DevHeader) (result : Result T E) → IsKept tells has_sectors leaves old cursor p → HasPlanned n cursor after
+  pub begin_kept : {T E : Type 0} (n : ℕ) (old new : D) (cursor after : CursorState) (p : Promise) (header : DevHeader) (result : Result T E) → KeepsPromise tells has_sectors leaves old cursor p → HasPlanned n cursor after
       → cursor.base ≡ cursor.ring.hand → after.ring.lap < last_lap → IsHeaderFrom after header → (w : HeaderWritten tells has_sectors leaves moment since header old new result)
       → IfSome (tells old) (λ image. HasFlushed tells leaves new (put 0 w.sector image)) → IsPlain tells has_sectors leaves moment since old header_len
-      → (k : Candidate) × Left old new after p (numbers_from after) k × IsKept tells has_sectors leaves new after (left_by (numbers_from after) p (k ∷ []))
+      → (k : Candidate) × Left old new after p (numbers_from after) k × KeepsPromise tells has_sectors leaves new after (left_by (numbers_from after) p (k ∷ []))
   begin_kept n old new cursor after p header result kept h at below from w done plain =
       let b = begins n old new cursor after p header result kept h at below from w plain in
-      subst (λ (q : Plan). (k : Candidate) × Left old new after p q k × IsKept tells has_sectors leaves new after (left_by q p (k ∷ []))) (planned_numbers n cursor after h) (
+      subst (λ (q : Plan). (k : Candidate) × Left old new after p q k × KeepsPromise tells has_sectors leaves new after (left_by q p (k ∷ []))) (planned_numbers n cursor after h) (
         record { sector = w.sector; blocks = leading h.plan p.blocks; kept = staying h.plan p.kept },
         begun_leaves tells has_sectors leaves moment since n h.plan old new cursor after p header w.sector b,
         begun_kept tells has_sectors leaves moment since n h.plan old new cursor after p header w.sector b kept.image kept.told

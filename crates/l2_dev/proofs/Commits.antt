@@ -1,9 +1,9 @@
 -- What a commit keeps of every crash, from the steps of its body.
-use Rattle.std.proofs.Common.{◌≡◌, ℕ, ◌+◌, ◌<◌, ◌≤◌, ◌++◌, List, [], ◌∷◌, length, map, reverse, Bool, Option, None, Some, Result, Ok, refl, inl, inr, sym, ap, subst, ◌∙◌, arith}
+use Rattle.std.proofs.Common.{◌≡◌, ℕ, ◌+◌, ◌<◌, ◌≤◌, ◌++◌, List, [], ◌∷◌, length, map, reverse, Bool, Option, None, Some, Result, Ok, Err, ◌⊎◌, refl, inl, inr, sym, ap, subst, ◌∙◌, arith}
 use Rattle.std.specs.List.{AllByRecursion}
 use Rattle.std.specs.Option.{IfSome}
 use Rattle.std.specs.Result.{IsErrOf}
-use Rattle.vdev_io.specs.Device.{put}
+use Rattle.vdev_io.specs.Device.{IsTorn, IsWritten, put}
 use Rattle.blk_ptr.specs.Ptr.{sha256_of}
 use Rattle.l2_log.specs.Rules.{log_len, header_len}
 use Rattle.l2_log.specs.HeaderBytes.{IsHeader}
@@ -20,16 +20,16 @@ use Rattle.l2_dev.specs.Chain.{Visit, IsPlaced, IsLinked, bytes_at}
 use Rattle.l2_dev.specs.Restoring.{written_in, firsts, found_in}
 use Rattle.l2_dev.specs.Standing.{Candidate, Kept, written_of, IsRow, IsOrderly}
 use Rattle.l2_dev.specs.Cursor.{CursorState, IsCursor, numbers_from}
-use Rattle.l2_dev.specs.Promise.{Promise, IsUpheld, IsKept, IsOf, AreGood, kept_range}
+use Rattle.l2_dev.specs.Promise.{Promise, IsUpheld, KeepsPromise, IsOf, AreGood, kept_range}
 use Rattle.l2_dev.specs.PromiseLaws.{same_plan, with_block, HasCommitted, IsHeaderFrom}
 use Rattle.l2_dev.specs.CommitLaws.{IsNewBlock, new_block_stays}
 use Rattle.l2_dev.specs.Planned.{IsBlockOf, IsHeaderWith, IsReserved, HasSettled}
 use Rattle.l2_dev.specs.Steps.{Wrote, HasFlushed, HeaderWritten}
 use Rattle.l2_dev.specs.TornLaws.{put_there}
-use Rattle.l2_dev.specs.Calls.{LeavesWith, LogWritten, HasCommitWritten, forgotten, IsCommitBlock}
+use Rattle.l2_dev.specs.Calls.{LeavesTorn, LeavesWith, LogWritten, HasCommitWritten, forgotten, IsCommitBlock, IsCommitLeft}
 use Rattle.l2_log.specs.declared.pointer.LogPtr.{LogPtr}
 use Rattle.l2_dev.specs.declared.fault.DevErr.{DevErr}
-use Rattle.l2_dev.specs.declared.fault.DevErr.TheVariants.{NoMemory}
+use Rattle.l2_dev.specs.declared.fault.DevErr.TheVariants.{DevFault, NoMemory}
 use Rattle.l2_dev.specs.Promise.{IsBacked, LeftAmong, LeavesOnlyWith}
 use Rattle.l2_dev.specs.StepLaws.{left_among}
 use Rattle.l2_dev.specs.Planned.{IsForgotten}
@@ -199,11 +199,22 @@ forgotten_reserved old mid new r f = record {
   ready = f.ready;
 }
 
+-- a fact of what is told, if anything is
+some_weaker : (o : Option (List ℕ)) (P Q : List ℕ → Type 0) → ((image : List ℕ) → P image → Q image) → IfSome o P → IfSome o Q
+some_weaker None P Q f is = tt
+some_weaker (Some image) P Q f is = f image is
+
+-- a write that failed, over what is told
+torn_told : (T E : Type 0) (at n : ℕ) (bytes : List ℕ) (o now : Option (List ℕ)) (fault : E) → length bytes ≡ n → IsWritten {T = T} {E = E} at bytes o now (Err fault) → IfSome o (λ image. LeavesTorn at n image now)
+torn_told T E at n bytes None now fault len w = tt
+torn_told T E at n bytes (Some image) None fault len w = absurd w
+torn_told T E at n bytes (Some image) (Some left) fault len w = (left, refl, subst (λ (m : ℕ). IsTorn at m image left) len w)
+
 no_refusal : (ptr : LogPtr) → IsErrOf {T = LogPtr} {E = DevErr} (Ok ptr) NoMemory → ⊥
 no_refusal ptr e = cc
 
 module _ {D : Type 0} (tells : D → Option (List ℕ)) (has_sectors : D → Bool) (leaves : D → List ℕ → Type 0) (moment : D → ℕ) (since : D → ℕ → List ℕ → Type 0) where
-  pub reserved_kept : (device : D) (old new : CursorState) (p : Promise) → IsReserved old new → IsKept tells has_sectors leaves device old p → IsKept tells has_sectors leaves device new p
+  pub reserved_kept : (device : D) (old new : CursorState) (p : Promise) → IsReserved old new → KeepsPromise tells has_sectors leaves device old p → KeepsPromise tells has_sectors leaves device new p
   reserved_kept device old new p r kept = record {
     upheld = reserved_upheld old new p r kept.upheld;
     sectors = kept.sectors;
@@ -226,7 +237,7 @@ module _ {D : Type 0} (tells : D → Option (List ℕ)) (has_sectors : D → Boo
     pub first : Wrote tells has_sectors leaves moment since cursor.ring.hand bytes old mid
     pub flushed : HasFlushed tells leaves mid (put cursor.ring.hand bytes image)
 
-  commits : {T E : Type 0} (old mid new : D) (cursor : CursorState) (p : Promise) (image bytes : List ℕ) (ptr : LogPtr) (block : LogBlock) (header : DevHeader) (result : Result T E) → IsKept tells has_sectors leaves old cursor p
+  commits : {T E : Type 0} (old mid new : D) (cursor : CursorState) (p : Promise) (image bytes : List ℕ) (ptr : LogPtr) (block : LogBlock) (header : DevHeader) (result : Result T E) → KeepsPromise tells has_sectors leaves old cursor p
       → HasLogged old mid cursor image bytes ptr block → IsHeaderWith cursor ptr header → (w : HeaderWritten tells has_sectors leaves moment since header mid new result) → IsPlain tells has_sectors leaves moment since mid header_len
       → Commits tells has_sectors leaves moment since old mid new cursor (settled_state cursor ptr) p record { ptr = ptr; block = block } image bytes header w.sector
   commits old mid new cursor p image bytes ptr block header result kept l h w plain =
@@ -262,27 +273,27 @@ module _ {D : Type 0} (tells : D → Option (List ℕ)) (has_sectors : D → Boo
   commit_block cursor bytes ptr block of = record { place = of.place; entries = of.entries; prev = of.prev }
 
   abbrev pub LeftByCommit : D → D → CursorState → Promise → Visit → Candidate → Type 0
-  LeftByCommit old new cursor p v k = LeavesWith moment since cursor.ring.end old new p (v ∷ p.blocks) (p.pending ++ p.kept) p.kept k
+  LeftByCommit old new cursor p v k = LeavesWith moment since (IsHeaderWith cursor v.ptr) cursor.ring.end old new p (v ∷ p.blocks) (p.pending ++ p.kept) p.kept k
 
   -- the header's write failed
-  pub commit_failed : {T E : Type 0} (old mid new : D) (cursor back : CursorState) (p : Promise) (image bytes : List ℕ) (ptr : LogPtr) (block : LogBlock) (header : DevHeader) (result : Result T E) → IsKept tells has_sectors leaves old cursor p
+  pub commit_failed : {T E : Type 0} (old mid new : D) (cursor back : CursorState) (p : Promise) (image bytes : List ℕ) (ptr : LogPtr) (block : LogBlock) (header : DevHeader) (result : Result T E) → KeepsPromise tells has_sectors leaves old cursor p
       → HasLogged old mid cursor image bytes ptr block → IsHeaderWith cursor ptr header → HeaderWritten tells has_sectors leaves moment since header mid new result → IsPlain tells has_sectors leaves moment since mid header_len → HasForgotten cursor back
-      → (v : Visit) × (k : Candidate) × IsCommitBlock cursor v × LeftByCommit old new cursor p v k × IsKept tells has_sectors leaves new back (forgotten p (k ∷ p.candidates))
+      → (v : Visit) × (k : Candidate) × IsCommitBlock cursor v × LeftByCommit old new cursor p v k × KeepsPromise tells has_sectors leaves new back (forgotten p (k ∷ p.candidates))
   commit_failed old mid new cursor back p image bytes ptr block header result kept l h w plain f =
       let b = commits old mid new cursor p image bytes ptr block header result kept l h w plain in
       let v : Visit = record { ptr = ptr; block = block } in (
         v,
         record { sector = w.sector; blocks = v ∷ p.blocks; kept = p.pending ++ p.kept },
         commit_block cursor bytes ptr block l.of,
-        com_leaves tells has_sectors leaves moment since old mid new cursor (settled_state cursor ptr) p v image bytes header w.sector b,
+        com_leaves tells has_sectors leaves moment since old mid new cursor (settled_state cursor ptr) p v image bytes header w.sector b (IsHeaderWith cursor ptr) h,
         com_failed tells has_sectors leaves moment since old mid new cursor (settled_state cursor ptr) p v image bytes header w.sector b back f,
       )
 
   -- the header was written and flushed
-  pub commit_kept : {T E : Type 0} (old mid new : D) (cursor after : CursorState) (p : Promise) (image bytes : List ℕ) (ptr : LogPtr) (block : LogBlock) (header : DevHeader) (result : Result T E) → IsKept tells has_sectors leaves old cursor p
+  pub commit_kept : {T E : Type 0} (old mid new : D) (cursor after : CursorState) (p : Promise) (image bytes : List ℕ) (ptr : LogPtr) (block : LogBlock) (header : DevHeader) (result : Result T E) → KeepsPromise tells has_sectors leaves old cursor p
       → HasLogged old mid cursor image bytes ptr block → IsHeaderWith cursor ptr header → (w : HeaderWritten tells has_sectors leaves moment since header mid new result) → IsPlain tells has_sectors leaves moment since mid header_len
       → IfSome (tells mid) (λ image. HasFlushed tells leaves new (put 0 w.sector image)) → HasSettled ptr cursor after
-      → (v : Visit) × (k : Candidate) × IsCommitBlock cursor v × LeftByCommit old new cursor p v k × IsKept tells has_sectors leaves new after (with_block v p (k ∷ []))
+      → (v : Visit) × (k : Candidate) × IsCommitBlock cursor v × LeftByCommit old new cursor p v k × KeepsPromise tells has_sectors leaves new after (with_block v p (k ∷ []))
   commit_kept old mid new cursor after p image bytes ptr block header result kept l h w plain done settled =
       let b = commits old mid new cursor p image bytes ptr block header result kept l h w plain in
       let v : Visit = record { ptr = ptr; block = block } in
@@ -292,14 +303,14 @@ module _ {D : Type 0} (tells : D → Option (List ℕ)) (has_sectors : D → Boo
         v,
         record { sector = w.sector; blocks = v ∷ p.blocks; kept = p.pending ++ p.kept },
         commit_block cursor bytes ptr block l.of,
-        com_leaves tells has_sectors leaves moment since old mid new cursor (settled_state cursor ptr) p v image bytes header w.sector b,
+        com_leaves tells has_sectors leaves moment since old mid new cursor (settled_state cursor ptr) p v image bytes header w.sector b (IsHeaderWith cursor ptr) h,
         reserved_kept new (settled_state cursor ptr) after (with_block v p (record { sector = w.sector; blocks = v ∷ p.blocks; kept = p.pending ++ p.kept } ∷ [])) (settled_reserved cursor after ptr settled)
             (com_kept tells has_sectors leaves moment since old mid new cursor (settled_state cursor ptr) p v image bytes header w.sector b flushed long),
       )
 
   -- nothing was written
-  unwritten : (old : D) (cursor back : CursorState) (p : Promise) → IsKept tells has_sectors leaves old cursor p → IsPlain tells has_sectors leaves moment since old header_len → HasForgotten cursor back
-      → LeavesOnlyWith moment since old old (LeftAmong back.ring.end p.candidates) × IsKept tells has_sectors leaves old back (forgotten p p.candidates)
+  unwritten : (old : D) (cursor back : CursorState) (p : Promise) → KeepsPromise tells has_sectors leaves old cursor p → IsPlain tells has_sectors leaves moment since old header_len → HasForgotten cursor back
+      → LeavesOnlyWith moment since old old (LeftAmong back.ring.end p.candidates) × KeepsPromise tells has_sectors leaves old back (forgotten p p.candidates)
   unwritten old cursor back p kept plain f =
       let good : AreGood back.ring.end p.kept p.candidates = subst (λ (e : ℕ). AreGood e p.kept p.candidates) (sym f.end) kept.good in (
         record {
@@ -320,11 +331,11 @@ module _ {D : Type 0} (tells : D → Option (List ℕ)) (has_sectors : D → Boo
       )
 
   -- the log block was not written, or not flushed
-  pub log_failed : (old new : D) (cursor back : CursorState) (p : Promise) (result : Result LogPtr DevErr) → IsKept tells has_sectors leaves old cursor p → IsCursor cursor.ring cursor.base cursor.pending cursor.ready → 0 < length cursor.pending
+  pub log_failed : (old new : D) (cursor back : CursorState) (p : Promise) (result : Result LogPtr DevErr) → KeepsPromise tells has_sectors leaves old cursor p → IsCursor cursor.ring cursor.base cursor.pending cursor.ready → 0 < length cursor.pending
       → IsPlain tells has_sectors leaves moment since old header_len → HasForgotten cursor back → LogWritten tells has_sectors leaves moment since cursor old new result
-      → LeavesOnlyWith moment since old new (LeftAmong back.ring.end p.candidates) × IsKept tells has_sectors leaves new back (forgotten p p.candidates)
+      → LeavesOnlyWith moment since old new (LeftAmong back.ring.end p.candidates) × KeepsPromise tells has_sectors leaves new back (forgotten p p.candidates)
   log_failed old new cursor back p result kept is some plain f (inl same) =
-      subst (λ (d : D). LeavesOnlyWith moment since old d (LeftAmong back.ring.end p.candidates) × IsKept tells has_sectors leaves d back (forgotten p p.candidates)) (sym same.0) (unwritten old cursor back p kept plain f)
+      subst (λ (d : D). LeavesOnlyWith moment since old d (LeftAmong back.ring.end p.candidates) × KeepsPromise tells has_sectors leaves d back (forgotten p p.candidates)) (sym same.0) (unwritten old cursor back p kept plain f)
   log_failed old new cursor back p result kept is some plain f (inr l) =
       let len : length l.0 ≡ log_len = l.3.bytes_of.whole in
       let room = is.room some in
@@ -368,3 +379,37 @@ module _ {D : Type 0} (tells : D → Option (List ℕ)) (has_sectors : D → Boo
   commit_written old mid new cursor ptr header result (inr l) with w done =
       let same : l.2 ≡ ptr = sym l.5.0 in
       told_if l.0 l.1 w.sector header mid new cursor ptr (tells old) (subst (λ (q : LogPtr). IsBlockOf cursor l.0 q l.1) same l.3) w.is with l.5.1 done
+
+  -- the log block's write or its flush failed: what the device tells
+  pub log_left : (old new : D) (cursor : CursorState) (fault : DevErr) → LogWritten tells has_sectors leaves moment since cursor old new (Err fault) → fault ≡ DevFault → IsCommitLeft (tells old) (tells new) cursor
+  log_left old new cursor fault (inl same) is = let none = same.1 in absurd (cc)
+  log_left old new cursor fault (inr l) is = (
+    l.0,
+    l.1,
+    l.2,
+    l.3,
+    some_weaker (tells old) (λ image. LeavesTorn cursor.ring.hand log_len image (tells new))
+        (λ image. LeavesTorn cursor.ring.hand log_len image (tells new) ⊎ LeavesTorn 0 header_len (put cursor.ring.hand l.0 image) (tells new)) (λ image torn. inl torn)
+        (torn_told LogPtr DevErr cursor.ring.hand log_len l.0 (tells old) (tells new) fault l.3.bytes_of.whole l.6),
+  )
+
+  -- memory was refused: nothing was written
+  pub log_refused : (old new : D) (cursor : CursorState) (fault : DevErr) → LogWritten tells has_sectors leaves moment since cursor old new (Err fault) → fault ≡ NoMemory → new ≡ old
+  log_refused old new cursor fault (inl same) is = same.0
+  log_refused old new cursor fault (inr l) is = let failed = l.5 in absurd (cc)
+
+  -- the header's write or its flush failed
+  pub header_left : {T E : Type 0} (old mid new : D) (cursor : CursorState) (ptr : LogPtr) (header : DevHeader) (fault : E) → LogWritten tells has_sectors leaves moment since cursor old mid (Ok ptr)
+      → HeaderWritten {T = T} tells has_sectors leaves moment since header mid new (Err fault) → IsCommitLeft (tells old) (tells new) cursor
+  header_left old mid new cursor ptr header fault (inl same) w = absurd (no_refusal ptr same.1)
+  header_left {T} {E} old mid new cursor ptr header fault (inr l) w = (
+    l.0,
+    l.1,
+    l.2,
+    l.3,
+    some_weaker (tells old) (λ image. HasFlushed tells leaves mid (put cursor.ring.hand l.0 image))
+        (λ image. LeavesTorn cursor.ring.hand log_len image (tells new) ⊎ LeavesTorn 0 header_len (put cursor.ring.hand l.0 image) (tells new))
+        (λ image flushed. inr (torn_told T E 0 header_len w.sector (Some (put cursor.ring.hand l.0 image)) (tells new) fault w.is.whole
+        (subst (λ (o : Option (List ℕ)). IsWritten {T = T} {E = E} 0 w.sector o (tells new) (Err fault)) flushed.told w.image)))
+        l.5.1,
+  )

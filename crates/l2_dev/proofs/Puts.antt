@@ -1,5 +1,5 @@
 -- What a put keeps of every crash, from the steps of its body.
-use Rattle.std.proofs.Common.{◌≡◌, ℕ, ◌+◌, ◌≤◌, List, [], ◌∷◌, length, map, reverse, true, Option, None, Some, Ok, Err, refl, inl, sym, ap, subst, ◌∙◌, arith}
+use Rattle.std.proofs.Common.{◌≡◌, ℕ, ◌+◌, ◌≤◌, List, [], ◌∷◌, length, map, reverse, true, Option, None, Some, Result, Ok, Err, refl, inl, sym, ap, subst, ◌∙◌, arith}
 use Rattle.std.proofs.lemmas.List.{reverse-append}
 use Rattle.std.specs.List.{AllByRecursion}
 use Rattle.l2_log.specs.declared.entry.Entry.{Entry}
@@ -79,3 +79,14 @@ pub written_torn : (T E U F : Type 0) (at : ℕ) (bytes : List ℕ) (old new : O
 written_torn T E U F at bytes None new t f inside w = w
 written_torn T E U F at bytes (Some old) None t f inside w = w
 written_torn T E U F at bytes (Some old) (Some new) t f inside w = subst (λ (image : List ℕ). IsTorn at (length bytes) old image) (sym w) (put_torn at bytes old (inside old refl))
+
+flushed_if : (T E U F : Type 0) (at : ℕ) (bytes : List ℕ) (old mid : Option (List ℕ)) (t : T) (result : Result U F) → ((image : List ℕ) → old ≡ Some image → at + length bytes ≤ length image)
+    → IsWritten {T = T} {E = E} at bytes old mid (Ok t) → IsWritten {T = U} {E = F} at bytes old mid result
+flushed_if T E U F at bytes old mid t (Ok u) inside w = written_ok T E U F at bytes old mid t u w
+flushed_if T E U F at bytes old mid t (Err f) inside w = written_torn T E U F at bytes old mid t f inside w
+
+-- done, and then flushed or not
+pub written_flushed : (T E U F : Type 0) (at : ℕ) (bytes : List ℕ) (old mid new : Option (List ℕ)) (t : T) (result : Result U F) → ((image : List ℕ) → old ≡ Some image → at + length bytes ≤ length image)
+    → IsWritten {T = T} {E = E} at bytes old mid (Ok t) → new ≡ mid → IsWritten {T = U} {E = F} at bytes old new result
+written_flushed T E U F at bytes old mid new t result inside w same =
+    subst (λ (o : Option (List ℕ)). IsWritten {T = U} {E = F} at bytes old o result) (sym same) (flushed_if T E U F at bytes old mid t result inside w)

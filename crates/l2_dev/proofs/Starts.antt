@@ -20,7 +20,7 @@ use Rattle.l2_dev.specs.StandingLaws.{found_among, found_ordered, passed_bytes, 
 use Rattle.l2_dev.specs.CommitLaws.{passed_stay}
 use Rattle.l2_dev.specs.ListLaws.{all_weaker, firsts_all}
 use Rattle.l2_dev.specs.Cursor.{CursorState, numbers_from}
-use Rattle.l2_dev.specs.Promise.{IsUpheld, IsKept, IsBacked, IsOf, kept_range}
+use Rattle.l2_dev.specs.Promise.{IsUpheld, KeepsPromise, IsBacked, IsOf, kept_range}
 use Rattle.l2_dev.specs.PromiseLaws.{kept_inside}
 use Rattle.l2_dev.specs.Rebuilding.{IsOpened, IsFresh, IsAlong, IsStarted}
 use Rattle.l2_dev.specs.Reading.{OnlyRead}
@@ -150,7 +150,7 @@ module _ {D : Type 0} (size : D → ℕ) (tells : D → Option (List ℕ)) (has_
 
   -- a device whose one image backs the candidate keeps the promise of that candidate
   opened_kept : (old new : D) (end : ℕ) (image : List ℕ) (cursor : CursorState) (restored : List Restored) (k : Candidate) → OnlyRead size tells has_sectors leaves moment since faults old new → IsOpened end cursor restored
-      → IsTrue (has_sectors old) → tells old ≡ Some image → LeavesOnly image (leaves old) → IsUpheld cursor (opening k) → IsBacked (opening k) image → IsCandidate end k → IsKept tells has_sectors leaves new cursor (opening k)
+      → IsTrue (has_sectors old) → tells old ≡ Some image → LeavesOnly image (leaves old) → IsUpheld cursor (opening k) → IsBacked (opening k) image → IsCandidate end k → KeepsPromise tells has_sectors leaves new cursor (opening k)
   opened_kept old new end image cursor restored k read o sectors was only upheld backed candidate = record {
     upheld = upheld;
     sectors = subst (λ (b : Bool). IsTrue b) (sym read.kind) sectors;

@@ -17,7 +17,7 @@ use Rattle.l2_dev.specs.Chain.{Visit, IsHeld, IsPlaced, IsLinked, bytes_at}
 use Rattle.l2_dev.specs.Restoring.{first_sector, written_in, firsts, found_in}
 use Rattle.l2_dev.specs.Standing.{Candidate, Kept, written_of, IsNamed, IsCandidate, IsKeptIn, IsLeftBy, AnyOf, IsOrderly, leading, staying}
 use Rattle.l2_dev.specs.Cursor.{CursorState, numbers_from}
-use Rattle.l2_dev.specs.Promise.{Promise, IsUpheld, IsBacked, IsOf, AreGood, IsKept, LeftAmong, LeavesOnlyWith, Covers, kept_range}
+use Rattle.l2_dev.specs.Promise.{Promise, IsUpheld, IsBacked, IsOf, AreGood, KeepsPromise, LeftAmong, LeavesOnlyWith, Covers, kept_range}
 use Rattle.l2_dev.specs.PromiseLaws.{left_by, with_block, HasTaken, taken_upheld, taken_covers, HasCommitted, committed_upheld, IsHeaderFrom, upheld_named, kept_inside}
 use Rattle.l2_dev.specs.Steps.{TornFrom, Wrote, HasFlushed}
 use Rattle.l2_dev.specs.StepLaws.{backed_in_ring, backed_by_header, blocks_behind, entries_behind, left_among, leaves_from, leaves_on, leaves_wider}
@@ -98,15 +98,15 @@ module _ {D : Type 0} (tells : D → Option (List ℕ)) (has_sectors : D → Boo
     pub now_only : (c : List ℕ) → IsTrue (has_sectors device) → since device (moment device) c → leaves device c
     pub long : (c : List ℕ) → leaves device c → size ≤ length c
 
-  kept_among : (device : D) (cursor : CursorState) (p : Promise) → IsKept tells has_sectors leaves device cursor p → (c : List ℕ) → leaves device c → LeftAmong cursor.ring.end p.candidates c
+  kept_among : (device : D) (cursor : CursorState) (p : Promise) → KeepsPromise tells has_sectors leaves device cursor p → (c : List ℕ) → leaves device c → LeftAmong cursor.ring.end p.candidates c
   kept_among device cursor p kept c left = left_among cursor.ring.end p.candidates c kept.good.each (kept.backed c left).left
 
-  torn_in_ring : (old : D) (cursor : CursorState) (p : Promise) (at : ℕ) (bytes : List ℕ) → IsKept tells has_sectors leaves old cursor p → WritesInRing cursor at bytes
+  torn_in_ring : (old : D) (cursor : CursorState) (p : Promise) (at : ℕ) (bytes : List ℕ) → KeepsPromise tells has_sectors leaves old cursor p → WritesInRing cursor at bytes
       → (c : List ℕ) → TornFrom (leaves old) at bytes c → IsBacked p c
   torn_in_ring old cursor p at bytes kept writes c torn =
       backed_in_ring cursor p at (length bytes) torn.from c kept.upheld (kept.begun writes.ready) writes.from writes.to writes.far torn.torn.torn (kept.backed torn.from torn.left)
 
-  pub ring_crash : (old new : D) (cursor : CursorState) (p : Promise) (at size : ℕ) (bytes : List ℕ) → IsKept tells has_sectors leaves old cursor p → WritesInRing cursor at bytes → IsPlain old size
+  pub ring_crash : (old new : D) (cursor : CursorState) (p : Promise) (at size : ℕ) (bytes : List ℕ) → KeepsPromise tells has_sectors leaves old cursor p → WritesInRing cursor at bytes → IsPlain old size
       → Wrote tells has_sectors leaves moment since at bytes old new → LeavesOnlyWith moment since old new (LeftAmong cursor.ring.end p.candidates)
   ring_crash old new cursor p at size bytes kept writes plain wrote =
       leaves_from tells has_sectors leaves moment since at bytes old new (LeftAmong cursor.ring.end p.candidates) wrote kept.sectors
@@ -133,8 +133,8 @@ module _ {D : Type 0} (tells : D → Option (List ℕ)) (has_sectors : D → Boo
   not_ready cursor P shut ready = absurd (false≢true (sym shut ∙ ready))
 
   -- after a write in the ring what is pending may be forgotten
-  pub ring_forgets : (old new : D) (cursor after : CursorState) (p : Promise) (at : ℕ) (bytes : List ℕ) → IsKept tells has_sectors leaves old cursor p → WritesInRing cursor at bytes
-      → Wrote tells has_sectors leaves moment since at bytes old new → HasForgotten cursor after → IsKept tells has_sectors leaves new after (forgotten p p.candidates)
+  pub ring_forgets : (old new : D) (cursor after : CursorState) (p : Promise) (at : ℕ) (bytes : List ℕ) → KeepsPromise tells has_sectors leaves old cursor p → WritesInRing cursor at bytes
+      → Wrote tells has_sectors leaves moment since at bytes old new → HasForgotten cursor after → KeepsPromise tells has_sectors leaves new after (forgotten p p.candidates)
   ring_forgets old new cursor after p at bytes kept writes wrote f =
       let now = wrote.told kept.image kept.told in
       record {
@@ -164,10 +164,10 @@ module _ {D : Type 0} (tells : D → Option (List ℕ)) (has_sectors : D → Boo
       }
 
   -- after a put the told image has the bytes of all that is pending
-  pub put_kept : (old new : D) (cursor after : CursorState) (p : Promise) (k : Kept) (image : List ℕ) → IsKept tells has_sectors leaves old cursor p
+  pub put_kept : (old new : D) (cursor after : CursorState) (p : Promise) (k : Kept) (image : List ℕ) → KeepsPromise tells has_sectors leaves old cursor p
       → WritesInRing cursor k.written.live.place k.bytes → length k.bytes ≡ k.written.live.key.size → tells old ≡ Some image → k.written.live.place + length k.bytes ≤ length image
       → EntriesAside k.written.live.place (length k.bytes) p.pending → Wrote tells has_sectors leaves moment since k.written.live.place k.bytes old new → tells new ≡ Some (put k.written.live.place k.bytes image)
-      → HasPut k cursor after → IsKept tells has_sectors leaves new after (with_put k p)
+      → HasPut k cursor after → KeepsPromise tells has_sectors leaves new after (with_put k p)
   put_kept old new cursor after p k image kept writes len was inside aside wrote told f =
       let at : ℕ = k.written.live.place in
       let same : kept.image ≡ image = some_same kept.image image (tells old) kept.told was in
@@ -216,7 +216,7 @@ module _ {D : Type 0} (tells : D → Option (List ℕ)) (has_sectors : D → Boo
 
   -- begin: the header of what the plan leaves
   pub record Begins (n : ℕ) (plan : Plan) (old new : D) (cursor after : CursorState) (p : Promise) (header : DevHeader) (sector : List ℕ) : Type 0 where
-    pub kept : IsKept tells has_sectors leaves old cursor p
+    pub kept : KeepsPromise tells has_sectors leaves old cursor p
     pub taken : HasTaken n plan cursor after
     pub header_from : IsHeaderFrom after header
     pub is : IsHeader sector header
@@ -257,9 +257,10 @@ module _ {D : Type 0} (tells : D → Option (List ℕ)) (has_sectors : D → Boo
         (λ d left. let was = b.kept.backed d left in
         (was.left, leading_all (IsHeld d) plan p.blocks was.blocks, filter_all (IsKeptIn d) (λ k. stays plan k.written) p.kept was.kept))
 
-    pub begun_leaves : LeavesWith moment since after.ring.end old new p (leading plan p.blocks) (staying plan p.kept) (staying plan p.kept) (begun_candidate plan p sector)
+    pub begun_leaves : LeavesWith moment since (IsHeaderFrom after) after.ring.end old new p (leading plan p.blocks) (staying plan p.kept) (staying plan p.kept) (begun_candidate plan p sector)
     begun_leaves = record {
       header = header;
+      such = b.header_from;
       named = begun_named;
       of = record { list = refl; entries = refl };
       good = begun_good;
@@ -268,7 +269,7 @@ module _ {D : Type 0} (tells : D → Option (List ℕ)) (has_sectors : D → Boo
           (λ c torn. left_among after.ring.end (begun_candidate plan p sector ∷ p.candidates) c begun_good.each (begun_torn c torn).left);
     }
 
-    pub begun_failed : after.ready ≡ false → IsKept tells has_sectors leaves new after (left_by plan p (begun_candidate plan p sector ∷ p.candidates))
+    pub begun_failed : after.ready ≡ false → KeepsPromise tells has_sectors leaves new after (left_by plan p (begun_candidate plan p sector ∷ p.candidates))
     begun_failed shut =
         let now = b.writes.wrote.told b.kept.image b.kept.told in
         record {
@@ -282,7 +283,7 @@ module _ {D : Type 0} (tells : D → Option (List ℕ)) (has_sectors : D → Boo
           begun = λ yes. not_ready after (AllByRecursion (IsOf (leading plan p.blocks) (staying plan p.kept)) (begun_candidate plan p sector ∷ p.candidates)) shut yes;
         }
 
-    pub begun_kept : (image : List ℕ) → tells old ≡ Some image → HasFlushed tells leaves new (put 0 sector image) → IsKept tells has_sectors leaves new after (left_by plan p (begun_candidate plan p sector ∷ []))
+    pub begun_kept : (image : List ℕ) → tells old ≡ Some image → HasFlushed tells leaves new (put 0 sector image) → KeepsPromise tells has_sectors leaves new after (left_by plan p (begun_candidate plan p sector ∷ []))
     begun_kept image was flushed =
         let k : Candidate = begun_candidate plan p sector in
         let long = b.writes.plain.long image (b.writes.plain.told_left image was) in
@@ -307,7 +308,7 @@ module _ {D : Type 0} (tells : D → Option (List ℕ)) (has_sectors : D → Boo
 
   -- commit: the log block is written behind the pending blocks and flushed, and then its header is written
   pub record Commits (old mid new : D) (cursor after : CursorState) (p : Promise) (v : Visit) (image bytes : List ℕ) (header : DevHeader) (sector : List ℕ) : Type 0 where
-    pub kept : IsKept tells has_sectors leaves old cursor p
+    pub kept : KeepsPromise tells has_sectors leaves old cursor p
     pub was : tells old ≡ Some image
     pub plain : IsPlain old header_len
     pub block : WritesInRing cursor cursor.ring.hand bytes
@@ -371,14 +372,15 @@ module _ {D : Type 0} (tells : D → Option (List ℕ)) (has_sectors : D → Boo
         (λ d left. let was = mid_backed d left in
         (was.left, (mid_held d left, was.blocks), all_append (IsKeptIn d) p.pending p.kept (mid_pending d left) was.kept))
 
-    pub com_leaves : LeavesWith moment since after.ring.end old new p (v ∷ p.blocks) (p.pending ++ p.kept) p.kept (committed_candidate v p sector)
-    com_leaves =
+    pub com_leaves : (Such : DevHeader → Type 0) → Such header → LeavesWith moment since Such after.ring.end old new p (v ∷ p.blocks) (p.pending ++ p.kept) p.kept (committed_candidate v p sector)
+    com_leaves Such such =
         let ends : cursor.ring.end ≡ after.ring.end = sym b.committed.end in
         let all : List Candidate = committed_candidate v p sector ∷ p.candidates in
         let first : LeavesOnlyWith moment since old mid (LeftAmong after.ring.end p.candidates) =
         subst (λ (e : ℕ). LeavesOnlyWith moment since old mid (LeftAmong e p.candidates)) ends (ring_crash old mid cursor p cursor.ring.hand header_len bytes b.kept b.block b.plain b.first) in
         record {
           header = header;
+          such = such;
           named = com_named;
           of = record { list = refl; entries = refl };
           good = com_good;
@@ -389,7 +391,7 @@ module _ {D : Type 0} (tells : D → Option (List ℕ)) (has_sectors : D → Boo
         }
 
     -- where the header's write failed: what was pending is forgotten
-    pub com_failed : (back : CursorState) → HasForgotten cursor back → IsKept tells has_sectors leaves new back (forgotten p (committed_candidate v p sector ∷ p.candidates))
+    pub com_failed : (back : CursorState) → HasForgotten cursor back → KeepsPromise tells has_sectors leaves new back (forgotten p (committed_candidate v p sector ∷ p.candidates))
     com_failed back f =
         let all : List Candidate = committed_candidate v p sector ∷ p.candidates in
         let now = b.writes.wrote.told com_image b.flushed.told in
@@ -408,7 +410,7 @@ module _ {D : Type 0} (tells : D → Option (List ℕ)) (has_sectors : D → Boo
         }
 
     -- where it was written and flushed
-    pub com_kept : HasFlushed tells leaves new (put 0 sector com_image) → header_len ≤ length com_image → IsKept tells has_sectors leaves new after (with_block v p (committed_candidate v p sector ∷ []))
+    pub com_kept : HasFlushed tells leaves new (put 0 sector com_image) → header_len ≤ length com_image → KeepsPromise tells has_sectors leaves new after (with_block v p (committed_candidate v p sector ∷ []))
     com_kept flushed long =
         let k : Candidate = committed_candidate v p sector in
         let there : first_sector (put 0 sector com_image) ≡ sector = header_there com_image sector b.writes.len long in

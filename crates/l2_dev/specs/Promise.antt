@@ -33,7 +33,8 @@ pub record IsUpheld (cursor : CursorState) (p : Promise) : Type 0 where
   pub live : cursor.ring.live ≡ reverse (map written_of p.kept)
   pub pending : map written_of p.pending ≡ map (written_in cursor.ring.lap) (reverse cursor.pending)
 
--- a header restores later puts, and then all that is live
+-- what a header restores, from the newest entry on: later puts, then all that is live, and then what was live before them
+-- and is no longer
 abbrev pub Covers : List Kept → List Kept → Type 0
 Covers restored live = (later : List Kept) × (older : List Kept) × (restored ≡ later ++ live ++ older)
 
@@ -58,7 +59,7 @@ pub record IsOf (blocks : List Visit) (kept : List Kept) (k : Candidate) : Type 
   pub entries : k.kept ≡ kept
 
 -- a disk of sectors whose every crash keeps the promise; the image that it tells has the bytes of the pending entries
-pub record IsKept {D : Type 0} (tells : D → Option (List ℕ)) (has_sectors : D → Bool) (leaves : D → List ℕ → Type 0) (device : D) (cursor : CursorState) (p : Promise) : Type 0 where
+pub record KeepsPromise {D : Type 0} (tells : D → Option (List ℕ)) (has_sectors : D → Bool) (leaves : D → List ℕ → Type 0) (device : D) (cursor : CursorState) (p : Promise) : Type 0 where
   pub upheld : IsUpheld cursor p
   pub sectors : IsTrue (has_sectors device)
   pub image : List ℕ

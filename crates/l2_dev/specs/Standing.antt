@@ -62,8 +62,8 @@ pub record IsNamed (end : ℕ) (candidate : Candidate) (header : DevHeader) : Ty
   pub same : firsts (found_in (numbers_in header) candidate.blocks) ≡ firsts (map written_of candidate.kept)
   pub inside : AllByRecursion (λ (k : Kept). ring_start ≤ k.written.live.place) candidate.kept
 
--- a candidate is a header with its list; or it is the sector that was there at the start and promises nothing, since it is
--- no header or could not be read
+-- a candidate is a header with its standing list and what it restores; or a sector with an empty list and no entries, as the
+-- first sector is at a start that refused it as a header, or could not read it
 abbrev pub IsCandidate : ℕ → Candidate → Type 0
 IsCandidate end candidate =
     ((header : DevHeader) × IsNamed end candidate header) ⊎ ((candidate.blocks ≡ []) × (candidate.kept ≡ []))

@@ -12,7 +12,7 @@ use Rattle.l2_dev.specs.Chain.{Visit, IsChain, numbers_in}
 use Rattle.l2_dev.specs.Restoring.{IsUnread, IsHeaderOf, first_sector}
 use Rattle.l2_dev.specs.Standing.{Candidate, IsOrderly, IsKeptIn, restored_by}
 use Rattle.l2_dev.specs.Cursor.{CursorState}
-use Rattle.l2_dev.specs.Promise.{Promise, IsKept}
+use Rattle.l2_dev.specs.Promise.{Promise, KeepsPromise}
 
 module _ {D : Type 0} where
   -- a fact of what a start answers, where the device may be used
@@ -59,4 +59,4 @@ opening k = record { candidates = k ∷ []; blocks = k.blocks; kept = k.kept; pe
 abbrev pub StartKeeps : {D : Type 0} → (D → Option (List ℕ)) → (D → Bool) → (D → List ℕ → Type 0) → ℕ → D → D → CursorState → List Restored → Stop → Type 0
 StartKeeps tells has_sectors leaves end old new cursor restored why =
     (image : List ℕ) → IsTrue (has_sectors old) → tells old ≡ Some image → LeavesOnly image (leaves old) → IsOrderlyChain end image why
-    → (k : Candidate) × IsStartOf end image restored why k × IsKept tells has_sectors leaves new cursor (opening k)
+    → (k : Candidate) × IsStartOf end image restored why k × KeepsPromise tells has_sectors leaves new cursor (opening k)

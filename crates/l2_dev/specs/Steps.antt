@@ -1,6 +1,6 @@
 -- What a write of the device, flushed or not, may leave after a crash.
 use Rattle.std.specs.Prelude.{◌≡◌, ℕ, ◌≤◌, ◌⊎◌, List, Bool, IsTrue, Option, Some, Result, OnOk, IfSome}
-use Rattle.vdev_io.specs.Device.{IsTornBySector, LeavesOnly, put}
+use Rattle.vdev_io.specs.Device.{IsTornBySector, IsWritten, LeavesOnly, put}
 use Rattle.l2_log.specs.HeaderBytes.{IsHeader}
 use Rattle.l2_log.specs.declared.header.DevHeader.{DevHeader}
 
@@ -24,10 +24,11 @@ pub record HasFlushed {D : Type 0} (tells : D → Option (List ℕ)) (leaves : D
   pub told : tells new ≡ Some image
   pub only : LeavesOnly image (leaves new)
 
--- the header was written to the first sector, or in part, and at Ok flushed
+-- the header was written to the first sector, or in part, and at Ok flushed: of the image that is told only that sector may be another
 pub record HeaderWritten {D T E : Type 0} (tells : D → Option (List ℕ)) (has_sectors : D → Bool) (leaves : D → List ℕ → Type 0) (moment : D → ℕ) (since : D → ℕ → List ℕ → Type 0)
     (header : DevHeader) (old new : D) (result : Result T E) : Type 0 where
   pub sector : List ℕ
   pub is : IsHeader sector header
   pub wrote : Wrote tells has_sectors leaves moment since 0 sector old new
+  pub image : IsWritten 0 sector (tells old) (tells new) result
   pub done : OnOk result (IfSome (tells old) (λ image. HasFlushed tells leaves new (put 0 sector image)))

@@ -9,7 +9,7 @@ ghost use Rattle.l2_ring.specs.Stays.{stays, falls, live_of};
 
 use blk_ptr::NoMemory;
 use l2_log::{DevHeader, Entries, Entry, LOG_LEN, LogBlock, LogPtr, VERSION};
-use l2_ring::{Live, Ring};
+use l2_ring::{Live, Plan, Ring};
 use std::alloc::Global;
 use std::marker::Model;
 use std::mem;
@@ -94,16 +94,32 @@ impl Cursor {
         &self.ring
     }
 
-    /// Takes the plan for `n` bytes.
-    pub(crate) fn plan(&mut self, n: u64, dropped: &mut Vec<Live>)
-        requires room { IsRoom self.old.ring n }
-        requires dropped { vec_len dropped.old + length self.old.ring.live ≤ vec_capacity dropped.old }
+    /// The plan for `n` bytes.
+    pub(crate) fn room(&self, n: u64) -> Plan
+        requires { IsRoom self.now.ring n }
+        ensures plan { IsPlanFor self.now.ring n result }
+        ensures kept { IsCursor self.now.ring self.now.base self.now.pending self.now.ready }
+    {
+        self.ring.room(n)
+    }
+
+    /// How many live entries the plan drops.
+    pub(crate) fn dropped_by(&self, plan: Plan) -> usize
+        requires { IsPlan self.now.ring plan }
+        ensures { result ≡ length (filter (falls plan) self.now.ring.live) }
+    {
+        self.ring.dropped_by(plan)
+    }
+
+    /// Takes a plan of the ring.
+    pub(crate) fn take(&mut self, plan: Plan, dropped: &mut Vec<Live>)
+        requires plan { IsPlan self.old.ring plan }
+        requires room { vec_len dropped.old + length (filter (falls plan) self.old.ring.live) ≤ vec_capacity dropped.old }
         requires none { self.old.pending ≡ [] }
-        ensures planned { HasPlanned n self.old self.new }
-        ensures dropped { (plan : _) × IsPlanFor self.old.ring n plan × (dropped.new.items ≡ dropped.old.items ++ map live_of (filter (falls plan) self.old.ring.live)) }
+        ensures planned { (n : ℕ) → IsPlanFor self.old.ring n plan → HasPlanned n self.old self.new }
+        ensures dropped { dropped.new.items ≡ dropped.old.items ++ map live_of (filter (falls plan) self.old.ring.live) }
         ensures ready { self.new.ready ≡ false }
     {
-        let plan = self.ring.room(n);
         self.ring.take(plan, dropped);
         self.base = plan.hand;
         self.ready = false;

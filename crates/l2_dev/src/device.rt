@@ -79,10 +79,10 @@ fn write_log<D: CacheDev>(
 }
 
 impl<D: CacheDev> L2Dev<D> {
-    ghost use Rattle.l2_dev.specs.Calls.{BeginKeeps, PutKeeps, CommitKeeps, HasCommitWritten};
+    ghost use Rattle.l2_dev.specs.Calls.{BeginKeeps, PutKeeps, CommitKeeps, HasCommitWritten, IsCommitLeft};
     ghost use Rattle.l2_dev.specs.Cursor.{IsCursor};
     ghost use Rattle.l2_dev.specs.Planned.{HasPlanned, HasSettled, IsForgotten};
-    ghost use Rattle.l2_dev.specs.Promise.{Promise, IsKept};
+    ghost use Rattle.l2_dev.specs.Promise.{Promise, KeepsPromise};
     ghost use Rattle.l2_dev.specs.Lending.{LendsDevice};
     ghost use Rattle.std.specs.Borrow.{sem};
 
@@ -99,11 +99,12 @@ impl<D: CacheDev> L2Dev<D> {
         ensures dropped { (¬ IsErrOf result err.NoMemory) → (plan : _) × IsPlanFor self.old.cursor.ring n plan × (dropped.new.items ≡ dropped.old.items ++ map live_of (filter (falls plan) self.old.cursor.ring.live)) }
         ensures ready { MatchResult result (λ _. self.new.cursor.ready ≡ true) (λ e. (e ≡ err.DevFault) → self.new.cursor.ready ≡ false) }
         ensures written { (¬ IsErrOf result err.NoMemory) → (header : _) × IsHeaderFrom self.new.cursor header × HeaderWritten D.told D.has_sectors D.may_leave D.moment D.left_since header self.old.dev self.new.dev result }
-        ensures crash { (p : Promise) → IsKept D.told D.has_sectors D.may_leave self.old.dev self.old.cursor p → self.new.cursor.ring.lap < last_lap
+        ensures crash { (p : Promise) → KeepsPromise D.told D.has_sectors D.may_leave self.old.dev self.old.cursor p → self.new.cursor.ring.lap < last_lap
             → BeginKeeps D.told D.has_sectors D.may_leave D.moment D.left_since self.old.dev self.new.dev self.old.cursor self.new.cursor p result }
     {
-        dropped.reserve(self.cursor.ring().live().len())?;
-        self.cursor.plan(n, dropped);
+        let plan = self.cursor.room(n);
+        dropped.reserve(self.cursor.dropped_by(plan))?;
+        self.cursor.take(plan, dropped);
         let header = self.cursor.header();
         write_header(&mut self.dev, &header)?;
         self.cursor.open();
@@ -124,7 +125,7 @@ impl<D: CacheDev> L2Dev<D> {
         ensures place { MatchResult result (λ place. place ≡ self.old.cursor.ring.hand) (λ _. IsForgotten self.old.cursor self.new.cursor) }
         ensures written { IsWritten self.old.cursor.ring.hand block.now (D.told self.old.dev) (D.told self.new.dev) result }
         ensures pending { OnOk result ((entry : _) × (entry.key ≡ key) × (entry.place ≡ self.old.cursor.ring.hand) × (entry.digest ≡ Some (sha256_of block.now)) × HasPushed entry self.old.cursor self.new.cursor) }
-        ensures crash { (p : Promise) → IsKept D.told D.has_sectors D.may_leave self.old.dev self.old.cursor p
+        ensures crash { (p : Promise) → KeepsPromise D.told D.has_sectors D.may_leave self.old.dev self.old.cursor p
             → PutKeeps D.told D.has_sectors D.may_leave D.moment D.left_since self.old.dev self.new.dev self.old.cursor self.new.cursor p key block.now result }
     {
         let place = self.cursor.ring().hand();
@@ -149,7 +150,9 @@ impl<D: CacheDev> L2Dev<D> {
         ensures size { D.size self.new.dev ≡ D.size self.old.dev }
         ensures cause { HasDevCause (D.faults self.old.dev) (D.faults self.new.dev) result }
         ensures settled { MatchResult result (λ _. (ptr : _) × HasSettled ptr self.old.cursor self.new.cursor × HasCommitWritten (D.told self.old.dev) (D.told self.new.dev) self.old.cursor ptr) (λ _. IsForgotten self.old.cursor self.new.cursor) }
-        ensures crash { (p : Promise) → IsKept D.told D.has_sectors D.may_leave self.old.dev self.old.cursor p
+        ensures refused { IsErrOf result err.NoMemory → self.new.dev ≡ self.old.dev }
+        ensures left { IsErrOf result err.DevFault → IsCommitLeft (D.told self.old.dev) (D.told self.new.dev) self.old.cursor }
+        ensures crash { (p : Promise) → KeepsPromise D.told D.has_sectors D.may_leave self.old.dev self.old.cursor p
             → CommitKeeps D.told D.has_sectors D.may_leave D.moment D.left_since self.old.dev self.new.dev self.old.cursor self.new.cursor p result }
     {
         let place = self.cursor.ring().hand();

@@ -29,6 +29,7 @@ pub(crate) fn write_through<D: CacheDev>(
     requires inside { offset + length bytes.now ≤ D.size dev.old }
     ensures wrote { Wrote D.told D.has_sectors D.may_leave D.moment D.left_since offset bytes.now dev.old dev.new }
     ensures done { OnOk result (IfSome (D.told dev.old) (λ image. HasFlushed D.told D.may_leave dev.new (put offset bytes.now image))) }
+    ensures told { IsWritten offset bytes.now (D.told dev.old) (D.told dev.new) result }
     ensures size { D.size dev.new ≡ D.size dev.old }
     ensures cause { HasCause (D.faults dev.old) (D.faults dev.new) result }
 {

@@ -1,2 +1,3 @@
 pub mod Sifted
 pub mod Kept
+pub mod Rows

@@ -1,4 +1,5 @@
 pub mod PlanLaws
+pub mod Queue
 pub mod Ranges
 pub mod Ring
 pub mod Stays

@@ -6,7 +6,7 @@ use Rattle.std.proofs.lemmas.Bool.{cases_lt, false≢true, leb-true, le-leb, eqb
 use Rattle.std.specs.List.{AllByRecursion}
 use Rattle.l2_log.specs.Rules.{ring_start, log_len}
 use Rattle.l2_ring.specs.declared.plan.Plan.{Plan}
-use Rattle.l2_ring.specs.Ring.{RingState, IsPlanFor, numbers_of, with_hand, last_lap}
+use Rattle.l2_ring.specs.Ring.{RingState, IsPlanFor, numbers_of, straight_plan, with_hand, wrapped_plan, last_lap}
 use Rattle.l2_ring.specs.Stays.{lies_within, stays_at}
 use Rattle.l2_ring.specs.Ranges.{Range, IsWithin, Stays, IsOlder, IsInOrder}
 
@@ -62,28 +62,35 @@ pub record Wraps (ring : RingState) (n : ℕ) (plan : Plan) : Type 0 where
   pub top : plan.top ≡ ring.hand
   pub lap : plan.lap ≡ ring.lap + 1
 
+goes_by : (ring : RingState) (n : ℕ) (plan : Plan) → plan ≡ straight_plan ring n → GoesOn ring n plan
+goes_by ring n plan e =
+    let evict : plan.evict ≡ max ring.evict (ring.hand + n) = ap (λ (p : Plan). p.evict) e in
+    record {
+      hand = ap (λ (p : Plan). p.hand) e;
+      evict = omega arith;
+      room = omega arith;
+      top = ap (λ (p : Plan). p.top) e;
+      lap = ap (λ (p : Plan). p.lap) e;
+    }
+
+wraps_by : (ring : RingState) (n : ℕ) (plan : Plan) → plan ≡ wrapped_plan ring n → ring.lap + 1 ≤ last_lap → Wraps ring n plan
+wraps_by ring n plan e before =
+    let lap : plan.lap ≡ min (ring.lap + 1) last_lap = ap (λ (p : Plan). p.lap) e in
+    record {
+      hand = ap (λ (p : Plan). p.hand) e;
+      evict = ap (λ (p : Plan). p.evict) e;
+      top = ap (λ (p : Plan). p.top) e;
+      lap = omega arith;
+    }
+
 pub plan_cases : (ring : RingState) (n : ℕ) (plan : Plan) → IsPlanFor ring n plan → plan.lap < last_lap → GoesOn ring n plan ⊎ Wraps ring n plan
 plan_cases ring n plan for below =
     elim (cases_lt ring.end (ring.hand + n)) [
       | inl over ↦
           let e = for.wrapped over in
           let lap : plan.lap ≡ min (ring.lap + 1) last_lap = ap (λ (p : Plan). p.lap) e in
-          inr record {
-            hand = ap (λ (p : Plan). p.hand) e;
-            evict = ap (λ (p : Plan). p.evict) e;
-            top = ap (λ (p : Plan). p.top) e;
-            lap = omega arith;
-          }
-      | inr fits ↦
-          let e = for.straight fits in
-          let evict : plan.evict ≡ max ring.evict (ring.hand + n) = ap (λ (p : Plan). p.evict) e in
-          inl record {
-            hand = ap (λ (p : Plan). p.hand) e;
-            evict = omega arith;
-            room = omega arith;
-            top = ap (λ (p : Plan). p.top) e;
-            lap = ap (λ (p : Plan). p.lap) e;
-          }
+          inr (wraps_by ring n plan e (omega arith))
+      | inr fits ↦ inl (goes_by ring n plan (for.straight fits))
     ]
 
 -- what stays in a plan lay where its lap asked for before
@@ -104,11 +111,11 @@ stayed_before ring n plan r for below some stays =
       ]
     ]
 
--- a plan drops the oldest first: what was written before a range that it drops, it drops too
-pub older_falls : (ring : RingState) (n : ℕ) (plan : Plan) (x y : Range) → IsPlanFor ring n plan → plan.lap < last_lap → 0 < y.size
+-- what was written before a range that the plan drops, it drops too
+falls_by : (ring : RingState) (n : ℕ) (plan : Plan) (x y : Range) → GoesOn ring n plan ⊎ Wraps ring n plan → 0 < y.size
     → Stays (numbers_of ring) x → (¬ Stays plan x) → IsOlder x y → ¬ Stays plan y
-older_falls ring n plan x y for below some here gone older stays =
-    elim (plan_cases ring n plan for below) [
+falls_by ring n plan x y for some here gone older stays =
+    elim for [
       | inl on ↦ let h = on.hand in let v = on.evict in let t = on.top in let k = on.lap in elim here [
         | inl low ↦ let b = low.0.begins in let e = low.0.ends in let l = low.1 in
             gone (inl (record { begins = omega arith; ends = omega arith }, omega arith))
@@ -131,6 +138,38 @@ older_falls ring n plan x y for below some here gone older stays =
           ]
         ]
       ]
+    ]
+
+-- a plan drops the oldest first
+pub older_falls : (ring : RingState) (n : ℕ) (plan : Plan) (x y : Range) → IsPlanFor ring n plan → plan.lap < last_lap → 0 < y.size
+    → Stays (numbers_of ring) x → (¬ Stays plan x) → IsOlder x y → ¬ Stays plan y
+older_falls ring n plan x y for below some here gone older = falls_by ring n plan x y (plan_cases ring n plan for below) some here gone older
+
+-- a plan that wraps in the last lap drops all that lay where its lap asked for
+last_falls : (ring : RingState) (n : ℕ) (plan : Plan) (y : Range) → ring.hand ≤ ring.evict → last_lap < ring.lap + 1 → plan ≡ wrapped_plan ring n → 0 < y.size
+    → Stays (numbers_of ring) y → ¬ Stays plan y
+last_falls ring n plan y order last is some here stays =
+    let h : plan.hand ≡ ring_start = ap (λ (p : Plan). p.hand) is in
+    let t : plan.top ≡ ring.hand = ap (λ (p : Plan). p.top) is in
+    let k : plan.lap ≡ min (ring.lap + 1) last_lap = ap (λ (p : Plan). p.lap) is in
+    elim stays [
+      | inl s ↦ let sb = s.0.begins in let se = s.0.ends in absurd (omega arith)
+      | inr s ↦ let m = s.1 in let se = s.0.ends in elim here [
+        | inl low ↦ let l = low.1 in absurd (omega arith)
+        | inr up ↦ let b = up.0.begins in absurd (omega arith)
+      ]
+    ]
+
+-- in any lap a plan drops the oldest first of what lay where its lap asked for
+pub older_falls_always : (ring : RingState) (n : ℕ) (plan : Plan) (x y : Range) → IsPlanFor ring n plan → ring.hand ≤ ring.evict → 0 < y.size
+    → Stays (numbers_of ring) x → Stays (numbers_of ring) y → (¬ Stays plan x) → IsOlder x y → ¬ Stays plan y
+older_falls_always ring n plan x y for order some here there gone older =
+    elim (cases_lt ring.end (ring.hand + n)) [
+      | inl over ↦ elim (cases_lt last_lap (ring.lap + 1)) [
+        | inl last ↦ last_falls ring n plan y order last (for.wrapped over) some there
+        | inr before ↦ falls_by ring n plan x y (inr (wraps_by ring n plan (for.wrapped over) before)) some here gone older
+      ]
+      | inr fits ↦ falls_by ring n plan x y (inl (goes_by ring n plan (for.straight fits))) some here gone older
     ]
 
 -- a hand further on keeps all that lies where its lap asks for

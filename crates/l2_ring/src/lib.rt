@@ -8,6 +8,7 @@
 mod live;
 mod part;
 mod plan;
+mod queue;
 mod ring;
 mod sift;
 

@@ -9,7 +9,7 @@ ghost use Rattle.l2_ring.specs.Stays.{stays, falls, live_of, AreLive};
 use crate::live::{Live, Written};
 use crate::part::Part;
 use crate::plan::Plan;
-use crate::sift::keep;
+use crate::queue::Queue;
 use blk_ptr::NoMemory;
 use l2_log::{DevHeader, RING_START};
 use std::alloc::Global;
@@ -23,12 +23,10 @@ pub struct Ring {
     evict: u64,
     top: u64,
     lap: u64,
-    live: Vec<Written>,
+    live: Queue,
 }
 
 impl Model for Ring {
-    ghost use Rattle.std.specs.Prelude.{◌-◌, length};
-    ghost use Rattle.std.specs.Vec.{vec_capacity};
     ghost use Rattle.l2_ring.specs.Ring.{RingState, IsRing};
     ghost use Rattle.l2_ring.specs.Stays.{AreLive};
 
@@ -40,12 +38,12 @@ impl Model for Ring {
       evict = ring.evict;
       top = ring.top;
       lap = ring.lap;
-      live = ring.live.items;
-      spare = vec_capacity ring.live - length ring.live.items;
+      live = ring.live.live;
+      spare = ring.live.spare;
     } };
 
     ghost invariant = { λ ring. IsRing ring.end ring.hand ring.evict ring.top ring.lap
-        × AreLive record { hand = ring.hand; evict = ring.evict; top = ring.top; lap = ring.lap } ring.live.items };
+        × AreLive record { hand = ring.hand; evict = ring.evict; top = ring.top; lap = ring.lap } ring.live.live };
 }
 
 impl Ring {
@@ -61,7 +59,7 @@ impl Ring {
             evict: RING_START,
             top: RING_START,
             lap: 1,
-            live: Vec::new(alloc),
+            live: Queue::new(alloc),
         }
     }
 
@@ -76,7 +74,7 @@ impl Ring {
             evict: header.evict,
             top: header.top,
             lap: header.lap,
-            live: Vec::new(alloc),
+            live: Queue::new(alloc),
         }
     }
 
@@ -124,7 +122,7 @@ impl Ring {
         ensures placed { AreLive (numbers_of self.now) self.now.live }
         ensures sound { IsSound self.now }
     {
-        &self.live
+        self.live.live()
     }
 
     /// The part in which `size` bytes from `place` on lie.
@@ -170,18 +168,27 @@ impl Ring {
         }
     }
 
+    /// How many live entries a plan of this ring drops. Where each was written behind the one added before it, the call
+    /// looks at no more than these and one.
+    pub fn dropped_by(&self, plan: Plan) -> usize
+        requires { IsPlan self.now plan }
+        ensures { result ≡ length (filter (falls plan) self.now.live) }
+    {
+        self.live.count_fallen(plan)
+    }
+
     /// Takes a plan of this ring, and moves the entries that it drops to the end of `dropped`, in their order. It takes
-    /// no memory.
+    /// no memory. Where each entry was written behind the one added before it, its cost is that of what it drops.
     pub fn take(&mut self, plan: Plan, dropped: &mut Vec<Live>)
         requires plan { IsPlan self.old plan }
-        requires room { vec_len dropped.old + length self.old.live ≤ vec_capacity dropped.old }
+        requires room { vec_len dropped.old + length (filter (falls plan) self.old.live) ≤ vec_capacity dropped.old }
         ensures numbers { HasPlan plan self.old self.new }
         ensures live { self.new.live ≡ filter (stays plan) self.old.live }
         ensures dropped { dropped.new.items ≡ dropped.old.items ++ map live_of (filter (falls plan) self.old.live) }
         ensures spare { self.old.spare ≤ self.new.spare }
         ensures sound { IsSound self.new × AreLive (numbers_of self.new) self.new.live }
     {
-        keep(&mut self.live, plan, dropped);
+        self.live.take(plan, dropped);
         self.hand = plan.hand;
         self.evict = plan.evict;
         self.top = plan.top;
@@ -195,8 +202,7 @@ impl Ring {
         ensures room { MatchResult result (λ _. n ≤ self.new.spare) (λ _. self.new.spare ≡ self.old.spare) }
         ensures kept { self.old.spare ≤ self.new.spare }
     {
-        self.live.reserve(n)?;
-        Ok(())
+        self.live.reserve(n)
     }
 
     /// Adds a live entry. Its own lap is the ring's in the lower part, and the lap before in the upper part.
@@ -213,9 +219,7 @@ impl Ring {
             Part::Lower => self.lap,
             _ => self.lap - 1,
         };
-        if self.live.push(Written { live, lap }).is_err() {
-            unreachable!();
-        }
+        self.live.add(Written { live, lap });
     }
 
     /// Moves the hand on by `n` bytes, which were written.

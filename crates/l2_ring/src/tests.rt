@@ -35,7 +35,7 @@ fn advance(rt: &impl Abort, ring: &mut Ring) -> (u64, u64) {
 fn feed(rt: &impl Abort, ring: &mut Ring, dropped: &mut Vec<Live>, key: Key) -> (u64, u64) {
     assert!(rt; ring.fits(FEED));
     let plan = ring.room(FEED);
-    assert!(rt; ring.live().len() <= 4 && dropped.len() <= 4 && 8 <= dropped.capacity());
+    assert!(rt; ring.dropped_by(plan) <= dropped.capacity() - dropped.len());
     ring.take(plan, dropped);
     let (place, log_place) = advance(rt, ring);
     let live = Live {

@@ -256,7 +256,7 @@ IsCallerCache-standing c u reads s keeps caller blocks now kept standing = recor
 free-entry : (n : ℕ) (e : Entry) → HasHolds n 0 (Some e) → is_free e ≡ true
 free-entry n e has = rw (has.0, has.1) (both _ _ (unheld-of_one n) refl)
 
-all-items : (P : Entry → Type 0) (es : List Entry) → IsRising entry_key es → ((k : Key) (e : Entry) → item_at entry_key k es ≡ Some e → P e) → AllByRecursion P es
+pub all-items : (P : Entry → Type 0) (es : List Entry) → IsRising entry_key es → ((k : Key) (e : Entry) → item_at entry_key k es ≡ Some e → P e) → AllByRecursion P es
 all-items P [] rising each = tt
 all-items P (x ∷ xs) rising each =
     let first : item_at entry_key x.key (x ∷ xs) ≡ Some x = rw (key_eq-same x.key) refl in (

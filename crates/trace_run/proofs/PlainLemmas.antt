@@ -168,11 +168,11 @@ plain-line image blocks s kept (ops.Drop n x) reply answer found read = λ call 
 
 -- ---- all replies
 
-next-is : (calls rest : List PoolCall) → IsNext calls (next_call (calls ++ rest))
+pub next-is : (calls rest : List PoolCall) → IsNext calls (next_call (calls ++ rest))
 next-is [] rest = tt
 next-is (call ∷ calls) rest = refl
 
-drop-front : {X : Type 0} (xs ys : List X) → drop (length xs) (xs ++ ys) ≡ ys
+pub drop-front : {X : Type 0} (xs ys : List X) → drop (length xs) (xs ++ ys) ≡ ys
 drop-front [] ys = refl
 drop-front (x ∷ xs) ys = drop-front xs ys
 

@@ -33,12 +33,12 @@ use Rattle.trace_run.proofs.CacheLemmas.{access-hit, resident-entry}
 
 -- ---- lists of acts and of moments
 
-Tell-append : (xs ys : List Act) (ms ns : List Moment) → Tell xs ms → Tell ys ns → Tell (xs ++ ys) (ms ++ ns)
+pub Tell-append : (xs ys : List Act) (ms ns : List Moment) → Tell xs ms → Tell ys ns → Tell (xs ++ ys) (ms ++ ns)
 Tell-append [] ys ms ns first rest = rw first rest
 Tell-append (x ∷ xs) ys ms ns first rest =
     (first.0, first.1 ++ ns, ap (λ (l : List Moment). l ++ ns) first.2 ∙ append_assoc first.0 first.1 ns, first.3, Tell-append xs ys first.1 ns first.4 rest)
 
-Tell-one : (act : Act) (ms : List Moment) → StandsFor act ms → Tell (act ∷ []) ms
+pub Tell-one : (act : Act) (ms : List Moment) → StandsFor act ms → Tell (act ∷ []) ms
 Tell-one act ms stands = (ms, [], sym (append-nil ms), stands, refl)
 
 pub moments-append : (s : PlainShard) (front rest : List Event) → moments s (front ++ rest) ≡ moments s front ++ moments (replay s front) rest
@@ -47,7 +47,7 @@ moments-append s (e ∷ es) rest = ap (λ (ms : List Moment). record { before = 
 
 -- ---- what an access says of digests
 
-digest_eq-same : (d : Digest) → digest_eq d d ≡ true
+pub digest_eq-same : (d : Digest) → digest_eq d d ≡ true
 digest_eq-same d = (bytes_eq-Decides d.0 d.0).1 refl
 
 -- a hit found the digest that is asked for
@@ -291,7 +291,7 @@ act-drops : (n : ℕ) (kept : List KeptRead) → AllByRecursion (λ act. actor_o
 act-drops n [] = tt
 act-drops n (read ∷ reads) = all-append (λ act. actor_of act ≡ n) (acts_of_drop n read.held) _ (act-drop n read.held) (act-drops n reads)
 
-act-caller : (blocks : List Ptr) (n : ℕ) (os : List Op) (replies : List Reply) → AllByRecursion (λ op. caller_of op ≡ n) os → AllByRecursion (λ act. actor_of act ≡ n) (acts_of_caller blocks n os replies)
+pub act-caller : (blocks : List Ptr) (n : ℕ) (os : List Op) (replies : List Reply) → AllByRecursion (λ op. caller_of op ≡ n) os → AllByRecursion (λ act. actor_of act ≡ n) (acts_of_caller blocks n os replies)
 act-caller blocks n os replies own = all-append (λ act. actor_of act ≡ n) (acts_of_all blocks [] os replies) _ (act-all n blocks [] os replies own) (act-drops n (kept_after_all blocks [] os replies))
 
 mine-events : (blocks : List Ptr) (n : ℕ) (s : PlainShard) (os : List Op) (replies : List Reply) → AllByRecursion (λ op. caller_of op ≡ n) os

@@ -5,6 +5,7 @@ mod access;
 mod answer;
 mod block_map;
 mod caller_cache;
+mod kept_blocks;
 mod paper;
 mod read;
 mod run_trace;

@@ -14,8 +14,8 @@ ghost use Rattle.arc_core.specs.Sound.{IsTidy};
 ghost use Rattle.arc_lists.specs.Adapting.{IsCapacity};
 
 use super::{Table, is_unheld};
-use crate::entries;
 use crate::entry::{Entry, NUMBERS, Phase, Picked};
+use crate::{keys, picks};
 use blk_ptr::{Digest, Key, State};
 
 /// What an earlier run left on the cache device.
@@ -64,7 +64,7 @@ impl Table {
     pub fn is_passed(&self, key: Key) -> bool
         ensures { result ≡ is_passed self.now.shard key }
     {
-        entries::has_key(&self.passed, key)
+        keys::has_key(&self.passed, key)
     }
 
     /// Whether a key stands on a sequence: nobody holds its entry, and its state has one.
@@ -153,7 +153,7 @@ impl Table {
         requires unpassed { is_passed self.old.shard key ≡ false }
         ensures { self.new ≡ record self.old { shard = effect self.old.shard (Event.Pass n key owner); marks = self.old.marks - 1 } }
     {
-        entries::add_key(&mut self.passed, key);
+        keys::add_key(&mut self.passed, key);
         self.marks -= 1;
     }
 
@@ -164,7 +164,7 @@ impl Table {
         ensures { self.new ≡ record self.old { shard = effect self.old.shard (Event.Pick n key); marks = self.old.marks - 1 } }
     {
         let digest = self.find(key).and_then(|entry| entry.digest);
-        entries::push_pick(&mut self.picked, Picked { key, digest });
+        picks::push_pick(&mut self.picked, Picked { key, digest });
         self.picked_bytes += key.size;
         self.phase = Phase::Picking;
         self.marks -= 1;
@@ -192,7 +192,7 @@ impl Table {
     pub fn settle(&mut self, key: Key)
         ensures { self.new ≡ record self.old { shard = settled key self.old.shard } }
     {
-        self.picked_bytes -= entries::take_pick(&mut self.picked, key);
+        self.picked_bytes -= picks::take_pick(&mut self.picked, key);
         self.go_on_writing();
     }
 

@@ -9,7 +9,7 @@ ghost use Rattle.arc_lists.specs.Walks.{oldest_first};
 ghost use Rattle.arc_core.specs.PlainShard.{entry_of, members};
 
 use super::Table;
-use crate::entries;
+use crate::keys;
 use blk_ptr::Key;
 
 impl Table {
@@ -17,7 +17,7 @@ impl Table {
     pub fn is_marked(&self, key: Key) -> bool
         ensures { result ≡ stands_on key self.now.marked }
     {
-        entries::has_key(&self.marked, key)
+        keys::has_key(&self.marked, key)
     }
 
     /// Marks a key that has an entry.
@@ -27,7 +27,7 @@ impl Table {
         requires unmarked { stands_on key self.old.marked ≡ false }
         ensures { self.new ≡ record self.old { marked = with_item (λ k. k) key self.old.marked } }
     {
-        entries::add_key(&mut self.marked, key);
+        keys::add_key(&mut self.marked, key);
     }
 
     /// Forgets the marked keys.

@@ -1,7 +1,11 @@
 use Rattle.std.proofs.Common.{◌≡◌, length, inr, refl, ◌∙◌, arith}
 use Rattle.std.proofs.lemmas.Result.{err_from_is_err_and}
 use Rattle.std.proofs.lemmas.List.{take_at}
+use Rattle.vdev_io.specs.declared.fault.Failed.{Failed}
+use Rattle.l2_log.specs.declared.pointer.LogPtr.{LogPtr}
+use Rattle.l2_dev.specs.declared.fault.DevErr.{DevErr}
 use Rattle.l2_dev.proofs.Commits.{block_of_reserved}
+use Rattle.l2_dev.proofs.Puts.{written_err, written_ok}
 use Rattle.l2_dev.proofs.device.write_log.Goals as goal
 
 pub returns-in_err-reserve-clause-cause : goal.returns-in_err-reserve-clause-cause
@@ -14,16 +18,26 @@ returns-clause-cause g c = record { kept = c.write_through.ensures.cause.never_f
 
 pub returns-in_err-write_through-clause-logged : goal.returns-in_err-write_through-clause-logged
 returns-in_err-write_through-clause-logged g c =
+    let d = g.D.CacheDev in
     let p = err_from_is_err_and c.from_residual-in_err-write_through.result c.from_residual-in_err-write_through.ensures.1 in
     let b = c.write_block-ptr.ensures.block in
     let whole = b.1.bytes_of.whole in
     let long : length c.write_block-ptr.new.out ≡ c.in_ok-bytes.bytes.len = omega (arith, whole, c.in_ok-bytes.ensures.len) in
     let same : c.deref.result.now ≡ c.write_block-ptr.new.out = c.deref.ensures.value ∙ take_at c.write_block-ptr.new.out _ c.in_ok-bytes.bytes.len long in
     let of = block_of_reserved c.args.cursor.now c.reserve.new.self _ _ _ c.reserve.ensures.reserved b.1 in
-    rw p.1 (inr (_, b.0, c.write_block-ptr.result, of, rw (same, c.requires.at) at c.write_through.ensures.wrote, tt))
+    rw (p.1, p.2) (inr (
+      _,
+      b.0,
+      c.write_block-ptr.result,
+      of,
+      rw (same, c.requires.at) at c.write_through.ensures.wrote,
+      refl,
+      written_err (Unit {0}) Failed LogPtr DevErr c.args.cursor.now.ring.hand _ (d.told c.args.dev.now) (d.told c.write_through.new.dev) _ _ (rw (same, c.requires.at) at c.in_err-write_through.ensures.told),
+    ))
 
 pub returns-clause-logged : goal.returns-clause-logged
 returns-clause-logged g c =
+    let d = g.D.CacheDev in
     let b = c.write_block-ptr.ensures.block in
     let whole = b.1.bytes_of.whole in
     let long : length c.write_block-ptr.new.out ≡ c.in_ok-bytes.bytes.len = omega (arith, whole, c.in_ok-bytes.ensures.len) in
@@ -36,4 +50,5 @@ returns-clause-logged g c =
       of,
       rw (same, c.requires.at) at c.write_through.ensures.wrote,
       (refl, rw (same, c.requires.at) at c.in_ok-write_through.ensures.done),
+      written_ok (Unit {0}) Failed LogPtr DevErr c.args.cursor.now.ring.hand _ (d.told c.args.dev.now) (d.told c.write_through.new.dev) _ _ (rw (same, c.requires.at) at c.in_ok-write_through.ensures.told),
     )

@@ -9,5 +9,5 @@ abbrev pub invariant-loop-i : goal.invariant-loop-i
 invariant-loop-i l = record {
   kept : FiltersInPlace (stays l.plan) l.initial.live l.live l.kept l.i;
   dropped : l.dropped.items ≡ l.initial.dropped.items ++ map live_of (filter (falls l.plan) (take l.i l.initial.live));
-  room : vec_len l.dropped + length l.initial.live ≤ vec_capacity l.dropped + l.i;
+  room : vec_len l.dropped + length (filter (falls l.plan) l.initial.live) ≤ vec_capacity l.dropped + length (filter (falls l.plan) (take l.i l.initial.live));
 }

@@ -25,8 +25,8 @@ invariant_of-self c =
       tidy = IsTidy-same (come c.args.entry (shard_in c.self.inside)) _ c.add.ensures.items (ap (λ l. l.sequences) c.put.ensures)
           (IsTidy-come c.args.entry (shard_in c.self.inside) (ap is_some absent) c.requires.off c.requires.sound kept.tidy);
       members = ap (λ l. l.members) c.put.ensures ∙ rw (kept.members, c.add.ensures.items) (sym (map-with_item entry_key member_key member_of (λ e. refl) c.args.entry c.self.inside.entries.items));
-      room = omega (arith, kept.room, c.add.new.entries.ok.0, c.self.inside.entries.ok.0, ap length c.add.ensures.items, c.add.ensures.capacity, spare, more);
-      marked_room = omega (arith, kept.marked_room, c.add.new.entries.ok.0, c.self.inside.entries.ok.0, ap length c.add.ensures.items, spare, more);
+      room = omega (arith, kept.room, c.add.ensures.spare, spare);
+      marked_room = omega (arith, kept.marked_room, ap length c.add.ensures.items, spare, more);
       passed_room = kept.passed_room;
       picked_room = kept.picked_room;
       passed_rising = kept.passed_rising;

@@ -1,5 +1,6 @@
-use Rattle.std.proofs.Common.{sym, subst, ◌∙◌, arith, refl}
-use Rattle.arc_core.specs.PlainShard.{entry_of}
+use Rattle.std.proofs.Common.{length, ap, sym, subst, ◌∙◌, arith, refl}
+use Rattle.arc_lists.proofs.Tables.{length-with_change}
+use Rattle.arc_core.specs.PlainShard.{entry_key, entry_of}
 use Rattle.arc_core.specs.Edits.{HasAlike, amended}
 use Rattle.arc_core.specs.TableModel.{shard_in}
 use Rattle.arc_core.proofs.Tables.{IsTidy-same, belongs_on-alike, members-amended, some_and}
@@ -16,8 +17,8 @@ invariant_of-self c =
       tidy = IsTidy-same (amended e (shard_in c.self.inside)) _ c.write.ensures.items refl
           (IsTidy-amended e (shard_in c.self.inside) old.value old.is (belongs_on-alike e old.value old.fact.0 old.fact.1) c.requires.sound kept.tidy);
       members = kept.members ∙ rw c.write.ensures.items (sym (members-amended e old.value c.self.inside.entries.items old.is old.fact.0));
-      room = omega (arith, kept.room, c.write.ensures.len, c.write.ensures.capacity);
-      marked_room = omega (arith, kept.marked_room, c.write.ensures.len);
+      room = omega (arith, kept.room, c.write.ensures.spare);
+      marked_room = omega (arith, kept.marked_room, ap length c.write.ensures.items, length-with_change entry_key e.key (λ old. e) c.self.inside.entries.items);
       passed_room = kept.passed_room;
       picked_room = kept.picked_room;
       passed_rising = kept.passed_rising;

@@ -22,7 +22,7 @@ add_key-requires-clause-room c =
     let unmarked : stands_on k t.marked.items ≡ false = subst (λ p. stands_on k p.marked ≡ false) (sym c.self.view_is) c.requires.unmarked in
     let has : IsTrue (has_key member_key k (map member_of t.entries.items)) = has_key-members k t.entries.items ∙ there in
     let fewer = fewer-marked (members (shard_in t)) t.marked.items k (members-rising t.entries.items kept.tidy.once) has unmarked marked in
-    omega (arith, fewer, kept.marked_room, length-map t.entries.items member_of, t.entries.ok.0, t.marked.ok.0)
+    omega (arith, fewer, kept.marked_room, length-map t.entries.items member_of, t.marked.ok.0)
 
 pub invariant_of-self : goal.invariant_of-self
 invariant_of-self c =

@@ -1,5 +1,6 @@
-use Rattle.std.proofs.Common.{IsSome, refl, sym, ap, subst, ◌∙◌, arith, map}
-use Rattle.arc_core.specs.PlainShard.{entry_of, member_of}
+use Rattle.std.proofs.Common.{IsSome, length, refl, sym, ap, subst, ◌∙◌, arith, map}
+use Rattle.arc_lists.proofs.Tables.{length-with_change}
+use Rattle.arc_core.specs.PlainShard.{entry_key, entry_of, member_of}
 use Rattle.arc_core.specs.Edits.{placed}
 use Rattle.arc_core.specs.TableModel.{shard_in}
 use Rattle.arc_core.proofs.Tables.{absent-taken, has_key-members, IsTidy-same, members-placed, members-rising}
@@ -27,8 +28,8 @@ invariant_of-self c =
           (IsTidy-placed c.args.entry (shard_in c.self.inside) there c.requires.sound kept.tidy);
       members = ap (λ l. l.members) c.put.ensures ∙ rw (c.take_out.ensures, kept.members, c.write.ensures.items)
           (members-placed c.args.entry c.self.inside.entries.items (members-rising c.self.inside.entries.items kept.tidy.once) there);
-      room = omega (arith, kept.room, c.write.ensures.len, c.write.ensures.capacity, spare, taken);
-      marked_room = omega (arith, kept.marked_room, c.write.ensures.len, spare, taken);
+      room = omega (arith, kept.room, c.write.ensures.spare, spare, taken);
+      marked_room = omega (arith, kept.marked_room, ap length c.write.ensures.items, length-with_change entry_key c.args.entry.key (λ old. c.args.entry) c.self.inside.entries.items, spare, taken);
       passed_room = kept.passed_room;
       picked_room = kept.picked_room;
       passed_rising = kept.passed_rising;

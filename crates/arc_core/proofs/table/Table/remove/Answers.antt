@@ -23,8 +23,8 @@ invariant_of-self c =
     record {
       tidy = IsTidy-same (gone c.args.key (shard_in c.self.inside)) _ c.remove.ensures.items (ap (λ l. l.sequences) c.take_out.ensures) (IsTidy-gone c.args.key (shard_in c.self.inside) kept.tidy);
       members = ap (λ l. l.members) c.take_out.ensures ∙ rw (kept.members, c.remove.ensures.items) (sym (map-without entry_key member_key member_of (λ e. refl) c.args.key c.self.inside.entries.items));
-      room = omega (arith, kept.room, c.remove.new.entries.ok.0, c.self.inside.entries.ok.0, ap length c.remove.ensures.items, c.remove.ensures.capacity, spare, fewer);
-      marked_room = omega (arith, kept.marked_room, c.remove.new.entries.ok.0, c.self.inside.entries.ok.0, ap length c.remove.ensures.items, spare, fewer);
+      room = omega (arith, kept.room, c.remove.ensures.spare, spare);
+      marked_room = omega (arith, kept.marked_room, ap length c.remove.ensures.items, spare, fewer);
       passed_room = kept.passed_room;
       picked_room = kept.picked_room;
       passed_rising = kept.passed_rising;

@@ -17,7 +17,7 @@ returns-in-Some c =
     let k = c.args.key in
     let e = c.in-Some.entry in
     let is = c.scan_but-scan.ensures ∙ ap (λ n. scan_at (Some k) n c.args.p s) c.c.ensures in
-    let few : length s.entries < 2 ^ 65 = omega (arith, c.self.inside.entries.ok.0, c.self.inside.entries.small, ap (λ t. length t.shard.entries) c.self.view_is) in
+    let few : length s.entries < 2 ^ 65 = omega (arith, c.self.invariant.marked_room, c.self.inside.marked.ok.1, c.self.inside.marked.small, ap (λ t. length t.shard.entries) c.self.view_is) in
     subst (λ (x : Scan). IsScanOf (Some k) s x (record (gone k s) { p = c.args.p }))
     (ap (λ (x : Scan). with_size e.state (size_by e.state x - k.size) x) (sym is) ∙ sym c.take_size.ensures)
     (scan-without-some s k c.args.p e c.in-Some.ensures.tidy few (sym c.in-Some.ensures.value))
@@ -27,6 +27,6 @@ returns-in_default c =
     let s = c.args.self.now.shard in
     let k = c.args.key in
     let is = c.scan_but-scan.ensures ∙ ap (λ n. scan_at (Some k) n c.args.p s) c.c.ensures in
-    let few : length s.entries < 2 ^ 65 = omega (arith, c.self.inside.entries.ok.0, c.self.inside.entries.small, ap (λ t. length t.shard.entries) c.self.view_is) in
+    let few : length s.entries < 2 ^ 65 = omega (arith, c.self.invariant.marked_room, c.self.inside.marked.ok.1, c.self.inside.marked.small, ap (λ t. length t.shard.entries) c.self.view_is) in
     subst (λ (x : Scan). IsScanOf (Some k) s x (record (gone k s) { p = c.args.p })) (sym is)
     (scan-without-none s k c.args.p c.find.ensures.tidy few (sym c.find.ensures.value ∙ c.in_default.is))

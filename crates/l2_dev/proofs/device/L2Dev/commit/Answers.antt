@@ -1,7 +1,9 @@
-use Rattle.std.proofs.Common.{ℕ, ◌++◌, ◌∷◌, inr, inl, sym, subst, arith}
-use Rattle.l2_dev.proofs.Commits.{log_failed, logged_of, commit_failed, commit_kept, header_reserved, forgotten_reserved, settled_from, commit_written}
+use Rattle.std.proofs.Common.{◌≡◌, ℕ, ◌++◌, ◌∷◌, inr, inl, sym, subst, arith}
+use Rattle.l2_dev.proofs.Commits.{log_failed, logged_of, commit_failed, commit_kept, header_reserved, forgotten_reserved, settled_from, commit_written, log_refused, log_left, header_left}
 use Rattle.l2_dev.proofs.Puts.{forgotten_of}
 use Rattle.l2_dev.specs.Calls.{LeavesWith}
+use Rattle.l2_dev.specs.Planned.{IsHeaderWith}
+use Rattle.l2_dev.specs.declared.fault.DevErr.TheVariants.{DevFault, NoMemory}
 use Rattle.l2_dev.proofs.device.L2Dev.commit.Goals as goal
 
 pub write_log-requires-clause-inside : goal.write_log-requires-clause-inside
@@ -54,7 +56,7 @@ returns-in-Err-write_header-clause-crash g c =
       now_only = λ x yes left. laws.only_now mid x yes left;
       long = λ x left. let n = laws.leaves_len mid x left in omega (arith, n, c.requires.whole, c.write_log.ensures.size);
     } f in
-    inr (r.0, r.1, r.2, subst (λ (e : ℕ). LeavesWith d.moment d.left_since e dev c.write_header.new.dev p (r.0 ∷ p.blocks) (p.pending ++ p.kept) p.kept r.1) (sym f.end) r.3, r.4)
+    inr (r.0, r.1, r.2, subst (λ (e : ℕ). LeavesWith d.moment d.left_since (IsHeaderWith cursor r.0.ptr) e dev c.write_header.new.dev p (r.0 ∷ p.blocks) (p.pending ++ p.kept) p.kept r.1) (sym f.end) r.3, r.4)
 
 pub returns-clause-settled : goal.returns-clause-settled
 returns-clause-settled g c =
@@ -92,4 +94,25 @@ returns-clause-crash g c =
       now_only = λ x yes left. laws.only_now mid x yes left;
       long = λ x left. let n = laws.leaves_len mid x left in omega (arith, n, c.requires.whole, c.write_log.ensures.size);
     } c.in_default.ensures.written.done h in
-    (r.0, r.1, r.2, subst (λ (e : ℕ). LeavesWith d.moment d.left_since e dev c.write_header.new.dev p (r.0 ∷ p.blocks) (p.pending ++ p.kept) p.kept r.1) (sym h.end) r.3, r.4)
+    (r.0, r.1, r.2, subst (λ (e : ℕ). LeavesWith d.moment d.left_since (IsHeaderWith cursor r.0.ptr) e dev c.write_header.new.dev p (r.0 ∷ p.blocks) (p.pending ++ p.kept) p.kept r.1) (sym h.end) r.3, r.4)
+
+pub returns-in-Err-clause-refused : goal.returns-in-Err-clause-refused
+returns-in-Err-clause-refused g c =
+    λ e.
+    let d = g.D.CacheDev in
+    let is : c.in-Err.fault ≡ NoMemory = cc in
+    log_refused d.told d.has_sectors d.may_leave d.moment d.left_since c.args.self.now.dev c.write_log.new.dev c.args.self.now.cursor c.in-Err.fault c.in-Err.ensures.logged is
+
+pub returns-in-Err-clause-left : goal.returns-in-Err-clause-left
+returns-in-Err-clause-left g c =
+    λ e.
+    let d = g.D.CacheDev in
+    let is : c.in-Err.fault ≡ DevFault = cc in
+    log_left d.told d.has_sectors d.may_leave d.moment d.left_since c.args.self.now.dev c.write_log.new.dev c.args.self.now.cursor c.in-Err.fault c.in-Err.ensures.logged is
+
+pub returns-in-Err-write_header-clause-left : goal.returns-in-Err-write_header-clause-left
+returns-in-Err-write_header-clause-left g c =
+    λ e.
+    let d = g.D.CacheDev in
+    header_left d.told d.has_sectors d.may_leave d.moment d.left_since c.args.self.now.dev c.write_log.new.dev c.write_header.new.dev c.args.self.now.cursor c.in-Ok.ptr c.header_with-header.result _
+    c.in-Ok.ensures.logged c.in-Err-write_header.ensures.written

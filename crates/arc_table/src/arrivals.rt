@@ -1,0 +1,129 @@
+//! How a read ends: its bytes arrive, or it has failed.
+ghost use Rattle.std.specs.Prelude.{◌≡◌, IsSome, IsTrue, IfSome, IfNone, Some, None, [], ◌∷◌};
+ghost use Rattle.blk_ptr.specs.Ptr.{IsOf};
+ghost use Rattle.arc_core.specs.declared.event.Event.{Event};
+ghost use Rattle.arc_core.specs.PlainShard.{entry_is};
+ghost use Rattle.arc_core.specs.Step.{may_come_from};
+ghost use Rattle.hash_chain.specs.Chain.{IsWith, header_at};
+ghost use Rattle.arc_table.specs.Arriving.{FindsCleared, IsReading};
+ghost use Rattle.arc_table.specs.Both.{Does, Makes};
+ghost use Rattle.arc_table.specs.Cache.{IsPartyOf};
+ghost use Rattle.arc_table.specs.Holding.{IsHeld, IsHoldOf};
+ghost use Rattle.arc_table.specs.Items.{meanings};
+ghost use Rattle.arc_table.specs.Looking.{HasNoLook};
+ghost use Rattle.arc_table.specs.Making.{IsTaken};
+
+use crate::arcs::{Arcs, Party};
+use crate::both::Both;
+use crate::fetch::Fetched;
+use crate::headers::follow;
+use crate::hold::Hold;
+use crate::inserts::written_header;
+use arc_core::{Event, FailedAt, Keeps, Origin, Shard};
+use blk_ptr::{Key, Ptr};
+use hash_chain::{Bucket, Header};
+use std::sync::Wait;
+
+// Whether bytes from there may arrive: those of the cache device only while the entry has a place there.
+fn may_come(shard: &Shard, key: Key, from: Origin) -> bool
+    ensures { result ≡ entry_is (may_come_from from) key shard.now.now }
+{
+    match shard.entry(key) {
+        Some(entry) => match from {
+            Origin::Pool => true,
+            Origin::L2 => entry.place.is_some(),
+        },
+        None => false,
+    }
+}
+
+// The key, which has a header, has this one from now on.
+fn change_header(bucket: &mut Bucket, header: Header)
+    requires { IsSome (header_at header.key bucket.old.headers) }
+    ensures { IsWith header.key (Some header) bucket.old.headers bucket.new.headers }
+{
+    let Some(at) = bucket.find(header.key) else {
+        unreachable!()
+    };
+    bucket.change(at, header);
+}
+
+impl<C: Keeps> Arcs<C> {
+    // Ends a read of the party's, whose bytes were fetched: they arrive, and the party has a hold. Bytes of the cache device arrive only
+    // while the entry has a place there; where the feeder has cleared it, there is no event, the party reads still, and the pool is to be
+    // asked. It may wait, and takes no memory.
+    pub(crate) fn arrive_read(
+        &self,
+        rt: &impl Wait,
+        party: &mut Party<C>,
+        ptr: &Ptr,
+        fetched: Fetched,
+    ) -> Option<Hold>
+        requires party { IsPartyOf self.now party.old }
+        requires look { HasNoLook self.now party.old }
+        requires reading { IsReading ptr.now.key party.old }
+        requires of { IsOf fetched.block.value ptr.now }
+        requires shared { fetched.shared.value ≡ fetched.block.value }
+        ensures arrived { IfSome result (λ hold. Does (meanings C.holds C.entries C.opening C.claims C.sound) self.now.config ptr.now.key (Event.Arrive party.old.number ptr.now.key ptr.now.digest fetched.from ∷ []) party.old party.new) }
+        ensures hold { IfSome result (λ hold. IsHoldOf ptr.now party.old.number hold × IsHeld self.now.config party.new hold) }
+        ensures block { IfSome result (λ hold. hold.block.value ≡ fetched.block.value) }
+        ensures cleared { IfNone result ((fetched.from ≡ Origin.L2) × FindsCleared (meanings C.holds C.entries C.opening C.claims C.sound) self.now.config ptr.now.key party.old party.new) }
+    {
+        let both = self.take_both(rt, party, ptr.key);
+        if !may_come(&both.shard, ptr.key, fetched.from) {
+            self.give_back(party, ptr.key, both);
+            return None;
+        }
+        Some(self.arrive_taken(party, both, *ptr, fetched))
+    }
+
+    // The bytes of a read arrive, of the key whose bucket and shard the party has just taken, and both are given back.
+    fn arrive_taken(&self, party: &mut Party<C>, mut both: Both, ptr: Ptr, fetched: Fetched) -> Hold
+        requires party { IsPartyOf self.now party.old }
+        requires taken { IsTaken (meanings C.holds C.entries C.opening C.claims C.sound) self.now.config ptr.key both party.old }
+        requires reading { IsReading ptr.key party.old }
+        requires of { IsOf fetched.block.value ptr }
+        requires shared { fetched.shared.value ≡ fetched.block.value }
+        requires comes { IsTrue (entry_is (may_come_from fetched.from) ptr.key both.shard.now) }
+        ensures makes { Makes (meanings C.holds C.entries C.opening C.claims C.sound) self.now.config ptr.key both.shard (Event.Arrive party.old.number ptr.key ptr.digest fetched.from ∷ []) party.old party.new }
+        ensures hold { IsHoldOf ptr party.old.number result × IsHeld self.now.config party.new result }
+        ensures block { result.block.value ≡ fetched.block.value }
+    {
+        let Fetched {
+            block,
+            shared,
+            from,
+        } = fetched;
+        let owner = party.number();
+        both.shard.arrive(owner, ptr.key, ptr.digest, from);
+        let header = written_header(&both.shard, ptr.key, shared);
+        change_header(&mut both.hand.own.bucket, header);
+        self.give_both(party, ptr.key, both);
+        let Ptr { key, digest: _ } = ptr;
+        Hold { key, owner, block }
+    }
+
+    // Ends a read of the party's that has failed: the entry goes, with its place on the cache device. It may wait, and takes no memory.
+    pub(crate) fn fail_read(&self, rt: &impl Wait, party: &mut Party<C>, key: Key, at: FailedAt)
+        requires party { IsPartyOf self.now party.old }
+        requires look { HasNoLook self.now party.old }
+        requires reading { IsReading key party.old }
+        ensures { Does (meanings C.holds C.entries C.opening C.claims C.sound) self.now.config key (Event.Fail party.old.number key at ∷ []) party.old party.new }
+    {
+        let both = self.take_both(rt, party, key);
+        self.fail_taken(party, both, key, at);
+    }
+
+    // The read has failed, of the key whose bucket and shard the party has just taken, and both are given back.
+    fn fail_taken(&self, party: &mut Party<C>, mut both: Both, key: Key, at: FailedAt)
+        requires party { IsPartyOf self.now party.old }
+        requires taken { IsTaken (meanings C.holds C.entries C.opening C.claims C.sound) self.now.config key both party.old }
+        requires reading { IsReading key party.old }
+        ensures { Makes (meanings C.holds C.entries C.opening C.claims C.sound) self.now.config key both.shard (Event.Fail party.old.number key at ∷ []) party.old party.new }
+    {
+        let n = party.number();
+        both.shard.fail(n, key, at);
+        follow(&mut both.hand.own.bucket, &both.shard, key);
+        self.give_both(party, key, both);
+    }
+}

@@ -1,0 +1,9 @@
+//! What a cell of dbufs keeps of the shared cache.
+#![tactic(auto)]
+
+mod kept;
+
+pub use kept::{Cells, Kept};
+
+#[cfg(test)]
+mod tests;

@@ -1,0 +1,217 @@
+-- One caller's lines over several shards: each shard's history is that of the lines on its blocks, and the replies are those of the plain run.
+use Rattle.std.proofs.Common.{◌≡◌, ◌≢◌, ℕ, zero, suc, ◌==◌, Bool, true, false, if◌then◌else◌, List, [], ◌∷◌, ◌++◌, length, drop, Option, Some, None, inl, inr, refl, sym, ap, subst, ◌∙◌, arith, append-nil}
+use Rattle.std.specs.Prelude.{filter, find, slice_get, option_and_then}
+use Rattle.std.specs.Option.{option_map_or}
+use Rattle.std.proofs.lemmas.Bool.{eqb-true, false≢true}
+use Rattle.std.proofs.lemmas.Bool.Decides.{nat_tests}
+use Rattle.std.proofs.lemmas.List.Elements.{filter-append}
+use Rattle.arc_lists.proofs.Tables.{cases_true}
+use Rattle.blk_ptr.specs.declared.ptr.Ptr.{Ptr}
+use Rattle.arc_core.specs.declared.event.Event.{Event}
+use Rattle.arc_core.specs.PlainShard.{PlainShard}
+use Rattle.arc_core.specs.Replay.{replay}
+use Rattle.trace_text.specs.declared.op.Op.{Op}
+use Rattle.trace_text.specs.declared.op.Op.TheVariants as ops
+use Rattle.trace_text.specs.declared.reply.Reply.{Reply}
+use Rattle.trace_run.specs.declared.access.KeptRead.{KeptRead}
+use Rattle.trace_run.specs.Access.{events_of_drop}
+use Rattle.trace_run.specs.Effects.{Effect, Answered, GivenBack, PoolRefused, NoEffect, calls_of, calls_of_all, effect_of}
+use Rattle.trace_run.specs.Lines.{is_in_shard, replies_where, shard_of_line}
+use Rattle.trace_run.specs.OneCaller.{events_of, events_of_all, events_of_dropping, is_of_block, kept_after, kept_after_all, kept_after_drop, kept_after_hold, oldest_kept, without_oldest}
+use Rattle.trace_run.specs.OverShards.{AllLinesOver, events_over, kept_in_shard, shard_of_block}
+use Rattle.trace_run.specs.PlainCache.{kept_read}
+use Rattle.trace_run.specs.PlainLines.{IsPlainLine}
+use Rattle.trace_run.specs.PlainRun.{next_call, replies_to, reply_to, shards_after}
+use Rattle.trace_run.specs.PoolCalls.{PoolCall}
+use Rattle.trace_run.proofs.PlainLemmas.{drop-front, next-is}
+
+-- ---- the kept reads of one shard
+
+module _ (shards : ℕ) (blocks : List Ptr) (i : ℕ) where
+  abbrev here : KeptRead → Bool
+  here read = shard_of_block shards blocks read.block == i
+
+  block-here : (x : ℕ) (read : KeptRead) → is_of_block x read ≡ true → here read ≡ (shard_of_block shards blocks x == i)
+  block-here x read is = ap (λ (b : ℕ). shard_of_block shards blocks b == i) (eqb-true read.block x is)
+
+  find-here : (x : ℕ) (kept : List KeptRead) → (shard_of_block shards blocks x == i) ≡ true → find (is_of_block x) kept ≡ find (is_of_block x) (kept_in_shard shards blocks i kept)
+  find-here x [] is = refl
+  find-here x (read ∷ reads) is = elim (cases_true (is_of_block x read)) [
+    | inl same ↦ rw (block-here x read same ∙ is, same) refl
+    | inr other ↦ elim (cases_true (here read)) [
+      | inl in_it ↦ rw (in_it, other) (find-here x reads is)
+      | inr out ↦ rw (out, other) (find-here x reads is)
+    ]
+  ]
+
+  without-here : (x : ℕ) (kept : List KeptRead) → (shard_of_block shards blocks x == i) ≡ true → kept_in_shard shards blocks i (without_oldest x kept) ≡ without_oldest x (kept_in_shard shards blocks i kept)
+  without-here x [] is = refl
+  without-here x (read ∷ reads) is = elim (cases_true (is_of_block x read)) [
+    | inl same ↦ rw (block-here x read same ∙ is, same) refl
+    | inr other ↦ elim (cases_true (here read)) [
+      | inl in_it ↦ rw (other, in_it, other) (ap (λ (l : List KeptRead). read ∷ l) (without-here x reads is))
+      | inr out ↦ rw (other, out) (without-here x reads is)
+    ]
+  ]
+
+  without-else : (x : ℕ) (kept : List KeptRead) → (shard_of_block shards blocks x == i) ≡ false → kept_in_shard shards blocks i (without_oldest x kept) ≡ kept_in_shard shards blocks i kept
+  without-else x [] is = refl
+  without-else x (read ∷ reads) is = elim (cases_true (is_of_block x read)) [
+    | inl same ↦ rw (block-here x read same ∙ is, same) refl
+    | inr other ↦ elim (cases_true (here read)) [
+      | inl in_it ↦ rw (other, in_it) (ap (λ (l : List KeptRead). read ∷ l) (without-else x reads is))
+      | inr out ↦ rw (other, out) (without-else x reads is)
+    ]
+  ]
+
+  -- ---- one line
+
+  hold-here : (x : ℕ) (ptr : Ptr) (e : Effect) (kept : List KeptRead) → (shard_of_block shards blocks x == i) ≡ true
+      → kept_in_shard shards blocks i (kept_after_hold x ptr e kept) ≡ kept_after_hold x ptr e (kept_in_shard shards blocks i kept)
+  hold-here x ptr (Answered from) kept is = filter-append here kept _ ∙ rw is refl
+  hold-here x ptr GivenBack kept is = refl
+  hold-here x ptr (PoolRefused call) kept is = refl
+  hold-here x ptr NoEffect kept is = refl
+
+  hold-else : (x : ℕ) (ptr : Ptr) (e : Effect) (kept : List KeptRead) → (shard_of_block shards blocks x == i) ≡ false
+      → kept_in_shard shards blocks i (kept_after_hold x ptr e kept) ≡ kept_in_shard shards blocks i kept
+  hold-else x ptr (Answered from) kept is = filter-append here kept _ ∙ rw is (append-nil (kept_in_shard shards blocks i kept))
+  hold-else x ptr GivenBack kept is = refl
+  hold-else x ptr (PoolRefused call) kept is = refl
+  hold-else x ptr NoEffect kept is = refl
+
+  drop-here : (x : ℕ) (e : Effect) (kept : List KeptRead) → (shard_of_block shards blocks x == i) ≡ true
+      → kept_in_shard shards blocks i (kept_after_drop x e kept) ≡ kept_after_drop x e (kept_in_shard shards blocks i kept)
+  drop-here x (Answered from) kept is = refl
+  drop-here x GivenBack kept is = without-here x kept is
+  drop-here x (PoolRefused call) kept is = refl
+  drop-here x NoEffect kept is = refl
+
+  drop-else : (x : ℕ) (e : Effect) (kept : List KeptRead) → (shard_of_block shards blocks x == i) ≡ false
+      → kept_in_shard shards blocks i (kept_after_drop x e kept) ≡ kept_in_shard shards blocks i kept
+  drop-else x (Answered from) kept is = refl
+  drop-else x GivenBack kept is = without-else x kept is
+  drop-else x (PoolRefused call) kept is = refl
+  drop-else x NoEffect kept is = refl
+
+  kept-here : (op : Op) (reply : Reply) (kept : List KeptRead) → is_in_shard shards blocks i op ≡ true
+      → kept_in_shard shards blocks i (kept_after blocks op reply kept) ≡ kept_after blocks op reply (kept_in_shard shards blocks i kept)
+  kept-here (ops.Read n t x window) reply kept is = refl
+  kept-here (ops.Hold n t x) reply kept is = go (slice_get blocks x)
+    where
+      go : (o : Option Ptr) → kept_in_shard shards blocks i (option_map_or (λ ptr. kept_after_hold x ptr (effect_of reply) kept) o kept)
+          ≡ option_map_or (λ ptr. kept_after_hold x ptr (effect_of reply) (kept_in_shard shards blocks i kept)) o (kept_in_shard shards blocks i kept)
+      go None = refl
+      go (Some ptr) = hold-here x ptr (effect_of reply) kept is
+  kept-here (ops.Drop n x) reply kept is = drop-here x (effect_of reply) kept is
+
+  kept-else : (op : Op) (reply : Reply) (kept : List KeptRead) → is_in_shard shards blocks i op ≡ false
+      → kept_in_shard shards blocks i (kept_after blocks op reply kept) ≡ kept_in_shard shards blocks i kept
+  kept-else (ops.Read n t x window) reply kept is = refl
+  kept-else (ops.Hold n t x) reply kept is = go (slice_get blocks x)
+    where
+      go : (o : Option Ptr) → kept_in_shard shards blocks i (option_map_or (λ ptr. kept_after_hold x ptr (effect_of reply) kept) o kept) ≡ kept_in_shard shards blocks i kept
+      go None = refl
+      go (Some ptr) = hold-else x ptr (effect_of reply) kept is
+  kept-else (ops.Drop n x) reply kept is = drop-else x (effect_of reply) kept is
+
+  events-here : (s : PlainShard) (op : Op) (reply : Reply) (kept : List KeptRead) → is_in_shard shards blocks i op ≡ true
+      → events_of blocks s kept op reply ≡ events_of blocks s (kept_in_shard shards blocks i kept) op reply
+  events-here s (ops.Read n t x window) reply kept is = refl
+  events-here s (ops.Hold n t x) reply kept is = refl
+  events-here s (ops.Drop n x) reply kept is = go (effect_of reply)
+    where
+      go : (e : Effect) → events_of_dropping n x kept e ≡ events_of_dropping n x (kept_in_shard shards blocks i kept) e
+      go (Answered from) = refl
+      go GivenBack = ap (λ (o : Option KeptRead). events_of_drop n (option_and_then (λ (read : KeptRead). read.held) o)) (find-here x kept is)
+      go (PoolRefused call) = refl
+      go NoEffect = refl
+
+  -- ---- the shards after a line
+
+  same-shard : (s : ℕ → PlainShard) (j : ℕ) (es : List Event) → (j == i) ≡ true → shards_after s j es i ≡ replay (s i) es
+  same-shard s j es is =
+      let e : j ≡ i = eqb-true j i is in
+      let t : (i == j) ≡ true = grind (arith, nat_tests, e) in
+      rw t refl
+
+  other-shard : (s : ℕ → PlainShard) (j : ℕ) (es : List Event) → (j == i) ≡ false → shards_after s j es i ≡ s i
+  other-shard s j es is =
+      let t : (i == j) ≡ false = grind (arith, nat_tests, is) in
+      rw t refl
+
+-- ---- all lines, in one shard
+
+module _ (shards : ℕ) (blocks : List Ptr) (i : ℕ) where
+  -- what the lines make in the shard is what the lines on its blocks make there
+  pub events-over : (s : ℕ → PlainShard) (kept : List KeptRead) (os : List Op) (replies : List Reply)
+      → events_over shards blocks s kept i os replies
+      ≡ events_of_all blocks (s i) (kept_in_shard shards blocks i kept) (filter (is_in_shard shards blocks i) os) (replies_where (is_in_shard shards blocks i) os replies)
+  events-over s kept [] replies = refl
+  events-over s kept (op ∷ os) [] = nothing (filter (is_in_shard shards blocks i) (op ∷ os))
+    where
+      nothing : (l : List Op) → [] ≡ events_of_all blocks (s i) (kept_in_shard shards blocks i kept) l []
+      nothing [] = refl
+      nothing (o ∷ l) = refl
+  events-over s kept (op ∷ os) (reply ∷ replies) =
+      let j = shard_of_line shards blocks op in
+      let es = events_of blocks (s j) kept op reply in
+      let rest = events-over (shards_after s j es) (kept_after blocks op reply kept) os replies in
+      elim (cases_true (is_in_shard shards blocks i op)) [
+        | inl in_it ↦
+            let same : j ≡ i = eqb-true j i in_it in
+            let test : (i == j) ≡ true = grind (arith, nat_tests, same) in
+            let events : es ≡ events_of blocks (s i) (kept_in_shard shards blocks i kept) op reply =
+            ap (λ (n : ℕ). events_of blocks (s n) kept op reply) same ∙ events-here shards blocks i (s i) op reply kept in_it in
+            rw (test, in_it)
+            (ap (λ (l : List Event). es ++ l)
+            (rest ∙ ap (λ (x : PlainShard × List KeptRead). events_of_all blocks x.0 x.1 (filter (is_in_shard shards blocks i) os) (replies_where (is_in_shard shards blocks i) os replies))
+            (λ k. ((same-shard shards blocks i s j es in_it ∙ ap (replay (s i)) events) k, kept-here shards blocks i op reply kept in_it k)))
+            ∙ ap (λ (l : List Event). l ++ events_of_all blocks (replay (s i) (events_of blocks (s i) (kept_in_shard shards blocks i kept) op reply)) (kept_after blocks op reply (kept_in_shard shards blocks i kept))
+            (filter (is_in_shard shards blocks i) os) (replies_where (is_in_shard shards blocks i) os replies)) events)
+        | inr out ↦
+            let test : (i == j) ≡ false = grind (arith, nat_tests, out) in
+            rw (test, out)
+            (rest ∙ ap (λ (x : PlainShard × List KeptRead). events_of_all blocks x.0 x.1 (filter (is_in_shard shards blocks i) os) (replies_where (is_in_shard shards blocks i) os replies))
+            (λ k. (other-shard shards blocks i s j es out k, kept-else shards blocks i op reply kept out k)))
+      ]
+
+  -- so are the reads that are kept
+  pub kept-over : (kept : List KeptRead) (os : List Op) (replies : List Reply)
+      → kept_in_shard shards blocks i (kept_after_all blocks kept os replies)
+      ≡ kept_after_all blocks (kept_in_shard shards blocks i kept) (filter (is_in_shard shards blocks i) os) (replies_where (is_in_shard shards blocks i) os replies)
+  kept-over kept [] replies = refl
+  kept-over kept (op ∷ os) [] = nothing (filter (is_in_shard shards blocks i) (op ∷ os))
+    where
+      nothing : (l : List Op) → kept_in_shard shards blocks i kept ≡ kept_after_all blocks (kept_in_shard shards blocks i kept) l []
+      nothing [] = refl
+      nothing (o ∷ l) = refl
+  kept-over kept (op ∷ os) (reply ∷ replies) =
+      let rest = kept-over (kept_after blocks op reply kept) os replies in
+      elim (cases_true (is_in_shard shards blocks i op)) [
+        | inl in_it ↦ rw in_it (rest ∙ ap (λ (l : List KeptRead). kept_after_all blocks l (filter (is_in_shard shards blocks i) os) (replies_where (is_in_shard shards blocks i) os replies)) (kept-here shards blocks i op reply kept in_it))
+        | inr out ↦ rw out (rest ∙ ap (λ (l : List KeptRead). kept_after_all blocks l (filter (is_in_shard shards blocks i) os) (replies_where (is_in_shard shards blocks i) os replies)) (kept-else shards blocks i op reply kept out))
+      ]
+
+-- ---- all replies
+
+pub plain-over : (image : List ℕ) (shards : ℕ) (blocks : List Ptr) (s : ℕ → PlainShard) (kept : List KeptRead) (os : List Op) (replies : List Reply)
+    → length replies ≡ length os → AllLinesOver (IsPlainLine image blocks) shards blocks s kept os replies
+    → replies ≡ replies_to image shards blocks s kept os (calls_of_all replies)
+plain-over image shards blocks s kept [] [] same lines = refl
+plain-over image shards blocks s kept [] (r ∷ rs) same lines = absurd (omega arith)
+plain-over image shards blocks s kept (o ∷ os) [] same lines = absurd (omega arith)
+plain-over image shards blocks s kept (o ∷ os) (r ∷ rs) same lines =
+    let own = calls_of (effect_of r) in
+    let rest = calls_of_all rs in
+    let call = next_call (own ++ rest) in
+    let i = shard_of_line shards blocks o in
+    let first : r ≡ reply_to image blocks (s i) kept o call = lines.0 call (next-is own rest) in
+    let next : Reply → List Reply = λ reply.
+    reply ∷ replies_to image shards blocks (shards_after s i (events_of blocks (s i) kept o reply)) (kept_after blocks o reply kept) os (drop (length (calls_of (effect_of reply))) (own ++ rest)) in
+    let goes : rs ≡ replies_to image shards blocks (shards_after s i (events_of blocks (s i) kept o r)) (kept_after blocks o r kept) os rest =
+    plain-over image shards blocks (shards_after s i (events_of blocks (s i) kept o r)) (kept_after blocks o r kept) os rs (omega arith) lines.1 in
+    let now : next r ≡ r ∷ rs =
+    ap (λ (cs : List PoolCall). r ∷ replies_to image shards blocks (shards_after s i (events_of blocks (s i) kept o r)) (kept_after blocks o r kept) os cs) (drop-front own rest)
+    ∙ ap (λ (l : List Reply). r ∷ l) (sym goes) in
+    sym (ap next (sym first) ∙ now)

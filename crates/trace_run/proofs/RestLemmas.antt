@@ -1,0 +1,173 @@
+-- A closed cache whose parties have given all back is at rest.
+use Rattle.std.proofs.Common.{◌≡◌, ◌≢◌, ◌⊎◌, ℕ, zero, suc, ◌+◌, ◌-◌, ◌*◌, ◌<◌, ◌≤◌, ◌==◌, ◌&&◌, ◌||◌, Bool, true, false, IsTrue, List, [], ◌∷◌, ◌++◌, length, Option, Some, None, map, refl, sym, ap, ◌∙◌, subst, inl, inr, arith}
+use Rattle.std.specs.Prelude.{slice_index, sum}
+use Rattle.std.specs.List.{AllByRecursion, list_all}
+use Rattle.std.specs.Option.{option_map_or}
+use Rattle.std.proofs.lemmas.Bool.{cases_lt, false≢true}
+use Rattle.std.proofs.lemmas.Bool.Decides.{nat_tests}
+use Rattle.std.proofs.lemmas.List.Sums.{sum_by-cons}
+use mathlib.Core.Option.{some, some-injective, some-ne-none}
+use lib.ListN.{get_elem?}
+use Rattle.blk_ptr.specs.declared.key.Key.{Key}
+use Rattle.blk_ptr.specs.declared.ptr.Ptr.{Ptr}
+use Rattle.arc_lists.proofs.Standing.{both}
+use Rattle.arc_lists.proofs.Tables.{All-item, cases_true}
+use Rattle.arc_core.specs.declared.config.Config.{Config}
+use Rattle.arc_core.specs.declared.entry.Entry.{Entry}
+use Rattle.arc_core.specs.declared.entry.Phase.{Phase}
+use Rattle.arc_core.specs.declared.entry.Phase.TheVariants.{Idle, Picking, Writing}
+use Rattle.arc_core.specs.declared.entry.Picked.{Picked}
+use Rattle.arc_core.specs.Operations.{IsAtRest}
+use Rattle.arc_core.specs.PlainShard.{PlainShard, count_of, entry_key, entry_of, held_by, is_at_rest, is_free}
+use Rattle.arc_core.specs.Sound.{IsSound, IsSoundEntry, fits_phase}
+use Rattle.arc_core.specs.Keeps.{holds_on}
+use Rattle.arc_core.specs.ShardLog.{ShardLog}
+use Rattle.turn_table.specs.Board.{free}
+use Rattle.turn_table.specs.declared.standing.Kept.{Kept}
+use Rattle.turn_table.specs.Places.{AllShow, IsIn, Place, ShowAll, SomeHas}
+use Rattle.arc_table.specs.declared.item.Item.{Item}
+use Rattle.arc_table.specs.declared.item.Item.TheVariants as item
+use Rattle.arc_table.specs.declared.view.Known.{Known}
+use Rattle.arc_table.specs.declared.view.Ledger.{Ledger}
+use Rattle.arc_table.specs.Cache.{Cache}
+use Rattle.arc_table.specs.Counted.{readings_of, shard_at}
+use Rattle.arc_table.specs.Ended.{Ended, Ends}
+use Rattle.arc_table.specs.Fronts.{list_at}
+use Rattle.arc_table.specs.Geometry.{IsShard, cell_number, numbers_of, parties_of, shard_turn}
+use Rattle.arc_table.specs.Items.{Meanings, shard_in}
+use Rattle.arc_table.specs.Scene.{Scene}
+use Rattle.arc_table.specs.TableLaws.{get_front, there, within}
+use Rattle.trace_run.specs.Seen.{turn_of}
+use Rattle.trace_run.proofs.CloseLemmas.{get-map, value-at}
+use Rattle.trace_run.proofs.DropLemmas.{all-items}
+
+-- ---- a shard of which no number holds anything
+
+unheld : (hs : List ℕ) → ((n : ℕ) → slice_index hs n ≡ 0) → list_all (λ count. count == 0) hs ≡ true
+unheld [] none = refl
+unheld (h ∷ hs) none =
+    let first : h ≡ 0 = none 0 in
+    let test : (h == 0) ≡ true = grind (arith, nat_tests, first) in
+    both (h == 0) (list_all (λ count. count == 0) hs) test (unheld hs (λ n. none (suc n)))
+
+nothing-held : (hs : List ℕ) → ((n : ℕ) → slice_index hs n ≡ 0) → sum hs ≡ 0
+nothing-held [] none = refl
+nothing-held (h ∷ hs) none = let first : h ≡ 0 = none 0 in let rest = nothing-held hs (λ n. none (suc n)) in omega (arith, sum_by-cons (λ (n : ℕ). n) h hs)
+
+unread : (e : Entry) → IsSoundEntry e → sum e.holds ≡ 0 → is_at_rest e ≡ true
+unread e sound none = elim (cases_true (is_at_rest e)) [
+  | inl rest ↦ rest
+  | inr reads ↦ absurd (false≢true (rw (reads, none) at sound.reading))
+]
+
+idle-phase : (phase : Phase) (picked : List Picked) → picked ≡ [] → IsTrue (fits_phase phase picked) → phase ≡ Idle
+idle-phase Idle picked none fits = refl
+idle-phase Picking picked none fits = absurd (false≢true (rw none at fits))
+idle-phase Writing picked none fits = absurd (false≢true (rw none at fits))
+
+pub rests-where-none : (s : PlainShard) → IsSound s → s.picked ≡ [] → ((n : ℕ) (k : Key) (e : Entry) → entry_of k s ≡ Some e → held_by n e ≡ 0) → IsAtRest s
+rests-where-none s sound none counts = record {
+  free = all-items (λ e. IsTrue (is_free e)) s.entries sound.tidy.once (λ k e item.
+      let held : (n : ℕ) → slice_index e.holds n ≡ 0 = λ n. counts n k e item in
+      both _ _ (unheld e.holds held) (unread e (All-item entry_key IsSoundEntry k s.entries e sound.tidy.entries item) (nothing-held e.holds held)));
+  idle = idle-phase s.phase s.picked none sound.feed;
+}
+
+-- ---- a closed cache
+
+-- a party has given all back: it holds nothing, reads nothing and has picked nothing
+pub record IsIdle (l : Ledger) : Type 0 where
+  pub holds : l.holds ≡ []
+  pub readings : l.readings ≡ []
+  pub picked : l.picked ≡ []
+
+module _ {C : Type 0} where
+  abbrev pub AllIdle : List (Kept (Known C)) → Type 0
+  AllIdle [] = Unit {0}
+  AllIdle (k ∷ ks) = IsIdle k.view.ledger × AllIdle ks
+
+  -- these parties have, and those that they keep by a join
+  abbrev pub AreIdle : List (Place (Known C)) → Type 0
+  AreIdle [] = Unit {0}
+  AreIdle (p ∷ ps) = IsIdle p.own.ledger × AllIdle p.joined × AreIdle ps
+
+  kept-idle : (views : List (Known C)) (n : ℕ) (ks : List (Kept (Known C))) → IsIn n ks → AllShow views ks → AllIdle ks → (w : Known C) × (get_elem? views n ≡ some w) × IsIdle w.ledger
+  kept-idle views n [] among shown idle = absurd among
+  kept-idle views n (k ∷ ks) (inl is) shown idle = (k.view, subst (λ (x : ℕ). get_elem? views x ≡ some k.view) is shown.0, idle.0)
+  kept-idle views n (k ∷ ks) (inr among) shown idle = kept-idle views n ks among shown.1 idle.1
+
+  pub party-idle : (views : List (Known C)) (n : ℕ) (ps : List (Place (Known C))) → SomeHas n ps → ShowAll views ps → AreIdle ps → (w : Known C) × (get_elem? views n ≡ some w) × IsIdle w.ledger
+  party-idle views n [] among shown idle = absurd among
+  party-idle views n (p ∷ ps) (inl (inl is)) shown idle = (p.own, subst (λ (x : ℕ). get_elem? views x ≡ some p.own) is shown.0.0, idle.0)
+  party-idle views n (p ∷ ps) (inl (inr among)) shown idle = kept-idle views n p.joined among shown.0.1 idle.1
+  party-idle views n (p ∷ ps) (inr among) shown idle = party-idle views n ps among shown.1 idle.2
+
+module _ {C : Type 0} (m : Meanings C) (cache : Cache) (ps : List (Place (Known C))) (e : Ended C) (ends : Ends m cache ps e) (i : ℕ) (l : ShardLog) (at : get_elem? e.shards i ≡ some l)
+    (config : ends.pact.scene.about.config ≡ cache.config)
+    (all : (n : ℕ) → n < parties_of cache.config → SomeHas n ps) (idle : AreIdle ps)
+    (bare : (j : ℕ) (c : C) → get_elem? e.cells j ≡ some c → m.holds c ≡ []) where
+  abbrev g : Config
+  g = cache.config
+
+  abbrev scene : Scene C
+  scene = ends.pact.scene
+
+  shard-now : scene.now (turn_of g i) ≡ item.Shard l
+  shard-now = (ends.pact.attached.free (turn_of g i) (item.Shard l) (get-map free _ (turn_of g i) (item.Shard l) (value-at m cache ps e ends i l at))).0
+
+  ledger-idle : (n : ℕ) → n < parties_of g → IsIdle (scene.ledger n)
+  ledger-idle n below =
+      let h = party-idle ends.views n ps (all n below) ends.shown idle in
+      subst IsIdle (ends.pact.attached.views n h.0 h.1).ledger h.2
+
+  -- the shard has entries of its own keys alone
+  own-key : (k : Key) (x : Entry) → entry_of k l.now ≡ Some x → turn_of g i ≡ shard_turn g k
+  own-key k x is = subst (λ (c : Config). turn_of g i ≡ shard_turn c k) config
+      (ends.pact.headed.own_entries (turn_of g i) k x (ap (λ (v : Item C). entry_of k (shard_in scene.about.config v)) shard-now ∙ is))
+
+  shard-of-key : (k : Key) → turn_of g i ≡ shard_turn g k → shard_at scene k ≡ l.now
+  shard-of-key k own = ap (λ (c : Config). shard_in c (scene.now (shard_turn c k))) config ∙ (ap (λ (x : ℕ). shard_in g (scene.now x)) (sym own) ∙ ap (shard_in g) shard-now)
+
+  -- a cell's number holds nothing
+  cell-none : (j : ℕ) → j < g.cells → scene.kept j ≡ []
+  cell-none j inside =
+      let c = there e.cells j (subst (λ (n : ℕ). j < n) (sym ends.cells) inside) in
+      let value : get_elem? (map item.Cell e.cells ++ (map item.Bucket ends.buckets ++ map item.Shard e.shards)) j ≡ some (item.Cell c.0) =
+      get_front (map item.Cell e.cells) _ j (item.Cell c.0) (get-map item.Cell e.cells j c.0 c.1) in
+      (ends.pact.attached.free j (item.Cell c.0) (get-map free _ j (item.Cell c.0) value)).1 ∙ bare j c.0 c.1
+
+  no-count : (n : ℕ) (k : Key) → turn_of g i ≡ shard_turn g k → count_of n k l.now ≡ 0
+  no-count n k own = elim (cases_lt n (parties_of g)) [
+    | inl party ↦
+        let h = ledger-idle n party in
+        let below : n < parties_of scene.about.config = subst (λ (c : Config). n < parties_of c) (sym config) party in
+        ap (count_of n k) (sym (shard-of-key k own)) ∙ (ends.pact.counted.parties n k below
+        ∙ subst (λ (x : List Ptr × List Key). holds_on k x.0 + readings_of k x.1 ≡ 0) (λ q. (sym h.holds q, sym h.readings q)) refl)
+    | inr above ↦ elim (cases_lt n (numbers_of g)) [
+      | inl cell ↦
+          let j : ℕ = n - parties_of g in
+          let inside : j < g.cells = omega arith in
+          let is : cell_number g j ≡ n = omega arith in
+          let inside_then : j < scene.about.config.cells = subst (λ (c : Config). j < c.cells) (sym config) inside in
+          ap (count_of n k) (sym (shard-of-key k own)) ∙ (subst (λ (x : ℕ). count_of x k (shard_at scene k) ≡ holds_on k (scene.kept j)) (ap (λ (c : Config). cell_number c j) config ∙ is) (ends.pact.counted.cells j k inside_then)
+          ∙ ap (holds_on k) (cell-none j inside))
+      | inr other ↦
+          let beyond : numbers_of scene.about.config ≤ n = subst (λ (c : Config). numbers_of c ≤ n) (sym config) other in
+          ap (count_of n k) (sym (shard-of-key k own)) ∙ ends.pact.counted.others n k beyond
+    ]
+  ]
+
+  -- nothing is picked
+  none-picked : l.now.picked ≡ []
+  none-picked =
+      let feeder : g.callers < parties_of g = omega arith in
+      let h = ledger-idle g.callers feeder in
+      let inside : i < g.shards = subst (λ (n : ℕ). i < n) ends.shards (within e.shards i l at) in
+      let range : IsShard g (turn_of g i) = (omega arith, omega arith) in
+      let range_then : IsShard scene.about.config (turn_of g i) = subst (λ (c : Config). IsShard c (turn_of g i)) (sym config) range in
+      ap (λ (v : Item C). (shard_in scene.about.config v).picked) (sym shard-now) ∙ (ends.pact.counted.picked (turn_of g i) range_then
+      ∙ (ap (λ (c : Config). list_at (turn_of g i) (scene.ledger c.callers).picked) config ∙ ap (list_at (turn_of g i)) h.picked))
+
+  pub closed-rests : IsSound l.now → IsAtRest l.now
+  closed-rests sound = rests-where-none l.now sound none-picked
+      (λ n k x is. ap (λ (o : Option Entry). option_map_or (held_by n) o 0) (sym is) ∙ no-count n k (own-key k x is))
