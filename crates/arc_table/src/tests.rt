@@ -1,6 +1,8 @@
 // Each call once, with ample memory, over cells that keep nothing.
 ghost use Rattle.std.specs.Prelude.{◌≡◌, [], IfOk, length};
 
+mod reads;
+
 use crate::{Arcs, Cleared, Front, Inserted, Look, TryHit};
 use arc_core::{Bounds, Config, Event, Keeps, Restored};
 use blk_ptr::{Block, Digest, Key, Ptr};
