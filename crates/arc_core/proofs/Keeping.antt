@@ -10,17 +10,17 @@ use Rattle.arc_core.specs.Owed.{owed_of, room_for}
 use Rattle.arc_core.specs.PlainShard.{PlainShard, members}
 use Rattle.arc_core.specs.Replay.{is_legal_history, replay}
 use Rattle.arc_core.specs.Rules.{with_target_for}
-use Rattle.arc_core.specs.ShardModel.{IsKept, log_in}
+use Rattle.arc_core.specs.ShardModel.{ShardKeeps, log_in}
 use Rattle.arc_core.specs.Sound.{IsSound, IsTidy}
 use Rattle.arc_core.specs.Step.{after, legal, read_entry}
 use Rattle.arc_core.proofs.Frames.{frame-taken_in, target-within}
 use Rattle.arc_core.proofs.Stepping.{legal-append, replay-append}
 
 -- after an event that is legal, keeps the shard sound, and takes no more room than it may
-pub IsKept-step : (s n : Inside) (e : Event) → IsKept s → IsTrue (legal s.table.shard e) → n.table.shard ≡ after s.table.shard e → IsSound n.table.shard → n.opened ≡ s.opened
+pub ShardKeeps-step : (s n : Inside) (e : Event) → ShardKeeps s → IsTrue (legal s.table.shard e) → n.table.shard ≡ after s.table.shard e → IsSound n.table.shard → n.opened ≡ s.opened
     → n.history.items ≡ s.history.items ++ e ∷ [] → vec_len n.history ≡ vec_len s.history + 1 → vec_capacity s.history ≤ vec_capacity n.history → n.spare_events + room_for e ≡ s.spare_events → IsSequenceOf (members n.table.shard) n.table.marked → AreHalts n.table.shard n.table.marked n.halts
-    → owed_of (after s.table.shard e) + 1 ≤ owed_of s.table.shard + room_for e → IsKept n
-IsKept-step s n e kept ok step sound opened history len capacity spare marked halts owed =
+    → owed_of (after s.table.shard e) + 1 ≤ owed_of s.table.shard + room_for e → ShardKeeps n
+ShardKeeps-step s n e kept ok step sound opened history len capacity spare marked halts owed =
     let opening = (log_in s).opening in
     let replayed : replay opening (s.history.items ++ e ∷ []) ≡ after s.table.shard e = replay-append opening s.history.items (e ∷ []) ∙ ap (λ (t : PlainShard). after t e) kept.replayed.replayed in
     let lawful : is_legal_history opening (s.history.items ++ e ∷ []) ≡ true = legal-append opening s.history.items e kept.replayed.legal (subst (λ t. legal t e ≡ true) (sym kept.replayed.replayed) ok) in

@@ -9,18 +9,18 @@ use Rattle.arc_core.specs.PlainShard.{PlainShard, members}
 use Rattle.arc_core.specs.declared.shard.halts.Halts.{Halts}
 use Rattle.arc_core.specs.Halts.{AreHalts, no_halts}
 use Rattle.arc_core.specs.Owed.{room_for}
-use Rattle.arc_core.specs.ShardModel.{IsKept}
+use Rattle.arc_core.specs.ShardModel.{ShardKeeps}
 use Rattle.arc_core.specs.Step.{after, legal}
-use Rattle.arc_core.proofs.Keeping.{IsKept-step}
+use Rattle.arc_core.proofs.Keeping.{ShardKeeps-step}
 use Rattle.arc_core.proofs.Owing.{owed-after}
 use Rattle.arc_core.proofs.Soundness.{IsSound-after}
 
-pub made : (s n : Inside) (e : Event) → IsKept s → IsTrue (legal s.table.shard e) → n.table.shard ≡ after s.table.shard e → n.opened ≡ s.opened
+pub made : (s n : Inside) (e : Event) → ShardKeeps s → IsTrue (legal s.table.shard e) → n.table.shard ≡ after s.table.shard e → n.opened ≡ s.opened
     → n.history.items ≡ s.history.items ++ e ∷ [] → vec_len n.history ≡ vec_len s.history + 1 → vec_capacity s.history ≤ vec_capacity n.history
-    → n.spare_events + room_for e ≡ s.spare_events → IsSequenceOf (members n.table.shard) n.table.marked → AreHalts n.table.shard n.table.marked n.halts → IsKept n
+    → n.spare_events + room_for e ≡ s.spare_events → IsSequenceOf (members n.table.shard) n.table.marked → AreHalts n.table.shard n.table.marked n.halts → ShardKeeps n
 made s n e kept ok step opened history len capacity spare marked halts =
     let sound = kept.replayed.sound in
-    IsKept-step s n e kept ok step (rw step (IsSound-after s.table.shard e sound ok)) opened history len capacity spare marked halts (owed-after s.table.shard e sound ok)
+    ShardKeeps-step s n e kept ok step (rw step (IsSound-after s.table.shard e sound ok)) opened history len capacity spare marked halts (owed-after s.table.shard e sound ok)
 
 -- where no key is marked, each marked one has an entry
 pub none-marked : (ms : List Member) (ks : List Key) → ks ≡ [] → IsSequenceOf ms ks

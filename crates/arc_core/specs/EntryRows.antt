@@ -19,6 +19,6 @@ entries t = record { items = in_order entry_key (map entry_in t.rows.rows); spar
 abbrev pub AreKeyed : List (Row Name Entry) → Type 0
 AreKeyed rows = (r : Row Name Entry) → IsAmong r rows → r.value.key ≡ r.key.0
 
-pub record AreKept (t : Inside) : Type 0 where
+pub record EntriesKeep (t : Inside) : Type 0 where
   pub apart : AreApart t.rows.rows
   pub keyed : AreKeyed t.rows.rows

@@ -27,7 +27,7 @@ pub record AreListed (rows : List (Row Name (Unit {0}))) (order : List Key) : Ty
 abbrev pub AreListedBut : Key → List (Row Name (Unit {0})) → List Key → Type 0
 AreListedBut key rows order = AreListed rows (key ∷ order)
 
-pub record AreKept (t : Inside) : Type 0 where
+pub record KeysKeep (t : Inside) : Type 0 where
   pub listed : AreListed t.rows.rows t.order.items
   -- the list is as long as there are rows, and has room for those that may come
   pub many : vec_len t.order ≡ length t.rows.rows

@@ -14,7 +14,7 @@ picks t = record { items = t.list.items; spare = t.spare }
 abbrev pub HaveNames : List Picked → List Key → Type 0
 HaveNames picked names = (k : Key) → is_some (pick_of k picked) ≡ true → stands_on k names ≡ true
 
-pub record AreKept (t : Inside) : Type 0 where
+pub record PicksKeep (t : Inside) : Type 0 where
   pub names : HaveNames t.list.items t.named.items
   pub room : vec_len t.list + t.spare ≤ vec_capacity t.list
   pub named_room : t.spare ≤ t.named.spare

@@ -18,7 +18,7 @@ log_in s = record {
   marked = s.table.marked;
 }
 
-pub record IsKept (s : Inside) : Type 0 where
+pub record ShardKeeps (s : Inside) : Type 0 where
   pub replayed : IsReplayed (log_in s)
   -- the history has room for the events that are owed and for the spare ones
   pub room : owed_of s.table.shard + s.spare_events + vec_len s.history ≤ vec_capacity s.history

@@ -23,7 +23,7 @@ shard_in t = record {
 abbrev pub plain_table : Inside → PlainTable
 plain_table t = record { shard = shard_in t; spare = t.lists.spare; marks = t.marks; marked = t.marked.items }
 
-pub record IsKept (t : Inside) : Type 0 where
+pub record TableKeeps (t : Inside) : Type 0 where
   pub tidy : IsTidy (shard_in t)
   -- the lists have each entry's key and state
   pub members : t.lists.members ≡ map member_of t.entries.items

@@ -22,11 +22,11 @@ impl Model for Entries {
 
     ghost Value = { PlainEntries };
 
-    ghost use Rattle.arc_core.specs.EntryRows.{entries, AreKept};
+    ghost use Rattle.arc_core.specs.EntryRows.{entries, EntriesKeep};
 
     ghost view = { entries };
 
-    ghost invariant = { AreKept };
+    ghost invariant = { EntriesKeep };
 }
 
 impl Entries {

@@ -24,11 +24,11 @@ impl Model for Keys {
 
     ghost Value = { PlainKeys };
 
-    ghost use Rattle.arc_core.specs.KeyRows.{keys, AreKept};
+    ghost use Rattle.arc_core.specs.KeyRows.{keys, KeysKeep};
 
     ghost view = { keys };
 
-    ghost invariant = { AreKept };
+    ghost invariant = { KeysKeep };
 }
 
 // Takes one key off, where it is there.

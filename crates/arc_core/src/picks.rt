@@ -91,11 +91,11 @@ impl Model for Picks {
 
     ghost Value = { PlainPicks };
 
-    ghost use Rattle.arc_core.specs.PickNames.{picks, AreKept};
+    ghost use Rattle.arc_core.specs.PickNames.{picks, PicksKeep};
 
     ghost view = { picks };
 
-    ghost invariant = { AreKept };
+    ghost invariant = { PicksKeep };
 }
 
 impl Picks {

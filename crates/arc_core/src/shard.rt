@@ -62,11 +62,11 @@ impl Model for Shard {
 
     ghost Value = { ShardLog };
 
-    ghost use Rattle.arc_core.specs.ShardModel.{log_in, IsKept};
+    ghost use Rattle.arc_core.specs.ShardModel.{log_in, ShardKeeps};
 
     ghost view = { log_in };
 
-    ghost invariant = { IsKept };
+    ghost invariant = { ShardKeeps };
 }
 
 // Appends an event for which there is room.

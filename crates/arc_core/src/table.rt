@@ -44,11 +44,11 @@ impl Model for Table {
 
     ghost Value = { PlainTable };
 
-    ghost use Rattle.arc_core.specs.TableModel.{plain_table, IsKept};
+    ghost use Rattle.arc_core.specs.TableModel.{plain_table, TableKeeps};
 
     ghost view = { plain_table };
 
-    ghost invariant = { IsKept };
+    ghost invariant = { TableKeeps };
 }
 
 // Whether nobody holds an entry.

@@ -15,7 +15,7 @@ use Rattle.arc_lists.specs.declared.post.Post.{Post}
 use Rattle.arc_lists.specs.declared.post.Standing.{Standing}
 use Rattle.arc_lists.specs.declared.queues.Queues.{Queues}
 use Rattle.arc_lists.specs.ByKey.{IsAbove, IsRising, has_key, item_at, with_change, with_item, without}
-use Rattle.arc_lists.specs.Kept.{IsKept, plain}
+use Rattle.arc_lists.specs.Kept.{ListsKeep, plain}
 use Rattle.arc_lists.specs.PlainLists.{IsBound, PlainLists, member, member_key, share_of, size_of}
 use Rattle.arc_lists.specs.Posts.{Posts, member_of, members_of, post, post_key, standing}
 use Rattle.arc_lists.specs.Queues.{AreInState, AreNodesApart, ArePlaced, AreSequencesOf, HaveCapacity, HaveRoom, HaveSameNodes, IsEntered, IsOn, IsOnlyOn, IsPlaced, IsPushed, left, nodes_of, pushed, removed, sequences_in, size_at}
@@ -31,7 +31,7 @@ length-members [] = refl
 length-members (p ∷ posts) = ap (λ n. suc n) (length-members posts)
 
 -- every size is far from the end of its type
-pub size_at-lt : (l : Inside) (s : State) (z : ℕ) → IsKept l → z < 2 ^ 64 → size_at s l.sizes + z < 2 ^ 90
+pub size_at-lt : (l : Inside) (s : State) (z : ℕ) → ListsKeep l → z < 2 ^ 64 → size_at s l.sizes + z < 2 ^ 90
 size_at-lt l s z kept small =
     omega (arith, kept.sizes s, size_of-le s (members_of l.members.posts) kept.small, length-members l.members.posts, kept.few)
 
@@ -69,7 +69,7 @@ post-of posts k there = some (item_at post_key k posts) (sym (ap is_some (item_a
 kept-of : (n : Inside) (posts : List Post) (spare : ℕ) → n.members ≡ record { posts = posts; spare = spare } → IsRising post_key posts
     → AllByRecursion (λ m. m.key.size ≤ largest_block) (members_of posts) → ((s : State) → size_at s n.sizes ≡ size_of s (members_of posts)) → length posts + spare < 2 ^ 64
     → HaveCapacity (length posts + spare) n.queues → AreSequencesOf (members_of posts) (sequences_in n.queues) → AreInState (members_of posts) (sequences_in n.queues)
-    → ArePlaced posts n.queues → AreNodesApart n.queues → IsKept n
+    → ArePlaced posts n.queues → AreNodesApart n.queues → ListsKeep n
 kept-of n posts spare is rising small sizes few queues listed stated placed apart =
     let p : posts ≡ n.members.posts = ap (λ m. m.posts) (sym is) in
     let s : spare ≡ n.members.spare = ap (λ m. m.spare) (sym is) in
@@ -130,10 +130,10 @@ off-each L2Only q off = refl
 -- ---- a key comes
 
 -- and stands on no sequence
-pub IsKept-put_held : (l n : Inside) (k : Key) (s : State) → IsKept l → 0 < l.members.spare → has_key post_key k l.members.posts ≡ false → k.size ≤ largest_block
+pub ListsKeep-put_held : (l n : Inside) (k : Key) (s : State) → ListsKeep l → 0 < l.members.spare → has_key post_key k l.members.posts ≡ false → k.size ≤ largest_block
     → n.members ≡ record { posts = with_item post_key (post k (standing s None)) l.members.posts; spare = l.members.spare - 1 }
-    → ((t : State) → size_at t n.sizes ≡ size_at t l.sizes + share_of t (member k s)) → n.queues ≡ l.queues → IsKept n
-IsKept-put_held l n k s kept some absent small is sizes queues =
+    → ((t : State) → size_at t n.sizes ≡ size_at t l.sizes + share_of t (member k s)) → n.queues ≡ l.queues → ListsKeep n
+ListsKeep-put_held l n k s kept some absent small is sizes queues =
     let posts = l.members.posts in
     let ms = members_of posts in
     let r = standing s None in
@@ -153,11 +153,11 @@ IsKept-put_held l n k s kept some absent small is sizes queues =
     (subst AreNodesApart (sym queues) kept.apart)
 
 -- and stands at the head of its state's
-pub IsKept-put_free : (l n : Inside) (k : Key) (s : State) (p : ℕ) → IsKept l → 0 < l.members.spare → has_key post_key k l.members.posts ≡ false → k.size ≤ largest_block
+pub ListsKeep-put_free : (l n : Inside) (k : Key) (s : State) (p : ℕ) → ListsKeep l → 0 < l.members.spare → has_key post_key k l.members.posts ≡ false → k.size ≤ largest_block
     → n.members ≡ record { posts = with_item post_key (post k (standing s (Some p))) l.members.posts; spare = l.members.spare - 1 }
     → ((t : State) → size_at t n.sizes ≡ size_at t l.sizes + share_of t (member k s)) → n.queues ≡ pushed s k p l.queues
-    → has_sequence s ≡ true → element_at p (nodes_of s l.queues) ≡ None → HaveRoom l.queues → IsKept n
-IsKept-put_free l n k s p kept some absent small is sizes queues has free room =
+    → has_sequence s ≡ true → element_at p (nodes_of s l.queues) ≡ None → HaveRoom l.queues → ListsKeep n
+ListsKeep-put_free l n k s p kept some absent small is sizes queues has free room =
     let posts = l.members.posts in
     let ms = members_of posts in
     let r = standing s (Some p) in
@@ -214,13 +214,13 @@ sequences-entered unheld s k at old new entered = elim (entered-cases unheld s k
   | inr came ↦ ap sequences_in came.new_is ∙ sequences-pushed s k came.place old ∙ sym (came.head (sequences_in old))
 ]
 
-pub IsKept-put : (l n : Inside) (k : Key) (s : State) (at : Option ℕ) (unheld : Bool) → IsKept l → 0 < l.members.spare → has_key post_key k l.members.posts ≡ false → k.size ≤ largest_block
+pub ListsKeep-put : (l n : Inside) (k : Key) (s : State) (at : Option ℕ) (unheld : Bool) → ListsKeep l → 0 < l.members.spare → has_key post_key k l.members.posts ≡ false → k.size ≤ largest_block
     → n.members ≡ record { posts = with_item post_key (post k (standing s at)) l.members.posts; spare = l.members.spare - 1 }
-    → ((t : State) → size_at t n.sizes ≡ size_at t l.sizes + share_of t (member k s)) → IsEntered unheld s k at l.queues n.queues → HaveRoom l.queues → IsKept n
-IsKept-put l n k s at unheld kept some absent small is sizes entered room = elim (entered-cases unheld s k at l.queues n.queues entered) [
-  | inl stayed ↦ IsKept-put_held l n k s kept some absent small
+    → ((t : State) → size_at t n.sizes ≡ size_at t l.sizes + share_of t (member k s)) → IsEntered unheld s k at l.queues n.queues → HaveRoom l.queues → ListsKeep n
+ListsKeep-put l n k s at unheld kept some absent small is sizes entered room = elim (entered-cases unheld s k at l.queues n.queues entered) [
+  | inl stayed ↦ ListsKeep-put_held l n k s kept some absent small
       (subst (λ o. n.members ≡ record { posts = with_item post_key (post k (standing s o)) l.members.posts; spare = l.members.spare - 1 }) stayed.at_is is) sizes stayed.same
-  | inr came ↦ IsKept-put_free l n k s came.place kept some absent small
+  | inr came ↦ ListsKeep-put_free l n k s came.place kept some absent small
       (subst (λ o. n.members ≡ record { posts = with_item post_key (post k (standing s o)) l.members.posts; spare = l.members.spare - 1 }) came.at_is is) sizes came.new_is came.has came.free room
 ]
 
@@ -250,7 +250,7 @@ pub record OnPlace (l : Inside) (k : Key) (s : Standing) : Type 0 where
 abbrev OnPlaceAt : Inside → Key → Standing → Option ℕ → Type 0
 OnPlaceAt l k s at = (p : ℕ) × (at ≡ Some p) × (element_at p (nodes_of s.state l.queues) ≡ Some k) × (stands_on k (sequence_of s.state (sequences_in l.queues)) ≡ true)
 
-pub on-place : (l : Inside) (k : Key) (s : Standing) → IsKept l → item_at post_key k l.members.posts ≡ Some (post k s) → stands k (sequences_in l.queues) ≡ true → OnPlace l k s
+pub on-place : (l : Inside) (k : Key) (s : Standing) → ListsKeep l → item_at post_key k l.members.posts ≡ Some (post k s) → stands k (sequences_in l.queues) ≡ true → OnPlace l k s
 on-place l k s kept item there =
     let some = on_some k (sequences_in l.queues) there in
     let same : s.state ≡ some.0 = ap (λ (m : Member). m.state) (some_is (sym (member-at k l.members.posts s item) ∙ kept.stated some.0 k some.1)) in
@@ -263,7 +263,7 @@ on-place l k s kept item there =
     go None on off = absurd (false≢true (sym off ∙ on))
     go (Some p) on node = (p, refl, node, on)
 
-pub is-on : (l : Inside) (k : Key) (s : Standing) → IsKept l → item_at post_key k l.members.posts ≡ Some (post k s) → IsOn s.state s.at l.queues
+pub is-on : (l : Inside) (k : Key) (s : Standing) → ListsKeep l → item_at post_key k l.members.posts ≡ Some (post k s) → IsOn s.state s.at l.queues
 is-on l k s kept item = go s.at (kept.placed k s item)
   where
     go : (at : Option ℕ) → MatchOption at (stands_on k (sequence_of s.state (sequences_in l.queues)) ≡ false) (λ p. element_at p (nodes_of s.state l.queues) ≡ Some k) → IsOn s.state at l.queues
@@ -296,7 +296,7 @@ pub record Left (l : Inside) (k : Key) (s : Standing) (q : Queues) : Type 0 wher
   pub apart : AreNodesApart q
   pub room : (n : ℕ) → HaveCapacity n l.queues → HaveCapacity n q
 
-pub left-of : (l : Inside) (k : Key) (s : Standing) → IsKept l → item_at post_key k l.members.posts ≡ Some (post k s) → Left l k s (left s.state s.at l.queues)
+pub left-of : (l : Inside) (k : Key) (s : Standing) → ListsKeep l → item_at post_key k l.members.posts ≡ Some (post k s) → Left l k s (left s.state s.at l.queues)
 left-of l k s kept item = go s.at (kept.placed k s item)
   where
     only : IsOnlyOn s.state k (sequences_in l.queues)
@@ -318,10 +318,10 @@ left-of l k s kept item = go s.at (kept.placed k s item)
 
 -- ---- a key goes
 
-pub IsKept-take_out : (l n : Inside) (k : Key) (s : Standing) → IsKept l → item_at post_key k l.members.posts ≡ Some (post k s)
+pub ListsKeep-take_out : (l n : Inside) (k : Key) (s : Standing) → ListsKeep l → item_at post_key k l.members.posts ≡ Some (post k s)
     → n.members ≡ record { posts = without post_key k l.members.posts; spare = l.members.spare + 1 }
-    → ((t : State) → size_at t n.sizes + share_of t (member k s.state) ≡ size_at t l.sizes) → n.queues ≡ left s.state s.at l.queues → IsKept n
-IsKept-take_out l n k s kept item is sizes queues =
+    → ((t : State) → size_at t n.sizes + share_of t (member k s.state) ≡ size_at t l.sizes) → n.queues ≡ left s.state s.at l.queues → ListsKeep n
+ListsKeep-take_out l n k s kept item is sizes queues =
     let posts = l.members.posts in
     let ms = members_of posts in
     let q = left s.state s.at l.queues in
@@ -343,10 +343,10 @@ IsKept-take_out l n k s kept item is sizes queues =
 
 -- ---- a member is put on its sequence, or taken off
 
-kept-change : (l n : Inside) (k : Key) (s : Standing) (at : Option ℕ) (q : Queues) → IsKept l → item_at post_key k l.members.posts ≡ Some (post k s)
+kept-change : (l n : Inside) (k : Key) (s : Standing) (at : Option ℕ) (q : Queues) → ListsKeep l → item_at post_key k l.members.posts ≡ Some (post k s)
     → n.members ≡ record { posts = with_change post_key k (λ _. post k (standing s.state at)) l.members.posts; spare = l.members.spare } → n.sizes ≡ l.sizes → n.queues ≡ q
     → HaveCapacity (length l.members.posts + l.members.spare) q → AreSequencesOf (members_of l.members.posts) (sequences_in q) → AreInState (members_of l.members.posts) (sequences_in q)
-    → ((j : Key) (r : Standing) → key_eq k j ≡ false → IsPlaced j r l.queues → IsPlaced j r q) → IsPlaced k (standing s.state at) q → AreNodesApart q → IsKept n
+    → ((j : Key) (r : Standing) → key_eq k j ≡ false → IsPlaced j r l.queues → IsPlaced j r q) → IsPlaced k (standing s.state at) q → AreNodesApart q → ListsKeep n
 kept-change l n k s at q kept item is sizes queues room listed stated stays here apart =
     let posts = l.members.posts in
     let after = with_change post_key k (λ _. post k (standing s.state at)) posts in
@@ -362,10 +362,10 @@ kept-change l n k s at q kept item is sizes queues room listed stated stays here
     (subst (ArePlaced after) (sym queues) (placed-change k posts (standing s.state at) s l.queues q item stays here kept.placed))
     (subst AreNodesApart (sym queues) apart)
 
-pub IsKept-free : (l n : Inside) (k : Key) (s : Standing) (at : Option ℕ) → IsKept l → item_at post_key k l.members.posts ≡ Some (post k s) → stands k (sequences_in l.queues) ≡ false
+pub ListsKeep-free : (l n : Inside) (k : Key) (s : Standing) (at : Option ℕ) → ListsKeep l → item_at post_key k l.members.posts ≡ Some (post k s) → stands k (sequences_in l.queues) ≡ false
     → n.members ≡ record { posts = with_change post_key k (λ _. post k (standing s.state at)) l.members.posts; spare = l.members.spare } → n.sizes ≡ l.sizes
-    → IsPushed s.state k at l.queues n.queues → HaveRoom l.queues → IsKept n
-IsKept-free l n k s at kept item off is sizes entered room = elim (entered-cases true s.state k at l.queues n.queues entered) [
+    → IsPushed s.state k at l.queues n.queues → HaveRoom l.queues → ListsKeep n
+ListsKeep-free l n k s at kept item off is sizes entered room = elim (entered-cases true s.state k at l.queues n.queues entered) [
   | inl stayed ↦
       kept-change l n k s at l.queues kept item is sizes stayed.same kept.queues kept.listed kept.stated (λ j r differs placed. placed)
       (subst (λ o. IsPlaced k (standing s.state o) l.queues) (sym stayed.at_is) (off-each s.state (sequences_in l.queues) away)) kept.apart
@@ -385,10 +385,10 @@ IsKept-free l n k s at kept item off is sizes entered room = elim (entered-cases
     away : IsOff k (sequences_in l.queues)
     away = off_each k (sequences_in l.queues) off
 
-pub IsKept-bind : (l n : Inside) (k : Key) (s : Standing) → IsKept l → item_at post_key k l.members.posts ≡ Some (post k s)
+pub ListsKeep-bind : (l n : Inside) (k : Key) (s : Standing) → ListsKeep l → item_at post_key k l.members.posts ≡ Some (post k s)
     → n.members ≡ record { posts = with_change post_key k (λ _. post k (standing s.state None)) l.members.posts; spare = l.members.spare } → n.sizes ≡ l.sizes
-    → n.queues ≡ left s.state s.at l.queues → IsKept n
-IsKept-bind l n k s kept item is sizes queues =
+    → n.queues ≡ left s.state s.at l.queues → ListsKeep n
+ListsKeep-bind l n k s kept item is sizes queues =
     let q = left s.state s.at l.queues in
     let gone = left-of l k s kept item in
     let ms = members_of l.members.posts in
@@ -435,9 +435,9 @@ same-nodes Mfu old new same = same.mfu
 same-nodes MfuGhost old new same = same.mfu_ghost
 same-nodes L2Only old new same = refl
 
-pub IsKept-reserve : (l : Inside) (m : Posts) (q : Queues) (n : ℕ) → IsKept l → m.posts ≡ l.members.posts → m.spare ≤ n → length l.members.posts + n < 2 ^ 64
-    → HaveSameNodes l.queues q → HaveCapacity (length l.members.posts + n) q → IsKept record { members = m; queues = q; sizes = l.sizes; p = l.p; c = l.c }
-IsKept-reserve l m q n kept is spare few same room =
+pub ListsKeep-reserve : (l : Inside) (m : Posts) (q : Queues) (n : ℕ) → ListsKeep l → m.posts ≡ l.members.posts → m.spare ≤ n → length l.members.posts + n < 2 ^ 64
+    → HaveSameNodes l.queues q → HaveCapacity (length l.members.posts + n) q → ListsKeep record { members = m; queues = q; sizes = l.sizes; p = l.p; c = l.c }
+ListsKeep-reserve l m q n kept is spare few same room =
     let seq = sym (same-sequences l.queues q same) in
     let after : Inside = record { members = m; queues = q; sizes = l.sizes; p = l.p; c = l.c } in
     kept-of after l.members.posts m.spare (ap (λ ps. record { posts = ps; spare = m.spare }) is) kept.rising kept.small kept.sizes (omega (arith, few, spare))

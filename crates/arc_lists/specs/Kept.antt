@@ -13,7 +13,7 @@ use Rattle.arc_lists.specs.Queues.{AreInState, AreNodesApart, ArePlaced, AreSequ
 abbrev pub plain : Inside → PlainLists
 plain l = record { members = members_of l.members.posts; sequences = sequences_in l.queues; p = l.p; c = l.c; spare = l.members.spare }
 
-pub record IsKept (l : Inside) : Type 0 where
+pub record ListsKeep (l : Inside) : Type 0 where
   -- the members rise by their keys, and none is larger than a block
   pub rising : IsRising post_key l.members.posts
   pub small : AllByRecursion (λ m. m.key.size ≤ largest_block) (members_of l.members.posts)

@@ -35,11 +35,11 @@ impl Model for Lists {
 
     ghost Value = { PlainLists };
 
-    ghost use Rattle.arc_lists.specs.Kept.{plain, IsKept};
+    ghost use Rattle.arc_lists.specs.Kept.{plain, ListsKeep};
 
     ghost view = { plain };
 
-    ghost invariant = { IsKept };
+    ghost invariant = { ListsKeep };
 }
 
 impl Lists {

@@ -4,14 +4,14 @@ use Rattle.arc_paper.specs.Arc.{Arc, is_hit, step}
 use Rattle.arc_paper.specs.Bounds.{IsBounded}
 use Rattle.arc_paper.specs.Cache.{Cache}
 use Rattle.arc_paper.specs.Directory.{Lists, arc_of}
-use Rattle.arc_paper.specs.Kept.{IsKept, cache_in}
+use Rattle.arc_paper.specs.Kept.{PaperKeeps, cache_in}
 use Rattle.arc_paper.specs.declared.paper.Paper.TheInside.{Inside}
 use Rattle.arc_paper.proofs.Bounding.{IsBounded-step}
 
 -- the lists after the page are those of a step
-pub IsKept-step : (x p : ℕ) (d : Lists) (paper : Inside) → IsKept paper → step paper.c x (arc_of paper.directory paper.p) ≡ arc_of d p
-    → d.room ≡ paper.directory.room → IsKept (record { directory = d; p = p; c = paper.c })
-IsKept-step x p d paper kept stepped room = record {
+pub PaperKeeps-step : (x p : ℕ) (d : Lists) (paper : Inside) → PaperKeeps paper → step paper.c x (arc_of paper.directory paper.p) ≡ arc_of d p
+    → d.room ≡ paper.directory.room → PaperKeeps (record { directory = d; p = p; c = paper.c })
+PaperKeeps-step x p d paper kept stepped room = record {
   capacity = kept.capacity;
   bounded = subst (IsBounded paper.c) stepped (IsBounded-step paper.c x _ (omega (arith, kept.capacity.least)) kept.bounded);
   room = room ∙ kept.room;

@@ -8,7 +8,7 @@ use Rattle.arc_paper.specs.Directory.{arc_of}
 abbrev pub cache_in : Inside → Cache
 cache_in paper = record { capacity = paper.c; arc = arc_of paper.directory paper.p }
 
-pub record IsKept (paper : Inside) : Type 0 where
+pub record PaperKeeps (paper : Inside) : Type 0 where
   pub capacity : IsCapacity paper.c
   pub bounded : IsBounded paper.c (arc_of paper.directory paper.p)
   pub room : paper.directory.room ≡ 2 * paper.c

@@ -31,11 +31,11 @@ impl Model for Paper {
 
     ghost Value = { Cache };
 
-    ghost use Rattle.arc_paper.specs.Kept.{IsKept, cache_in};
+    ghost use Rattle.arc_paper.specs.Kept.{PaperKeeps, cache_in};
 
     ghost view = { cache_in };
 
-    ghost invariant = { IsKept };
+    ghost invariant = { PaperKeeps };
 }
 
 impl Paper {

@@ -7,7 +7,7 @@ use Rattle.atomic_table.specs.Table.{Splits, opening as table_opening}
 use Rattle.atomic_table.specs.Seated.{TableId}
 use Rattle.atomic_table.proofs.Lists.{set_again}
 use Rattle.turn_table.specs.Board.{Turn, free, taken, Board, numbered, opening}
-use Rattle.turn_table.specs.Standings.{kept_from, whole, whole_place, AllApart, AllKept, StandsAt, Sits, IsKept, left_with, leaving}
+use Rattle.turn_table.specs.Standings.{kept_from, whole, whole_place, AllApart, AllKept, StandsAt, Sits, TurnsKeep, left_with, leaving}
 use Rattle.turn_table.specs.Places.{newcomer, newcomers, Place, Apart, IsLast, stayed, parted}
 use Rattle.turn_table.specs.declared.standing.Kept.{Kept}
 use Rattle.turn_table.specs.declared.standing.Standing.{Standing}
@@ -63,7 +63,7 @@ module _ {V : Type 0} where
   none_taken (v ∷ vs) (suc i) n e = none_taken vs i n e
 
 module _ {V W : Type 0} (holds : Board V W → Type 0) where
-  opens_at : (p : ℕ) (f : ℕ → W) (vs : List V) → 0 < p → holds (opening vs (numbered f 0 p)) → IsKept holds p (table_opening (replicate (length vs) 0) (map Some vs) (whole p f))
+  opens_at : (p : ℕ) (f : ℕ → W) (vs : List V) → 0 < p → holds (opening vs (numbered f 0 p)) → TurnsKeep holds p (table_opening (replicate (length vs) 0) (map Some vs) (whole p f))
   opens_at p f vs some_party rule = record {
     turns = map free vs;
     views = numbered f 0 p;
@@ -96,12 +96,12 @@ module _ {V W : Type 0} (holds : Board V W → Type 0) where
       only (suc id) x e alive = absurd (some-ne-none x (sym e))
 
   pub opens : (p : ℕ) (f : ℕ → W) (vs : List V) (ws : List ℕ) (ss : List (Option V)) → 0 < p → ws ≡ replicate (length vs) 0 → ss ≡ map Some vs → holds (opening vs (numbered f 0 p))
-      → IsKept holds p (table_opening ws ss (whole p f))
+      → TurnsKeep holds p (table_opening ws ss (whole p f))
   opens p f vs ws ss some_party words slots rule =
-      subst (λ (z : List ℕ × List (Option V)). IsKept holds p (table_opening z.0 z.1 (whole p f))) (λ k. (sym words k, sym slots k)) (opens_at p f vs some_party rule)
+      subst (λ (z : List ℕ × List (Option V)). TurnsKeep holds p (table_opening z.0 z.1 (whole p f))) (λ k. (sym words k, sym slots k)) (opens_at p f vs some_party rule)
 
   -- the party that joined last goes its way, and nothing is learned
-  pub deals : (p id : ℕ) (x : Standing W) (k : Kept W) (ks : List (Kept W)) → x.live ≡ true → x.held ≡ [] → x.joined ≡ k ∷ ks → Splits (IsKept holds p) id x (left_with x) (leaving (λ w. w) x)
+  pub deals : (p id : ℕ) (x : Standing W) (k : Kept W) (ks : List (Kept W)) → x.live ≡ true → x.held ≡ [] → x.joined ≡ k ∷ ks → Splits (TurnsKeep holds p) id x (left_with x) (leaving (λ w. w) x)
   deals p id x k ks live free_x last =
       parts holds p (λ w. w) id x k ks live free_x last (λ b h ne _ at. subst (λ (l : List W). holds record { turns = b.turns; views = l }) (sym (set_again b.views k.number k.view at)) h)
 

@@ -6,7 +6,7 @@ use mathlib.Core.List.{map-append}
 use lib.ListN.{get_elem?}
 use Rattle.atomic_table.specs.Table.{Final, Seen}
 use Rattle.turn_table.specs.Board.{Turn, free, taken, Board, opening, IsAmong}
-use Rattle.turn_table.specs.Standings.{AllKept, IsKept}
+use Rattle.turn_table.specs.Standings.{AllKept, TurnsKeep}
 use Rattle.turn_table.specs.Places.{Place, met, entries, IsIn, HasNumber, SomeHas, AreFree, AllShow, Shows, ShowAll, Row, IsPartyOf}
 use Rattle.turn_table.specs.declared.standing.Kept.{Kept}
 use Rattle.turn_table.specs.declared.standing.Standing.{Standing}
@@ -137,7 +137,7 @@ module _ {V W : Type 0} (holds : Board V W → Type 0) (parties : ℕ) where
   seat_of views seat id n [] all h = absurd h
   seat_of views seat id n (k ∷ ks) all h = ⊎_elim (λ e. ap seat (sym e) ∙ all.0.0) (λ t. seat_of views seat id n ks all.1 t) h
 
-  pub ended : (id : ℕ) (x : Standing W) (ws : List ℕ) (xs : List (Option V)) → x.live ≡ true → x.held ≡ [] → ((n : ℕ) → n < parties → (x.number ≡ n) ⊎ IsIn n x.joined) → Final (Seen (IsKept holds parties) id x) ws xs → Ended x xs
+  pub ended : (id : ℕ) (x : Standing W) (ws : List ℕ) (xs : List (Option V)) → x.live ≡ true → x.held ≡ [] → ((n : ℕ) → n < parties → (x.number ≡ n) ⊎ IsIn n x.joined) → Final (Seen (TurnsKeep holds parties) id x) ws xs → Ended x xs
   ended id x ws xs live idle all fin =
       let s = fin.0 in
       let r = fin.1.0 in

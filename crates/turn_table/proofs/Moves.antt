@@ -9,7 +9,7 @@ use Rattle.atomic_table.specs.Seated.{TableId}
 use Rattle.atomic_table.specs.Table.{State, Me, Act, keeps, takes, gives, stepped, Allows, step, Valid, carried_after, rest}
 use Rattle.atomic_table.proofs.Lists.{at_set, set_here, set_else, set_again}
 use Rattle.turn_table.specs.Board.{Turn, free, taken, Board, IsAmong, without, KeepsWon, KeepsLost}
-use Rattle.turn_table.specs.Standings.{AllKept, AllStand, empties, Sits, HasSeat, IsKept, taking, giving, seeing, tried, brought, gave, place_of}
+use Rattle.turn_table.specs.Standings.{AllKept, AllStand, empties, Sits, HasSeat, TurnsKeep, taking, giving, seeing, tried, brought, gave, place_of}
 use Rattle.turn_table.specs.Places.{Apart, AllOnce, AllHeld, AllShow}
 use Rattle.turn_table.specs.Moments.{WasTaken, MayGive, Stands}
 use Rattle.turn_table.specs.declared.standing.Kept.{Kept}
@@ -45,16 +45,16 @@ module _ {V : Type 0} where
 
 module _ {V W : Type 0} (holds : Board V W → Type 0) (parties : ℕ) where
   -- a seat that is not spent is a party that is so
-  sits_so : (s : State (Option V) (Standing W)) (r : IsKept holds parties s) (id : ℕ) (x : Standing W) → Sits parties r.turns r.views r.seat id x → (z : TableId) → Stands record { turns = r.turns; views = r.views } (place_of z x)
+  sits_so : (s : State (Option V) (Standing W)) (r : TurnsKeep holds parties s) (id : ℕ) (x : Standing W) → Sits parties r.turns r.views r.seat id x → (z : TableId) → Stands record { turns = r.turns; views = r.views } (place_of z x)
   sits_so s r id x own z = record { count = r.count ∙ sym own.all; shows = (own.own_is, kept_show r.views r.seat id x.joined own.joined); apart = own.own_apart; held = own.held; once = own.once }
 
   -- A step of the seat id, whose standing is x, from the turns r.turns to the turns us. What other parties have stays theirs
-  moved : (s : State (Option V) (Standing W)) (r : IsKept holds parties s) (id : ℕ) (x : Standing W) → get_elem? s.views id ≡ some x → x.live ≡ true
+  moved : (s : State (Option V) (Standing W)) (r : TurnsKeep holds parties s) (id : ℕ) (x : Standing W) → get_elem? s.views id ≡ some x → x.live ≡ true
       → (us : List (Turn V)) (ws : List ℕ) (hs : Slots V) (w : W) (is : List ℕ) → AllStand ws hs us → holds record { turns = us; views = set r.views x.number w }
       → ((j m : ℕ) → m ≢ x.number → get_elem? r.turns j ≡ some (taken m) → get_elem? us j ≡ some (taken m))
       → ((j m : ℕ) → get_elem? us j ≡ some (taken m) → ((m ≢ x.number) × (get_elem? r.turns j ≡ some (taken m))) ⊎ ((m ≡ x.number) × IsAmong j is))
       → AllHeld us x.number is → AllOnce is
-      → IsKept holds parties record { words = ws; homes = hs; views = set s.views id record { live = x.live; parties = x.parties; number = x.number; own = w; joined = x.joined; held = is } }
+      → TurnsKeep holds parties record { words = ws; homes = hs; views = set s.views id record { live = x.live; parties = x.parties; number = x.number; own = w; joined = x.joined; held = is } }
   moved s r id x at live us ws hs w is stands rule theirs whose mine once = record {
     turns = us;
     views = set r.views x.number w;
@@ -110,14 +110,14 @@ module _ {V W : Type 0} (holds : Board V W → Type 0) (parties : ℕ) where
       }
 
   -- the turns that a seat's own number has are those that the seat holds
-  mine_among : (s : State (Option V) (Standing W)) (r : IsKept holds parties s) (id : ℕ) (x : Standing W) → get_elem? s.views id ≡ some x → x.live ≡ true
+  mine_among : (s : State (Option V) (Standing W)) (r : TurnsKeep holds parties s) (id : ℕ) (x : Standing W) → get_elem? s.views id ≡ some x → x.live ≡ true
       → (i : ℕ) → get_elem? r.turns i ≡ some (taken x.number) → IsAmong i x.held
   mine_among s r id x at live i e = let h = r.owners i x.number e in let there = r.seats h.id h.standing h.at h.live in let here = r.seats id x at live in
       let one : h.id ≡ id = sym there.own_at ∙ (ap r.seat h.number ∙ here.own_at) in
       subst (λ (y : Standing W). IsAmong i y.held) (same_at s.views id h.standing x (subst (λ (z : ℕ). get_elem? s.views z ≡ some h.standing) one h.at) at) h.among
 
   -- of the taken turns, all but the seat's own are as before
-  whose_else : (s : State (Option V) (Standing W)) (r : IsKept holds parties s) (id : ℕ) (x : Standing W) → get_elem? s.views id ≡ some x → x.live ≡ true
+  whose_else : (s : State (Option V) (Standing W)) (r : TurnsKeep holds parties s) (id : ℕ) (x : Standing W) → get_elem? s.views id ≡ some x → x.live ≡ true
       → (j m : ℕ) (is : List ℕ) → (IsAmong j x.held → IsAmong j is) → get_elem? r.turns j ≡ some (taken m) → ((m ≢ x.number) × (get_elem? r.turns j ≡ some (taken m))) ⊎ ((m ≡ x.number) × IsAmong j is)
   whose_else s r id x at live j m is stay e =
       dite (ℕ_discrete m x.number) (λ same. inr (same, stay (mine_among s r id x at live j (subst (λ (z : ℕ). get_elem? r.turns j ≡ some (taken z)) same e)))) (λ other. inl (other, e))
@@ -134,10 +134,10 @@ module _ {V W : Type 0} (holds : Board V W → Type 0) (parties : ℕ) where
   module _ (won : ℕ → ℕ → V → W → W) (lost : ℕ → ℕ → ℕ → W → W) (keeps_won : KeepsWon holds won) (keeps_lost : KeepsLost holds lost) where
     module _ (slots i id new : ℕ) (me : Me (Option V) (Standing W)) (live : me.0.live ≡ true) (not_held : ¬ IsAmong i me.0.held) (new_is : new ≡ suc me.0.number) where
       abbrev Found : State (Option V) (Standing W) → ℕ → ℕ → Type 0
-      Found s n k = (w : Standing W) × (a : Act (Option V)) × Valid s.homes me.1 a × IsKept holds parties (stepped s i k id me.1 w a)
+      Found s n k = (w : Standing W) × (a : Act (Option V)) × Valid s.homes me.1 a × TurnsKeep holds parties (stepped s i k id me.1 w a)
           × tried holds won lost (step slots i 0 new none) me n (w, carried_after me.1 a)
 
-      wins : (s : State (Option V) (Standing W)) (r : IsKept holds parties s) → get_elem? s.views id ≡ some me.0 → (v : V) → get_elem? r.turns i ≡ some (free v) → Found s 0 new
+      wins : (s : State (Option V) (Standing W)) (r : TurnsKeep holds parties s) → get_elem? s.views id ≡ some me.0 → (v : V) → get_elem? r.turns i ≡ some (free v) → Found s 0 new
       wins s r at v e =
           let own = r.seats id me.0 at live in
           let n : ℕ = me.0.number in
@@ -164,7 +164,7 @@ module _ {V W : Type 0} (holds : Board V W → Type 0) (parties : ℕ) where
             ((λ _. (v, (λ z. record { board = b; held = r.rule; stands = sits_so s r id me.0 own z; turn = e }), refl)), λ m f. absurd (cc)),
           )
 
-      loses : (s : State (Option V) (Standing W)) (r : IsKept holds parties s) → get_elem? s.views id ≡ some me.0 → (m : ℕ) → get_elem? r.turns i ≡ some (taken m) → Found s (suc m) (suc m)
+      loses : (s : State (Option V) (Standing W)) (r : TurnsKeep holds parties s) → get_elem? s.views id ≡ some me.0 → (m : ℕ) → get_elem? r.turns i ≡ some (taken m) → Found s (suc m) (suc m)
       loses s r at m e =
           let own = r.seats id me.0 at live in
           let n : ℕ = me.0.number in
@@ -195,18 +195,18 @@ module _ {V W : Type 0} (holds : Board V W → Type 0) (parties : ℕ) where
             ),
           )
 
-      by_turn : (s : State (Option V) (Standing W)) (r : IsKept holds parties s) → get_elem? s.views id ≡ some me.0 → (t : Turn V) → get_elem? r.turns i ≡ some t
+      by_turn : (s : State (Option V) (Standing W)) (r : TurnsKeep holds parties s) → get_elem? s.views id ≡ some me.0 → (t : Turn V) → get_elem? r.turns i ≡ some t
           → (let n : ℕ = get_or s.words i 0 in Found s n (either (eqb n 0) new n))
       by_turn s r at (free v) e = subst (λ (n : ℕ). Found s n (either (eqb n 0) new n)) (sym (read_at s.words i 0 0 (r.stands.each i (free v) e).0)) (wins s r at v e)
       by_turn s r at (taken m) e = subst (λ (n : ℕ). Found s n (either (eqb n 0) new n)) (sym (read_at s.words i (suc m) 0 (r.stands.each i (taken m) e).0))
           (subst (λ (b : Bool). Found s (suc m) (either b new (suc m))) (sym (ne_eqb (suc m) 0 (λ q. absurd (omega arith)))) (loses s r at m e))
 
-      pub tries : i < slots → Allows (IsKept holds parties) slots id me i (λ n. either (eqb n 0) new n) (tried holds won lost (step slots i 0 new none) me)
+      pub tries : i < slots → Allows (TurnsKeep holds parties) slots id me i (λ n. either (eqb n 0) new n) (tried holds won lost (step slots i 0 new none) me)
       tries near s r wide at big = let near' : i < length r.turns = let a : length s.homes ≡ length r.turns = r.stands.homes in omega arith in let t = some_at r.turns i near' in by_turn s r at t.0 t.1
 
   -- the slot of a turn that a party holds comes to the front of those that are out with it, and nothing else changes
   brings_at : (slots i id : ℕ) (x : Standing W) → x.live ≡ true → IsAmong i x.held → i < slots
-      → Allows (IsKept holds parties) slots id (x, empties x.held) i (λ n. n) (brought (step slots i 0 0 none) (x, empties x.held))
+      → Allows (TurnsKeep holds parties) slots id (x, empties x.held) i (λ n. n) (brought (step slots i 0 0 none) (x, empties x.held))
   brings_at slots i id x live among near s r wide at big =
       let own = r.seats id x at live in
       let f = fronted i x.held s.homes (all_out s.words s.homes r.turns x.number x.held r.stands own.held) own.once among in
@@ -216,16 +216,16 @@ module _ {V W : Type 0} (holds : Board V W → Type 0) (parties : ℕ) where
       let word = some_at s.words i near_words in
       let same : set s.words i n ≡ s.words = set_again s.words i n (word.1 ∙ ap some (sym (read_at s.words i word.0 0 word.1))) in
       let whole : s ≡ stepped s i n id (empties x.held) x act = λ k. record { words = sym same k; homes = sym f.1 k; views = sym (set_again s.views id x at) k } in
-      (x, act, f.0, subst (IsKept holds parties) whole r, ap (λ (c : List (ℕ × Option V)). (x, c)) f.2)
+      (x, act, f.0, subst (TurnsKeep holds parties) whole r, ap (λ (c : List (ℕ × Option V)). (x, c)) f.2)
 
   pub brings : (slots i id : ℕ) (me : Me (Option V) (Standing W)) → me.1 ≡ empties me.0.held → me.0.live ≡ true → IsAmong i me.0.held → i < slots
-      → Allows (IsKept holds parties) slots id me i (λ n. n) (brought (step slots i 0 0 none) me)
+      → Allows (TurnsKeep holds parties) slots id me i (λ n. n) (brought (step slots i 0 0 none) me)
   brings slots i id me is live among near =
-      subst (λ (c : List (ℕ × Option V)). Allows (IsKept holds parties) slots id (me.0, c) i (λ n. n) (brought (step slots i 0 0 none) (me.0, c))) (sym is) (brings_at slots i id me.0 live among near)
+      subst (λ (c : List (ℕ × Option V)). Allows (TurnsKeep holds parties) slots id (me.0, c) i (λ n. n) (brought (step slots i 0 0 none) (me.0, c))) (sym is) (brings_at slots i id me.0 live among near)
 
   -- a party gives back a turn, whose slot it took last
   gives_at : (slots i id : ℕ) (z : TableId) (x : Standing W) (es : List (ℕ × Option V)) (v : V) (w : W) (next : Option W) → next ≡ Some w → x.live ≡ true → IsAmong i x.held → MayGive holds (place_of z x) i v w
-      → Allows (IsKept holds parties) slots id (x, (i, Some v) ∷ es) i (λ _. 0) (λ _. gave next (step slots i 0 0 none) (x, (i, Some v) ∷ es) 0)
+      → Allows (TurnsKeep holds parties) slots id (x, (i, Some v) ∷ es) i (λ _. 0) (λ _. gave next (step slots i 0 0 none) (x, (i, Some v) ∷ es) 0)
   gives_at slots i id z x es v w next is live among may s r wide at big =
       let own = r.seats id x at live in
       let n : ℕ = x.number in
@@ -251,6 +251,6 @@ module _ {V W : Type 0} (holds : Board V W → Type 0) (parties : ℕ) where
       )
 
   pub gives_back : (slots i id : ℕ) (z : TableId) (me : Me (Option V) (Standing W)) (v : V) (w : W) (next : Option W) → me.1 ≡ (i, Some v) ∷ rest me.1 → next ≡ Some w → me.0.live ≡ true → IsAmong i me.0.held
-      → MayGive holds (place_of z me.0) i v w → Allows (IsKept holds parties) slots id me i (λ _. 0) (λ _. gave next (step slots i 0 0 none) me 0)
+      → MayGive holds (place_of z me.0) i v w → Allows (TurnsKeep holds parties) slots id me i (λ _. 0) (λ _. gave next (step slots i 0 0 none) me 0)
   gives_back slots i id z me v w next out is live among may =
-      subst (λ (c : List (ℕ × Option V)). Allows (IsKept holds parties) slots id (me.0, c) i (λ _. 0) (λ _. gave next (step slots i 0 0 none) (me.0, c) 0)) (sym out) (gives_at slots i id z me.0 (rest me.1) v w next is live among may)
+      subst (λ (c : List (ℕ × Option V)). Allows (TurnsKeep holds parties) slots id (me.0, c) i (λ _. 0) (λ _. gave next (step slots i 0 0 none) (me.0, c) 0)) (sym out) (gives_at slots i id z me.0 (rest me.1) v w next is live among may)

@@ -118,7 +118,7 @@ module _ {V W : Type 0} where
     pub once : AllOnce x.held
 
   -- The table stands for a board that meets the user's rule. Each number is one seat's, as its own or by a join, and each taken turn is held by the seat whose own number its word names
-  pub record IsKept (holds : Board V W → Type 0) (parties : ℕ) (s : State (Option V) (Standing W)) : Type 0 where
+  pub record TurnsKeep (holds : Board V W → Type 0) (parties : ℕ) (s : State (Option V) (Standing W)) : Type 0 where
     pub turns : List (Turn V)
     pub views : List W
     pub seat : ℕ → ℕ

@@ -1,6 +1,6 @@
 //! What each step on the table tells. These types are for the proofs alone.
 ghost use Rattle.std.specs.Prelude.{Option, None};
-ghost use Rattle.turn_table.specs.Standings.{IsKept, tried, brought, gave, whole, meeting, spent, left_with, leaving};
+ghost use Rattle.turn_table.specs.Standings.{TurnsKeep, tried, brought, gave, whole, meeting, spent, left_with, leaving};
 
 use crate::rule::TurnRule;
 use crate::standing::Standing;
@@ -26,7 +26,7 @@ pub struct Ruled<R> {
 }
 
 impl<V, R: TurnRule<V>> TableRule<Option<V>, Standing<R::View>, Setup<R::Key>> for Ruled<R> {
-    ghost holds = { λ k. IsKept R.holds k.parties };
+    ghost holds = { λ k. TurnsKeep R.holds k.parties };
 
     ghost first = { λ k. whole k.parties (R.first k.key.value) };
 }

@@ -3,7 +3,7 @@ use Rattle.arc_lists.specs.Posts.{members_of}
 use Rattle.arc_lists.specs.Queues.{sequences_in}
 use Rattle.arc_lists.specs.Sequences.{stands}
 use Rattle.arc_lists.proofs.InState.{stands-member}
-use Rattle.arc_lists.proofs.Keeping.{IsKept-bind, is-on, left-of, lists-same, post-of}
+use Rattle.arc_lists.proofs.Keeping.{ListsKeep-bind, is-on, left-of, lists-same, post-of}
 use Rattle.arc_lists.proofs.Placing.{members-stay}
 use Rattle.arc_lists.proofs.lists.Lists.bind.Goals as goal
 
@@ -20,7 +20,7 @@ pub set-requires : goal.set-requires
 set-requires c = rw c.find-state.ensures refl
 
 pub invariant_of-self : goal.invariant_of-self
-invariant_of-self c = IsKept-bind c.self.inside _ c.args.key c.find-state.result c.self.invariant c.find-state.ensures c.set.ensures refl c.leave.ensures
+invariant_of-self c = ListsKeep-bind c.self.inside _ c.args.key c.find-state.result c.self.invariant c.find-state.ensures c.set.ensures refl c.leave.ensures
 
 pub returns : goal.returns
 returns c =

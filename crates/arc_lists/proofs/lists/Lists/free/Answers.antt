@@ -4,7 +4,7 @@ use Rattle.arc_lists.specs.PlainLists.{IsBound, freed, member, member_key}
 use Rattle.arc_lists.specs.Posts.{members_of, post, post_key}
 use Rattle.arc_lists.specs.Queues.{sequences_in}
 use Rattle.arc_lists.specs.Sequences.{stands}
-use Rattle.arc_lists.proofs.Keeping.{IsKept-free, bound-post, length-members, lists-same, rising-members, sequences-entered}
+use Rattle.arc_lists.proofs.Keeping.{ListsKeep-free, bound-post, length-members, lists-same, rising-members, sequences-entered}
 use Rattle.arc_lists.proofs.Placing.{member-at, members-stay}
 use Rattle.arc_lists.proofs.Standing.{HaveRoom-free, off_each}
 use Rattle.arc_lists.proofs.lists.Lists.free.Goals as goal
@@ -30,7 +30,7 @@ invariant_of-self c =
     let there : IsTrue (has_key member_key c.args.key (members_of l.members.posts)) = ap is_some (member-at c.args.key l.members.posts c.find-state.result c.find-state.ensures) in
     let off : stands c.args.key (sequences_in l.queues) ≡ false = subst (λ z. stands c.args.key z.sequences ≡ false) (sym c.self.view_is) c.requires.off in
     let room = HaveRoom-free (members_of l.members.posts) c.args.key _ l.queues (rising-members l.members.posts kept.rising) there (off_each _ _ off) kept.listed (omega (arith, length-members l.members.posts)) kept.queues in
-    IsKept-free l _ c.args.key c.find-state.result c.put_at_head-at.result kept c.find-state.ensures off c.set.ensures refl c.put_at_head-at.ensures room
+    ListsKeep-free l _ c.args.key c.find-state.result c.put_at_head-at.result kept c.find-state.ensures off c.set.ensures refl c.put_at_head-at.ensures room
 
 pub returns : goal.returns
 returns c =

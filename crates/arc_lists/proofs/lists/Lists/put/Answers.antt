@@ -2,7 +2,7 @@ use Rattle.std.proofs.Common.{◌≡◌, ◌<◌, false, refl, sym, subst, arith
 use Rattle.arc_lists.specs.ByKey.{has_key}
 use Rattle.arc_lists.specs.PlainLists.{member_key}
 use Rattle.arc_lists.specs.Posts.{members_of, post_key, standing}
-use Rattle.arc_lists.proofs.Keeping.{IsKept-put, length-members, lists-same, no-post, rising-members, sequences-entered, size_at-lt}
+use Rattle.arc_lists.proofs.Keeping.{ListsKeep-put, length-members, lists-same, no-post, rising-members, sequences-entered, size_at-lt}
 use Rattle.arc_lists.proofs.Placing.{members-come}
 use Rattle.arc_lists.proofs.Standing.{HaveRoom-more}
 use Rattle.arc_lists.proofs.lists.Lists.put.Goals as goal
@@ -28,7 +28,7 @@ invariant_of-self c =
     let some : 0 < l.members.spare = subst (λ z. 0 < z.spare) (sym c.self.view_is) c.requires.room in
     let absent = no-post l.members.posts c.args.key (subst (λ z. has_key member_key c.args.key z.members ≡ false) (sym c.self.view_is) c.requires.absent) in
     let room = HaveRoom-more (members_of l.members.posts) _ l.queues (rising-members l.members.posts kept.rising) kept.listed (omega (arith, some, length-members l.members.posts)) kept.queues in
-    IsKept-put l _ c.args.key c.args.s c.enter-at.result c.args.unheld kept some absent c.requires.size.2 c.add.ensures c.add-2.ensures c.enter-at.ensures room
+    ListsKeep-put l _ c.args.key c.args.s c.enter-at.result c.args.unheld kept some absent c.requires.size.2 c.add.ensures c.add-2.ensures c.enter-at.ensures room
 
 pub returns : goal.returns
 returns c =

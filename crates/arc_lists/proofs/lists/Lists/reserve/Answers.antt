@@ -1,7 +1,7 @@
 use Rattle.std.proofs.Common.{◌+◌, ap, arith, length}
 use Rattle.arc_lists.specs.Posts.{Posts}
 use Rattle.arc_lists.specs.Queues.{HaveCapacity}
-use Rattle.arc_lists.proofs.Keeping.{IsKept-reserve, reserved-le}
+use Rattle.arc_lists.proofs.Keeping.{ListsKeep-reserve, reserved-le}
 use Rattle.arc_lists.proofs.Standing.{HaveCapacity-le}
 use Rattle.arc_lists.proofs.lists.Lists.reserve.Goals as goal
 
@@ -11,4 +11,4 @@ invariant_of-self-2 c =
     let spare = reserved-le c.reserve.result l.members c.reserve.new.self c.args.n (omega (arith, c.if-n-spare.false, c.spare-spare.ensures)) c.reserve.ensures.ok c.reserve.ensures.err in
     let room : HaveCapacity (length l.members.posts + c.args.n) c.widen.new.self =
     HaveCapacity-le _ _ c.widen.new.self (omega (arith, c.spare-spare.ensures, c.if-n-spare.false)) (c.in_ok-widen.ensures.ok _ c.self.invariant.queues) in
-    IsKept-reserve l c.reserve.new.self c.widen.new.self c.args.n c.self.invariant (ap (λ (m : Posts). m.posts) c.reserve.ensures.posts) spare (omega (arith, c.len.ensures)) c.in_ok-widen.ensures.nodes room
+    ListsKeep-reserve l c.reserve.new.self c.widen.new.self c.args.n c.self.invariant (ap (λ (m : Posts). m.posts) c.reserve.ensures.posts) spare (omega (arith, c.len.ensures)) c.in_ok-widen.ensures.nodes room

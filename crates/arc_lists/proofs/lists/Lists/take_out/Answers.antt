@@ -2,7 +2,7 @@ use Rattle.std.proofs.Common.{IsSome, arith, refl, sym, subst, ◌∙◌}
 use Rattle.arc_lists.specs.ByKey.{item_at}
 use Rattle.arc_lists.specs.PlainLists.{member_key}
 use Rattle.arc_lists.specs.Posts.{members_of}
-use Rattle.arc_lists.proofs.Keeping.{IsKept-take_out, is-on, left-of, lists-same, post-of}
+use Rattle.arc_lists.proofs.Keeping.{ListsKeep-take_out, is-on, left-of, lists-same, post-of}
 use Rattle.arc_lists.proofs.Placing.{member-at, members-go}
 use Rattle.arc_lists.proofs.SizeSums.{member-le}
 use Rattle.arc_lists.proofs.lists.Lists.take_out.Goals as goal
@@ -21,7 +21,7 @@ leave-requires c = is-on c.self.inside c.args.key c.remove-state.result c.self.i
 
 pub invariant_of-self : goal.invariant_of-self
 invariant_of-self c =
-    IsKept-take_out c.self.inside _ c.args.key c.remove-state.result c.self.invariant c.remove-state.ensures.standing c.remove-state.ensures.posts c.take.ensures c.leave.ensures
+    ListsKeep-take_out c.self.inside _ c.args.key c.remove-state.result c.self.invariant c.remove-state.ensures.standing c.remove-state.ensures.posts c.take.ensures c.leave.ensures
 
 pub returns : goal.returns
 returns c =
