@@ -11,6 +11,8 @@ pub mod GetLemmas
 pub mod GiveLemmas
 pub mod HoldLemmas
 pub mod KeptBlockLemmas
+pub mod LineLemmas
+pub mod LinesLemmas
 pub mod MadeLemmas
 pub mod MoveLemmas
 pub mod NamedLemmas

@@ -4,9 +4,11 @@ pub mod Answering
 pub mod Answers
 pub mod Blocks
 pub mod CallerCache
+pub mod CallerLines
 pub mod Effects
 pub mod Ends
 pub mod Explaining
+pub mod Group
 pub mod KeptBlocks
 pub mod Lines
 pub mod OneCaller

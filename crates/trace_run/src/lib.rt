@@ -7,6 +7,7 @@ mod block_map;
 mod caller_cache;
 mod get;
 mod kept_blocks;
+mod lines;
 mod paper;
 mod read;
 mod run_trace;

@@ -1,0 +1,192 @@
+-- A caller's line over the shared cache, by what its read came to.
+use Rattle.std.proofs.Common.{◌≡◌, ◌≢◌, ℕ, ◌+◌, ◌<◌, ◌≤◌, List, [], ◌∷◌, ◌++◌, map, Option, Some, None, Result, Ok, Err, refl, sym, ap, ◌∙◌, subst, arith, append-nil}
+use Rattle.std.specs.Prelude.{IfSome}
+use Rattle.std.specs.List.{AllByRecursion}
+use Rattle.std.proofs.lemmas.List.{map-append}
+use Rattle.blk_ptr.specs.declared.key.Key.{Key}
+use Rattle.blk_ptr.specs.declared.ptr.Ptr.{Ptr}
+use Rattle.blk_ptr.specs.Hash.{shard_of}
+use Rattle.vdev_io.specs.declared.pool.Pool.{Ghosts}
+use Rattle.arc_core.specs.Config.{IsConfig}
+use Rattle.arc_core.specs.declared.config.Config.{Config}
+use Rattle.arc_core.specs.declared.event.Event.{Event}
+use Rattle.arc_core.specs.declared.event.Event.TheVariants.{Drop}
+use Rattle.arc_core.specs.declared.served.ReadFault.{ReadFault}
+use Rattle.arc_core.specs.declared.served.ReadFault.TheVariants as fault
+use Rattle.arc_core.specs.declared.served.Served.{Served}
+use Rattle.arc_core.specs.declared.served.Served.TheVariants as served
+use Rattle.arc_core.specs.Operations.{Act, Fails, IsHonest, IsServed, Keeps, Moment, Reads, act_key, actor_of}
+use Rattle.dbuf_cells.specs.declared.kept.Kept.{Kept}
+use Rattle.dbuf_cells.specs.declared.kept.Kept.TheVariants.{Held, Loose}
+use Rattle.dbuf_state.specs.declared.window.Window.{Window}
+use Rattle.arc_core.specs.PlainShard.{PlainShard}
+use Rattle.turn_table.specs.Places.{Place}
+use Rattle.arc_table.specs.declared.hold.Hold.{Hold}
+use Rattle.arc_table.specs.declared.view.Known.{Known}
+use Rattle.arc_table.specs.Both.{Does}
+use Rattle.arc_table.specs.Cache.{Cache}
+use Rattle.arc_table.specs.Items.{Meanings}
+use Rattle.arc_table.specs.PoolCalls.{MakesCalls}
+use Rattle.trace_text.specs.declared.reply.Refusal.{Refusal}
+use Rattle.trace_text.specs.declared.reply.Refusal.TheVariants as refusals
+use Rattle.trace_text.specs.declared.reply.Reply.TheVariants.{Refused}
+use Rattle.trace_run.specs.declared.access.Access.{Access}
+use Rattle.trace_run.specs.declared.get.Got.{Got}
+use Rattle.trace_run.specs.declared.kept_blocks.KeptBlock.{KeptBlock}
+use Rattle.trace_run.specs.declared.access.Access.TheVariants as access
+use Rattle.trace_run.specs.Access.{events_of_answered, events_of_drop, held_key as access_key, source_of}
+use Rattle.trace_run.specs.Acts.{acts_of_hold, acts_of_read}
+use Rattle.trace_run.specs.Answers.{IsInside, IsReadRefusal, IsWindowRefusal}
+use Rattle.trace_run.specs.Effects.{calls_of, effect_of}
+use Rattle.trace_run.specs.KeptBlocks.{GivesBack, IsOwnedBy, held_key}
+use Rattle.trace_run.specs.OneCaller.{NamesSource, events_of_hold, events_of_read, key_held_by}
+use Rattle.trace_run.specs.Reads.{CallsFor, DidAct, DidActs, DidAnswer, DidRead, IsAlone, IsCauseOf, IsRefused, access_now, now_of}
+use Rattle.trace_run.specs.Seen.{AddsAll, AddsOwn, HasSeenItsOwn, seen_of}
+use Rattle.trace_run.specs.Told.{IsTold}
+use Rattle.trace_run.proofs.GetLemmas.{all-last}
+use Rattle.trace_run.proofs.MoveLemmas.{Moves, one-moves}
+use Rattle.trace_run.proofs.ReadMoments.{moment}
+use Rattle.trace_run.proofs.ToldLemmas.{adds-all-then, adds-own-then, told-more}
+
+module _ {C : Type 0} (g : Config) (device : ℕ) (p q : Place (Known C)) where
+  -- nothing was done
+  pub acts-none : (shard : ℕ) → q ≡ p → DidActs g device shard [] [] p q
+  acts-none shard is = subst (DidActs g device shard [] [] p) (sym is) (record {
+    number = refl;
+    told = λ before told. subst (λ (l : List Act). IsTold g l p) (sym (append-nil before)) told;
+    alone = λ a. record { number = refl; here = sym (append-nil (seen_of g shard p)); others = λ j differs. refl };
+    all = λ all. all;
+  })
+
+  -- one act was done
+  pub acts-one : (act : Act) (es : List Event) → actor_of act ≡ p.number → DidAct g device act es p q → DidActs g device (shard_of g.shards (act_key act)) (act ∷ []) es p q
+  acts-one act es his did = record {
+    number = did.own.number;
+    told = λ before told. told-more g before act did.made p q his told did.own did.act_is;
+    alone = did.alone;
+    all = did.all;
+  }
+
+  module _ (t : ℕ) (ptr : Ptr) where
+    abbrev shard : ℕ
+    shard = shard_of g.shards ptr.key
+
+    -- a read that was kept, and one that was refused
+    pub hold-did : (from : Served) → DidAnswer g device t ptr from p q → DidActs g device shard (Keeps p.number t ptr from ∷ []) (events_of_answered p.number t ptr (access_now g ptr p)) p q
+    hold-did from did = acts-one (Keeps p.number t ptr from) _ refl did.act
+
+    pub hold-refused : (why : ReadFault) (refusal : Refusal) → IsRefused why refusal → DidRead g device t ptr p q (Err why)
+        → DidActs g device shard (acts_of_hold p.number t ptr (effect_of (Refused refusal))) (events_of_hold p.number t (now_of g shard p) ptr (effect_of (Refused refusal))) p q
+    hold-refused (fault.PoolFault) refusal is did = subst (λ (r : Refusal). DidActs g device shard (acts_of_hold p.number t ptr (effect_of (Refused r))) (events_of_hold p.number t (now_of g shard p) ptr (effect_of (Refused r))) p q) (sym is) (acts-one (Fails p.number t ptr) _ refl did.act)
+    hold-refused (fault.Mismatch found) refusal is did = subst (λ (r : Refusal). DidActs g device shard (acts_of_hold p.number t ptr (effect_of (Refused r))) (events_of_hold p.number t (now_of g shard p) ptr (effect_of (Refused r))) p q) (sym is) (acts-one (Fails p.number t ptr) _ refl did.act)
+    hold-refused (fault.Key why) refusal is did = subst (λ (r : Refusal). DidActs g device shard (acts_of_hold p.number t ptr (effect_of (Refused r))) (events_of_hold p.number t (now_of g shard p) ptr (effect_of (Refused r))) p q) (sym is) (acts-none shard did)
+    hold-refused (fault.NoMemory) refusal is did = absurd is
+
+    pub read-refused : (why : ReadFault) (refusal : Refusal) → IsRefused why refusal → DidRead g device t ptr p q (Err why)
+        → DidActs g device shard (acts_of_read p.number t ptr (effect_of (Refused refusal))) (events_of_read p.number t (now_of g shard p) ptr (effect_of (Refused refusal))) p q
+    read-refused (fault.PoolFault) refusal is did = subst (λ (r : Refusal). DidActs g device shard (acts_of_read p.number t ptr (effect_of (Refused r))) (events_of_read p.number t (now_of g shard p) ptr (effect_of (Refused r))) p q) (sym is) (acts-one (Fails p.number t ptr) _ refl did.act)
+    read-refused (fault.Mismatch found) refusal is did = subst (λ (r : Refusal). DidActs g device shard (acts_of_read p.number t ptr (effect_of (Refused r))) (events_of_read p.number t (now_of g shard p) ptr (effect_of (Refused r))) p q) (sym is) (acts-one (Fails p.number t ptr) _ refl did.act)
+    read-refused (fault.Key why) refusal is did = subst (λ (r : Refusal). DidActs g device shard (acts_of_read p.number t ptr (effect_of (Refused r))) (events_of_read p.number t (now_of g shard p) ptr (effect_of (Refused r))) p q) (sym is) (acts-none shard did)
+    read-refused (fault.NoMemory) refusal is did = absurd is
+
+    pub found-refused : (why : ReadFault) (refusal : Refusal) → IsRefused why refusal → DidRead g device t ptr p q (Err why) → IsAlone device p → NamesSource (access_now g ptr p) (effect_of (Refused refusal))
+    found-refused (fault.PoolFault) refusal is did alone = subst (λ (r : Refusal). NamesSource (access_now g ptr p) (effect_of (Refused r))) (sym is) (did.asked alone)
+    found-refused (fault.Mismatch found) refusal is did alone = subst (λ (r : Refusal). NamesSource (access_now g ptr p) (effect_of (Refused r))) (sym is) (did.asked alone)
+    found-refused (fault.Key why) refusal is did alone = subst (λ (r : Refusal). NamesSource (access_now g ptr p) (effect_of (Refused r))) (sym is) tt
+    found-refused (fault.NoMemory) refusal is did alone = absurd is
+
+-- ---- what is told of a refusal
+
+pub refused-cause : (pool_len : ℕ) (image : Option (List ℕ)) (ptr : Ptr) (why : ReadFault) (refusal : Refusal) → IsRefused why refusal → IsCauseOf pool_len image ptr why → IsReadRefusal pool_len image ptr refusal
+refused-cause pool_len image ptr (fault.PoolFault) refusal is cause = subst (IsReadRefusal pool_len image ptr) (sym is) cause
+refused-cause pool_len image ptr (fault.Mismatch found) refusal is cause = subst (IsReadRefusal pool_len image ptr) (sym is) cause
+refused-cause pool_len image ptr (fault.Key why) refusal is cause = subst (IsReadRefusal pool_len image ptr) (sym is) cause
+refused-cause pool_len image ptr (fault.NoMemory) refusal is cause = absurd is
+
+pub refused-window : (pool_len : ℕ) (image : Option (List ℕ)) (ptr : Ptr) (window : Window) (why : ReadFault) (refusal : Refusal) → IsInside window ptr.key.size → IsRefused why refusal
+    → IsCauseOf pool_len image ptr why → IsWindowRefusal pool_len image ptr window refusal
+refused-window pool_len image ptr window (fault.PoolFault) refusal inside is cause = subst (IsWindowRefusal pool_len image ptr window) (sym is) (inside, cause)
+refused-window pool_len image ptr window (fault.Mismatch found) refusal inside is cause = subst (IsWindowRefusal pool_len image ptr window) (sym is) (inside, cause)
+refused-window pool_len image ptr window (fault.Key why) refusal inside is cause = subst (IsWindowRefusal pool_len image ptr window) (sym is) (inside, cause)
+refused-window pool_len image ptr window (fault.NoMemory) refusal inside is cause = absurd is
+
+pub refused-calls : {P : Type 0} (pool : Ghosts P) (old new : P) (why : ReadFault) (refusal : Refusal) → IsRefused why refusal → CallsFor pool old new (Err why)
+    → MakesCalls pool (calls_of (effect_of (Refused refusal))) old new
+refused-calls pool old new (fault.PoolFault) refusal is calls = subst (λ (r : Refusal). MakesCalls pool (calls_of (effect_of (Refused r))) old new) (sym is) calls
+refused-calls pool old new (fault.Mismatch found) refusal is calls = subst (λ (r : Refusal). MakesCalls pool (calls_of (effect_of (Refused r))) old new) (sym is) calls
+refused-calls pool old new (fault.Key why) refusal is calls = subst (λ (r : Refusal). MakesCalls pool (calls_of (effect_of (Refused r))) old new) (sym is) calls
+refused-calls pool old new (fault.NoMemory) refusal is calls = absurd is
+
+-- ---- a read whose hold is given back at once
+
+-- what a read holds that is alone
+source-key : (ptr : Ptr) (a : Access) → key_held_by ptr (source_of a) ≡ access_key ptr a
+source-key ptr access.Hit = refl
+source-key ptr (access.Past kept) = refl
+source-key ptr access.Miss = refl
+
+module _ {C : Type 0} (m : Meanings C) (g : Config) (valid : IsConfig g) (device t : ℕ) (ptr : Ptr) (p r q : Place (Known C)) (config : r.own.about.config ≡ g) (seen : HasSeenItsOwn g r) where
+  abbrev here : ℕ
+  here = shard_of g.shards ptr.key
+
+  abbrev events : List Event
+  events = events_of_answered p.number t ptr (access_now g ptr p) ++ events_of_drop p.number (access_key ptr (access_now g ptr p))
+
+  -- a block that nothing holds is let go
+  read-loose : (from : Served) → None ≡ key_held_by ptr from → DidAnswer g device t ptr from p r → q ≡ r → DidAct g device (Reads p.number t ptr from) events p q
+  read-loose served.Hit none did is = cc
+  read-loose served.Pool none did is = cc
+  read-loose served.L2 none did is = cc
+  read-loose served.Past none did is = subst (DidAct g device (Reads p.number t ptr served.Past) events p) (sym is) (record {
+    made = did.act.made;
+    own = did.act.own;
+    act_is = record { events = did.act.act_is.events; digests = did.act.act_is.digests };
+    alone = λ a. subst (λ (es : List Event). AddsAll g here es p r)
+        (sym (ap (λ (o : Option Key). events_of_answered p.number t ptr (access_now g ptr p) ++ events_of_drop p.number o)
+        (sym (source-key ptr (access_now g ptr p)) ∙ ap (key_held_by ptr) (sym (did.source a)))
+        ∙ append-nil (events_of_answered p.number t ptr (access_now g ptr p))))
+        (did.act.alone a);
+    all = did.act.all;
+  })
+
+  -- an access that was served, and then its drop
+  served-drop : (from : Served) → Some ptr.key ≡ key_held_by ptr from → (ms : List Moment) (s : PlainShard) → IsServed p.number t ptr from [] (map (λ (x : Moment). x.event) ms)
+      → IsServed p.number t ptr from (Drop p.number ptr.key ∷ []) (map (λ (x : Moment). x.event) (ms ++ moment s (Drop p.number ptr.key) ∷ []))
+  served-drop served.Hit is ms s h = map-append (λ (x : Moment). x.event) ms _ ∙ ap (λ (l : List Event). l ++ Drop p.number ptr.key ∷ []) h
+  served-drop served.Pool is ms s h = map-append (λ (x : Moment). x.event) ms _ ∙ ap (λ (l : List Event). l ++ Drop p.number ptr.key ∷ []) h
+  served-drop served.L2 is ms s h = map-append (λ (x : Moment). x.event) ms _ ∙ ap (λ (l : List Event). l ++ Drop p.number ptr.key ∷ []) h
+  served-drop served.Past is ms s h = cc
+
+  read-held : (from : Served) → Some ptr.key ≡ key_held_by ptr from → DidAnswer g device t ptr from p r → Does m g ptr.key (Drop p.number ptr.key ∷ []) r q → DidAct g device (Reads p.number t ptr from) events p q
+  read-held from key did d =
+      let number : r.number ≡ p.number = did.act.own.number in
+      let drop : Moves g here (moment d.before.now (Drop p.number ptr.key) ∷ []) (Drop p.number ptr.key ∷ []) r q = one-moves m g valid ptr.key r q config seen (Drop p.number ptr.key) (sym number) refl d in
+      record {
+        made = did.act.made ++ moment d.before.now (Drop p.number ptr.key) ∷ [];
+        own = adds-own-then g here did.act.made (moment d.before.now (Drop p.number ptr.key) ∷ []) p r q did.act.own drop.own;
+        act_is = record {
+          events = served-drop from key did.act.made d.before.now did.act.act_is.events;
+          digests = all-last (IsHonest (Some ptr.digest)) did.act.made (moment d.before.now (Drop p.number ptr.key)) did.act.act_is.digests tt;
+        };
+        alone = λ a.
+            let held : access_key ptr (access_now g ptr p) ≡ Some ptr.key = sym (source-key ptr (access_now g ptr p)) ∙ (ap (key_held_by ptr) (sym (did.source a)) ∙ sym key) in
+            subst (λ (o : Option Key). AddsAll g here (events_of_answered p.number t ptr (access_now g ptr p) ++ events_of_drop p.number o) p q) (sym held)
+            (adds-all-then g here (events_of_answered p.number t ptr (access_now g ptr p)) (Drop p.number ptr.key ∷ []) p r q (did.act.alone a) (drop.alone (did.act.all a.all)));
+        all = λ all. drop.all (did.act.all all);
+      }
+
+  -- what is kept of it is given back
+  pub read-given : (from : Served) (kept : Kept) → IsOwnedBy r.number kept → held_key kept ≡ key_held_by ptr from → DidAnswer g device t ptr from p r → GivesBack m g kept r q
+      → DidActs g device here (Reads p.number t ptr from ∷ []) events p q
+  read-given from (Loose key block) owned is did gives = acts-one g device p q (Reads p.number t ptr from) events refl (read-loose from is did gives)
+  read-given from (Held hold) owned is did gives =
+      let key : hold.key ≡ ptr.key = held-same ptr hold.key from is in
+      let owner : hold.owner ≡ p.number = owned ∙ did.act.own.number in
+      acts-one g device p q (Reads p.number t ptr from) events refl
+      (read-held from (sym (ap (λ (k : Key). Some k) key) ∙ is) did (subst (λ (x : ℕ × Key). Does m g x.1 (Drop x.0 x.1 ∷ []) r q) (λ i. (owner i, key i)) gives))
+    where
+      held-same : (ptr : Ptr) (k : Key) (from : Served) → Some k ≡ key_held_by ptr from → k ≡ ptr.key
+      held-same ptr k served.Hit is = cc
+      held-same ptr k served.Pool is = cc
+      held-same ptr k served.L2 is = cc
+      held-same ptr k served.Past is = cc
