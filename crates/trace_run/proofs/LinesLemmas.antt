@@ -25,13 +25,14 @@ use Rattle.trace_run.specs.Effects.{calls_of, calls_of_all, effect_of}
 use Rattle.trace_run.specs.Ends.{opening_of}
 use Rattle.trace_run.specs.Lines.{caller_of, is_of_caller, shard_of_line}
 use Rattle.trace_run.specs.OneCaller.{IsFoundAs, events_of, kept_after, kept_after_all}
-use Rattle.trace_run.specs.OverShards.{AllLinesOver, events_over}
+use Rattle.trace_run.specs.OverShards.{AllLinesOver, AreNamed, events_over}
 use Rattle.trace_run.specs.PlainRun.{shards_after}
 use Rattle.trace_run.specs.Reads.{IsAlone, now_of}
 use Rattle.trace_run.specs.Seen.{HasAll, seen_of}
 use Rattle.trace_run.specs.Tally.{AnswersNow, IsTally, kept_of_block}
 use Rattle.trace_run.specs.Told.{IsTold}
 use Rattle.trace_run.proofs.AnswerLemmas.{EachAnswers, more_answers, more_tally, take_one, to_answer}
+use Rattle.trace_run.proofs.LineLemmas.{named-after}
 use Rattle.trace_run.proofs.RunLemmas.{calls-then}
 
 -- ---- which operations are a caller's
@@ -86,6 +87,16 @@ module _ {C P : Type 0} (g : Config) (pools : Ghosts P) (device : ℕ) (blocks :
   lines-kept [] (r ∷ rs) a b did = absurd did
   lines-kept (o ∷ os) [] a b did = absurd did
   lines-kept (o ∷ os) (r ∷ rs) a b did = lines-kept os rs did.0 b did.2 ∙ ap (λ (ks : List KeptRead). kept_after_all blocks ks os rs) did.1.kept
+
+  -- each still holds the entry of its own block
+  pub line-named : (o : Op) (r : Reply) (a b : At C P) → AreNamed blocks a.kept → DidLine g pools device blocks o r a b → AreNamed blocks b.kept
+  line-named o r a b named did = subst (AreNamed blocks) (sym did.kept) (named-after blocks o r a.kept named)
+
+  pub lines-named : (os : List Op) (rs : List Reply) (a b : At C P) → AreNamed blocks a.kept → DidLines g pools device blocks os rs a b → AreNamed blocks b.kept
+  lines-named [] [] a b named did = subst (λ (x : At C P). AreNamed blocks x.kept) (sym did) named
+  lines-named [] (r ∷ rs) a b named did = absurd did
+  lines-named (o ∷ os) [] a b named did = absurd did
+  lines-named (o ∷ os) (r ∷ rs) a b named did = lines-named os rs did.0 b (line-named o r a did.0 named did.1) did.2
 
   -- the pool was read once for each reply that says so, in their order
   pub lines-calls : (os : List Op) (rs : List Reply) (a b : At C P) → DidLines g pools device blocks os rs a b → MakesCalls pools (calls_of_all rs) a.pool b.pool
