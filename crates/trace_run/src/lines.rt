@@ -189,7 +189,7 @@ fn line<C: Keeps, P: Pool, D: CacheDev>(
 }
 
 /// The caller of an operation.
-fn caller_of(op: Op) -> u32
+pub(crate) fn caller_of(op: Op) -> u32
     ensures { result ≡ caller_of op }
 {
     match op {
