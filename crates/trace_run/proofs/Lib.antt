@@ -22,6 +22,7 @@ pub mod OverShardLemmas
 pub mod OwnLemmas
 pub mod PlacedLemmas
 pub mod PlainLemmas
+pub mod RangeLemmas
 pub mod ReadLemmas
 pub mod ReadMoments
 pub mod ReadStands
