@@ -134,7 +134,7 @@ module _ (pool_len : ℕ) (image : Option (List ℕ)) (blocks : List Ptr) where
         (λ n is_one. record { kept = []; tally = record { each = λ x. refl }; answers = answers n is_one });
   }
     where
-      nothing-there : {X : Type 0} (k : ℕ) (reply : Reply) → slice_get {A = Reply} [] k ≡ Some reply → X
+      nothing-there : {X : Type 0} (k : ℕ) (reply : Reply) → slice_get {X = Reply} [] k ≡ Some reply → X
       nothing-there k reply there = cc
 
   -- so are the replies that were put together of those to each caller
