@@ -68,7 +68,7 @@ is_ptr-is x y is = elim (cases_true (key_eq x.key y.key)) [
 pub times-append : (x : Ptr) (a b : List Ptr) → times x (a ++ b) ≡ times x a + times x b
 times-append x a b = sum_by-append (λ y. cond (is_ptr x y) 1 0) a b
 
-times-cons : (x y : Ptr) (ys : List Ptr) → times x (y ∷ ys) ≡ cond (is_ptr x y) 1 0 + times x ys
+pub times-cons : (x y : Ptr) (ys : List Ptr) → times x (y ∷ ys) ≡ cond (is_ptr x y) 1 0 + times x ys
 times-cons x y ys = sum_by-cons (λ z. cond (is_ptr x z) 1 0) y ys
 
 pub one-of : (x : Ptr) (xs : List Ptr) → 0 < times x xs → IsOneOf x xs
