@@ -16,6 +16,7 @@ pub mod LinesLemmas
 pub mod MadeLemmas
 pub mod MoveLemmas
 pub mod NamedLemmas
+pub mod OpenLemmas
 pub mod OutcomeLemmas
 pub mod OverShardLemmas
 pub mod OwnLemmas

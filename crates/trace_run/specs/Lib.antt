@@ -12,6 +12,7 @@ pub mod Group
 pub mod KeptBlocks
 pub mod Lines
 pub mod OneCaller
+pub mod Opened
 pub mod Outcome
 pub mod OverShards
 pub mod PlainCache

@@ -8,6 +8,7 @@ mod caller_cache;
 mod get;
 mod kept_blocks;
 mod lines;
+mod opening;
 mod paper;
 mod read;
 mod run_trace;
