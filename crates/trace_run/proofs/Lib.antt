@@ -4,11 +4,14 @@ pub mod BlockLemmas
 pub mod CacheLemmas
 pub mod CallerActLemmas
 pub mod CloseLemmas
+pub mod CountLemmas
 pub mod DropLemmas
 pub mod EachLemmas
+pub mod EndLemmas
 pub mod GenLemmas
 pub mod GetLemmas
 pub mod GiveLemmas
+pub mod HistoryLemmas
 pub mod HoldLemmas
 pub mod KeptBlockLemmas
 pub mod LineLemmas
