@@ -1,4 +1,5 @@
 pub mod AccessLemmas
+pub mod AloneLemmas
 pub mod AnswerLemmas
 pub mod BlockLemmas
 pub mod CacheLemmas
@@ -29,6 +30,7 @@ pub mod ReadLemmas
 pub mod ReadMoments
 pub mod ReadStands
 pub mod ReportLemmas
+pub mod RestAlone
 pub mod RestLemmas
 pub mod RoomyLemmas
 pub mod RunLemmas

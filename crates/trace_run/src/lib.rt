@@ -2,6 +2,7 @@
 #![tactic(auto)]
 
 mod access;
+mod alone;
 mod answer;
 mod block_map;
 mod caller_cache;
@@ -10,6 +11,7 @@ mod kept_blocks;
 mod lines;
 mod opening;
 mod paper;
+mod ran;
 mod read;
 mod run_trace;
 mod serve;
