@@ -1,4 +1,5 @@
 pub mod AccessLemmas
+pub mod AloneLemmas
 pub mod AnswerLemmas
 pub mod BlockLemmas
 pub mod CacheLemmas
@@ -19,6 +20,7 @@ pub mod LinesLemmas
 pub mod MadeLemmas
 pub mod MoveLemmas
 pub mod NamedLemmas
+pub mod OpenLemmas
 pub mod OutcomeLemmas
 pub mod OverShardLemmas
 pub mod OwnLemmas
@@ -28,6 +30,7 @@ pub mod ReadLemmas
 pub mod ReadMoments
 pub mod ReadStands
 pub mod ReportLemmas
+pub mod RestAlone
 pub mod RestLemmas
 pub mod RoomyLemmas
 pub mod RunLemmas

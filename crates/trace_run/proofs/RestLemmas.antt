@@ -40,6 +40,7 @@ use Rattle.arc_table.specs.Items.{Meanings, shard_in}
 use Rattle.arc_table.specs.Logged.{IsSoundLog}
 use Rattle.arc_table.specs.Scene.{Scene}
 use Rattle.trace_run.specs.Ends.{opening_of}
+use Rattle.trace_run.specs.KeptBlocks.{AllIdle, IsIdle}
 use Rattle.trace_run.specs.Seen.{turn_of}
 use Rattle.trace_run.proofs.CloseLemmas.{get-map, value-at}
 use Rattle.trace_run.proofs.DropLemmas.{all-items}
@@ -100,17 +101,8 @@ opening-sound g valid = record {
   passed = refl;
 }
 
--- a party has given all back: it holds nothing and reads nothing
-pub record IsIdle (l : Ledger) : Type 0 where
-  pub holds : l.holds ≡ []
-  pub readings : l.readings ≡ []
-
 module _ {C : Type 0} where
-  abbrev pub AllIdle : List (Kept (Known C)) → Type 0
-  AllIdle [] = Unit {0}
-  AllIdle (k ∷ ks) = IsIdle k.view.ledger × AllIdle ks
-
-  -- these parties have, and those that they keep by a join
+  -- these parties have given all back, and those that they keep by a join
   abbrev pub AreIdle : List (Place (Known C)) → Type 0
   AreIdle [] = Unit {0}
   AreIdle (p ∷ ps) = IsIdle p.own.ledger × AllIdle p.joined × AreIdle ps

@@ -371,7 +371,7 @@ caller-number callers cells n e lt mine = go e mine.2 (subst (λ m. nat_lt m cal
     go (event.Resize n c) of lt = absurd (false≢true of)
 
 -- without passes each stands where it may
-no-passes : (n : ℕ) (es : List Event) → AllByRecursion (IsMine n) es → are_passes_placed es ≡ true
+pub no-passes : (n : ℕ) (es : List Event) → AllByRecursion (IsMine n) es → are_passes_placed es ≡ true
 no-passes n [] mine = refl
 no-passes n (e ∷ es) mine = rw mine.0.1 (no-passes n es mine.1)
 

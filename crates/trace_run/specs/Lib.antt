@@ -1,5 +1,6 @@
 pub mod Access
 pub mod Acts
+pub mod Alone
 pub mod Answering
 pub mod Answers
 pub mod Blocks
@@ -12,6 +13,7 @@ pub mod Group
 pub mod KeptBlocks
 pub mod Lines
 pub mod OneCaller
+pub mod Opened
 pub mod Outcome
 pub mod OverShards
 pub mod PlainCache

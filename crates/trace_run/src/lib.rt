@@ -2,13 +2,16 @@
 #![tactic(auto)]
 
 mod access;
+mod alone;
 mod answer;
 mod block_map;
 mod caller_cache;
 mod get;
 mod kept_blocks;
 mod lines;
+mod opening;
 mod paper;
+mod ran;
 mod read;
 mod run_trace;
 mod serve;

@@ -8,6 +8,7 @@ ghost use Rattle.trace_run.specs.CallerLines.{DidLine, DidLines, at};
 ghost use Rattle.trace_run.specs.Effects.{calls_of, effect_of};
 ghost use Rattle.trace_run.specs.KeptBlocks.{Drops, Stands, read_of};
 ghost use Rattle.trace_run.specs.OneCaller.{NamesSource, events_of_hold, events_of_read, kept_after_drop, kept_after_hold, oldest_key};
+ghost use Rattle.trace_run.specs.OverShards.{AreNamed};
 ghost use Rattle.trace_run.specs.Reads.{DidActs, IsAlone, IsRefused, access_now, now_of};
 ghost use Rattle.trace_run.specs.Lines.{caller_of, is_of_caller};
 ghost use Rattle.trace_run.specs.Tally.{AreDeclared, kept_of_block};
@@ -161,6 +162,7 @@ fn line<C: Keeps, P: Pool, D: CacheDev>(
     requires stands { Stands arcs.now party.old kept.old.items }
     requires own { caller_of op ≡ party.old.number }
     requires declared { block_of op < length blocks.now }
+    requires named { AreNamed blocks.now (map read_of kept.old.items) }
     ensures stands { IfOk result (λ reply. Stands arcs.now party.new kept.new.items) }
     ensures did { IfOk result (λ reply. DidLine arcs.now.config P.Pool (D.size device.old) blocks.now op reply
         (at party.old (map read_of kept.old.items) pool.old) (at party.new (map read_of kept.new.items) pool.new)) }
@@ -212,6 +214,7 @@ pub(crate) fn all_lines<C: Keeps, P: Pool, D: CacheDev, G: Gate>(
 ) -> Result<Vec<Reply>, NoMemory>
     requires stands { Stands arcs.now party.old kept.old.items }
     requires declared { AreDeclared (length blocks.now) ops.now }
+    requires named { AreNamed blocks.now (map read_of kept.old.items) }
     requires few { length ops.now < 2 ^ 32 }
     ensures stands { IfOk result (λ replies. Stands arcs.now party.new kept.new.items) }
     ensures did { IfOk result (λ replies. DidLines arcs.now.config P.Pool (D.size device.old) blocks.now (filter (is_of_caller party.old.number) ops.now) replies.items
