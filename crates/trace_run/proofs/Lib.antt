@@ -10,6 +10,7 @@ pub mod EachLemmas
 pub mod GenLemmas
 pub mod GetLemmas
 pub mod GiveLemmas
+pub mod GroupCounts
 pub mod GroupLemmas
 pub mod HoldLemmas
 pub mod KeptBlockLemmas
