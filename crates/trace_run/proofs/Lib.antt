@@ -1,3 +1,4 @@
+pub mod AbsorbLemmas
 pub mod AccessLemmas
 pub mod AloneLemmas
 pub mod AnswerLemmas
@@ -12,6 +13,8 @@ pub mod EndLemmas
 pub mod GenLemmas
 pub mod GetLemmas
 pub mod GiveLemmas
+pub mod GroupCounts
+pub mod GroupLemmas
 pub mod HistoryLemmas
 pub mod HoldLemmas
 pub mod KeptBlockLemmas

@@ -7,6 +7,7 @@ mod answer;
 mod block_map;
 mod caller_cache;
 mod get;
+mod group;
 mod kept_blocks;
 mod lines;
 mod opening;
