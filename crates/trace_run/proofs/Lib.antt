@@ -17,6 +17,7 @@ pub mod GroupCounts
 pub mod GroupLemmas
 pub mod HistoryLemmas
 pub mod HoldLemmas
+pub mod InOrderLemmas
 pub mod KeptBlockLemmas
 pub mod LineLemmas
 pub mod LinesLemmas
@@ -29,6 +30,7 @@ pub mod OverShardLemmas
 pub mod OwnLemmas
 pub mod PlacedLemmas
 pub mod PlainLemmas
+pub mod RangeLemmas
 pub mod ReadLemmas
 pub mod ReadMoments
 pub mod ReadStands
@@ -42,5 +44,6 @@ pub mod SeenLemmas
 pub mod ServeLemmas
 pub mod StreamLemmas
 pub mod TellLemmas
+pub mod TogetherLemmas
 pub mod ToldLemmas
 pub mod WordLemmas

@@ -8,6 +8,7 @@ mod block_map;
 mod caller_cache;
 mod get;
 mod group;
+mod in_order;
 mod kept_blocks;
 mod lines;
 mod opening;
