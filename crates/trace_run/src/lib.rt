@@ -9,6 +9,7 @@ mod get;
 mod kept_blocks;
 mod lines;
 mod paper;
+mod ran;
 mod read;
 mod run_trace;
 mod serve;
