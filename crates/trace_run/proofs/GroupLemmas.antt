@@ -40,7 +40,7 @@ use Rattle.trace_run.proofs.RunLemmas.{calls-few}
 -- ---- one caller
 
 -- lines that were done have their answers
-lines-answers : {C P : Type 0} (g : Config) (pools : Ghosts P) (device : ℕ) (blocks : List Ptr) (os : List Op) (rs : List Reply) (a b : At C P) → DidLines g pools device blocks os rs a b
+pub lines-answers : {C P : Type 0} (g : Config) (pools : Ghosts P) (device : ℕ) (blocks : List Ptr) (os : List Op) (rs : List Reply) (a b : At C P) → DidLines g pools device blocks os rs a b
     → AreAnswered (pools.size a.pool) (pools.told a.pool) blocks a.kept os rs
 lines-answers g pools device blocks [] [] a b did = tt
 lines-answers g pools device blocks [] (r ∷ rs) a b did = absurd did
@@ -49,7 +49,7 @@ lines-answers g pools device blocks (o ∷ os) (r ∷ rs) a b did =
     let one = did.1 in
     (one.answer, subst (λ (x : ℕ × Option (List ℕ) × List KeptRead). AreAnswered x.0 x.1 blocks x.2 os rs) (λ h. (one.keeps.size h, one.keeps.told h, one.kept h)) (lines-answers g pools device blocks os rs did.0 b did.2))
 
-lines-number : {C P : Type 0} (g : Config) (pools : Ghosts P) (device : ℕ) (blocks : List Ptr) (os : List Op) (rs : List Reply) (a b : At C P) → DidLines g pools device blocks os rs a b → b.party.number ≡ a.party.number
+pub lines-number : {C P : Type 0} (g : Config) (pools : Ghosts P) (device : ℕ) (blocks : List Ptr) (os : List Op) (rs : List Reply) (a b : At C P) → DidLines g pools device blocks os rs a b → b.party.number ≡ a.party.number
 lines-number {C} {P} g pools device blocks [] [] a b did = ap (λ (x : At C P). x.party.number) did
 lines-number g pools device blocks [] (r ∷ rs) a b did = absurd did
 lines-number g pools device blocks (o ∷ os) [] a b did = absurd did
