@@ -32,6 +32,7 @@ use Rattle.trace_text.specs.declared.ends.ShardEnd.{ShardEnd}
 use Rattle.trace_text.specs.declared.op.Op.{Op}
 use Rattle.trace_text.specs.declared.reply.Reply.{Reply}
 use Rattle.trace_text.specs.declared.trace.Trace.{Trace}
+use Rattle.trace_text.specs.Grammar.{IsFormed}
 use Rattle.trace_run.specs.declared.access.KeptRead.{KeptRead}
 use Rattle.trace_run.specs.declared.kept_blocks.KeptBlock.{KeptBlock}
 use Rattle.trace_run.specs.Acts.{acts_of_all, acts_of_caller, acts_of_callers, acts_of_drops}
@@ -48,6 +49,7 @@ use Rattle.trace_run.specs.OverShards.{AllLinesOver, AreNamed, events_over, kept
 use Rattle.trace_run.specs.PlainRun.{shards_after}
 use Rattle.trace_run.specs.Reads.{IsAlone, now_of}
 use Rattle.trace_run.specs.Seen.{HasAll, seen_of}
+use Rattle.trace_run.specs.Tally.{IsOfCaller}
 use Rattle.trace_run.specs.Told.{IsTold}
 use Rattle.trace_run.proofs.CallerActLemmas.{callers-none}
 use Rattle.trace_run.proofs.CountLemmas.{caller-count, reads-counted, reads_by, reads_of_act}
@@ -59,7 +61,7 @@ use Rattle.trace_run.proofs.NamedLemmas.{history-over, named-drops}
 use Rattle.trace_run.proofs.OpenLemmas.{joined-all, new-seen}
 use Rattle.trace_run.proofs.OverShardLemmas.{events-here, kept-else, kept-here, other-shard, same-shard}
 use Rattle.trace_run.proofs.OwnLemmas.{no-own-moments}
-use Rattle.trace_run.proofs.ReportLemmas.{all-own, of-caller, one-acts}
+use Rattle.trace_run.proofs.ReportLemmas.{all-own, of-caller, one-acts, one-caller, possible-at}
 use Rattle.trace_run.proofs.RestAlone.{alone-history, alone-legal, alone-now, alone-rests, alone-told}
 use Rattle.trace_run.proofs.TellLemmas.{IsActOf, IsMine, IsReadAct, acts-caller, all-map, filter-all, mine-events, no-passes}
 
@@ -114,6 +116,13 @@ all-filtered P test (x ∷ xs) all = elim (cases_true (test x)) [
 all-counted : (P : ℕ → Type 0) → ((n : ℕ) → P n) → (a n : ℕ) → AllByRecursion P (range_with_len a n)
 all-counted P each a zero = tt
 all-counted P each a (suc n) = (each a, all-counted P each (a + 1) n)
+
+-- ---- the operations are those of the one caller
+
+pub alone-ops : (trace : Trace) → IsFormed trace → trace.config.callers ≡ 1 → IsOfCaller 0 (length trace.blocks) trace.ops
+alone-ops trace formed one k op at =
+    let possible = possible-at trace.config trace.blocks trace.ops k op formed.ops at in
+    (one-caller trace.config trace.blocks op (omega arith) possible, possible.1)
 
 -- ---- events of one number
 
