@@ -6,7 +6,6 @@ pub mod BlockLemmas
 pub mod CacheLemmas
 pub mod CallerActLemmas
 pub mod CloseLemmas
-pub mod CountLemmas
 pub mod DropLemmas
 pub mod EachLemmas
 pub mod EndLemmas
