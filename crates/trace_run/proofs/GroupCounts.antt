@@ -105,7 +105,7 @@ tell-reads (act ∷ acts) ms line told =
 abbrev pub reads_by : (n : ℕ) → List Event → ℕ
 reads_by n es = count_by (λ e. is_pool_read e && number_of e == n) es
 
-read-no-pass : (e : Event) → is_pool_read e ≡ true → is_pass e ≡ false
+pub read-no-pass : (e : Event) → is_pool_read e ≡ true → is_pass e ≡ false
 read-no-pass (event.Pass n k owner) is = absurd (false≢true is)
 read-no-pass e is = refl
 

@@ -14,6 +14,7 @@ pub mod GetLemmas
 pub mod GiveLemmas
 pub mod GroupCounts
 pub mod GroupLemmas
+pub mod GroupRunLemmas
 pub mod HistoryLemmas
 pub mod HoldLemmas
 pub mod InOrderLemmas
