@@ -1,7 +1,6 @@
 -- The run of several callers: its parties at the end, what its closed cache explains, and what its pool counts.
-use Rattle.std.proofs.Common.{◌≡◌, ◌≢◌, ◌⊎◌, ℕ, zero, suc, ◌+◌, ◌<◌, ◌≤◌, ◌^◌, ◌==◌, Bool, true, false, cond, min, IsTrue, List, [], ◌∷◌, ◌++◌, length, length-append, map, Option, Some, None, inl, inr, refl, sym, ap, ◌∙◌, subst, eq-eqb, ne_eqb, arith}
-use Rattle.std.specs.Prelude.{All, count_by, filter, slice_get, sum_by}
-use Rattle.std.specs.List.{AllByRecursion}
+use Rattle.std.proofs.Common.{◌≡◌, ◌≢◌, ℕ, zero, suc, ◌+◌, ◌<◌, ◌≤◌, ◌^◌, ◌==◌, Bool, true, false, cond, List, [], ◌∷◌, ◌++◌, length, length-append, map, Option, Some, None, inl, inr, refl, sym, ap, ◌∙◌, subst, arith}
+use Rattle.std.specs.Prelude.{count_by, filter, slice_get, sum_by}
 use Rattle.std.proofs.lemmas.Bool.{false≢true}
 use Rattle.std.proofs.lemmas.List.{length-map}
 use Rattle.std.proofs.lemmas.List.Elements.{All-get_or}
@@ -12,15 +11,12 @@ use mathlib.Core.Option.{some, some-injective, some-ne-none}
 use native.Mathlib.Decide.{ℕ_discrete}
 use lib.ListN.{get_elem?}
 use Rattle.blk_ptr.specs.declared.ptr.Ptr.{Ptr}
-use Rattle.blk_ptr.specs.Hash.{shard_of}
 use Rattle.arc_lists.proofs.Tables.{cases_true}
 use Rattle.arc_core.specs.Config.{IsConfig}
-use Rattle.arc_core.specs.declared.config.Config.{Config}
-use Rattle.arc_core.specs.declared.event.Event.{Event}
-use Rattle.arc_core.specs.Operations.{Act, pool_reads}
+use Rattle.arc_core.specs.Operations.{pool_reads}
 use Rattle.vdev_io.specs.declared.pool.Pool.{Ghosts}
-use Rattle.vdev_io.specs.Faults.{Rose, last_count}
-use Rattle.turn_table.specs.Places.{HasNumber, Place, SomeHas}
+use Rattle.vdev_io.specs.Faults.{Rose}
+use Rattle.turn_table.specs.Places.{Place, SomeHas}
 use Rattle.arc_table.specs.declared.view.Known.{Known}
 use Rattle.arc_table.specs.Cache.{Cache}
 use Rattle.arc_table.specs.Ended.{AreAtRest, Ended, Ends}
@@ -32,26 +28,25 @@ use Rattle.trace_text.specs.declared.op.Op.{Op}
 use Rattle.trace_text.specs.declared.op.Op.TheVariants as ops
 use Rattle.trace_text.specs.declared.reply.Reply.{Reply}
 use Rattle.trace_text.specs.declared.trace.Trace.{Trace}
-use Rattle.trace_text.specs.Grammar.{IsFormed, IsPossible, block_of}
-use Rattle.trace_run.specs.Acts.{acts_of_caller, acts_of_callers}
+use Rattle.trace_text.specs.Grammar.{IsFormed, IsPossible}
+use Rattle.trace_run.specs.Acts.{acts_of_callers}
 use Rattle.trace_run.specs.Alone.{ends_in, histories_of}
 use Rattle.trace_run.specs.Answers.{AnswersAll, is_pool_fault}
-use Rattle.trace_run.specs.Callers.{AreAtStart, IsAtStart}
+use Rattle.trace_run.specs.Callers.{AreAtStart}
 use Rattle.trace_run.specs.Effects.{calls_of_all}
 use Rattle.trace_run.specs.Explaining.{Explain}
-use Rattle.trace_run.specs.Group.{HasWorked, HaveWorked, IsFork, LeavesPool}
+use Rattle.trace_run.specs.Group.{HasWorked, HaveWorked, LeavesPool}
 use Rattle.trace_run.specs.GroupRun.{HaveStopped, RanGroup, RanTogether}
 use Rattle.trace_run.specs.InOrder.{AreInOrder}
 use Rattle.trace_run.specs.KeptBlocks.{Stands}
 use Rattle.trace_run.specs.Lines.{caller_of, is_of_caller, replies_where}
 use Rattle.trace_run.specs.Opened.{AreOpened, IsOpened}
 use Rattle.trace_run.specs.Tally.{AreAnswered, AreDeclared}
-use Rattle.trace_run.specs.Together.{RunsTogether, faults_told, over_callers, reads_of_caller, replies_of_caller, report_of_closed}
-use Rattle.trace_run.specs.Told.{IsTold}
+use Rattle.trace_run.specs.Together.{over_callers, reads_of_caller, replies_of_caller}
 use Rattle.trace_run.proofs.EndLemmas.{HasEnded, caller-ended, caller-told, callers-counted, explains, feeder-ended, idle-told}
 use Rattle.trace_run.proofs.GroupCounts.{caller-reads, over-add, over-one, over-same, over-zero}
 use Rattle.trace_run.proofs.RunLemmas.{calls-faults, calls-few, calls-reads, failed-all}
-use Rattle.trace_run.proofs.TogetherLemmas.{answered-length, worked-answered, worked-replies}
+use Rattle.trace_run.proofs.TogetherLemmas.{answered-length, worked-answered}
 
 -- ---- what a trace has
 
