@@ -1,8 +1,8 @@
 -- A closed cache explains the replies of its callers.
-use Rattle.std.proofs.Common.{◌≡◌, ◌≢◌, ◌⊎◌, ℕ, zero, suc, ◌+◌, ◌<◌, ◌≤◌, true, false, cond, IsTrue, List, [], ◌∷◌, ◌++◌, length, map, inl, inr, refl, sym, ap, ◌∙◌, subst, arith}
-use Rattle.std.specs.Prelude.{filter, slice_index_or}
+use Rattle.std.proofs.Common.{◌≡◌, ◌≢◌, ℕ, zero, suc, ◌<◌, ◌≤◌, true, false, cond, IsTrue, List, [], ◌∷◌, length, map, inl, inr, refl, sym, ap, ◌∙◌, subst, arith}
+use Rattle.std.specs.Prelude.{filter, slice_index_or, sum_by}
 use Rattle.std.specs.List.{AllByRecursion}
-use Rattle.std.proofs.lemmas.Bool.{cases_lt}
+use Rattle.std.proofs.lemmas.Bool.{cases_lt, false≢true}
 use Rattle.std.proofs.lemmas.List.{length-map}
 use mathlib.Core.Option.{some, some-injective, some-ne-none}
 use lib.ListN.{get_elem?}
@@ -13,10 +13,9 @@ use Rattle.blk_ptr.specs.Hash.{shard_of}
 use Rattle.arc_core.specs.Config.{IsConfig}
 use Rattle.arc_core.specs.declared.config.Config.{Config}
 use Rattle.arc_core.specs.declared.event.Event.{Event}
-use Rattle.arc_core.specs.Operations.{Act, HoldEveryCallOnce, IsAtRest, Moment, Tell, acts_in, are_passes_placed, has_its_number, is_of_feed, is_pass, moments, number_of, own_moments}
+use Rattle.arc_core.specs.Operations.{Act, HoldEveryCallOnce, IsAtRest, Moment, Tell, acts_in, are_passes_placed, has_its_number, is_of_feed, is_pass, moments, number_of, own_moments, pool_reads}
 use Rattle.arc_core.specs.Replay.{is_legal_history, replay}
 use Rattle.arc_core.specs.ShardLog.{ShardLog}
-use Rattle.vdev_io.specs.declared.pool.Pool.{Ghosts}
 use Rattle.turn_table.specs.Places.{Place, ShowAll, SomeHas}
 use Rattle.arc_table.specs.declared.about.About.{About}
 use Rattle.arc_table.specs.declared.view.Known.{Known}
@@ -32,18 +31,19 @@ use Rattle.trace_text.specs.declared.reply.Reply.{Reply}
 use Rattle.trace_run.specs.Acts.{acts_of_caller, acts_of_callers}
 use Rattle.trace_run.specs.Ends.{end_of, ends_of, opening_of}
 use Rattle.trace_run.specs.Explaining.{Explain}
-use Rattle.trace_run.specs.Group.{HasWorked}
-use Rattle.trace_run.specs.KeptBlocks.{Stands, is_ptr, times}
+use Rattle.trace_run.specs.KeptBlocks.{IsIdle, Stands, is_ptr, times}
 use Rattle.trace_run.specs.Lines.{is_of_caller, replies_where}
 use Rattle.trace_run.specs.Seen.{HasSeenItsOwn, seen_of}
+use Rattle.trace_run.specs.Together.{over_callers, reads_of_caller}
 use Rattle.trace_run.specs.Told.{IsTold}
 use Rattle.trace_run.proofs.CallerActLemmas.{callers-none, callers-own, own-lines}
 use Rattle.trace_run.proofs.CloseLemmas.{closed-legal, closed-now, closed-sound, closed-told}
 use Rattle.trace_run.proofs.EachLemmas.{AreLast, IsLast, closed-others, closed-placed, each-own}
+use Rattle.trace_run.proofs.GroupCounts.{IsReadOfCaller, all-reads, read-no-pass}
 use Rattle.trace_run.proofs.HistoryLemmas.{IsReadEvent, own-events, read-number, told-reads}
 use Rattle.trace_run.proofs.KeptBlockLemmas.{is_ptr-same, times-cons}
 use Rattle.trace_run.proofs.PlacedLemmas.{all-by-place}
-use Rattle.trace_run.proofs.RestLemmas.{AreIdle, IsIdle, closed-rests}
+use Rattle.trace_run.proofs.RestLemmas.{AreIdle, closed-rests}
 use Rattle.trace_run.proofs.TellLemmas.{IsActOf, IsReadAct, acts-caller, all-append, all-map, is_of_reads}
 
 -- what is so of a party at the end of a run: it has this number and has given all back, and what it did is told
@@ -125,6 +125,11 @@ log-at : (logs : List ShardLog) (i : ℕ) → i < length (map (λ (log : ShardLo
 log-at [] i inside = absurd (omega arith)
 log-at (x ∷ xs) zero inside = (x, refl, refl)
 log-at (x ∷ xs) (suc i) inside = log-at xs i (omega arith)
+
+history-of : (logs : List ShardLog) (i : ℕ) (h : List Event) → get_elem? (map (λ (log : ShardLog). log.history) logs) i ≡ some h → (l : ShardLog) × (get_elem? logs i ≡ some l) × (l.history ≡ h)
+history-of [] i h at = absurd (some-ne-none h (sym at))
+history-of (x ∷ xs) zero h at = (x, refl, some-injective x.history h at)
+history-of (x ∷ xs) (suc i) h at = history-of xs i h at
 
 -- ---- the closed cache
 
@@ -222,11 +227,11 @@ module _ {C : Type 0} (m : Meanings C) (cache : Cache) (valid : IsConfig cache.c
           | inr none ↦ caller-made x ev there own.party none
         ]
 
-    all-reads : AllByRecursion (IsReadEvent settled.callers) l.history
-    all-reads = all-by-place (IsReadEvent settled.callers) l.history event-is
+    only-reads : AllByRecursion (IsReadEvent settled.callers) l.history
+    only-reads = all-by-place (IsReadEvent settled.callers) l.history event-is
 
     rests : IsAtRest l.now
-    rests = closed-rests m cache (bares settled ps) e bare-ends i l at config all-have are-idle valid sound all-reads
+    rests = closed-rests m cache (bares settled ps) e bare-ends i l at config all-have are-idle valid sound only-reads
 
     placed : IsTrue (are_passes_placed l.history)
     placed = closed-placed m cache e i l at (bares settled ps) bare-ends config all-have are-last
@@ -239,6 +244,9 @@ module _ {C : Type 0} (m : Meanings C) (cache : Cache) (valid : IsConfig cache.c
           (closed-others m cache e i l at (bares settled ps) bare-ends config all-have are-last n above)
     ]
 
+  abbrev histories : List (List Event)
+  histories = map (λ (log : ShardLog). log.history) e.shards
+
   every-call : HoldEveryCallOnce settled shard (opening_of settled) acts (map (λ log. log.history) e.shards)
   every-call = record {
     told = λ i n inside differs.
@@ -249,7 +257,7 @@ module _ {C : Type 0} (m : Meanings C) (cache : Cache) (valid : IsConfig cache.c
         subst (λ (es : List Event). AllByRecursion (λ (x : Moment). IsTrue (is_of_feed x.event)) (own_moments settled.callers (moments (opening_of settled) es))) (sym h.2)
         (subst (AllByRecursion (λ (x : Moment). IsTrue (is_of_feed x.event))) (sym (feeder-none i h.0 h.1)) tt);
     numbers = all-logs (AllByRecursion (λ ev. IsTrue (has_its_number settled.callers settled.cells ev))) e.shards
-        (λ i l at. all-map (IsReadEvent settled.callers) (λ ev. IsTrue (has_its_number settled.callers settled.cells ev)) l.history (λ ev is. read-number settled.callers settled.cells ev is) (all-reads i l at));
+        (λ i l at. all-map (IsReadEvent settled.callers) (λ ev. IsTrue (has_its_number settled.callers settled.cells ev)) l.history (λ ev is. read-number settled.callers settled.cells ev is) (only-reads i l at));
     passes = all-logs (λ h. IsTrue (are_passes_placed h)) e.shards (λ i l at. placed i l at);
   }
 
@@ -261,6 +269,24 @@ module _ {C : Type 0} (m : Meanings C) (cache : Cache) (valid : IsConfig cache.c
     at_rest = all-logs (λ h. IsAtRest (replay (opening_of settled) h)) e.shards (λ i l at. subst IsAtRest (sym (now i l at)) (rests i l at));
     every_call = every-call;
   }
+
+  -- what a caller did stands in each history, by its own lines
+  pub caller-told : (n : ℕ) → n < settled.callers → (i : ℕ) (h : List Event) → get_elem? histories i ≡ some h
+      → Tell (acts_in shard i n (acts_of_caller blocks n (filter (is_of_caller n) ops) (replies_where (is_of_caller n) ops replies))) (own_moments n (moments (opening_of settled) h))
+  caller-told n below i h at =
+      let log = history-of e.shards i h at in
+      subst (λ (es : List Event). Tell (acts_in shard i n (acts_of_caller blocks n (filter (is_of_caller n) ops) (replies_where (is_of_caller n) ops replies))) (own_moments n (moments (opening_of settled) es))) log.2
+      (subst (λ (as : List Act). Tell as (own_moments n (moments (opening_of settled) log.0.history))) (callers-own shard i blocks ops replies settled.callers n below)
+      (told-at i log.0 log.1 n (omega arith)))
+
+  -- an event that stands for a read of the pool is a caller's
+  read-of-caller : (ev : Event) → IsReadEvent settled.callers ev → IsReadOfCaller settled.callers ev
+  read-of-caller ev (inl of) read = of.0
+  read-of-caller ev (inr pass) read = absurd (false≢true (sym (read-no-pass ev read) ∙ pass.0))
+
+  pub callers-counted : over_callers settled.callers (λ n. reads_of_caller n histories) ≡ sum_by pool_reads histories
+  callers-counted = all-reads settled.callers histories
+      (all-logs (AllByRecursion (IsReadOfCaller settled.callers)) e.shards (λ i l at. all-map (IsReadEvent settled.callers) (IsReadOfCaller settled.callers) l.history read-of-caller (only-reads i l at)))
 
 -- ---- what the parties of a run are at its end
 

@@ -33,7 +33,7 @@ use Rattle.trace_run.specs.OneCaller.{kept_after_all}
 use Rattle.trace_run.specs.Tally.{AreAnswered}
 use Rattle.trace_run.specs.Told.{IsTold}
 use Rattle.trace_run.specs.Together.{over_callers}
-use Rattle.trace_run.proofs.AbsorbLemmas.{absorbed-faults, absorbed-leaves, absorbed-reads, few-counts, over-sum, sum-few}
+use Rattle.trace_run.proofs.AbsorbLemmas.{absorbed-leaves, absorbed-most, absorbed-reads, few-counts, over-sum, sum-few}
 use Rattle.trace_run.proofs.LinesLemmas.{lines-calls, lines-kept, lines-told}
 use Rattle.trace_run.proofs.RunLemmas.{calls-few}
 
@@ -214,7 +214,6 @@ module _ {C P : Type 0} (cache : Cache) (pools : Ghosts P) (blocks : List Ptr) (
       let fork = λ (n : ℕ) (lt : n < length ps). starts-fork old 0 olds begun.0 n (omega (arith, lt, many)) in
       let counts = λ (n : ℕ) (lt : n < length ps). few n (get_or (map pool_of olds) n old) (get_or dones n old) old (each n lt).0 (each n lt).1 short (fork n lt) (each n lt).4 in
       let reads = sum-few pools.reads dones old (λ k lt. (counts k (omega (arith, lt, long))).0) in
-      let faults = sum-few pools.faults dones old (λ k lt. (counts k (omega (arith, lt, long))).1) in
       let all_reads : over_callers (length ps) (λ n. pools.reads (get_or dones n old)) ≡ sum_by pools.reads dones = ap (λ (l : ℕ). over_callers l (λ n. pools.reads (get_or dones n old))) (sym long) ∙ over-sum pools.reads dones old in
       let all_faults : over_callers (length ps) (λ n. pools.faults (get_or dones n old)) ≡ sum_by pools.faults dones = ap (λ (l : ℕ). over_callers l (λ n. pools.faults (get_or dones n old))) (sym long) ∙ over-sum pools.faults dones old in
       record {
@@ -225,6 +224,6 @@ module _ {C P : Type 0} (cache : Cache) (pools : Ghosts P) (blocks : List Ptr) (
         fresh = fork;
         each = each;
         reads = λ room. omega (arith, all_reads, absorbed-reads pools dones old new absorbs (omega (arith, room, reads, long, few_callers)));
-        faults = λ room. omega (arith, all_faults, absorbed-faults pools dones old new absorbs (omega (arith, room, faults, long, few_callers)));
+        faults = omega (arith, all_faults, absorbed-most pools dones old new absorbs);
         keeps = absorbed-leaves pools dones old new absorbs;
       }

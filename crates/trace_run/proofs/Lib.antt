@@ -6,7 +6,6 @@ pub mod BlockLemmas
 pub mod CacheLemmas
 pub mod CallerActLemmas
 pub mod CloseLemmas
-pub mod CountLemmas
 pub mod DropLemmas
 pub mod EachLemmas
 pub mod EndLemmas
@@ -15,6 +14,7 @@ pub mod GetLemmas
 pub mod GiveLemmas
 pub mod GroupCounts
 pub mod GroupLemmas
+pub mod GroupRunLemmas
 pub mod HistoryLemmas
 pub mod HoldLemmas
 pub mod InOrderLemmas

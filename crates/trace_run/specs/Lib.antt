@@ -11,6 +11,7 @@ pub mod Effects
 pub mod Ends
 pub mod Explaining
 pub mod Group
+pub mod GroupRun
 pub mod InOrder
 pub mod KeptBlocks
 pub mod Lines

@@ -21,6 +21,7 @@ mod status;
 mod stream;
 #[cfg(test)]
 mod tests;
+mod together;
 mod top;
 mod words;
 mod zero_pool;
