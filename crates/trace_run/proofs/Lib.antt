@@ -1,4 +1,5 @@
 pub mod AccessLemmas
+pub mod AlonePlainLemmas
 pub mod AnswerLemmas
 pub mod BlockLemmas
 pub mod CacheLemmas
@@ -21,10 +22,14 @@ pub mod OverShardLemmas
 pub mod OwnLemmas
 pub mod PlacedLemmas
 pub mod PlainLemmas
+pub mod PlainReplyLemmas
+pub mod PlainReportLemmas
+pub mod RangeLemmas
 pub mod ReadLemmas
 pub mod ReadMoments
 pub mod ReadStands
 pub mod ReportLemmas
+pub mod ResidentLemmas
 pub mod RestLemmas
 pub mod RoomyLemmas
 pub mod RunLemmas
