@@ -163,8 +163,8 @@ module _ (image : List ℕ) where
       go : (a : Access) → source_of a ≡ served.Hit
           → reply_unless (refused_access image ptr a call) (Read (source_of a) ptr.digest (window_of window (range_of image ptr.key))) ≡ Read served.Hit ptr.digest (window_of window (range_of image ptr.key))
       go access.Hit is = refl
-      go (access.Past other) is = cc
-      go access.Miss is = cc
+      go (access.Past other) is = let no : served.Past ≡ served.Hit = is in cc
+      go access.Miss is = let no : served.Pool ≡ served.Hit = is in cc
 
   plain-or-collides : (s : PlainShard) (ptr : Ptr) (window : Window) (reply : Reply) (call : PoolCall) → AnswersRead (length image) (Some image) ptr window reply
       → NamesSource (access_of s ptr) (effect_of reply) → AreTold image s.entries → (CameFromPool (effect_of reply) → ReadsImage image ptr window reply)

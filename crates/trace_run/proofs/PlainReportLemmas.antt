@@ -47,9 +47,9 @@ pub record IsAlike (a b : Reply) : Type 0 where
 
 abbrev pub AreAlike : List Reply → List Reply → Type 0
 AreAlike [] [] = Unit {0}
-AreAlike [] (b ∷ bs) = ⊥
-AreAlike (a ∷ as) [] = ⊥
-AreAlike (a ∷ as) (b ∷ bs) = IsAlike a b × AreAlike as bs
+AreAlike [] (r ∷ rs) = ⊥
+AreAlike (p ∷ ps) [] = ⊥
+AreAlike (p ∷ ps) (r ∷ rs) = IsAlike p r × AreAlike ps rs
 
 equal-alike : (a b : Reply) → a ≡ b → IsAlike a b
 equal-alike a b is = record { effect = ap effect_of is; refusal = ap is_refusal is }
@@ -82,48 +82,50 @@ alike-kept blocks kept (ops.Read n t x window) a b same = refl
 alike-kept blocks kept (ops.Hold n t x) a b same = ap (λ (e : Effect). option_map_or (λ ptr. kept_after_hold x ptr e kept) (slice_get blocks x) kept) same
 alike-kept blocks kept (ops.Drop n x) a b same = ap (λ (e : Effect). kept_after_drop x e kept) same
 
-alike-all : (blocks : List Ptr) (s : PlainShard) (kept : List KeptRead) (os : List Op) (as bs : List Reply) → AreAlike as bs
-    → (events_of_all blocks s kept os as ≡ events_of_all blocks s kept os bs) × (kept_after_all blocks kept os as ≡ kept_after_all blocks kept os bs)
-alike-all blocks s kept [] as bs are = (refl, refl)
+alike-all : (blocks : List Ptr) (s : PlainShard) (kept : List KeptRead) (os : List Op) (ps rs : List Reply) → AreAlike ps rs
+    → (events_of_all blocks s kept os ps ≡ events_of_all blocks s kept os rs) × (kept_after_all blocks kept os ps ≡ kept_after_all blocks kept os rs)
+alike-all blocks s kept [] ps rs are = (refl, refl)
 alike-all blocks s kept (o ∷ os) [] [] are = (refl, refl)
-alike-all blocks s kept (o ∷ os) [] (b ∷ bs) are = absurd are
-alike-all blocks s kept (o ∷ os) (a ∷ as) [] are = absurd are
-alike-all blocks s kept (o ∷ os) (a ∷ as) (b ∷ bs) are =
-    let events = alike-events blocks s kept o a b are.0.effect in
-    let left = alike-kept blocks kept o a b are.0.effect in
-    let rest = alike-all blocks (replay s (events_of blocks s kept o b)) (kept_after blocks o b kept) os as bs are.1 in
-    ((λ i. events i ++ events_of_all blocks (replay s (events i)) (left i) os as) ∙ ap (λ (l : List Event). events_of blocks s kept o b ++ l) rest.0,
-    (λ i. kept_after_all blocks (left i) os as) ∙ rest.1)
+alike-all blocks s kept (o ∷ os) [] (r ∷ rs) are = absurd are
+alike-all blocks s kept (o ∷ os) (p ∷ ps) [] are = absurd are
+alike-all blocks s kept (o ∷ os) (p ∷ ps) (r ∷ rs) are =
+    let events = alike-events blocks s kept o p r are.0.effect in
+    let left = alike-kept blocks kept o p r are.0.effect in
+    let rest = alike-all blocks (replay s (events_of blocks s kept o r)) (kept_after blocks o r kept) os ps rs are.1 in
+    let moved : events_of_all blocks s kept (o ∷ os) (p ∷ ps) ≡ events_of blocks s kept o r ++ events_of_all blocks (replay s (events_of blocks s kept o r)) (kept_after blocks o r kept) os ps =
+    λ i. events i ++ events_of_all blocks (replay s (events i)) (left i) os ps in
+    let keeps : kept_after_all blocks kept (o ∷ os) (p ∷ ps) ≡ kept_after_all blocks (kept_after blocks o r kept) os ps = λ i. kept_after_all blocks (left i) os ps in
+    (moved ∙ ap (λ (l : List Event). events_of blocks s kept o r ++ l) rest.0, keeps ∙ rest.1)
 
-alike-where : (test : Op → Bool) (os : List Op) (as bs : List Reply) → AreAlike as bs → AreAlike (replies_where test os as) (replies_where test os bs)
-alike-where test [] as bs are = tt
+alike-where : (test : Op → Bool) (os : List Op) (ps rs : List Reply) → AreAlike ps rs → AreAlike (replies_where test os ps) (replies_where test os rs)
+alike-where test [] ps rs are = tt
 alike-where test (o ∷ os) [] [] are = tt
-alike-where test (o ∷ os) [] (b ∷ bs) are = absurd are
-alike-where test (o ∷ os) (a ∷ as) [] are = absurd are
-alike-where test (o ∷ os) (a ∷ as) (b ∷ bs) are = go (test o) (alike-where test os as bs are.1)
+alike-where test (o ∷ os) [] (r ∷ rs) are = absurd are
+alike-where test (o ∷ os) (p ∷ ps) [] are = absurd are
+alike-where test (o ∷ os) (p ∷ ps) (r ∷ rs) are = go (test o) (alike-where test os ps rs are.1)
   where
-    go : (t : Bool) → AreAlike (replies_where test os as) (replies_where test os bs)
-        → AreAlike (if t then (a ∷ replies_where test os as) else replies_where test os as) (if t then (b ∷ replies_where test os bs) else replies_where test os bs)
+    go : (t : Bool) → AreAlike (replies_where test os ps) (replies_where test os rs)
+        → AreAlike (if t then (p ∷ replies_where test os ps) else replies_where test os ps) (if t then (r ∷ replies_where test os rs) else replies_where test os rs)
     go true rest = (are.0, rest)
     go false rest = rest
 
-alike-history : (blocks : List Ptr) (n : ℕ) (opening : PlainShard) (os : List Op) (as bs : List Reply) → AreAlike as bs → one_caller_history blocks n opening os as ≡ one_caller_history blocks n opening os bs
-alike-history blocks n opening os as bs are =
-    let all = alike-all blocks opening [] os as bs are in
+alike-history : (blocks : List Ptr) (n : ℕ) (opening : PlainShard) (os : List Op) (ps rs : List Reply) → AreAlike ps rs → one_caller_history blocks n opening os ps ≡ one_caller_history blocks n opening os rs
+alike-history blocks n opening os ps rs are =
+    let all = alike-all blocks opening [] os ps rs are in
     λ i. all.0 i ++ events_of_drops n (all.1 i)
 
-alike-histories : (shards : ℕ) (blocks : List Ptr) (opening : PlainShard) (os : List Op) (as bs : List Reply) → AreAlike as bs
-    → one_caller_histories shards blocks 0 opening os as ≡ one_caller_histories shards blocks 0 opening os bs
-alike-histories shards blocks opening os as bs are =
-    let each = λ (shard : ℕ). alike-history blocks 0 opening (filter (is_in_shard shards blocks shard) os) (replies_where (is_in_shard shards blocks shard) os as) (replies_where (is_in_shard shards blocks shard) os bs)
-    (alike-where (is_in_shard shards blocks shard) os as bs are) in
+alike-histories : (shards : ℕ) (blocks : List Ptr) (opening : PlainShard) (os : List Op) (ps rs : List Reply) → AreAlike ps rs
+    → one_caller_histories shards blocks 0 opening os ps ≡ one_caller_histories shards blocks 0 opening os rs
+alike-histories shards blocks opening os ps rs are =
+    let each = λ (shard : ℕ). alike-history blocks 0 opening (filter (is_in_shard shards blocks shard) os) (replies_where (is_in_shard shards blocks shard) os ps) (replies_where (is_in_shard shards blocks shard) os rs)
+    (alike-where (is_in_shard shards blocks shard) os ps rs are) in
     λ i. map (λ (shard : ℕ). each shard i) (range_with_len 0 shards)
 
-alike-any : (as bs : List Reply) → AreAlike as bs → list_any is_refusal as ≡ list_any is_refusal bs
+alike-any : (ps rs : List Reply) → AreAlike ps rs → list_any is_refusal ps ≡ list_any is_refusal rs
 alike-any [] [] are = refl
-alike-any [] (b ∷ bs) are = absurd are
-alike-any (a ∷ as) [] are = absurd are
-alike-any (a ∷ as) (b ∷ bs) are = let rest = alike-any as bs are.1 in λ i. are.0.refusal i || rest i
+alike-any [] (r ∷ rs) are = absurd are
+alike-any (p ∷ ps) [] are = absurd are
+alike-any (p ∷ ps) (r ∷ rs) are = let rest = alike-any ps rs are.1 in λ i. are.0.refusal i || rest i
 
 -- ---- the report
 

@@ -64,7 +64,7 @@ module _ (image : List ℕ) where
       All-with_change entry_key IsToldEntry k (arrived d) es (λ e item x there. ap (λ (h : Key). sha256_of (range_of image h)) (item_at-key entry_key k es e item) ∙ is ∙ some_is there) told
 
   told-read : (n t : ℕ) (k : Key) (s : PlainShard) → IsToldEntry (read_entry n k t s)
-  told-read n t k s d is = cc
+  told-read n t k s d is = let nothing : None ≡ Some d = is in cc
 
   -- ---- room and trim
 
