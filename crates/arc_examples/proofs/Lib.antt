@@ -1,0 +1,3 @@
+pub mod ReadHolds
+pub mod AfterTries
+pub mod Ready

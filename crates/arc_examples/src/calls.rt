@@ -1,0 +1,101 @@
+//! Steps of one or two calls. After each the party is as ready for the next as before.
+ghost use Rattle.arc_table.specs.Holding.{IsHeld};
+ghost use Rattle.arc_examples.specs.Ready.{IsReady, IsReadyAs};
+
+use crate::plain::Plain;
+use arc_table::{Arcs, Hold, Look, Party, Read, TryDrop, TryHit};
+use blk_ptr::Ptr;
+use std::sync::Wait;
+use vdev_io::{MemPool, NoCache};
+
+// Gives a hold back.
+fn give_back<R: Wait>(rt: &R, arcs: &Arcs<Plain>, party: &mut Party<Plain>, hold: Hold)
+    requires ready { IsReady arcs.now party.old }
+    requires hold { IsHeld arcs.now.config party.old hold }
+    ensures { IsReadyAs arcs.now party.old party.new }
+{
+    arcs.drop_hold(rt, party, hold);
+}
+
+// Gives a hold back, without waiting where that can be.
+fn try_back<R: Wait>(rt: &R, arcs: &Arcs<Plain>, party: &mut Party<Plain>, hold: Hold)
+    requires ready { IsReady arcs.now party.old }
+    requires hold { IsHeld arcs.now.config party.old hold }
+    ensures { IsReadyAs arcs.now party.old party.new }
+{
+    if let TryDrop::Busy { owner: _, hold } = arcs.try_drop(party, hold) {
+        give_back(rt, arcs, party, hold);
+    }
+}
+
+/// Reads a block and gives it back. False where the read is refused.
+pub fn read_one<R: Wait>(
+    rt: &R,
+    arcs: &Arcs<Plain>,
+    party: &mut Party<Plain>,
+    pool: &mut MemPool,
+    ptr: &Ptr,
+    tick: u64,
+) -> bool
+    requires { IsReady arcs.now party.old }
+    ensures { IsReadyAs arcs.now party.old party.new }
+{
+    match arcs.read(rt, party, ptr, tick, pool, &mut NoCache) {
+        Ok(Read::Held(hold, _)) => {
+            give_back(rt, arcs, party, hold);
+            true
+        }
+        Ok(Read::Past { block: _, kept: _ }) | Err(_) => false,
+    }
+}
+
+/// Reads a block and gives it back, without waiting where that can be. False where the read is refused.
+pub fn read_and_try<R: Wait>(
+    rt: &R,
+    arcs: &Arcs<Plain>,
+    party: &mut Party<Plain>,
+    pool: &mut MemPool,
+    ptr: &Ptr,
+    tick: u64,
+) -> bool
+    requires { IsReady arcs.now party.old }
+    ensures { IsReadyAs arcs.now party.old party.new }
+{
+    match arcs.read(rt, party, ptr, tick, pool, &mut NoCache) {
+        Ok(Read::Held(hold, _)) => {
+            try_back(rt, arcs, party, hold);
+            true
+        }
+        Ok(Read::Past { block: _, kept: _ }) | Err(_) => false,
+    }
+}
+
+/// Asks for a block, and gives it back where it is there. False where it is not, or another party has its bucket or its shard.
+pub fn try_one<R: Wait>(
+    rt: &R,
+    arcs: &Arcs<Plain>,
+    party: &mut Party<Plain>,
+    ptr: &Ptr,
+    tick: u64,
+) -> bool
+    requires { IsReady arcs.now party.old }
+    ensures { IsReadyAs arcs.now party.old party.new }
+{
+    let TryHit::Held(hold) = arcs.try_hit(party, ptr, tick) else {
+        return false;
+    };
+    give_back(rt, arcs, party, hold);
+    true
+}
+
+/// Looks at the bucket of a block, and ends the look. False where another party has it.
+pub fn look_at(arcs: &Arcs<Plain>, party: &mut Party<Plain>, ptr: &Ptr) -> bool
+    requires { IsReady arcs.now party.old }
+    ensures { IsReadyAs arcs.now party.old party.new }
+{
+    let Look::Seen(look) = arcs.try_look(party, ptr.key) else {
+        return false;
+    };
+    arcs.end_look(party, look);
+    true
+}

@@ -1,0 +1,15 @@
+//! Calls of the shared cache put together: small steps after which a party is as ready as before, and a soak of four callers at the same
+//! time.
+#![tactic(auto)]
+
+mod calls;
+mod plain;
+mod scene;
+mod soak;
+#[cfg(test)]
+mod tests;
+
+pub use calls::{look_at, read_and_try, read_one, try_one};
+pub use plain::{Caller, Plain, SIZE, config_of, draw, ptr_of};
+pub use scene::{Scene, opened};
+pub use soak::{Soaked, run_soak};

@@ -1,0 +1,86 @@
+//! A cache with its callers.
+ghost use Rattle.std.specs.Prelude.{◌≡◌, IfOk, Some};
+ghost use Rattle.arc_core.specs.Config.{IsConfig};
+ghost use Rattle.arc_examples.specs.Ready.{IsReady};
+
+use crate::plain::{Caller, Plain, SIZE};
+use arc_core::Config;
+use arc_table::{Arcs, Closed, Party};
+use blk_ptr::NoMemory;
+use std::alloc::Global;
+use vdev_io::MemPool;
+
+/// A cache, its feeder and its four callers.
+#[derive(Drop)]
+pub struct Scene {
+    pub arcs: Arcs<Plain>,
+    pub feeder: Caller,
+    pub callers: (Caller, Caller, Caller, Caller),
+}
+
+// A pool of so many blocks of zeros.
+fn zeros(alloc: Global, blocks: u64) -> Result<MemPool, NoMemory> {
+    let bytes = vec![in alloc; 0u8; blocks.saturating_mul(SIZE) as usize]?;
+    MemPool::new(alloc, bytes, Vec::new(alloc), Vec::new(alloc))
+}
+
+fn caller_of(
+    alloc: Global,
+    party: Option<Party<Plain>>,
+    blocks: u64,
+    seed: u64,
+) -> Result<Caller, NoMemory>
+    ensures { IfOk result (λ c. party ≡ Some c.party) }
+{
+    let pool = zeros(alloc, blocks)?;
+    match party {
+        Some(party) => Ok(Caller { party, pool, seed }),
+        None => Err(NoMemory),
+    }
+}
+
+/// A new cache, with a pool of so many blocks for each caller.
+pub fn opened(alloc: Global, config: &Config, blocks: u64) -> Result<Scene, NoMemory>
+    requires valid { IsConfig config.now }
+    requires callers { config.now.callers ≡ 4 }
+    requires cells { config.now.cells ≡ 1 }
+    ensures config { IfOk result (λ l. l.arcs.config ≡ config.now) }
+    ensures feeder { IfOk result (λ l. IsReady l.arcs l.feeder.party × (l.feeder.party.number ≡ 4)) }
+    ensures first { IfOk result (λ l. IsReady l.arcs l.callers.0.party × (l.callers.0.party.number ≡ 0)) }
+    ensures second { IfOk result (λ l. IsReady l.arcs l.callers.1.party × (l.callers.1.party.number ≡ 1)) }
+    ensures third { IfOk result (λ l. IsReady l.arcs l.callers.2.party × (l.callers.2.party.number ≡ 2)) }
+    ensures fourth { IfOk result (λ l. IsReady l.arcs l.callers.3.party × (l.callers.3.party.number ≡ 3)) }
+{
+    let cells = vec![in alloc; Plain]?;
+    let (arcs, mut parties) = Arcs::new(alloc, config, cells)?;
+    let feeder = caller_of(alloc, parties.pop(), blocks, 5)?;
+    let four = caller_of(alloc, parties.pop(), blocks, 4)?;
+    let three = caller_of(alloc, parties.pop(), blocks, 3)?;
+    let two = caller_of(alloc, parties.pop(), blocks, 2)?;
+    let one = caller_of(alloc, parties.pop(), blocks, 1)?;
+    Ok(Scene {
+        arcs,
+        feeder,
+        callers: (one, two, three, four),
+    })
+}
+
+/// The shards of a cache at its end, once all parties are back.
+pub fn close_all(
+    alloc: Global,
+    arcs: Arcs<Plain>,
+    low: (Caller, Caller),
+    high: (Caller, Caller),
+    feeder: Caller,
+) -> Result<Closed<Plain>, NoMemory>
+    requires callers { arcs.config.callers ≡ 4 }
+    requires first { IsReady arcs low.0.party × (low.0.party.number ≡ 0) }
+    requires second { IsReady arcs low.1.party × (low.1.party.number ≡ 1) }
+    requires third { IsReady arcs high.0.party × (high.0.party.number ≡ 2) }
+    requires fourth { IsReady arcs high.1.party × (high.1.party.number ≡ 3) }
+    requires feeder { IsReady arcs feeder.party × (feeder.party.number ≡ 4) }
+{
+    let ((one, two), (three, four)) = (low, high);
+    let parties = vec![in alloc; one.party, two.party, three.party, four.party, feeder.party]?;
+    arcs.close(parties)
+}
