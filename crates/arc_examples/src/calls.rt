@@ -1,4 +1,6 @@
 //! Steps of one or two calls. After each the party is as ready for the next as before.
+ghost use Rattle.std.specs.Prelude.{IfSome};
+ghost use Rattle.turn_table.specs.Places.{IsOther};
 ghost use Rattle.arc_table.specs.Holding.{IsHeld};
 ghost use Rattle.arc_examples.specs.Ready.{IsReady, IsReadyAs};
 
@@ -86,6 +88,23 @@ pub fn try_one<R: Wait>(
     };
     give_back(rt, arcs, party, hold);
     true
+}
+
+/// The number of the party that has the bucket or the shard of a block, where another has it. Where none has, nothing is told of the
+/// block, and a hold on it stays.
+pub fn who_has(arcs: &Arcs<Plain>, party: &mut Party<Plain>, ptr: &Ptr, tick: u64) -> Option<u32>
+    requires { IsReady arcs.now party.old }
+    ensures ready { IsReadyAs arcs.now party.old party.new }
+    ensures other { IfSome result (λ owner. IsOther owner party.old) }
+{
+    match arcs.try_hit(party, ptr, tick) {
+        TryHit::Busy { owner } => Some(owner),
+        TryHit::Held(_)
+        | TryHit::NotHere(_)
+        | TryHit::Other { kept: _, front: _ }
+        | TryHit::Reading { owner: _, front: _ }
+        | TryHit::NoMemory => None,
+    }
 }
 
 /// Looks at the bucket of a block, and ends the look. False where another party has it.

@@ -1,5 +1,5 @@
-//! A cache with its callers.
-ghost use Rattle.std.specs.Prelude.{◌≡◌, IfOk, Some};
+//! Caches with their callers: how they are made, and how they end.
+ghost use Rattle.std.specs.Prelude.{◌≡◌, [], length, IfOk, Some};
 ghost use Rattle.arc_core.specs.Config.{IsConfig};
 ghost use Rattle.arc_examples.specs.Ready.{IsReady};
 
@@ -9,6 +9,15 @@ use arc_table::{Arcs, Closed, Party};
 use blk_ptr::NoMemory;
 use std::alloc::Global;
 use vdev_io::MemPool;
+
+/// A cache, its feeder and its two callers.
+#[derive(Drop)]
+pub struct Pair {
+    pub arcs: Arcs<Plain>,
+    pub feeder: Party<Plain>,
+    pub one: Caller,
+    pub two: Caller,
+}
 
 /// A cache, its feeder and its four callers.
 #[derive(Drop)]
@@ -24,6 +33,7 @@ fn zeros(alloc: Global, blocks: u64) -> Result<MemPool, NoMemory> {
     MemPool::new(alloc, bytes, Vec::new(alloc), Vec::new(alloc))
 }
 
+// A caller with a pool of so many blocks.
 fn caller_of(
     alloc: Global,
     party: Option<Party<Plain>>,
@@ -39,7 +49,51 @@ fn caller_of(
     }
 }
 
-/// A new cache, with a pool of so many blocks for each caller.
+/// A new cache of two callers, with a pool of so many blocks for each.
+pub fn opened_pair(alloc: Global, config: &Config, blocks: u64) -> Result<Pair, NoMemory>
+    requires valid { IsConfig config.now }
+    requires callers { config.now.callers ≡ 2 }
+    requires cells { config.now.cells ≡ 1 }
+    ensures config { IfOk result (λ p. p.arcs.config ≡ config.now) }
+    ensures feeder { IfOk result (λ p. IsReady p.arcs p.feeder × (p.feeder.number ≡ 2)) }
+    ensures settled { IfOk result (λ p. p.feeder.own.ledger.picked ≡ []) }
+    ensures one { IfOk result (λ p. IsReady p.arcs p.one.party × (p.one.party.number ≡ 0)) }
+    ensures two { IfOk result (λ p. IsReady p.arcs p.two.party × (p.two.party.number ≡ 1)) }
+{
+    let cells = vec![in alloc; Plain]?;
+    let (arcs, mut parties) = Arcs::new(alloc, config, cells)?;
+    let Some(feeder) = parties.pop() else {
+        return Err(NoMemory);
+    };
+    let two = caller_of(alloc, parties.pop(), blocks, 2)?;
+    let one = caller_of(alloc, parties.pop(), blocks, 1)?;
+    Ok(Pair {
+        arcs,
+        feeder,
+        one,
+        two,
+    })
+}
+
+/// The shards of a cache of two callers at its end, once both and the feeder are back.
+pub fn close_pair(alloc: Global, pair: Pair) -> Result<Closed<Plain>, NoMemory>
+    requires callers { pair.arcs.config.callers ≡ 2 }
+    requires one { IsReady pair.arcs pair.one.party × (pair.one.party.number ≡ 0) }
+    requires two { IsReady pair.arcs pair.two.party × (pair.two.party.number ≡ 1) }
+    requires feeder { IsReady pair.arcs pair.feeder × (pair.feeder.number ≡ 2) }
+    ensures { IfOk result (λ closed. length closed.shards ≡ pair.arcs.config.shards) }
+{
+    let Pair {
+        arcs,
+        feeder,
+        one,
+        two,
+    } = pair;
+    let parties = vec![in alloc; one.party, two.party, feeder]?;
+    arcs.close(parties)
+}
+
+/// A new cache of four callers, with a pool of so many blocks for each.
 pub fn opened(alloc: Global, config: &Config, blocks: u64) -> Result<Scene, NoMemory>
     requires valid { IsConfig config.now }
     requires callers { config.now.callers ≡ 4 }
@@ -65,7 +119,7 @@ pub fn opened(alloc: Global, config: &Config, blocks: u64) -> Result<Scene, NoMe
     })
 }
 
-/// The shards of a cache at its end, once all parties are back.
+/// The shards of a cache of four callers at its end, once all parties are back.
 pub fn close_all(
     alloc: Global,
     arcs: Arcs<Plain>,
@@ -79,6 +133,7 @@ pub fn close_all(
     requires third { IsReady arcs high.0.party × (high.0.party.number ≡ 2) }
     requires fourth { IsReady arcs high.1.party × (high.1.party.number ≡ 3) }
     requires feeder { IsReady arcs feeder.party × (feeder.party.number ≡ 4) }
+    ensures { IfOk result (λ closed. length closed.shards ≡ arcs.config.shards) }
 {
     let ((one, two), (three, four)) = (low, high);
     let parties = vec![in alloc; one.party, two.party, three.party, four.party, feeder.party]?;
