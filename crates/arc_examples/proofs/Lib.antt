@@ -1,3 +1,4 @@
+pub mod Holds
 pub mod ReadHolds
-pub mod AfterTries
 pub mod Ready
+pub mod Tries

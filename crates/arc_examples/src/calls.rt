@@ -1,8 +1,9 @@
-//! Steps of one or two calls. After each the party is as ready for the next as before.
-ghost use Rattle.std.specs.Prelude.{IfSome};
+//! Steps of one or two calls. After each the party is ready for the next, and what it got is given back.
+ghost use Rattle.std.specs.Prelude.{◌≡◌, IfSome};
 ghost use Rattle.turn_table.specs.Places.{IsOther};
+ghost use Rattle.arc_table.specs.Booking.{without_hold};
 ghost use Rattle.arc_table.specs.Holding.{IsHeld};
-ghost use Rattle.arc_examples.specs.Ready.{IsReady, IsReadyAs};
+ghost use Rattle.arc_examples.specs.Ready.{Gets, IsAsBefore, IsReady, IsReadyAs};
 
 use crate::plain::Plain;
 use arc_table::{Arcs, Hold, Look, Party, Read, TryDrop, TryHit};
@@ -14,7 +15,8 @@ use vdev_io::{MemPool, NoCache};
 fn give_back<R: Wait>(rt: &R, arcs: &Arcs<Plain>, party: &mut Party<Plain>, hold: Hold)
     requires ready { IsReady arcs.now party.old }
     requires hold { IsHeld arcs.now.config party.old hold }
-    ensures { IsReadyAs arcs.now party.old party.new }
+    ensures ready { IsReadyAs arcs.now party.old party.new }
+    ensures holds { party.new.own.ledger.holds ≡ without_hold hold.key party.old.own.ledger.holds }
 {
     arcs.drop_hold(rt, party, hold);
 }
@@ -23,10 +25,44 @@ fn give_back<R: Wait>(rt: &R, arcs: &Arcs<Plain>, party: &mut Party<Plain>, hold
 fn try_back<R: Wait>(rt: &R, arcs: &Arcs<Plain>, party: &mut Party<Plain>, hold: Hold)
     requires ready { IsReady arcs.now party.old }
     requires hold { IsHeld arcs.now.config party.old hold }
-    ensures { IsReadyAs arcs.now party.old party.new }
+    ensures ready { IsReadyAs arcs.now party.old party.new }
+    ensures holds { party.new.own.ledger.holds ≡ without_hold hold.key party.old.own.ledger.holds }
 {
     if let TryDrop::Busy { owner: _, hold } = arcs.try_drop(party, hold) {
         give_back(rt, arcs, party, hold);
+    }
+}
+
+// Reads a block.
+fn get<R: Wait>(
+    rt: &R,
+    arcs: &Arcs<Plain>,
+    party: &mut Party<Plain>,
+    pool: &mut MemPool,
+    ptr: &Ptr,
+    tick: u64,
+) -> Option<Hold>
+    requires { IsReady arcs.now party.old }
+    ensures { Gets arcs.now ptr.now.key party.old party.new result }
+{
+    match arcs.read(rt, party, ptr, tick, pool, &mut NoCache) {
+        Ok(Read::Held(hold, _)) => Some(hold),
+        Ok(Read::Past { block: _, kept: _ }) | Err(_) => None,
+    }
+}
+
+// Asks for a block.
+fn try_get(arcs: &Arcs<Plain>, party: &mut Party<Plain>, ptr: &Ptr, tick: u64) -> Option<Hold>
+    requires { IsReady arcs.now party.old }
+    ensures { Gets arcs.now ptr.now.key party.old party.new result }
+{
+    match arcs.try_hit(party, ptr, tick) {
+        TryHit::Held(hold) => Some(hold),
+        TryHit::NotHere(_)
+        | TryHit::Other { kept: _, front: _ }
+        | TryHit::Reading { owner: _, front: _ }
+        | TryHit::Busy { owner: _ }
+        | TryHit::NoMemory => None,
     }
 }
 
@@ -40,15 +76,13 @@ pub fn read_one<R: Wait>(
     tick: u64,
 ) -> bool
     requires { IsReady arcs.now party.old }
-    ensures { IsReadyAs arcs.now party.old party.new }
+    ensures { IsAsBefore arcs.now party.old party.new }
 {
-    match arcs.read(rt, party, ptr, tick, pool, &mut NoCache) {
-        Ok(Read::Held(hold, _)) => {
-            give_back(rt, arcs, party, hold);
-            true
-        }
-        Ok(Read::Past { block: _, kept: _ }) | Err(_) => false,
-    }
+    let Some(hold) = get(rt, arcs, party, pool, ptr, tick) else {
+        return false;
+    };
+    give_back(rt, arcs, party, hold);
+    true
 }
 
 /// Reads a block and gives it back, without waiting where that can be. False where the read is refused.
@@ -61,15 +95,13 @@ pub fn read_and_try<R: Wait>(
     tick: u64,
 ) -> bool
     requires { IsReady arcs.now party.old }
-    ensures { IsReadyAs arcs.now party.old party.new }
+    ensures { IsAsBefore arcs.now party.old party.new }
 {
-    match arcs.read(rt, party, ptr, tick, pool, &mut NoCache) {
-        Ok(Read::Held(hold, _)) => {
-            try_back(rt, arcs, party, hold);
-            true
-        }
-        Ok(Read::Past { block: _, kept: _ }) | Err(_) => false,
-    }
+    let Some(hold) = get(rt, arcs, party, pool, ptr, tick) else {
+        return false;
+    };
+    try_back(rt, arcs, party, hold);
+    true
 }
 
 /// Asks for a block, and gives it back where it is there. False where it is not, or another party has its bucket or its shard.
@@ -81,26 +113,34 @@ pub fn try_one<R: Wait>(
     tick: u64,
 ) -> bool
     requires { IsReady arcs.now party.old }
-    ensures { IsReadyAs arcs.now party.old party.new }
+    ensures { IsAsBefore arcs.now party.old party.new }
 {
-    let TryHit::Held(hold) = arcs.try_hit(party, ptr, tick) else {
+    let Some(hold) = try_get(arcs, party, ptr, tick) else {
         return false;
     };
     give_back(rt, arcs, party, hold);
     true
 }
 
-/// The number of the party that has the bucket or the shard of a block, where another has it. Where none has, nothing is told of the
-/// block, and a hold on it stays.
-pub fn who_has(arcs: &Arcs<Plain>, party: &mut Party<Plain>, ptr: &Ptr, tick: u64) -> Option<u32>
+/// The number of the party that has the bucket or the shard of a block, where another has one of them.
+pub fn who_has<R: Wait>(
+    rt: &R,
+    arcs: &Arcs<Plain>,
+    party: &mut Party<Plain>,
+    ptr: &Ptr,
+    tick: u64,
+) -> Option<u32>
     requires { IsReady arcs.now party.old }
-    ensures ready { IsReadyAs arcs.now party.old party.new }
+    ensures party { IsAsBefore arcs.now party.old party.new }
     ensures other { IfSome result (λ owner. IsOther owner party.old) }
 {
     match arcs.try_hit(party, ptr, tick) {
         TryHit::Busy { owner } => Some(owner),
-        TryHit::Held(_)
-        | TryHit::NotHere(_)
+        TryHit::Held(hold) => {
+            give_back(rt, arcs, party, hold);
+            None
+        }
+        TryHit::NotHere(_)
         | TryHit::Other { kept: _, front: _ }
         | TryHit::Reading { owner: _, front: _ }
         | TryHit::NoMemory => None,
@@ -110,7 +150,7 @@ pub fn who_has(arcs: &Arcs<Plain>, party: &mut Party<Plain>, ptr: &Ptr, tick: u6
 /// Looks at the bucket of a block, and ends the look. False where another party has it.
 pub fn look_at(arcs: &Arcs<Plain>, party: &mut Party<Plain>, ptr: &Ptr) -> bool
     requires { IsReady arcs.now party.old }
-    ensures { IsReadyAs arcs.now party.old party.new }
+    ensures { IsAsBefore arcs.now party.old party.new }
 {
     let Look::Seen(look) = arcs.try_look(party, ptr.key) else {
         return false;

@@ -1,7 +1,7 @@
 //! A soak: four callers do drawn calls at the same time on few keys and little room, and then the histories are replayed.
 ghost use Rattle.std.specs.Thread.{IsSync};
 ghost use Rattle.arc_core.specs.Config.{IsConfig};
-ghost use Rattle.arc_examples.specs.Ready.{IsReady, IsReadyAs};
+ghost use Rattle.arc_examples.specs.Ready.{IsAsBefore, IsReady};
 
 use crate::calls::{look_at, read_and_try, read_one, try_one};
 use crate::plain::{Caller, Plain, config_of, draw, ptr_of};
@@ -30,7 +30,7 @@ pub struct Soaked {
 // One drawn call: of the key that `x` draws, and of the kind that `y` does.
 fn call_one<R: Wait>(rt: &R, arcs: &Arcs<Plain>, caller: &mut Caller, x: u64, y: u64, tick: u64)
     requires { IsReady arcs.now caller.old.party }
-    ensures { IsReadyAs arcs.now caller.old.party caller.new.party }
+    ensures { IsAsBefore arcs.now caller.old.party caller.new.party }
 {
     let Caller {
         party,
@@ -49,7 +49,7 @@ fn call_one<R: Wait>(rt: &R, arcs: &Arcs<Plain>, caller: &mut Caller, x: u64, y:
 // All calls of one caller.
 fn call_all<R: Wait>(rt: &R, arcs: &Arcs<Plain>, mut caller: Caller) -> Caller
     requires { IsReady arcs.now caller.party }
-    ensures { IsReadyAs arcs.now caller.party result.party }
+    ensures { IsAsBefore arcs.now caller.party result.party }
 {
     let mut y = caller.seed;
     for tick in 0..CALLS {
@@ -69,18 +69,18 @@ fn call_two<R: Threads + Wait + Sync>(
 ) -> (Caller, Caller)
     requires one { IsReady arcs.now one.party }
     requires two { IsReady arcs.now two.party }
-    ensures one { IsReadyAs arcs.now one.party result.0.party }
-    ensures two { IsReadyAs arcs.now two.party result.1.party }
+    ensures one { IsAsBefore arcs.now one.party result.0.party }
+    ensures two { IsAsBefore arcs.now two.party result.1.party }
 {
     thread::join(
         rt,
         move || -> Caller
             requires { IsReady arcs.now one.party }
-            ensures { IsReadyAs arcs.entry.now one.party result.party }
+            ensures { IsAsBefore arcs.entry.now one.party result.party }
         { call_all(rt, arcs, one) },
         move || -> Caller
             requires { IsReady arcs.now two.party }
-            ensures { IsReadyAs arcs.entry.now two.party result.party }
+            ensures { IsAsBefore arcs.entry.now two.party result.party }
         { call_all(rt, arcs, two) },
     )
 }
@@ -95,21 +95,21 @@ fn call_four<R: Threads + Wait + Sync>(
     requires two { IsReady arcs.now callers.1.party }
     requires three { IsReady arcs.now callers.2.party }
     requires four { IsReady arcs.now callers.3.party }
-    ensures one { IsReadyAs arcs.now callers.0.party result.0.0.party }
-    ensures two { IsReadyAs arcs.now callers.1.party result.0.1.party }
-    ensures three { IsReadyAs arcs.now callers.2.party result.1.0.party }
-    ensures four { IsReadyAs arcs.now callers.3.party result.1.1.party }
+    ensures one { IsAsBefore arcs.now callers.0.party result.0.0.party }
+    ensures two { IsAsBefore arcs.now callers.1.party result.0.1.party }
+    ensures three { IsAsBefore arcs.now callers.2.party result.1.0.party }
+    ensures four { IsAsBefore arcs.now callers.3.party result.1.1.party }
 {
     let (one, two, three, four) = callers;
     thread::join(
         rt,
         move || -> (Caller, Caller)
             requires { IsSync R.row × IsReady arcs.now one.party × IsReady arcs.now two.party }
-            ensures { IsReadyAs arcs.entry.now one.party result.0.party × IsReadyAs arcs.entry.now two.party result.1.party }
+            ensures { IsAsBefore arcs.entry.now one.party result.0.party × IsAsBefore arcs.entry.now two.party result.1.party }
         { call_two(rt, arcs, one, two) },
         move || -> (Caller, Caller)
             requires { IsSync R.row × IsReady arcs.now three.party × IsReady arcs.now four.party }
-            ensures { IsReadyAs arcs.entry.now three.party result.0.party × IsReadyAs arcs.entry.now four.party result.1.party }
+            ensures { IsAsBefore arcs.entry.now three.party result.0.party × IsAsBefore arcs.entry.now four.party result.1.party }
         { call_two(rt, arcs, three, four) },
     )
 }

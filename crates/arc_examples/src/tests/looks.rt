@@ -56,7 +56,7 @@ fn behind_a_look<R: Wait>(
         first: look.header().map(|header| header.state),
         second: state_of(arcs, one, 1),
         third: state_of(arcs, one, 2),
-        owner: who_has(arcs, &mut one.party, &big(0), 4),
+        owner: who_has(rt, arcs, &mut one.party, &big(0), 4),
     };
     arcs.end_look(&mut two.party, look);
     Some(seen)
