@@ -1,3 +1,4 @@
+pub mod Gets
 pub mod Holds
 pub mod ReadHolds
 pub mod Ready
