@@ -109,7 +109,7 @@ def words_of(rng):
 
 
 def run(program, pool, words, given):
-    ended = subprocess.run([program, pool, '-', *words], input=given, capture_output=True, timeout=60)
+    ended = subprocess.run([*program, pool, '-', *words], input=given, capture_output=True, timeout=60)
     return ended.returncode, ended.stdout
 
 
@@ -130,8 +130,8 @@ def main():
     while time.time() < until:
         given = text(rng)
         words = words_of(rng)
-        ours = run(tool, pool, words, given)
-        theirs = run(plain, pool, words, given)
+        ours = run([tool], pool, words, given)
+        theirs = run([plain, '--alone'], pool, words, given)
         runs += 1
         ends[ours[0]] = ends.get(ours[0], 0) + 1
         is_report = ours[0] in (0, 1) and ours[1].endswith(b'end %d\n' % ours[0])
