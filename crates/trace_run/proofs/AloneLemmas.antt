@@ -1,21 +1,23 @@
 -- The run of one caller over the shared cache: what its lines and the drops at the end made of each shard, and that this explains the replies.
-use Rattle.std.proofs.Common.{◌≡◌, ◌≢◌, ℕ, zero, suc, ◌+◌, ◌<◌, ◌≤◌, ◌==◌, Bool, true, false, IsTrue, List, [], ◌∷◌, ◌++◌, length, map, get_or, refl, sym, ap, ◌∙◌, subst, inl, inr, arith}
+use Rattle.std.proofs.Common.{◌≡◌, ◌≢◌, ℕ, zero, suc, ◌+◌, ◌<◌, ◌≤◌, ◌==◌, ◌&&◌, cond, Bool, true, false, IsTrue, List, [], ◌∷◌, ◌++◌, length, map, get_or, refl, sym, ap, ◌∙◌, subst, inl, inr, eq-eqb, arith}
 use Rattle.std.specs.Prelude.{filter, slice_get, sum_by}
 use Rattle.std.specs.List.{AllByRecursion, range_with_len}
 use Rattle.std.proofs.lemmas.Bool.{eqb-true}
-use Rattle.std.proofs.lemmas.Bool.Decides.{nat_tests}
 use Rattle.std.proofs.lemmas.List.{length-map}
+use Rattle.std.proofs.lemmas.List.Sums.{sum_by-cons}
+use Rattle.std.proofs.lemmas.Nat.{mod_below}
 use mathlib.Core.Logic.{dite}
 use mathlib.Core.Option.{some, some-injective, some-ne-none}
 use native.Mathlib.Decide.{ℕ_discrete}
 use lib.ListN.{get_elem?}
 use Rattle.arc_lists.proofs.Tables.{cases_true}
+use Rattle.blk_ptr.specs.declared.key.Key.{Key}
 use Rattle.blk_ptr.specs.declared.ptr.Ptr.{Ptr}
-use Rattle.blk_ptr.specs.Hash.{shard_of}
+use Rattle.blk_ptr.specs.Hash.{hash_of_key, shard_of}
 use Rattle.vdev_io.specs.declared.pool.Pool.{Ghosts}
 use Rattle.arc_core.specs.declared.config.Config.{Config}
 use Rattle.arc_core.specs.declared.event.Event.{Event}
-use Rattle.arc_core.specs.Operations.{Act, HoldEveryCallOnce, IsAtRest, Moment, Tell, acts_in, are_passes_placed, has_its_number, is_of_feed, moments, number_of, own_moments}
+use Rattle.arc_core.specs.Operations.{Act, HoldEveryCallOnce, IsAtRest, Moment, Tell, acts_in, are_passes_placed, has_its_number, is_of_feed, is_pool_read, moments, number_of, own_moments, pool_reads}
 use Rattle.arc_core.specs.PlainShard.{PlainShard}
 use Rattle.arc_core.specs.Replay.{is_legal_history, replay}
 use Rattle.arc_core.specs.ShardLog.{ShardLog}
@@ -30,33 +32,38 @@ use Rattle.trace_text.specs.declared.ends.ShardEnd.{ShardEnd}
 use Rattle.trace_text.specs.declared.op.Op.{Op}
 use Rattle.trace_text.specs.declared.reply.Reply.{Reply}
 use Rattle.trace_text.specs.declared.trace.Trace.{Trace}
+use Rattle.trace_text.specs.Grammar.{IsFormed}
 use Rattle.trace_run.specs.declared.access.KeptRead.{KeptRead}
 use Rattle.trace_run.specs.declared.kept_blocks.KeptBlock.{KeptBlock}
 use Rattle.trace_run.specs.Acts.{acts_of_all, acts_of_caller, acts_of_callers, acts_of_drops}
 use Rattle.trace_run.specs.Alone.{LinesAlone, RanAlone, ends_in, histories_of}
-use Rattle.trace_run.specs.CallerLines.{At, DidLine, DidLines, at}
+use Rattle.trace_run.specs.CallerLines.{At, DidLines, at}
+use Rattle.trace_run.specs.Effects.{calls_of_all}
 use Rattle.trace_run.specs.Ends.{end_of, ends_of, opening_of}
 use Rattle.trace_run.specs.Explaining.{Explain}
 use Rattle.trace_run.specs.KeptBlocks.{DroppedAlone, GivesAll, Stands, holds_in, read_of}
 use Rattle.trace_run.specs.Lines.{caller_of, is_in_shard, is_of_caller, replies_where, shard_of_line}
-use Rattle.trace_run.specs.OneCaller.{AllLines, AreFoundAs, IsFoundAs, events_of, events_of_drops, kept_after, kept_after_all, one_caller_histories, one_caller_history}
+use Rattle.trace_run.specs.OneCaller.{AreFoundAs, IsFoundAs, events_of, events_of_drops, kept_after, kept_after_all, one_caller_histories, one_caller_history}
 use Rattle.trace_run.specs.Opened.{HasJoined}
 use Rattle.trace_run.specs.OverShards.{AllLinesOver, AreNamed, events_over, kept_in_shard}
 use Rattle.trace_run.specs.PlainRun.{shards_after}
 use Rattle.trace_run.specs.Reads.{IsAlone, now_of}
 use Rattle.trace_run.specs.Seen.{HasAll, seen_of}
+use Rattle.trace_run.specs.Tally.{IsOfCaller}
 use Rattle.trace_run.specs.Told.{IsTold}
 use Rattle.trace_run.proofs.CallerActLemmas.{callers-none}
+use Rattle.trace_run.proofs.CountLemmas.{caller-count, reads-counted, reads_by, reads_of_act}
 use Rattle.trace_run.proofs.GiveLemmas.{all-alone, all-number, all-told}
+use Rattle.trace_run.proofs.GroupLemmas.{lines-answers, lines-number}
 use Rattle.trace_run.proofs.HistoryLemmas.{IsReadEvent, read-number}
 use Rattle.trace_run.proofs.LinesLemmas.{lines-all, lines-answered, lines-calls, lines-found, lines-kept, lines-length, lines-named, lines-seen, lines-told}
 use Rattle.trace_run.proofs.NamedLemmas.{history-over, named-drops}
 use Rattle.trace_run.proofs.OpenLemmas.{joined-all, new-seen}
 use Rattle.trace_run.proofs.OverShardLemmas.{events-here, kept-else, kept-here, other-shard, same-shard}
 use Rattle.trace_run.proofs.OwnLemmas.{no-own-moments}
-use Rattle.trace_run.proofs.ReportLemmas.{all-own, of-caller, one-acts}
+use Rattle.trace_run.proofs.ReportLemmas.{all-own, of-caller, one-acts, one-caller, possible-at}
 use Rattle.trace_run.proofs.RestAlone.{alone-history, alone-legal, alone-now, alone-rests, alone-told}
-use Rattle.trace_run.proofs.TellLemmas.{IsMine, all-map, filter-all, mine-events, no-passes}
+use Rattle.trace_run.proofs.TellLemmas.{IsActOf, IsMine, IsReadAct, acts-caller, all-map, filter-all, mine-events, no-passes}
 
 -- ---- lists by their places
 
@@ -93,18 +100,53 @@ module _ {A B : Type 0} (f : A → B) where
   index-mapped (x ∷ xs) zero a d is = ap f (some-injective x a is)
   index-mapped (x ∷ xs) (suc i) a d is = index-mapped xs i a d is
 
+  unmapped : (l : List A) (i : ℕ) (b : B) → get_elem? (map f l) i ≡ some b → (a : A) × (get_elem? l i ≡ some a) × (f a ≡ b)
+  unmapped [] i b is = absurd (some-ne-none b (sym is))
+  unmapped (x ∷ xs) zero b is = (x, refl, some-injective (f x) b is)
+  unmapped (x ∷ xs) (suc i) b is = unmapped xs i b is
+
+all-filtered : {A : Type 0} (P : A → Type 0) (test : A → Bool) (l : List A) → AllByRecursion P l → AllByRecursion P (filter test l)
+all-filtered P test [] all = tt
+all-filtered P test (x ∷ xs) all = elim (cases_true (test x)) [
+  | inl passes ↦ rw passes (all.0, all-filtered P test xs all.1)
+  | inr fails ↦ rw fails (all-filtered P test xs all.1)
+]
+
 -- what is so of each number is so of those from one on
 all-counted : (P : ℕ → Type 0) → ((n : ℕ) → P n) → (a n : ℕ) → AllByRecursion P (range_with_len a n)
 all-counted P each a zero = tt
 all-counted P each a (suc n) = (each a, all-counted P each (a + 1) n)
 
--- ---- the number stays
+-- ---- the operations are those of the one caller
 
-lines-number : {C P : Type 0} (g : Config) (pools : Ghosts P) (device : ℕ) (blocks : List Ptr) (os : List Op) (rs : List Reply) (a b : At C P) → DidLines g pools device blocks os rs a b → b.party.number ≡ a.party.number
-lines-number g pools device blocks [] [] a b did = ap (λ (x : At _ _). x.party.number) did
-lines-number g pools device blocks [] (r ∷ rs) a b did = absurd did
-lines-number g pools device blocks (o ∷ os) [] a b did = absurd did
-lines-number g pools device blocks (o ∷ os) (r ∷ rs) a b did = lines-number g pools device blocks os rs did.0 b did.2 ∙ did.1.did.number
+pub alone-ops : (trace : Trace) → IsFormed trace → trace.config.callers ≡ 1 → IsOfCaller 0 (length trace.blocks) trace.ops
+alone-ops trace formed one k op at =
+    let possible = possible-at trace.config trace.blocks trace.ops k op formed.ops at in
+    (one-caller trace.config trace.blocks op (omega arith) possible, possible.1)
+
+-- ---- events of one number
+
+-- each event that stands for a read of the pool is its number's
+mine-reads : (n : ℕ) (es : List Event) → AllByRecursion (IsMine n) es → reads_by n es ≡ pool_reads es
+mine-reads n [] all = refl
+mine-reads n (e ∷ es) all =
+    let his : (is_pool_read e && number_of e == n) ≡ is_pool_read e = with-true (is_pool_read e) (number_of e == n) (eq-eqb (number_of e) n all.0.0) in
+    let one : ◌≡◌ {A = ℕ} (cond (is_pool_read e && number_of e == n) 1 0) (cond (is_pool_read e) 1 0) = ap (λ (t : Bool). cond {A = ℕ} t 1 0) his in
+    omega (arith, sum_by-cons (λ (x : Event). cond (is_pool_read x && number_of x == n) 1 0) e es, sum_by-cons (λ (x : Event). cond (is_pool_read x) 1 0) e es, one, mine-reads n es all.1)
+  where
+    with-true : (b t : Bool) → t ≡ true → (b && t) ≡ b
+    with-true b t is = rw is (go b)
+      where
+        go : (b : Bool) → (b && true) ≡ b
+        go true = refl
+        go false = refl
+
+same-sums : (f h : List Event → ℕ) (l : List ShardLog) → ((i : ℕ) (log : ShardLog) → get_elem? l i ≡ some log → f log.history ≡ h log.history)
+    → sum_by f (map (λ (log : ShardLog). log.history) l) ≡ sum_by h (map (λ (log : ShardLog). log.history) l)
+same-sums f h [] each = refl
+same-sums f h (x ∷ xs) each =
+    let rest = map (λ (log : ShardLog). log.history) xs in
+    omega (arith, sum_by-cons f x.history rest, sum_by-cons h x.history rest, each 0 x refl, same-sums f h xs (λ i log is. each (suc i) log is))
 
 -- ---- what each line found, shard by shard
 
@@ -216,19 +258,10 @@ module _ {C P : Type 0} (m : Meanings C) (cache : Cache) (pools : Ghosts P) (blo
     the-history : l.history ≡ history_of i
     the-history = alone-history m cache r closed ends parties-r last dropped.all i l at_i ∙ all-seen i
 
-    his-own : (shard : ℕ) → AllByRecursion (λ op. caller_of op ≡ 0) (filter (is_in_shard g.shards blocks shard) os)
-    his-own shard = filter-own os all-his
-      where
-        filter-own : (l : List Op) → AllByRecursion (λ op. caller_of op ≡ 0) l → AllByRecursion (λ op. caller_of op ≡ 0) (filter (is_in_shard g.shards blocks shard) l)
-        filter-own [] all = tt
-        filter-own (o ∷ os) all = elim (cases_true (is_in_shard g.shards blocks shard o)) [
-          | inl here ↦ rw here (all.0, filter-own os all.1)
-          | inr out ↦ rw out (filter-own os all.1)
-        ]
-
     mine : AllByRecursion (IsMine 0) l.history
     mine = subst (AllByRecursion (IsMine 0)) (sym the-history)
-        (mine-events blocks 0 opening (filter (is_in_shard g.shards blocks i) os) (replies_where (is_in_shard g.shards blocks i) os replies) (his-own i))
+        (mine-events blocks 0 opening (filter (is_in_shard g.shards blocks i) os) (replies_where (is_in_shard g.shards blocks i) os replies)
+        (all-filtered (λ op. caller_of op ≡ 0) (is_in_shard g.shards blocks i) os all-his))
 
     reads : AllByRecursion (IsReadEvent g.callers) l.history
     reads = all-map (IsMine 0) (IsReadEvent g.callers) l.history (λ e is. inl (let number = is.0 in let callers = one in omega arith, is.1, is.2)) mine
@@ -289,6 +322,25 @@ module _ {C P : Type 0} (m : Meanings C) (cache : Cache) (pools : Ghosts P) (blo
     passes = all-mapped (λ (log : ShardLog). log.history) (λ history. IsTrue (are_passes_placed history)) closed.shards (λ i l at_l. no-passes 0 l.history (mine i l at_l));
   }
 
+  -- ---- the reads of the pool
+
+  own-acts : AllByRecursion (IsActOf 0) (acts_of_caller blocks 0 os replies)
+  own-acts = acts-caller blocks 0 os replies all-his
+
+  counted-all : length (calls_of_all replies) ≡ sum_by pool_reads (histories_of closed)
+  counted-all =
+      let f : Key → ℕ = shard_of g.shards in
+      let his : List Act = acts_of_caller blocks 0 os replies in
+      let sums : sum_by (reads_by 0) (histories_of closed) ≡ sum_by reads_of_act his = reads-counted f 0 g.shards opening his (histories_of closed)
+      (λ k. mod_below (hash_of_key k) g.shards (let some_of = last.valid.counts.shards.0 in omega arith))
+      (length-map closed.shards (λ (log : ShardLog). log.history) ∙ ends.shards) own-acts
+      (λ i h is.
+      let l = unmapped (λ (log : ShardLog). log.history) closed.shards i h is in
+      subst (λ (x : ℕ × List Event). Tell (acts_in f i x.0 his) (own_moments x.0 (moments opening x.1))) (λ z. (number-r z, l.2 z)) (alone-told m cache r closed ends parties-r last dropped.all i l.0 l.1 his told-all))
+      (λ i. all-map (IsActOf 0) IsReadAct (acts_in f i 0 his) (λ act is. is.1) (all-filtered (IsActOf 0) _ his own-acts)) in
+      sym (caller-count (pools.size before) (pools.told before) blocks 0 os replies (lines-answers g pools 0 blocks os replies a b did))
+      ∙ (sym sums ∙ same-sums (reads_by 0) pool_reads closed.shards (λ i l at_l. mine-reads 0 l.history (mine i l at_l)))
+
   -- ---- all of it
 
   abbrev trace : Trace
@@ -314,7 +366,7 @@ module _ {C P : Type 0} (m : Meanings C) (cache : Cache) (pools : Ghosts P) (blo
     histories = counted-off (λ (log : ShardLog). log.history) history_of closed.shards 0 (λ i l at_l. the-history i l at_l ∙ ap history_of (omega arith))
         ∙ ap (λ (n : ℕ). map history_of (range_with_len 0 n)) ends.shards;
     found = all-counted _ (λ shard. found-over g.shards blocks shard (λ i. opening) [] os replies found-all) 0 g.shards;
-    counted = ?;
+    counted = counted-all;
     explained = explained;
     lines = record { first = a; last = b; alone = alone; none = refl; opens = opens; from = refl; to = refl; lines = did };
   }

@@ -1,6 +1,6 @@
 -- Several callers at once: from what each did on its own to what all have done.
 use Rattle.std.proofs.Common.{◌≡◌, ℕ, zero, suc, ◌+◌, ◌*◌, ◌<◌, ◌≤◌, ◌^◌, List, [], ◌∷◌, ◌++◌, length, get_or, map, Option, refl, sym, ap, ◌∙◌, subst, arith, add-one}
-use Rattle.std.specs.Prelude.{IfOk, Ok, Result, Vec, filter, sum_by}
+use Rattle.std.specs.Prelude.{Err, IfOk, Ok, Result, Vec, filter, sum_by}
 use Rattle.std.specs.List.{AllByRecursion, AllZip}
 use Rattle.std.specs.declared.alloc.Global.{Global}
 use Rattle.std.proofs.lemmas.List.{get_or-map, length-map}
@@ -37,10 +37,18 @@ use Rattle.trace_run.proofs.AbsorbLemmas.{absorbed-leaves, absorbed-most, absorb
 use Rattle.trace_run.proofs.LinesLemmas.{lines-calls, lines-kept, lines-told}
 use Rattle.trace_run.proofs.RunLemmas.{calls-few}
 
+-- ---- lists, place by place
+
+pub zip-of : {X : Type 0} (R : X → X → Type 0) (xs ys : List X) → length ys ≡ length xs → ((i : ℕ) (d : X) → i < length xs → R (get_or xs i d) (get_or ys i d)) → AllZip R xs ys
+zip-of R [] [] long each = tt
+zip-of R [] (y ∷ ys) long each = absurd (omega arith)
+zip-of R (x ∷ xs) [] long each = absurd (omega arith)
+zip-of R (x ∷ xs) (y ∷ ys) long each = (each 0 x (omega arith), zip-of R xs ys (omega arith) (λ i d lt. each (suc i) d (omega (arith, lt))))
+
 -- ---- one caller
 
 -- lines that were done have their answers
-lines-answers : {C P : Type 0} (g : Config) (pools : Ghosts P) (device : ℕ) (blocks : List Ptr) (os : List Op) (rs : List Reply) (a b : At C P) → DidLines g pools device blocks os rs a b
+pub lines-answers : {C P : Type 0} (g : Config) (pools : Ghosts P) (device : ℕ) (blocks : List Ptr) (os : List Op) (rs : List Reply) (a b : At C P) → DidLines g pools device blocks os rs a b
     → AreAnswered (pools.size a.pool) (pools.told a.pool) blocks a.kept os rs
 lines-answers g pools device blocks [] [] a b did = tt
 lines-answers g pools device blocks [] (r ∷ rs) a b did = absurd did
@@ -49,7 +57,7 @@ lines-answers g pools device blocks (o ∷ os) (r ∷ rs) a b did =
     let one = did.1 in
     (one.answer, subst (λ (x : ℕ × Option (List ℕ) × List KeptRead). AreAnswered x.0 x.1 blocks x.2 os rs) (λ h. (one.keeps.size h, one.keeps.told h, one.kept h)) (lines-answers g pools device blocks os rs did.0 b did.2))
 
-lines-number : {C P : Type 0} (g : Config) (pools : Ghosts P) (device : ℕ) (blocks : List Ptr) (os : List Op) (rs : List Reply) (a b : At C P) → DidLines g pools device blocks os rs a b → b.party.number ≡ a.party.number
+pub lines-number : {C P : Type 0} (g : Config) (pools : Ghosts P) (device : ℕ) (blocks : List Ptr) (os : List Op) (rs : List Reply) (a b : At C P) → DidLines g pools device blocks os rs a b → b.party.number ≡ a.party.number
 lines-number {C} {P} g pools device blocks [] [] a b did = ap (λ (x : At C P). x.party.number) did
 lines-number g pools device blocks [] (r ∷ rs) a b did = absurd did
 lines-number g pools device blocks (o ∷ os) [] a b did = absurd did
@@ -80,6 +88,18 @@ module _ {C P : Type 0} (cache : Cache) (pools : Ghosts P) (blocks : List Ptr) (
         answers = subst (λ (ks : List KeptRead). AreAnswered (pools.size old.pool) (pools.told old.pool) blocks ks os rs) none (lines-answers g pools device blocks os rs a b did);
         calls = lines-calls g pools device blocks os rs a b did;
       }
+
+  -- and of one whose lines are tried, where memory may be short
+  pub lines-tried : (device : ℕ) (old new : Caller C P) → IsReady cache old → IfOk new.replies (λ replies. Stands cache new.party new.kept.items)
+      → IfOk new.replies (λ replies. DidLines cache.config pools device blocks (filter (is_of_caller old.party.number) ops) replies.items (at old.party (map read_of old.kept.items) old.pool) (at new.party (map read_of new.kept.items) new.pool))
+      → HasTried cache pools blocks ops old new
+  lines-tried device old new ready stands did = record { done = both new.replies stands did }
+    where
+      both : (r : Result (Vec Reply Global) NoMemory) → IfOk r (λ replies. Stands cache new.party new.kept.items)
+          → IfOk r (λ replies. DidLines cache.config pools device blocks (filter (is_of_caller old.party.number) ops) replies.items (at old.party (map read_of old.kept.items) old.pool) (at new.party (map read_of new.kept.items) new.pool))
+          → IfOk r (λ replies. HasDone cache pools blocks ops old.party.number old.pool new replies.items)
+      both (Ok v) stood done = lines-done old.party.number device old new v.items ready refl stood done
+      both (Err e) stood done = tt
 
   -- a caller that tried, and then gave back what it kept, has worked
   worked-of : (old new : Caller C P) (rs : List Reply) (p : Place (Known C)) (n : ℕ) → old.party.number ≡ n → HasTried cache pools blocks ops old new → GaveBack cache new rs p

@@ -1,5 +1,6 @@
 -- What a party of a new cache is, and one that others have joined before anything was done.
-use Rattle.std.proofs.Common.{◌≡◌, ◌≢◌, ◌⊎◌, ℕ, zero, suc, ◌+◌, ◌<◌, List, [], ◌∷◌, ◌++◌, length, replicate, refl, sym, ap, ◌∙◌, subst, inl, inr, arith}
+use Rattle.std.proofs.Common.{◌≡◌, ◌≢◌, ◌⊎◌, ℕ, zero, suc, ◌+◌, ◌<◌, List, [], ◌∷◌, ◌++◌, length, get_or, replicate, refl, sym, ap, ◌∙◌, subst, inl, inr, arith}
+use Rattle.std.specs.List.{remove}
 use Rattle.std.proofs.lemmas.List.{length-replicate}
 use mathlib.Core.Logic.{dite}
 use mathlib.Core.Option.{some, some-injective, some-ne-none}
@@ -23,6 +24,7 @@ use Rattle.arc_table.specs.Fronts.{front_of, seen_by_both}
 use Rattle.arc_table.specs.Geometry.{parties_of}
 use Rattle.arc_table.specs.Items.{Meanings}
 use Rattle.arc_table.specs.Opening.{AreFreshCells, IsFreshCell}
+use Rattle.arc_table.specs.TableLaws.{there}
 use Rattle.arc_table.specs.Views.{after_learned, newcomer as known}
 use Rattle.trace_run.specs.Ends.{opening_of}
 use Rattle.trace_run.specs.KeptBlocks.{AllIdle, Stands}
@@ -76,6 +78,22 @@ module _ {C : Type 0} (cache : Cache) (about : About) (is : about.config ≡ cac
     count = newcomers-count 0 (parties_of cache.config);
     each = λ n p at. subst (IsOpened cache n) (sym (newcomer-at 0 (parties_of cache.config) n p at ∙ ap one (omega arith))) (newcomer-new n);
   }
+
+-- ---- parties that are taken out of the row
+
+at-place : {A : Type 0} (l : List A) (n : ℕ) (a d : A) → get_elem? l n ≡ some a → get_or l n d ≡ a
+at-place [] n a d at = absurd (some-ne-none a (sym at))
+at-place (x ∷ xs) zero a d at = some-injective x a at
+at-place (x ∷ xs) (suc n) a d at = at-place xs n a d at
+
+pub front-stays : {A : Type 0} (l : List A) (d : A) → 1 < length l → get_or (remove l 1) 0 d ≡ get_or l 0 d
+front-stays [] d long = absurd (omega arith)
+front-stays (x ∷ xs) d long = refl
+
+pub opened-at : {C : Type 0} (cache : Cache) (ps : List (Place (Known C))) → AreOpened cache ps → (n : ℕ) (p : Place (Known C)) → n < length ps → p ≡ get_or ps n p → IsOpened cache n p
+opened-at cache ps opened n p inside is =
+    let h = there ps n inside in
+    subst (IsOpened cache n) (sym (is ∙ at-place ps n h.0 p h.1)) (opened.each n h.0 h.1)
 
 -- ---- one party joins another before anything was done
 

@@ -45,12 +45,12 @@ use Rattle.trace_run.proofs.TellLemmas.{every-call, filter-all}
 
 -- ---- the operations are those of the one caller
 
-one-caller : (sizes : Config) (blocks : List Ptr) (op : Op) → sizes.callers ≤ 1 → IsPossible sizes blocks op → caller_of op ≡ 0
+pub one-caller : (sizes : Config) (blocks : List Ptr) (op : Op) → sizes.callers ≤ 1 → IsPossible sizes blocks op → caller_of op ≡ 0
 one-caller sizes blocks (ops.Read n t x w) one possible = omega (arith, possible.0.0)
 one-caller sizes blocks (ops.Hold n t x) one possible = omega (arith, possible.0.0)
 one-caller sizes blocks (ops.Drop n x) one possible = omega (arith, possible.0.0)
 
-possible-at : (sizes : Config) (blocks : List Ptr) (os : List Op) (k : ℕ) (op : Op) → All (IsPossible sizes blocks) os → slice_get os k ≡ Some op → IsPossible sizes blocks op
+pub possible-at : (sizes : Config) (blocks : List Ptr) (os : List Op) (k : ℕ) (op : Op) → All (IsPossible sizes blocks) os → slice_get os k ≡ Some op → IsPossible sizes blocks op
 possible-at sizes blocks os k op all at =
     subst (IsPossible sizes blocks) (get_or_from_slice_get os k op op at) (All-get_or (IsPossible sizes blocks) os k op (slice_get_within os k op at) all)
 

@@ -15,7 +15,7 @@ use Rattle.turn_table.specs.Places.{Place, SomeHas}
 use Rattle.arc_table.specs.declared.item.Item.TheVariants as item
 use Rattle.arc_table.specs.declared.view.Known.{Known}
 use Rattle.arc_table.specs.Cache.{Cache}
-use Rattle.arc_table.specs.Ended.{Ended, Ends}
+use Rattle.arc_table.specs.Ended.{AreAtRest, Ended, Ends}
 use Rattle.arc_table.specs.Geometry.{parties_of}
 use Rattle.arc_table.specs.Items.{Meanings}
 use Rattle.arc_table.specs.Logged.{IsSoundLog}
@@ -39,13 +39,17 @@ none-listed (h ∷ hs) none =
     let one : ◌≡◌ {A = ℕ} (cond (is_ptr h h) 1 0) 1 = rw (is_ptr-same h) refl in
     absurd (omega arith)
 
+-- the party may close the cache
+pub may-close : {C : Type 0} (cache : Cache) (p : Place (Known C)) → Stands cache p [] → AreAtRest cache (p ∷ [])
+may-close cache p stands = (stands.of, stands.free, tt)
+
+pub all-there : {C : Type 0} (cache : Cache) (p : Place (Known C)) → p.parties ≡ parties_of cache.config → HasAll p → (n : ℕ) → n < parties_of cache.config → SomeHas n (p ∷ [])
+all-there cache p parties all n below = inl (all n (subst (λ (k : ℕ). n < k) (sym parties) below))
+
 module _ {C : Type 0} (m : Meanings C) (cache : Cache) (p : Place (Known C)) (closed : Ended C) (ends : Ends m cache (p ∷ []) closed)
     (parties : p.parties ≡ parties_of cache.config) (stands : Stands cache p []) (all : HasAll p) where
   abbrev g : Config
   g = cache.config
-
-  some-has : (n : ℕ) → n < parties_of cache.config → SomeHas n (p ∷ [])
-  some-has n below = inl (all n (subst (λ (k : ℕ). n < k) (sym parties) below))
 
   idle : AreIdle (p ∷ [])
   idle = (record { holds = none-listed p.own.ledger.holds (λ x. stands.listed x); readings = stands.idle }, stands.joined, tt)
@@ -71,4 +75,4 @@ module _ {C : Type 0} (m : Meanings C) (cache : Cache) (p : Place (Known C)) (cl
 
     pub alone-rests : AllByRecursion (IsReadEvent cache.config.callers) l.history → IsAtRest (replay (opening_of g) l.history)
     alone-rests reads = subst IsAtRest (sym alone-now)
-        (closed-rests m cache (p ∷ []) closed ends i l at (config_then m p (turn_of g i) l was-free ∙ stands.of.config) some-has idle stands.valid alone-sound reads)
+        (closed-rests m cache (p ∷ []) closed ends i l at (config_then m p (turn_of g i) l was-free ∙ stands.of.config) (all-there cache p parties all) idle stands.valid alone-sound reads)
