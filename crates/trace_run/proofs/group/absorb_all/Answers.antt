@@ -1,4 +1,3 @@
-use Rattle.trace_run.proofs.GroupCounts.{caller-reads}
 use Rattle.std.proofs.Common.{◌≡◌, [], ◌∷◌, List, sym, subst, refl, arith}
 use Rattle.arc_table.proofs.Ends.{nothing_left}
 use Rattle.trace_run.specs.Callers.{AbsorbsAll}
