@@ -2,14 +2,18 @@
 #![tactic(auto)]
 
 mod access;
+mod alone;
 mod answer;
 mod block_map;
 mod caller_cache;
 mod get;
 mod group;
+mod in_order;
 mod kept_blocks;
 mod lines;
+mod opening;
 mod paper;
+mod ran;
 mod read;
 mod run_trace;
 mod serve;
@@ -17,6 +21,7 @@ mod status;
 mod stream;
 #[cfg(test)]
 mod tests;
+mod together;
 mod top;
 mod words;
 mod zero_pool;
