@@ -1,4 +1,4 @@
-use Rattle.std.proofs.Common.{◌≡◌, ◌≤◌, ◌++◌, ◌∷◌, ℕ, [], List, length, refl, sym, ap, ◌∙◌, subst, arith, append-nil}
+use Rattle.std.proofs.Common.{◌≡◌, ◌++◌, ◌∷◌, ℕ, [], List, refl, ap, subst, append-nil}
 use Rattle.std.specs.List.{AllByRecursion}
 use Rattle.blk_ptr.specs.declared.ptr.Ptr.{Ptr}
 use Rattle.blk_ptr.specs.Hash.{shard_of}
@@ -7,18 +7,15 @@ use Rattle.turn_table.specs.Places.{Place}
 use Rattle.arc_table.specs.declared.view.Known.{Known}
 use Rattle.arc_table.specs.Cache.{Cache}
 use Rattle.arc_table.specs.Items.{Meanings, meanings}
-use Rattle.dbuf_cells.specs.Kept.{bytes_of}
 use Rattle.trace_run.specs.declared.access.KeptRead.{KeptRead}
 use Rattle.trace_run.specs.declared.get.Got.{Got}
 use Rattle.trace_run.specs.declared.kept_blocks.KeptBlock.{KeptBlock}
 use Rattle.trace_run.specs.Access.{events_of_answered, events_of_drop, held_key as access_key}
-use Rattle.trace_run.specs.Answers.{IsInside}
 use Rattle.trace_run.specs.KeptBlocks.{GivesBack, IsOwnedBy, Stands, read_of}
 use Rattle.trace_run.specs.OneCaller.{key_held_by}
 use Rattle.trace_run.specs.PlainCache.{kept_read}
 use Rattle.trace_run.specs.Reads.{DidActs, DidAnswer, access_now}
-use Rattle.trace_run.proofs.LineLemmas.{acts-none, found-refused, read-given, read-refused, refused-calls, refused-window}
-use Rattle.trace_run.proofs.RangeLemmas.{shows-range}
+use Rattle.trace_run.proofs.LineLemmas.{acts-none, read-given, read-refused}
 use Rattle.trace_run.proofs.lines.read_line.Goals as goal
 
 owned-last : {X : Type 0} (P : X → Type 0) (xs : List X) (x : X) → AllByRecursion P (xs ++ x ∷ []) → P x
