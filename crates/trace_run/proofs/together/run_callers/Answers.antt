@@ -1,10 +1,12 @@
 -- The callers' work at once, and what the cache that is closed then tells.
-use Rattle.std.proofs.Common.{◌≡◌, ◌<◌, ℕ, List, length, vec_len, Some, sym, ap, ◌∙◌, subst, arith}
+use Rattle.std.proofs.Common.{◌≡◌, ◌<◌, ℕ, List, length, map, vec_len, Some, Vec, sym, ap, ◌∙◌, subst, arith}
 use Rattle.std.specs.Prelude.{slice_get}
+use Rattle.std.specs.declared.alloc.Global.{Global}
 use Rattle.blk_ptr.specs.declared.ptr.Ptr.{Ptr}
 use Rattle.arc_core.specs.Config.{IsConfig}
 use Rattle.arc_core.specs.declared.config.Config.{Config}
 use Rattle.trace_text.specs.declared.op.Op.{Op}
+use Rattle.trace_text.specs.declared.reply.Reply.{Reply}
 use Rattle.trace_run.specs.GroupRun.{HaveStopped}
 use Rattle.trace_run.specs.InOrder.{AreInOrder}
 use Rattle.trace_run.specs.Lines.{caller_of}
@@ -48,5 +50,6 @@ returns-clause-ran g c =
     let last = feeder-opened c.args.arcs whole ps feeder c.requires.opened c.take_feeder-feeder.ensures in
     let worked = worked-as c.args.arcs _ _ _ _ _ _ _ _ _ _ _ c.as_slice-blocks.ensures c.as_slice-ops.ensures count c.in_ok-worked.ensures.worked in
     let valid = subst IsConfig (sym c.requires.config) c.requires.formed.config.ranged in
-    let ordered = subst (λ (os : List Op). AreInOrder os _ c.in_ok-replies.replies.items) c.as_slice-ops.ensures c.in_ok-replies.ensures in
-    ran-group _ c.args.arcs c.args.trace.now c.requires.config valid _ _ _ _ c.in_ok-worked.worked.parties.items _ feeder c.in_ok-push.ensures.items worked last c.in_ok-replies.replies.items ordered c.in_ok-closed.closed c.in_ok-closed.ensures
+    let own : List (List Reply) = map (λ (v : Vec Reply Global). v.items) c.in_ok-worked.worked.replies.items in
+    let ordered = subst (λ (os : List Op). AreInOrder os own c.in_ok-replies.replies.items) c.as_slice-ops.ensures c.in_ok-replies.ensures in
+    ran-group _ c.args.arcs c.args.trace.now c.requires.config valid _ _ _ own c.in_ok-worked.worked.parties.items _ feeder c.in_ok-push.ensures.items worked last c.in_ok-replies.replies.items ordered c.in_ok-closed.closed c.in_ok-closed.ensures
