@@ -14,5 +14,18 @@ loop-caller-init g c =
     record {
       absorbs = λ q absorbs. subst (λ (l : List (Caller g.row.C.Denot g.row.P.Denot)). AbsorbsAll g.P.Pool (map (λ caller. caller.pool) l) c.args.pool.now q) all absorbs;
       may = subst (AllByRecursion (MayGiveBack c.args.arcs.now)) (sym all) c.requires;
-      gave = λ fine replies ps gave. subst (λ (l : List (Caller g.row.C.Denot g.row.P.Denot)). AllGaveBack c.args.arcs.now l replies ps) all gave;
+      gave = λ fine replies ps gave.
+          subst (λ (x : List (Vec Reply Global) × List (Place (Known g.row.C.Denot))). AllGaveBack c.args.arcs.now c.args.callers.items (map (λ v. v.items) x.0 ++ replies) (x.1 ++ ps))
+          (λ h. (sym c.new-2.ensures.items h, sym c.new.ensures.items h))
+          (subst (λ (l : List (Caller g.row.C.Denot g.row.P.Denot)). AllGaveBack c.args.arcs.now l replies ps) all gave);
     }
+
+pub loop-caller-preserved : goal.loop-caller-preserved
+loop-caller-preserved g c = ?
+
+pub returns-clause-gave : goal.returns-clause-gave
+returns-clause-gave g c =
+    let none : c.loop-caller.caller-iterator.rest.items ≡ [] = nothing_left c.loop-caller.caller-iterator.rest.items (let a = c.in-None.ensures.steps.0 in let b = c.loop-caller.caller-iterator.rest.ok in omega arith) in
+    let lists : List (List Reply) = map (λ (v : Vec Reply Global). v.items) c.loop-caller.worked.replies.items in
+    subst (λ (x : List (List Reply) × List (Place (Known g.row.C.Denot))). AllGaveBack c.args.arcs.now c.args.callers.items x.0 x.1) (λ h. (append-nil lists h, append-nil c.loop-caller.worked.parties.items h))
+    (c.loop-caller.invariant.gave c.if-short.false [] [] (subst (λ (l : List (Caller g.row.C.Denot g.row.P.Denot)). AllGaveBack c.args.arcs.now l [] []) (sym none) tt))
