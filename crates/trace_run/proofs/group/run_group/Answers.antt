@@ -1,4 +1,4 @@
-use Rattle.std.proofs.Common.{List, Vec, Global, map, sym, subst}
+use Rattle.std.proofs.Common.{◌≡◌, ℕ, List, Vec, Global, length, map, sym, subst, arith}
 use Rattle.std.specs.List.{AllByRecursion, AllZip}
 use Rattle.std.proofs.lemmas.Result.{IfOk-weaker}
 use Rattle.trace_text.specs.declared.reply.Reply.{Reply}
@@ -21,10 +21,14 @@ pub returns-clause-worked : goal.returns-clause-worked
 returns-clause-worked g c =
     let news : List (Caller g.row.C.Denot g.row.P.Denot) = c.work_all.new.callers in
     let tried = subst (λ (l : List (Caller g.row.C.Denot g.row.P.Denot)). AllZip (HasTried c.args.arcs.now g.P.Pool c.args.blocks.now c.args.ops.now) l news) c.deref_mut.ensures.value c.work_all.ensures in
+    let long : length c.args.parties.items ≡ c.args.parties.len = let o = c.args.parties.ok in omega arith in
     IfOk-weaker c.take_all_back.result
     (λ worked. AllGaveBack c.args.arcs.now news (map (λ (v : Vec Reply Global). v.items) worked.replies.items) worked.parties.items)
     (λ worked. HaveWorked c.args.arcs.now g.P.Pool c.args.blocks.now c.args.ops.now c.args.parties.len c.args.pool.now c.take_all_back.new.pool (map (λ (v : Vec Reply Global). v.items) worked.replies.items) worked.parties.items)
-    (λ worked gave. ?)
+    (λ worked gave.
+    subst (λ (n : ℕ). HaveWorked c.args.arcs.now g.P.Pool c.args.blocks.now c.args.ops.now n c.args.pool.now c.take_all_back.new.pool (map (λ (v : Vec Reply Global). v.items) worked.replies.items) worked.parties.items) long
+    (have-worked c.args.arcs.now g.P.Pool c.args.blocks.now c.args.ops.now c.args.pool.now c.take_all_back.new.pool c.args.parties.items c.args.forks.items c.in_ok-callers.callers.items news
+    (map (λ (v : Vec Reply Global). v.items) worked.replies.items) worked.parties.items c.requires.parties c.requires.forks (let few = c.requires.callers in omega arith) c.requires.few c.in_ok-callers.ensures tried c.take_all_back.ensures.absorbs gave))
     c.take_all_back.ensures.gave
 
 pub returns-clause-pool : goal.returns-clause-pool
