@@ -44,6 +44,7 @@ use Rattle.trace_run.specs.declared.kept_blocks.KeptBlock.{KeptBlock}
 use Rattle.trace_run.specs.declared.access.Access.TheVariants as access
 use Rattle.trace_run.specs.Access.{events_of_answered, events_of_drop, held_key as access_key, source_of}
 use Rattle.trace_run.specs.Acts.{acts_of_drop, acts_of_dropping, acts_of_hold, acts_of_read}
+use Rattle.trace_run.specs.Answering.{KeepsImage, ReadsImage}
 use Rattle.trace_run.specs.Answers.{AnswersDrop, AnswersHold, AnswersRead, IsInside, IsReadRefusal, IsWindowRefusal}
 use Rattle.trace_run.specs.Effects.{Effect, Answered, GivenBack, PoolRefused, NoEffect, calls_of, effect_of}
 use Rattle.trace_run.specs.CallerLines.{DidLine, at}
@@ -51,13 +52,14 @@ use Rattle.trace_run.specs.KeptBlocks.{Drops, GivesBack, IsOwnedBy, held_key}
 use Rattle.trace_run.specs.Lines.{shard_of_line}
 use Rattle.trace_run.specs.OneCaller.{NamesSource, events_of_dropping, events_of_hold, events_of_read, is_of_block, kept_after, kept_after_drop, kept_after_hold, key_held_by, oldest_key, without_oldest}
 use Rattle.trace_run.specs.OverShards.{AreNamed, IsNamed}
-use Rattle.trace_run.specs.Reads.{CallsFor, DidAct, DidActs, DidAnswer, DidRead, IsAlone, IsCauseOf, IsRefused, access_now, now_of}
+use Rattle.trace_run.specs.Reads.{CallsFor, CameFromPool, DidAct, DidActs, DidAnswer, DidRead, IsAlone, IsCauseOf, IsRefused, access_now, now_of}
 use Rattle.trace_run.specs.Seen.{AddsAll, AddsOwn, HasSeenItsOwn, seen_of}
 use Rattle.trace_run.specs.Tally.{kept_of_block}
 use Rattle.trace_run.specs.Told.{IsTold}
 use Rattle.trace_run.proofs.GetLemmas.{all-last}
 use Rattle.trace_run.proofs.MoveLemmas.{Moves, one-moves}
 use Rattle.trace_run.proofs.ReadMoments.{moment}
+use Rattle.trace_run.proofs.RunLemmas.{told-all}
 use Rattle.trace_run.proofs.ToldLemmas.{adds-all-then, adds-own-then, told-more}
 
 module _ {C : Type 0} (g : Config) (device : ℕ) (p q : Place (Known C)) where
@@ -249,19 +251,26 @@ oldest-named blocks x (read ∷ reads) k all is = elim (cases_true (is_of_block 
 
 -- ---- the line of each operation
 
+-- what is so of a block's pointer over a pool that tells its bytes is so by the block's number
+told-here : (told : Option (List ℕ)) (F : List ℕ → Ptr → Type 0) (there : Option Ptr) {ptr : Ptr} → there ≡ Some ptr → IfSome told (λ image. F image ptr) → IfSome told (λ image. IfSome there (F image))
+told-here None F there at had = tt
+told-here (Some image) F there at had = rw at had
+
 module _ {C P : Type 0} (g : Config) (pools : Ghosts P) (device : ℕ) (blocks : List Ptr) (p q : Place (Known C)) (a b : P) where
   pub read-line : (n t x : ℕ) (window : Window) (ptr : Ptr) (kept : List KeptRead) (result : Result Reply NoMemory) → n ≡ p.number → slice_get blocks x ≡ Some ptr
       → IfOk result (AnswersRead (pools.size a) (pools.told a) ptr window)
       → IfOk result (λ reply. DidActs g device (shard_of g.shards ptr.key) (acts_of_read p.number t ptr (effect_of reply)) (events_of_read p.number t (now_of g (shard_of g.shards ptr.key) p) ptr (effect_of reply)) p q)
-      → IfOk result (λ reply. IsAlone device p → NamesSource (access_now g ptr p) (effect_of reply)) → IfOk result (λ reply. MakesCalls pools (calls_of (effect_of reply)) a b) → KeepsPool pools a b
+      → IfOk result (λ reply. IsAlone device p → NamesSource (access_now g ptr p) (effect_of reply)) → IfOk result (λ reply. CameFromPool (effect_of reply) → IfSome (pools.told a) (λ image. ReadsImage image ptr window reply))
+      → IfOk result (λ reply. MakesCalls pools (calls_of (effect_of reply)) a b) → KeepsPool pools a b
       → IfOk result (λ reply. DidLine g pools device blocks (ops.Read n t x window) reply (at p kept a) (at q kept b))
-  read-line n t x window ptr kept (Err e) his there answer did found calls keeps = tt
-  read-line n t x window ptr kept (Ok reply) his there answer did found calls keeps =
+  read-line n t x window ptr kept (Err e) his there answer did found range calls keeps = tt
+  read-line n t x window ptr kept (Ok reply) his there answer did found range calls keeps =
       subst (λ (m : ℕ). DidLine g pools device blocks (ops.Read m t x window) reply (at p kept a) (at q kept b)) (sym his) (record {
         answer = (ptr, there, answer);
         kept = refl;
         did = rw there did;
         found = λ alone. rw there (found alone);
+        range = λ came. told-here (pools.told a) (λ image ptr. ReadsImage image ptr window reply) (slice_get blocks x) there (range came);
         calls = calls;
         keeps = keeps;
       })
@@ -269,15 +278,17 @@ module _ {C P : Type 0} (g : Config) (pools : Ghosts P) (device : ℕ) (blocks :
   pub hold-line : (n t x : ℕ) (ptr : Ptr) (kept now : List KeptRead) (result : Result Reply NoMemory) → n ≡ p.number → slice_get blocks x ≡ Some ptr
       → IfOk result (AnswersHold (pools.size a) (pools.told a) ptr) → IfOk result (λ reply. now ≡ kept_after_hold x ptr (effect_of reply) kept)
       → IfOk result (λ reply. DidActs g device (shard_of g.shards ptr.key) (acts_of_hold p.number t ptr (effect_of reply)) (events_of_hold p.number t (now_of g (shard_of g.shards ptr.key) p) ptr (effect_of reply)) p q)
-      → IfOk result (λ reply. IsAlone device p → NamesSource (access_now g ptr p) (effect_of reply)) → IfOk result (λ reply. MakesCalls pools (calls_of (effect_of reply)) a b) → KeepsPool pools a b
+      → IfOk result (λ reply. IsAlone device p → NamesSource (access_now g ptr p) (effect_of reply)) → IfOk result (λ reply. CameFromPool (effect_of reply) → IfSome (pools.told a) (λ image. KeepsImage image ptr reply))
+      → IfOk result (λ reply. MakesCalls pools (calls_of (effect_of reply)) a b) → KeepsPool pools a b
       → IfOk result (λ reply. DidLine g pools device blocks (ops.Hold n t x) reply (at p kept a) (at q now b))
-  hold-line n t x ptr kept now (Err e) his there answer is did found calls keeps = tt
-  hold-line n t x ptr kept now (Ok reply) his there answer is did found calls keeps =
+  hold-line n t x ptr kept now (Err e) his there answer is did found range calls keeps = tt
+  hold-line n t x ptr kept now (Ok reply) his there answer is did found range calls keeps =
       subst (λ (m : ℕ). DidLine g pools device blocks (ops.Hold m t x) reply (at p kept a) (at q now b)) (sym his) (record {
         answer = (ptr, there, answer);
         kept = rw there is;
         did = rw there did;
         found = λ alone. rw there (found alone);
+        range = λ came. told-here (pools.told a) (λ image ptr. KeepsImage image ptr reply) (slice_get blocks x) there (range came);
         calls = calls;
         keeps = keeps;
       })
@@ -314,6 +325,7 @@ module _ {C P : Type 0} (g : Config) (pools : Ghosts P) (device : ℕ) (blocks :
         kept = is;
         did = drop-acts p.number x (kept_of_block x kept) 0 kept reply named answer drops none;
         found = λ alone. tt;
+        range = λ came. told-all (pools.told a) (λ image. Unit {0}) (λ image. tt);
         calls = subst (λ (cs : List PoolCall). MakesCalls pools cs a a) (sym calls) refl;
         keeps = record { size = refl; told = refl; faults = omega arith };
       })

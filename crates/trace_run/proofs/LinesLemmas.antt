@@ -206,5 +206,5 @@ module _ {C P : Type 0} (g : Config) (pools : Ghosts P) (device : ℕ) (blocks :
         (record { each = λ x. ap (λ (ks : List KeptRead). kept_of_block x ks + 0) none }) (λ k op reply at there. nothing-there k reply there) did;
   }
     where
-      nothing-there : {X : Type 0} (k : ℕ) (reply : Reply) → slice_get {A = Reply} [] k ≡ Some reply → X
+      nothing-there : {X : Type 0} (k : ℕ) (reply : Reply) → slice_get {X = Reply} [] k ≡ Some reply → X
       nothing-there k reply there = cc

@@ -3,7 +3,7 @@ ghost use Rattle.std.specs.Prelude.{◌≡◌, ◌≢◌, ◌<◌, ◌^◌, [], 
 ghost use Rattle.blk_ptr.specs.Hash.{shard_of};
 ghost use Rattle.arc_table.specs.PoolCalls.{KeepsPool, MakesCalls};
 ghost use Rattle.trace_run.specs.Acts.{acts_of_dropping, acts_of_hold, acts_of_read};
-ghost use Rattle.trace_run.specs.Answering.{ReadsImage};
+ghost use Rattle.trace_run.specs.Answering.{KeepsImage, ReadsImage};
 ghost use Rattle.trace_run.specs.Answers.{AnswersDrop, AnswersHold, AnswersRead, IsInside, window_of};
 ghost use Rattle.trace_run.specs.CallerLines.{DidLine, DidLines, at};
 ghost use Rattle.trace_run.specs.Effects.{calls_of, effect_of};
@@ -69,6 +69,7 @@ fn hold_line<C: Keeps, P: Pool, D: CacheDev>(
         (events_of_hold party.old.number t (now_of arcs.now.config (shard_of arcs.now.config.shards ptr.now.key) party.old) ptr.now (effect_of reply))
         party.old party.new) }
     ensures found { IfOk result (λ reply. IsAlone (D.size device.old) party.old → NamesSource (access_now arcs.now.config ptr.now party.old) (effect_of reply)) }
+    ensures range { IfOk result (λ reply. CameFromPool (effect_of reply) → IfSome (P.told pool.old) (λ image. KeepsImage image ptr.now reply)) }
     ensures calls { IfOk result (λ reply. MakesCalls P.Pool (calls_of (effect_of reply)) pool.old pool.new) }
     ensures pool { KeepsPool P.Pool pool.old pool.new }
     ensures device { D.size device.new ≡ D.size device.old }
