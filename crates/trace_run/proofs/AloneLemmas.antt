@@ -5,15 +5,13 @@ use Rattle.std.specs.List.{AllByRecursion, range_with_len}
 use Rattle.std.proofs.lemmas.Bool.{eqb-true}
 use Rattle.std.proofs.lemmas.List.{length-map}
 use Rattle.std.proofs.lemmas.List.Sums.{sum_by-cons}
-use Rattle.std.proofs.lemmas.Nat.{mod_below}
 use mathlib.Core.Logic.{dite}
 use mathlib.Core.Option.{some, some-injective, some-ne-none}
 use native.Mathlib.Decide.{ℕ_discrete}
 use lib.ListN.{get_elem?}
 use Rattle.arc_lists.proofs.Tables.{cases_true}
-use Rattle.blk_ptr.specs.declared.key.Key.{Key}
 use Rattle.blk_ptr.specs.declared.ptr.Ptr.{Ptr}
-use Rattle.blk_ptr.specs.Hash.{hash_of_key, shard_of}
+use Rattle.blk_ptr.specs.Hash.{shard_of}
 use Rattle.vdev_io.specs.declared.pool.Pool.{Ghosts}
 use Rattle.arc_core.specs.declared.config.Config.{Config}
 use Rattle.arc_core.specs.declared.event.Event.{Event}
@@ -49,11 +47,11 @@ use Rattle.trace_run.specs.OverShards.{AllLinesOver, AreNamed, events_over, kept
 use Rattle.trace_run.specs.PlainRun.{shards_after}
 use Rattle.trace_run.specs.Reads.{IsAlone, now_of}
 use Rattle.trace_run.specs.Seen.{HasAll, seen_of}
-use Rattle.trace_run.specs.Tally.{IsOfCaller}
+use Rattle.trace_run.specs.Tally.{AreAnswered, IsOfCaller}
 use Rattle.trace_run.specs.Told.{IsTold}
 use Rattle.trace_run.proofs.CallerActLemmas.{callers-none}
-use Rattle.trace_run.proofs.CountLemmas.{caller-count, reads-counted, reads_by, reads_of_act}
 use Rattle.trace_run.proofs.GiveLemmas.{all-alone, all-number, all-told}
+use Rattle.trace_run.proofs.GroupCounts.{caller-reads, reads_by}
 use Rattle.trace_run.proofs.GroupLemmas.{lines-answers, lines-number}
 use Rattle.trace_run.proofs.HistoryLemmas.{IsReadEvent, read-number}
 use Rattle.trace_run.proofs.LinesLemmas.{lines-all, lines-answered, lines-calls, lines-found, lines-kept, lines-length, lines-named, lines-seen, lines-told}
@@ -63,7 +61,7 @@ use Rattle.trace_run.proofs.OverShardLemmas.{events-here, kept-else, kept-here, 
 use Rattle.trace_run.proofs.OwnLemmas.{no-own-moments}
 use Rattle.trace_run.proofs.ReportLemmas.{all-own, of-caller, one-acts, one-caller, possible-at}
 use Rattle.trace_run.proofs.RestAlone.{all-there, alone-history, alone-legal, alone-now, alone-rests, alone-told}
-use Rattle.trace_run.proofs.TellLemmas.{IsActOf, IsMine, IsReadAct, acts-caller, all-map, filter-all, mine-events, no-passes}
+use Rattle.trace_run.proofs.TellLemmas.{IsMine, all-map, filter-all, mine-events, no-passes}
 
 -- ---- lists by their places
 
@@ -204,9 +202,11 @@ module _ {C P : Type 0} (m : Meanings C) (cache : Cache) (pools : Ghosts P) (blo
   all-his : AllByRecursion (λ op. caller_of op ≡ 0) os
   all-his = all-own 0 os own
 
+  his-are : filter (is_of_caller 0) os ≡ os
+  his-are = filter-all (is_of_caller 0) os (of-caller os all-his)
+
   did : DidLines cache.config pools 0 blocks os replies a b
-  did = subst (λ (l : List Op). DidLines cache.config pools 0 blocks l replies a b)
-      (ap (λ (n : ℕ). filter (is_of_caller n) os) first.number ∙ filter-all (is_of_caller 0) os (of-caller os all-his)) worked
+  did = subst (λ (l : List Op). DidLines cache.config pools 0 blocks l replies a b) (ap (λ (n : ℕ). filter (is_of_caller n) os) first.number ∙ his-are) worked
 
   same-count : length replies ≡ length os
   same-count = lines-length g pools 0 blocks os replies a b did
@@ -327,22 +327,16 @@ module _ {C P : Type 0} (m : Meanings C) (cache : Cache) (pools : Ghosts P) (blo
 
     -- ---- the reads of the pool
 
-    own-acts : AllByRecursion (IsActOf 0) (acts_of_caller blocks 0 os replies)
-    own-acts = acts-caller blocks 0 os replies all-his
-
     counted-all : length (calls_of_all replies) ≡ sum_by pool_reads (histories_of closed)
     counted-all =
-        let f : Key → ℕ = shard_of g.shards in
-        let his : List Act = acts_of_caller blocks 0 os replies in
-        let sums : sum_by (reads_by 0) (histories_of closed) ≡ sum_by reads_of_act his = reads-counted f 0 g.shards opening his (histories_of closed)
-        (λ k. mod_below (hash_of_key k) g.shards (let some_of = last.valid.counts.shards.0 in omega arith))
-        (length-map closed.shards (λ (log : ShardLog). log.history) ∙ ends.shards) own-acts
+        caller-reads g (pools.size before) (pools.told before) blocks 0 os replies (histories_of closed) last.valid
+        (length-map closed.shards (λ (log : ShardLog). log.history) ∙ ends.shards)
+        (subst (λ (l : List Op). AreAnswered (pools.size before) (pools.told before) blocks [] l replies) (sym his-are) (lines-answers g pools 0 blocks os replies a b did))
         (λ i h is.
         let l = unmapped (λ (log : ShardLog). log.history) closed.shards i h is in
-        subst (λ (x : ℕ × List Event). Tell (acts_in f i x.0 his) (own_moments x.0 (moments opening x.1))) (λ z. (number-r z, l.2 z)) (alone-told m cache r closed ends parties-r last dropped.all i l.0 l.1 his told-all))
-        (λ i. all-map (IsActOf 0) IsReadAct (acts_in f i 0 his) (λ act is. is.1) (all-filtered (IsActOf 0) _ his own-acts)) in
-        sym (caller-count (pools.size before) (pools.told before) blocks 0 os replies (lines-answers g pools 0 blocks os replies a b did))
-        ∙ (sym sums ∙ same-sums (reads_by 0) pool_reads closed.shards (λ i l at_l. mine-reads 0 l.history (mine i l at_l)))
+        subst (λ (x : ℕ × List Op × List Event). Tell (acts_in (shard_of g.shards) i x.0 (acts_of_caller blocks 0 x.1 replies)) (own_moments x.0 (moments opening x.2))) (λ z. (number-r z, sym his-are z, l.2 z))
+        (alone-told m cache r closed ends parties-r last dropped.all i l.0 l.1 (acts_of_caller blocks 0 os replies) told-all))
+        ∙ same-sums (reads_by 0) pool_reads closed.shards (λ i l at_l. mine-reads 0 l.history (mine i l at_l))
 
     -- ---- all of it
 

@@ -104,10 +104,10 @@ opened-at cache ps opened n p inside is =
 -- the first and the second of two parties, where the second was taken out first
 pub two-opened : {C : Type 0} (cache : Cache) (ps rest : List (Place (Known C))) (p q : Place (Known C)) → cache.config.callers ≡ 1 → AreOpened cache ps → q ≡ get_or ps 1 q → rest ≡ remove ps 1 → p ≡ get_or rest 0 p
     → IsOpened cache 0 p × IsOpened cache 1 q
-two-opened cache ps rest p q one opened second left first =
+two-opened {C} cache ps rest p q one opened second left first =
     let count = opened.count in
     let long : 1 < length ps = omega arith in
-    (opened-at cache ps opened 0 p (omega arith) (first ∙ (ap (λ (l : List (Place _)). get_or l 0 p) left ∙ front-stays ps p long)), opened-at cache ps opened 1 q long second)
+    (opened-at cache ps opened 0 p (omega arith) (first ∙ (ap (λ (l : List (Place (Known C))). get_or l 0 p) left ∙ front-stays ps p long)), opened-at cache ps opened 1 q long second)
 
 -- ---- one party joins another before anything was done
 
