@@ -175,6 +175,12 @@ module _ {C P D : Type 0} (m : Meanings C) (pools : PoolGhosts P) (devices : Dev
   pool-did before now p q result (refused why is first same none) = subst (PoolDid pools ptr before.pool now.pool) (sym is) (ap (λ (x : Outside P D). x.pool) none, first)
   pool-did before now p q result (answered ok times r waits answer) = answer-did before now r q result ok answer
 
+  -- a read is answered only where the key is accepted
+  pub ok-valid : (before now : Outside P D) (p q : Place (Known C)) (result : Result Read ReadFault) (got : Read) → result ≡ Ok got → AnswersRead m pools devices g ptr t before now p q result
+      → IsValid (pools.size before.pool) ptr.key
+  ok-valid before now p q result got is (refused why no first same none) = let never : ◌≡◌ {A = Result Read ReadFault} (Ok got) (Err (fault.Key why)) = sym is ∙ no in cc
+  ok-valid before now p q result got is (answered ok times r waits answer) = ok
+
 -- ---- the call
 
 module _ {C P D : Type 0} (m : Meanings C) (cache : Cache) (pools : PoolGhosts P) (devices : DeviceGhosts D) (ptr : Ptr) (t block : ℕ) (before now : Outside P D) (p q : Place (Known C)) (kept : List KeptBlock)

@@ -10,6 +10,7 @@ pub mod GenLemmas
 pub mod GetLemmas
 pub mod GiveLemmas
 pub mod HoldLemmas
+pub mod InOrderLemmas
 pub mod KeptBlockLemmas
 pub mod LineLemmas
 pub mod LinesLemmas
@@ -21,6 +22,7 @@ pub mod OverShardLemmas
 pub mod OwnLemmas
 pub mod PlacedLemmas
 pub mod PlainLemmas
+pub mod RangeLemmas
 pub mod ReadLemmas
 pub mod ReadMoments
 pub mod ReadStands
@@ -33,5 +35,6 @@ pub mod SeenLemmas
 pub mod ServeLemmas
 pub mod StreamLemmas
 pub mod TellLemmas
+pub mod TogetherLemmas
 pub mod ToldLemmas
 pub mod WordLemmas

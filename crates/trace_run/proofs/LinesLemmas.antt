@@ -1,7 +1,7 @@
 -- A caller's lines over the shared cache: what all of them told, did and answered, one after another.
-use Rattle.std.proofs.Common.{◌≡◌, ◌≢◌, ℕ, zero, suc, ◌+◌, ◌<◌, ◌==◌, Bool, true, false, if◌then◌else◌, List, [], ◌∷◌, ◌++◌, length, take, map, Option, Some, None, refl, sym, ap, ◌∙◌, subst, inl, inr, arith, add-one, append_assoc, append-nil, eq-eqb, ne_eqb, length-append}
-use Rattle.std.specs.Prelude.{slice_get}
-use Rattle.std.specs.List.{AllByRecursion}
+use Rattle.std.proofs.Common.{◌≡◌, ◌≢◌, ℕ, zero, suc, ◌+◌, ◌<◌, ◌==◌, Bool, true, false, cond, if◌then◌else◌, List, [], ◌∷◌, ◌++◌, length, take, map, Option, Some, None, refl, sym, ap, ◌∙◌, subst, inl, inr, arith, add-one, append_assoc, append-nil, eq-eqb, ne_eqb, length-append}
+use Rattle.std.specs.Prelude.{filter, slice_get}
+use Rattle.std.proofs.lemmas.List.Elements.{filter-append}
 use mathlib.Core.Logic.{dite}
 use native.Mathlib.Decide.{ℕ_discrete}
 use Rattle.blk_ptr.specs.declared.ptr.Ptr.{Ptr}
@@ -23,24 +23,45 @@ use Rattle.trace_run.specs.Answers.{AnswersAll}
 use Rattle.trace_run.specs.CallerLines.{At, DidLine, DidLines}
 use Rattle.trace_run.specs.Effects.{calls_of, calls_of_all, effect_of}
 use Rattle.trace_run.specs.Ends.{opening_of}
-use Rattle.trace_run.specs.Lines.{caller_of, shard_of_line}
+use Rattle.trace_run.specs.Lines.{caller_of, is_of_caller, shard_of_line}
 use Rattle.trace_run.specs.OneCaller.{IsFoundAs, events_of, kept_after, kept_after_all}
-use Rattle.trace_run.specs.OverShards.{AllLinesOver, events_over}
+use Rattle.trace_run.specs.OverShards.{AllLinesOver, AreNamed, events_over}
 use Rattle.trace_run.specs.PlainRun.{shards_after}
 use Rattle.trace_run.specs.Reads.{IsAlone, now_of}
 use Rattle.trace_run.specs.Seen.{HasAll, seen_of}
 use Rattle.trace_run.specs.Tally.{AnswersNow, IsTally, kept_of_block}
 use Rattle.trace_run.specs.Told.{IsTold}
-use Rattle.trace_run.proofs.AnswerLemmas.{EachAnswers, more_answers, more_tally, to_answer}
+use Rattle.trace_run.proofs.AnswerLemmas.{EachAnswers, more_answers, more_tally, take_one, to_answer}
+use Rattle.trace_run.proofs.LineLemmas.{named-after}
 use Rattle.trace_run.proofs.RunLemmas.{calls-then}
 
+-- ---- which operations are a caller's
+
+-- one operation more, of this caller or of another
+pub his-more : (n : ℕ) (ops : List Op) (i : ℕ) (op : Op) → slice_get ops i ≡ Some op → caller_of op ≡ n → filter (is_of_caller n) (take (i + 1) ops) ≡ filter (is_of_caller n) (take i ops) ++ op ∷ []
+his-more n ops i op at his =
+    ap (filter (is_of_caller n)) (take_one ops i op at)
+    ∙ (filter-append (is_of_caller n) (take i ops) (op ∷ []) ∙ ap (λ (b : Bool). filter (is_of_caller n) (take i ops) ++ cond b (op ∷ []) []) (eq-eqb (caller_of op) n his))
+
+pub others-more : (n : ℕ) (ops : List Op) (i : ℕ) (op : Op) → slice_get ops i ≡ Some op → caller_of op ≢ n → filter (is_of_caller n) (take (i + 1) ops) ≡ filter (is_of_caller n) (take i ops)
+others-more n ops i op at other =
+    ap (filter (is_of_caller n)) (take_one ops i op at)
+    ∙ (filter-append (is_of_caller n) (take i ops) (op ∷ [])
+    ∙ (ap (λ (b : Bool). filter (is_of_caller n) (take i ops) ++ cond b (op ∷ []) []) (ne_eqb (caller_of op) n other) ∙ append-nil (filter (is_of_caller n) (take i ops))))
+
+-- ---- lines one after another
+
 module _ {C P : Type 0} (g : Config) (pools : Ghosts P) (device : ℕ) (blocks : List Ptr) where
-  -- one line more
+  -- lines, and then others
   pub lines-then : (os qs : List Op) (rs ss : List Reply) (a b c : At C P) → DidLines g pools device blocks os rs a b → DidLines g pools device blocks qs ss b c → DidLines g pools device blocks (os ++ qs) (rs ++ ss) a c
   lines-then [] qs [] ss a b c first second = subst (λ (x : At C P). DidLines g pools device blocks qs ss x c) first second
   lines-then [] qs (r ∷ rs) ss a b c first second = absurd first
   lines-then (o ∷ os) qs [] ss a b c first second = absurd first
   lines-then (o ∷ os) qs (r ∷ rs) ss a b c first second = (first.0, first.1, lines-then os qs rs ss first.0 b c first.2 second)
+
+  -- one line more
+  pub lines-more : (os : List Op) (rs : List Reply) (o : Op) (r : Reply) (a b c : At C P) → DidLines g pools device blocks os rs a b → DidLine g pools device blocks o r b c → DidLines g pools device blocks (os ++ o ∷ []) (rs ++ r ∷ []) a c
+  lines-more os rs o r a b c did one = lines-then os (o ∷ []) rs (r ∷ []) a b c did (c, one, refl)
 
   pub lines-length : (os : List Op) (rs : List Reply) (a b : At C P) → DidLines g pools device blocks os rs a b → length rs ≡ length os
   lines-length [] [] a b did = refl
@@ -66,6 +87,16 @@ module _ {C P : Type 0} (g : Config) (pools : Ghosts P) (device : ℕ) (blocks :
   lines-kept [] (r ∷ rs) a b did = absurd did
   lines-kept (o ∷ os) [] a b did = absurd did
   lines-kept (o ∷ os) (r ∷ rs) a b did = lines-kept os rs did.0 b did.2 ∙ ap (λ (ks : List KeptRead). kept_after_all blocks ks os rs) did.1.kept
+
+  -- each still holds the entry of its own block
+  pub line-named : (o : Op) (r : Reply) (a b : At C P) → AreNamed blocks a.kept → DidLine g pools device blocks o r a b → AreNamed blocks b.kept
+  line-named o r a b named did = subst (AreNamed blocks) (sym did.kept) (named-after blocks o r a.kept named)
+
+  pub lines-named : (os : List Op) (rs : List Reply) (a b : At C P) → AreNamed blocks a.kept → DidLines g pools device blocks os rs a b → AreNamed blocks b.kept
+  lines-named [] [] a b named did = subst (λ (x : At C P). AreNamed blocks x.kept) (sym did) named
+  lines-named [] (r ∷ rs) a b named did = absurd did
+  lines-named (o ∷ os) [] a b named did = absurd did
+  lines-named (o ∷ os) (r ∷ rs) a b named did = lines-named os rs did.0 b (line-named o r a did.0 named did.1) did.2
 
   -- the pool was read once for each reply that says so, in their order
   pub lines-calls : (os : List Op) (rs : List Reply) (a b : At C P) → DidLines g pools device blocks os rs a b → MakesCalls pools (calls_of_all rs) a.pool b.pool
@@ -175,5 +206,5 @@ module _ {C P : Type 0} (g : Config) (pools : Ghosts P) (device : ℕ) (blocks :
         (record { each = λ x. ap (λ (ks : List KeptRead). kept_of_block x ks + 0) none }) (λ k op reply at there. nothing-there k reply there) did;
   }
     where
-      nothing-there : {X : Type 0} (k : ℕ) (reply : Reply) → slice_get {A = Reply} [] k ≡ Some reply → X
+      nothing-there : {X : Type 0} (k : ℕ) (reply : Reply) → slice_get {X = Reply} [] k ≡ Some reply → X
       nothing-there k reply there = cc

@@ -9,6 +9,7 @@ pub mod Effects
 pub mod Ends
 pub mod Explaining
 pub mod Group
+pub mod InOrder
 pub mod KeptBlocks
 pub mod Lines
 pub mod OneCaller

@@ -1,14 +1,16 @@
 //! One caller's lines over the shared cache.
-ghost use Rattle.std.specs.Prelude.{◌≡◌, ◌≢◌, ◌<◌, ◌^◌, [], IfOk, List, None, OnErr, filter, length, map};
+ghost use Rattle.std.specs.Prelude.{◌≡◌, ◌≢◌, ◌<◌, ◌^◌, [], IfOk, IfSome, List, None, OnErr, filter, length, map};
 ghost use Rattle.blk_ptr.specs.Hash.{shard_of};
 ghost use Rattle.arc_table.specs.PoolCalls.{KeepsPool, MakesCalls};
 ghost use Rattle.trace_run.specs.Acts.{acts_of_dropping, acts_of_hold, acts_of_read};
+ghost use Rattle.trace_run.specs.Answering.{KeepsImage, ReadsImage};
 ghost use Rattle.trace_run.specs.Answers.{AnswersDrop, AnswersHold, AnswersRead, IsInside, window_of};
 ghost use Rattle.trace_run.specs.CallerLines.{DidLine, DidLines, at};
 ghost use Rattle.trace_run.specs.Effects.{calls_of, effect_of};
 ghost use Rattle.trace_run.specs.KeptBlocks.{Drops, Stands, read_of};
 ghost use Rattle.trace_run.specs.OneCaller.{NamesSource, events_of_hold, events_of_read, kept_after_drop, kept_after_hold, oldest_key};
-ghost use Rattle.trace_run.specs.Reads.{DidActs, IsAlone, IsRefused, access_now, now_of};
+ghost use Rattle.trace_run.specs.OverShards.{AreNamed};
+ghost use Rattle.trace_run.specs.Reads.{CameFromPool, DidActs, IsAlone, IsRefused, access_now, now_of};
 ghost use Rattle.trace_run.specs.Lines.{caller_of, is_of_caller};
 ghost use Rattle.trace_run.specs.Tally.{AreDeclared, kept_of_block};
 ghost use Rattle.trace_text.specs.Grammar.{block_of};
@@ -67,6 +69,7 @@ fn hold_line<C: Keeps, P: Pool, D: CacheDev>(
         (events_of_hold party.old.number t (now_of arcs.now.config (shard_of arcs.now.config.shards ptr.now.key) party.old) ptr.now (effect_of reply))
         party.old party.new) }
     ensures found { IfOk result (λ reply. IsAlone (D.size device.old) party.old → NamesSource (access_now arcs.now.config ptr.now party.old) (effect_of reply)) }
+    ensures range { IfOk result (λ reply. CameFromPool (effect_of reply) → IfSome (P.told pool.old) (λ image. KeepsImage image ptr.now reply)) }
     ensures calls { IfOk result (λ reply. MakesCalls P.Pool (calls_of (effect_of reply)) pool.old pool.new) }
     ensures pool { KeepsPool P.Pool pool.old pool.new }
     ensures device { D.size device.new ≡ D.size device.old }
@@ -100,6 +103,7 @@ fn read_line<C: Keeps, P: Pool, D: CacheDev>(
         (events_of_read party.old.number t (now_of arcs.now.config (shard_of arcs.now.config.shards ptr.now.key) party.old) ptr.now (effect_of reply))
         party.old party.new) }
     ensures found { IfOk result (λ reply. IsAlone (D.size device.old) party.old → NamesSource (access_now arcs.now.config ptr.now party.old) (effect_of reply)) }
+    ensures range { IfOk result (λ reply. CameFromPool (effect_of reply) → IfSome (P.told pool.old) (λ image. ReadsImage image ptr.now window reply)) }
     ensures calls { IfOk result (λ reply. MakesCalls P.Pool (calls_of (effect_of reply)) pool.old pool.new) }
     ensures pool { KeepsPool P.Pool pool.old pool.new }
     ensures device { D.size device.new ≡ D.size device.old }
@@ -161,6 +165,7 @@ fn line<C: Keeps, P: Pool, D: CacheDev>(
     requires stands { Stands arcs.now party.old kept.old.items }
     requires own { caller_of op ≡ party.old.number }
     requires declared { block_of op < length blocks.now }
+    requires named { AreNamed blocks.now (map read_of kept.old.items) }
     ensures stands { IfOk result (λ reply. Stands arcs.now party.new kept.new.items) }
     ensures did { IfOk result (λ reply. DidLine arcs.now.config P.Pool (D.size device.old) blocks.now op reply
         (at party.old (map read_of kept.old.items) pool.old) (at party.new (map read_of kept.new.items) pool.new)) }
@@ -189,7 +194,7 @@ fn line<C: Keeps, P: Pool, D: CacheDev>(
 }
 
 /// The caller of an operation.
-fn caller_of(op: Op) -> u32
+pub(crate) fn caller_of(op: Op) -> u32
     ensures { result ≡ caller_of op }
 {
     match op {
@@ -212,6 +217,7 @@ pub(crate) fn all_lines<C: Keeps, P: Pool, D: CacheDev, G: Gate>(
 ) -> Result<Vec<Reply>, NoMemory>
     requires stands { Stands arcs.now party.old kept.old.items }
     requires declared { AreDeclared (length blocks.now) ops.now }
+    requires named { AreNamed blocks.now (map read_of kept.old.items) }
     requires few { length ops.now < 2 ^ 32 }
     ensures stands { IfOk result (λ replies. Stands arcs.now party.new kept.new.items) }
     ensures did { IfOk result (λ replies. DidLines arcs.now.config P.Pool (D.size device.old) blocks.now (filter (is_of_caller party.old.number) ops.now) replies.items
