@@ -1,3 +1,4 @@
+pub mod AbsorbLemmas
 pub mod AccessLemmas
 pub mod AnswerLemmas
 pub mod BlockLemmas
@@ -9,6 +10,8 @@ pub mod EachLemmas
 pub mod GenLemmas
 pub mod GetLemmas
 pub mod GiveLemmas
+pub mod GroupCounts
+pub mod GroupLemmas
 pub mod HoldLemmas
 pub mod InOrderLemmas
 pub mod KeptBlockLemmas

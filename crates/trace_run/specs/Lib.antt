@@ -5,6 +5,7 @@ pub mod Answers
 pub mod Blocks
 pub mod CallerCache
 pub mod CallerLines
+pub mod Callers
 pub mod Effects
 pub mod Ends
 pub mod Explaining

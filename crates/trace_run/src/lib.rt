@@ -6,6 +6,7 @@ mod answer;
 mod block_map;
 mod caller_cache;
 mod get;
+mod group;
 mod in_order;
 mod kept_blocks;
 mod lines;
