@@ -59,6 +59,13 @@ module _ {P : Type 0} (pools : Ghosts P) where
       let one : pools.faults did.0 ≡ pools.faults old + pools.faults fork = omega (arith, did.1.faults, sum, room) in
       omega (arith, sum, one, absorbed-faults forks did.0 new did.2 (omega (arith, sum, one, room)))
 
+  -- whatever room there was, the count of faults is their sum, as far as a count goes
+  pub absorbed-most : (forks : List P) (old new : P) → AbsorbsAll pools forks old new → min (pools.faults old + sum_by pools.faults forks) last_count ≤ pools.faults new
+  absorbed-most [] old new is = let same : pools.faults new ≡ pools.faults old = ap (λ (p : P). pools.faults p) is in let none : sum_by pools.faults [] ≡ 0 = refl in omega arith
+  absorbed-most (fork ∷ forks) old new did =
+      let sum : sum_by pools.faults (fork ∷ forks) ≡ pools.faults fork + sum_by pools.faults forks = sum_by-cons pools.faults fork forks in
+      omega (arith, sum, did.1.faults, absorbed-most forks did.0 new did.2)
+
   -- forks that counted nothing
   pub fresh-reads : (pool : P) (forks : List P) → AllByRecursion (IsFork pools pool) forks → sum_by pools.reads forks ≡ 0
   fresh-reads pool [] all = refl

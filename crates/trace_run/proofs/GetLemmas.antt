@@ -18,7 +18,8 @@ use Rattle.arc_core.specs.declared.served.Served.{Served}
 use Rattle.arc_core.specs.declared.served.Served.TheVariants as served
 use Rattle.arc_core.specs.declared.shard.EntryView.{EntryView}
 use Rattle.dbuf_cells.specs.declared.kept.Kept.TheVariants.{Held}
-use Rattle.turn_table.specs.Places.{Place}
+use Rattle.turn_table.specs.declared.standing.Kept.{Kept as Joined}
+use Rattle.turn_table.specs.Places.{Apart, Place}
 use Rattle.arc_table.specs.declared.hold.Hold.{Hold}
 use Rattle.arc_table.specs.declared.read.Read.{Read}
 use Rattle.arc_table.specs.declared.read.Read.TheVariants as gave
@@ -31,7 +32,7 @@ use Rattle.arc_table.specs.Reading.{Answers, AnswersRead, EndsAtPool, EndsMiss, 
 use Rattle.arc_table.proofs.AfterRead.{read_stays}
 use Rattle.arc_table.proofs.Afterwards.{Stays, stays_party}
 use Rattle.trace_run.specs.declared.kept_blocks.KeptBlock.{KeptBlock}
-use Rattle.trace_run.specs.KeptBlocks.{IsOwnedBy, Stands, listed_all, listed_for, times}
+use Rattle.trace_run.specs.KeptBlocks.{AllIdle, IsOwnedBy, Stands, listed_all, listed_for, times}
 use Rattle.trace_run.specs.Read.{IsMismatch}
 use Rattle.trace_run.specs.PlainCache.{kept_read}
 use Rattle.trace_run.specs.Reads.{DidAnswer, DidFail, DidRead, IsGot}
@@ -59,6 +60,8 @@ module _ {C : Type 0} (cache : Cache) (p q : Place (Known C)) (kept : List KeptB
     free = stays.held ∙ stands.free;
     idle = lists.readings ∙ stands.idle;
     seen = seen;
+    apart = subst (λ (x : ℕ × List (Joined (Known C))). Apart x.0 x.1) (λ i. (sym stays.number i, sym stays.joined i)) stands.apart;
+    joined = subst AllIdle (sym stays.joined) stands.joined;
     owned = subst (λ (n : ℕ). AllByRecursion (λ b. IsOwnedBy n b.kept) kept) (sym stays.number) stands.owned;
     listed = λ x. ap (times x) lists.holds ∙ stands.listed x;
   }
@@ -70,6 +73,8 @@ module _ {C : Type 0} (cache : Cache) (p q : Place (Known C)) (kept : List KeptB
     free = stays.held ∙ stands.free;
     idle = lists.readings ∙ stands.idle;
     seen = seen;
+    apart = subst (λ (x : ℕ × List (Joined (Known C))). Apart x.0 x.1) (λ i. (sym stays.number i, sym stays.joined i)) stands.apart;
+    joined = subst AllIdle (sym stays.joined) stands.joined;
     owned = subst (λ (n : ℕ). AllByRecursion (λ b. IsOwnedBy n b.kept) (kept ++ b ∷ [])) (sym stays.number) (all-last (λ b. IsOwnedBy p.number b.kept) kept b stands.owned owned);
     listed = λ x.
         ap (times x) lists.holds

@@ -70,7 +70,9 @@ module _ {C : Type 0} (m : Meanings C) (cache : Cache) where
 
   pub all-number : (kept : List KeptBlock) (p q : Place (Known C)) → Stands cache p kept → GivesAll m g kept p q → q.number ≡ p.number
   all-number [] p q stands is = ap (λ (x : Place (Known C)). x.number) is
-  all-number (b ∷ bs) p q stands gives = let one = step b bs p gives.0 stands gives.1 in all-number bs gives.0 q one.0 gives.2 ∙ drop-number g p gives.0 (held_key b.kept) one.1
+  all-number (b ∷ bs) p q stands gives =
+      let one = step b bs p gives.0 stands gives.1 in
+      all-number bs gives.0 q one.0 gives.2 ∙ drop-number g p gives.0 (held_key b.kept) one.1
 
   pub all-told : (kept : List KeptBlock) (p q : Place (Known C)) → Stands cache p kept → GivesAll m g kept p q → (before : List Act) → IsTold g before p → IsTold g (before ++ acts_of_drops p.number (map read_of kept)) q
   all-told [] p q stands is before told = subst (λ (x : List Act × Place (Known C)). IsTold g x.0 x.1) (λ h. (sym (append-nil before) h, sym is h)) told

@@ -102,10 +102,10 @@ tell-reads (act ∷ acts) ms line told =
 
 -- ---- the reads that a number's events stand for
 
-abbrev reads_by : (n : ℕ) → List Event → ℕ
+abbrev pub reads_by : (n : ℕ) → List Event → ℕ
 reads_by n es = count_by (λ e. is_pool_read e && number_of e == n) es
 
-read-no-pass : (e : Event) → is_pool_read e ≡ true → is_pass e ≡ false
+pub read-no-pass : (e : Event) → is_pool_read e ≡ true → is_pass e ≡ false
 read-no-pass (event.Pass n k owner) is = absurd (false≢true is)
 read-no-pass e is = refl
 
@@ -129,20 +129,20 @@ own-reads n s (e ∷ es) =
 
 -- ---- sums over numbers
 
-over-same : (k : ℕ) (f g : ℕ → ℕ) → ((n : ℕ) → n < k → f n ≡ g n) → over_callers k f ≡ over_callers k g
+pub over-same : (k : ℕ) (f g : ℕ → ℕ) → ((n : ℕ) → n < k → f n ≡ g n) → over_callers k f ≡ over_callers k g
 over-same zero f g same = refl
 over-same (suc k) f g same = omega (arith, over-same k f g (λ n lt. same n (omega (arith, lt))), same k (omega arith))
 
-over-zero : (k : ℕ) (f : ℕ → ℕ) → ((n : ℕ) → n < k → f n ≡ 0) → over_callers k f ≡ 0
+pub over-zero : (k : ℕ) (f : ℕ → ℕ) → ((n : ℕ) → n < k → f n ≡ 0) → over_callers k f ≡ 0
 over-zero zero f none = refl
 over-zero (suc k) f none = omega (arith, over-zero k f (λ n lt. none n (omega (arith, lt))), none k (omega arith))
 
-over-add : (k : ℕ) (f g : ℕ → ℕ) → over_callers k (λ n. f n + g n) ≡ over_callers k f + over_callers k g
+pub over-add : (k : ℕ) (f g : ℕ → ℕ) → over_callers k (λ n. f n + g n) ≡ over_callers k f + over_callers k g
 over-add zero f g = refl
 over-add (suc k) f g = omega (arith, over-add k f g)
 
 -- of one number alone
-over-one : (k j x : ℕ) → j < k → over_callers k (λ n. cond (j == n) x 0) ≡ x
+pub over-one : (k j x : ℕ) → j < k → over_callers k (λ n. cond (j == n) x 0) ≡ x
 over-one zero j x below = absurd (omega arith)
 over-one (suc k) j x below = dite (ℕ_discrete j k)
     (λ same.

@@ -33,7 +33,7 @@ use Rattle.trace_run.specs.OneCaller.{kept_after_all}
 use Rattle.trace_run.specs.Tally.{AreAnswered}
 use Rattle.trace_run.specs.Told.{IsTold}
 use Rattle.trace_run.specs.Together.{over_callers}
-use Rattle.trace_run.proofs.AbsorbLemmas.{absorbed-faults, absorbed-leaves, absorbed-reads, few-counts, over-sum, sum-few}
+use Rattle.trace_run.proofs.AbsorbLemmas.{absorbed-leaves, absorbed-most, absorbed-reads, few-counts, over-sum, sum-few}
 use Rattle.trace_run.proofs.LinesLemmas.{lines-calls, lines-kept, lines-told}
 use Rattle.trace_run.proofs.RunLemmas.{calls-few}
 
@@ -48,7 +48,7 @@ zip-of R (x ∷ xs) (y ∷ ys) long each = (each 0 x (omega arith), zip-of R xs 
 -- ---- one caller
 
 -- lines that were done have their answers
-lines-answers : {C P : Type 0} (g : Config) (pools : Ghosts P) (device : ℕ) (blocks : List Ptr) (os : List Op) (rs : List Reply) (a b : At C P) → DidLines g pools device blocks os rs a b
+pub lines-answers : {C P : Type 0} (g : Config) (pools : Ghosts P) (device : ℕ) (blocks : List Ptr) (os : List Op) (rs : List Reply) (a b : At C P) → DidLines g pools device blocks os rs a b
     → AreAnswered (pools.size a.pool) (pools.told a.pool) blocks a.kept os rs
 lines-answers g pools device blocks [] [] a b did = tt
 lines-answers g pools device blocks [] (r ∷ rs) a b did = absurd did
@@ -57,7 +57,7 @@ lines-answers g pools device blocks (o ∷ os) (r ∷ rs) a b did =
     let one = did.1 in
     (one.answer, subst (λ (x : ℕ × Option (List ℕ) × List KeptRead). AreAnswered x.0 x.1 blocks x.2 os rs) (λ h. (one.keeps.size h, one.keeps.told h, one.kept h)) (lines-answers g pools device blocks os rs did.0 b did.2))
 
-lines-number : {C P : Type 0} (g : Config) (pools : Ghosts P) (device : ℕ) (blocks : List Ptr) (os : List Op) (rs : List Reply) (a b : At C P) → DidLines g pools device blocks os rs a b → b.party.number ≡ a.party.number
+pub lines-number : {C P : Type 0} (g : Config) (pools : Ghosts P) (device : ℕ) (blocks : List Ptr) (os : List Op) (rs : List Reply) (a b : At C P) → DidLines g pools device blocks os rs a b → b.party.number ≡ a.party.number
 lines-number {C} {P} g pools device blocks [] [] a b did = ap (λ (x : At C P). x.party.number) did
 lines-number g pools device blocks [] (r ∷ rs) a b did = absurd did
 lines-number g pools device blocks (o ∷ os) [] a b did = absurd did
@@ -234,7 +234,6 @@ module _ {C P : Type 0} (cache : Cache) (pools : Ghosts P) (blocks : List Ptr) (
       let fork = λ (n : ℕ) (lt : n < length ps). starts-fork old 0 olds begun.0 n (omega (arith, lt, many)) in
       let counts = λ (n : ℕ) (lt : n < length ps). few n (get_or (map pool_of olds) n old) (get_or dones n old) old (each n lt).0 (each n lt).1 short (fork n lt) (each n lt).4 in
       let reads = sum-few pools.reads dones old (λ k lt. (counts k (omega (arith, lt, long))).0) in
-      let faults = sum-few pools.faults dones old (λ k lt. (counts k (omega (arith, lt, long))).1) in
       let all_reads : over_callers (length ps) (λ n. pools.reads (get_or dones n old)) ≡ sum_by pools.reads dones = ap (λ (l : ℕ). over_callers l (λ n. pools.reads (get_or dones n old))) (sym long) ∙ over-sum pools.reads dones old in
       let all_faults : over_callers (length ps) (λ n. pools.faults (get_or dones n old)) ≡ sum_by pools.faults dones = ap (λ (l : ℕ). over_callers l (λ n. pools.faults (get_or dones n old))) (sym long) ∙ over-sum pools.faults dones old in
       record {
@@ -245,6 +244,6 @@ module _ {C P : Type 0} (cache : Cache) (pools : Ghosts P) (blocks : List Ptr) (
         fresh = fork;
         each = each;
         reads = λ room. omega (arith, all_reads, absorbed-reads pools dones old new absorbs (omega (arith, room, reads, long, few_callers)));
-        faults = λ room. omega (arith, all_faults, absorbed-faults pools dones old new absorbs (omega (arith, room, faults, long, few_callers)));
+        faults = omega (arith, all_faults, absorbed-most pools dones old new absorbs);
         keeps = absorbed-leaves pools dones old new absorbs;
       }

@@ -1,5 +1,6 @@
 pub mod AbsorbLemmas
 pub mod AccessLemmas
+pub mod AloneLemmas
 pub mod AnswerLemmas
 pub mod BlockLemmas
 pub mod CacheLemmas
@@ -7,11 +8,14 @@ pub mod CallerActLemmas
 pub mod CloseLemmas
 pub mod DropLemmas
 pub mod EachLemmas
+pub mod EndLemmas
 pub mod GenLemmas
 pub mod GetLemmas
 pub mod GiveLemmas
 pub mod GroupCounts
 pub mod GroupLemmas
+pub mod GroupRunLemmas
+pub mod HistoryLemmas
 pub mod HoldLemmas
 pub mod InOrderLemmas
 pub mod KeptBlockLemmas
@@ -20,6 +24,7 @@ pub mod LinesLemmas
 pub mod MadeLemmas
 pub mod MoveLemmas
 pub mod NamedLemmas
+pub mod OpenLemmas
 pub mod OutcomeLemmas
 pub mod OverShardLemmas
 pub mod OwnLemmas
@@ -30,6 +35,7 @@ pub mod ReadLemmas
 pub mod ReadMoments
 pub mod ReadStands
 pub mod ReportLemmas
+pub mod RestAlone
 pub mod RestLemmas
 pub mod RoomyLemmas
 pub mod RunLemmas

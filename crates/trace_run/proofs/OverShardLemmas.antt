@@ -93,7 +93,7 @@ module _ (shards : ℕ) (blocks : List Ptr) (i : ℕ) where
   drop-else x (PoolRefused call) kept is = refl
   drop-else x NoEffect kept is = refl
 
-  kept-here : (op : Op) (reply : Reply) (kept : List KeptRead) → is_in_shard shards blocks i op ≡ true
+  pub kept-here : (op : Op) (reply : Reply) (kept : List KeptRead) → is_in_shard shards blocks i op ≡ true
       → kept_in_shard shards blocks i (kept_after blocks op reply kept) ≡ kept_after blocks op reply (kept_in_shard shards blocks i kept)
   kept-here (ops.Read n t x window) reply kept is = refl
   kept-here (ops.Hold n t x) reply kept is = go (slice_get blocks x)
@@ -104,7 +104,7 @@ module _ (shards : ℕ) (blocks : List Ptr) (i : ℕ) where
       go (Some ptr) = hold-here x ptr (effect_of reply) kept is
   kept-here (ops.Drop n x) reply kept is = drop-here x (effect_of reply) kept is
 
-  kept-else : (op : Op) (reply : Reply) (kept : List KeptRead) → is_in_shard shards blocks i op ≡ false
+  pub kept-else : (op : Op) (reply : Reply) (kept : List KeptRead) → is_in_shard shards blocks i op ≡ false
       → kept_in_shard shards blocks i (kept_after blocks op reply kept) ≡ kept_in_shard shards blocks i kept
   kept-else (ops.Read n t x window) reply kept is = refl
   kept-else (ops.Hold n t x) reply kept is = go (slice_get blocks x)
@@ -114,7 +114,7 @@ module _ (shards : ℕ) (blocks : List Ptr) (i : ℕ) where
       go (Some ptr) = hold-else x ptr (effect_of reply) kept is
   kept-else (ops.Drop n x) reply kept is = drop-else x (effect_of reply) kept is
 
-  events-here : (s : PlainShard) (op : Op) (reply : Reply) (kept : List KeptRead) → is_in_shard shards blocks i op ≡ true
+  pub events-here : (s : PlainShard) (op : Op) (reply : Reply) (kept : List KeptRead) → is_in_shard shards blocks i op ≡ true
       → events_of blocks s kept op reply ≡ events_of blocks s (kept_in_shard shards blocks i kept) op reply
   events-here s (ops.Read n t x window) reply kept is = refl
   events-here s (ops.Hold n t x) reply kept is = refl
@@ -128,13 +128,13 @@ module _ (shards : ℕ) (blocks : List Ptr) (i : ℕ) where
 
   -- ---- the shards after a line
 
-  same-shard : (s : ℕ → PlainShard) (j : ℕ) (es : List Event) → (j == i) ≡ true → shards_after s j es i ≡ replay (s i) es
+  pub same-shard : (s : ℕ → PlainShard) (j : ℕ) (es : List Event) → (j == i) ≡ true → shards_after s j es i ≡ replay (s i) es
   same-shard s j es is =
       let e : j ≡ i = eqb-true j i is in
       let t : (i == j) ≡ true = grind (arith, nat_tests, e) in
       rw t refl
 
-  other-shard : (s : ℕ → PlainShard) (j : ℕ) (es : List Event) → (j == i) ≡ false → shards_after s j es i ≡ s i
+  pub other-shard : (s : ℕ → PlainShard) (j : ℕ) (es : List Event) → (j == i) ≡ false → shards_after s j es i ≡ s i
   other-shard s j es is =
       let t : (i == j) ≡ false = grind (arith, nat_tests, is) in
       rw t refl

@@ -45,12 +45,12 @@ use Rattle.trace_run.proofs.TellLemmas.{every-call, filter-all}
 
 -- ---- the operations are those of the one caller
 
-one-caller : (sizes : Config) (blocks : List Ptr) (op : Op) → sizes.callers ≤ 1 → IsPossible sizes blocks op → caller_of op ≡ 0
+pub one-caller : (sizes : Config) (blocks : List Ptr) (op : Op) → sizes.callers ≤ 1 → IsPossible sizes blocks op → caller_of op ≡ 0
 one-caller sizes blocks (ops.Read n t x w) one possible = omega (arith, possible.0.0)
 one-caller sizes blocks (ops.Hold n t x) one possible = omega (arith, possible.0.0)
 one-caller sizes blocks (ops.Drop n x) one possible = omega (arith, possible.0.0)
 
-possible-at : (sizes : Config) (blocks : List Ptr) (os : List Op) (k : ℕ) (op : Op) → All (IsPossible sizes blocks) os → slice_get os k ≡ Some op → IsPossible sizes blocks op
+pub possible-at : (sizes : Config) (blocks : List Ptr) (os : List Op) (k : ℕ) (op : Op) → All (IsPossible sizes blocks) os → slice_get os k ≡ Some op → IsPossible sizes blocks op
 possible-at sizes blocks os k op all at =
     subst (IsPossible sizes blocks) (get_or_from_slice_get os k op op at) (All-get_or (IsPossible sizes blocks) os k op (slice_get_within os k op at) all)
 
@@ -59,7 +59,7 @@ own-ops trace formed k op at =
     let possible = possible-at trace.config trace.blocks trace.ops k op formed.ops at in
     (one-caller trace.config trace.blocks op formed.config.one_caller possible, possible.1)
 
-all-own : (n : ℕ) (os : List Op) → ((k : ℕ) (op : Op) → slice_get os k ≡ Some op → caller_of op ≡ n) → AllByRecursion (λ op. caller_of op ≡ n) os
+pub all-own : (n : ℕ) (os : List Op) → ((k : ℕ) (op : Op) → slice_get os k ≡ Some op → caller_of op ≡ n) → AllByRecursion (λ op. caller_of op ≡ n) os
 all-own n [] own = tt
 all-own n (op ∷ os) own = (own 0 op refl, all-own n os (λ k o at. own (suc k) o at))
 
@@ -89,7 +89,7 @@ in-shard : (shards : ℕ) → shards ≡ 1 → (blocks : List Ptr) (os : List Op
 in-shard shards one blocks [] = tt
 in-shard shards one blocks (op ∷ os) = (test-same (shard_of_line shards blocks op) 0 (line-shard shards one blocks op), in-shard shards one blocks os)
 
-of-caller : (os : List Op) → AllByRecursion (λ op. caller_of op ≡ 0) os → AllByRecursion (λ op. is_of_caller 0 op ≡ true) os
+pub of-caller : (os : List Op) → AllByRecursion (λ op. caller_of op ≡ 0) os → AllByRecursion (λ op. is_of_caller 0 op ≡ true) os
 of-caller [] own = tt
 of-caller (op ∷ os) own = (test-same (caller_of op) 0 own.0, of-caller os own.1)
 
@@ -118,7 +118,7 @@ one-found shards one blocks opening os replies same found =
     let all : AllByRecursion fact (range_with_len 0 1) = (first, tt) in
     subst (λ (n : ℕ). AllByRecursion fact (range_with_len 0 n)) (sym one) all
 
-one-acts : (callers : ℕ) → callers ≡ 1 → (blocks : List Ptr) (os : List Op) (replies : List Reply) → length replies ≡ length os → AllByRecursion (λ op. caller_of op ≡ 0) os
+pub one-acts : (callers : ℕ) → callers ≡ 1 → (blocks : List Ptr) (os : List Op) (replies : List Reply) → length replies ≡ length os → AllByRecursion (λ op. caller_of op ≡ 0) os
     → acts_of_callers blocks callers os replies ≡ acts_of_caller blocks 0 os replies
 one-acts callers one blocks os replies same own =
     let mine = of-caller os own in

@@ -155,7 +155,7 @@ tell-history blocks n s os replies named =
 -- ---- whose they are
 
 -- an event that reads make
-abbrev is_of_reads : Event → Bool
+abbrev pub is_of_reads : Event → Bool
 is_of_reads (event.Hit n k t) = true
 is_of_reads (event.Miss n k t) = true
 is_of_reads (event.Arrive n k d from) = true
@@ -164,10 +164,10 @@ is_of_reads (event.Drop n k) = true
 is_of_reads (event.Past n k kept) = true
 is_of_reads _ = false
 
-abbrev IsMine : ℕ → Event → Type 0
+abbrev pub IsMine : ℕ → Event → Type 0
 IsMine n e = (number_of e ≡ n) × (is_pass e ≡ false) × (is_of_reads e ≡ true)
 
-all-append : {X : Type 0} (P : X → Type 0) (xs ys : List X) → AllByRecursion P xs → AllByRecursion P ys → AllByRecursion P (xs ++ ys)
+pub all-append : {X : Type 0} (P : X → Type 0) (xs ys : List X) → AllByRecursion P xs → AllByRecursion P ys → AllByRecursion P (xs ++ ys)
 all-append P [] ys first rest = rest
 all-append P (x ∷ xs) ys first rest = (first.0, all-append P xs ys first.1 rest)
 
@@ -175,11 +175,11 @@ pub filter-all : {X : Type 0} (p : X → Bool) (xs : List X) → AllByRecursion 
 filter-all p [] all = refl
 filter-all {X} p (x ∷ xs) all = rw all.0 (ap (λ (l : List X). x ∷ l) (filter-all p xs all.1))
 
-filter-none : {X : Type 0} (p : X → Bool) (xs : List X) → AllByRecursion (λ x. p x ≡ false) xs → filter p xs ≡ []
+pub filter-none : {X : Type 0} (p : X → Bool) (xs : List X) → AllByRecursion (λ x. p x ≡ false) xs → filter p xs ≡ []
 filter-none p [] all = refl
 filter-none p (x ∷ xs) all = rw all.0 (filter-none p xs all.1)
 
-all-map : {X : Type 0} (P Q : X → Type 0) (xs : List X) → ((x : X) → P x → Q x) → AllByRecursion P xs → AllByRecursion Q xs
+pub all-map : {X : Type 0} (P Q : X → Type 0) (xs : List X) → ((x : X) → P x → Q x) → AllByRecursion P xs → AllByRecursion Q xs
 all-map P Q [] f all = tt
 all-map P Q (x ∷ xs) f all = (f x all.0, all-map P Q xs f all.1)
 
@@ -243,58 +243,72 @@ mine-moments : (n : ℕ) (s : PlainShard) (es : List Event) → AllByRecursion (
 mine-moments n s [] all = tt
 mine-moments n s (e ∷ es) all = (all.0, mine-moments n (after s e) es all.1)
 
--- ---- the acts of one caller are its own
+-- ---- the acts of one caller are its own, and of reads
 
-act-drop : (n : ℕ) (held : Option Key) → AllByRecursion (λ act. actor_of act ≡ n) (acts_of_drop n held)
+-- an act that a read or a drop of a trace stands for
+abbrev pub IsReadAct : Act → Type 0
+IsReadAct (Reads n t ptr from) = Unit {0}
+IsReadAct (Keeps n t ptr from) = Unit {0}
+IsReadAct (GivesBack n k) = Unit {0}
+IsReadAct (Fails n t ptr) = Unit {0}
+IsReadAct _ = ⊥
+
+abbrev pub IsActOf : ℕ → Act → Type 0
+IsActOf n act = (actor_of act ≡ n) × IsReadAct act
+
+act-drop : (n : ℕ) (held : Option Key) → AllByRecursion (IsActOf n) (acts_of_drop n held)
 act-drop n None = tt
-act-drop n (Some key) = (refl, tt)
+act-drop n (Some key) = ((refl, tt), tt)
 
-act-read : (n t : ℕ) (ptr : Ptr) (e : Effect) → AllByRecursion (λ act. actor_of act ≡ n) (acts_of_read n t ptr e)
-act-read n t ptr (Answered from) = (refl, tt)
+act-read : (n t : ℕ) (ptr : Ptr) (e : Effect) → AllByRecursion (IsActOf n) (acts_of_read n t ptr e)
+act-read n t ptr (Answered from) = ((refl, tt), tt)
 act-read n t ptr GivenBack = tt
-act-read n t ptr (PoolRefused call) = (refl, tt)
+act-read n t ptr (PoolRefused call) = ((refl, tt), tt)
 act-read n t ptr NoEffect = tt
 
-act-hold : (n t : ℕ) (ptr : Ptr) (e : Effect) → AllByRecursion (λ act. actor_of act ≡ n) (acts_of_hold n t ptr e)
-act-hold n t ptr (Answered from) = (refl, tt)
+act-hold : (n t : ℕ) (ptr : Ptr) (e : Effect) → AllByRecursion (IsActOf n) (acts_of_hold n t ptr e)
+act-hold n t ptr (Answered from) = ((refl, tt), tt)
 act-hold n t ptr GivenBack = tt
-act-hold n t ptr (PoolRefused call) = (refl, tt)
+act-hold n t ptr (PoolRefused call) = ((refl, tt), tt)
 act-hold n t ptr NoEffect = tt
 
-act-dropping : (n x : ℕ) (kept : List KeptRead) (e : Effect) → AllByRecursion (λ act. actor_of act ≡ n) (acts_of_dropping n x kept e)
+act-dropping : (n x : ℕ) (kept : List KeptRead) (e : Effect) → AllByRecursion (IsActOf n) (acts_of_dropping n x kept e)
 act-dropping n x kept (Answered from) = tt
 act-dropping n x kept GivenBack = act-drop n (oldest_key x kept)
 act-dropping n x kept (PoolRefused call) = tt
 act-dropping n x kept NoEffect = tt
 
-act-of : (blocks : List Ptr) (kept : List KeptRead) (op : Op) (reply : Reply) → AllByRecursion (λ act. actor_of act ≡ caller_of op) (acts_of blocks kept op reply)
+act-of : (blocks : List Ptr) (kept : List KeptRead) (op : Op) (reply : Reply) → AllByRecursion (IsActOf (caller_of op)) (acts_of blocks kept op reply)
 act-of blocks kept (ops.Read n t x window) reply = go (slice_get blocks x)
   where
-    go : (o : Option Ptr) → AllByRecursion (λ act. actor_of act ≡ n) (option_map_or (λ ptr. acts_of_read n t ptr (effect_of reply)) o [])
+    go : (o : Option Ptr) → AllByRecursion (IsActOf n) (option_map_or (λ ptr. acts_of_read n t ptr (effect_of reply)) o [])
     go None = tt
     go (Some ptr) = act-read n t ptr (effect_of reply)
 act-of blocks kept (ops.Hold n t x) reply = go (slice_get blocks x)
   where
-    go : (o : Option Ptr) → AllByRecursion (λ act. actor_of act ≡ n) (option_map_or (λ ptr. acts_of_hold n t ptr (effect_of reply)) o [])
+    go : (o : Option Ptr) → AllByRecursion (IsActOf n) (option_map_or (λ ptr. acts_of_hold n t ptr (effect_of reply)) o [])
     go None = tt
     go (Some ptr) = act-hold n t ptr (effect_of reply)
 act-of blocks kept (ops.Drop n x) reply = act-dropping n x kept (effect_of reply)
 
 act-all : (n : ℕ) (blocks : List Ptr) (kept : List KeptRead) (os : List Op) (replies : List Reply) → AllByRecursion (λ op. caller_of op ≡ n) os
-    → AllByRecursion (λ act. actor_of act ≡ n) (acts_of_all blocks kept os replies)
+    → AllByRecursion (IsActOf n) (acts_of_all blocks kept os replies)
 act-all n blocks kept [] replies own = tt
 act-all n blocks kept (op ∷ os) [] own = tt
 act-all n blocks kept (op ∷ os) (reply ∷ replies) own =
-    all-append (λ act. actor_of act ≡ n) (acts_of blocks kept op reply) _ (rw own.0 at (act-of blocks kept op reply)) (act-all n blocks (kept_after blocks op reply kept) os replies own.1)
+    all-append (IsActOf n) (acts_of blocks kept op reply) _ (rw own.0 at (act-of blocks kept op reply)) (act-all n blocks (kept_after blocks op reply kept) os replies own.1)
 
-act-drops : (n : ℕ) (kept : List KeptRead) → AllByRecursion (λ act. actor_of act ≡ n) (acts_of_drops n kept)
+act-drops : (n : ℕ) (kept : List KeptRead) → AllByRecursion (IsActOf n) (acts_of_drops n kept)
 act-drops n [] = tt
-act-drops n (read ∷ reads) = all-append (λ act. actor_of act ≡ n) (acts_of_drop n read.held) _ (act-drop n read.held) (act-drops n reads)
+act-drops n (read ∷ reads) = all-append (IsActOf n) (acts_of_drop n read.held) _ (act-drop n read.held) (act-drops n reads)
+
+pub acts-caller : (blocks : List Ptr) (n : ℕ) (os : List Op) (replies : List Reply) → AllByRecursion (λ op. caller_of op ≡ n) os → AllByRecursion (IsActOf n) (acts_of_caller blocks n os replies)
+acts-caller blocks n os replies own = all-append (IsActOf n) (acts_of_all blocks [] os replies) _ (act-all n blocks [] os replies own) (act-drops n (kept_after_all blocks [] os replies))
 
 pub act-caller : (blocks : List Ptr) (n : ℕ) (os : List Op) (replies : List Reply) → AllByRecursion (λ op. caller_of op ≡ n) os → AllByRecursion (λ act. actor_of act ≡ n) (acts_of_caller blocks n os replies)
-act-caller blocks n os replies own = all-append (λ act. actor_of act ≡ n) (acts_of_all blocks [] os replies) _ (act-all n blocks [] os replies own) (act-drops n (kept_after_all blocks [] os replies))
+act-caller blocks n os replies own = all-map (IsActOf n) (λ act. actor_of act ≡ n) _ (λ act is. is.0) (acts-caller blocks n os replies own)
 
-mine-events : (blocks : List Ptr) (n : ℕ) (s : PlainShard) (os : List Op) (replies : List Reply) → AllByRecursion (λ op. caller_of op ≡ n) os
+pub mine-events : (blocks : List Ptr) (n : ℕ) (s : PlainShard) (os : List Op) (replies : List Reply) → AllByRecursion (λ op. caller_of op ≡ n) os
     → AllByRecursion (IsMine n) (one_caller_history blocks n s os replies)
 mine-events blocks n s os replies own =
     all-append (IsMine n) (events_of_all blocks s [] os replies) _ (mine-all n blocks s [] os replies own) (mine-drops n (kept_after_all blocks [] os replies))
@@ -328,7 +342,7 @@ only-shard : (shard : ℕ) → shard < 1 → shard ≡ 0
 only-shard shard lt = omega arith
 
 -- a caller's number is one that an event of reads may have
-caller-number : (callers cells n : ℕ) (e : Event) → n < callers → IsMine n e → IsTrue (has_its_number callers cells e)
+pub caller-number : (callers cells n : ℕ) (e : Event) → n < callers → IsMine n e → IsTrue (has_its_number callers cells e)
 caller-number callers cells n e lt mine = go e mine.2 (subst (λ m. nat_lt m callers ≡ true) (sym mine.0) is_caller)
   where
     is_caller : nat_lt n callers ≡ true
@@ -357,7 +371,7 @@ caller-number callers cells n e lt mine = go e mine.2 (subst (λ m. nat_lt m cal
     go (event.Resize n c) of lt = absurd (false≢true of)
 
 -- without passes each stands where it may
-no-passes : (n : ℕ) (es : List Event) → AllByRecursion (IsMine n) es → are_passes_placed es ≡ true
+pub no-passes : (n : ℕ) (es : List Event) → AllByRecursion (IsMine n) es → are_passes_placed es ≡ true
 no-passes n [] mine = refl
 no-passes n (e ∷ es) mine = rw mine.0.1 (no-passes n es mine.1)
 

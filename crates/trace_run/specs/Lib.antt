@@ -1,5 +1,6 @@
 pub mod Access
 pub mod Acts
+pub mod Alone
 pub mod Answering
 pub mod Answers
 pub mod Blocks
@@ -10,10 +11,12 @@ pub mod Effects
 pub mod Ends
 pub mod Explaining
 pub mod Group
+pub mod GroupRun
 pub mod InOrder
 pub mod KeptBlocks
 pub mod Lines
 pub mod OneCaller
+pub mod Opened
 pub mod Outcome
 pub mod OverShards
 pub mod PlainCache

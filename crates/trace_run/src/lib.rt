@@ -2,6 +2,7 @@
 #![tactic(auto)]
 
 mod access;
+mod alone;
 mod answer;
 mod block_map;
 mod caller_cache;
@@ -10,6 +11,7 @@ mod group;
 mod in_order;
 mod kept_blocks;
 mod lines;
+mod opening;
 mod paper;
 mod ran;
 mod read;
@@ -19,6 +21,7 @@ mod status;
 mod stream;
 #[cfg(test)]
 mod tests;
+mod together;
 mod top;
 mod words;
 mod zero_pool;
