@@ -53,9 +53,10 @@ module _ {C P : Type 0} (g : Config) (pools : Ghosts P) (device : ℕ) (blocks :
       let here : ℕ = shard_of_line g.shards blocks o in
       let es : List Event = events_of blocks (now_of g here a.party) a.kept o r in
       let rest = lines-served os rs next b did.2 (all-then g pools device blocks a.party next.party one.did.all alone) (one.keeps.size ∙ size) (one.keeps.told ∙ told) in
-      let same : (λ (i : ℕ). now_of g i next.party) ≡ shards_after (λ i. now_of g i a.party) here es = λ h i. line-now g pools device blocks o r a next one alone i h in
-      (line-served o r a next one alone size told,
-      subst (λ (x : (ℕ → PlainShard) × List KeptRead). AllLinesOver (IsServed image blocks) g.shards blocks x.0 x.1 os rs) (λ h. (same h, one.kept h)) rest)
+      let same : (λ (i : ℕ). now_of g i next.party) ≡ shards_after (λ i. now_of g i a.party) here es = λ h i. line-now g pools device blocks o r a next one alone i h in (
+        line-served o r a next one alone size told,
+        subst (λ (x : (ℕ → PlainShard) × List KeptRead). AllLinesOver (IsServed image blocks) g.shards blocks x.0 x.1 os rs) (λ h. (same h, one.kept h)) rest,
+      )
 
 -- ---- all replies
 

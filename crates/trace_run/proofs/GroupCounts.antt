@@ -323,6 +323,7 @@ no-other callers (e ∷ es) party none =
         let one : cond (is_pool_read e && number_of e == callers) 1 0 ≡ 1 = rw (read, eq-eqb (number_of e) callers same) refl in
         absurd (omega (arith, one, none, sum_by-cons (λ x. cond (is_pool_read x && number_of x == callers) 1 0) e es)))
         (λ differs. less (number_of e) callers lt differs)
+
     less : (a b : ℕ) → a < suc b → (a ≡ b → ⊥) → a < b
     less a b lt differs = omega arith
 

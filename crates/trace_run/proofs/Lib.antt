@@ -34,6 +34,7 @@ pub mod PlainLemmas
 pub mod PlainReplyLemmas
 pub mod PlainReportLemmas
 pub mod RangeLemmas
+pub mod RanLemmas
 pub mod ReadLemmas
 pub mod ReadMoments
 pub mod ReadStands

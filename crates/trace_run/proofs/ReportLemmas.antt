@@ -193,7 +193,7 @@ plain-report (Some image) trace report one same lines is =
     same-report trace image (report_of trace image (calls_of_all report.replies)) report same (is ∙ ap (λ (l : List Reply). report_with trace l) replies)
 
 -- a report by its parts
-report-is : (trace : Trace) (report : Report) → report.histories ≡ one_caller_histories trace.config.shards trace.blocks 0 (opening_of trace.config) trace.ops report.replies
+pub report-is : (trace : Trace) (report : Report) → report.histories ≡ one_caller_histories trace.config.shards trace.blocks 0 (opening_of trace.config) trace.ops report.replies
     → report.ends ≡ ends_of trace.config (one_caller_histories trace.config.shards trace.blocks 0 (opening_of trace.config) trace.ops report.replies)
     → report.status ≡ status_of report.replies → report.short ≡ false → report ≡ report_with trace report.replies
 report-is trace report histories ends status short =

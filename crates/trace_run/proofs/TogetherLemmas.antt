@@ -118,7 +118,7 @@ module _ (pool_len : ℕ) (image : Option (List ℕ)) (blocks : List Ptr) where
       let more : length replied + 1 ≡ length (replied ++ r ∷ []) = let l = length-append replied (r ∷ []) in omega arith in
       let then : (n : ℕ) → who n → IsAnswered n (take (length (replied ++ r ∷ [])) all) (replied ++ r ∷ []) os rs =
       λ n is_one. subst (λ (m : ℕ). IsAnswered n (take m all) (replied ++ r ∷ []) os rs) more
-          (dite (ℕ_discrete (caller_of o) n) (own-then n all replied o os r rs here (are n is_one)) (other-then n all replied o os r rs here (are n is_one))) in
+      (dite (ℕ_discrete (caller_of o) n) (own-then n all replied o os r rs here (are n is_one)) (other-then n all replied o os r rs here (are n is_one))) in
       subst (EachAnswers pool_len image blocks all) (append_assoc replied (r ∷ []) rs)
       (each-together who all own (done ++ o ∷ []) os (replied ++ r ∷ []) rs (is ∙ sym (append_assoc done (o ∷ []) os)) (let l = length-append replied (r ∷ []) in let m = length-append done (o ∷ []) in omega arith)
       (omega arith) now then)

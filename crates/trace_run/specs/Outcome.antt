@@ -1,5 +1,5 @@
 -- What a run answers, status by status.
-use Rattle.std.specs.Prelude.{◌≡◌, ℕ, ◌+◌, ◌*◌, ◌^◌, ◌<◌, ◌≤◌, IsTrue, List, [], Option, Some, None, is_some, map, replicate, sum_by, Bool, true, false}
+use Rattle.std.specs.Prelude.{◌≡◌, ℕ, ◌+◌, ◌*◌, ◌^◌, ◌<◌, ◌≤◌, List, [], Option, Some, None, is_some, map, replicate, sum_by, Bool, true, false}
 use Rattle.std.specs.Bool.{OnFalse}
 use Rattle.std.specs.List.{range_with_len}
 use Rattle.std.specs.Io.KnownBytes.{Appends}
@@ -61,7 +61,7 @@ pub record IsRun {C P : Type 0} (pool : Ghosts P) (before after : P) (trace : Tr
   pub faults : pool.faults before < 2 ^ 63 → pool.faults before + faults_told fork_failed report.replies ≤ pool.faults after
   pub alone : trace.config.callers ≡ 1 → (fork_failed ≡ false) × RunsAlone pool before after trace report
   pub together : 2 ≤ trace.config.callers → fork_failed ≡ false → RunsTogether pool before after trace report
-  pub failed : IsTrue fork_failed → Rose (pool.faults before) (pool.faults after)
+  pub failed : fork_failed ≡ true → Rose (pool.faults before) (pool.faults after)
 
 -- The report is that of a run of the trace that the source gave.
 pub record IsReport {C P : Type 0} (pool : Ghosts P) (before after : Handed P) (closed : Ended C) (report : Report) : Type 0 where

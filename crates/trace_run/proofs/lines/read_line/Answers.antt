@@ -29,7 +29,7 @@ owned-last P (y ∷ ys) x all = owned-last P ys x all.1
 given-did : {C : Type 0} (m : Meanings C) (cache : Cache) (device t block : ℕ) (ptr : Ptr) (got : Got) (p r q : Place (Known C)) (kept : List KeptBlock) → Stands cache r (kept ++ got.read ∷ [])
     → DidAnswer cache.config device t ptr got.served p r → read_of got.read ≡ kept_read block (key_held_by ptr got.served) → GivesBack m cache.config got.read.kept r q
     → DidActs cache.config device (shard_of cache.config.shards ptr.key) (Reads p.number t ptr got.served ∷ [])
-      (events_of_answered p.number t ptr (access_now cache.config ptr p) ++ events_of_drop p.number (access_key ptr (access_now cache.config ptr p))) p q
+    (events_of_answered p.number t ptr (access_now cache.config ptr p) ++ events_of_drop p.number (access_key ptr (access_now cache.config ptr p))) p q
 given-did m cache device t block ptr got p r q kept stands did is gives =
     read-given m cache.config stands.valid device t ptr p r q stands.of.config stands.seen got.served got.read.kept (owned-last (λ b. IsOwnedBy r.number b.kept) kept got.read stands.owned)
     (ap (λ (k : KeptRead). k.held) is) did gives
