@@ -62,13 +62,19 @@ fn one_fork<P: Pool>(alloc: Global, pool: &mut P, forks: &mut Vec<P>) -> Result<
     ensures cause { HasIoCause (P.faults pool.old) (P.faults pool.new) result }
 {
     let fork = pool.fork(alloc)?;
-    forks.push(fork)?;
-    Ok(())
+    match forks.push(fork) {
+        Ok(()) => Ok(()),
+        Err(_) => Err(IoFault::NoMemory),
+    }
 }
 
 /// A fork of a pool for each of so many callers. Where one can't be made, those that were are taken back, and only the pool's count of faults
 /// has changed.
-pub(crate) fn forks<P: Pool>(alloc: Global, pool: &mut P, callers: u32) -> Result<Vec<P>, IoFault>
+pub(crate) fn forks<P: Pool>(
+    alloc: Global,
+    pool: &mut P,
+    callers: u32,
+) -> Result<Vec<P>, IoFault>
     ensures forks { IfOk result (λ forks. AllByRecursion (IsFork P.Pool pool.new) forks.items) }
     ensures count { IfOk result (λ forks. vec_len forks ≡ callers) }
     ensures pool { LeavesPool P.Pool pool.old pool.new }
@@ -141,7 +147,7 @@ fn work<C: Keeps, P: Pool, G: Gate>(
 }
 
 /// Does the lines of all callers, each in a thread of its own where one can be started.
-fn work_all<R: Threads + Wait + Sync, C: Keeps, P: Pool, G: Gate>(
+fn work_all<R: Threads + Wait + Sync, C: Keeps + Send, P: Pool, G: Gate>(
     alloc: Global,
     rt: &R,
     arcs: &Arcs<C>,
@@ -219,7 +225,7 @@ fn take_all_back<C: Keeps, P: Pool>(
 
 /// Lets callers work at once, each by its own lines of a trace, with its own party and its own fork of the pool. Then each gives back what
 /// it keeps, and the pool takes its fork back, by their numbers.
-pub(crate) fn run_group<R: Threads + Wait + Sync, C: Keeps, P: Pool, G: Gate>(
+pub(crate) fn run_group<R: Threads + Wait + Sync, C: Keeps + Send, P: Pool, G: Gate>(
     alloc: Global,
     rt: &R,
     arcs: &Arcs<C>,

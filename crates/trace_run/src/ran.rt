@@ -4,9 +4,9 @@ ghost use Rattle.trace_run.specs.Ends.{end_of};
 ghost use Rattle.trace_run.specs.PlainRun.{status_of};
 ghost use Rattle.trace_run.specs.Together.{report_of_closed};
 
-use arc_core::{Shard, State};
+use arc_core::Shard;
 use arc_table::Closed;
-use blk_ptr::NoMemory;
+use blk_ptr::{NoMemory, State};
 use dbuf_cells::Kept;
 use dbuf_state::Cell;
 use std::alloc::Global;
