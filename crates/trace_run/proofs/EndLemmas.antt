@@ -1,5 +1,5 @@
 -- A closed cache explains the replies of its callers.
-use Rattle.std.proofs.Common.{◌≡◌, ◌≢◌, ℕ, zero, suc, ◌<◌, ◌≤◌, true, false, cond, IsTrue, List, [], ◌∷◌, length, map, inl, inr, refl, sym, ap, ◌∙◌, subst, arith}
+use Rattle.std.proofs.Common.{◌≡◌, ◌≢◌, ℕ, zero, suc, ◌<◌, ◌≤◌, Bool, true, false, cond, IsTrue, List, [], ◌∷◌, length, map, inl, inr, refl, sym, ap, ◌∙◌, subst, arith}
 use Rattle.std.specs.Prelude.{filter, slice_index_or, sum_by}
 use Rattle.std.specs.List.{AllByRecursion}
 use Rattle.std.proofs.lemmas.Bool.{cases_lt, false≢true}
@@ -97,8 +97,8 @@ module _ {C : Type 0} (g : Config) where
 all-filter : {X : Type 0} (P : X → Type 0) (test : X → Bool) (xs : List X) → AllByRecursion P xs → AllByRecursion P (filter test xs)
 all-filter P test [] all = tt
 all-filter P test (x ∷ xs) all = elim (cases_true (test x)) [
-  | inl yes ↦ rw yes (all.0, all-filter P test xs all.1)
-  | inr no ↦ rw no (all-filter P test xs all.1)
+  | inl passes ↦ rw passes (all.0, all-filter P test xs all.1)
+  | inr fails ↦ rw fails (all-filter P test xs all.1)
 ]
 
 callers-reads : (blocks : List Ptr) (callers : ℕ) (ops : List Op) (replies : List Reply) → AllByRecursion IsReadAct (acts_of_callers blocks callers ops replies)
@@ -145,7 +145,7 @@ module _ {C : Type 0} (m : Meanings C) (cache : Cache) (valid : IsConfig cache.c
   abbrev shard : Key → ℕ
   shard = shard_of settled.shards
 
-  bare-ends : Ends m cache (bares settled ps) e
+  abbrev bare-ends : Ends m cache (bares settled ps) e
   bare-ends = record {
     views = ends.views;
     buckets = ends.buckets;
@@ -207,24 +207,24 @@ module _ {C : Type 0} (m : Meanings C) (cache : Cache) (valid : IsConfig cache.c
 
     -- the feeder did nothing
     feeder-none : own_moments settled.callers (moments (opening_of settled) l.history) ≡ []
-    feeder-none = subst (λ (as : List Act). Tell as (own_moments settled.callers (moments (opening_of settled) l.history))) (callers-none shard i blocks ops replies settled.callers settled.callers (omega arith))
+    feeder-none = subst (λ (acts : List Act). Tell acts (own_moments settled.callers (moments (opening_of settled) l.history))) (callers-none shard i blocks ops replies settled.callers settled.callers (omega arith))
         (told-at settled.callers (omega arith))
 
     caller-made : (x : ℕ) (ev : Event) → get_elem? l.history x ≡ some ev → number_of ev < parties_of settled → is_pass ev ≡ false → IsReadEvent settled.callers ev
-    caller-made x ev there below none = elim (cases_lt (number_of ev) settled.callers) [
+    caller-made x ev here below none = elim (cases_lt (number_of ev) settled.callers) [
       | inl caller ↦ inl (caller, none, own-events (λ y. is_of_reads y ≡ true) (number_of ev) (opening_of settled) l.history
-          (told-reads (acts_in shard i (number_of ev) acts) _ (all-filter IsReadAct _ acts (callers-reads blocks settled.callers ops replies)) (told-at (number_of ev) below)) x ev there refl none)
+          (told-reads (acts_in shard i (number_of ev) acts) _ (all-filter IsReadAct _ acts (callers-reads blocks settled.callers ops replies)) (told-at (number_of ev) below)) x ev here refl none)
       | inr above ↦
           let feeder : number_of ev ≡ settled.callers = omega arith in
-          absurd (own-events (λ y. ⊥) settled.callers (opening_of settled) l.history (subst (AllByRecursion (λ (n : Moment). ⊥)) (sym feeder-none) tt) x ev there feeder none)
+          absurd (own-events (λ y. ⊥) settled.callers (opening_of settled) l.history (subst (AllByRecursion (λ (n : Moment). ⊥)) (sym feeder-none) tt) x ev here feeder none)
     ]
 
     event-is : (x : ℕ) (ev : Event) → get_elem? l.history x ≡ some ev → IsReadEvent settled.callers ev
-    event-is x ev there =
-        let own = each-own m cache e i l at (bares settled ps) bare-ends config all-have are-last x ev there in
+    event-is x ev here =
+        let own = each-own m cache e i l at (bares settled ps) bare-ends config all-have are-last x ev here in
         elim (cases_true (is_pass ev)) [
           | inl pass ↦ inr (pass, own.party, own.named pass)
-          | inr none ↦ caller-made x ev there own.party none
+          | inr none ↦ caller-made x ev here own.party none
         ]
 
     only-reads : AllByRecursion (IsReadEvent settled.callers) l.history
@@ -240,7 +240,7 @@ module _ {C : Type 0} (m : Meanings C) (cache : Cache) (valid : IsConfig cache.c
     told-any n differs = elim (cases_lt n (parties_of settled)) [
       | inl below ↦ told-at n below
       | inr above ↦
-          subst (λ (as : List Act). Tell as (own_moments n (moments (opening_of settled) l.history))) (sym (callers-none shard i blocks ops replies settled.callers n (omega arith)))
+          subst (λ (acts : List Act). Tell acts (own_moments n (moments (opening_of settled) l.history))) (sym (callers-none shard i blocks ops replies settled.callers n (omega arith)))
           (closed-others m cache e i l at (bares settled ps) bare-ends config all-have are-last n above)
     ]
 
@@ -276,7 +276,7 @@ module _ {C : Type 0} (m : Meanings C) (cache : Cache) (valid : IsConfig cache.c
   caller-told n below i h at =
       let log = history-of e.shards i h at in
       subst (λ (es : List Event). Tell (acts_in shard i n (acts_of_caller blocks n (filter (is_of_caller n) ops) (replies_where (is_of_caller n) ops replies))) (own_moments n (moments (opening_of settled) es))) log.2
-      (subst (λ (as : List Act). Tell as (own_moments n (moments (opening_of settled) log.0.history))) (callers-own shard i blocks ops replies settled.callers n below)
+      (subst (λ (acts : List Act). Tell acts (own_moments n (moments (opening_of settled) log.0.history))) (callers-own shard i blocks ops replies settled.callers n below)
       (told-at i log.0 log.1 n (omega arith)))
 
   -- an event that stands for a read of the pool is a caller's
@@ -318,14 +318,14 @@ module _ {C : Type 0} (cache : Cache) (blocks : List Ptr) (ops : List Op) (repli
       ∙ (callers-own f shard blocks ops replies cache.config.callers n below
       ∙ (ap (λ (r : List Reply). acts_in f shard n (mine r)) is
       ∙ ap (λ (x : ℕ). acts_in f shard x (mine own)) (sym number))) in
-      subst (λ (as : List Act). Tell as (own_moments p.number (moments (opening_of cache.config) (seen_of cache.config shard p)))) (sym same) (told shard))
+      subst (λ (acts : List Act). Tell acts (own_moments p.number (moments (opening_of cache.config) (seen_of cache.config shard p)))) (sym same) (told shard))
 
   -- the feeder, which did nothing
   pub feeder-ended : cache.config.callers ≤ n → IsTold cache.config [] p → HasEnded cache.config all-acts n p
   feeder-ended above told = ended-with (λ shard.
       let f : Key → ℕ = shard_of cache.config.shards in
       let none : acts_in f shard p.number all-acts ≡ [] = ap (λ (x : ℕ). acts_in f shard x all-acts) number ∙ callers-none f shard blocks ops replies cache.config.callers n above in
-      subst (λ (as : List Act). Tell as (own_moments p.number (moments (opening_of cache.config) (seen_of cache.config shard p)))) (sym none) (told shard))
+      subst (λ (acts : List Act). Tell acts (own_moments p.number (moments (opening_of cache.config) (seen_of cache.config shard p)))) (sym none) (told shard))
 
 -- where no operation was answered no caller did anything
 acts-none : (blocks : List Ptr) (n : ℕ) (os : List Op) → acts_of_caller blocks n os [] ≡ []
@@ -338,4 +338,4 @@ replies-none test (op ∷ os) = refl
 
 pub idle-told : {C : Type 0} (g : Config) (blocks : List Ptr) (ops : List Op) (n : ℕ) (p : Place (Known C)) → IsTold g [] p → IsTold g (acts_of_caller blocks n (filter (is_of_caller n) ops) (replies_where (is_of_caller n) ops [])) p
 idle-told g blocks ops n p told =
-    subst (λ (as : List Act). IsTold g as p) (sym (ap (acts_of_caller blocks n (filter (is_of_caller n) ops)) (replies-none (is_of_caller n) ops) ∙ acts-none blocks n (filter (is_of_caller n) ops))) told
+    subst (λ (acts : List Act). IsTold g acts p) (sym (ap (acts_of_caller blocks n (filter (is_of_caller n) ops)) (replies-none (is_of_caller n) ops) ∙ acts-none blocks n (filter (is_of_caller n) ops))) told

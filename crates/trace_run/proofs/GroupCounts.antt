@@ -1,5 +1,5 @@
 -- Each caller read its fork of the pool once for each of its events that stands for a read of it, and no event that does is another's.
-use Rattle.std.proofs.Common.{◌≡◌, ℕ, zero, suc, ◌+◌, ◌<◌, ◌≤◌, ◌==◌, ◌&&◌, not, cond, Bool, true, false, IsTrue, List, [], ◌∷◌, ◌++◌, length, get_or, map, Option, Some, None, inl, inr, refl, sym, ap, ◌∙◌, subst, arith, eq-eqb, ne_eqb}
+use Rattle.std.proofs.Common.{◌≡◌, ℕ, zero, suc, ◌+◌, ◌<◌, ◌≤◌, ◌==◌, ◌&&◌, not, cond, Bool, true, false, IsTrue, List, [], ◌∷◌, ◌++◌, length, length-append, get_or, map, Option, Some, None, inl, inr, refl, sym, ap, ◌∙◌, subst, arith, eq-eqb, ne_eqb}
 use Rattle.std.specs.Prelude.{count_by, filter, slice_get, sum_by}
 use Rattle.std.specs.List.{AllByRecursion}
 use Rattle.std.proofs.lemmas.Bool.{false≢true}
@@ -17,6 +17,7 @@ use Rattle.arc_core.specs.Config.{IsConfig}
 use Rattle.arc_core.specs.declared.config.Config.{Config}
 use Rattle.arc_core.specs.declared.event.Event.{Event}
 use Rattle.arc_core.specs.declared.event.Event.TheVariants as event
+use Rattle.arc_core.specs.declared.event.Origin.TheVariants as origin
 use Rattle.arc_core.specs.declared.served.Served.{Served}
 use Rattle.arc_core.specs.declared.served.Served.TheVariants as served
 use Rattle.arc_core.specs.Operations.{Act, AreEvents, Fails, GivesBack, IsPast, IsServed, Keeps, Loads, MakesPrivate, Moment, Reads, RunsOut, RunsOutAtDbuf, StandsFor, Tell, Writes, act_key, actor_of, acts_in, is_pass, is_pool_read, moments, number_of, own_moments, pool_reads}
@@ -63,8 +64,8 @@ past-reads n ptr es past = ap pool_reads past.1
 
 served-reads : (n t : ℕ) (ptr : Ptr) (from : Served) (rest es : List Event) → pool_reads rest ≡ 0 → IsServed n t ptr from rest es → pool_reads es ≡ length (calls_from from)
 served-reads n t ptr served.Hit rest es none is = ap pool_reads is ∙ omega (arith, none, pool_reads-append (event.Hit n ptr.key t ∷ []) rest)
-served-reads n t ptr served.Pool rest es none is = ap pool_reads is ∙ omega (arith, none, pool_reads-append (event.Miss n ptr.key t ∷ event.Arrive n ptr.key ptr.digest _ ∷ []) rest)
-served-reads n t ptr served.L2 rest es none is = ap pool_reads is ∙ omega (arith, none, pool_reads-append (event.Miss n ptr.key t ∷ event.Arrive n ptr.key ptr.digest _ ∷ []) rest)
+served-reads n t ptr served.Pool rest es none is = ap pool_reads is ∙ omega (arith, none, pool_reads-append (event.Miss n ptr.key t ∷ event.Arrive n ptr.key ptr.digest origin.Pool ∷ []) rest)
+served-reads n t ptr served.L2 rest es none is = ap pool_reads is ∙ omega (arith, none, pool_reads-append (event.Miss n ptr.key t ∷ event.Arrive n ptr.key ptr.digest origin.L2 ∷ []) rest)
 served-reads n t ptr served.Past rest es none is = past-reads n ptr es is
 
 act-reads : (act : Act) (es : List Event) → IsLineAct act → AreEvents act es → pool_reads es ≡ reads_of_act act
@@ -112,14 +113,14 @@ read-no-pass e is = refl
 -- one event more among those that are a number's own, and that are no passes
 own-more : (his pass read : Bool) (e : Event) (ms : List Moment) (s : PlainShard) (count : ℕ) → is_pool_read e ≡ read → (read ≡ true → pass ≡ false) → pool_reads (map (λ m. m.event) ms) ≡ count
     → pool_reads (map (λ m. m.event) (cond (his && not pass) (record { before = s; event = e } ∷ ms) ms)) ≡ cond (read && his) 1 0 + count
-own-more true true true e ms s count is no rest = absurd (false≢true (sym (no refl)))
-own-more true true false e ms s count is no rest = omega (arith, rest)
-own-more true false true e ms s count is no rest = omega (arith, rest, sum_by-cons (λ x. cond (is_pool_read x) 1 0) e (map (λ m. m.event) ms), ap (λ b. cond b 1 0) is)
-own-more true false false e ms s count is no rest = omega (arith, rest, sum_by-cons (λ x. cond (is_pool_read x) 1 0) e (map (λ m. m.event) ms), ap (λ b. cond b 1 0) is)
-own-more false true true e ms s count is no rest = omega (arith, rest)
-own-more false true false e ms s count is no rest = omega (arith, rest)
-own-more false false true e ms s count is no rest = omega (arith, rest)
-own-more false false false e ms s count is no rest = omega (arith, rest)
+own-more true true true e ms s count is never rest = absurd (false≢true (sym (never refl)))
+own-more true true false e ms s count is never rest = omega (arith, rest)
+own-more true false true e ms s count is never rest = omega (arith, rest, sum_by-cons (λ x. cond (is_pool_read x) 1 0) e (map (λ m. m.event) ms), ap {B = ℕ} (λ b. cond b 1 0) is)
+own-more true false false e ms s count is never rest = omega (arith, rest, sum_by-cons (λ x. cond (is_pool_read x) 1 0) e (map (λ m. m.event) ms), ap {B = ℕ} (λ b. cond b 1 0) is)
+own-more false true true e ms s count is never rest = omega (arith, rest)
+own-more false true false e ms s count is never rest = omega (arith, rest)
+own-more false false true e ms s count is never rest = omega (arith, rest)
+own-more false false false e ms s count is never rest = omega (arith, rest)
 
 own-reads : (n : ℕ) (s : PlainShard) (es : List Event) → pool_reads (map (λ m. m.event) (own_moments n (moments s es))) ≡ reads_by n es
 own-reads n s [] = refl
@@ -266,8 +267,8 @@ caller-reads g len image blocks n all rs histories valid long answers told =
     all-filter : (test : Act → Bool) (xs : List Act) → AllByRecursion IsLineAct xs → AllByRecursion IsLineAct (filter test xs)
     all-filter test [] line = tt
     all-filter test (x ∷ xs) line = elim (cases_true (test x)) [
-      | inl yes ↦ rw yes (line.0, all-filter test xs line.1)
-      | inr no ↦ rw no (all-filter test xs line.1)
+      | inl passes ↦ rw passes (line.0, all-filter test xs line.1)
+      | inr fails ↦ rw fails (all-filter test xs line.1)
     ]
 
 -- ---- no other's
@@ -317,15 +318,15 @@ no-other callers [] party none = tt
 no-other callers (e ∷ es) party none =
     (λ read. below read (party 0 e refl), no-other callers es (λ x y at. party (suc x) y at) (omega (arith, none, sum_by-cons (λ x. cond (is_pool_read x && number_of x == callers) 1 0) e es)))
   where
+    less : (a b : ℕ) → a < suc b → (a ≡ b → ⊥) → a < b
+    less a b lt differs = omega arith
+
     below : is_pool_read e ≡ true → number_of e < suc callers → number_of e < callers
     below read lt = dite (ℕ_discrete (number_of e) callers)
         (λ same.
-        let one : cond (is_pool_read e && number_of e == callers) 1 0 ≡ 1 = rw (read, eq-eqb (number_of e) callers same) refl in
+        let one : cond {A = ℕ} (is_pool_read e && number_of e == callers) 1 0 ≡ 1 = rw (read, eq-eqb (number_of e) callers same) refl in
         absurd (omega (arith, one, none, sum_by-cons (λ x. cond (is_pool_read x && number_of x == callers) 1 0) e es)))
         (λ differs. less (number_of e) callers lt differs)
-
-    less : (a b : ℕ) → a < suc b → (a ≡ b → ⊥) → a < b
-    less a b lt differs = omega arith
 
 -- Each event is of a party, and the last of these, the feeder, made none: so each read of the pool is a caller's.
 pub history-of-callers : (callers : ℕ) (s : PlainShard) (es : List Event) → ((x : ℕ) (e : Event) → get_elem? es x ≡ some e → number_of e < suc callers) → own_moments callers (moments s es) ≡ []

@@ -29,7 +29,7 @@ use Rattle.trace_run.specs.Effects.{calls_of_all}
 use Rattle.trace_run.specs.Group.{HasWorked, HaveWorked, IsFork}
 use Rattle.trace_run.specs.KeptBlocks.{Stands, read_of}
 use Rattle.trace_run.specs.Lines.{is_of_caller}
-use Rattle.trace_run.specs.OneCaller.{kept_after_all}
+use Rattle.trace_run.specs.OneCaller.{kept_after, kept_after_all}
 use Rattle.trace_run.specs.Tally.{AreAnswered}
 use Rattle.trace_run.specs.Told.{IsTold}
 use Rattle.trace_run.specs.Together.{over_callers}
@@ -67,7 +67,7 @@ answers-length : (len : ℕ) (image : Option (List ℕ)) (blocks : List Ptr) (ke
 answers-length len image blocks kept [] [] answers = refl
 answers-length len image blocks kept [] (r ∷ rs) answers = absurd answers
 answers-length len image blocks kept (o ∷ os) [] answers = absurd answers
-answers-length len image blocks kept (o ∷ os) (r ∷ rs) answers = ap suc (answers-length len image blocks _ os rs answers.1)
+answers-length len image blocks kept (o ∷ os) (r ∷ rs) answers = ap suc (answers-length len image blocks (kept_after blocks o r kept) os rs answers.1)
 
 module _ {C P : Type 0} (cache : Cache) (pools : Ghosts P) (blocks : List Ptr) (ops : List Op) where
   -- what the lines come to, of a caller that kept nothing

@@ -13,6 +13,8 @@ use lib.ListN.{get_elem?}
 use Rattle.blk_ptr.specs.declared.ptr.Ptr.{Ptr}
 use Rattle.arc_lists.proofs.Tables.{cases_true}
 use Rattle.arc_core.specs.Config.{IsConfig}
+use Rattle.arc_core.specs.declared.config.Config.{Config}
+use Rattle.arc_core.specs.declared.event.Event.{Event}
 use Rattle.arc_core.specs.Operations.{pool_reads}
 use Rattle.vdev_io.specs.declared.pool.Pool.{Ghosts}
 use Rattle.vdev_io.specs.Faults.{Rose}
@@ -24,6 +26,7 @@ use Rattle.arc_table.specs.Geometry.{parties_of}
 use Rattle.arc_table.specs.Items.{Meanings}
 use Rattle.arc_table.specs.PoolCalls.{KeepsPool, MakesCalls}
 use Rattle.arc_table.specs.TableLaws.{get_more, same_at, there, within}
+use Rattle.trace_text.specs.declared.ends.ShardEnd.{ShardEnd}
 use Rattle.trace_text.specs.declared.op.Op.{Op}
 use Rattle.trace_text.specs.declared.op.Op.TheVariants as ops
 use Rattle.trace_text.specs.declared.reply.Reply.{Reply}
@@ -180,6 +183,34 @@ module _ {C P : Type 0} (m : Meanings C) (cache : Cache) (valid : IsConfig cache
           let answers = subst (AreAnswered (pools.size (worked.forks n)) (pools.told (worked.forks n)) blocks [] (filter (is_of_caller n) os)) (sym (ordered.each n w.0 w.2)) w.4.answers in
           caller-reads cache.config (pools.size (worked.forks n)) (pools.told (worked.forks n)) blocks n os (replies_of_caller n os merged) (histories_of closed) valid (length-map closed.shards _ ∙ ends.shards)
           answers (caller-told m cache valid blocks os merged all closed ends all-count worked-ended n below)
+
+-- the configuration of the cache is the trace's
+explained-as : (trace : Trace) (g : Config) (replies : List Reply) (ends : List ShardEnd) (histories : List (List Event)) → g ≡ trace.config
+    → Explain (record { config = g; blocks = trace.blocks; ops = trace.ops }) replies ends histories → Explain trace replies ends histories
+explained-as trace g replies ends histories is explained = subst (λ (c : Config). Explain (record { config = c; blocks = trace.blocks; ops = trace.ops }) replies ends histories) is explained
+
+pub none-explained : {C : Type 0} (m : Meanings C) (cache : Cache) (trace : Trace) → cache.config ≡ trace.config → IsConfig cache.config → (ps : List (Place (Known C))) → AreOpened cache ps → (closed : Ended C) → Ends m cache ps closed
+    → Explain trace [] (ends_in closed) (histories_of closed)
+none-explained m cache trace is valid ps opened closed ends =
+    explained-as trace cache.config [] (ends_in closed) (histories_of closed) is (none-explains m cache valid trace.blocks trace.ops ps opened closed ends)
+
+pub ran-group : {C P : Type 0} (m : Meanings C) (cache : Cache) (trace : Trace) → cache.config ≡ trace.config → (valid : IsConfig cache.config) (pools : Ghosts P) (before after : P) (own : List (List Reply)) (ps : List (Place (Known C)))
+    (feeder : Place (Known C)) → HaveWorked cache pools trace.blocks trace.ops cache.config.callers before after own ps → IsOpened cache cache.config.callers feeder → (merged : List Reply) → AreInOrder trace.ops own merged
+    → (closed : Ended C) → Ends m cache (ps ++ feeder ∷ []) closed → RanGroup cache pools before after trace merged closed
+ran-group m cache trace is valid pools before after own ps feeder worked last merged ordered closed ends =
+    let same : cache.config.callers ≡ trace.config.callers = ap (λ (g : Config). g.callers) is in
+    let blocks = trace.blocks in
+    let os = trace.ops in
+    record {
+      own = own;
+      parties = ps;
+      worked = subst (λ (c : ℕ). HaveWorked cache pools blocks os c before after own ps) same worked;
+      ordered = ordered;
+      explained = explained-as trace cache.config merged (ends_in closed) (histories_of closed) is (worked-explains m cache valid pools blocks os before after own ps feeder worked last merged ordered closed ends);
+      counted = λ n below. worked-counted m cache valid pools blocks os before after own ps feeder worked last merged ordered closed ends n (subst (λ (c : ℕ). n < c) (sym same) below);
+      others = subst (λ (c : ℕ). over_callers c (λ n. reads_of_caller n (histories_of closed)) ≡ sum_by pool_reads (histories_of closed)) same
+          (worked-others m cache valid pools blocks os before after own ps feeder worked last merged ordered closed ends);
+    }
 
 -- ---- what the callers' replies tell is what all replies tell
 

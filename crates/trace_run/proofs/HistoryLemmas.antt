@@ -109,7 +109,7 @@ read-number callers cells (Pass n k owner) (inr pass) =
     let mine : nat_le n callers ≡ true = grind (arith, nat_tests, pass.1) in
     let other : nat_le owner callers ≡ true = grind (arith, nat_tests, pass.2) in
     both (nat_le n callers) (nat_le owner callers) mine other
-read-number callers cells (_) (inr pass) = absurd (false≢true pass.0)
+read-number callers cells e (inr pass) = absurd (false≢true pass.0)
 
 -- ---- the events of acts of reads
 
