@@ -33,7 +33,7 @@ module _ {C P : Type 0} (pools : Ghosts P) (before after : P) (trace : Trace) (r
       record {
         answers = ran.answers;
         explained = ran.explained;
-        closed = record { histories = refl; ends = refl };
+        tells = record { histories = refl; ends = refl };
         reads = λ low. calls-reads pools (calls_of_all replies) before after ran.made (omega (arith, low, few)) ∙ ap (λ (n : ℕ). pools.reads before + n) ran.counted;
         faults = λ low. omega (arith, calls-faults pools (calls_of_all replies) before after ran.made (omega (arith, low, few)), failed-all replies);
         alone = λ _. (
@@ -59,7 +59,7 @@ module _ {C P : Type 0} (pools : Ghosts P) (before after : P) (trace : Trace) (r
   together-run fork_failed two ran = record {
     answers = ran.answers;
     explained = ran.explained;
-    closed = record { histories = refl; ends = refl };
+    tells = record { histories = refl; ends = refl };
     reads = ran.reads;
     faults = ran.faults;
     alone = λ one. absurd (omega (arith, two, one));

@@ -70,7 +70,7 @@ module _ {C : Type 0} (m : Meanings C) (cache : Cache) (p : Place (Known C)) (cl
     pub alone-told : (acts : List Act) → IsTold g acts p → Tell (acts_in (shard_of g.shards) i p.number acts) (own_moments p.number (moments (opening_of g) l.history))
     alone-told = closed-told m cache (p ∷ []) closed ends i l at p ends.shown.0 parties stands.free stands.apart stands.of.config stands.seen
 
-    was-free : WasFree (Pact m) p (turn_of g i) (item.Shard l)
+    abbrev was-free : WasFree (Pact m) p (turn_of g i) (item.Shard l)
     was-free = last m cache (p ∷ []) closed ends i l at p ends.shown.0 parties stands.free stands.apart
 
     pub alone-rests : AllByRecursion (IsReadEvent cache.config.callers) l.history → IsAtRest (replay (opening_of g) l.history)
