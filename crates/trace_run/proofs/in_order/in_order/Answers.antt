@@ -2,7 +2,7 @@ use Rattle.std.proofs.Common.{◌≡◌, ℕ, ◌+◌, ◌-◌, ◌<◌, ◌≤�
 use Rattle.std.proofs.Math.ListN.{set}
 use Rattle.std.specs.Prelude.{slice_get}
 use Rattle.std.proofs.lemmas.List.{get_or-map, length-map, map-set, reverse-append}
-use Rattle.std.proofs.lemmas.Option.{slice_get-get_or}
+use Rattle.std.proofs.lemmas.Option.{slice_get_read}
 use Rattle.trace_text.specs.declared.op.Op.{Op}
 use Rattle.trace_text.specs.declared.reply.Reply.{Reply}
 use Rattle.trace_run.specs.Lines.{caller_of}
@@ -12,7 +12,11 @@ use Rattle.trace_run.proofs.in_order.in_order.Goals as goal
 abbrev lists : List (Vec Reply Global) → List (List Reply)
 lists = map (λ (rs : Vec Reply Global). rs.items)
 
--- the list of a caller
+-- the last line that has no reply yet
+at-op : (ops : List Op) (lines : ℕ) (op : Op) → 0 < lines → lines ≤ length ops → op ≡ get_or ops (lines - 1) op → slice_get ops (lines - 1) ≡ Some op
+at-op ops lines op some_of few is = slice_get_read ops (length ops) (lines - 1) op refl (omega arith) is
+
+-- its caller's list
 module _ (ops : List Op) (first : List (List Reply)) (left : List (Vec Reply Global)) (lines : ℕ) (placed : List Reply) (op : Op) (some_of : 0 < lines) (here : slice_get ops (lines - 1) ≡ Some op)
     (inside : caller_of op < length first) (are : ArePlaced ops first (lists left) lines placed) (caller : ℕ) (is : caller ≡ caller_of op) where
   within : caller < length left
@@ -28,8 +32,10 @@ module _ (ops : List Op) (first : List (List Reply)) (left : List (Vec Reply Glo
       → ArePlaced ops first (lists (set left caller rest)) (lines - 1) (reverse more)
   its-more rs rest r merged more at last same pushed =
       subst (λ (x : List (List Reply) × List Reply). ArePlaced ops first x.0 (lines - 1) x.1)
-      (λ i. ((ap (λ (n : ℕ). set (lists left) n rest.items) (sym is) ∙ sym (map-set (λ (rs : Vec Reply Global). rs.items) left caller rest)) i,
-      (ap (λ (l : List Reply). r ∷ l) same ∙ (sym (reverse-append merged (r ∷ [])) ∙ ap reverse (sym pushed))) i))
+      (λ i. (
+        (ap (λ (n : ℕ). set (lists left) n rest.items) (sym is) ∙ sym (map-set (λ (rs : Vec Reply Global). rs.items) left caller rest)) i,
+        (ap (λ (l : List Reply). r ∷ l) same ∙ (sym (reverse-append merged (r ∷ [])) ∙ ap reverse (sym pushed))) i,
+      ))
       (placed-more ops first (lists left) (lines - 1) placed op here inside are-then rest.items r (its-list rs at ∙ last))
 
   its-one : (rs : Vec Reply Global) → rs ≡ get_or left caller rs → vec_len rs ≡ 0 → ⊥
@@ -46,25 +52,19 @@ loop-number-init c = rw c.new-merged.ensures.items (placed-none c.args.ops.now _
 
 pub index_mut-requires : goal.index_mut-requires
 index_mut-requires c =
-    let d : Op = ops.Read 0 0 0 in
-    let long = c.loop-number.invariant.count in
-    let here : slice_get c.args.ops.now (c.loop-number.number - 1) ≡ Some (get_or c.args.ops.now (c.loop-number.number - 1) d) = slice_get-get_or c.args.ops.now (c.loop-number.number - 1) d (omega arith) in
+    let here : slice_get c.args.ops.now (c.loop-number.number - 1) ≡ Some c.index-ops-number.result = at-op c.args.ops.now c.loop-number.number c.index-ops-number.result c.loop-number-test.true c.loop-number.auto.number c.index-ops-number.is in
     let inside = within c.args.ops.now _ c.loop-number.replies.items c.loop-number.number _ _ c.loop-number-test.true here (c.requires.own _ _ here) c.loop-number.invariant c.caller_of-caller.result c.caller_of-caller.ensures in
     let len = c.loop-number.replies.ok.0 in
     omega arith
 
 pub unreachable-requires : goal.unreachable-requires
 unreachable-requires c =
-    let d : Op = ops.Read 0 0 0 in
-    let long = c.loop-number.invariant.count in
-    let here : slice_get c.args.ops.now (c.loop-number.number - 1) ≡ Some (get_or c.args.ops.now (c.loop-number.number - 1) d) = slice_get-get_or c.args.ops.now (c.loop-number.number - 1) d (omega arith) in
+    let here : slice_get c.args.ops.now (c.loop-number.number - 1) ≡ Some c.index-ops-number.result = at-op c.args.ops.now c.loop-number.number c.index-ops-number.result c.loop-number-test.true c.loop-number.auto.number c.index-ops-number.is in
     its-one c.args.ops.now _ c.loop-number.replies.items c.loop-number.number _ _ c.loop-number-test.true here (c.requires.own _ _ here) c.loop-number.invariant c.caller_of-caller.result c.caller_of-caller.ensures c.index_mut.result.now c.index_mut.ensures.value c.in_default.ensures.cases.0
 
 pub loop-number-preserved : goal.loop-number-preserved
 loop-number-preserved c =
-    let d : Op = ops.Read 0 0 0 in
-    let long = c.loop-number.invariant.count in
-    let here : slice_get c.args.ops.now (c.loop-number.number - 1) ≡ Some (get_or c.args.ops.now (c.loop-number.number - 1) d) = slice_get-get_or c.args.ops.now (c.loop-number.number - 1) d (omega arith) in
+    let here : slice_get c.args.ops.now (c.loop-number.number - 1) ≡ Some c.index-ops-number.result = at-op c.args.ops.now c.loop-number.number c.index-ops-number.result c.loop-number-test.true c.loop-number.auto.number c.index-ops-number.is in
     its-more c.args.ops.now _ c.loop-number.replies.items c.loop-number.number _ _ c.loop-number-test.true here (c.requires.own _ _ here) c.loop-number.invariant c.caller_of-caller.result c.caller_of-caller.ensures c.index_mut.result.now
     c.pop.new.self c.in-Some.reply c.loop-number.merged.items c.push.new.self.items c.index_mut.ensures.value c.in-Some.ensures.items refl c.in_ok-push.ensures.items
 
