@@ -169,10 +169,11 @@ module _ (shards : ℕ) (blocks : List Ptr) (i : ℕ) where
             let same : j ≡ i = eqb-true j i in_it in
             let events : es ≡ events_of blocks (s i) (kept_in_shard shards blocks i kept) op reply =
             ap (λ (n : ℕ). events_of blocks (s n) kept op reply) same ∙ events-here shards blocks i (s i) op reply kept in_it in
-            rw in_it
-            (subst (λ (n : ℕ). IsFoundAs blocks (s n) op reply) same all.0,
-            subst (λ (x : PlainShard × List KeptRead). AreFoundAs blocks x.0 x.1 (filter (is_in_shard shards blocks i) os) (replies_where (is_in_shard shards blocks i) os replies))
-            (λ k. ((same-shard shards blocks i s j es in_it ∙ ap (replay (s i)) events) k, kept-here shards blocks i op reply kept in_it k)) rest)
+            rw in_it (
+              subst (λ (n : ℕ). IsFoundAs blocks (s n) op reply) same all.0,
+              subst (λ (x : PlainShard × List KeptRead). AreFoundAs blocks x.0 x.1 (filter (is_in_shard shards blocks i) os) (replies_where (is_in_shard shards blocks i) os replies))
+                  (λ k. ((same-shard shards blocks i s j es in_it ∙ ap (replay (s i)) events) k, kept-here shards blocks i op reply kept in_it k)) rest,
+            )
         | inr out ↦
             rw out
             (subst (λ (x : PlainShard × List KeptRead). AreFoundAs blocks x.0 x.1 (filter (is_in_shard shards blocks i) os) (replies_where (is_in_shard shards blocks i) os replies))

@@ -76,8 +76,7 @@ module _ {C : Type 0} (cache : Cache) where
   pub start-of : (ps rest : List (Place (Known C))) (n : ℕ) → ((k : ℕ) (p : Place (Known C)) → get_elem? (ps ++ rest) k ≡ some p → IsOpened cache (n + k) p) → AreAtStart cache n ps
   start-of [] rest n each = tt
   start-of (p ∷ ps) rest n each =
-      let h = each 0 p refl in
-      (
+      let h = each 0 p refl in (
         record { number = h.number ∙ omega arith; stands = h.new.stands; told = h.new.told },
         start-of ps rest (suc n) (λ k q at. subst (λ (x : ℕ). IsOpened cache x q) (omega arith) (each (suc k) q at)),
       )

@@ -111,7 +111,7 @@ module _ {C P : Type 0} (g : Config) (pools : Ghosts P) (device : ℕ) (blocks :
 
   -- ---- a caller that is alone
 
-  all-then : (p : Place (Known C)) (q : Place (Known C)) → (HasAll p → HasAll q) → IsAlone device p → IsAlone device q
+  pub all-then : (p : Place (Known C)) (q : Place (Known C)) → (HasAll p → HasAll q) → IsAlone device p → IsAlone device q
   all-then p q more a = record { all = more a.all; none = a.none }
 
   pub lines-all : (os : List Op) (rs : List Reply) (a b : At C P) → DidLines g pools device blocks os rs a b → IsAlone device a.party → IsAlone device b.party
@@ -130,7 +130,7 @@ module _ {C P : Type 0} (g : Config) (pools : Ghosts P) (device : ℕ) (blocks :
       (λ is. rw (eq-eqb shard here is) (subst (λ (n : ℕ). seen_of g n b.party ≡ seen_of g n a.party ++ events_of blocks (now_of g here a.party) a.kept o r) (sym is) adds.here))
       (λ differs. rw (ne_eqb shard here differs) (adds.others shard differs ∙ sym (append-nil (seen_of g shard a.party))))
 
-  line-now : (o : Op) (r : Reply) (a b : At C P) → DidLine g pools device blocks o r a b → IsAlone device a.party → (shard : ℕ)
+  pub line-now : (o : Op) (r : Reply) (a b : At C P) → DidLine g pools device blocks o r a b → IsAlone device a.party → (shard : ℕ)
       → now_of g shard b.party ≡ shards_after (λ i. now_of g i a.party) (shard_of_line g.shards blocks o) (events_of blocks (now_of g (shard_of_line g.shards blocks o) a.party) a.kept o r) shard
   line-now o r a b did alone shard =
       let adds = did.did.alone alone in

@@ -164,9 +164,10 @@ module _ {C : Type 0} (cache : Cache) where
     own-seen : HasSeenItsOwn cache.config then
     own-seen = record {
       own = subst (AreSeen cache.config p.number p.own.mine) (first.new.seen ∙ sym seen-none) first.new.stands.seen.own;
-      joined = subst (λ (ks : List (Joined (Known C))). AllSeen cache.config ks then.own.seen) (sym joined-is)
-          (subst (AreSeen cache.config q.number q.own.mine) same-seen next.new.stands.seen.own,
-          subst (AllSeen cache.config p.joined) (first.new.seen ∙ sym seen-none) first.new.stands.seen.joined);
+      joined = subst (λ (ks : List (Joined (Known C))). AllSeen cache.config ks then.own.seen) (sym joined-is) (
+        subst (AreSeen cache.config q.number q.own.mine) same-seen next.new.stands.seen.own,
+        subst (AllSeen cache.config p.joined) (first.new.seen ∙ sym seen-none) first.new.stands.seen.joined,
+      );
     }
 
     told-then : IsTold cache.config [] then

@@ -36,10 +36,12 @@ use Rattle.trace_run.specs.OneCaller.{AllLines, AreFoundAs, events_of_all, event
 use Rattle.trace_run.specs.Outcome.{IsRun}
 use Rattle.trace_run.specs.PlainCache.{MakesAll, PlainCache}
 use Rattle.trace_run.specs.PlainLines.{IsPlainLine}
+use Rattle.trace_run.specs.PlainReport.{IsPlainReport}
 use Rattle.trace_run.specs.PlainRun.{replies_to, report_of, report_with, status_of}
 use Rattle.arc_table.specs.PoolCalls.{MakesCalls}
 use Rattle.trace_run.specs.Tally.{IsOfCaller}
 use Rattle.trace_run.proofs.PlainLemmas.{plain-all}
+use Rattle.trace_run.proofs.PlainReportLemmas.{same-report}
 use Rattle.trace_run.proofs.RunLemmas.{calls-faults, calls-few, calls-reads, failed-all, pool_reads-append, reads-drop}
 use Rattle.trace_run.proofs.TellLemmas.{every-call, filter-all}
 
@@ -182,16 +184,16 @@ explains pool before after trace replies start done end history ends formed call
 
 plain-report : (o : Option (List ℕ)) (trace : Trace) (report : Report) → trace.config.shards ≡ 1 → length report.replies ≡ length trace.ops
     → IfSome o (λ image. AllLines (IsPlainLine image trace.blocks) trace.blocks (opening_of trace.config) [] trace.ops report.replies) → report ≡ report_with trace report.replies
-    → IfSome o (λ image. report ≡ report_of trace image (calls_of_all report.replies))
+    → IfSome o (λ image. IsPlainReport trace image (report_of trace image (calls_of_all report.replies)) report)
 plain-report None trace report one same lines is = tt
 plain-report (Some image) trace report one same lines is =
     let opening = opening_of trace.config in
     let replies : report.replies ≡ replies_to image trace.config.shards trace.blocks (λ shard. opening) [] trace.ops (calls_of_all report.replies) =
     plain-all image trace.config.shards trace.blocks (λ shard. opening) opening [] trace.ops report.replies (line-shard trace.config.shards one trace.blocks) refl same lines in
-    is ∙ ap (λ (l : List Reply). report_with trace l) replies
+    same-report trace image (report_of trace image (calls_of_all report.replies)) report same (is ∙ ap (λ (l : List Reply). report_with trace l) replies)
 
 -- a report by its parts
-report-is : (trace : Trace) (report : Report) → report.histories ≡ one_caller_histories trace.config.shards trace.blocks 0 (opening_of trace.config) trace.ops report.replies
+pub report-is : (trace : Trace) (report : Report) → report.histories ≡ one_caller_histories trace.config.shards trace.blocks 0 (opening_of trace.config) trace.ops report.replies
     → report.ends ≡ ends_of trace.config (one_caller_histories trace.config.shards trace.blocks 0 (opening_of trace.config) trace.ops report.replies)
     → report.status ≡ status_of report.replies → report.short ≡ false → report ≡ report_with trace report.replies
 report-is trace report histories ends status short =
