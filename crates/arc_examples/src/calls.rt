@@ -1,9 +1,9 @@
 //! Steps of one or two calls. After each the party is ready for the next, and what it got is given back.
-ghost use Rattle.std.specs.Prelude.{◌≡◌, IfSome};
+ghost use Rattle.std.specs.Prelude.{◌≡◌, IfErr, IfOk, IfSome, OnErr};
 ghost use Rattle.turn_table.specs.Places.{IsOther};
 ghost use Rattle.arc_table.specs.Booking.{without_hold};
 ghost use Rattle.arc_table.specs.Holding.{IsHeld};
-ghost use Rattle.arc_examples.specs.Ready.{Gets, IsAsBefore, IsReady, IsReadyAs};
+ghost use Rattle.arc_examples.specs.Ready.{Gets, HasGot, IsAsBefore, IsReady, IsReadyAs};
 
 use crate::plain::Plain;
 use arc_table::{Arcs, Hold, Look, Party, Read, TryDrop, TryHit};
@@ -28,8 +28,9 @@ fn try_back<R: Wait>(rt: &R, arcs: &Arcs<Plain>, party: &mut Party<Plain>, hold:
     ensures ready { IsReadyAs arcs.now party.old party.new }
     ensures holds { party.new.own.ledger.holds ≡ without_hold hold.key party.old.own.ledger.holds }
 {
-    if let TryDrop::Busy { owner: _, hold } = arcs.try_drop(party, hold) {
-        give_back(rt, arcs, party, hold);
+    match arcs.try_drop(party, hold) {
+        TryDrop::Done => {}
+        TryDrop::Busy { owner: _, hold } => give_back(rt, arcs, party, hold),
     }
 }
 
@@ -47,22 +48,30 @@ fn get<R: Wait>(
 {
     match arcs.read(rt, party, ptr, tick, pool, &mut NoCache) {
         Ok(Read::Held(hold, _)) => Some(hold),
-        Ok(Read::Past { block: _, kept: _ }) | Err(_) => None,
+        Ok(Read::Past { block: _, kept: _ }) => None,
+        Err(_) => None,
     }
 }
 
-// Asks for a block.
-fn try_get(arcs: &Arcs<Plain>, party: &mut Party<Plain>, ptr: &Ptr, tick: u64) -> Option<Hold>
+// Asks for a block. Err has the number of the party that has the block's bucket or its shard, where another has one of them.
+fn try_get(
+    arcs: &Arcs<Plain>,
+    party: &mut Party<Plain>,
+    ptr: &Ptr,
+    tick: u64,
+) -> Result<Hold, Option<u32>>
     requires { IsReady arcs.now party.old }
-    ensures { Gets arcs.now ptr.now.key party.old party.new result }
+    ensures held { IfOk result (λ hold. HasGot arcs.now ptr.now.key hold party.old party.new) }
+    ensures none { OnErr result (IsAsBefore arcs.now party.old party.new) }
+    ensures other { IfErr result (λ owner. IfSome owner (λ n. IsOther n party.old)) }
 {
     match arcs.try_hit(party, ptr, tick) {
-        TryHit::Held(hold) => Some(hold),
-        TryHit::NotHere(_)
-        | TryHit::Other { kept: _, front: _ }
-        | TryHit::Reading { owner: _, front: _ }
-        | TryHit::Busy { owner: _ }
-        | TryHit::NoMemory => None,
+        TryHit::Held(hold) => Ok(hold),
+        TryHit::NotHere(_) => Err(None),
+        TryHit::Other { kept: _, front: _ } => Err(None),
+        TryHit::Reading { owner: _, front: _ } => Err(None),
+        TryHit::Busy { owner } => Err(Some(owner)),
+        TryHit::NoMemory => Err(None),
     }
 }
 
@@ -115,7 +124,7 @@ pub fn try_one<R: Wait>(
     requires { IsReady arcs.now party.old }
     ensures { IsAsBefore arcs.now party.old party.new }
 {
-    let Some(hold) = try_get(arcs, party, ptr, tick) else {
+    let Ok(hold) = try_get(arcs, party, ptr, tick) else {
         return false;
     };
     give_back(rt, arcs, party, hold);
@@ -134,16 +143,12 @@ pub fn who_has<R: Wait>(
     ensures party { IsAsBefore arcs.now party.old party.new }
     ensures other { IfSome result (λ owner. IsOther owner party.old) }
 {
-    match arcs.try_hit(party, ptr, tick) {
-        TryHit::Busy { owner } => Some(owner),
-        TryHit::Held(hold) => {
+    match try_get(arcs, party, ptr, tick) {
+        Ok(hold) => {
             give_back(rt, arcs, party, hold);
             None
         }
-        TryHit::NotHere(_)
-        | TryHit::Other { kept: _, front: _ }
-        | TryHit::Reading { owner: _, front: _ }
-        | TryHit::NoMemory => None,
+        Err(owner) => owner,
     }
 }
 
