@@ -1,5 +1,5 @@
 -- A party between calls, with a hold that it got, and once it has given it back.
-use Rattle.std.specs.Prelude.{◌≡◌, [], ◌∷◌, Option, Some, None}
+use Rattle.std.specs.Prelude.{◌≡◌, ℕ, suc, List, [], ◌∷◌, Option, Some, None}
 use Rattle.blk_ptr.specs.declared.key.Key.{Key}
 use Rattle.blk_ptr.specs.declared.ptr.Ptr.{Ptr}
 use Rattle.arc_core.specs.Config.{IsConfig}
@@ -44,3 +44,16 @@ module _ {C : Type 0} where
   abbrev pub Gets : Cache → Key → Place (Known C) → Place (Known C) → Option Hold → Type 0
   Gets cache k p q (Some hold) = HasGot cache k hold p q
   Gets cache k p q None = IsAsBefore cache p q
+
+module _ {C : Type 0} where
+  -- the party of this number of a new cache: it has joined none, and has picked nothing
+  pub record IsNew (cache : Cache) (n : ℕ) (p : Place (Known C)) : Type 0 where
+    pub ready : IsReady cache p
+    pub number : p.number ≡ n
+    pub joined : p.joined ≡ []
+    pub picked : p.own.ledger.picked ≡ []
+
+  -- the parties of a new cache, from this number on
+  abbrev pub AreNew : Cache → (first : ℕ) → List (Place (Known C)) → Type 0
+  AreNew cache n [] = Unit {0}
+  AreNew cache n (p ∷ ps) = IsNew cache n p × AreNew cache (suc n) ps

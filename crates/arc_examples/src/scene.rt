@@ -1,7 +1,7 @@
 //! Caches with their callers: how they are made, and how they end.
-ghost use Rattle.std.specs.Prelude.{◌≡◌, [], length, IfOk, Some};
+ghost use Rattle.std.specs.Prelude.{◌≡◌, ◌+◌, length, IfOk, OnOk};
 ghost use Rattle.arc_core.specs.Config.{IsConfig};
-ghost use Rattle.arc_examples.specs.Ready.{IsReady};
+ghost use Rattle.arc_examples.specs.Ready.{AreNew, IsNew, IsReady};
 
 use crate::plain::{Caller, Plain, SIZE};
 use arc_core::Config;
@@ -14,7 +14,7 @@ use vdev_io::MemPool;
 #[derive(Drop)]
 pub struct Pair {
     pub arcs: Arcs<Plain>,
-    pub feeder: Party<Plain>,
+    pub feeder: Caller,
     pub one: Caller,
     pub two: Caller,
 }
@@ -33,17 +33,36 @@ fn zeros(alloc: Global, blocks: u64) -> Result<MemPool, NoMemory> {
     MemPool::new(alloc, bytes, Vec::new(alloc), Vec::new(alloc))
 }
 
-// A caller with a pool of so many blocks.
-fn caller_of(
+// A new cache, and its parties by their numbers.
+fn made(alloc: Global, config: &Config) -> Result<(Arcs<Plain>, Vec<Party<Plain>>), NoMemory>
+    requires valid { IsConfig config.now }
+    requires cells { config.now.cells ≡ 1 }
+    ensures config { IfOk result (λ r. r.0.config ≡ config.now) }
+    ensures parties { IfOk result (λ r. AreNew r.0 0 r.1.items) }
+    ensures count { IfOk result (λ r. length r.1.items ≡ config.now.callers + 1) }
+{
+    let cells = vec![in alloc; Plain]?;
+    let (arcs, parties) = Arcs::new(alloc, config, cells)?;
+    Ok((arcs, parties))
+}
+
+// Of these parties, which stand by their numbers, the last, with a pool of so many blocks.
+fn last_of(
     alloc: Global,
-    party: Option<Party<Plain>>,
+    arcs: &Arcs<Plain>,
+    parties: &mut Vec<Party<Plain>>,
     blocks: u64,
     seed: u64,
 ) -> Result<Caller, NoMemory>
-    ensures { IfOk result (λ c. party ≡ Some c.party) }
+    requires { AreNew arcs.now 0 parties.old.items }
+    ensures last { IfOk result (λ c. IsNew arcs.now (length parties.new.items) c.party) }
+    ensures ready { IfOk result (λ c. IsReady arcs.now c.party) }
+    ensures number { IfOk result (λ c. c.party.number ≡ length parties.new.items) }
+    ensures rest { OnOk result (AreNew arcs.now 0 parties.new.items) }
+    ensures count { OnOk result (length parties.new.items + 1 ≡ length parties.old.items) }
 {
     let pool = zeros(alloc, blocks)?;
-    match party {
+    match parties.pop() {
         Some(party) => Ok(Caller { party, pool, seed }),
         None => Err(NoMemory),
     }
@@ -55,18 +74,15 @@ pub fn opened_pair(alloc: Global, config: &Config, blocks: u64) -> Result<Pair, 
     requires callers { config.now.callers ≡ 2 }
     requires cells { config.now.cells ≡ 1 }
     ensures config { IfOk result (λ p. p.arcs.config ≡ config.now) }
-    ensures feeder { IfOk result (λ p. IsReady p.arcs p.feeder × (p.feeder.number ≡ 2)) }
-    ensures settled { IfOk result (λ p. p.feeder.own.ledger.picked ≡ []) }
+    ensures feeder { IfOk result (λ p. IsReady p.arcs p.feeder.party × (p.feeder.party.number ≡ 2)) }
+    ensures new { IfOk result (λ p. IsNew p.arcs 2 p.feeder.party × IsNew p.arcs 1 p.two.party) }
     ensures one { IfOk result (λ p. IsReady p.arcs p.one.party × (p.one.party.number ≡ 0)) }
     ensures two { IfOk result (λ p. IsReady p.arcs p.two.party × (p.two.party.number ≡ 1)) }
 {
-    let cells = vec![in alloc; Plain]?;
-    let (arcs, mut parties) = Arcs::new(alloc, config, cells)?;
-    let Some(feeder) = parties.pop() else {
-        return Err(NoMemory);
-    };
-    let two = caller_of(alloc, parties.pop(), blocks, 2)?;
-    let one = caller_of(alloc, parties.pop(), blocks, 1)?;
+    let (arcs, mut parties) = made(alloc, config)?;
+    let feeder = last_of(alloc, &arcs, &mut parties, blocks, 3)?;
+    let two = last_of(alloc, &arcs, &mut parties, blocks, 2)?;
+    let one = last_of(alloc, &arcs, &mut parties, blocks, 1)?;
     Ok(Pair {
         arcs,
         feeder,
@@ -80,7 +96,7 @@ pub fn close_pair(alloc: Global, pair: Pair) -> Result<Closed<Plain>, NoMemory>
     requires callers { pair.arcs.config.callers ≡ 2 }
     requires one { IsReady pair.arcs pair.one.party × (pair.one.party.number ≡ 0) }
     requires two { IsReady pair.arcs pair.two.party × (pair.two.party.number ≡ 1) }
-    requires feeder { IsReady pair.arcs pair.feeder × (pair.feeder.number ≡ 2) }
+    requires feeder { IsReady pair.arcs pair.feeder.party × (pair.feeder.party.number ≡ 2) }
     ensures { IfOk result (λ closed. length closed.shards ≡ pair.arcs.config.shards) }
 {
     let Pair {
@@ -89,7 +105,7 @@ pub fn close_pair(alloc: Global, pair: Pair) -> Result<Closed<Plain>, NoMemory>
         one,
         two,
     } = pair;
-    let parties = vec![in alloc; one.party, two.party, feeder]?;
+    let parties = vec![in alloc; one.party, two.party, feeder.party]?;
     arcs.close(parties)
 }
 
@@ -105,13 +121,12 @@ pub fn opened(alloc: Global, config: &Config, blocks: u64) -> Result<Scene, NoMe
     ensures third { IfOk result (λ l. IsReady l.arcs l.callers.2.party × (l.callers.2.party.number ≡ 2)) }
     ensures fourth { IfOk result (λ l. IsReady l.arcs l.callers.3.party × (l.callers.3.party.number ≡ 3)) }
 {
-    let cells = vec![in alloc; Plain]?;
-    let (arcs, mut parties) = Arcs::new(alloc, config, cells)?;
-    let feeder = caller_of(alloc, parties.pop(), blocks, 5)?;
-    let four = caller_of(alloc, parties.pop(), blocks, 4)?;
-    let three = caller_of(alloc, parties.pop(), blocks, 3)?;
-    let two = caller_of(alloc, parties.pop(), blocks, 2)?;
-    let one = caller_of(alloc, parties.pop(), blocks, 1)?;
+    let (arcs, mut parties) = made(alloc, config)?;
+    let feeder = last_of(alloc, &arcs, &mut parties, blocks, 5)?;
+    let four = last_of(alloc, &arcs, &mut parties, blocks, 4)?;
+    let three = last_of(alloc, &arcs, &mut parties, blocks, 3)?;
+    let two = last_of(alloc, &arcs, &mut parties, blocks, 2)?;
+    let one = last_of(alloc, &arcs, &mut parties, blocks, 1)?;
     Ok(Scene {
         arcs,
         feeder,

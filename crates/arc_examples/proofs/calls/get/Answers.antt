@@ -1,5 +1,4 @@
 use Rattle.std.proofs.Common.{Ok, ap, ◌∙◌, subst}
-use Rattle.arc_table.specs.Reading.{outside}
 use Rattle.arc_examples.specs.Ready.{Gets}
 use Rattle.arc_examples.proofs.Gets.{held_of, read-gets}
 use Rattle.arc_examples.proofs.calls.get.Goals as goal
@@ -13,4 +12,5 @@ returns-in-Ok-Past g c = subst (λ r. Gets c.args.arcs.now c.args.ptr.now.key c.
     (read-gets _ c.args.arcs.now c.args.ptr.now c.args.tick c.args.party.now c.read.new.party c.requires _ _ _ _ c.read.result c.read.ensures.answer)
 
 pub returns : goal.returns
-returns g c = ?
+returns g c = subst (λ r. Gets c.args.arcs.now c.args.ptr.now.key c.args.party.now c.read.new.party (held_of r)) c.in-Err.is
+    (read-gets _ c.args.arcs.now c.args.ptr.now c.args.tick c.args.party.now c.read.new.party c.requires _ _ _ _ c.read.result c.read.ensures.answer)
