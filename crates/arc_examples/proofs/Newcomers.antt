@@ -9,19 +9,19 @@ use Rattle.arc_table.specs.Geometry.{parties_of}
 use Rattle.arc_table.specs.Views.{newcomer}
 use Rattle.arc_examples.specs.Ready.{AreNew, IsNew, IsReady}
 
-module _ {C : Type 0} (cache : Cache) where
-  some-new : (is : IsCache cache.row cache.config) (about : About) → about.config ≡ cache.config → (n k : ℕ) → AreNew {C = C} cache n (newcomers cache.row.table (parties_of cache.config) (newcomer about) n k)
-  some-new is about same n zero = tt
-  some-new is about same n (suc k) = (record {
-    ready = record { valid = is.valid; of = record { row = (refl, sym is.parties); config = same }; free = refl };
-    number = refl;
-    joined = refl;
-    picked = refl;
-  }, some-new is about same (suc n) k)
+some-new : (C : Type 0) (cache : Cache) (is : IsCache cache.row cache.config) (about : About) → about.config ≡ cache.config → (n k : ℕ) → AreNew {C = C} cache n (newcomers cache.row.table (parties_of cache.config) (newcomer about) n k)
+some-new C cache is about same n zero = tt
+some-new C cache is about same n (suc k) = (record {
+  ready = record { valid = is.valid; of = record { row = (refl, sym is.parties); config = same }; free = refl };
+  number = refl;
+  joined = refl;
+  picked = refl;
+}, some-new C cache is about same (suc n) k)
 
+module _ {C : Type 0} (cache : Cache) where
   -- the parties that a new cache has
   pub all-new : (is : IsCache cache.row cache.config) (about : About) (ps : List (Place (Known C))) → about.config ≡ cache.config → ps ≡ all_newcomers cache about → AreNew cache 0 ps
-  all-new is about ps same e = subst (AreNew cache 0) (sym e) (some-new is about same 0 (parties_of cache.config))
+  all-new is about ps same e = subst (AreNew cache 0) (sym e) (some-new C cache is about same 0 (parties_of cache.config))
 
   pub new-split : (ps : List (Place (Known C))) (p : Place (Known C)) (n : ℕ) → AreNew cache n (ps ++ p ∷ []) → AreNew cache n ps × IsNew cache (n + length ps) p
   new-split [] p n a = (tt, subst (λ (i : ℕ). IsNew cache i p) (omega arith) a.0)

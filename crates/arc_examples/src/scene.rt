@@ -8,7 +8,7 @@ use arc_core::Config;
 use arc_table::{Arcs, Closed, Party};
 use blk_ptr::NoMemory;
 use std::alloc::Global;
-use vdev_io::MemPool;
+use vdev_io::{MemPool, Pool};
 
 /// A cache, its feeder and its two callers.
 #[derive(Drop)]
@@ -33,8 +33,12 @@ fn zeros(alloc: Global, blocks: u64) -> Result<MemPool, NoMemory> {
     MemPool::new(alloc, bytes, Vec::new(alloc), Vec::new(alloc))
 }
 
-// A new cache, and its parties by their numbers.
-fn made(alloc: Global, config: &Config) -> Result<(Arcs<Plain>, Vec<Party<Plain>>), NoMemory>
+// A new cache, its parties by their numbers, and a pool of so many blocks.
+fn made(
+    alloc: Global,
+    config: &Config,
+    blocks: u64,
+) -> Result<(Arcs<Plain>, Vec<Party<Plain>>, MemPool), NoMemory>
     requires valid { IsConfig config.now }
     requires cells { config.now.cells ≡ 1 }
     ensures config { IfOk result (λ r. r.0.config ≡ config.now) }
@@ -43,15 +47,16 @@ fn made(alloc: Global, config: &Config) -> Result<(Arcs<Plain>, Vec<Party<Plain>
 {
     let cells = vec![in alloc; Plain]?;
     let (arcs, parties) = Arcs::new(alloc, config, cells)?;
-    Ok((arcs, parties))
+    let pool = zeros(alloc, blocks)?;
+    Ok((arcs, parties, pool))
 }
 
-// Of these parties, which stand by their numbers, the last, with a pool of so many blocks.
+// Of these parties, which stand by their numbers, the last, with a fork of the pool.
 fn last_of(
     alloc: Global,
     arcs: &Arcs<Plain>,
     parties: &mut Vec<Party<Plain>>,
-    blocks: u64,
+    pool: &mut MemPool,
     seed: u64,
 ) -> Result<Caller, NoMemory>
     requires { AreNew arcs.now 0 parties.old.items }
@@ -61,14 +66,16 @@ fn last_of(
     ensures rest { OnOk result (AreNew arcs.now 0 parties.new.items) }
     ensures count { OnOk result (length parties.new.items + 1 ≡ length parties.old.items) }
 {
-    let pool = zeros(alloc, blocks)?;
+    let Ok(pool) = pool.fork(alloc) else {
+        return Err(NoMemory);
+    };
     match parties.pop() {
         Some(party) => Ok(Caller { party, pool, seed }),
         None => Err(NoMemory),
     }
 }
 
-/// A new cache of two callers, with a pool of so many blocks for each.
+/// A new cache of two callers over a pool of so many blocks.
 pub fn opened_pair(alloc: Global, config: &Config, blocks: u64) -> Result<Pair, NoMemory>
     requires valid { IsConfig config.now }
     requires callers { config.now.callers ≡ 2 }
@@ -79,10 +86,10 @@ pub fn opened_pair(alloc: Global, config: &Config, blocks: u64) -> Result<Pair, 
     ensures one { IfOk result (λ p. IsReady p.arcs p.one.party × (p.one.party.number ≡ 0)) }
     ensures two { IfOk result (λ p. IsReady p.arcs p.two.party × (p.two.party.number ≡ 1)) }
 {
-    let (arcs, mut parties) = made(alloc, config)?;
-    let feeder = last_of(alloc, &arcs, &mut parties, blocks, 3)?;
-    let two = last_of(alloc, &arcs, &mut parties, blocks, 2)?;
-    let one = last_of(alloc, &arcs, &mut parties, blocks, 1)?;
+    let (arcs, mut parties, mut pool) = made(alloc, config, blocks)?;
+    let feeder = last_of(alloc, &arcs, &mut parties, &mut pool, 3)?;
+    let two = last_of(alloc, &arcs, &mut parties, &mut pool, 2)?;
+    let one = last_of(alloc, &arcs, &mut parties, &mut pool, 1)?;
     Ok(Pair {
         arcs,
         feeder,
@@ -109,7 +116,7 @@ pub fn close_pair(alloc: Global, pair: Pair) -> Result<Closed<Plain>, NoMemory>
     arcs.close(parties)
 }
 
-/// A new cache of four callers, with a pool of so many blocks for each.
+/// A new cache of four callers over a pool of so many blocks.
 pub fn opened(alloc: Global, config: &Config, blocks: u64) -> Result<Scene, NoMemory>
     requires valid { IsConfig config.now }
     requires callers { config.now.callers ≡ 4 }
@@ -121,12 +128,12 @@ pub fn opened(alloc: Global, config: &Config, blocks: u64) -> Result<Scene, NoMe
     ensures third { IfOk result (λ l. IsReady l.arcs l.callers.2.party × (l.callers.2.party.number ≡ 2)) }
     ensures fourth { IfOk result (λ l. IsReady l.arcs l.callers.3.party × (l.callers.3.party.number ≡ 3)) }
 {
-    let (arcs, mut parties) = made(alloc, config)?;
-    let feeder = last_of(alloc, &arcs, &mut parties, blocks, 5)?;
-    let four = last_of(alloc, &arcs, &mut parties, blocks, 4)?;
-    let three = last_of(alloc, &arcs, &mut parties, blocks, 3)?;
-    let two = last_of(alloc, &arcs, &mut parties, blocks, 2)?;
-    let one = last_of(alloc, &arcs, &mut parties, blocks, 1)?;
+    let (arcs, mut parties, mut pool) = made(alloc, config, blocks)?;
+    let feeder = last_of(alloc, &arcs, &mut parties, &mut pool, 5)?;
+    let four = last_of(alloc, &arcs, &mut parties, &mut pool, 4)?;
+    let three = last_of(alloc, &arcs, &mut parties, &mut pool, 3)?;
+    let two = last_of(alloc, &arcs, &mut parties, &mut pool, 2)?;
+    let one = last_of(alloc, &arcs, &mut parties, &mut pool, 1)?;
     Ok(Scene {
         arcs,
         feeder,
