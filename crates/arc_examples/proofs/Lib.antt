@@ -1,3 +1,4 @@
+pub mod Feeds
 pub mod Gets
 pub mod Holds
 pub mod Newcomers

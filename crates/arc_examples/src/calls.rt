@@ -9,6 +9,7 @@ use crate::plain::Plain;
 use arc_table::{Arcs, Hold, Look, Party, Read, TryDrop, TryHit};
 use blk_ptr::Ptr;
 use std::sync::Wait;
+use std::thread;
 use vdev_io::{MemPool, NoCache};
 
 // Gives a hold back.
@@ -152,7 +153,7 @@ pub fn who_has<R: Wait>(
     }
 }
 
-/// Looks at the bucket of a block, and ends the look. False where another party has it.
+/// Looks at the bucket of a block for a while. False where another party has it.
 pub fn look_at(arcs: &Arcs<Plain>, party: &mut Party<Plain>, ptr: &Ptr) -> bool
     requires { IsReady arcs.now party.old }
     ensures { IsAsBefore arcs.now party.old party.new }
@@ -160,6 +161,7 @@ pub fn look_at(arcs: &Arcs<Plain>, party: &mut Party<Plain>, ptr: &Ptr) -> bool
     let Look::Seen(look) = arcs.try_look(party, ptr.key) else {
         return false;
     };
+    thread::yield_now();
     arcs.end_look(party, look);
     true
 }

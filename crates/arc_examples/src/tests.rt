@@ -1,6 +1,6 @@
 // Rows of calls on a cache of two callers that keeps 4,096 bytes, with ample memory.
-ghost use Rattle.std.specs.Prelude.{◌≡◌, [], IfOk};
-ghost use Rattle.arc_examples.specs.Ready.{IsReady};
+ghost use Rattle.std.specs.Prelude.{◌≡◌, IfOk};
+ghost use Rattle.arc_examples.specs.Ready.{IsNew, IsReady};
 
 mod feeds;
 mod looks;
@@ -42,9 +42,9 @@ fn big(number: u64) -> Ptr {
 
 // Such a cache, over pools of 6,144 zeros.
 fn opened(alloc: Global) -> Result<Pair, NoMemory>
-    ensures config { IfOk result (λ p. p.arcs.config ≡ TWO) }
-    ensures feeder { IfOk result (λ p. IsReady p.arcs p.feeder × (p.feeder.number ≡ 2)) }
-    ensures settled { IfOk result (λ p. p.feeder.own.ledger.picked ≡ []) }
+    ensures config { IfOk result (λ p. (p.arcs.config.callers ≡ 2) × (p.arcs.config.shards ≡ 1) × (p.arcs.config.cells ≡ 1)) }
+    ensures feeder { IfOk result (λ p. IsReady p.arcs p.feeder.party × (p.feeder.party.number ≡ 2)) }
+    ensures new { IfOk result (λ p. IsNew p.arcs 2 p.feeder.party × IsNew p.arcs 1 p.two.party) }
     ensures one { IfOk result (λ p. IsReady p.arcs p.one.party × (p.one.party.number ≡ 0)) }
     ensures two { IfOk result (λ p. IsReady p.arcs p.two.party × (p.two.party.number ≡ 1)) }
 {

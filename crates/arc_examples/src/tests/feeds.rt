@@ -59,7 +59,7 @@ fn restored_and_cleared<R: Wait>(
 #[test]
 fn a_place_is_cleared_once(rt: HostRuntime) -> Result<(), Fail> {
     let mut pair = opened(rt.alloc()).ok().ok_or("memory")?;
-    let told = restored_and_cleared(&rt, &pair.arcs, &mut pair.feeder);
+    let told = restored_and_cleared(&rt, &pair.arcs, &mut pair.feeder.party);
     let none = Cleared::Not(Front { shard: 0, len: 2 });
     assert!(rt; told == (true, Some(Cleared::Done), Some(none)));
     Ok(())
@@ -147,7 +147,7 @@ fn row(
         &ptr,
         1,
     );
-    let set = fed(rt, &pair.arcs, alloc, &mut pair.feeder, then);
+    let set = fed(rt, &pair.arcs, alloc, &mut pair.feeder.party, then);
     let closed = close_pair(alloc, pair)?;
     let events = [
         Event::Miss {

@@ -173,7 +173,7 @@ fn from_device(rt: &impl Wait, alloc: Global, byte: u8) -> Result<Answer, NoMemo
         place: 4096,
         digest: None,
     }];
-    let _ = arcs.restore(rt, &mut feeder, &list);
+    let _ = arcs.restore(rt, &mut feeder.party, &list);
     let (mut pool, mut device) = (pool_of(alloc, 0, &[])?, device_of(alloc, byte)?);
     Ok(answer_of(
         rt,
