@@ -123,7 +123,7 @@ impl Replies<'_> {
     }
 }
 
-// ---- The events that a caller has to have -------------------------------------------------------------------------------------
+// ---- The events that a caller has to have -----------------------------------------------------------------------------------
 
 /// What a caller did in a shard, by a line or at the end of the run.
 struct Act {

@@ -3,8 +3,8 @@
 
 The program has to end with a report (status 0 or 1), or with status 3, or 2 where the words were drawn, and nothing written; and to
 agree with the plain simulation in arc_sim.rs on the status and on each byte that is written. A trace of several callers is run a few
-times, and each report is checked by arc_replay.rs. A trace on which anything is wrong is kept, and its place is printed.
-Several callers and shards are drawn only where the program takes them.
+times. Each report that has its events is checked by arc_replay.rs. A trace on which anything is wrong is kept, and its place is
+printed. Several callers and shards are drawn only where the program takes them.
 Needs rustc. The program has to be built: (cd crates/arc_tool && rt run). ARC_TOOL, ARC_SIM and ARC_REPLAY may name other builds.
 """
 import hashlib
@@ -133,6 +133,15 @@ def is_report(ended):
     return ended[0] in (0, 1) and ended[1].endswith(b'end %d\n' % ended[0])
 
 
+def fault_of_report(replay, pool, given, report, work):
+    """What the checker finds wrong with a report that has its events."""
+    for name, content in ('trace', given), ('report', report):
+        with open(f'{work}/{name}', 'wb') as out:
+            out.write(content)
+    checked = subprocess.run([replay, pool, f'{work}/trace'], input=report, stdout=subprocess.PIPE, stderr=subprocess.PIPE)
+    return f'has a faulty report: {checked.stderr.decode().strip()}' if checked.returncode else None
+
+
 def fault_of_one(words, ours, theirs):
     """What is wrong with how the program ended, where the plain simulation ended so."""
     is_refused = ours == (3, b'') or (ours == (2, b'') and words not in (['run'], ['run', '--events']))
@@ -143,17 +152,11 @@ def fault_of_one(words, ours, theirs):
 
 def fault_of_several(tool, replay, pool, given, work):
     """What is wrong with the reports of a trace of several callers, which is run three times."""
-    with open(f'{work}/trace', 'wb') as out:
-        out.write(given)
     for _ in range(3):
         ours = run([tool, pool, '-', 'run', '--events'], given)
-        if not is_report(ours):
-            return f'ended with {ours[0]}, and no report'
-        checked = subprocess.run([replay, pool, f'{work}/trace'], input=ours[1], stdout=subprocess.PIPE, stderr=subprocess.PIPE)
-        if checked.returncode != 0:
-            with open(f'{work}/report', 'wb') as out:
-                out.write(ours[1])
-            return f'has a report with a fault: {checked.stderr.decode()}'
+        fault = fault_of_report(replay, pool, given, ours[1], work) if is_report(ours) else f'ended with {ours[0]}, and no report'
+        if fault:
+            return fault
     return None
 
 
@@ -180,6 +183,8 @@ def main():
             fault = fault_of_several(tool, replay, pool, given, work)
         else:
             fault = fault_of_one(words, ours, theirs)
+            if not fault and words == ['run', '--events'] and is_report(ours):
+                fault = fault_of_report(replay, pool, given, ours[1], work)
         runs += 1
         ends[ours[0]] = ends.get(ours[0], 0) + 1
         if fault:
@@ -187,6 +192,8 @@ def main():
             name = f'{work}/bad{bad}'
             with open(name, 'wb') as out:
                 out.write(given)
+            if 'faulty report' in fault:
+                os.replace(f'{work}/report', f'{name}.report')
             print(f'{name}: {" ".join(words)} {fault}')
     told = ', '.join(f'{count} with status {status}' for status, count in sorted(ends.items(), key=str))
     print(f'seed {seed}: {runs} traces, {checked} of them of several callers: {told}; {bad} at fault')
