@@ -186,21 +186,17 @@ impl Act {
 fn acts(trace: &Trace, pool: &Pool, replies: &[&str]) -> Checked<Vec<Vec<Act>>> {
     let mut read = Replies { trace, pool, plain: HashMap::new(), kept: HashMap::new() };
     let mut acts: Vec<Vec<Act>> = (0..trace.callers).map(|_| vec![]).collect();
-    for (i, reply) in replies.iter().enumerate() {
-        let did = read.answered(i, reply).map_err(|fault| format!("operation {i} {fault}"))?;
-        let op = &trace.ops[i];
-        let (trace::What::Read { tick, .. } | trace::What::Hold { tick }) = op.what else {
-            acts[op.caller].push(Act { op: i, pointer: trace.blocks[op.block], tick: 0, did });
-            continue;
-        };
-        acts[op.caller].push(Act { op: i, pointer: trace.blocks[op.block], tick, did });
+    let mut push = |op: usize, did| {
+        let trace::Op { caller, block, ref what } = trace.ops[op];
+        let tick = if let trace::What::Read { tick, .. } | trace::What::Hold { tick } = *what { tick } else { 0 };
+        acts[caller].push(Act { op, pointer: trace.blocks[block], tick, did });
+    };
+    for (op, reply) in replies.iter().enumerate() {
+        push(op, read.answered(op, reply).map_err(|fault| format!("operation {op} {fault}"))?);
     }
     let mut left: Vec<_> = read.kept.into_values().flatten().filter(|(_, served)| *served != Served::Past).collect();
-    left.sort_by_key(|(i, _)| *i);
-    for (i, _) in left {
-        let op = &trace.ops[i];
-        acts[op.caller].push(Act { op: i, pointer: trace.blocks[op.block], tick: 0, did: Did::Drop });
-    }
+    left.sort_by_key(|(op, _)| *op);
+    left.into_iter().for_each(|(op, _)| push(op, Did::Drop));
     Ok(acts)
 }
 
