@@ -29,8 +29,8 @@ use Rattle.arc_core.proofs.Accesses.{accessed-keeps}
 use Rattle.arc_core.proofs.EntriesAfter.{entry_of-arrive, entry_of-arrive_other, entry_of-fail, entry_of-fail_other, entry_of-hit, entry_of-hit_other, phase-arrive, phase-fail, phase-hit, phase-miss}
 use Rattle.arc_core.proofs.Soundness.{IsSound-after}
 use Rattle.arc_core.proofs.Sparing.{entry_of-miss, spared-miss, spared-same}
-use Rattle.trace_run.specs.declared.access.Access.TheVariants as access
-use Rattle.trace_run.specs.declared.access.KeptRead.{KeptRead}
+use Rattle.trace_run.specs.Access as access
+use Rattle.trace_run.specs.KeptReads.{KeptRead}
 use Rattle.trace_run.specs.declared.caller_cache.CallerCache.TheInside.{Inside}
 use Rattle.trace_run.specs.Access.{access_of, found}
 use Rattle.trace_run.specs.Blocks.{Blocks, bytes_at}

@@ -32,7 +32,7 @@ use Rattle.arc_core.specs.Sparing.{IsSpared}
 use Rattle.arc_core.specs.Step.{after, holds, legal}
 use Rattle.arc_core.proofs.EntriesAfter.{entry_of-drop, entry_of-drop_other, phase-drop}
 use Rattle.arc_core.proofs.Sparing.{spared-same}
-use Rattle.trace_run.specs.declared.access.KeptRead.{KeptRead}
+use Rattle.trace_run.specs.KeptReads.{KeptRead}
 use Rattle.trace_run.specs.declared.caller_cache.CallerCache.TheInside.{Inside}
 use Rattle.trace_run.specs.Access.{events_of_drop}
 use Rattle.trace_run.specs.Blocks.{Blocks}

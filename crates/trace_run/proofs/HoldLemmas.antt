@@ -19,7 +19,7 @@ use Rattle.arc_core.specs.Changes.{one_less}
 use Rattle.arc_core.specs.Sparing.{IsSpared}
 use Rattle.arc_core.specs.Step.{arrived, entry_to_read, hit_entry}
 use Rattle.arc_core.proofs.Accesses.{accessed-keeps}
-use Rattle.trace_run.specs.declared.access.KeptRead.{KeptRead}
+use Rattle.trace_run.specs.KeptReads.{KeptRead}
 use Rattle.trace_run.specs.PlainCache.{HasHolds, holds_key, holds_of_one}
 
 -- ---- counts of holds

@@ -37,12 +37,11 @@ use Rattle.trace_text.specs.declared.reply.Refusal.{Refusal}
 use Rattle.trace_text.specs.declared.reply.Refusal.TheVariants as refusals
 use Rattle.trace_text.specs.declared.reply.Reply.{Reply}
 use Rattle.trace_text.specs.declared.reply.Reply.TheVariants.{Dropped, Read, Kept as KeptReply, Refused}
-use Rattle.trace_run.specs.declared.access.Access.{Access}
-use Rattle.trace_run.specs.declared.access.KeptRead.{KeptRead}
+use Rattle.trace_run.specs.KeptReads.{KeptRead}
 use Rattle.trace_run.specs.declared.get.Got.{Got}
 use Rattle.trace_run.specs.declared.kept_blocks.KeptBlock.{KeptBlock}
-use Rattle.trace_run.specs.declared.access.Access.TheVariants as access
-use Rattle.trace_run.specs.Access.{events_of_answered, events_of_drop, held_key as access_key, source_of}
+use Rattle.trace_run.specs.Access as access
+use Rattle.trace_run.specs.Access.{Access, events_of_answered, events_of_drop, held_key as access_key, source_of}
 use Rattle.trace_run.specs.Acts.{acts_of_drop, acts_of_dropping, acts_of_hold, acts_of_read}
 use Rattle.trace_run.specs.Answering.{KeepsImage, ReadsImage}
 use Rattle.trace_run.specs.Answers.{AnswersDrop, AnswersHold, AnswersRead, IsInside, IsReadRefusal, IsWindowRefusal}

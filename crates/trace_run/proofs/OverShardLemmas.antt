@@ -13,7 +13,7 @@ use Rattle.arc_core.specs.Replay.{replay}
 use Rattle.trace_text.specs.declared.op.Op.{Op}
 use Rattle.trace_text.specs.declared.op.Op.TheVariants as ops
 use Rattle.trace_text.specs.declared.reply.Reply.{Reply}
-use Rattle.trace_run.specs.declared.access.KeptRead.{KeptRead}
+use Rattle.trace_run.specs.KeptReads.{KeptRead}
 use Rattle.trace_run.specs.Access.{events_of_drop}
 use Rattle.trace_run.specs.Effects.{Effect, Answered, GivenBack, PoolRefused, NoEffect, calls_of, calls_of_all, effect_of}
 use Rattle.trace_run.specs.Lines.{is_in_shard, replies_where, shard_of_line}

@@ -4,7 +4,7 @@ use Rattle.blk_ptr.specs.declared.ptr.Ptr.{Ptr}
 use Rattle.blk_ptr.specs.Ptr.{IsOf, range_of}
 use Rattle.dbuf_state.specs.declared.window.Window.{Window}
 use Rattle.trace_run.specs.Answers.{window_of}
-use Rattle.trace_run.specs.Serving.{ShowsRange}
+use Rattle.trace_run.specs.Answering.{ShowsRange}
 
 -- they are of the pointer, and a window shows them
 pub shows-range : (o : Option (List ℕ)) (ptr : Ptr) (window : Window) (bytes shown : List ℕ) → IsOf bytes ptr → IfSome o (λ image. bytes ≡ range_of image ptr.key) → shown ≡ window_of window bytes

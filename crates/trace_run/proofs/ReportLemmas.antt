@@ -24,7 +24,7 @@ use Rattle.trace_text.specs.declared.reply.Reply.{Reply}
 use Rattle.trace_text.specs.declared.report.Report.{Report}
 use Rattle.trace_text.specs.declared.trace.Trace.{Trace}
 use Rattle.trace_text.specs.Grammar.{IsFormed, IsPossible, block_of}
-use Rattle.trace_run.specs.declared.access.KeptRead.{KeptRead}
+use Rattle.trace_run.specs.KeptReads.{KeptRead}
 use Rattle.trace_run.specs.Access.{events_of_drop}
 use Rattle.trace_run.specs.Acts.{acts_of_caller, acts_of_callers}
 use Rattle.trace_run.specs.Answers.{AnswersAll}

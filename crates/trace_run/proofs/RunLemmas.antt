@@ -20,10 +20,9 @@ use Rattle.trace_text.specs.declared.reply.Reply.{Reply}
 use Rattle.trace_text.specs.declared.reply.Reply.TheVariants.{Read, Kept, Dropped, Refused}
 use Rattle.trace_text.specs.declared.reply.Refusal.TheVariants as refusal
 use Rattle.dbuf_state.specs.declared.window.Window.{Window}
-use Rattle.trace_run.specs.declared.access.Access.{Access}
-use Rattle.trace_run.specs.declared.access.Access.TheVariants as access
-use Rattle.trace_run.specs.declared.access.KeptRead.{KeptRead}
-use Rattle.trace_run.specs.Access.{AsksPool, access_of, events_of_answered, events_of_drop, events_of_refused, held_key, source_of}
+use Rattle.trace_run.specs.Access as access
+use Rattle.trace_run.specs.KeptReads.{KeptRead}
+use Rattle.trace_run.specs.Access.{Access, AsksPool, access_of, events_of_answered, events_of_drop, events_of_refused, held_key, source_of}
 use Rattle.trace_run.specs.Answering.{IsReadOfImage, KeepsImage, MakesAnswer, ReadsImage}
 use Rattle.trace_run.specs.Answers.{AnswersDrop, is_pool_fault, tells_fault}
 use Rattle.trace_run.specs.Blocks.{AreOfImage, Blocks}

@@ -11,7 +11,7 @@ use Rattle.dbuf_state.specs.declared.window.Window.{Window}
 use Rattle.trace_run.specs.Answers.{window_of}
 use Rattle.trace_run.specs.Blocks.{AreOfImage, Blocks, bytes_at}
 use Rattle.trace_run.specs.Read.{IsReadOf}
-use Rattle.trace_run.specs.Serving.{ShowsRange}
+use Rattle.trace_run.specs.Answering.{ShowsRange}
 
 -- two contents of one pointer are the same, or they share a digest
 same-or-collides : (ptr : Ptr) (a b : List ℕ) → IsOf a ptr → IsOf b ptr → IsSameOrCollides a b

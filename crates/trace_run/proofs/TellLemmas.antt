@@ -21,10 +21,9 @@ use Rattle.arc_core.specs.Step.{after}
 use Rattle.trace_text.specs.declared.op.Op.{Op}
 use Rattle.trace_text.specs.declared.op.Op.TheVariants as ops
 use Rattle.trace_text.specs.declared.reply.Reply.{Reply}
-use Rattle.trace_run.specs.declared.access.Access.{Access}
-use Rattle.trace_run.specs.declared.access.Access.TheVariants as access
-use Rattle.trace_run.specs.declared.access.KeptRead.{KeptRead}
-use Rattle.trace_run.specs.Access.{AsksPool, access_of, events_of_answered, events_of_drop, events_of_refused, found, held_key, source_of}
+use Rattle.trace_run.specs.Access as access
+use Rattle.trace_run.specs.KeptReads.{KeptRead}
+use Rattle.trace_run.specs.Access.{Access, AsksPool, access_of, events_of_answered, events_of_drop, events_of_refused, found, held_key, source_of}
 use Rattle.trace_run.specs.Acts.{acts_of, acts_of_all, acts_of_caller, acts_of_drop, acts_of_dropping, acts_of_drops, acts_of_hold, acts_of_read}
 use Rattle.trace_run.specs.OneCaller.{AreFoundAs, IsFoundAs, NamesSource, events_of, events_of_all, events_of_dropping, events_of_drops, events_of_hold, events_of_read, kept_after, kept_after_all, oldest_key, one_caller_history}
 use Rattle.trace_run.specs.Effects.{Effect, Answered, GivenBack, PoolRefused, NoEffect, effect_of}
