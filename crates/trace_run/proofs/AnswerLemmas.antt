@@ -82,10 +82,6 @@ dropped_reads-snoc caller block (o ∷ os) (r ∷ rs) op reply same =
 test : ℕ → ℕ → ℕ
 test x block = if x == block then 1 else 0
 
-test_same : (n : ℕ) → test n n ≡ 1
-unfolding test
-test_same n = grind (arith, nat_tests)
-
 test_true : (n : ℕ) → (n == n) ≡ true
 test_true n = grind (arith, nat_tests)
 
