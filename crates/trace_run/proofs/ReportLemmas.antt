@@ -1,4 +1,4 @@
--- One caller's operations, and the report of the plain run by its parts.
+-- The operations, the replies and the acts of one caller, and a report by its parts.
 use Rattle.std.proofs.Common.{◌≡◌, ℕ, suc, ◌≤◌, ◌==◌, Bool, true, false, List, [], ◌∷◌, length, Some, refl, ap, subst, ◌∙◌, arith}
 use Rattle.std.specs.Prelude.{All, slice_get}
 use Rattle.std.specs.List.{AllByRecursion}
@@ -37,8 +37,6 @@ pub all-own : (n : ℕ) (os : List Op) → ((k : ℕ) (op : Op) → slice_get os
 all-own n [] own = tt
 all-own n (op ∷ os) own = (own 0 op refl, all-own n os (λ k o at. own (suc k) o at))
 
--- ---- all lines are of the one caller
-
 same-test : (n : ℕ) → (n == n) ≡ true
 same-test n = grind (arith, nat_tests)
 
@@ -62,8 +60,6 @@ one-acts callers one blocks os replies same own =
     ap (λ (n : ℕ). acts_of_callers blocks n os replies) one
     ∙ ap (λ (l : List Op). acts_of_caller blocks 0 l (replies_where (is_of_caller 0) os replies)) (filter-all (is_of_caller 0) os mine)
     ∙ ap (λ (l : List Reply). acts_of_caller blocks 0 os l) (replies-all (is_of_caller 0) os replies same mine)
-
--- ---- the report of the plain run
 
 -- a report by its parts
 pub report-is : (trace : Trace) (report : Report) → report.histories ≡ one_caller_histories trace.config.shards trace.blocks 0 (opening_of trace.config) trace.ops report.replies
