@@ -34,10 +34,9 @@ use Rattle.trace_text.specs.declared.reply.Refusal.{Refusal}
 use Rattle.trace_text.specs.declared.reply.Refusal.TheVariants as refusals
 use Rattle.trace_text.specs.declared.reply.Reply.{Reply}
 use Rattle.trace_text.specs.declared.reply.Reply.TheVariants.{Dropped, Read, Kept as KeptReply, Refused}
-use Rattle.trace_run.specs.declared.access.Access.{Access}
-use Rattle.trace_run.specs.declared.access.KeptRead.{KeptRead}
-use Rattle.trace_run.specs.declared.access.Access.TheVariants as access
-use Rattle.trace_run.specs.Access.{events_of_answered, events_of_drop, held_key as access_key, source_of}
+use Rattle.trace_run.specs.KeptReads.{KeptRead}
+use Rattle.trace_run.specs.Access as access
+use Rattle.trace_run.specs.Access.{Access, events_of_answered, events_of_drop, held_key as access_key, source_of}
 use Rattle.trace_run.specs.Acts.{acts_of_drop, acts_of_dropping, acts_of_hold, acts_of_read}
 use Rattle.trace_run.specs.Answering.{KeepsImage, ReadsImage}
 use Rattle.trace_run.specs.Answers.{AnswersDrop, AnswersHold, AnswersRead}
@@ -47,7 +46,7 @@ use Rattle.trace_run.specs.KeptBlocks.{Drops, GivesBack, IsOwnedBy, held_key}
 use Rattle.trace_run.specs.Lines.{shard_of_line}
 use Rattle.trace_run.specs.OneCaller.{NamesSource, events_of_dropping, events_of_hold, events_of_read, is_of_block, kept_after, kept_after_drop, kept_after_hold, key_held_by, oldest_key, without_oldest}
 use Rattle.trace_run.specs.OverShards.{AreNamed, IsNamed}
-use Rattle.trace_run.specs.Reads.{CallsFor, CameFromPool, DidAct, DidActs, DidAnswer, DidRead, IsAlone, IsCauseOf, IsRefused, access_now, now_of}
+use Rattle.trace_run.specs.Reads.{CameFromPool, DidAct, DidActs, DidAnswer, DidRead, IsAlone, IsRefused, access_now, now_of}
 use Rattle.trace_run.specs.Seen.{AddsAll, HasSeenItsOwn, seen_of}
 use Rattle.trace_run.specs.Tally.{kept_of_block}
 use Rattle.trace_run.specs.Told.{IsTold}
