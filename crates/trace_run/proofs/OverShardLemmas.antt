@@ -1,4 +1,4 @@
--- One caller's lines over several shards: each shard's history is that of the lines on its blocks, and the replies are those of the plain run.
+-- One caller's lines over several shards: each shard's history is that of the lines on its blocks.
 use Rattle.std.proofs.Common.{◌≡◌, ℕ, ◌==◌, Bool, true, false, List, [], ◌∷◌, ◌++◌, Option, Some, None, inl, inr, refl, ap, ◌∙◌, arith, append-nil}
 use Rattle.std.specs.Prelude.{filter, find, slice_get, option_and_then}
 use Rattle.std.specs.Option.{option_map_or}

@@ -1,4 +1,4 @@
--- One caller's history holds every call of its operations once.
+-- The events of one caller's history are its own, and so are its acts.
 use Rattle.std.proofs.Common.{◌≡◌, ◌≢◌, ℕ, ◌<◌, Bool, true, false, ◌||◌, nat_lt, IsTrue, List, [], ◌∷◌, ◌++◌, Option, Some, None, refl, sym, ap, subst, ◌∙◌, arith, append_assoc, append-nil}
 use Rattle.std.specs.Prelude.{filter, slice_get}
 use Rattle.std.specs.List.{AllByRecursion}
@@ -199,7 +199,7 @@ pub mine-events : (blocks : List Ptr) (n : ℕ) (s : PlainShard) (os : List Op) 
 mine-events blocks n s os replies own =
     all-append (IsMine n) (events_of_all blocks s [] os replies) _ (mine-all n blocks s [] os replies own) (mine-drops n (kept_after_all blocks [] os replies))
 
--- ---- each call once
+-- ---- the numbers of events, and no passes
 
 -- a caller's number is one that an event of reads may have
 pub caller-number : (callers cells n : ℕ) (e : Event) → n < callers → IsMine n e → IsTrue (has_its_number callers cells e)
