@@ -1,6 +1,6 @@
 -- The lines of a caller that is alone, over a pool that tells its bytes: its report is that of the plain run, but that a cached block may be
 -- another content of its digest.
-use Rattle.std.proofs.Common.{◌≡◌, ℕ, ◌==◌, Bool, true, false, if◌then◌else◌, List, [], ◌∷◌, ◌++◌, length, drop, Option, Some, None, IfSome, inl, inr, refl, sym, ap, subst, ◌∙◌, arith}
+use Rattle.std.proofs.Common.{◌≡◌, ℕ, ◌==◌, Bool, true, false, if◌then◌else◌, List, [], ◌∷◌, ◌++◌, length, drop, Option, Some, None, IfSome, refl, sym, subst, ◌∙◌, arith}
 use Rattle.std.specs.List.{AllByRecursion}
 use Rattle.blk_ptr.specs.declared.ptr.Ptr.{Ptr}
 use Rattle.vdev_io.specs.declared.pool.Pool.{Ghosts}
@@ -13,7 +13,7 @@ use Rattle.trace_text.specs.declared.op.Op.{Op}
 use Rattle.trace_text.specs.declared.reply.Reply.{Reply}
 use Rattle.trace_text.specs.declared.report.Report.{Report}
 use Rattle.trace_text.specs.declared.trace.Trace.{Trace}
-use Rattle.trace_run.specs.declared.access.KeptRead.{KeptRead}
+use Rattle.trace_run.specs.KeptReads.{KeptRead}
 use Rattle.trace_run.specs.Answering.{IsReadOfImage}
 use Rattle.trace_run.specs.CallerLines.{At, DidLine, DidLines}
 use Rattle.trace_run.specs.Effects.{calls_of, calls_of_all, effect_of}
@@ -23,7 +23,7 @@ use Rattle.trace_run.specs.OneCaller.{events_of, kept_after}
 use Rattle.trace_run.specs.OverShards.{AllLinesOver}
 use Rattle.trace_run.specs.PlainReport.{ArePlainReplies, IsPlainReply, IsPlainReport}
 use Rattle.trace_run.specs.PlainRun.{next_call, replies_to, reply_to, report_of, report_with, shards_after}
-use Rattle.trace_run.specs.Reads.{CameFromPool, IsAlone, now_of}
+use Rattle.trace_run.specs.Reads.{IsAlone, now_of}
 use Rattle.trace_run.specs.Tally.{AnswersNow}
 use Rattle.trace_run.proofs.LinesLemmas.{all-then, line-now, lines-length}
 use Rattle.trace_run.proofs.PlainLemmas.{drop-front, next-is}

@@ -25,7 +25,7 @@ use Rattle.arc_table.specs.Ended.{AreAtRest, Ended, Ends}
 use Rattle.arc_table.specs.Geometry.{parties_of}
 use Rattle.arc_table.specs.Items.{Meanings}
 use Rattle.arc_table.specs.PoolCalls.{KeepsPool, MakesCalls}
-use Rattle.arc_table.specs.TableLaws.{get_more, same_at, there, within}
+use Rattle.arc_table.specs.TableLaws.{get_last, get_more, same_at, there, within}
 use Rattle.trace_text.specs.declared.ends.ShardEnd.{ShardEnd}
 use Rattle.trace_text.specs.declared.op.Op.{Op}
 use Rattle.trace_text.specs.declared.op.Op.TheVariants as ops
@@ -103,6 +103,23 @@ module _ {C : Type 0} (cache : Cache) where
   pub opened-stopped : (ps : List (Place (Known C))) → AreOpened cache ps → HaveStopped cache ps
   opened-stopped ps opened = record { count = opened.count; each = λ n p at. let h = opened.each n p at in (h.number, h.new.stands) }
 
+-- the parties of a new cache are the callers', and then the feeder's
+module _ {C : Type 0} (cache : Cache) (whole ps : List (Place (Known C))) (feeder : Place (Known C)) (opened : AreOpened cache whole) (is : whole ≡ ps ++ feeder ∷ []) where
+  each-of : (n : ℕ) (p : Place (Known C)) → get_elem? (ps ++ feeder ∷ []) n ≡ some p → IsOpened cache n p
+  each-of n p at = opened.each n p (ap (λ (l : List (Place (Known C))). get_elem? l n) is ∙ at)
+
+  pub callers-count : length ps ≡ cache.config.callers
+  callers-count =
+      let all : length (ps ++ feeder ∷ []) ≡ cache.config.callers + 1 = sym (ap length is) ∙ opened.count in
+      let long : length (ps ++ feeder ∷ []) ≡ length ps + 1 = length-append ps (feeder ∷ []) in
+      omega (arith, all, long)
+
+  pub callers-start : AreAtStart cache 0 ps
+  callers-start = start-of cache ps (feeder ∷ []) 0 (λ k p at. let same : k ≡ 0 + k = omega arith in subst (λ (x : ℕ). IsOpened cache x p) same (each-of k p at))
+
+  pub feeder-opened : IsOpened cache cache.config.callers feeder
+  feeder-opened = subst (λ (x : ℕ). IsOpened cache x feeder) callers-count (each-of (length ps) feeder (get_last ps feeder))
+
 -- ---- where no operation was answered
 
 module _ {C : Type 0} (m : Meanings C) (cache : Cache) (valid : IsConfig cache.config) (blocks : List Ptr) (os : List Op) (ps : List (Place (Known C))) (opened : AreOpened cache ps) (closed : Ended C) (ends : Ends m cache ps closed) where
@@ -134,7 +151,13 @@ module _ {C : Type 0} (m : Meanings C) (cache : Cache) (valid : IsConfig cache.c
 
 -- ---- where all callers did their work
 
-module _ {C P : Type 0} (m : Meanings C) (cache : Cache) (valid : IsConfig cache.config) (pools : Ghosts P) (blocks : List Ptr) (os : List Op) (before after : P) (own : List (List Reply)) (ps : List (Place (Known C)))
+-- the same work, over the same lines
+pub worked-as : {C P : Type 0} (cache : Cache) (pools : Ghosts P) (blocks given : List Ptr) (os lines : List Op) (n callers : ℕ) (before after : P) (own : List (List Reply)) (ps : List (Place (Known C))) → given ≡ blocks → lines ≡ os → n ≡ callers
+    → HaveWorked cache pools given lines n before after own ps → HaveWorked cache pools blocks os callers before after own ps
+worked-as cache pools blocks given os lines n callers before after own ps same_blocks same_lines same_count worked =
+    subst (λ (x : List Ptr × List Op × ℕ). HaveWorked cache pools x.0 x.1 x.2 before after own ps) (λ i. (same_blocks i, same_lines i, same_count i)) worked
+
+module _ {C P : Type 0} (cache : Cache) (pools : Ghosts P) (blocks : List Ptr) (os : List Op) (before after : P) (own : List (List Reply)) (ps : List (Place (Known C)))
     (feeder : Place (Known C)) (worked : HaveWorked cache pools blocks os cache.config.callers before after own ps) (last : IsOpened cache cache.config.callers feeder) where
   -- each caller's work, by its party
   worked-at : (n : ℕ) (p : Place (Known C)) → get_elem? ps n ≡ some p → (n < cache.config.callers) × ((rs : List Reply) × (get_elem? own n ≡ some rs) × HasWorked cache pools blocks os n (worked.forks n) (worked.done n) rs p)
@@ -170,7 +193,7 @@ module _ {C P : Type 0} (m : Meanings C) (cache : Cache) (valid : IsConfig cache
         caller-ended cache blocks os merged n p w.1.2.number w.1.2.stands w.1.0 w.0 (ordered.each n w.1.0 w.1.1) w.1.2.told)
         (feeder-ended cache blocks os merged cache.config.callers feeder last.number last.new.stands (omega arith) last.new.told)
 
-    module _ (closed : Ended C) (ends : Ends m cache all closed) where
+    module _ (m : Meanings C) (valid : IsConfig cache.config) (closed : Ended C) (ends : Ends m cache all closed) where
       pub worked-explains : Explain (record { config = cache.config; blocks = blocks; ops = os }) merged (ends_in closed) (histories_of closed)
       worked-explains = explains m cache valid blocks os merged all closed ends all-count worked-ended
 
@@ -194,22 +217,23 @@ pub none-explained : {C : Type 0} (m : Meanings C) (cache : Cache) (trace : Trac
 none-explained m cache trace is valid ps opened closed ends =
     explained-as trace cache.config [] (ends_in closed) (histories_of closed) is (none-explains m cache valid trace.blocks trace.ops ps opened closed ends)
 
-pub ran-group : {C P : Type 0} (m : Meanings C) (cache : Cache) (trace : Trace) → cache.config ≡ trace.config → (valid : IsConfig cache.config) (pools : Ghosts P) (before after : P) (own : List (List Reply)) (ps : List (Place (Known C)))
-    (feeder : Place (Known C)) → HaveWorked cache pools trace.blocks trace.ops cache.config.callers before after own ps → IsOpened cache cache.config.callers feeder → (merged : List Reply) → AreInOrder trace.ops own merged
-    → (closed : Ended C) → Ends m cache (ps ++ feeder ∷ []) closed → RanGroup cache pools before after trace merged closed
-ran-group m cache trace is valid pools before after own ps feeder worked last merged ordered closed ends =
+pub ran-group : {C P : Type 0} (m : Meanings C) (cache : Cache) (trace : Trace) → cache.config ≡ trace.config → (valid : IsConfig cache.config) (pools : Ghosts P) (before after : P) (own : List (List Reply)) (ps all : List (Place (Known C)))
+    (feeder : Place (Known C)) → all ≡ ps ++ feeder ∷ [] → HaveWorked cache pools trace.blocks trace.ops cache.config.callers before after own ps → IsOpened cache cache.config.callers feeder → (merged : List Reply)
+    → AreInOrder trace.ops own merged → (closed : Ended C) → Ends m cache all closed → RanGroup cache pools before after trace merged closed
+ran-group m cache trace is valid pools before after own ps all feeder all_are worked last merged ordered closed ends =
     let same : cache.config.callers ≡ trace.config.callers = ap (λ (g : Config). g.callers) is in
     let blocks = trace.blocks in
     let os = trace.ops in
+    let ended = subst (λ l. Ends m cache l closed) all_are ends in
     record {
       own = own;
       parties = ps;
       worked = subst (λ (c : ℕ). HaveWorked cache pools blocks os c before after own ps) same worked;
       ordered = ordered;
-      explained = explained-as trace cache.config merged (ends_in closed) (histories_of closed) is (worked-explains m cache valid pools blocks os before after own ps feeder worked last merged ordered closed ends);
-      counted = λ n below. worked-counted m cache valid pools blocks os before after own ps feeder worked last merged ordered closed ends n (subst (λ (c : ℕ). n < c) (sym same) below);
+      explained = explained-as trace cache.config merged (ends_in closed) (histories_of closed) is (worked-explains cache pools blocks os before after own ps feeder worked last merged ordered m valid closed ended);
+      counted = λ n below. worked-counted cache pools blocks os before after own ps feeder worked last merged ordered m valid closed ended n (subst (λ (c : ℕ). n < c) (sym same) below);
       others = subst (λ (c : ℕ). over_callers c (λ n. reads_of_caller n (histories_of closed)) ≡ sum_by pool_reads (histories_of closed)) same
-          (worked-others m cache valid pools blocks os before after own ps feeder worked last merged ordered closed ends);
+          (worked-others cache pools blocks os before after own ps feeder worked last merged ordered m valid closed ended);
     }
 
 -- ---- what the callers' replies tell is what all replies tell

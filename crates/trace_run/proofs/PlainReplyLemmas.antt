@@ -1,19 +1,17 @@
 -- One line of a caller that is alone, over a pool that tells its bytes: its reply is that of the plain run, but that a cached block may be
 -- another content of its digest; and what it brings into the shard has the digest of the told bytes.
-use Rattle.std.proofs.Common.{◌≡◌, ◌≢◌, ℕ, ◌+◌, ◌≤◌, true, false, List, [], ◌∷◌, ◌++◌, length, take, drop, Option, Some, None, Ok, inl, inr, refl, sym, ap, subst, ◌∙◌, arith, length-drop}
-use Rattle.std.specs.Prelude.{slice_get, ◌⊎◌}
+use Rattle.std.proofs.Common.{◌≡◌, ◌≢◌, ℕ, ◌+◌, ◌≤◌, List, ◌++◌, length, drop, Option, Some, None, inl, inr, refl, sym, ap, subst, ◌∙◌, arith, length-drop}
+use Rattle.std.specs.Prelude.{◌⊎◌}
 use Rattle.std.specs.List.{AllByRecursion}
-use Rattle.std.specs.Option.{option_map_or}
 use Rattle.std.proofs.lemmas.List.{length-take-le}
 use Rattle.blk_ptr.specs.declared.digest.Digest.{Digest}
 use Rattle.blk_ptr.specs.declared.key.Key.{Key}
 use Rattle.blk_ptr.specs.declared.ptr.Ptr.{Ptr}
 use Rattle.blk_ptr.specs.Key.{IsValid, end_of}
 use Rattle.blk_ptr.specs.Ptr.{IsOf, IsSameOrCollides, range_of, sha256_of}
-use Rattle.arc_core.specs.declared.event.Event.{Event}
 use Rattle.arc_core.specs.declared.served.Served.{Served}
 use Rattle.arc_core.specs.declared.served.Served.TheVariants as served
-use Rattle.arc_core.specs.PlainShard.{PlainShard, resident_digest}
+use Rattle.arc_core.specs.PlainShard.{PlainShard}
 use Rattle.trace_text.specs.declared.op.Op.{Op}
 use Rattle.trace_text.specs.declared.op.Op.TheVariants as ops
 use Rattle.trace_text.specs.declared.reply.Reply.{Reply}
@@ -22,10 +20,9 @@ use Rattle.trace_text.specs.declared.reply.Refusal.{Refusal}
 use Rattle.trace_text.specs.declared.reply.Refusal.TheVariants as refusal
 use Rattle.dbuf_state.specs.declared.window.Window.{Window}
 use Rattle.arc_table.specs.PoolCalls.{PoolCall}
-use Rattle.trace_run.specs.declared.access.Access.{Access}
-use Rattle.trace_run.specs.declared.access.Access.TheVariants as access
-use Rattle.trace_run.specs.declared.access.KeptRead.{KeptRead}
-use Rattle.trace_run.specs.Access.{access_of, events_of_answered, events_of_drop, events_of_refused, held_key, source_of}
+use Rattle.trace_run.specs.Access as access
+use Rattle.trace_run.specs.KeptReads.{KeptRead}
+use Rattle.trace_run.specs.Access.{Access, access_of, events_of_answered, events_of_drop, events_of_refused, held_key, source_of}
 use Rattle.trace_run.specs.Answering.{IsReadOfImage, KeepsImage, ReadsImage}
 use Rattle.trace_run.specs.Answers.{AnswersHold, AnswersRead, window_of}
 use Rattle.trace_run.specs.Effects.{Effect, Answered, GivenBack, PoolRefused, NoEffect, calls_of, effect_of, effect_of_refusal}
@@ -34,7 +31,7 @@ use Rattle.trace_run.specs.PlainLines.{IsNext}
 use Rattle.trace_run.specs.PlainReport.{IsPlainReply, ShowsCollision}
 use Rattle.trace_run.specs.PlainRun.{refused_access, reply_to, reply_to_read, reply_unless}
 use Rattle.trace_run.specs.Reads.{CameFromPool, IsFromPool}
-use Rattle.trace_run.specs.Serving.{ShowsRange}
+use Rattle.trace_run.specs.Answering.{ShowsRange}
 use Rattle.trace_run.specs.Tally.{AnswersNow}
 use Rattle.trace_run.proofs.CacheLemmas.{access-hit}
 use Rattle.trace_run.proofs.PlainLemmas.{least-test, plain-line, valid-key}

@@ -7,7 +7,6 @@ use Rattle.dbuf_state.specs.CellLog.{CellLog}
 use Rattle.trace_run.specs.Opened.{HasJoined}
 use Rattle.trace_run.proofs.OpenLemmas.{first-joined, next-joined, two-opened}
 use Rattle.trace_run.proofs.alone.only_party.Goals as goal
-use Rattle.trace_run.proofs.AloneLemmas.{ran-alone}
 
 pub join-requires-clause-row : goal.join-requires-clause-row
 join-requires-clause-row c =
