@@ -26,7 +26,6 @@ use Rattle.arc_table.specs.Ended.{Ended, Ends}
 use Rattle.arc_table.specs.Geometry.{parties_of}
 use Rattle.arc_table.specs.Items.{Meanings}
 use Rattle.arc_table.specs.TableLaws.{there}
-use Rattle.trace_text.specs.declared.ends.ShardEnd.{ShardEnd}
 use Rattle.trace_text.specs.declared.op.Op.{Op}
 use Rattle.trace_text.specs.declared.reply.Reply.{Reply}
 use Rattle.trace_text.specs.declared.trace.Trace.{Trace}
@@ -34,14 +33,14 @@ use Rattle.trace_text.specs.Grammar.{IsFormed}
 use Rattle.trace_run.specs.KeptReads.{KeptRead}
 use Rattle.trace_run.specs.declared.kept_blocks.KeptBlock.{KeptBlock}
 use Rattle.trace_run.specs.Acts.{acts_of_all, acts_of_caller, acts_of_callers, acts_of_drops}
-use Rattle.trace_run.specs.Alone.{LinesAlone, RanAlone, ends_in, histories_of}
+use Rattle.trace_run.specs.Alone.{RanAlone, ends_in, histories_of}
 use Rattle.trace_run.specs.CallerLines.{At, DidLines, at}
 use Rattle.trace_run.specs.Effects.{calls_of_all}
 use Rattle.trace_run.specs.Ends.{end_of, ends_of, opening_of}
 use Rattle.trace_run.specs.Explaining.{Explain}
 use Rattle.trace_run.specs.KeptBlocks.{DroppedAlone, GivesAll, Stands, holds_in, read_of}
 use Rattle.trace_run.specs.Lines.{caller_of, is_in_shard, is_of_caller, replies_where, shard_of_line}
-use Rattle.trace_run.specs.OneCaller.{AreFoundAs, IsFoundAs, events_of, events_of_drops, kept_after, kept_after_all, one_caller_histories, one_caller_history}
+use Rattle.trace_run.specs.OneCaller.{AreFoundAs, IsFoundAs, events_of, events_of_drops, kept_after, kept_after_all, one_caller_history}
 use Rattle.trace_run.specs.Opened.{HasJoined}
 use Rattle.trace_run.specs.OverShards.{AllLinesOver, AreNamed, events_over, kept_in_shard}
 use Rattle.trace_run.specs.PlainRun.{shards_after}
