@@ -1,5 +1,5 @@
 -- The run of several callers: its parties at the end, what its closed cache explains, and what its pool counts.
-use Rattle.std.proofs.Common.{◌≡◌, ◌≢◌, ℕ, zero, suc, ◌+◌, ◌<◌, ◌≤◌, ◌^◌, ◌==◌, Bool, true, false, cond, List, [], ◌∷◌, ◌++◌, length, length-append, map, Option, Some, None, inl, inr, refl, sym, ap, ◌∙◌, subst, arith}
+use Rattle.std.proofs.Common.{◌≡◌, ◌≢◌, ℕ, zero, suc, ◌+◌, ◌<◌, ◌≤◌, ◌^◌, ◌==◌, Bool, true, false, cond, List, [], ◌∷◌, ◌++◌, length, length-append, Option, Some, None, Result, Ok, Err, IfOk, inl, inr, refl, sym, ap, ◌∙◌, subst, arith}
 use Rattle.std.specs.Prelude.{count_by, filter, slice_get, sum_by}
 use Rattle.std.proofs.lemmas.Bool.{false≢true}
 use Rattle.std.proofs.lemmas.List.{length-map}
@@ -349,3 +349,8 @@ none-together pools before after trace closed leaves reads rose explained none =
   where
     nothing-there : (k : ℕ) (op : Op) → slice_get [] k ≡ Some op → ⊥
     nothing-there k op at = let inside = slice_get_within [] k op at in absurd (omega arith)
+
+-- what follows of two facts of an answer
+pub ok-both : {T E : Type 0} (A B R : T → Type 0) (r : Result T E) → IfOk r A → IfOk r B → ((x : T) → A x → B x → R x) → IfOk r R
+ok-both A B R (Ok x) a b both = both x a b
+ok-both A B R (Err e) a b both = tt
