@@ -156,7 +156,7 @@ fn work_all<R: Threads + Wait + Sync, C: Keeps + Send, P: Pool, G: Gate>(
     ops: &[Op],
     gate: &G,
 )
-    requires ready { AllByRecursion (IsReady arcs.now) callers.old }
+    requires ready { All (IsReady arcs.now) callers.old }
     requires declared { AreDeclared (length blocks.now) ops.now }
     requires few { length ops.now < 2 ^ 32 }
     ensures { AllZip (HasTried arcs.now P.Pool blocks.now ops.now) callers.old callers.new }
