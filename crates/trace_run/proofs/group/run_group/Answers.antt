@@ -23,7 +23,7 @@ work_all-requires-clause-ready g c = λ k lives i d lt.
     (enlisted-ready c.args.arcs.now g.P.Pool c.args.blocks.now c.args.ops.now c.args.pool.now c.args.parties.items c.args.forks.items c.in_ok-callers.callers.items c.requires.parties c.requires.forks c.in_ok-callers.ensures)) lt
 
 pub take_all_back-requires : goal.take_all_back-requires
-take_all_back-requires g c = λ k lives.
+take_all_back-requires g c =
     let news : List (Caller g.row.C.Denot g.row.P.Denot) = c.work_all.new.callers in
     let long : c.in_ok-callers.callers.len ≡ length news = let a = c.work_all.auto.callers in let b = c.deref_mut.ensures.len in omega arith in
     subst (AllByRecursion (MayGiveBack c.args.arcs.now)) (sym (written c.in_ok-callers.callers.len news c.in_ok-callers.callers.items long))
