@@ -1,23 +1,8 @@
-use Rattle.std.proofs.Common.{◌≡◌, List, length, sym, subst, arith}
-use Rattle.std.specs.List.{AllByRecursion}
-use denote.Param.Send.{sendable}
-use Rattle.dbuf_state.proofs.CellLemmas.{all-at}
-use Rattle.trace_run.specs.Callers.{HasTried, IsReady}
+use Rattle.std.proofs.Common.{◌≡◌, length, subst, arith}
+use Rattle.trace_run.specs.Callers.{HasTried}
 use Rattle.trace_run.specs.declared.group.Caller.{Caller}
 use Rattle.trace_run.proofs.GroupLemmas.{zip-of}
 use Rattle.trace_run.proofs.group.work_all.Goals as goal
-
-pub for_each_mut-requires : goal.for_each_mut-requires
-for_each_mut-requires g c = λ k. (
-      search sendable depth 20,
-      (search sendable depth 20,
-      (search sendable depth 20,
-      (omega arith,
-      λ i p lt is. (
-        (subst (IsReady c.args.arcs.now) (sym is) (all-at (IsReady c.args.arcs.now) c.args.callers.now i p.now c.requires.ready lt), c.requires.declared, c.requires.few),
-        (search sendable depth 20, search sendable depth 20, search sendable depth 20, search sendable depth 20),
-      )))),
-    )
 
 pub returns : goal.returns
 returns g c =
