@@ -37,10 +37,7 @@ fn take_feeder(parties: &mut Vec<Party<Cell<Kept>>>) -> Party<Cell<Kept>>
 }
 
 /// Closes the cache of a run, once each party has given all back.
-fn close_run(
-    arcs: Cells,
-    parties: Vec<Party<Cell<Kept>>>,
-) -> Result<Closed<Cell<Kept>>, NoMemory>
+fn close_run(arcs: Cells, parties: Vec<Party<Cell<Kept>>>) -> Result<Closed<Cell<Kept>>, NoMemory>
     requires { HaveStopped arcs parties.items }
     ensures { IfOk result (λ closed. Ends (meanings_of ⟦<Cell<Kept> as Keeps>⟧) arcs parties.items closed) }
 {
