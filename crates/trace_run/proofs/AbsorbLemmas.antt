@@ -43,6 +43,14 @@ module _ {P : Type 0} (pools : Ghosts P) where
       let one = all.0 in
       (record { size = one.size ∙ sym keeps.size; told = one.told ∙ sym keeps.told; reads = one.reads; faults = one.faults }, forks-moved old new keeps forks all.1)
 
+  -- one fork more
+  pub fresh-then : (old now : P) → KeepsPool pools old now → (forks : List P) (fork : P) (more : List P) → more ≡ forks ++ fork ∷ [] → AllByRecursion (IsFork pools old) forks → IsFork pools now fork → AllByRecursion (IsFork pools old) more
+  fresh-then old now keeps forks fork more is all one = subst (AllByRecursion (IsFork pools old)) (sym is) (both forks all)
+    where
+      both : (fs : List P) → AllByRecursion (IsFork pools old) fs → AllByRecursion (IsFork pools old) (fs ++ fork ∷ [])
+      both [] have = (record { size = one.size ∙ keeps.size; told = one.told ∙ keeps.told; reads = one.reads; faults = one.faults }, tt)
+      both (f ∷ fs) have = (have.0, both fs have.1)
+
   -- ---- what it counts
 
   pub absorbed-reads : (forks : List P) (old new : P) → AbsorbsAll pools forks old new → pools.reads old + sum_by pools.reads forks ≤ last_count → pools.reads new ≡ pools.reads old + sum_by pools.reads forks

@@ -1,5 +1,5 @@
 //! The work of several callers at once, each by its own lines, with its own party and its own fork of the pool.
-ghost use Rattle.std.specs.Prelude.{◌≡◌, ◌<◌, ◌≤◌, ◌^◌, ◌++◌, ◌∷◌, [], IfErr, IfOk, IsErrOf, List, OnErr, OnOk, length, map, vec_len};
+ghost use Rattle.std.specs.Prelude.{All, ◌≡◌, ◌<◌, ◌≤◌, ◌^◌, ◌++◌, ◌∷◌, [], IfErr, IfOk, IsErrOf, List, OnErr, OnOk, length, map, vec_len};
 ghost use Rattle.std.specs.List.{AllByRecursion, AllZip};
 ghost use Rattle.arc_table.specs.PoolCalls.{KeepsPool};
 ghost use Rattle.arc_table.specs.declared.view.Known.{Known};
@@ -156,7 +156,7 @@ fn work_all<R: Threads + Wait + Sync, C: Keeps + Send, P: Pool, G: Gate>(
     ops: &[Op],
     gate: &G,
 )
-    requires ready { AllByRecursion (IsReady arcs.now) callers.old }
+    requires ready { All (IsReady arcs.now) callers.old }
     requires declared { AreDeclared (length blocks.now) ops.now }
     requires few { length ops.now < 2 ^ 32 }
     ensures { AllZip (HasTried arcs.now P.Pool blocks.now ops.now) callers.old callers.new }
