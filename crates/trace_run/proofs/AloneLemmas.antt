@@ -1,19 +1,17 @@
 -- The run of one caller over the shared cache: what its lines and the drops at the end made of each shard, and that this explains the replies.
-use Rattle.std.proofs.Common.{◌≡◌, ◌≢◌, ℕ, zero, suc, ◌+◌, ◌<◌, ◌≤◌, ◌==◌, ◌&&◌, cond, Bool, true, false, IsTrue, List, [], ◌∷◌, ◌++◌, length, map, get_or, refl, sym, ap, ◌∙◌, subst, inl, inr, eq-eqb, arith}
+use Rattle.std.proofs.Common.{◌≡◌, ◌≢◌, ℕ, zero, suc, ◌+◌, ◌<◌, ◌≤◌, ◌==◌, ◌&&◌, cond, Bool, true, false, IsTrue, List, [], ◌∷◌, ◌++◌, length, map, get_or, Some, refl, sym, ap, ◌∙◌, subst, inl, inr, eq-eqb, arith}
 use Rattle.std.specs.Prelude.{filter, slice_get, sum_by}
 use Rattle.std.specs.List.{AllByRecursion, range_with_len}
 use Rattle.std.proofs.lemmas.Bool.{eqb-true}
 use Rattle.std.proofs.lemmas.List.{length-map}
 use Rattle.std.proofs.lemmas.List.Sums.{sum_by-cons}
-use Rattle.std.proofs.lemmas.Nat.{mod_below}
 use mathlib.Core.Logic.{dite}
 use mathlib.Core.Option.{some, some-injective, some-ne-none}
 use native.Mathlib.Decide.{ℕ_discrete}
 use lib.ListN.{get_elem?}
 use Rattle.arc_lists.proofs.Tables.{cases_true}
-use Rattle.blk_ptr.specs.declared.key.Key.{Key}
 use Rattle.blk_ptr.specs.declared.ptr.Ptr.{Ptr}
-use Rattle.blk_ptr.specs.Hash.{hash_of_key, shard_of}
+use Rattle.blk_ptr.specs.Hash.{shard_of}
 use Rattle.vdev_io.specs.declared.pool.Pool.{Ghosts}
 use Rattle.arc_core.specs.declared.config.Config.{Config}
 use Rattle.arc_core.specs.declared.event.Event.{Event}
@@ -21,14 +19,13 @@ use Rattle.arc_core.specs.Operations.{Act, HoldEveryCallOnce, IsAtRest, Moment, 
 use Rattle.arc_core.specs.PlainShard.{PlainShard}
 use Rattle.arc_core.specs.Replay.{is_legal_history, replay}
 use Rattle.arc_core.specs.ShardLog.{ShardLog}
-use Rattle.turn_table.specs.Places.{Place}
+use Rattle.turn_table.specs.Places.{Place, SomeHas}
 use Rattle.arc_table.specs.declared.view.Known.{Known}
 use Rattle.arc_table.specs.Cache.{Cache}
 use Rattle.arc_table.specs.Ended.{Ended, Ends}
 use Rattle.arc_table.specs.Geometry.{parties_of}
 use Rattle.arc_table.specs.Items.{Meanings}
 use Rattle.arc_table.specs.TableLaws.{there}
-use Rattle.trace_text.specs.declared.ends.ShardEnd.{ShardEnd}
 use Rattle.trace_text.specs.declared.op.Op.{Op}
 use Rattle.trace_text.specs.declared.reply.Reply.{Reply}
 use Rattle.trace_text.specs.declared.trace.Trace.{Trace}
@@ -36,24 +33,24 @@ use Rattle.trace_text.specs.Grammar.{IsFormed}
 use Rattle.trace_run.specs.declared.access.KeptRead.{KeptRead}
 use Rattle.trace_run.specs.declared.kept_blocks.KeptBlock.{KeptBlock}
 use Rattle.trace_run.specs.Acts.{acts_of_all, acts_of_caller, acts_of_callers, acts_of_drops}
-use Rattle.trace_run.specs.Alone.{LinesAlone, RanAlone, ends_in, histories_of}
+use Rattle.trace_run.specs.Alone.{RanAlone, ends_in, histories_of}
 use Rattle.trace_run.specs.CallerLines.{At, DidLines, at}
 use Rattle.trace_run.specs.Effects.{calls_of_all}
 use Rattle.trace_run.specs.Ends.{end_of, ends_of, opening_of}
 use Rattle.trace_run.specs.Explaining.{Explain}
 use Rattle.trace_run.specs.KeptBlocks.{DroppedAlone, GivesAll, Stands, holds_in, read_of}
 use Rattle.trace_run.specs.Lines.{caller_of, is_in_shard, is_of_caller, replies_where, shard_of_line}
-use Rattle.trace_run.specs.OneCaller.{AreFoundAs, IsFoundAs, events_of, events_of_drops, kept_after, kept_after_all, one_caller_histories, one_caller_history}
+use Rattle.trace_run.specs.OneCaller.{AreFoundAs, IsFoundAs, events_of, events_of_drops, kept_after, kept_after_all, one_caller_history}
 use Rattle.trace_run.specs.Opened.{HasJoined}
 use Rattle.trace_run.specs.OverShards.{AllLinesOver, AreNamed, events_over, kept_in_shard}
 use Rattle.trace_run.specs.PlainRun.{shards_after}
 use Rattle.trace_run.specs.Reads.{IsAlone, now_of}
 use Rattle.trace_run.specs.Seen.{HasAll, seen_of}
-use Rattle.trace_run.specs.Tally.{IsOfCaller}
+use Rattle.trace_run.specs.Tally.{AreAnswered, IsOfCaller}
 use Rattle.trace_run.specs.Told.{IsTold}
 use Rattle.trace_run.proofs.CallerActLemmas.{callers-none}
-use Rattle.trace_run.proofs.CountLemmas.{caller-count, reads-counted, reads_by, reads_of_act}
 use Rattle.trace_run.proofs.GiveLemmas.{all-alone, all-number, all-told}
+use Rattle.trace_run.proofs.GroupCounts.{caller-reads, reads_by}
 use Rattle.trace_run.proofs.GroupLemmas.{lines-answers, lines-number}
 use Rattle.trace_run.proofs.HistoryLemmas.{IsReadEvent, read-number}
 use Rattle.trace_run.proofs.LinesLemmas.{lines-all, lines-answered, lines-calls, lines-found, lines-kept, lines-length, lines-named, lines-seen, lines-told}
@@ -62,8 +59,8 @@ use Rattle.trace_run.proofs.OpenLemmas.{joined-all, new-seen}
 use Rattle.trace_run.proofs.OverShardLemmas.{events-here, kept-else, kept-here, other-shard, same-shard}
 use Rattle.trace_run.proofs.OwnLemmas.{no-own-moments}
 use Rattle.trace_run.proofs.ReportLemmas.{all-own, of-caller, one-acts, one-caller, possible-at}
-use Rattle.trace_run.proofs.RestAlone.{alone-history, alone-legal, alone-now, alone-rests, alone-told}
-use Rattle.trace_run.proofs.TellLemmas.{IsActOf, IsMine, IsReadAct, acts-caller, all-map, filter-all, mine-events, no-passes}
+use Rattle.trace_run.proofs.RestAlone.{all-there, alone-history, alone-legal, alone-now, alone-rests, alone-told}
+use Rattle.trace_run.proofs.TellLemmas.{IsMine, all-map, filter-all, mine-events, no-passes}
 
 -- ---- lists by their places
 
@@ -171,10 +168,11 @@ module _ (shards : ℕ) (blocks : List Ptr) (i : ℕ) where
             let same : j ≡ i = eqb-true j i in_it in
             let events : es ≡ events_of blocks (s i) (kept_in_shard shards blocks i kept) op reply =
             ap (λ (n : ℕ). events_of blocks (s n) kept op reply) same ∙ events-here shards blocks i (s i) op reply kept in_it in
-            rw in_it
-            (subst (λ (n : ℕ). IsFoundAs blocks (s n) op reply) same all.0,
-            subst (λ (x : PlainShard × List KeptRead). AreFoundAs blocks x.0 x.1 (filter (is_in_shard shards blocks i) os) (replies_where (is_in_shard shards blocks i) os replies))
-            (λ k. ((same-shard shards blocks i s j es in_it ∙ ap (replay (s i)) events) k, kept-here shards blocks i op reply kept in_it k)) rest)
+            rw in_it (
+              subst (λ (n : ℕ). IsFoundAs blocks (s n) op reply) same all.0,
+              subst (λ (x : PlainShard × List KeptRead). AreFoundAs blocks x.0 x.1 (filter (is_in_shard shards blocks i) os) (replies_where (is_in_shard shards blocks i) os replies))
+                  (λ k. ((same-shard shards blocks i s j es in_it ∙ ap (replay (s i)) events) k, kept-here shards blocks i op reply kept in_it k)) rest,
+            )
         | inr out ↦
             rw out
             (subst (λ (x : PlainShard × List KeptRead). AreFoundAs blocks x.0 x.1 (filter (is_in_shard shards blocks i) os) (replies_where (is_in_shard shards blocks i) os replies))
@@ -184,12 +182,11 @@ module _ (shards : ℕ) (blocks : List Ptr) (i : ℕ) where
 -- ---- the run
 
 module _ {C P : Type 0} (m : Meanings C) (cache : Cache) (pools : Ghosts P) (blocks : List Ptr) (os : List Op) (replies : List Reply) (before after : P)
-    (p q r : Place (Known C)) (kept : List KeptBlock) (closed : Ended C)
+    (p q r : Place (Known C)) (kept : List KeptBlock)
     (one : cache.config.callers ≡ 1) (own : (k : ℕ) (op : Op) → slice_get os k ≡ Some op → caller_of op ≡ 0)
     (first : HasJoined cache (parties_of cache.config) p)
     (worked : DidLines cache.config pools 0 blocks (filter (is_of_caller p.number) os) replies (at p [] before) (at q (map read_of kept) after))
-    (between : Stands cache q kept) (gives : GivesAll m cache.config kept q r) (last : Stands cache r [])
-    (ends : Ends m cache (r ∷ []) closed) where
+    (between : Stands cache q kept) (gives : GivesAll m cache.config kept q r) (last : Stands cache r []) where
   abbrev g : Config
   g = cache.config
 
@@ -205,9 +202,11 @@ module _ {C P : Type 0} (m : Meanings C) (cache : Cache) (pools : Ghosts P) (blo
   all-his : AllByRecursion (λ op. caller_of op ≡ 0) os
   all-his = all-own 0 os own
 
+  his-are : filter (is_of_caller 0) os ≡ os
+  his-are = filter-all (is_of_caller 0) os (of-caller os all-his)
+
   did : DidLines cache.config pools 0 blocks os replies a b
-  did = subst (λ (l : List Op). DidLines cache.config pools 0 blocks l replies a b)
-      (ap (λ (n : ℕ). filter (is_of_caller n) os) first.number ∙ filter-all (is_of_caller 0) os (of-caller os all-his)) worked
+  did = subst (λ (l : List Op). DidLines cache.config pools 0 blocks l replies a b) (ap (λ (n : ℕ). filter (is_of_caller n) os) first.number ∙ his-are) worked
 
   same-count : length replies ≡ length os
   same-count = lines-length g pools 0 blocks os replies a b did
@@ -236,6 +235,9 @@ module _ {C P : Type 0} (m : Meanings C) (cache : Cache) (pools : Ghosts P) (blo
   parties-r : r.parties ≡ parties_of cache.config
   parties-r = last.of.row.1 ∙ (sym first.new.stands.of.row.1 ∙ first.new.parties)
 
+  pub may-end : (n : ℕ) → n < parties_of cache.config → SomeHas n (r ∷ [])
+  may-end = all-there cache r parties-r dropped.all
+
   opens : (shard : ℕ) → now_of g shard p ≡ opening
   opens shard = ap (replay opening) (new-seen cache p first.new shard)
 
@@ -254,123 +256,139 @@ module _ {C P : Type 0} (m : Meanings C) (cache : Cache) (pools : Ghosts P) (blo
       ∙ (named-drops g blocks 0 shard (map read_of kept) named ∙ ap (λ (l : List KeptRead). events_of_drops 0 (kept_in_shard g.shards blocks shard l)) kept-is) in
       dropped.seen shard ∙ ((λ h. from h ++ drops h) ∙ history-over g.shards blocks 0 shard (λ i. opening) os replies)
 
-  module _ (i : ℕ) (l : ShardLog) (at_i : get_elem? closed.shards i ≡ some l) where
-    the-history : l.history ≡ history_of i
-    the-history = alone-history m cache r closed ends parties-r last dropped.all i l at_i ∙ all-seen i
+  module _ (closed : Ended C) (ends : Ends m cache (r ∷ []) closed) where
+    module _ (i : ℕ) (l : ShardLog) (at_i : get_elem? closed.shards i ≡ some l) where
+      the-history : l.history ≡ history_of i
+      the-history = alone-history m cache r closed ends parties-r last dropped.all i l at_i ∙ all-seen i
 
-    mine : AllByRecursion (IsMine 0) l.history
-    mine = subst (AllByRecursion (IsMine 0)) (sym the-history)
-        (mine-events blocks 0 opening (filter (is_in_shard g.shards blocks i) os) (replies_where (is_in_shard g.shards blocks i) os replies)
-        (all-filtered (λ op. caller_of op ≡ 0) (is_in_shard g.shards blocks i) os all-his))
+      mine : AllByRecursion (IsMine 0) l.history
+      mine = subst (AllByRecursion (IsMine 0)) (sym the-history)
+          (mine-events blocks 0 opening (filter (is_in_shard g.shards blocks i) os) (replies_where (is_in_shard g.shards blocks i) os replies)
+          (all-filtered (λ op. caller_of op ≡ 0) (is_in_shard g.shards blocks i) os all-his))
 
-    reads : AllByRecursion (IsReadEvent g.callers) l.history
-    reads = all-map (IsMine 0) (IsReadEvent g.callers) l.history (λ e is. inl (let number = is.0 in let callers = one in omega arith, is.1, is.2)) mine
+      reads : AllByRecursion (IsReadEvent g.callers) l.history
+      reads = all-map (IsMine 0) (IsReadEvent g.callers) l.history (λ e is. inl (let number = is.0 in let callers = one in omega arith, is.1, is.2)) mine
 
-    numbers : AllByRecursion (λ e. IsTrue (has_its_number g.callers g.cells e)) l.history
-    numbers = all-map (IsReadEvent g.callers) (λ e. IsTrue (has_its_number g.callers g.cells e)) l.history (λ e is. read-number g.callers g.cells e is) reads
+      numbers : AllByRecursion (λ e. IsTrue (has_its_number g.callers g.cells e)) l.history
+      numbers = all-map (IsReadEvent g.callers) (λ e. IsTrue (has_its_number g.callers g.cells e)) l.history (λ e is. read-number g.callers g.cells e is) reads
 
-    no-others : (n : ℕ) → n ≢ 0 → own_moments n (moments opening l.history) ≡ []
-    no-others n differs = no-own-moments n opening l.history (λ y e is same. differs (sym same ∙ (all-then-at (IsMine 0) l.history mine y e is).0))
+      no-others : (n : ℕ) → n ≢ 0 → own_moments n (moments opening l.history) ≡ []
+      no-others n differs = no-own-moments n opening l.history (λ y e is same. differs (sym same ∙ (all-then-at (IsMine 0) l.history mine y e is).0))
 
-    rests : IsAtRest (replay opening l.history)
-    rests = alone-rests m cache r closed ends parties-r last dropped.all i l at_i reads
+      rests : IsAtRest (replay opening l.history)
+      rests = alone-rests m cache r closed ends parties-r last dropped.all i l at_i reads
 
-    now-is : replay opening l.history ≡ l.now
-    now-is = alone-now m cache r closed ends parties-r last dropped.all i l at_i
+      now-is : replay opening l.history ≡ l.now
+      now-is = alone-now m cache r closed ends parties-r last dropped.all i l at_i
 
-  -- ---- every call
+    -- ---- every call
 
-  abbrev acts : List Act
-  acts = acts_of_callers blocks g.callers os replies
+    abbrev acts : List Act
+    acts = acts_of_callers blocks g.callers os replies
 
-  told-all : IsTold g (acts_of_caller blocks 0 os replies) r
-  told-all =
-      let lines = lines-told g pools 0 blocks os replies a b did [] first.new.told in
-      let then = all-told m cache kept q r between gives (acts_of_all blocks [] os replies) lines in
-      subst (λ (l : List Act). IsTold g l r) (λ h. acts_of_all blocks [] os replies ++ acts_of_drops (number-q h) (kept-is h)) then
+    told-all : IsTold g (acts_of_caller blocks 0 os replies) r
+    told-all =
+        let lines = lines-told g pools 0 blocks os replies a b did [] first.new.told in
+        let then = all-told m cache kept q r between gives (acts_of_all blocks [] os replies) lines in
+        subst (λ (l : List Act). IsTold g l r) (λ h. acts_of_all blocks [] os replies ++ acts_of_drops (number-q h) (kept-is h)) then
 
-  tell-at : (shard n : ℕ) (l : ShardLog) → get_elem? closed.shards shard ≡ some l → n ≢ g.callers → Tell (acts_in (shard_of g.shards) shard n acts) (own_moments n (moments opening l.history))
-  tell-at shard n l at_l differs = dite (ℕ_discrete n 0)
-      (λ is.
-      subst (λ (k : ℕ). Tell (acts_in (shard_of g.shards) shard k acts) (own_moments k (moments opening l.history))) (number-r ∙ sym is)
-      (subst (λ (xs : List Act). Tell (acts_in (shard_of g.shards) shard r.number xs) (own_moments r.number (moments opening l.history))) (sym (one-acts g.callers one blocks os replies same-count all-his))
-      (alone-told m cache r closed ends parties-r last dropped.all shard l at_l (acts_of_caller blocks 0 os replies) told-all)))
-      (λ other.
-      let above : g.callers ≤ n = above-one n g.callers one other differs in
-      subst (λ (x : List Act × List Moment). Tell x.0 x.1) (λ h. (sym (callers-none (shard_of g.shards) shard blocks os replies g.callers n above) h, sym (no-others shard l at_l n other) h)) refl)
-    where
-      above-one : (n callers : ℕ) → callers ≡ 1 → n ≢ 0 → n ≢ callers → callers ≤ n
-      above-one n callers one other differs = omega arith
+    tell-at : (shard n : ℕ) (l : ShardLog) → get_elem? closed.shards shard ≡ some l → n ≢ g.callers → Tell (acts_in (shard_of g.shards) shard n acts) (own_moments n (moments opening l.history))
+    tell-at shard n l at_l differs = dite (ℕ_discrete n 0)
+        (λ is.
+        subst (λ (k : ℕ). Tell (acts_in (shard_of g.shards) shard k acts) (own_moments k (moments opening l.history))) (number-r ∙ sym is)
+        (subst (λ (xs : List Act). Tell (acts_in (shard_of g.shards) shard r.number xs) (own_moments r.number (moments opening l.history))) (sym (one-acts g.callers one blocks os replies same-count all-his))
+        (alone-told m cache r closed ends parties-r last dropped.all shard l at_l (acts_of_caller blocks 0 os replies) told-all)))
+        (λ other.
+        let above : g.callers ≤ n = above-one n g.callers one other differs in
+        subst (λ (x : List Act × List Moment). Tell x.0 x.1) (λ h. (sym (callers-none (shard_of g.shards) shard blocks os replies g.callers n above) h, sym (no-others shard l at_l n other) h)) refl)
+      where
+        above-one : (n callers : ℕ) → callers ≡ 1 → n ≢ 0 → n ≢ callers → callers ≤ n
+        above-one n callers one other differs = omega arith
 
-  index-is : (shard : ℕ) (l : ShardLog) → get_elem? closed.shards shard ≡ some l → get_or (histories_of closed) shard [] ≡ l.history
-  index-is shard l at_l = index-mapped (λ (log : ShardLog). log.history) closed.shards shard l [] at_l
+    index-is : (shard : ℕ) (l : ShardLog) → get_elem? closed.shards shard ≡ some l → get_or (histories_of closed) shard [] ≡ l.history
+    index-is shard l at_l = index-mapped (λ (log : ShardLog). log.history) closed.shards shard l [] at_l
 
-  some-log : (shard : ℕ) → shard < length (histories_of closed) → (l : ShardLog) × (get_elem? closed.shards shard ≡ some l)
-  some-log shard below = there closed.shards shard (subst (λ (n : ℕ). shard < n) (length-map closed.shards (λ (log : ShardLog). log.history)) below)
+    some-log : (shard : ℕ) → shard < length (histories_of closed) → (l : ShardLog) × (get_elem? closed.shards shard ≡ some l)
+    some-log shard below = there closed.shards shard (subst (λ (n : ℕ). shard < n) (length-map closed.shards (λ (log : ShardLog). log.history)) below)
 
-  every-call : HoldEveryCallOnce g (shard_of g.shards) opening acts (histories_of closed)
-  every-call = record {
-    told = λ shard n below differs.
-        let l = some-log shard below in
-        subst (λ (h : List Event). Tell (acts_in (shard_of g.shards) shard n acts) (own_moments n (moments opening h))) (sym (index-is shard l.0 l.1)) (tell-at shard n l.0 l.1 differs);
-    fed = λ shard below.
-        let l = some-log shard below in
-        let feeder : g.callers ≢ 0 = λ (none : g.callers ≡ 0). let callers = one in omega arith in
-        subst (λ (ms : List Moment). AllByRecursion (λ m. IsTrue (is_of_feed m.event)) ms)
-        (sym (ap (λ (h : List Event). own_moments g.callers (moments opening h)) (index-is shard l.0 l.1) ∙ no-others shard l.0 l.1 g.callers feeder)) tt;
-    numbers = all-mapped (λ (log : ShardLog). log.history) (λ history. AllByRecursion (λ e. IsTrue (has_its_number g.callers g.cells e)) history) closed.shards numbers;
-    passes = all-mapped (λ (log : ShardLog). log.history) (λ history. IsTrue (are_passes_placed history)) closed.shards (λ i l at_l. no-passes 0 l.history (mine i l at_l));
-  }
+    every-call : HoldEveryCallOnce g (shard_of g.shards) opening acts (histories_of closed)
+    every-call = record {
+      told = λ shard n below differs.
+          let l = some-log shard below in
+          subst (λ (h : List Event). Tell (acts_in (shard_of g.shards) shard n acts) (own_moments n (moments opening h))) (sym (index-is shard l.0 l.1)) (tell-at shard n l.0 l.1 differs);
+      fed = λ shard below.
+          let l = some-log shard below in
+          let feeder : g.callers ≢ 0 = λ (none : g.callers ≡ 0). let callers = one in omega arith in
+          subst (λ (ms : List Moment). AllByRecursion (λ m. IsTrue (is_of_feed m.event)) ms)
+          (sym (ap (λ (h : List Event). own_moments g.callers (moments opening h)) (index-is shard l.0 l.1) ∙ no-others shard l.0 l.1 g.callers feeder)) tt;
+      numbers = all-mapped (λ (log : ShardLog). log.history) (λ history. AllByRecursion (λ e. IsTrue (has_its_number g.callers g.cells e)) history) closed.shards numbers;
+      passes = all-mapped (λ (log : ShardLog). log.history) (λ history. IsTrue (are_passes_placed history)) closed.shards (λ i l at_l. no-passes 0 l.history (mine i l at_l));
+    }
 
-  -- ---- the reads of the pool
+    -- ---- the reads of the pool
 
-  own-acts : AllByRecursion (IsActOf 0) (acts_of_caller blocks 0 os replies)
-  own-acts = acts-caller blocks 0 os replies all-his
+    counted-all : length (calls_of_all replies) ≡ sum_by pool_reads (histories_of closed)
+    counted-all =
+        caller-reads g (pools.size before) (pools.told before) blocks 0 os replies (histories_of closed) last.valid
+        (length-map closed.shards (λ (log : ShardLog). log.history) ∙ ends.shards)
+        (subst (λ (l : List Op). AreAnswered (pools.size before) (pools.told before) blocks [] l replies) (sym his-are) (lines-answers g pools 0 blocks os replies a b did))
+        (λ i h is.
+        let l = unmapped (λ (log : ShardLog). log.history) closed.shards i h is in
+        subst (λ (x : ℕ × List Op × List Event). Tell (acts_in (shard_of g.shards) i x.0 (acts_of_caller blocks 0 x.1 replies)) (own_moments x.0 (moments opening x.2))) (λ z. (number-r z, sym his-are z, l.2 z))
+        (alone-told m cache r closed ends parties-r last dropped.all i l.0 l.1 (acts_of_caller blocks 0 os replies) told-all))
+        ∙ same-sums (reads_by 0) pool_reads closed.shards (λ i l at_l. mine-reads 0 l.history (mine i l at_l))
 
-  counted-all : length (calls_of_all replies) ≡ sum_by pool_reads (histories_of closed)
-  counted-all =
-      let f : Key → ℕ = shard_of g.shards in
-      let his : List Act = acts_of_caller blocks 0 os replies in
-      let sums : sum_by (reads_by 0) (histories_of closed) ≡ sum_by reads_of_act his = reads-counted f 0 g.shards opening his (histories_of closed)
-      (λ k. mod_below (hash_of_key k) g.shards (let some_of = last.valid.counts.shards.0 in omega arith))
-      (length-map closed.shards (λ (log : ShardLog). log.history) ∙ ends.shards) own-acts
-      (λ i h is.
-      let l = unmapped (λ (log : ShardLog). log.history) closed.shards i h is in
-      subst (λ (x : ℕ × List Event). Tell (acts_in f i x.0 his) (own_moments x.0 (moments opening x.1))) (λ z. (number-r z, l.2 z)) (alone-told m cache r closed ends parties-r last dropped.all i l.0 l.1 his told-all))
-      (λ i. all-map (IsActOf 0) IsReadAct (acts_in f i 0 his) (λ act is. is.1) (all-filtered (IsActOf 0) _ his own-acts)) in
-      sym (caller-count (pools.size before) (pools.told before) blocks 0 os replies (lines-answers g pools 0 blocks os replies a b did))
-      ∙ (sym sums ∙ same-sums (reads_by 0) pool_reads closed.shards (λ i l at_l. mine-reads 0 l.history (mine i l at_l)))
+    -- ---- all of it
 
-  -- ---- all of it
+    abbrev trace : Trace
+    trace = record { config = cache.config; blocks = blocks; ops = os }
 
-  abbrev trace : Trace
-  trace = record { config = cache.config; blocks = blocks; ops = os }
+    explained : Explain trace replies (ends_in closed) (histories_of closed)
+    explained = record {
+      shards = length-map closed.shards (λ (log : ShardLog). log.history) ∙ ends.shards;
+      legal = all-mapped (λ (log : ShardLog). log.history) (λ history. IsTrue (is_legal_history opening history)) closed.shards (alone-legal m cache r closed ends parties-r last dropped.all);
+      ends = ends-are closed.shards (λ i l at_l. ap end_of (sym (now-is i l at_l)));
+      at_rest = all-mapped (λ (log : ShardLog). log.history) (λ history. IsAtRest (replay opening history)) closed.shards rests;
+      every_call = every-call;
+    }
+      where
+        ends-are : (l : List ShardLog) → ((i : ℕ) (log : ShardLog) → get_elem? l i ≡ some log → end_of log.now ≡ end_of (replay opening log.history)) → map (λ (log : ShardLog). end_of log.now) l ≡ ends_of g (map (λ (log : ShardLog). log.history) l)
+        ends-are [] each = refl
+        ends-are (x ∷ xs) each = λ i. each 0 x refl i ∷ ends-are xs (λ k log is. each (suc k) log is) i
 
-  explained : Explain trace replies (ends_in closed) (histories_of closed)
-  explained = record {
-    shards = length-map closed.shards (λ (log : ShardLog). log.history) ∙ ends.shards;
-    legal = all-mapped (λ (log : ShardLog). log.history) (λ history. IsTrue (is_legal_history opening history)) closed.shards (alone-legal m cache r closed ends parties-r last dropped.all);
-    ends = ends-are closed.shards (λ i l at_l. ap end_of (sym (now-is i l at_l)));
-    at_rest = all-mapped (λ (log : ShardLog). log.history) (λ history. IsAtRest (replay opening history)) closed.shards rests;
-    every_call = every-call;
-  }
-    where
-      ends-are : (l : List ShardLog) → ((i : ℕ) (log : ShardLog) → get_elem? l i ≡ some log → end_of log.now ≡ end_of (replay opening log.history)) → map (λ (log : ShardLog). end_of log.now) l ≡ ends_of g (map (λ (log : ShardLog). log.history) l)
-      ends-are [] each = refl
-      ends-are (x ∷ xs) each = λ i. each 0 x refl i ∷ ends-are xs (λ k log is. each (suc k) log is) i
+    pub ran : RanAlone pools before after trace replies closed
+    ran = record {
+      answers = lines-answered g pools 0 blocks 0 os replies a b own refl did;
+      made = lines-calls g pools 0 blocks os replies a b did;
+      histories = counted-off (λ (log : ShardLog). log.history) history_of closed.shards 0 (λ i l at_l. the-history i l at_l ∙ ap history_of (omega arith))
+          ∙ ap (λ (n : ℕ). map history_of (range_with_len 0 n)) ends.shards;
+      found = all-counted _ (λ shard. found-over g.shards blocks shard (λ i. opening) [] os replies found-all) 0 g.shards;
+      counted = counted-all;
+      explained = explained;
+      lines = record { first = a; last = b; alone = alone; none = refl; opens = opens; from = refl; to = refl; lines = did };
+    }
+      where
+        found-all : AllLinesOver (λ s kept op reply. IsFoundAs blocks s op reply) g.shards blocks (λ i. opening) [] os replies
+        found-all = subst (λ (s : ℕ → PlainShard). AllLinesOver (λ s kept op reply. IsFoundAs blocks s op reply) g.shards blocks s [] os replies) (λ h i. opens i h)
+            (lines-found g pools 0 blocks os replies a b did alone)
 
-  pub ran : RanAlone pools before after trace replies closed
-  ran = record {
-    answers = lines-answered g pools 0 blocks 0 os replies a b own refl did;
-    made = lines-calls g pools 0 blocks os replies a b did;
-    histories = counted-off (λ (log : ShardLog). log.history) history_of closed.shards 0 (λ i l at_l. the-history i l at_l ∙ ap history_of (omega arith))
-        ∙ ap (λ (n : ℕ). map history_of (range_with_len 0 n)) ends.shards;
-    found = all-counted _ (λ shard. found-over g.shards blocks shard (λ i. opening) [] os replies found-all) 0 g.shards;
-    counted = counted-all;
-    explained = explained;
-    lines = record { first = a; last = b; alone = alone; none = refl; opens = opens; from = refl; to = refl; lines = did };
-  }
-    where
-      found-all : AllLinesOver (λ s kept op reply. IsFoundAs blocks s op reply) g.shards blocks (λ i. opening) [] os replies
-      found-all = subst (λ (s : ℕ → PlainShard). AllLinesOver (λ s kept op reply. IsFoundAs blocks s op reply) g.shards blocks s [] os replies) (λ h i. opens i h)
-          (lines-found g pools 0 blocks os replies a b did alone)
+-- what is asked of the run, by the trace
+module _ {C P : Type 0} (m : Meanings C) (cache : Cache) (pools : Ghosts P) (trace : Trace) (replies : List Reply) (before after : P) (p q r : Place (Known C)) (kept : List KeptBlock)
+    (config : cache.config ≡ trace.config) (formed : IsFormed trace) (one : trace.config.callers ≡ 1)
+    (first : HasJoined cache (parties_of cache.config) p)
+    (worked : DidLines cache.config pools 0 trace.blocks (filter (is_of_caller p.number) trace.ops) replies (at p [] before) (at q (map read_of kept) after))
+    (between : Stands cache q kept) (gives : GivesAll m cache.config kept q r) (last : Stands cache r []) where
+  callers : cache.config.callers ≡ 1
+  callers = ap (λ (g : Config). g.callers) config ∙ one
+
+  own : (k : ℕ) (op : Op) → slice_get trace.ops k ≡ Some op → caller_of op ≡ 0
+  own k op at = (alone-ops trace formed one k op at).0
+
+  pub end-there : (n : ℕ) → n < parties_of cache.config → SomeHas n (r ∷ [])
+  end-there = may-end m cache pools trace.blocks trace.ops replies before after p q r kept callers own first worked between gives last
+
+  pub ran-alone : (given : Cache) (ps : List (Place (Known C))) (closed : Ended C) → given ≡ cache → ps ≡ r ∷ [] → Ends m given ps closed → RanAlone pools before after trace replies closed
+  ran-alone given ps closed same listed ends =
+      subst (λ (g : Config). RanAlone pools before after (record { config = g; blocks = trace.blocks; ops = trace.ops }) replies closed) config
+      (ran m cache pools trace.blocks trace.ops replies before after p q r kept callers own first worked between gives last closed
+      (subst (λ (x : Cache × List (Place (Known C))). Ends m x.0 x.1 closed) (λ i. (same i, listed i)) ends))

@@ -1,6 +1,7 @@
 pub mod AbsorbLemmas
 pub mod AccessLemmas
 pub mod AloneLemmas
+pub mod AlonePlainLemmas
 pub mod AnswerLemmas
 pub mod BlockLemmas
 pub mod CacheLemmas
@@ -30,11 +31,15 @@ pub mod OverShardLemmas
 pub mod OwnLemmas
 pub mod PlacedLemmas
 pub mod PlainLemmas
+pub mod PlainReplyLemmas
+pub mod PlainReportLemmas
 pub mod RangeLemmas
+pub mod RanLemmas
 pub mod ReadLemmas
 pub mod ReadMoments
 pub mod ReadStands
 pub mod ReportLemmas
+pub mod ResidentLemmas
 pub mod RestAlone
 pub mod RestLemmas
 pub mod RoomyLemmas

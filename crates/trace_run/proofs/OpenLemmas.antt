@@ -37,7 +37,7 @@ use Rattle.trace_run.specs.Told.{IsTold}
 no-mine : (g : Config) (n : ℕ) (seen : List (List Line)) → AreSeen g n [] seen
 no-mine g n seen i j a at is = absurd (some-ne-none a (sym at))
 
-module _ {C : Type 0} (cache : Cache) (about : About) (is : about.config ≡ cache.config) (row : cache.row.parties ≡ parties_of cache.config) (valid : IsConfig cache.config) where
+module _ (C : Type 0) (cache : Cache) (about : About) (is : about.config ≡ cache.config) (row : cache.row.parties ≡ parties_of cache.config) (valid : IsConfig cache.config) where
   abbrev one : ℕ → Place (Known C)
   one n = newcomer cache.row.table (parties_of cache.config) n (known about n)
 
@@ -73,11 +73,17 @@ module _ {C : Type 0} (cache : Cache) (about : About) (is : about.config ≡ cac
   newcomer-at n (suc k) zero p at = sym (some-injective (one n) p at) ∙ ap one (omega arith)
   newcomer-at n (suc k) (suc j) p at = newcomer-at (suc n) k j p at ∙ ap one (omega arith)
 
-  pub all-opened : (ps : List (Place (Known C))) → ps ≡ all_newcomers cache about → AreOpened cache ps
-  all-opened ps all = subst (AreOpened cache) (sym all) record {
+  newcomers-opened : AreOpened cache (all_newcomers {C = C} cache about)
+  newcomers-opened = record {
     count = newcomers-count 0 (parties_of cache.config);
     each = λ n p at. subst (IsOpened cache n) (sym (newcomer-at 0 (parties_of cache.config) n p at ∙ ap one (omega arith))) (newcomer-new n);
   }
+
+-- the parties of a cache that was given so
+pub all-opened : {C : Type 0} (given cache : Cache) (about : About) (ps : List (Place (Known C))) → ps ≡ all_newcomers given about → cache ≡ given → about.config ≡ cache.config
+    → cache.row.parties ≡ parties_of cache.config → IsConfig cache.config → AreOpened cache ps
+all-opened {C} given cache about ps all same is row valid =
+    subst (AreOpened cache) (sym (all ∙ ap (λ (x : Cache). all_newcomers x about) (sym same))) (newcomers-opened C cache about is row valid)
 
 -- ---- parties that are taken out of the row
 
@@ -94,6 +100,14 @@ pub opened-at : {C : Type 0} (cache : Cache) (ps : List (Place (Known C))) → A
 opened-at cache ps opened n p inside is =
     let h = there ps n inside in
     subst (IsOpened cache n) (sym (is ∙ at-place ps n h.0 p h.1)) (opened.each n h.0 h.1)
+
+-- the first and the second of two parties, where the second was taken out first
+pub two-opened : {C : Type 0} (cache : Cache) (ps rest : List (Place (Known C))) (p q : Place (Known C)) → cache.config.callers ≡ 1 → AreOpened cache ps → q ≡ get_or ps 1 q → rest ≡ remove ps 1 → p ≡ get_or rest 0 p
+    → IsOpened cache 0 p × IsOpened cache 1 q
+two-opened {C} cache ps rest p q one opened second left first =
+    let count = opened.count in
+    let long : 1 < length ps = omega arith in
+    (opened-at cache ps opened 0 p (omega arith) (first ∙ (ap (λ (l : List (Place (Known C))). get_or l 0 p) left ∙ front-stays ps p long)), opened-at cache ps opened 1 q long second)
 
 -- ---- one party joins another before anything was done
 
@@ -150,9 +164,10 @@ module _ {C : Type 0} (cache : Cache) where
     own-seen : HasSeenItsOwn cache.config then
     own-seen = record {
       own = subst (AreSeen cache.config p.number p.own.mine) (first.new.seen ∙ sym seen-none) first.new.stands.seen.own;
-      joined = subst (λ (ks : List (Joined (Known C))). AllSeen cache.config ks then.own.seen) (sym joined-is)
-          (subst (AreSeen cache.config q.number q.own.mine) same-seen next.new.stands.seen.own,
-          subst (AllSeen cache.config p.joined) (first.new.seen ∙ sym seen-none) first.new.stands.seen.joined);
+      joined = subst (λ (ks : List (Joined (Known C))). AllSeen cache.config ks then.own.seen) (sym joined-is) (
+        subst (AreSeen cache.config q.number q.own.mine) same-seen next.new.stands.seen.own,
+        subst (AllSeen cache.config p.joined) (first.new.seen ∙ sym seen-none) first.new.stands.seen.joined,
+      );
     }
 
     told-then : IsTold cache.config [] then
@@ -179,11 +194,11 @@ module _ {C : Type 0} (cache : Cache) where
       new = record { parties = first.new.parties; begun = first.new.begun; seen = seen-none; stands = stands-then; told = told-then };
     }
       where
-        which : (n : ℕ) → n < suc count → HasNumber n p ⊎ (n ≡ count)
-        which n below = dite (ℕ_discrete n count) (λ same. inr same) (λ differs. inl (first.has n (less n count below differs)))
-
         less : (n c : ℕ) → n < suc c → n ≢ c → n < c
         less n c below differs = omega arith
+
+        which : (n : ℕ) → n < suc count → HasNumber n p ⊎ (n ≡ count)
+        which n below = dite (ℕ_discrete n count) (λ same. inr same) (λ differs. inl (first.has n (less n count below differs)))
 
 -- a party that all others have joined has every number
 module _ {C : Type 0} (cache : Cache) (p : Place (Known C)) where
@@ -198,7 +213,7 @@ module _ {C : Type 0} (cache : Cache) (p : Place (Known C)) where
 
 -- a cell at its start is what the replay of no event gives
 pub opening-sound : (limit : ℕ) → IsSound (opening_log {H = Kept} limit)
-opening-sound limit = record { evicting = Never; history = record { legal = refl; settled = tt }; at_rest = tt }
+opening-sound limit = record { evicting = Never; history = record { legal = refl; settled = refl }; at_rest = refl }
 
 -- so many cells at their start
 module _ (m : Meanings (CellLog Kept)) (limit : ℕ) (fresh : IsFreshCell m (opening_log limit)) where

@@ -47,7 +47,7 @@ other-test n is = grind (arith, nat_tests)
 less-test : (m n : ℕ) → m < n → nat_lt m n ≡ true
 less-test m n lt = grind (arith, nat_tests)
 
-least-test : (m n : ℕ) → n ≤ m → nat_lt m n ≡ false
+pub least-test : (m n : ℕ) → n ≤ m → nat_lt m n ≡ false
 least-test m n le = grind (arith, nat_tests)
 
 size-test : (n : ℕ) → IsBlockSize n → is_block_size_of n ≡ true
@@ -62,7 +62,7 @@ size-not n fails = elim (cases_true (is_block_size_of n)) [
   | inr none ↦ none
 ]
 
-valid-key : (len : ℕ) (key : Key) → IsValid len key → key_fault len key ≡ None
+pub valid-key : (len : ℕ) (key : Key) → IsValid len key → key_fault len key ≡ None
 valid-key len key valid =
     let birth : (key.birth == 0) ≡ false = other-test key.birth (λ e. absurd (omega (arith, e, valid.formed.born))) in
     rw (zero-test (key.offset % sector) valid.formed.aligned, size-test key.size valid.formed.sized, least-test len (end_of key) valid.inside, birth) refl

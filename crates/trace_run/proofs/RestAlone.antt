@@ -1,11 +1,10 @@
 -- A cache that one caller's party closed, which has every number and has given all back, is at rest.
-use Rattle.std.proofs.Common.{◌≡◌, ℕ, ◌+◌, ◌<◌, cond, IsTrue, List, [], ◌∷◌, refl, sym, ap, ◌∙◌, subst, inl, arith}
+use Rattle.std.proofs.Common.{◌≡◌, ℕ, ◌<◌, cond, IsTrue, List, [], ◌∷◌, refl, sym, ◌∙◌, subst, inl, arith}
 use Rattle.std.specs.List.{AllByRecursion}
 use mathlib.Core.Option.{some}
 use lib.ListN.{get_elem?}
 use Rattle.blk_ptr.specs.declared.ptr.Ptr.{Ptr}
 use Rattle.arc_core.specs.declared.config.Config.{Config}
-use Rattle.arc_core.specs.declared.event.Event.{Event}
 use Rattle.arc_core.specs.Operations.{Act, IsAtRest, Tell, acts_in, moments, own_moments}
 use Rattle.arc_core.specs.Replay.{is_legal_history, replay}
 use Rattle.arc_core.specs.ShardLog.{ShardLog}
@@ -70,7 +69,7 @@ module _ {C : Type 0} (m : Meanings C) (cache : Cache) (p : Place (Known C)) (cl
     pub alone-told : (acts : List Act) → IsTold g acts p → Tell (acts_in (shard_of g.shards) i p.number acts) (own_moments p.number (moments (opening_of g) l.history))
     alone-told = closed-told m cache (p ∷ []) closed ends i l at p ends.shown.0 parties stands.free stands.apart stands.of.config stands.seen
 
-    was-free : WasFree (Pact m) p (turn_of g i) (item.Shard l)
+    abbrev was-free : WasFree (Pact m) p (turn_of g i) (item.Shard l)
     was-free = last m cache (p ∷ []) closed ends i l at p ends.shown.0 parties stands.free stands.apart
 
     pub alone-rests : AllByRecursion (IsReadEvent cache.config.callers) l.history → IsAtRest (replay (opening_of g) l.history)

@@ -21,6 +21,7 @@ pub mod Outcome
 pub mod OverShards
 pub mod PlainCache
 pub mod PlainLines
+pub mod PlainReport
 pub mod PlainRun
 pub mod Read
 pub mod ReadFault

@@ -1,5 +1,5 @@
 -- What a run answers, status by status.
-use Rattle.std.specs.Prelude.{◌≡◌, ℕ, ◌+◌, ◌*◌, ◌^◌, ◌<◌, ◌≤◌, IsTrue, List, [], Option, Some, None, is_some, map, replicate, sum_by, Bool, true, false}
+use Rattle.std.specs.Prelude.{◌≡◌, ◌⊎◌, ℕ, ◌+◌, ◌*◌, ◌^◌, ◌<◌, ◌≤◌, List, [], Option, Some, None, is_some, map, replicate, sum_by, Bool, true, false}
 use Rattle.std.specs.Bool.{OnFalse}
 use Rattle.std.specs.List.{range_with_len}
 use Rattle.std.specs.Io.KnownBytes.{Appends}
@@ -56,12 +56,12 @@ pub record IsBadTrace (before after : StreamState) (line : ℕ) (kind : Kind) : 
 pub record IsRun {C P : Type 0} (pool : Ghosts P) (before after : P) (trace : Trace) (fork_failed : Bool) (closed : Ended C) (report : Report) : Type 0 where
   pub answers : AnswersAll (pool.size before) (pool.told before) trace.blocks (answered_ops trace fork_failed) report.replies
   pub explained : Explain trace report.replies report.ends report.histories
-  pub closed : TellsClosed closed report
+  pub tells : TellsClosed closed report
   pub reads : pool.reads before < 2 ^ 63 → pool.reads after ≡ pool.reads before + sum_by pool_reads report.histories
   pub faults : pool.faults before < 2 ^ 63 → pool.faults before + faults_told fork_failed report.replies ≤ pool.faults after
   pub alone : trace.config.callers ≡ 1 → (fork_failed ≡ false) × RunsAlone pool before after trace report
   pub together : 2 ≤ trace.config.callers → fork_failed ≡ false → RunsTogether pool before after trace report
-  pub failed : IsTrue fork_failed → Rose (pool.faults before) (pool.faults after)
+  pub failed : fork_failed ≡ true → Rose (pool.faults before) (pool.faults after)
 
 -- The report is that of a run of the trace that the source gave.
 pub record IsReport {C P : Type 0} (pool : Ghosts P) (before after : Handed P) (closed : Ended C) (report : Report) : Type 0 where
@@ -90,7 +90,7 @@ pub record IsGenReport {C : Type 0} (seed blocks ops : ℕ) (closed : Ended C) (
   pub plain : report ≡ record (report_of (generated seed blocks ops) (zeros_of blocks) []) { short = true }
   pub answers : AnswersAll (blocks * 512) (Some (zeros_of blocks)) (generated seed blocks ops).blocks (generated seed blocks ops).ops report.replies
   pub explained : Explain (generated seed blocks ops) report.replies report.ends report.histories
-  pub closed : TellsClosed closed report
+  pub tells : TellsClosed closed report
   pub status : report.status ≡ 0
 
 -- the report is there exactly where the trace was run

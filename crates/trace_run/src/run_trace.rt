@@ -2,7 +2,7 @@
 ghost use Rattle.std.specs.Prelude.{◌≡◌, Bool, IfOk, false};
 ghost use Rattle.trace_text.specs.Grammar.{IsFormed};
 ghost use Rattle.trace_run.specs.Outcome.{IsGenReport, IsRun};
-ghost use Rattle.arc_table.specs.PoolCalls.{KeepsPool};
+ghost use Rattle.trace_run.specs.Group.{LeavesPool};
 ghost use Rattle.trace_run.specs.Together.{report_status};
 ghost use Rattle.trace_run.specs.Words.{IsInRange};
 ghost use Rattle.trace_run.specs.declared.words.Command.TheVariants as command;
@@ -30,7 +30,7 @@ pub(crate) fn run_trace<R: Threads + Wait + Sync, P: Pool, G: Gate>(
     ensures run { IfOk result (λ told. (fork_failed : Bool) × IsRun P.Pool pool.old pool.new trace.now fork_failed told.closed told.report
         × (told.report.status ≡ report_status fork_failed told.report.replies)) }
     ensures whole { IfOk result (λ told. told.report.short ≡ false) }
-    ensures pool { KeepsPool P.Pool pool.old pool.new }
+    ensures pool { LeavesPool P.Pool pool.old pool.new }
 {
     let ran = if trace.config.callers == 1 {
         run_alone(alloc, rt, trace, pool, gate)?

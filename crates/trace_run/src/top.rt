@@ -3,7 +3,7 @@ ghost use Rattle.std.specs.Prelude.{◌≡◌, ◌<◌, ◌^◌, IfOk, IfErr, No
 ghost use Rattle.trace_text.specs.Grammar.{IsFormed, longest_text};
 ghost use Rattle.trace_run.specs.Stream.{TakesAtMost};
 ghost use Rattle.trace_run.specs.Outcome.{AnswersWords, AnswersSource, AnswersSink, Does, DoesRun, IfReported, IfUsage, IsDelivered, IsGenReport, IsGenStatus, IsReadStatus, IsReportStatus, WasRead, has_report};
-ghost use Rattle.arc_table.specs.PoolCalls.{KeepsPool};
+ghost use Rattle.trace_run.specs.Group.{LeavesPool};
 ghost use Rattle.trace_run.specs.States.{handed, sink_state, source_state};
 ghost use Rattle.trace_run.specs.Words.{IsInRange, texts};
 ghost use Rattle.trace_run.specs.declared.words.Command.TheVariants as command;
@@ -51,7 +51,7 @@ pub fn run<R: Threads + Wait + Sync, S: Source, K: Sink, P: Pool, D: CacheDev, G
         ((source.new ≡ source.old) × (sink.new ≡ sink.old) × (pool.new ≡ pool.old) × (result.report ≡ None) × (result.closed ≡ None)) }
 
     // The pool holds what it held.
-    ensures pool { KeepsPool P.Pool pool.old pool.new }
+    ensures pool { LeavesPool P.Pool pool.old pool.new }
     ensures cache { cache.new ≡ cache.old }
 {
     match Command::parse(words) {
@@ -88,7 +88,7 @@ fn run_source<R: Threads + Wait + Sync, S: Source, K: Sink, P: Pool, G: Gate>(
     ensures past_words { IfUsage result.status ⊥ }
     ensures does { DoesRun P.Pool events
         (handed S.Source K.Sink source.old sink.old pool.old) (handed S.Source K.Sink source.new sink.new pool.new) result.status result.report result.closed }
-    ensures pool { KeepsPool P.Pool pool.old pool.new }
+    ensures pool { LeavesPool P.Pool pool.old pool.new }
 {
     let trace = match read_source(alloc, source) {
         Ok(trace) => trace,

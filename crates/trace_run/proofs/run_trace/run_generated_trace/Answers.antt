@@ -6,7 +6,7 @@ use Rattle.trace_run.specs.Answers.{AnswersAll, is_pool_fault}
 use Rattle.trace_run.specs.Explaining.{Explain}
 use Rattle.trace_run.specs.Outcome.{generated, zeros_of}
 use Rattle.trace_run.specs.PlainRun.{report_of}
-use Rattle.trace_run.proofs.GenLemmas.{made-report, made-trace, never-failed, none-refused}
+use Rattle.trace_run.proofs.GenLemmas.{made-plain, made-report, made-trace, never-failed, none-refused}
 use Rattle.trace_run.proofs.run_trace.run_generated_trace.Goals as goal
 
 pub returns : goal.returns
@@ -22,7 +22,8 @@ returns g c =
     let answers : AnswersAll (c.args.blocks * 512) (Some (zeros_of c.args.blocks)) trace.blocks trace.ops report.replies = rw len at run.answers in
     let fair : count_by is_pool_fault report.replies ≡ 0 = let h = run.faults (omega arith) in omega (arith, h) in
     let none = none-refused c.args.seed c.args.blocks c.args.ops trace report.replies drawn answers fair in
-    let plain : report ≡ report_of trace (zeros_of c.args.blocks) alone.calls = rw len at alone.plain in
+    let plain : report ≡ report_of trace (zeros_of c.args.blocks) alone.calls =
+    made-plain c.args.seed c.args.blocks c.args.ops trace (zeros_of c.args.blocks) (report_of trace (zeros_of c.args.blocks) alone.calls) report drawn (rw len at alone.plain) in
     let whole : report ≡ report_of (generated c.args.seed c.args.blocks c.args.ops) (zeros_of c.args.blocks) [] =
     plain ∙ made-report c.args.seed c.args.blocks c.args.ops trace (zeros_of c.args.blocks) alone.calls is give in
     record {
