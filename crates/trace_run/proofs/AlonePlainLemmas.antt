@@ -13,7 +13,7 @@ use Rattle.trace_text.specs.declared.op.Op.{Op}
 use Rattle.trace_text.specs.declared.reply.Reply.{Reply}
 use Rattle.trace_text.specs.declared.report.Report.{Report}
 use Rattle.trace_text.specs.declared.trace.Trace.{Trace}
-use Rattle.trace_run.specs.declared.access.KeptRead.{KeptRead}
+use Rattle.trace_run.specs.KeptReads.{KeptRead}
 use Rattle.trace_run.specs.Answering.{IsReadOfImage}
 use Rattle.trace_run.specs.CallerLines.{At, DidLine, DidLines}
 use Rattle.trace_run.specs.Effects.{calls_of, calls_of_all, effect_of}

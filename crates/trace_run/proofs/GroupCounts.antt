@@ -28,7 +28,7 @@ use Rattle.trace_text.specs.declared.op.Op.TheVariants as ops
 use Rattle.trace_text.specs.declared.reply.Refusal.TheVariants as refusal
 use Rattle.trace_text.specs.declared.reply.Reply.{Reply}
 use Rattle.trace_text.specs.declared.reply.Reply.TheVariants as replies
-use Rattle.trace_run.specs.declared.access.KeptRead.{KeptRead}
+use Rattle.trace_run.specs.KeptReads.{KeptRead}
 use Rattle.trace_run.specs.Acts.{acts_of, acts_of_all, acts_of_caller, acts_of_drop, acts_of_dropping, acts_of_drops, acts_of_hold, acts_of_read}
 use Rattle.trace_run.specs.Answers.{AnswersDrop}
 use Rattle.trace_run.specs.Effects.{Answered, Effect, GivenBack, NoEffect, PoolRefused, calls_from, calls_of, calls_of_all, effect_of}

@@ -36,7 +36,7 @@ use Rattle.arc_table.specs.Items.{Meanings}
 use Rattle.arc_table.specs.ShardGiving.{ledger_through}
 use Rattle.arc_table.proofs.Afterwards.{does_ledger, does_stays, stays_party}
 use Rattle.arc_table.proofs.Reached.{reached, rests}
-use Rattle.trace_run.specs.declared.access.KeptRead.{KeptRead}
+use Rattle.trace_run.specs.KeptReads.{KeptRead}
 use Rattle.trace_run.specs.declared.kept_blocks.KeptBlock.{KeptBlock}
 use Rattle.trace_run.specs.KeptBlocks.{Adds, AllIdle, Drops, GivesBack, IsOwnedBy, Stands, held_key, is_ptr, listed_all, listed_for, read_of, times}
 use Rattle.trace_run.specs.Seen.{AddsAll, AddsOwn, Made}

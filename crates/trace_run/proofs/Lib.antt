@@ -3,7 +3,6 @@ pub mod AccessLemmas
 pub mod AloneLemmas
 pub mod AlonePlainLemmas
 pub mod AnswerLemmas
-pub mod BlockLemmas
 pub mod CacheLemmas
 pub mod CallerActLemmas
 pub mod CloseLemmas
@@ -17,7 +16,6 @@ pub mod GroupCounts
 pub mod GroupLemmas
 pub mod GroupRunLemmas
 pub mod HistoryLemmas
-pub mod HoldLemmas
 pub mod InOrderLemmas
 pub mod KeptBlockLemmas
 pub mod LineLemmas
@@ -33,7 +31,6 @@ pub mod PlacedLemmas
 pub mod PlainLemmas
 pub mod PlainReplyLemmas
 pub mod PlainReportLemmas
-pub mod RangeLemmas
 pub mod RanLemmas
 pub mod ReadLemmas
 pub mod ReadMoments

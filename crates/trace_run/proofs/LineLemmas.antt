@@ -34,20 +34,19 @@ use Rattle.trace_text.specs.declared.reply.Refusal.{Refusal}
 use Rattle.trace_text.specs.declared.reply.Refusal.TheVariants as refusals
 use Rattle.trace_text.specs.declared.reply.Reply.{Reply}
 use Rattle.trace_text.specs.declared.reply.Reply.TheVariants.{Dropped, Read, Kept as KeptReply, Refused}
-use Rattle.trace_run.specs.declared.access.Access.{Access}
-use Rattle.trace_run.specs.declared.access.KeptRead.{KeptRead}
-use Rattle.trace_run.specs.declared.access.Access.TheVariants as access
-use Rattle.trace_run.specs.Access.{events_of_answered, events_of_drop, held_key as access_key, source_of}
+use Rattle.trace_run.specs.KeptReads.{KeptRead}
+use Rattle.trace_run.specs.Access as access
+use Rattle.trace_run.specs.Access.{Access, events_of_answered, events_of_drop, held_key as access_key, source_of}
 use Rattle.trace_run.specs.Acts.{acts_of_drop, acts_of_dropping, acts_of_hold, acts_of_read}
 use Rattle.trace_run.specs.Answering.{KeepsImage, ReadsImage}
-use Rattle.trace_run.specs.Answers.{AnswersDrop, AnswersHold, AnswersRead, IsInside, IsReadRefusal, IsWindowRefusal}
+use Rattle.trace_run.specs.Answers.{AnswersDrop, AnswersHold, AnswersRead}
 use Rattle.trace_run.specs.Effects.{Effect, Answered, GivenBack, PoolRefused, NoEffect, calls_of, effect_of}
 use Rattle.trace_run.specs.CallerLines.{DidLine, at}
 use Rattle.trace_run.specs.KeptBlocks.{Drops, GivesBack, IsOwnedBy, held_key}
 use Rattle.trace_run.specs.Lines.{shard_of_line}
 use Rattle.trace_run.specs.OneCaller.{NamesSource, events_of_dropping, events_of_hold, events_of_read, is_of_block, kept_after, kept_after_drop, kept_after_hold, key_held_by, oldest_key, without_oldest}
 use Rattle.trace_run.specs.OverShards.{AreNamed, IsNamed}
-use Rattle.trace_run.specs.Reads.{CallsFor, CameFromPool, DidAct, DidActs, DidAnswer, DidRead, IsAlone, IsCauseOf, IsRefused, access_now, now_of}
+use Rattle.trace_run.specs.Reads.{CameFromPool, DidAct, DidActs, DidAnswer, DidRead, IsAlone, IsRefused, access_now, now_of}
 use Rattle.trace_run.specs.Seen.{AddsAll, HasSeenItsOwn, seen_of}
 use Rattle.trace_run.specs.Tally.{kept_of_block}
 use Rattle.trace_run.specs.Told.{IsTold}
@@ -97,34 +96,6 @@ module _ {C : Type 0} (g : Config) (device : ℕ) (p q : Place (Known C)) where
     read-refused (fault.Mismatch found) refusal is did = subst (λ (r : Refusal). DidActs g device shard (acts_of_read p.number t ptr (effect_of (Refused r))) (events_of_read p.number t (now_of g shard p) ptr (effect_of (Refused r))) p q) (sym is) (acts-one (Fails p.number t ptr) _ refl did.act)
     read-refused (fault.Key why) refusal is did = subst (λ (r : Refusal). DidActs g device shard (acts_of_read p.number t ptr (effect_of (Refused r))) (events_of_read p.number t (now_of g shard p) ptr (effect_of (Refused r))) p q) (sym is) (acts-none shard did)
     read-refused (fault.NoMemory) refusal is did = absurd is
-
-    pub found-refused : (why : ReadFault) (refusal : Refusal) → IsRefused why refusal → DidRead g device t ptr p q (Err why) → IsAlone device p → NamesSource (access_now g ptr p) (effect_of (Refused refusal))
-    found-refused (fault.PoolFault) refusal is did alone = subst (λ (r : Refusal). NamesSource (access_now g ptr p) (effect_of (Refused r))) (sym is) (did.asked alone)
-    found-refused (fault.Mismatch found) refusal is did alone = subst (λ (r : Refusal). NamesSource (access_now g ptr p) (effect_of (Refused r))) (sym is) (did.asked alone)
-    found-refused (fault.Key why) refusal is did alone = subst (λ (r : Refusal). NamesSource (access_now g ptr p) (effect_of (Refused r))) (sym is) tt
-    found-refused (fault.NoMemory) refusal is did alone = absurd is
-
--- ---- what is told of a refusal
-
-pub refused-cause : (pool_len : ℕ) (image : Option (List ℕ)) (ptr : Ptr) (why : ReadFault) (refusal : Refusal) → IsRefused why refusal → IsCauseOf pool_len image ptr why → IsReadRefusal pool_len image ptr refusal
-refused-cause pool_len image ptr (fault.PoolFault) refusal is cause = subst (IsReadRefusal pool_len image ptr) (sym is) cause
-refused-cause pool_len image ptr (fault.Mismatch found) refusal is cause = subst (IsReadRefusal pool_len image ptr) (sym is) cause
-refused-cause pool_len image ptr (fault.Key why) refusal is cause = subst (IsReadRefusal pool_len image ptr) (sym is) cause
-refused-cause pool_len image ptr (fault.NoMemory) refusal is cause = absurd is
-
-pub refused-window : (pool_len : ℕ) (image : Option (List ℕ)) (ptr : Ptr) (window : Window) (why : ReadFault) (refusal : Refusal) → IsInside window ptr.key.size → IsRefused why refusal
-    → IsCauseOf pool_len image ptr why → IsWindowRefusal pool_len image ptr window refusal
-refused-window pool_len image ptr window (fault.PoolFault) refusal inside is cause = subst (IsWindowRefusal pool_len image ptr window) (sym is) (inside, cause)
-refused-window pool_len image ptr window (fault.Mismatch found) refusal inside is cause = subst (IsWindowRefusal pool_len image ptr window) (sym is) (inside, cause)
-refused-window pool_len image ptr window (fault.Key why) refusal inside is cause = subst (IsWindowRefusal pool_len image ptr window) (sym is) (inside, cause)
-refused-window pool_len image ptr window (fault.NoMemory) refusal inside is cause = absurd is
-
-pub refused-calls : {P : Type 0} (pool : Ghosts P) (old new : P) (why : ReadFault) (refusal : Refusal) → IsRefused why refusal → CallsFor pool old new (Err why)
-    → MakesCalls pool (calls_of (effect_of (Refused refusal))) old new
-refused-calls pool old new (fault.PoolFault) refusal is calls = subst (λ (r : Refusal). MakesCalls pool (calls_of (effect_of (Refused r))) old new) (sym is) calls
-refused-calls pool old new (fault.Mismatch found) refusal is calls = subst (λ (r : Refusal). MakesCalls pool (calls_of (effect_of (Refused r))) old new) (sym is) calls
-refused-calls pool old new (fault.Key why) refusal is calls = subst (λ (r : Refusal). MakesCalls pool (calls_of (effect_of (Refused r))) old new) (sym is) calls
-refused-calls pool old new (fault.NoMemory) refusal is calls = absurd is
 
 -- ---- a read whose hold is given back at once
 

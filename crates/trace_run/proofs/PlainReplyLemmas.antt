@@ -20,10 +20,9 @@ use Rattle.trace_text.specs.declared.reply.Refusal.{Refusal}
 use Rattle.trace_text.specs.declared.reply.Refusal.TheVariants as refusal
 use Rattle.dbuf_state.specs.declared.window.Window.{Window}
 use Rattle.arc_table.specs.PoolCalls.{PoolCall}
-use Rattle.trace_run.specs.declared.access.Access.{Access}
-use Rattle.trace_run.specs.declared.access.Access.TheVariants as access
-use Rattle.trace_run.specs.declared.access.KeptRead.{KeptRead}
-use Rattle.trace_run.specs.Access.{access_of, events_of_answered, events_of_drop, events_of_refused, held_key, source_of}
+use Rattle.trace_run.specs.Access as access
+use Rattle.trace_run.specs.KeptReads.{KeptRead}
+use Rattle.trace_run.specs.Access.{Access, access_of, events_of_answered, events_of_drop, events_of_refused, held_key, source_of}
 use Rattle.trace_run.specs.Answering.{IsReadOfImage, KeepsImage, ReadsImage}
 use Rattle.trace_run.specs.Answers.{AnswersHold, AnswersRead, window_of}
 use Rattle.trace_run.specs.Effects.{Effect, Answered, GivenBack, PoolRefused, NoEffect, calls_of, effect_of, effect_of_refusal}
@@ -32,7 +31,7 @@ use Rattle.trace_run.specs.PlainLines.{IsNext}
 use Rattle.trace_run.specs.PlainReport.{IsPlainReply, ShowsCollision}
 use Rattle.trace_run.specs.PlainRun.{refused_access, reply_to, reply_to_read, reply_unless}
 use Rattle.trace_run.specs.Reads.{CameFromPool, IsFromPool}
-use Rattle.trace_run.specs.Serving.{ShowsRange}
+use Rattle.trace_run.specs.Answering.{ShowsRange}
 use Rattle.trace_run.specs.Tally.{AnswersNow}
 use Rattle.trace_run.proofs.CacheLemmas.{access-hit}
 use Rattle.trace_run.proofs.PlainLemmas.{least-test, plain-line, valid-key}

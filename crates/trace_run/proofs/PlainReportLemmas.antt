@@ -1,5 +1,5 @@
 -- A report whose replies are those of the plain run, but for other contents of one digest, is the plain report but for them.
-use Rattle.std.proofs.Common.{◌≡◌, ℕ, Bool, true, false, if◌then◌else◌, List, [], ◌∷◌, ◌++◌, length, map, inl, inr, refl, sym, ap, subst, ◌∙◌, arith}
+use Rattle.std.proofs.Common.{◌≡◌, ℕ, Bool, true, false, if◌then◌else◌, List, [], ◌∷◌, ◌++◌, map, inl, inr, refl, sym, ap, ◌∙◌}
 use Rattle.std.specs.Prelude.{filter, slice_get, ◌||◌}
 use Rattle.std.specs.List.{list_any, range_with_len}
 use Rattle.std.specs.Option.{option_map_or}
@@ -12,7 +12,7 @@ use Rattle.trace_text.specs.declared.op.Op.TheVariants as ops
 use Rattle.trace_text.specs.declared.reply.Reply.{Reply}
 use Rattle.trace_text.specs.declared.report.Report.{Report}
 use Rattle.trace_text.specs.declared.trace.Trace.{Trace}
-use Rattle.trace_run.specs.declared.access.KeptRead.{KeptRead}
+use Rattle.trace_run.specs.KeptReads.{KeptRead}
 use Rattle.trace_run.specs.Answers.{is_refusal}
 use Rattle.trace_run.specs.Effects.{Effect, effect_of}
 use Rattle.trace_run.specs.Ends.{ends_of, opening_of}
@@ -20,23 +20,6 @@ use Rattle.trace_run.specs.Lines.{is_in_shard, replies_where}
 use Rattle.trace_run.specs.OneCaller.{events_of, events_of_all, events_of_drops, events_of_dropping, events_of_hold, events_of_read, kept_after, kept_after_all, kept_after_drop, kept_after_hold, one_caller_histories, one_caller_history}
 use Rattle.trace_run.specs.PlainReport.{ArePlainReplies, IsPlainReply, IsPlainReport}
 use Rattle.trace_run.specs.PlainRun.{report_with}
-
--- ---- a report that is the plain one
-
-same-reply : (image : List ℕ) (blocks : List Ptr) (op : Op) (reply : Reply) → IsPlainReply image blocks op reply reply
-same-reply image blocks (ops.Read n t x window) reply = inl refl
-same-reply image blocks (ops.Hold n t x) reply = refl
-same-reply image blocks (ops.Drop n x) reply = refl
-
-same-replies : (image : List ℕ) (blocks : List Ptr) (os : List Op) (rs : List Reply) → length rs ≡ length os → ArePlainReplies image blocks os rs rs
-same-replies image blocks [] [] same = tt
-same-replies image blocks [] (r ∷ rs) same = absurd (omega arith)
-same-replies image blocks (o ∷ os) [] same = absurd (omega arith)
-same-replies image blocks (o ∷ os) (r ∷ rs) same = (same-reply image blocks o r, same-replies image blocks os rs (omega arith))
-
-pub same-report : (trace : Trace) (image : List ℕ) (plain report : Report) → length report.replies ≡ length trace.ops → report ≡ plain → IsPlainReport trace image plain report
-same-report trace image plain report same is =
-    subst (λ (p : Report). IsPlainReport trace image p report) is (record { replies = same-replies image trace.blocks trace.ops report.replies same; rest = refl })
 
 -- ---- replies that do the same
 

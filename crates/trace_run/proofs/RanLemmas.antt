@@ -53,6 +53,11 @@ module _ {C P : Type 0} (pools : Ghosts P) (before after : P) (trace : Trace) (r
         failed = λ is. cc;
       }
 
+  pub alone-told : (fork_failed : Bool) → fork_failed ≡ false → IsFormed trace → trace.config.callers ≡ 1 → ((image : List ℕ) → pools.told before ≡ Some image → length image ≡ pools.size before)
+      → RanAlone pools before after trace replies closed → IsRun pools before after trace fork_failed closed (report_of_closed fork_failed replies closed)
+  alone-told fork_failed whole formed one sized ran =
+      subst (λ (b : Bool). IsRun pools before after trace b closed (report_of_closed b replies closed)) (sym whole) (alone-run formed one sized ran)
+
   -- several callers' run
   pub together-run : (fork_failed : Bool) → 2 ≤ trace.config.callers → RanTogether pools before after trace fork_failed replies closed
       → IsRun pools before after trace fork_failed closed (report_of_closed fork_failed replies closed)

@@ -8,7 +8,7 @@ use Rattle.turn_table.specs.Places.{Place}
 use Rattle.trace_text.specs.declared.op.Op.{Op}
 use Rattle.trace_text.specs.declared.reply.Reply.{Reply}
 use Rattle.vdev_io.specs.declared.pool.Pool.{Ghosts}
-use Rattle.trace_run.specs.declared.access.KeptRead.{KeptRead}
+use Rattle.trace_run.specs.KeptReads.{KeptRead}
 use Rattle.trace_run.specs.Acts.{acts_of}
 use Rattle.trace_run.specs.Answering.{IsReadOfImage}
 use Rattle.trace_run.specs.Effects.{calls_of, effect_of}

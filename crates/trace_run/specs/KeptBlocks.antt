@@ -21,9 +21,8 @@ use Rattle.arc_table.specs.Both.{Does}
 use Rattle.arc_table.specs.Cache.{Cache, IsPartyOf}
 use Rattle.arc_table.specs.Holding.{ptr_of}
 use Rattle.arc_table.specs.Items.{Meanings}
-use Rattle.trace_run.specs.declared.access.KeptRead.{KeptRead}
 use Rattle.trace_run.specs.declared.kept_blocks.KeptBlock.{KeptBlock}
-use Rattle.trace_run.specs.PlainCache.{kept_read}
+use Rattle.trace_run.specs.KeptReads.{KeptRead, kept_read}
 use Rattle.trace_run.specs.OneCaller.{events_of_drops}
 use Rattle.trace_run.specs.Seen.{AddsAll, HasAll, HasSeenItsOwn, seen_of}
 use Rattle.trace_run.specs.Access.{events_of_drop}

@@ -5,7 +5,7 @@ use Rattle.trace_text.specs.declared.op.Op.{Op}
 use Rattle.trace_text.specs.declared.op.Op.TheVariants as ops
 use Rattle.trace_text.specs.Grammar.{block_of}
 use Rattle.trace_text.specs.declared.reply.Reply.{Reply}
-use Rattle.trace_run.specs.declared.access.KeptRead.{KeptRead}
+use Rattle.trace_run.specs.KeptReads.{KeptRead}
 use Rattle.trace_run.specs.Answers.{AnswersRead, AnswersHold, AnswersDrop, kept_reads, dropped_reads}
 use Rattle.trace_run.specs.Lines.{caller_of}
 use Rattle.trace_run.specs.OneCaller.{is_of_block, kept_after}

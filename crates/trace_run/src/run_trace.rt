@@ -37,7 +37,8 @@ pub(crate) fn run_trace<R: Threads + Wait + Sync, P: Pool, G: Gate>(
     } else {
         run_together(alloc, rt, trace, pool, gate)?
     };
-    ran.report(alloc)
+    let reported = ran.report(alloc)?;
+    Ok(reported)
 }
 
 /// Makes a trace, runs it over a pool of zero bytes, and reports on it with the replies left out.

@@ -8,7 +8,7 @@ use Rattle.arc_table.specs.Geometry.{parties_of}
 use Rattle.dbuf_cells.specs.declared.kept.Kept.{Kept}
 use Rattle.dbuf_state.specs.CellLog.{CellLog}
 use Rattle.trace_text.specs.declared.op.Op.{Op}
-use Rattle.trace_run.specs.declared.access.KeptRead.{KeptRead}
+use Rattle.trace_run.specs.KeptReads.{KeptRead}
 use Rattle.trace_run.specs.declared.kept_blocks.KeptBlock.{KeptBlock}
 use Rattle.trace_run.specs.CallerLines.{DidLines, at}
 use Rattle.trace_run.specs.KeptBlocks.{read_of}

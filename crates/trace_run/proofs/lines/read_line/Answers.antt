@@ -7,13 +7,12 @@ use Rattle.turn_table.specs.Places.{Place}
 use Rattle.arc_table.specs.declared.view.Known.{Known}
 use Rattle.arc_table.specs.Cache.{Cache}
 use Rattle.arc_table.specs.Items.{Meanings, meanings}
-use Rattle.trace_run.specs.declared.access.KeptRead.{KeptRead}
 use Rattle.trace_run.specs.declared.get.Got.{Got}
 use Rattle.trace_run.specs.declared.kept_blocks.KeptBlock.{KeptBlock}
 use Rattle.trace_run.specs.Access.{events_of_answered, events_of_drop, held_key as access_key}
 use Rattle.trace_run.specs.KeptBlocks.{GivesBack, IsOwnedBy, Stands, read_of}
 use Rattle.trace_run.specs.OneCaller.{key_held_by}
-use Rattle.trace_run.specs.PlainCache.{kept_read}
+use Rattle.trace_run.specs.KeptReads.{KeptRead, kept_read}
 use Rattle.trace_run.specs.Reads.{DidActs, DidAnswer, access_now}
 use Rattle.trace_run.proofs.LineLemmas.{acts-none, read-given, read-refused}
 use Rattle.trace_run.proofs.lines.read_line.Goals as goal
