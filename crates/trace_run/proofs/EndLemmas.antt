@@ -212,8 +212,12 @@ module _ {C : Type 0} (m : Meanings C) (cache : Cache) (valid : IsConfig cache.c
 
     caller-made : (x : ℕ) (ev : Event) → get_elem? l.history x ≡ some ev → number_of ev < parties_of settled → is_pass ev ≡ false → IsReadEvent settled.callers ev
     caller-made x ev here below none = elim (cases_lt (number_of ev) settled.callers) [
-      | inl caller ↦ inl (caller, none, own-events (λ y. is_of_reads y ≡ true) (number_of ev) (opening_of settled) l.history
-          (told-reads (acts_in shard i (number_of ev) acts) _ (all-filter IsReadAct _ acts (callers-reads blocks settled.callers ops replies)) (told-at (number_of ev) below)) x ev here refl none)
+      | inl caller ↦ inl (
+        caller,
+        none,
+        own-events (λ y. is_of_reads y ≡ true) (number_of ev) (opening_of settled) l.history
+            (told-reads (acts_in shard i (number_of ev) acts) _ (all-filter IsReadAct _ acts (callers-reads blocks settled.callers ops replies)) (told-at (number_of ev) below)) x ev here refl none,
+      )
       | inr above ↦
           let feeder : number_of ev ≡ settled.callers = omega arith in
           absurd (own-events (λ y. ⊥) settled.callers (opening_of settled) l.history (subst (AllByRecursion (λ (n : Moment). ⊥)) (sym feeder-none) tt) x ev here feeder none)

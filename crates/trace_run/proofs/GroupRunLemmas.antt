@@ -17,7 +17,6 @@ use Rattle.arc_core.specs.declared.config.Config.{Config}
 use Rattle.arc_core.specs.declared.event.Event.{Event}
 use Rattle.arc_core.specs.Operations.{pool_reads}
 use Rattle.vdev_io.specs.declared.pool.Pool.{Ghosts}
-use Rattle.vdev_io.specs.Faults.{Rose}
 use Rattle.turn_table.specs.Places.{Place, SomeHas}
 use Rattle.arc_table.specs.declared.view.Known.{Known}
 use Rattle.arc_table.specs.Cache.{Cache}
@@ -38,7 +37,7 @@ use Rattle.trace_run.specs.Answers.{AnswersAll, is_pool_fault}
 use Rattle.trace_run.specs.Callers.{AreAtStart}
 use Rattle.trace_run.specs.Effects.{calls_of_all}
 use Rattle.trace_run.specs.Explaining.{Explain}
-use Rattle.trace_run.specs.Group.{HasWorked, HaveWorked, LeavesPool}
+use Rattle.trace_run.specs.Group.{HasWorked, HaveWorked}
 use Rattle.trace_run.specs.GroupRun.{HaveStopped, RanGroup, RanTogether}
 use Rattle.trace_run.specs.InOrder.{AreInOrder}
 use Rattle.trace_run.specs.KeptBlocks.{Stands}
@@ -217,14 +216,14 @@ pub none-explained : {C : Type 0} (m : Meanings C) (cache : Cache) (trace : Trac
 none-explained m cache trace is valid ps opened closed ends =
     explained-as trace cache.config [] (ends_in closed) (histories_of closed) is (none-explains m cache valid trace.blocks trace.ops ps opened closed ends)
 
-pub ran-group : {C P : Type 0} (m : Meanings C) (cache : Cache) (trace : Trace) → cache.config ≡ trace.config → (valid : IsConfig cache.config) (pools : Ghosts P) (before after : P) (own : List (List Reply)) (ps all : List (Place (Known C)))
-    (feeder : Place (Known C)) → all ≡ ps ++ feeder ∷ [] → HaveWorked cache pools trace.blocks trace.ops cache.config.callers before after own ps → IsOpened cache cache.config.callers feeder → (merged : List Reply)
-    → AreInOrder trace.ops own merged → (closed : Ended C) → Ends m cache all closed → RanGroup cache pools before after trace merged closed
-ran-group m cache trace is valid pools before after own ps all feeder all_are worked last merged ordered closed ends =
+pub ran-group : {C P : Type 0} (m : Meanings C) (cache : Cache) (trace : Trace) → cache.config ≡ trace.config → (valid : IsConfig cache.config) (pools : Ghosts P) (before after : P) (own : List (List Reply)) (ps whole : List (Place (Known C)))
+    (feeder : Place (Known C)) → whole ≡ ps ++ feeder ∷ [] → HaveWorked cache pools trace.blocks trace.ops cache.config.callers before after own ps → IsOpened cache cache.config.callers feeder → (merged : List Reply)
+    → AreInOrder trace.ops own merged → (closed : Ended C) → Ends m cache whole closed → RanGroup cache pools before after trace merged closed
+ran-group m cache trace is valid pools before after own ps whole feeder parts worked last merged ordered closed ends =
     let same : cache.config.callers ≡ trace.config.callers = ap (λ (g : Config). g.callers) is in
     let blocks = trace.blocks in
     let os = trace.ops in
-    let ended = subst (λ l. Ends m cache l closed) all_are ends in
+    let ended = subst (λ l. Ends m cache l closed) parts ends in
     record {
       own = own;
       parties = ps;
@@ -334,21 +333,6 @@ module _ {C P : Type 0} (cache : Cache) (pools : Ghosts P) (before middle after 
       };
       failed = λ failed. absurd (false≢true failed);
     }
-
--- a fork failed, and nothing was read
-pub none-together : {C P : Type 0} (pools : Ghosts P) (before after : P) (trace : Trace) (closed : Ended C) → LeavesPool pools before after → (pools.reads before < 2 ^ 63 → pools.reads after ≡ pools.reads before)
-    → Rose (pools.faults before) (pools.faults after) → Explain trace [] (ends_in closed) (histories_of closed) → sum_by pool_reads (histories_of closed) ≡ 0 → RanTogether pools before after trace true [] closed
-none-together pools before after trace closed leaves reads rose explained none = record {
-  answers = record { all = refl; each = λ k op reply at said. absurd (nothing-there k op at) };
-  explained = explained;
-  reads = λ room. omega (arith, reads room, none);
-  faults = λ room. omega (arith, room, rose);
-  together = λ whole. absurd (false≢true (sym whole));
-  failed = λ failed. rose;
-}
-  where
-    nothing-there : (k : ℕ) (op : Op) → slice_get [] k ≡ Some op → ⊥
-    nothing-there k op at = let inside = slice_get_within [] k op at in absurd (omega arith)
 
 -- what follows of two facts of an answer
 pub ok-both : {T E : Type 0} (A B R : T → Type 0) (r : Result T E) → IfOk r A → IfOk r B → ((x : T) → A x → B x → R x) → IfOk r R
