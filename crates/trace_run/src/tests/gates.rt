@@ -1,7 +1,7 @@
 //! Two callers at once, over pools whose forks wait for each other, and behind gates that hold a caller back.
 ghost use Rattle.std.proofs.Common.{◌∙◌};
 ghost use Rattle.std.proofs.lemmas.List.{length-replicate};
-ghost use Rattle.std.specs.Prelude.{Some, replicate};
+ghost use Rattle.std.specs.Prelude.{◌≡◌, Some, replicate};
 ghost use Rattle.vdev_io.specs.MemoryLaws.{some_has_len};
 
 use super::{source_of, spelled};
