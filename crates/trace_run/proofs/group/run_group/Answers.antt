@@ -26,7 +26,7 @@ pub take_all_back-requires : goal.take_all_back-requires
 take_all_back-requires g c =
     let news : List (Caller g.row.C.Denot g.row.P.Denot) = c.work_all.new.callers in
     let long : c.in_ok-callers.callers.len ≡ length news = let a = c.work_all.auto.callers in let b = c.deref_mut.ensures.len in omega arith in (
-      first_of (c.type_bounds.send-P, search sendable depth 20),
+      search (sendable, c.type_bounds.send-P) depth 20,
       subst (AllByRecursion (MayGiveBack c.args.arcs.now)) (sym (written c.in_ok-callers.callers.len news c.in_ok-callers.callers.items long))
           (tried-may-give c.args.arcs.now g.P.Pool c.args.blocks.now c.args.ops.now c.deref_mut.result.now news c.work_all.ensures),
     )
