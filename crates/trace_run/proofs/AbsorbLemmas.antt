@@ -82,9 +82,10 @@ module _ {P : Type 0} (pools : Ghosts P) where
   -- a fork was read at most as often as there were calls
   pub few-counts : (calls : List PoolCall) (fork done : P) → pools.reads fork ≡ 0 → pools.faults fork ≡ 0 → MakesCalls pools calls fork done → (most : ℕ) → length calls ≤ most → most ≤ last_count
       → (pools.reads done ≤ most) × (pools.faults done ≤ most)
-  few-counts calls fork done reads faults made most few small =
-      (omega (arith, reads, few, calls-reads pools calls fork done made (omega (arith, reads, few, small))),
-      omega (arith, faults, few, count_by-le-length is_failed calls, calls-faults pools calls fork done made (omega (arith, faults, few, small))))
+  few-counts calls fork done reads faults made most few small = (
+    omega (arith, reads, few, calls-reads pools calls fork done made (omega (arith, reads, few, small))),
+    omega (arith, faults, few, count_by-le-length is_failed calls, calls-faults pools calls fork done made (omega (arith, faults, few, small))),
+  )
 
 -- ---- sums over callers
 

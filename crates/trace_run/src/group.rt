@@ -70,11 +70,7 @@ fn one_fork<P: Pool>(alloc: Global, pool: &mut P, forks: &mut Vec<P>) -> Result<
 
 /// A fork of a pool for each of so many callers. Where one can't be made, those that were are taken back, and only the pool's count of faults
 /// has changed.
-pub(crate) fn forks<P: Pool>(
-    alloc: Global,
-    pool: &mut P,
-    callers: u32,
-) -> Result<Vec<P>, IoFault>
+pub(crate) fn forks<P: Pool>(alloc: Global, pool: &mut P, callers: u32) -> Result<Vec<P>, IoFault>
     ensures forks { IfOk result (λ forks. AllByRecursion (IsFork P.Pool pool.new) forks.items) }
     ensures count { IfOk result (λ forks. vec_len forks ≡ callers) }
     ensures pool { LeavesPool P.Pool pool.old pool.new }
