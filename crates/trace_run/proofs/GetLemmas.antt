@@ -183,8 +183,8 @@ module _ {C P D : Type 0} (m : Meanings C) (pools : PoolGhosts P) (devices : Dev
   -- a read is answered only where the key is accepted
   pub ok-valid : (before now : Outside P D) (p q : Place (Known C)) (result : Result Read ReadFault) (got : Read) → result ≡ Ok got → AnswersRead m pools devices g ptr t before now p q result
       → IsValid (pools.size before.pool) ptr.key
-  ok-valid before now p q result got is (refused why no first same none) = let never : ◌≡◌ {A = Result Read ReadFault} (Ok got) (Err (fault.Key why)) = sym is ∙ no in cc
-  ok-valid before now p q result got is (answered ok times r waits answer) = ok
+  ok-valid before now p q result got is (refused why differs first same none) = let never : ◌≡◌ {A = Result Read ReadFault} (Ok got) (Err (fault.Key why)) = sym is ∙ differs in cc
+  ok-valid before now p q result got is (answered ok rounds r waits answer) = ok
 
 -- ---- the call
 

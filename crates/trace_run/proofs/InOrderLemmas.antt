@@ -1,5 +1,5 @@
 -- The replies of several callers put together, one line after another from the last.
-use Rattle.std.proofs.Common.{◌≡◌, ◌≢◌, ℕ, zero, suc, ◌+◌, ◌<◌, ◌==◌, cond, true, false, List, [], ◌∷◌, ◌++◌, length, get_or, take, drop, Some, inl, inr, refl, sym, ap, ◌∙◌, arith, add-one, append-nil, append_assoc, length-append, eq-eqb, ne_eqb}
+use Rattle.std.proofs.Common.{◌≡◌, ◌≢◌, ℕ, zero, suc, ◌+◌, ◌<◌, List, [], ◌∷◌, ◌++◌, length, get_or, take, drop, Some, refl, sym, ap, ◌∙◌, arith, add-one, append-nil, append_assoc, length-append, eq-eqb, ne_eqb}
 use Rattle.std.proofs.Math.ListN.{set}
 use Rattle.std.proofs.Math.Seq.{drop-cons}
 use Rattle.std.specs.Prelude.{filter, slice_get}
@@ -80,27 +80,27 @@ module _ (ops : List Op) (first left : List (List Reply)) (k : ℕ) (placed : Li
     lists = length-set left (caller_of op) rest ∙ are.lists;
     parts = λ n lt. dite (ℕ_discrete (caller_of op) n)
         (λ mine.
-            let now : get_or (set left (caller_of op) rest) n [] ≡ rest = ap (λ (m : ℕ). get_or (set left (caller_of op) rest) m []) (sym mine) ∙ get_or-set_same left (caller_of op) rest [] within in
-            let was : get_or left n [] ≡ rest ++ r ∷ [] = ap (λ (m : ℕ). get_or left m []) (sym mine) ∙ last in
-            are.parts n lt
-            ∙ (ap (λ (l : List Reply). l ++ replies_where (is_of_caller n) (drop (k + 1) ops) placed) was
-            ∙ (append_assoc rest (r ∷ []) (replies_where (is_of_caller n) (drop (k + 1) ops) placed)
-            ∙ ((λ i. sym now i ++ sym (where-own n op (drop (k + 1) ops) r placed mine) i)
-            ∙ ap (λ (l : List Op). get_or (set left (caller_of op) rest) n [] ++ replies_where (is_of_caller n) l (r ∷ placed)) (sym (drop_one ops k op here))))))
+        let now : get_or (set left (caller_of op) rest) n [] ≡ rest = ap (λ (m : ℕ). get_or (set left (caller_of op) rest) m []) (sym mine) ∙ get_or-set_same left (caller_of op) rest [] within in
+        let was : get_or left n [] ≡ rest ++ r ∷ [] = ap (λ (m : ℕ). get_or left m []) (sym mine) ∙ last in
+        are.parts n lt
+        ∙ (ap (λ (l : List Reply). l ++ replies_where (is_of_caller n) (drop (k + 1) ops) placed) was
+        ∙ (append_assoc rest (r ∷ []) (replies_where (is_of_caller n) (drop (k + 1) ops) placed)
+        ∙ ((λ i. sym now i ++ sym (where-own n op (drop (k + 1) ops) r placed mine) i)
+        ∙ ap (λ (l : List Op). get_or (set left (caller_of op) rest) n [] ++ replies_where (is_of_caller n) l (r ∷ placed)) (sym (drop_one ops k op here))))))
         (λ other.
-            are.parts n lt
-            ∙ ((λ i. sym (get_or-set_other left (caller_of op) n rest [] (λ e. other (sym e))) i ++ sym (where-other n op (drop (k + 1) ops) r placed other) i)
-            ∙ ap (λ (l : List Op). get_or (set left (caller_of op) rest) n [] ++ replies_where (is_of_caller n) l (r ∷ placed)) (sym (drop_one ops k op here))));
+        are.parts n lt
+        ∙ ((λ i. sym (get_or-set_other left (caller_of op) n rest [] (λ e. other (sym e))) i ++ sym (where-other n op (drop (k + 1) ops) r placed other) i)
+        ∙ ap (λ (l : List Op). get_or (set left (caller_of op) rest) n [] ++ replies_where (is_of_caller n) l (r ∷ placed)) (sym (drop_one ops k op here))));
     own = λ n lt.
         let was = are.own n lt ∙ ap (λ (l : List Op). length (filter (is_of_caller n) l)) (take_one ops k op here) in
         dite (ℕ_discrete (caller_of op) n)
         (λ mine.
-            let now : get_or (set left (caller_of op) rest) n [] ≡ rest = ap (λ (m : ℕ). get_or (set left (caller_of op) rest) m []) (sym mine) ∙ get_or-set_same left (caller_of op) rest [] within in
-            let long : length (get_or left n []) ≡ length (rest ++ r ∷ []) = ap (λ (m : ℕ). length (get_or left m [])) (sym mine) ∙ ap length last in
-            let sum = length-append rest (r ∷ []) in
-            let count = count-own n op (take k ops) mine in
-            let same = ap length now in
-            omega arith)
+        let now : get_or (set left (caller_of op) rest) n [] ≡ rest = ap (λ (m : ℕ). get_or (set left (caller_of op) rest) m []) (sym mine) ∙ get_or-set_same left (caller_of op) rest [] within in
+        let long : length (get_or left n []) ≡ length (rest ++ r ∷ []) = ap (λ (m : ℕ). length (get_or left m [])) (sym mine) ∙ ap length last in
+        let sum = length-append rest (r ∷ []) in
+        let count = count-own n op (take k ops) mine in
+        let same = ap length now in
+        omega arith)
         (λ other. ap length (get_or-set_other left (caller_of op) n rest [] (λ e. other (sym e))) ∙ (was ∙ count-other n op (take k ops) other));
   }
     where

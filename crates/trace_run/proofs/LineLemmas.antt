@@ -1,8 +1,7 @@
 -- A caller's line over the shared cache, by what its read came to.
-use Rattle.std.proofs.Common.{◌≡◌, ◌≢◌, ℕ, ◌+◌, ◌<◌, ◌≤◌, List, [], ◌∷◌, ◌++◌, map, Option, Some, None, Result, Ok, Err, inl, inr, refl, sym, ap, ◌∙◌, subst, arith, append-nil}
+use Rattle.std.proofs.Common.{◌≡◌, ◌≢◌, ℕ, List, [], ◌∷◌, ◌++◌, map, Option, Some, None, Result, Ok, Err, inl, inr, refl, sym, ap, ◌∙◌, subst, arith, append-nil}
 use Rattle.std.specs.Prelude.{IfOk, IfSome, slice_get}
 use Rattle.std.specs.Option.{option_map_or}
-use Rattle.std.specs.List.{AllByRecursion}
 use Rattle.std.proofs.lemmas.Bool.{eqb-true}
 use Rattle.std.proofs.lemmas.List.{map-append}
 use Rattle.arc_lists.proofs.Tables.{cases_true}
@@ -25,10 +24,8 @@ use Rattle.dbuf_cells.specs.declared.kept.Kept.TheVariants.{Held, Loose}
 use Rattle.dbuf_state.specs.declared.window.Window.{Window}
 use Rattle.arc_core.specs.PlainShard.{PlainShard}
 use Rattle.turn_table.specs.Places.{Place}
-use Rattle.arc_table.specs.declared.hold.Hold.{Hold}
 use Rattle.arc_table.specs.declared.view.Known.{Known}
 use Rattle.arc_table.specs.Both.{Does}
-use Rattle.arc_table.specs.Cache.{Cache}
 use Rattle.arc_table.specs.Items.{Meanings}
 use Rattle.arc_table.specs.PoolCalls.{KeepsPool, MakesCalls, PoolCall}
 use Rattle.trace_text.specs.declared.op.Op.{Op}
@@ -39,8 +36,6 @@ use Rattle.trace_text.specs.declared.reply.Reply.{Reply}
 use Rattle.trace_text.specs.declared.reply.Reply.TheVariants.{Dropped, Read, Kept as KeptReply, Refused}
 use Rattle.trace_run.specs.declared.access.Access.{Access}
 use Rattle.trace_run.specs.declared.access.KeptRead.{KeptRead}
-use Rattle.trace_run.specs.declared.get.Got.{Got}
-use Rattle.trace_run.specs.declared.kept_blocks.KeptBlock.{KeptBlock}
 use Rattle.trace_run.specs.declared.access.Access.TheVariants as access
 use Rattle.trace_run.specs.Access.{events_of_answered, events_of_drop, held_key as access_key, source_of}
 use Rattle.trace_run.specs.Acts.{acts_of_drop, acts_of_dropping, acts_of_hold, acts_of_read}
@@ -53,7 +48,7 @@ use Rattle.trace_run.specs.Lines.{shard_of_line}
 use Rattle.trace_run.specs.OneCaller.{NamesSource, events_of_dropping, events_of_hold, events_of_read, is_of_block, kept_after, kept_after_drop, kept_after_hold, key_held_by, oldest_key, without_oldest}
 use Rattle.trace_run.specs.OverShards.{AreNamed, IsNamed}
 use Rattle.trace_run.specs.Reads.{CallsFor, CameFromPool, DidAct, DidActs, DidAnswer, DidRead, IsAlone, IsCauseOf, IsRefused, access_now, now_of}
-use Rattle.trace_run.specs.Seen.{AddsAll, AddsOwn, HasSeenItsOwn, seen_of}
+use Rattle.trace_run.specs.Seen.{AddsAll, HasSeenItsOwn, seen_of}
 use Rattle.trace_run.specs.Tally.{kept_of_block}
 use Rattle.trace_run.specs.Told.{IsTold}
 use Rattle.trace_run.proofs.GetLemmas.{all-last}

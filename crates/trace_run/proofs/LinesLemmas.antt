@@ -1,5 +1,5 @@
 -- A caller's lines over the shared cache: what all of them told, did and answered, one after another.
-use Rattle.std.proofs.Common.{◌≡◌, ◌≢◌, ℕ, zero, suc, ◌+◌, ◌<◌, ◌==◌, Bool, true, false, cond, if◌then◌else◌, List, [], ◌∷◌, ◌++◌, length, take, map, Option, Some, None, refl, sym, ap, ◌∙◌, subst, inl, inr, arith, add-one, append_assoc, append-nil, eq-eqb, ne_eqb, length-append}
+use Rattle.std.proofs.Common.{◌≡◌, ◌≢◌, ℕ, suc, ◌+◌, ◌==◌, Bool, cond, if◌then◌else◌, List, [], ◌∷◌, ◌++◌, length, take, Option, Some, refl, sym, ap, ◌∙◌, subst, arith, append_assoc, append-nil, eq-eqb, ne_eqb, length-append}
 use Rattle.std.specs.Prelude.{filter, slice_get}
 use Rattle.std.proofs.lemmas.List.Elements.{filter-append}
 use mathlib.Core.Logic.{dite}
@@ -50,6 +50,10 @@ others-more n ops i op at other =
     ∙ (ap (λ (b : Bool). filter (is_of_caller n) (take i ops) ++ cond b (op ∷ []) []) (ne_eqb (caller_of op) n other) ∙ append-nil (filter (is_of_caller n) (take i ops))))
 
 -- ---- lines one after another
+
+get-after : (done os : List Op) (o : Op) → slice_get (done ++ o ∷ os) (length done) ≡ Some o
+get-after [] os o = refl
+get-after (x ∷ xs) os o = get-after xs os o
 
 module _ {C P : Type 0} (g : Config) (pools : Ghosts P) (device : ℕ) (blocks : List Ptr) where
   -- lines, and then others
@@ -172,10 +176,6 @@ module _ {C P : Type 0} (g : Config) (pools : Ghosts P) (device : ℕ) (blocks :
 
   -- ---- each has its answer
 
-  get-after : (done os : List Op) (o : Op) → slice_get (done ++ o ∷ os) (length done) ≡ Some o
-  get-after [] os o = refl
-  get-after (x ∷ xs) os o = get-after xs os o
-
   -- the answers so far, and those to what is left
   lines-each : (pool_len : ℕ) (image : Option (List ℕ)) (caller : ℕ) (all : List Op) → ((k : ℕ) (op : Op) → slice_get all k ≡ Some op → caller_of op ≡ caller)
       → (done os : List Op) (replied rs : List Reply) (a b : At C P) → all ≡ done ++ os → length replied ≡ length done → pools.size a.pool ≡ pool_len → pools.told a.pool ≡ image
@@ -191,11 +191,11 @@ module _ {C P : Type 0} (g : Config) (pools : Ghosts P) (device : ℕ) (blocks :
       let his : caller_of o ≡ caller = own (length replied) o here in
       let more : length replied + 1 ≡ length (replied ++ r ∷ []) = let l = length-append replied (r ∷ []) in omega arith in
       let now : EachAnswers pool_len image blocks all (replied ++ r ∷ []) = more_answers pool_len image blocks all replied o r here each (to_answer pool_len image blocks caller (take (length replied) all) replied a.kept o r tally his answer) in
-      let then : IsTally caller (take (length (replied ++ r ∷ [])) all) (replied ++ r ∷ []) next.kept =
+      let tally_then : IsTally caller (take (length (replied ++ r ∷ [])) all) (replied ++ r ∷ []) next.kept =
       subst (λ (x : ℕ × List KeptRead). IsTally caller (take x.0 all) (replied ++ r ∷ []) x.1) (λ h. (more h, sym one.kept h)) (more_tally pool_len image blocks caller all replied a.kept o r here tally his answer) in
       subst (EachAnswers pool_len image blocks all) (append_assoc replied (r ∷ []) rs)
       (lines-each pool_len image caller all own (done ++ o ∷ []) os (replied ++ r ∷ []) rs next b (is ∙ sym (append_assoc done (o ∷ []) os)) (let l = length-append replied (r ∷ []) in let m = length-append done (o ∷ []) in omega arith)
-      (one.keeps.size ∙ size) (one.keeps.told ∙ told) then now did.2)
+      (one.keeps.size ∙ size) (one.keeps.told ∙ told) tally_then now did.2)
 
   -- all lines of a caller that kept nothing
   pub lines-answered : (caller : ℕ) (os : List Op) (rs : List Reply) (a b : At C P) → ((k : ℕ) (op : Op) → slice_get os k ≡ Some op → caller_of op ≡ caller) → a.kept ≡ []

@@ -1,5 +1,5 @@
 -- The lines of several callers, put together, have their answers where those of each caller have them.
-use Rattle.std.proofs.Common.{◌≡◌, ◌≢◌, ℕ, suc, ◌+◌, ◌<◌, ◌==◌, false, List, [], ◌∷◌, ◌++◌, length, take, Option, Some, inl, inr, refl, sym, ap, ◌∙◌, subst, arith, append-nil, append_assoc, length-append, eq-eqb, ne_eqb}
+use Rattle.std.proofs.Common.{◌≡◌, ◌≢◌, ℕ, suc, ◌+◌, ◌<◌, false, List, [], ◌∷◌, ◌++◌, length, take, Option, Some, refl, sym, ap, ◌∙◌, subst, arith, append-nil, append_assoc, length-append, eq-eqb, ne_eqb}
 use Rattle.std.specs.Prelude.{filter, slice_get}
 use Rattle.std.proofs.lemmas.List.{length-take-le}
 use Rattle.std.proofs.lemmas.Option.{slice_get_within}
@@ -16,13 +16,13 @@ use Rattle.trace_text.specs.declared.op.Op.{Op}
 use Rattle.trace_text.specs.declared.op.Op.TheVariants as ops
 use Rattle.trace_text.specs.declared.reply.Reply.{Reply}
 use Rattle.trace_run.specs.declared.access.KeptRead.{KeptRead}
-use Rattle.trace_run.specs.Answers.{AnswersAll, drops, drops_one, dropped_reads, keeps, keeps_one, kept_reads}
+use Rattle.trace_run.specs.Answers.{AnswersAll, drops, drops_one, keeps, keeps_one}
 use Rattle.trace_run.specs.Effects.{Answered, Effect, GivenBack, NoEffect, PoolRefused, effect_of}
 use Rattle.trace_run.specs.Group.{HaveWorked}
 use Rattle.trace_run.specs.InOrder.{AreInOrder, HaveReplies}
 use Rattle.trace_run.specs.Lines.{caller_of, is_of_caller, replies_where}
 use Rattle.trace_run.specs.OneCaller.{kept_after}
-use Rattle.trace_run.specs.Tally.{AnswersNow, AreAnswered, IsTally, kept_of_block}
+use Rattle.trace_run.specs.Tally.{AnswersNow, AreAnswered, IsTally}
 use Rattle.trace_run.proofs.AnswerLemmas.{EachAnswers, dropped_reads-snoc, kept_reads-snoc, more_answers, more_tally, take_one, to_answer}
 
 -- ---- a line of another caller keeps and drops nothing of this one
@@ -118,7 +118,7 @@ module _ (pool_len : ℕ) (image : Option (List ℕ)) (blocks : List Ptr) where
       let more : length replied + 1 ≡ length (replied ++ r ∷ []) = let l = length-append replied (r ∷ []) in omega arith in
       let then : (n : ℕ) → who n → IsAnswered n (take (length (replied ++ r ∷ [])) all) (replied ++ r ∷ []) os rs =
       λ n is_one. subst (λ (m : ℕ). IsAnswered n (take m all) (replied ++ r ∷ []) os rs) more
-          (dite (ℕ_discrete (caller_of o) n) (own-then n all replied o os r rs here (are n is_one)) (other-then n all replied o os r rs here (are n is_one))) in
+      (dite (ℕ_discrete (caller_of o) n) (own-then n all replied o os r rs here (are n is_one)) (other-then n all replied o os r rs here (are n is_one))) in
       subst (EachAnswers pool_len image blocks all) (append_assoc replied (r ∷ []) rs)
       (each-together who all own (done ++ o ∷ []) os (replied ++ r ∷ []) rs (is ∙ sym (append_assoc done (o ∷ []) os)) (let l = length-append replied (r ∷ []) in let m = length-append done (o ∷ []) in omega arith)
       (omega arith) now then)

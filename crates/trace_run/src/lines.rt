@@ -2,16 +2,16 @@
 ghost use Rattle.std.specs.Prelude.{◌≡◌, ◌≢◌, ◌<◌, ◌^◌, [], IfOk, IfSome, List, None, OnErr, filter, length, map};
 ghost use Rattle.blk_ptr.specs.Hash.{shard_of};
 ghost use Rattle.arc_table.specs.PoolCalls.{KeepsPool, MakesCalls};
-ghost use Rattle.trace_run.specs.Acts.{acts_of_dropping, acts_of_hold, acts_of_read};
+ghost use Rattle.trace_run.specs.Acts.{acts_of_hold, acts_of_read};
 ghost use Rattle.trace_run.specs.Answering.{KeepsImage, ReadsImage};
 ghost use Rattle.trace_run.specs.Answers.{AnswersDrop, AnswersHold, AnswersRead, IsInside, window_of};
 ghost use Rattle.trace_run.specs.CallerLines.{DidLine, DidLines, at};
 ghost use Rattle.trace_run.specs.Effects.{calls_of, effect_of};
 ghost use Rattle.trace_run.specs.KeptBlocks.{Drops, Stands, read_of};
+ghost use Rattle.trace_run.specs.Lines.{caller_of, is_of_caller};
 ghost use Rattle.trace_run.specs.OneCaller.{NamesSource, events_of_hold, events_of_read, kept_after_drop, kept_after_hold, oldest_key};
 ghost use Rattle.trace_run.specs.OverShards.{AreNamed};
 ghost use Rattle.trace_run.specs.Reads.{CameFromPool, DidActs, IsAlone, IsRefused, access_now, now_of};
-ghost use Rattle.trace_run.specs.Lines.{caller_of, is_of_caller};
 ghost use Rattle.trace_run.specs.Tally.{AreDeclared, kept_of_block};
 ghost use Rattle.trace_text.specs.Grammar.{block_of};
 ghost use Rattle.trace_run.specs.declared.kept_blocks.KeptBlock.{KeptBlock};

@@ -32,8 +32,10 @@ module _ (ops : List Op) (first : List (List Reply)) (left : List (Vec Reply Glo
       → ArePlaced ops first (lists (set left caller rest)) (lines - 1) (reverse more)
   its-more rs rest r merged more at last same pushed =
       subst (λ (x : List (List Reply) × List Reply). ArePlaced ops first x.0 (lines - 1) x.1)
-      (λ i. ((ap (λ (n : ℕ). set (lists left) n rest.items) (sym is) ∙ sym (map-set (λ (rs : Vec Reply Global). rs.items) left caller rest)) i,
-      (ap (λ (l : List Reply). r ∷ l) same ∙ (sym (reverse-append merged (r ∷ [])) ∙ ap reverse (sym pushed))) i))
+      (λ i. (
+        (ap (λ (n : ℕ). set (lists left) n rest.items) (sym is) ∙ sym (map-set (λ (rs : Vec Reply Global). rs.items) left caller rest)) i,
+        (ap (λ (l : List Reply). r ∷ l) same ∙ (sym (reverse-append merged (r ∷ [])) ∙ ap reverse (sym pushed))) i,
+      ))
       (placed-more ops first (lists left) (lines - 1) placed op here inside are-then rest.items r (its-list rs at ∙ last))
 
   its-one : (rs : Vec Reply Global) → rs ≡ get_or left caller rs → vec_len rs ≡ 0 → ⊥
