@@ -1,12 +1,12 @@
 -- What a pool is once forks of it were taken back, and what it counts then.
 use Rattle.std.proofs.Common.{◌≡◌, ℕ, zero, suc, ◌+◌, ◌*◌, ◌<◌, ◌≤◌, ◌^◌, List, [], min, ◌∷◌, ◌++◌, length, get_or, refl, sym, ap, ◌∙◌, subst, arith}
-use Rattle.std.specs.Prelude.{Err, IsErrOf, OnOk, Result, count_by, sum_by}
+use Rattle.std.specs.Prelude.{sum_by}
 use Rattle.std.specs.List.{AllByRecursion}
 use Rattle.std.proofs.lemmas.List.Sums.{count_by-le-length, sum_by-cons}
 use Rattle.vdev_io.specs.declared.pool.Pool.{Ghosts}
 use Rattle.vdev_io.specs.Faults.{last_count}
 use Rattle.arc_table.specs.PoolCalls.{KeepsPool, MakesCalls, PoolCall, is_failed}
-use Rattle.trace_run.specs.Callers.{Absorbs, AbsorbsAll}
+use Rattle.trace_run.specs.Callers.{AbsorbsAll}
 use Rattle.trace_run.specs.Group.{IsFork, LeavesPool}
 use Rattle.trace_run.specs.Together.{over_callers}
 use Rattle.trace_run.proofs.RunLemmas.{calls-faults, calls-reads}
@@ -59,13 +59,6 @@ module _ {P : Type 0} (pools : Ghosts P) where
       let sum : sum_by pools.reads (fork ∷ forks) ≡ pools.reads fork + sum_by pools.reads forks = sum_by-cons pools.reads fork forks in
       let one : pools.reads did.0 ≡ pools.reads old + pools.reads fork = omega (arith, did.1.reads, sum, room) in
       omega (arith, sum, one, absorbed-reads forks did.0 new did.2 (omega (arith, sum, one, room)))
-
-  pub absorbed-faults : (forks : List P) (old new : P) → AbsorbsAll pools forks old new → pools.faults old + sum_by pools.faults forks ≤ last_count → pools.faults new ≡ pools.faults old + sum_by pools.faults forks
-  absorbed-faults [] old new is room = let same : pools.faults new ≡ pools.faults old = ap (λ (p : P). pools.faults p) is in omega arith
-  absorbed-faults (fork ∷ forks) old new did room =
-      let sum : sum_by pools.faults (fork ∷ forks) ≡ pools.faults fork + sum_by pools.faults forks = sum_by-cons pools.faults fork forks in
-      let one : pools.faults did.0 ≡ pools.faults old + pools.faults fork = omega (arith, did.1.faults, sum, room) in
-      omega (arith, sum, one, absorbed-faults forks did.0 new did.2 (omega (arith, sum, one, room)))
 
   -- whatever room there was, the count of faults is their sum, as far as a count goes
   pub absorbed-most : (forks : List P) (old new : P) → AbsorbsAll pools forks old new → min (pools.faults old + sum_by pools.faults forks) last_count ≤ pools.faults new

@@ -1,27 +1,23 @@
 -- Several callers at once: from what each did on its own to what all have done.
-use Rattle.std.proofs.Common.{◌≡◌, ℕ, zero, suc, ◌+◌, ◌*◌, ◌<◌, ◌≤◌, ◌^◌, List, [], ◌∷◌, ◌++◌, length, get_or, map, Option, refl, sym, ap, ◌∙◌, subst, arith, add-one}
+use Rattle.std.proofs.Common.{◌≡◌, ℕ, zero, suc, ◌+◌, ◌<◌, ◌≤◌, ◌^◌, List, [], ◌∷◌, ◌++◌, length, get_or, map, Option, refl, sym, ap, ◌∙◌, subst, arith}
 use Rattle.std.specs.Prelude.{Err, IfOk, Ok, Result, Vec, filter, sum_by}
 use Rattle.std.specs.List.{AllByRecursion, AllZip}
 use Rattle.std.specs.declared.alloc.Global.{Global}
-use Rattle.std.proofs.lemmas.List.{get_or-map, length-map}
+use Rattle.std.proofs.lemmas.List.{length-map}
 use Rattle.std.proofs.lemmas.List.Sums.{count_by-le-length, length-filter}
 use mathlib.Core.Option.{some}
 use lib.ListN.{get_elem?}
 use Rattle.blk_ptr.specs.declared.memory.NoMemory.{NoMemory}
 use Rattle.blk_ptr.specs.declared.ptr.Ptr.{Ptr}
 use Rattle.vdev_io.specs.declared.pool.Pool.{Ghosts}
-use Rattle.vdev_io.specs.Faults.{last_count}
 use Rattle.arc_core.specs.declared.config.Config.{Config}
-use Rattle.arc_core.specs.Operations.{Act}
 use Rattle.turn_table.specs.Places.{Place}
 use Rattle.arc_table.specs.Cache.{Cache}
-use Rattle.arc_table.specs.PoolCalls.{MakesCalls}
 use Rattle.arc_table.specs.declared.view.Known.{Known}
 use Rattle.trace_text.specs.declared.op.Op.{Op}
 use Rattle.trace_text.specs.declared.reply.Reply.{Reply}
 use Rattle.trace_run.specs.KeptReads.{KeptRead}
 use Rattle.trace_run.specs.declared.group.Caller.{Caller}
-use Rattle.trace_run.specs.declared.kept_blocks.KeptBlock.{KeptBlock}
 use Rattle.trace_run.specs.Acts.{acts_of_all, acts_of_drops}
 use Rattle.trace_run.specs.CallerLines.{At, DidLines, at}
 use Rattle.trace_run.specs.Callers.{AbsorbsAll, AllGaveBack, AreAtStart, AreEnlisted, GaveBack, HasDone, HasTried, IsReady, MayGiveBack}

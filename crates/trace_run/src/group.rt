@@ -1,5 +1,5 @@
 //! The work of several callers at once, each by its own lines, with its own party and its own fork of the pool.
-ghost use Rattle.std.specs.Prelude.{All, ◌≡◌, ◌<◌, ◌≤◌, ◌^◌, ◌++◌, ◌∷◌, [], IfErr, IfOk, IsErrOf, List, OnErr, OnOk, length, map, vec_len};
+ghost use Rattle.std.specs.Prelude.{All, ◌≡◌, ◌<◌, ◌≤◌, ◌^◌, ◌++◌, ◌∷◌, [], IfOk, IsErrOf, List, OnErr, OnOk, length, map, vec_len};
 ghost use Rattle.std.specs.List.{AllByRecursion, AllZip};
 ghost use Rattle.arc_table.specs.PoolCalls.{KeepsPool};
 ghost use Rattle.arc_table.specs.declared.view.Known.{Known};

@@ -1,5 +1,5 @@
 use Rattle.std.proofs.Common.{◌≡◌, ◌++◌, ℕ, List, Vec, Global, drop, length, map, take, sym, ap, ◌∙◌, subst, arith}
-use Rattle.std.specs.Prelude.{All}
+use denote.Param.Send.{sendable}
 use Rattle.std.specs.List.{AllByRecursion, AllZip}
 use Rattle.std.proofs.Math.Seq.{take-append_seam}
 use Rattle.std.proofs.lemmas.Result.{IfOk-weaker}
@@ -25,9 +25,11 @@ work_all-requires-clause-ready g c = λ k lives i d lt.
 pub take_all_back-requires : goal.take_all_back-requires
 take_all_back-requires g c =
     let news : List (Caller g.row.C.Denot g.row.P.Denot) = c.work_all.new.callers in
-    let long : c.in_ok-callers.callers.len ≡ length news = let a = c.work_all.auto.callers in let b = c.deref_mut.ensures.len in omega arith in
-    subst (AllByRecursion (MayGiveBack c.args.arcs.now)) (sym (written c.in_ok-callers.callers.len news c.in_ok-callers.callers.items long))
-    (tried-may-give c.args.arcs.now g.P.Pool c.args.blocks.now c.args.ops.now c.deref_mut.result.now news c.work_all.ensures)
+    let long : c.in_ok-callers.callers.len ≡ length news = let a = c.work_all.auto.callers in let b = c.deref_mut.ensures.len in omega arith in (
+      search (sendable, c.type_bounds.send-P) depth 20,
+      subst (AllByRecursion (MayGiveBack c.args.arcs.now)) (sym (written c.in_ok-callers.callers.len news c.in_ok-callers.callers.items long))
+          (tried-may-give c.args.arcs.now g.P.Pool c.args.blocks.now c.args.ops.now c.deref_mut.result.now news c.work_all.ensures),
+    )
 
 pub returns-clause-worked : goal.returns-clause-worked
 returns-clause-worked g c =
