@@ -48,6 +48,25 @@ EVENTS = [
     'e 0 8 hit 0 512 512 1 4',
     'e 0 9 drop 0 512 512 1',
 ]
+# two callers, each on a block of its own shard; and sixteen, for each of which the pool is opened once more
+TWO_CALLERS = f'arc 2 2 16 1 4096 0 0\nblock 0 512 1 {ZEROS}\nblock 1536 512 1 {ZEROS}\nread 1 1 1 0 1\nhold 0 1 0\ndrop 1 0\n'
+TWO_REPORT = [
+    'arc 1',
+    f'0 ok pool {ZEROS} 00',
+    '1 held pool',
+    '2 refused hold 0',
+    'e 0 0 miss 0 0 512 1 1',
+    f'e 0 1 arrive 0 0 512 1 {ZEROS} pool',
+    'e 0 2 drop 0 0 512 1',
+    'e 1 0 miss 1 1536 512 1 1',
+    f'e 1 1 arrive 1 1536 512 1 {ZEROS} pool',
+    'e 1 2 drop 1 1536 512 1',
+    'shard 0 c 4096 p 2048 anon 0 mru 512 mrug 0 mfu 0 mfug 0 l2 0',
+    'shard 1 c 4096 p 2048 anon 0 mru 512 mrug 0 mfu 0 mfug 0 l2 0',
+    'count hit 0 miss 2 past 0 pool 2 l2 0 pass 0 set 0',
+    'end 1',
+]
+SIXTEEN = f'arc 16 1 16 1 4096 0 0\nblock 0 512 1 {ZEROS}\nread 15 1 0 0 1\n'
 MADE = [
     'arc 1',
     'shard 0 c 4096 p 2048 anon 0 mru 1536 mrug 0 mfu 1024 mfug 0 l2 0',
@@ -56,10 +75,16 @@ MADE = [
 ]
 
 # name; words; standard input (a text, or a file by its name); exit status; lines of the standard output; of the standard error;
-# and what is special of it: 'full' or 'closed' for the standard output, 'poor' for little memory, 'front' for lines that begin the output
+# and what is special of it: 'full' or 'closed' for the standard output, 'poor' for little memory, 'few' for few open files, 'front' for
+# lines that begin the output
 ROWS = [
     ('a real pool', ['pool', '-', 'run'], READS, 1, ['arc 1', *REPLIES, *SUMS], []),
     ('its events', ['pool', '-', 'run', '--events'], READS, 1, ['arc 1', *REPLIES, *EVENTS, *SUMS], []),
+    ('two callers, two shards', ['zeros', '-', 'run', '--events'], TWO_CALLERS, 1, TWO_REPORT, []),
+    ('a pool that is opened for some callers', ['zeros', '-', 'run'], SIXTEEN, 6, [*EMPTY[:3], 'end 6'], ['arc_tool: status 6'], 'few'),
+    ('a caller too many', ['zeros', '-', 'run'], 'arc 17 1 16 1 4096 0 0\n', 3, [], ['arc_tool: status 3']),
+    ('a shard too many', ['zeros', '-', 'run'], 'arc 1 17 16 1 4096 0 0\n', 3, [], ['arc_tool: status 3']),
+    ('more than all shards may have', ['zeros', '-', 'run'], 'arc 1 2 16 1 2147483649 0 0\n', 3, [], ['arc_tool: status 3']),
     ('an empty trace', ['-', '-', 'run'], ARC, 0, EMPTY, []),
     ('an empty pool', ['-', '-', 'run'], f'{ARC}block 0 512 1 {ZEROS}\nread 0 1 0 0 0\n', 1,
      ['arc 1', '0 refused key range 512 0', *EMPTY[1:3], 'end 1'], []),
@@ -100,9 +125,11 @@ ROWS = [
 
 
 def put_files():
-    """The files that rows name: a pool of two blocks, a folder, and a trace of 60 MB."""
+    """The files that rows name: a pool of two blocks, one of zero bytes, a folder, and a trace of 60 MB."""
     with open('pool', 'wb') as out:
         out.write(bytes(512) + b'a' * 512)
+    with open('zeros', 'wb') as out:
+        out.truncate(4096)
     os.mkdir('folder')
     with open('long', 'w') as out:
         out.write(ARC)
@@ -125,6 +152,8 @@ def run(program, words, given, special):
             os.close(1)
         if special == 'poor':
             resource.setrlimit(resource.RLIMIT_AS, (48 << 20, 48 << 20))
+        if special == 'few':
+            resource.setrlimit(resource.RLIMIT_NOFILE, (12, 12))
     stdin = source(given)
     stdout = os.open('/dev/full', os.O_WRONLY) if special == 'full' else subprocess.PIPE
     ended = subprocess.run([program, *words], stdin=stdin, stdout=stdout, stderr=subprocess.PIPE, preexec_fn=prepare, timeout=60)

@@ -15,7 +15,7 @@ mkdir -p "$copy/crates/core_bench/src"
 cp "$here/core/src/main.rt.in" "$copy/crates/core_bench/src/main.rt"
 # The simulation's shard stands in one module with what drives it here, which looks into it.
 mkdir "$copy/baseline"
-cp "$here/core/plain.rs" "$here/../compare/sha256.rs" "$copy/baseline/"
+cp "$here/core/plain.rs" "$here/../compare/key.rs" "$here/../compare/sha256.rs" "$copy/baseline/"
 grep -v '^//!' "$here/../compare/shard.rs" > "$copy/baseline/shard.rs"
 rustc --edition 2024 -O -A warnings -o "$copy/plain" "$copy/baseline/plain.rs"
 (cd "$copy/crates/core_bench" && rt run > "$copy/ours" 2> "$copy/log" || { cat "$copy/ours" "$copy/log"; exit 1; })

@@ -1,120 +1,29 @@
-//! A plain simulation of one shard of the cache for one caller, with nothing but the standard library:
+//! A plain simulation of the cache for one caller, with nothing but the standard library:
 //!
 //!     rustc -O arc_sim.rs && ./arc_sim POOL - run [--events] <TRACE     or     ./arc_sim - - gen SEED BLOCKS OPS
 //!
 //! It reads the lines `arc`, `block`, `read`, `hold` and `drop`, and prints what `arc_tool` prints. It was written from the rules
-//! alone and shares no code with the program, so it serves as a baseline of speed and as a second opinion on each report.
+//! alone and shares no code with the program, so it serves as a baseline of speed and as a second opinion on each report. What several
+//! callers are answered is no function of the trace: then it ends with status 13, which says that it can't tell.
+//! With `--alone` as the first word a trace of more than one caller or shard is refused, as by a program that has one of each.
 
+mod key;
+mod pool;
 mod sha256;
 mod shard;
+#[allow(dead_code)]
+mod trace;
 
+use key::Key;
+use pool::Pool;
 use sha256::{Digest, Hex, sha256};
-use shard::{Event, Key, Shard};
+use shard::{Event, Shard};
 use std::collections::{HashMap, VecDeque};
 use std::fmt::{self, Display, Write as _};
-use std::fs::File;
 use std::io::{self, Read, Write};
-use std::os::unix::fs::FileExt;
 use std::process::ExitCode;
 use std::sync::Arc;
-
-const LONGEST_TRACE: usize = 67_108_864;
-const MOST_BLOCKS: usize = 100_000;
-const MOST_OPS: usize = 1_000_000;
-const LAST: u64 = 1 << 62;
-const MOST: u64 = 1 << 32;
-const LARGEST_BLOCK: u64 = 16_777_216;
-const LONGEST_POOL: u64 = 1 << 40;
-
-// ---- The trace --------------------------------------------------------------------------------------------------------------
-
-#[derive(Clone, Copy)]
-struct Pointer {
-    key: Key,
-    digest: Digest,
-}
-
-enum Op {
-    Read { tick: u64, block: usize, at: u64, len: u64 },
-    Hold { tick: u64, block: usize },
-    Drop { block: usize },
-}
-
-struct Trace {
-    capacity: u64,
-    min_time: u64,
-    blocks: Vec<Pointer>,
-    ops: Vec<Op>,
-}
-
-/// A decimal number from `low` to `high`, with no sign and no leading zero.
-fn number(field: &[u8], low: u64, high: u64) -> Option<u64> {
-    let plain = !field.is_empty() && field.iter().all(u8::is_ascii_digit) && (field.len() == 1 || field[0] != b'0');
-    let value = std::str::from_utf8(field).ok()?.parse().ok()?;
-    (plain && low <= value && value <= high).then_some(value)
-}
-
-fn digest(field: &[u8]) -> Option<Digest> {
-    let nibble = |c: u8| match c {
-        b'0'..=b'9' => Some(c - b'0'),
-        b'a'..=b'f' => Some(c - b'a' + 10),
-        _ => None,
-    };
-    if field.len() != 64 {
-        return None;
-    }
-    let mut digest = [0; 32];
-    for (byte, pair) in digest.iter_mut().zip(field.chunks_exact(2)) {
-        *byte = nibble(pair[0])? << 4 | nibble(pair[1])?;
-    }
-    Some(digest)
-}
-
-/// The trace that a text is, or the number of the first line at fault.
-fn parse(text: &[u8]) -> Result<Trace, usize> {
-    let mut trace = None;
-    for (i, line) in text.split(|byte| *byte == b'\n').enumerate() {
-        if !line.is_empty() && line[0] != b'#' {
-            parse_line(line, &mut trace).ok_or(i + 1)?;
-        }
-    }
-    trace.ok_or(1)
-}
-
-fn parse_line(line: &[u8], trace: &mut Option<Trace>) -> Option<()> {
-    let mut fields = [&[][..]; 8];
-    let mut count = 0;
-    for field in line.split(|byte| *byte == b' ') {
-        *fields.get_mut(count)? = field;
-        count += 1;
-    }
-    let [word, a, b, c, d, e, f, g] = fields;
-    if word == b"arc" && count == 8 && trace.is_none() {
-        for (field, low, high) in [(a, 1, 1), (b, 1, 1), (c, 1, 256), (d, 1, 16), (g, 0, MOST)] {
-            number(field, low, high)?;
-        }
-        let (capacity, min_time) = (number(e, 4_096, MOST)?, number(f, 0, MOST)?);
-        *trace = Some(Trace { capacity, min_time, blocks: Vec::new(), ops: Vec::new() });
-        return Some(());
-    }
-    let trace = trace.as_mut()?;
-    if word == b"block" && count == 5 {
-        let key = Key { offset: number(a, 0, LAST)?, size: number(b, 0, MOST)?, birth: number(c, 0, LAST)? };
-        trace.blocks.push(Pointer { key, digest: digest(d)? });
-        return (trace.ops.is_empty() && trace.blocks.len() <= MOST_BLOCKS).then_some(());
-    }
-    let declared = (trace.blocks.len() as u64).checked_sub(1);
-    let block = |field| Some(number(field, 0, declared?)? as usize);
-    let op = match (word, count) {
-        (b"read", 6) => Op::Read { tick: number(b, 0, LAST)?, block: block(c)?, at: number(d, 0, MOST - 1)?, len: number(e, 0, 64)? },
-        (b"hold", 4) => Op::Hold { tick: number(b, 0, LAST)?, block: block(c)? },
-        (b"drop", 3) => Op::Drop { block: block(b)? },
-        _ => return None,
-    };
-    number(a, 0, 0)?;
-    trace.ops.push(op);
-    (trace.ops.len() <= MOST_OPS).then_some(())
-}
+use trace::{LONGEST_TRACE, MOST_OPS, Op, Pointer, Trace, What, number, parse};
 
 /// The reads that a seed draws over blocks of zero bytes.
 fn draw(seed: u64, blocks: u64, ops: u64) -> Trace {
@@ -125,46 +34,12 @@ fn draw(seed: u64, blocks: u64, ops: u64) -> Trace {
         (x / 65_536 % blocks) as usize
     };
     Trace {
+        callers: 1,
+        shards: 1,
         capacity: (blocks * 128).max(4_096),
         min_time: 0,
         blocks: (0..blocks).map(|i| Pointer { key: Key { offset: i * 512, size: 512, birth: 1 }, digest }).collect(),
-        ops: (0..ops).map(|i| Op::Read { tick: i + 1, block: next(), at: 0, len: 0 }).collect(),
-    }
-}
-
-// ---- The pool ---------------------------------------------------------------------------------------------------------------
-
-enum Pool {
-    Memory(Vec<u8>),
-    File(File, u64),
-}
-
-impl Pool {
-    fn open(name: &str) -> Option<Pool> {
-        if name == "-" {
-            return Some(Pool::Memory(Vec::new()));
-        }
-        let file = File::open(name).ok()?;
-        let about = file.metadata().ok()?;
-        (!about.is_dir() && about.len() <= LONGEST_POOL).then(|| Pool::File(file, about.len()))
-    }
-
-    fn len(&self) -> u64 {
-        match self {
-            Pool::Memory(bytes) => bytes.len() as u64,
-            Pool::File(_, len) => *len,
-        }
-    }
-
-    fn read(&self, key: Key) -> io::Result<Vec<u8>> {
-        match self {
-            Pool::Memory(bytes) => Ok(bytes[key.offset as usize..][..key.size as usize].to_vec()),
-            Pool::File(file, _) => {
-                let mut bytes = vec![0; key.size as usize];
-                file.read_exact_at(&mut bytes, key.offset)?;
-                Ok(bytes)
-            }
-        }
+        ops: (0..ops).map(|i| Op { caller: 0, block: next(), what: What::Read { tick: i + 1, at: 0, len: 0 } }).collect(),
     }
 }
 
@@ -186,26 +61,11 @@ impl Display for Refusal {
     }
 }
 
-/// A block that was read: where its bytes are from, and its place in the table but where it went past that.
+/// A block that was read: where its bytes are from, and its place in its shard but where it went past that.
 struct Served {
     from: &'static str,
     place: Option<usize>,
     bytes: Arc<[u8]>,
-}
-
-fn check_key(key: Key, len: u64) -> Result<(), Refusal> {
-    let end = u128::from(key.offset) + u128::from(key.size);
-    if key.offset % 512 != 0 {
-        Err(Refusal::Key("unaligned".into()))
-    } else if key.size % 512 != 0 || key.size < 512 || key.size > LARGEST_BLOCK {
-        Err(Refusal::Key("size".into()))
-    } else if end > u128::from(len) {
-        Err(Refusal::Key(format!("range {end} {len}")))
-    } else if key.birth == 0 {
-        Err(Refusal::Key("birth".into()))
-    } else {
-        Ok(())
-    }
 }
 
 fn read_pool(pool: &Pool, pointer: &Pointer) -> Result<Arc<[u8]>, Refusal> {
@@ -215,7 +75,7 @@ fn read_pool(pool: &Pool, pointer: &Pointer) -> Result<Arc<[u8]>, Refusal> {
 }
 
 fn read_block(shard: &mut Shard, pool: &Pool, pointer: &Pointer, tick: u64) -> Result<Served, Refusal> {
-    check_key(pointer.key, pool.len())?;
+    pool.check(pointer.key).map_err(Refusal::Key)?;
     let found = shard.places.get(&pointer.key).copied();
     if let Some(place) = found.filter(|place| !shard.entries[*place].state.is_ghost()) {
         let kept = shard.entries[place].digest;
@@ -241,20 +101,22 @@ fn read_block(shard: &mut Shard, pool: &Pool, pointer: &Pointer, tick: u64) -> R
 }
 
 struct Run {
-    shard: Shard,
+    shards: Vec<Shard>,
     replies: String,
     is_refused: bool,
 }
 
 fn run(trace: &Trace, pool: &Pool, with_replies: bool) -> Run {
-    let mut shard = Shard::new(trace.capacity, trace.min_time);
+    let mut shards: Vec<_> = (0..trace.shards).map(|_| Shard::new(trace.capacity, trace.min_time)).collect();
     let mut kept = Kept::new();
     let mut replies = String::new();
     let mut is_refused = false;
     for (i, op) in trace.ops.iter().enumerate() {
         let start = replies.len();
         let _ = write!(replies, "{i} ");
-        if let Err(refusal) = answer(&mut shard, pool, trace, i, op, &mut kept, &mut replies) {
+        let pointer = &trace.blocks[op.block];
+        let shard = &mut shards[trace.shard_of(i)];
+        if let Err(refusal) = answer(shard, pool, pointer, i, op, &mut kept, &mut replies) {
             let _ = write!(replies, "{refusal}");
             is_refused = true;
         }
@@ -265,28 +127,29 @@ fn run(trace: &Trace, pool: &Pool, with_replies: bool) -> Run {
     }
     let mut left: Vec<_> = kept.into_values().flatten().collect();
     left.sort_by_key(|(i, _)| *i);
-    for place in left.into_iter().filter_map(|(_, served)| served.place) {
-        shard.release(place);
+    for (i, served) in left {
+        if let Some(place) = served.place {
+            shards[trace.shard_of(i)].release(place);
+        }
     }
-    Run { shard, replies, is_refused }
+    Run { shards, replies, is_refused }
 }
 
 /// The kept reads of each block, oldest first, with the operations that kept them.
 type Kept = HashMap<usize, VecDeque<(usize, Served)>>;
 
-/// Answers operation `i`, and writes its reply but for a refusal.
+/// Answers operation `i` on the block of this pointer, and writes its reply but for a refusal.
 fn answer(
     shard: &mut Shard,
     pool: &Pool,
-    trace: &Trace,
+    pointer: &Pointer,
     i: usize,
     op: &Op,
     kept: &mut Kept,
     replies: &mut String,
 ) -> Result<(), String> {
-    match *op {
-        Op::Read { tick, block, at, len } => {
-            let pointer = &trace.blocks[block];
+    match op.what {
+        What::Read { tick, at, len } => {
             if at + len > pointer.key.size {
                 return Err(format!("refused window {} {}", at + len, pointer.key.size));
             }
@@ -298,14 +161,14 @@ fn answer(
                 shard.release(place);
             }
         }
-        Op::Hold { tick, block } => {
-            let served = read_block(shard, pool, &trace.blocks[block], tick).map_err(|refusal| refusal.to_string())?;
+        What::Hold { tick } => {
+            let served = read_block(shard, pool, pointer, tick).map_err(|refusal| refusal.to_string())?;
             let _ = write!(replies, "held {}", served.from);
-            kept.entry(block).or_default().push_back((i, served));
+            kept.entry(op.block).or_default().push_back((i, served));
         }
-        Op::Drop { block } => {
-            let oldest = kept.get_mut(&block).and_then(VecDeque::pop_front);
-            let (_, served) = oldest.ok_or_else(|| format!("refused hold {block}"))?;
+        What::Drop => {
+            let oldest = kept.get_mut(&op.block).and_then(VecDeque::pop_front);
+            let (_, served) = oldest.ok_or_else(|| format!("refused hold {}", op.block))?;
             if let Some(place) = served.place {
                 shard.release(place);
             }
@@ -331,19 +194,23 @@ impl Display for Event {
 }
 
 fn report(run: Run, events: bool) -> Result<String, fmt::Error> {
-    let Run { shard, replies, is_refused } = run;
+    let Run { shards, replies, is_refused } = run;
     let mut text = String::from("arc 1\n");
     text.push_str(&replies);
     drop(replies);
     if events {
-        for (i, event) in shard.history.iter().enumerate() {
-            writeln!(text, "e 0 {i} {event}")?;
+        for (s, shard) in shards.iter().enumerate() {
+            for (i, event) in shard.history.iter().enumerate() {
+                writeln!(text, "e {s} {i} {event}")?;
+            }
         }
     }
-    let [anon, mru, mru_ghost, mfu, mfu_ghost] = shard.sizes;
-    let (c, p) = (shard.capacity, shard.target);
-    writeln!(text, "shard 0 c {c} p {p} anon {anon} mru {mru} mrug {mru_ghost} mfu {mfu} mfug {mfu_ghost} l2 0")?;
-    let count = |is: fn(&Event) -> bool| shard.history.iter().filter(|event| is(event)).count();
+    for (s, shard) in shards.iter().enumerate() {
+        let [anon, mru, mru_ghost, mfu, mfu_ghost] = shard.sizes;
+        let (c, p) = (shard.capacity, shard.target);
+        writeln!(text, "shard {s} c {c} p {p} anon {anon} mru {mru} mrug {mru_ghost} mfu {mfu} mfug {mfu_ghost} l2 0")?;
+    }
+    let count = |is: fn(&Event) -> bool| shards.iter().flat_map(|shard| &shard.history).filter(|event| is(event)).count();
     let hits = count(|event| matches!(event, Event::Hit(..)));
     let misses = count(|event| matches!(event, Event::Miss(..)));
     let past = count(|event| matches!(event, Event::Past(..)));
@@ -385,7 +252,11 @@ fn command(words: &[String]) -> Result<Command, usize> {
 /// Does what the words ask, and gives the exit status.
 fn perform() -> u8 {
     let words: Vec<String> = std::env::args().skip(1).collect();
-    let [pool, cache, words @ ..] = &words[..] else { return 9 };
+    let (words, most) = match &words[..] {
+        [first, rest @ ..] if first == "--alone" => (rest, 1),
+        all => (all, 16),
+    };
+    let [pool, cache, words @ ..] = words else { return 9 };
     let Some(pool) = Pool::open(pool) else { return 11 };
     if cache != "-" {
         return 12;
@@ -404,8 +275,11 @@ fn perform() -> u8 {
             if text.len() > LONGEST_TRACE {
                 return 3;
             }
-            let Ok(trace) = parse(&text) else { return 3 };
+            let Ok(trace) = parse(&text, most) else { return 3 };
             drop(text);
+            if trace.callers > 1 {
+                return 13;
+            }
             (run(&trace, &pool, true), events)
         }
     };

@@ -2,9 +2,10 @@
 """Feeds the program random bytes, random traces, mutated ones, and words: compare/fuzz.py [SECONDS] [SEED], outside the gate.
 
 The program has to end with a report (status 0 or 1), or with status 3, or 2 where the words were drawn, and nothing written; and to
-agree with the plain simulation in arc_sim.rs on the status and on each byte that is written. A trace on which it doesn't is
-kept, and its place is printed.
-Needs rustc. The program has to be built: (cd crates/arc_tool && rt run). ARC_TOOL and ARC_SIM may name other builds of the two.
+agree with the plain simulation in arc_sim.rs on the status and on each byte that is written. A trace of several callers is run a few
+times. Each report that has its events is checked by arc_replay.rs. A trace on which anything is wrong is kept, and its place is
+printed. Several callers and shards are drawn only where the program takes them.
+Needs rustc. The program has to be built: (cd crates/arc_tool && rt run). ARC_TOOL, ARC_SIM and ARC_REPLAY may name other builds.
 """
 import hashlib
 import os
@@ -31,24 +32,26 @@ def block(rng):
     return f'block {offset} {size} {birth} {digest}'
 
 
-def trace(rng):
+def trace(rng, several):
     """A trace of the grammar: few blocks, small capacities, and clocks that stand still or go back."""
-    capacity = rng.choice([4096, 4096, 4096, 5000, 6144, 8192, 2**32])
-    lines = [f'arc 1 1 {rng.choice([1, 16, 256])} 1 {capacity} {rng.choice([0, 0, 3, 2**32])} 4096']
+    callers, shards = (rng.choice([1, 1, 2, 2, 3, 4, 16]), rng.choice([1, 1, 2, 3, 16])) if several else (1, 1)
+    capacity = rng.choice([4096, 4096, 4096, 5000, 6144, 8192, 2**32 // shards])
+    lines = [f'arc {callers} {shards} {rng.choice([1, 16, 256])} 1 {capacity} {rng.choice([0, 0, 3, 2**32])} 4096']
     blocks = rng.randrange(1, 24)
     lines += [block(rng) for _ in range(blocks)]
     tick = 0
     for _ in range(rng.choice([3, 20, 100, 400])):
         tick = max(0, tick + rng.choice([1, 1, 1, 0, 2, -1, 5]))
+        n = rng.randrange(callers)
         x = min(rng.randrange(blocks), rng.randrange(blocks))
         kind = rng.random()
         if kind < 0.8:
             at, length = rng.choice([(0, 0), (0, 4), (500, 12), (0, 64), (511, 2), (4090, 6), (2**32 - 1, 64)])
-            lines.append(f'read 0 {tick} {x} {at} {length}')
+            lines.append(f'read {n} {tick} {x} {at} {length}')
         elif kind < 0.92:
-            lines.append(f'hold 0 {tick} {x}')
+            lines.append(f'hold {n} {tick} {x}')
         else:
-            lines.append(f'drop 0 {x}')
+            lines.append(f'drop {n} {x}')
         if rng.random() < 0.02:
             lines.append(rng.choice(['', '# a comment', '#']))
     return '\n'.join(lines).encode() + rng.choice([b'\n', b'', b'\n\n'])
@@ -87,13 +90,13 @@ def mutated(rng, text):
     return b'\n'.join(lines)
 
 
-def text(rng):
+def text(rng, several):
     kind = rng.random()
     if kind < 0.1:
         return rng.randbytes(rng.choice([0, 1, 10, 1000, 100_000]))
     if kind < 0.15:
         return ''.join(rng.choice(' \n#0159abf') for _ in range(rng.randrange(200))).encode()
-    made = trace(rng)
+    made = trace(rng, several)
     return made if kind < 0.6 else mutated(rng, made)
 
 
@@ -108,9 +111,53 @@ def words_of(rng):
     return words[:rng.choice([4, 4, 4, 4, 3, 2, 1, 0])] + rng.choice([[], [], [], [], ['1']])
 
 
-def run(program, pool, words, given):
-    ended = subprocess.run([program, pool, '-', *words], input=given, capture_output=True, timeout=60)
+def run(words, given):
+    """The exit status and the standard output; the status is None where it didn't end within a minute."""
+    try:
+        ended = subprocess.run(words, input=given, stdout=subprocess.PIPE, stderr=subprocess.PIPE, timeout=60)
+    except subprocess.TimeoutExpired:
+        return None, b''
     return ended.returncode, ended.stdout
+
+
+def built(work, name):
+    """The plain program of this name, compiled where the environment names no other build of it."""
+    there = os.environ.get(name.upper())
+    if there is None:
+        there = f'{work}/{name}'
+        subprocess.run(['rustc', '--edition', '2024', '-O', '-o', there, f'{HERE}/{name}.rs'], check=True)
+    return there
+
+
+def is_report(ended):
+    return ended[0] in (0, 1) and ended[1].endswith(b'end %d\n' % ended[0])
+
+
+def fault_of_report(replay, pool, given, report, work):
+    """What the checker finds wrong with a report that has its events."""
+    for name, content in ('trace', given), ('report', report):
+        with open(f'{work}/{name}', 'wb') as out:
+            out.write(content)
+    checked = subprocess.run([replay, pool, f'{work}/trace'], input=report, stdout=subprocess.PIPE, stderr=subprocess.PIPE)
+    return f'has a faulty report: {checked.stderr.decode().strip()}' if checked.returncode else None
+
+
+def fault_of_one(words, ours, theirs):
+    """What is wrong with how the program ended, where the plain simulation ended so."""
+    is_refused = ours == (3, b'') or (ours == (2, b'') and words not in (['run'], ['run', '--events']))
+    if ours != theirs:
+        return f'ended with {ours[0]}, the plain simulation with {theirs[0]}'
+    return None if is_report(ours) or is_refused else f'ended with {ours[0]}, and no report'
+
+
+def fault_of_several(tool, replay, pool, given, work):
+    """What is wrong with the reports of a trace of several callers, which is run three times."""
+    for _ in range(3):
+        ours = run([tool, pool, '-', 'run', '--events'], given)
+        fault = fault_of_report(replay, pool, given, ours[1], work) if is_report(ours) else f'ended with {ours[0]}, and no report'
+        if fault:
+            return fault
+    return None
 
 
 def main():
@@ -119,33 +166,37 @@ def main():
     rng = random.Random(seed)
     work = tempfile.mkdtemp(prefix='arc_fuzz.')
     tool = os.environ.get('ARC_TOOL', f'{HERE}/../crates/arc_tool/out/arc_tool')
-    plain = os.environ.get('ARC_SIM')
-    if plain is None:
-        plain = f'{work}/arc_sim'
-        subprocess.run(['rustc', '--edition', '2024', '-O', '-o', plain, f'{HERE}/arc_sim.rs'], check=True)
+    plain, replay = built(work, 'arc_sim'), built(work, 'arc_replay')
     pool = f'{work}/pool'
     with open(pool, 'wb') as out:
         out.truncate(8192)
-    until, runs, bad, ends = time.time() + seconds, 0, 0, {}
-    while time.time() < until:
-        given = text(rng)
+    several = run([tool, '-', '-', 'run'], b'arc 2 2 16 1 4096 0 0\n')[0] == 0
+    alone = [] if several else ['--alone']
+    until, runs, bad, ends, checked = time.time() + seconds, 0, 0, {}, 0
+    while time.time() < until and bad < 10:
+        given = text(rng, several)
         words = words_of(rng)
-        ours = run(tool, pool, words, given)
-        theirs = run(plain, pool, words, given)
+        ours = run([tool, pool, '-', *words], given)
+        theirs = run([plain, *alone, pool, '-', *words], given)
+        if theirs == (13, b''):
+            checked += 1
+            fault = fault_of_several(tool, replay, pool, given, work)
+        else:
+            fault = fault_of_one(words, ours, theirs)
+            if not fault and words == ['run', '--events'] and is_report(ours):
+                fault = fault_of_report(replay, pool, given, ours[1], work)
         runs += 1
         ends[ours[0]] = ends.get(ours[0], 0) + 1
-        is_report = ours[0] in (0, 1) and ours[1].endswith(b'end %d\n' % ours[0])
-        is_refused = ours == (3, b'') or (ours == (2, b'') and words not in (['run'], ['run', '--events']))
-        if ours != theirs or not (is_report or is_refused):
+        if fault:
             bad += 1
             name = f'{work}/bad{bad}'
             with open(name, 'wb') as out:
                 out.write(given)
-            print(f'{name}: {" ".join(words)} ended with {ours[0]}, the plain simulation with {theirs[0]}')
-            if bad == 10:
-                break
-    told = ', '.join(f'{count} with status {status}' for status, count in sorted(ends.items()))
-    print(f'seed {seed}: {runs} traces: {told}; {bad} at fault')
+            if 'faulty report' in fault:
+                os.replace(f'{work}/report', f'{name}.report')
+            print(f'{name}: {" ".join(words)} {fault}')
+    told = ', '.join(f'{count} with status {status}' for status, count in sorted(ends.items(), key=str))
+    print(f'seed {seed}: {runs} traces, {checked} of them of several callers: {told}; {bad} at fault')
     sys.exit(bad > 0)
 
 

@@ -1,22 +1,9 @@
 //! One shard of the cache: an entry a key, four sequences, and every event that was made.
 
+use crate::key::Key;
 use crate::sha256::Digest;
 use std::collections::HashMap;
-use std::fmt::{self, Display};
 use std::sync::Arc;
-
-#[derive(Clone, Copy, PartialEq, Eq, Hash)]
-pub struct Key {
-    pub offset: u64,
-    pub size: u64,
-    pub birth: u64,
-}
-
-impl Display for Key {
-    fn fmt(&self, f: &mut fmt::Formatter<'_>) -> fmt::Result {
-        write!(f, "{} {} {}", self.offset, self.size, self.birth)
-    }
-}
 
 #[derive(Clone, Copy, PartialEq, Eq)]
 pub enum State {

@@ -5,25 +5,21 @@
 //! Each caller reads so many drawn blocks of 512 bytes of a pool in memory, and gives each back. It prints the reads of all callers a second. With
 //! `hits` every block was read before; with `misses` the cache has room for a sixteenth of them.
 
+mod key;
 #[allow(dead_code)]
 mod sha256;
 #[allow(dead_code)]
 mod shard;
 
+use key::Key;
 use sha256::{Digest, sha256};
-use shard::{Key, Shard};
+use shard::Shard;
 use std::process::ExitCode;
 use std::sync::{Arc, Mutex, PoisonError};
 use std::thread;
 use std::time::Instant;
 
 const SIZE: u64 = 512;
-
-/// The number that tells a key's shard.
-fn hash_of(key: Key) -> u64 {
-    let a = (key.offset / 512).wrapping_mul(0x9e37_79b9_7f4a_7c15).wrapping_add(key.size / 512 * 31).wrapping_add(key.birth);
-    a ^ (a >> 32)
-}
 
 struct Cache {
     shards: Vec<Mutex<Shard>>,
@@ -48,7 +44,7 @@ impl Cache {
 
     /// Reads a block of this digest, and keeps it. A reader that finds a read in progress begins again.
     fn read(&self, key: Key, digest: Digest, tick: u64) -> Option<Held> {
-        let shard = (hash_of(key) % self.shards.len() as u64) as usize;
+        let shard = key.shard_of(self.shards.len());
         let place = loop {
             let found = self.with(shard, |it| match it.places.get(&key).copied() {
                 Some(place) if !it.entries[place].state.is_ghost() => {

@@ -1,6 +1,6 @@
 #!/usr/bin/env bash
 # Runs a trace of this folder over a pool of 64 KiB of zero bytes: examples/run.sh [--unproved] NAME [--events]. A list of pages is run with room for eight.
-# What it prints without --events stands in NAME.report. Where the program was not built yet, it is proved and built first.
+# What it prints without --events stands in NAME.report; of several callers, what one run printed. Where the program was not built yet, it is proved and built first.
 # With --unproved it is compiled without any proof, in about a minute: for a first look.
 set -eu
 unproved=

@@ -1,5 +1,6 @@
 //! The plain simulation's shard (../../compare/shard.rs) on the same events as main.rt.in. It knows no feed, so picks are a walk of its own.
 
+mod key;
 mod sha256;
 
 include!("shard.rs");

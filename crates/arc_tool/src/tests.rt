@@ -96,6 +96,7 @@ fn faults(rt: HostRuntime) -> Result<(), Fail> {
         ),
         (Fault::of(Status::SourceFault), "status 4", 4),
         (Fault::of(Status::SinkFault), "status 5", 5),
+        (Fault::of(Status::PoolFault), "status 6", 6),
         (Fault::of(Status::NoMemory), "status 7", 7),
         (Some(Fault::SINK), "status 5", 5),
         (Some(Fault::NO_MEMORY), "status 7", 7),

@@ -16,10 +16,9 @@ use Rattle.arc_core.specs.PlainShard.{PlainShard, entry_of, is_resident, keeps_d
 use Rattle.arc_core.specs.Step.{is_missing, is_without_bytes}
 use Rattle.arc_table.specs.Standing.{is_cached_with}
 use Rattle.arc_table.specs.Reading.{ptr_with}
-use Rattle.trace_run.specs.declared.access.Access.TheVariants as access
+use Rattle.trace_run.specs.Access as access
 use Rattle.trace_run.specs.Access.{access_of, found}
-use Rattle.trace_run.proofs.CacheLemmas.{digest_eq-is}
-use Rattle.trace_run.proofs.HoldLemmas.{digest_of_resident}
+use Rattle.trace_run.proofs.CacheLemmas.{digest_eq-is, digest_of_resident}
 use Rattle.trace_run.proofs.TellLemmas.{digest_eq-same}
 
 -- what an entry keeps that passes the test of a digest

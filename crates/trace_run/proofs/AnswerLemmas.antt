@@ -13,10 +13,9 @@ use Rattle.trace_text.specs.declared.op.Op.TheVariants as ops
 use Rattle.trace_text.specs.declared.reply.Reply.TheVariants.{Read, Kept, Dropped, Refused}
 use Rattle.trace_text.specs.declared.reply.Refusal.TheVariants.{PoolFault, Mismatch, Key, NoMemory, Range, NoHold}
 use Rattle.trace_run.specs.Answers.{Answers, AnswersDrop, keeps, keeps_one, drops, drops_one, kept_reads, dropped_reads}
-use Rattle.trace_run.specs.declared.access.KeptRead.{KeptRead}
 use Rattle.trace_run.specs.Effects.{Effect, Answered, GivenBack, PoolRefused, NoEffect, effect_of}
 use Rattle.trace_run.specs.OneCaller.{is_of_block, kept_after, kept_after_drop, kept_after_hold, key_held_by, without_oldest}
-use Rattle.trace_run.specs.PlainCache.{kept_read}
+use Rattle.trace_run.specs.KeptReads.{KeptRead, kept_read}
 use Rattle.arc_lists.proofs.Tables.{cases_true}
 use Rattle.std.proofs.lemmas.Bool.{eqb-true, false≢true}
 use Rattle.std.proofs.lemmas.List.Sums.{sum_by-append, sum_by-cons}
@@ -82,10 +81,6 @@ dropped_reads-snoc caller block (o ∷ os) (r ∷ rs) op reply same =
 
 test : ℕ → ℕ → ℕ
 test x block = if x == block then 1 else 0
-
-test_same : (n : ℕ) → test n n ≡ 1
-unfolding test
-test_same n = grind (arith, nat_tests)
 
 test_true : (n : ℕ) → (n == n) ≡ true
 test_true n = grind (arith, nat_tests)

@@ -17,7 +17,7 @@ use Rattle.trace_run.specs.Lines.{caller_of, is_of_caller, replies_where}
 use Rattle.trace_run.proofs.TellLemmas.{act-caller}
 
 -- the lines of a caller are its own
-own-lines : (n : ℕ) (os : List Op) → AllByRecursion (λ op. caller_of op ≡ n) (filter (is_of_caller n) os)
+pub own-lines : (n : ℕ) (os : List Op) → AllByRecursion (λ op. caller_of op ≡ n) (filter (is_of_caller n) os)
 own-lines n [] = tt
 own-lines n (op ∷ os) = elim (cases_true (is_of_caller n op)) [
   | inl his ↦ rw his (eqb-true (caller_of op) n his, own-lines n os)

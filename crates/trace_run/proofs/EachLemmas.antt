@@ -21,7 +21,7 @@ use Rattle.arc_table.specs.Items.{Meanings, lines_in}
 use Rattle.arc_table.specs.Rule.{Pact}
 use Rattle.arc_table.specs.TableLaws.{get_front, same_at, within}
 use Rattle.trace_run.specs.Ends.{opening_of}
-use Rattle.trace_run.specs.Seen.{HasSeenItsOwn, turn_of}
+use Rattle.trace_run.specs.Seen.{HasSeenItsOwn, pass_owner, turn_of}
 use Rattle.trace_run.proofs.CloseLemmas.{closed-starts, get-map, last, value-at}
 use Rattle.trace_run.proofs.OwnLemmas.{no-own-moments}
 use Rattle.trace_run.proofs.PlacedLemmas.{placed-of}
@@ -43,6 +43,7 @@ AreLast g (p ∷ ps) = IsLast g p × AreLast g ps
 pub record IsOwnAt (g : Config) (history : List Event) (x : ℕ) (e : Event) : Type 0 where
   pub party : number_of e < parties_of g
   pub placed : IsTrue (is_pass e) → (y : Event) × (get_elem? history (suc x) ≡ some y) × IsTrue (goes_on (number_of e) y)
+  pub named : IsTrue (is_pass e) → pass_owner e < parties_of g
 
 module _ {C : Type 0} (m : Meanings C) (cache : Cache) (e : Ended C) (i : ℕ) (l : ShardLog) (at : get_elem? e.shards i ≡ some l) where
   abbrev g : Config
@@ -72,6 +73,7 @@ module _ {C : Type 0} (m : Meanings C) (cache : Cache) (e : Ended C) (i : ℕ) (
         placed = λ pass.
             let next = seen.placed (subst (λ (y : Event). IsTrue (is_pass y)) (sym same) pass) in
             (next.0, inside (suc x) next.0 next.1, subst (λ (n : ℕ). IsTrue (goes_on n next.0)) (sym number) next.2);
+        named = λ pass. subst (λ (y : Event). pass_owner y < parties_of g) same (seen.named (subst (λ (y : Event). IsTrue (is_pass y)) (sym same) pass));
       }
 
   search-of : (all : List (Place (Known C))) (ends : Ends m cache all e) (ps : List (Place (Known C))) → AreLast g ps → ShowAll ends.views ps → (x : ℕ) (ev : Event) → get_elem? l.history x ≡ some ev

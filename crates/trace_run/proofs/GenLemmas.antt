@@ -16,14 +16,17 @@ use Rattle.trace_text.specs.declared.op.Op.TheVariants as ops
 use Rattle.trace_text.specs.declared.reply.Reply.{Reply}
 use Rattle.trace_text.specs.declared.reply.Reply.TheVariants.{Read, Kept, Dropped, Refused}
 use Rattle.trace_text.specs.declared.reply.Refusal.TheVariants as refusal
+use Rattle.trace_text.specs.declared.report.Report.{Report}
 use Rattle.trace_text.specs.declared.trace.Trace.{Trace}
 use Rattle.dbuf_state.specs.declared.window.Window.{Window}
 use Rattle.arc_core.specs.declared.config.Config.{Config}
+use Rattle.arc_core.specs.declared.served.Served.TheVariants as served
 use Rattle.trace_text.specs.Generator.{IsGenerated, empty_window, generated_block, generated_read, generated_sizes, zero_digest}
 use Rattle.vdev_io.specs.declared.pool.Pool.{Ghosts}
-use Rattle.trace_run.specs.Answers.{Answers, AnswersAll, AnswersRead, is_pool_fault, is_refusal}
+use Rattle.trace_run.specs.Answers.{Answers, AnswersAll, AnswersRead, is_pool_fault, is_refusal, window_of}
 use Rattle.trace_run.specs.Ends.{opening_of}
 use Rattle.trace_run.specs.Outcome.{generated}
+use Rattle.trace_run.specs.PlainReport.{ArePlainReplies, IsPlainReply, IsPlainReport, ShowsCollision}
 use Rattle.trace_run.specs.PlainRun.{report_of, report_with}
 use Rattle.arc_table.specs.PoolCalls.{Failed, Gave, MakesCalls, PoolCall}
 use Rattle.trace_run.proofs.PlainLemmas.{AllGive, plain-gives}
@@ -156,7 +159,35 @@ never-failed pool none (Failed ∷ calls) a b made =
     let one : pool.faults made.0 ≡ pool.faults a + 1 = made.1.faults.more (omega (arith, none a)) in
     absurd (omega (arith, one, none a, none made.0))
 
--- ---- the report is a function of the three numbers
+-- ---- the report is a function of the three numbers: an empty window shows nothing, whichever content of a digest it is of
+
+empty-shows : (image : List ℕ) (ptr : Ptr) (window : Window) (plain reply : Reply) → window ≡ empty_window → ShowsCollision image ptr window plain reply → reply ≡ plain
+empty-shows image ptr window plain reply empty other =
+    let nothing : (l : List ℕ) → window_of window l ≡ [] = λ l. ap (λ (w : Window). window_of w l) empty in
+    other.reply_is ∙ ap (λ (l : List ℕ). Read served.Hit ptr.digest l) (nothing other.bytes ∙ sym (nothing (range_of image ptr.key))) ∙ sym other.plain_is
+
+made-reply : (image : List ℕ) (blocks : List Ptr) (op : Op) (plain reply : Reply) → IsMadeRead op → IsPlainReply image blocks op plain reply → reply ≡ plain
+made-reply image blocks (ops.Read n t x window) plain reply read is = elim is [
+  | inl same ↦ same
+  | inr other ↦ empty-shows image other.0 window plain reply read other.2
+]
+made-reply image blocks (ops.Hold n t x) plain reply read is = is
+made-reply image blocks (ops.Drop n x) plain reply read is = is
+
+made-replies : (image : List ℕ) (blocks : List Ptr) (os : List Op) (ps rs : List Reply) → AllByRecursion IsMadeRead os → ArePlainReplies image blocks os ps rs → rs ≡ ps
+made-replies image blocks [] [] [] reads are = refl
+made-replies image blocks [] [] (r ∷ rs) reads are = absurd are
+made-replies image blocks [] (p ∷ ps) rs reads are = absurd are
+made-replies image blocks (o ∷ os) [] rs reads are = absurd are
+made-replies image blocks (o ∷ os) (p ∷ ps) [] reads are = absurd are
+made-replies image blocks (o ∷ os) (p ∷ ps) (r ∷ rs) reads are =
+    let first = made-reply image blocks o p r reads.0 are.0 in
+    let rest = made-replies image blocks os ps rs reads.1 are.1 in
+    λ i. first i ∷ rest i
+
+pub made-plain : (seed blocks ops : ℕ) (trace : Trace) (image : List ℕ) (plain report : Report) → IsGenerated seed blocks ops trace → IsPlainReport trace image plain report → report ≡ plain
+made-plain seed blocks ops trace image plain report made is =
+    is.rest ∙ ap (λ (rs : List Reply). record plain { replies = rs }) (made-replies image trace.blocks trace.ops plain.replies report.replies (made-reads seed blocks ops trace made) is.replies)
 
 pub made-trace : (seed blocks ops : ℕ) (trace : Trace) → IsGenerated seed blocks ops trace → trace ≡ generated seed blocks ops
 made-trace seed blocks ops trace made =

@@ -1,12 +1,11 @@
 -- A read through the shared cache, as its caller gets it: what it stands with then, what was done, what was got and which reads of the pool were made.
-use Rattle.std.proofs.Common.{◌≡◌, ℕ, ◌+◌, List, [], ◌∷◌, ◌++◌, Option, Some, None, Result, Ok, Err, refl, sym, ap, ◌∙◌, subst, append-nil}
-use Rattle.std.specs.Prelude.{IfSome}
+use Rattle.std.proofs.Common.{◌≡◌, ℕ, ◌+◌, List, [], ◌∷◌, ◌++◌, Option, Some, Result, Ok, Err, refl, sym, ap, ◌∙◌, subst, append-nil}
 use Rattle.std.specs.List.{AllByRecursion}
 use Rattle.blk_ptr.specs.declared.digest.Digest.{Digest}
 use Rattle.blk_ptr.specs.declared.key.Key.{Key}
 use Rattle.blk_ptr.specs.declared.ptr.Ptr.{Ptr}
 use Rattle.blk_ptr.specs.Key.{IsFirstFault, IsValid}
-use Rattle.blk_ptr.specs.Ptr.{IsOf, IsPlainRead, range_of, sha256_of}
+use Rattle.blk_ptr.specs.Ptr.{IsOf}
 use Rattle.vdev_io.specs.declared.device.CacheDev.{Ghosts as DeviceGhosts}
 use Rattle.vdev_io.specs.declared.pool.Pool.{Ghosts as PoolGhosts}
 use Rattle.arc_core.specs.Config.{IsConfig}
@@ -18,7 +17,8 @@ use Rattle.arc_core.specs.declared.served.Served.{Served}
 use Rattle.arc_core.specs.declared.served.Served.TheVariants as served
 use Rattle.arc_core.specs.declared.shard.EntryView.{EntryView}
 use Rattle.dbuf_cells.specs.declared.kept.Kept.TheVariants.{Held}
-use Rattle.turn_table.specs.Places.{Place}
+use Rattle.turn_table.specs.declared.standing.Kept.{Kept as Joined}
+use Rattle.turn_table.specs.Places.{Apart, Place}
 use Rattle.arc_table.specs.declared.hold.Hold.{Hold}
 use Rattle.arc_table.specs.declared.read.Read.{Read}
 use Rattle.arc_table.specs.declared.read.Read.TheVariants as gave
@@ -26,14 +26,13 @@ use Rattle.arc_table.specs.declared.view.Known.{Known}
 use Rattle.arc_table.specs.Cache.{Cache}
 use Rattle.arc_table.specs.Holding.{IsHoldOf, ptr_of}
 use Rattle.arc_table.specs.Items.{Meanings}
-use Rattle.arc_table.specs.PoolCalls.{Failed, MakesCall, MakesCalls, PoolCall}
+use Rattle.arc_table.specs.PoolCalls.{Failed, MakesCall}
 use Rattle.arc_table.specs.Reading.{Answers, AnswersRead, EndsAtPool, EndsMiss, EndsPast, GivesBlock, GivesOthers, GoesToPool, Outside, answered, from_device, from_none, from_pool, hit, missed, no_memory, past, read, refused, unread}
 use Rattle.arc_table.proofs.AfterRead.{read_stays}
 use Rattle.arc_table.proofs.Afterwards.{Stays, stays_party}
 use Rattle.trace_run.specs.declared.kept_blocks.KeptBlock.{KeptBlock}
-use Rattle.trace_run.specs.KeptBlocks.{IsOwnedBy, Stands, listed_all, listed_for, times}
-use Rattle.trace_run.specs.Read.{IsMismatch}
-use Rattle.trace_run.specs.PlainCache.{kept_read}
+use Rattle.trace_run.specs.KeptBlocks.{AllIdle, IsOwnedBy, Stands, listed_all, listed_for, times}
+use Rattle.trace_run.specs.KeptReads.{kept_read}
 use Rattle.trace_run.specs.Reads.{DidAnswer, DidFail, DidRead, IsGot}
 use Rattle.trace_run.specs.Seen.{AddsAll, HasSeenItsOwn}
 use Rattle.trace_run.proofs.KeptBlockLemmas.{times-append, times-middle}
@@ -59,6 +58,8 @@ module _ {C : Type 0} (cache : Cache) (p q : Place (Known C)) (kept : List KeptB
     free = stays.held ∙ stands.free;
     idle = lists.readings ∙ stands.idle;
     seen = seen;
+    apart = subst (λ (x : ℕ × List (Joined (Known C))). Apart x.0 x.1) (λ i. (sym stays.number i, sym stays.joined i)) stands.apart;
+    joined = subst AllIdle (sym stays.joined) stands.joined;
     owned = subst (λ (n : ℕ). AllByRecursion (λ b. IsOwnedBy n b.kept) kept) (sym stays.number) stands.owned;
     listed = λ x. ap (times x) lists.holds ∙ stands.listed x;
   }
@@ -70,6 +71,8 @@ module _ {C : Type 0} (cache : Cache) (p q : Place (Known C)) (kept : List KeptB
     free = stays.held ∙ stands.free;
     idle = lists.readings ∙ stands.idle;
     seen = seen;
+    apart = subst (λ (x : ℕ × List (Joined (Known C))). Apart x.0 x.1) (λ i. (sym stays.number i, sym stays.joined i)) stands.apart;
+    joined = subst AllIdle (sym stays.joined) stands.joined;
     owned = subst (λ (n : ℕ). AllByRecursion (λ b. IsOwnedBy n b.kept) (kept ++ b ∷ [])) (sym stays.number) (all-last (λ b. IsOwnedBy p.number b.kept) kept b stands.owned owned);
     listed = λ x.
         ap (times x) lists.holds
@@ -123,17 +126,6 @@ module _ {P : Type 0} (pools : PoolGhosts P) (ptr : Ptr) where
   PoolDid old new (Err (fault.Key why)) = (new ≡ old) × IsFirstFault (pools.size old) ptr.key why
   PoolDid old new (Err (fault.NoMemory)) = Unit {0}
 
-  pub one-call : (old new : P) (call : PoolCall) → MakesCall pools call old new → MakesCalls pools (call ∷ []) old new
-  one-call old new call made = (new, made, refl)
-
-  -- a digest that was found is that of bytes that were read
-  pub mismatch : (old new : P) (found : Digest) → GivesOthers pools ptr old new found → IsMismatch (pools.told old) ptr found
-  mismatch old new found h = record { bytes = h.bytes.bytes; size = h.bytes.size; digest = h.bytes.digest; other = h.other; plain = go (pools.told old) h.told }
-    where
-      go : (o : Option (List ℕ)) → IfSome o (λ image. found ≡ sha256_of (range_of image ptr.key)) → IfSome o (λ told. IsPlainRead told ptr (Err found))
-      go None told = tt
-      go (Some image) told = (told, λ (of : IsOf (range_of image ptr.key) ptr). h.other (told ∙ of.digest))
-
 module _ {C P D : Type 0} (m : Meanings C) (pools : PoolGhosts P) (devices : DeviceGhosts D) (g : Config) (ptr : Ptr) (t : ℕ) where
   end-did : (old new : P) (p q : Place (Known C)) (result : Result Read ReadFault) → IsValid (pools.size old) ptr.key → EndsAtPool m pools g ptr old new p q result → PoolDid pools ptr old new result
   end-did old new p q (Ok (gave.Held hold served.Pool)) ok h = h.2
@@ -174,6 +166,12 @@ module _ {C P D : Type 0} (m : Meanings C) (pools : PoolGhosts P) (devices : Dev
   pub pool-did : (before now : Outside P D) (p q : Place (Known C)) (result : Result Read ReadFault) → AnswersRead m pools devices g ptr t before now p q result → PoolDid pools ptr before.pool now.pool result
   pool-did before now p q result (refused why is first same none) = subst (PoolDid pools ptr before.pool now.pool) (sym is) (ap (λ (x : Outside P D). x.pool) none, first)
   pool-did before now p q result (answered ok times r waits answer) = answer-did before now r q result ok answer
+
+  -- a read is answered only where the key is accepted
+  pub ok-valid : (before now : Outside P D) (p q : Place (Known C)) (result : Result Read ReadFault) (got : Read) → result ≡ Ok got → AnswersRead m pools devices g ptr t before now p q result
+      → IsValid (pools.size before.pool) ptr.key
+  ok-valid before now p q result got is (refused why fails first same none) = let never : ◌≡◌ {A = Result Read ReadFault} (Ok got) (Err (fault.Key why)) = sym is ∙ fails in cc
+  ok-valid before now p q result got is (answered ok looks r waits answer) = ok
 
 -- ---- the call
 

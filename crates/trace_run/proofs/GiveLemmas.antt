@@ -13,7 +13,7 @@ use Rattle.turn_table.specs.Places.{Place}
 use Rattle.arc_table.specs.declared.view.Known.{Known}
 use Rattle.arc_table.specs.Cache.{Cache}
 use Rattle.arc_table.specs.Items.{Meanings}
-use Rattle.trace_run.specs.declared.access.KeptRead.{KeptRead}
+use Rattle.trace_run.specs.KeptReads.{KeptRead}
 use Rattle.trace_run.specs.declared.kept_blocks.KeptBlock.{KeptBlock}
 use Rattle.trace_run.specs.Access.{events_of_drop}
 use Rattle.trace_run.specs.Acts.{acts_of_drop, acts_of_drops}
@@ -67,6 +67,12 @@ module _ {C : Type 0} (m : Meanings C) (cache : Cache) where
   pub all-stand : (kept : List KeptBlock) (p q : Place (Known C)) → Stands cache p kept → GivesAll m g kept p q → Stands cache q []
   all-stand [] p q stands is = subst (λ (x : Place (Known C)). Stands cache x []) (sym is) stands
   all-stand (b ∷ bs) p q stands gives = all-stand bs gives.0 q (step b bs p gives.0 stands gives.1).0 gives.2
+
+  pub all-number : (kept : List KeptBlock) (p q : Place (Known C)) → Stands cache p kept → GivesAll m g kept p q → q.number ≡ p.number
+  all-number [] p q stands is = ap (λ (x : Place (Known C)). x.number) is
+  all-number (b ∷ bs) p q stands gives =
+      let one = step b bs p gives.0 stands gives.1 in
+      all-number bs gives.0 q one.0 gives.2 ∙ drop-number g p gives.0 (held_key b.kept) one.1
 
   pub all-told : (kept : List KeptBlock) (p q : Place (Known C)) → Stands cache p kept → GivesAll m g kept p q → (before : List Act) → IsTold g before p → IsTold g (before ++ acts_of_drops p.number (map read_of kept)) q
   all-told [] p q stands is before told = subst (λ (x : List Act × Place (Known C)). IsTold g x.0 x.1) (λ h. (sym (append-nil before) h, sym is h)) told

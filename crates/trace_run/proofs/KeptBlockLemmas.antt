@@ -21,7 +21,8 @@ use Rattle.arc_core.specs.Operations.{GivesBack as GivenBack, Moment, moments, o
 use Rattle.arc_core.specs.PlainShard.{entry_of}
 use Rattle.dbuf_cells.specs.declared.kept.Kept.{Kept}
 use Rattle.dbuf_cells.specs.declared.kept.Kept.TheVariants.{Held, Loose}
-use Rattle.turn_table.specs.Places.{Place}
+use Rattle.turn_table.specs.declared.standing.Kept.{Kept as Joined}
+use Rattle.turn_table.specs.Places.{Apart, Place}
 use Rattle.arc_table.specs.declared.hold.Hold.{Hold}
 use Rattle.arc_table.specs.declared.view.Known.{Known}
 use Rattle.arc_table.specs.declared.view.Ledger.{Ledger}
@@ -35,9 +36,9 @@ use Rattle.arc_table.specs.Items.{Meanings}
 use Rattle.arc_table.specs.ShardGiving.{ledger_through}
 use Rattle.arc_table.proofs.Afterwards.{does_ledger, does_stays, stays_party}
 use Rattle.arc_table.proofs.Reached.{reached, rests}
-use Rattle.trace_run.specs.declared.access.KeptRead.{KeptRead}
+use Rattle.trace_run.specs.KeptReads.{KeptRead}
 use Rattle.trace_run.specs.declared.kept_blocks.KeptBlock.{KeptBlock}
-use Rattle.trace_run.specs.KeptBlocks.{Adds, Drops, GivesBack, IsOwnedBy, Stands, held_key, is_ptr, listed_all, listed_for, read_of, times}
+use Rattle.trace_run.specs.KeptBlocks.{Adds, AllIdle, Drops, GivesBack, IsOwnedBy, Stands, held_key, is_ptr, listed_all, listed_for, read_of, times}
 use Rattle.trace_run.specs.Seen.{AddsAll, AddsOwn, Made}
 use Rattle.trace_run.specs.Access.{events_of_drop}
 use Rattle.trace_run.specs.Acts.{acts_of_drop}
@@ -68,7 +69,7 @@ is_ptr-is x y is = elim (cases_true (key_eq x.key y.key)) [
 pub times-append : (x : Ptr) (a b : List Ptr) → times x (a ++ b) ≡ times x a + times x b
 times-append x a b = sum_by-append (λ y. cond (is_ptr x y) 1 0) a b
 
-times-cons : (x y : Ptr) (ys : List Ptr) → times x (y ∷ ys) ≡ cond (is_ptr x y) 1 0 + times x ys
+pub times-cons : (x y : Ptr) (ys : List Ptr) → times x (y ∷ ys) ≡ cond (is_ptr x y) 1 0 + times x ys
 times-cons x y ys = sum_by-cons (λ z. cond (is_ptr x z) 1 0) y ys
 
 pub one-of : (x : Ptr) (xs : List Ptr) → 0 < times x xs → IsOneOf x xs
@@ -208,6 +209,8 @@ module _ {C : Type 0} (m : Meanings C) (cache : Cache) (p q : Place (Known C)) (
           free = stays.held ∙ stands.free;
           idle = ap (λ (l : Ledger). l.readings) ledger-is ∙ stands.idle;
           seen = made-sees g (shard_of g.shards hold.key) d.before (Drop hold.owner hold.key ∷ []) p q made stands.seen;
+          apart = subst (λ (x : ℕ × List (Joined (Known C))). Apart x.0 x.1) (λ i. (sym stays.number i, sym stays.joined i)) stands.apart;
+          joined = subst AllIdle (sym stays.joined) stands.joined;
           owned = subst (λ (n : ℕ). AllByRecursion (λ b. IsOwnedBy n b.kept) (front ++ rest)) (sym stays.number) owned-rest;
           listed = λ x.
               let a = without-one hold.key (sha256_of hold.block.value) p.own.ledger.holds same-digest listed-once x in
@@ -240,6 +243,8 @@ module _ {C : Type 0} (m : Meanings C) (cache : Cache) (p q : Place (Known C)) (
         free = stands.free;
         idle = stands.idle;
         seen = stands.seen;
+        apart = stands.apart;
+        joined = stands.joined;
         owned = owned-rest;
         listed = λ x. let a = stands.listed x in let b = times-middle x front rest read in let c : times x (listed_for read.kept) ≡ 0 = ap (λ (k : Kept). times x (listed_for k)) is in omega arith;
       }

@@ -12,7 +12,7 @@ use Rattle.arc_table.specs.declared.view.Known.{Known}
 use Rattle.arc_table.specs.declared.view.Line.TheVariants as line
 use Rattle.arc_table.specs.Both.{Does}
 use Rattle.arc_table.specs.Fronts.{front_of}
-use Rattle.arc_table.specs.Geometry.{bucket_turn, shard_turn}
+use Rattle.arc_table.specs.Geometry.{bucket_turn, parties_of, shard_turn}
 use Rattle.arc_table.specs.Items.{Meanings}
 use Rattle.arc_table.specs.ShardGiving.{mines_of, passes_in}
 use Rattle.arc_table.specs.TableLaws.{front_else, within}
@@ -23,7 +23,7 @@ use Rattle.trace_run.specs.Seen.{AreOwn, HasSeenItsOwn, Made, turn_of}
 use Rattle.trace_run.proofs.SeenLemmas.{finds, shard-is-above}
 
 module _ {C : Type 0} (m : Meanings C) (g : Config) (valid : IsConfig g) (k : Key) (es : List Event) (p q : Place (Known C)) (config : p.own.about.config ≡ g)
-    (own : HasSeenItsOwn g p) (mine : AreOwn p.number es) (d : Does m g k es p q) where
+    (own : HasSeenItsOwn g p) (mine : AreOwn (parties_of g) p.number es) (d : Does m g k es p q) where
   apart : (j : ℕ) → j ≢ shard_of g.shards k → turn_of g j ≢ turn_of g (shard_of g.shards k)
   apart j differs is = differs (omega arith)
 

@@ -12,6 +12,7 @@ use Rattle.turn_table.specs.Places.{Place}
 use Rattle.arc_table.specs.declared.view.Known.{Known}
 use Rattle.arc_table.specs.Both.{Does}
 use Rattle.arc_table.specs.Ending.{DoesRoomy}
+use Rattle.arc_table.specs.Geometry.{parties_of}
 use Rattle.arc_table.specs.Items.{Meanings}
 use Rattle.trace_run.specs.Ends.{opening_of}
 use Rattle.trace_run.specs.Seen.{AddsAll, AddsOwn, AreOwn, HasAll, HasSeenItsOwn, Made, seen_of}
@@ -58,7 +59,7 @@ module _ {C : Type 0} (g : Config) (shard : ℕ) where
   }
 
 module _ {C : Type 0} (m : Meanings C) (g : Config) (valid : IsConfig g) (k : Key) (p q : Place (Known C)) (config : p.own.about.config ≡ g) (seen : HasSeenItsOwn g p) where
-  pub does-moves : (es : List Event) → AreOwn p.number es → (d : Does m g k es p q) → Moves g (shard_of g.shards k) (own_moments p.number (moments d.before.now es)) es p q
+  pub does-moves : (es : List Event) → AreOwn (parties_of g) p.number es → (d : Does m g k es p q) → Moves g (shard_of g.shards k) (own_moments p.number (moments d.before.now es)) es p q
   does-moves es mine d = made-moves g (shard_of g.shards k) d.before es p q config seen (does-made m g valid k es p q config seen mine d)
 
   pub roomy-moves : (e : Event) → (number_of e ≡ p.number) × (is_pass e ≡ false) × IsTrue (goes_on p.number e) → (d : DoesRoomy m g k e p q)
@@ -66,7 +67,7 @@ module _ {C : Type 0} (m : Meanings C) (g : Config) (valid : IsConfig g) (k : Ke
   roomy-moves e fits d = made-moves g (shard_of g.shards k) d.before (d.makes.passes ++ e ∷ []) p q config seen (roomy-made m g valid k e p q config seen fits d)
 
   -- what a party finds that has every number
-  pub does-now : (es : List Event) → AreOwn p.number es → (d : Does m g k es p q) → HasAll p → d.before.now ≡ replay (opening_of g) (seen_of g (shard_of g.shards k) p)
+  pub does-now : (es : List Event) → AreOwn (parties_of g) p.number es → (d : Does m g k es p q) → HasAll p → d.before.now ≡ replay (opening_of g) (seen_of g (shard_of g.shards k) p)
   does-now es mine d = made-now g (shard_of g.shards k) d.before es p q (does-made m g valid k es p q config seen mine d)
 
   pub roomy-now : (e : Event) → (number_of e ≡ p.number) × (is_pass e ≡ false) × IsTrue (goes_on p.number e) → (d : DoesRoomy m g k e p q) → HasAll p

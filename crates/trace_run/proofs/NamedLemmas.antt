@@ -11,7 +11,7 @@ use Rattle.arc_core.specs.declared.event.Event.{Event}
 use Rattle.arc_core.specs.PlainShard.{PlainShard}
 use Rattle.trace_text.specs.declared.op.Op.{Op}
 use Rattle.trace_text.specs.declared.reply.Reply.{Reply}
-use Rattle.trace_run.specs.declared.access.KeptRead.{KeptRead}
+use Rattle.trace_run.specs.KeptReads.{KeptRead}
 use Rattle.trace_run.specs.Access.{events_of_drop}
 use Rattle.trace_run.specs.KeptBlocks.{holds_in}
 use Rattle.trace_run.specs.Lines.{is_in_shard, replies_where}

@@ -17,10 +17,14 @@ words_accepted words did (statuses.Usage index) which command is done = absurd w
 words_accepted words did (statuses.BadTrace line kind) which command is done = (command, is, done)
 words_accepted words did statuses.SourceFault which command is done = (command, is, done)
 words_accepted words did statuses.SinkFault which command is done = (command, is, done)
+words_accepted words did statuses.PoolFault which command is done = (command, is, done)
 words_accepted words did statuses.NoMemory which command is done = (command, is, done)
 
 zero-one : (n : ℕ) → n ≡ 0 → n ≡ 1 → ⊥
 zero-one n z o = absurd (omega arith)
+
+zero-six : (n : ℕ) → n ≡ 0 → n ≡ 6 → ⊥
+zero-six n z o = absurd (omega arith)
 
 -- a report whose status is 0 is delivered with the status of a made trace
 pub gen-status : (before after : StreamState) (status : Status) (report : Option Report) → IsDelivered status → is_some report ≡ has_report status
@@ -30,6 +34,8 @@ gen-status before after statuses.SinkFault report which present zero_is sink = t
 gen-status before after statuses.NoMemory report which present zero_is sink = tt
 gen-status before after statuses.ReadsFailed None which present zero_is sink = false≢true present
 gen-status before after statuses.ReadsFailed (Some report) which present zero_is sink = zero-one report.status zero_is sink.1
+gen-status before after statuses.PoolFault None which present zero_is sink = false≢true present
+gen-status before after statuses.PoolFault (Some report) which present zero_is sink = zero-six report.status zero_is sink.1
 gen-status before after (statuses.Usage index) report which present zero_is sink = which
 gen-status before after (statuses.BadTrace line kind) report which present zero_is sink = which
 gen-status before after statuses.SourceFault report which present zero_is sink = which

@@ -1,5 +1,5 @@
--- One caller's lines over several shards: each shard's history is that of the lines on its blocks, and the replies are those of the plain run.
-use Rattle.std.proofs.Common.{◌≡◌, ℕ, ◌==◌, Bool, true, false, List, [], ◌∷◌, ◌++◌, length, drop, Option, Some, None, inl, inr, refl, sym, ap, ◌∙◌, arith, append-nil}
+-- One caller's lines over several shards: each shard's history is that of the lines on its blocks.
+use Rattle.std.proofs.Common.{◌≡◌, ℕ, ◌==◌, Bool, true, false, List, [], ◌∷◌, ◌++◌, Option, Some, None, inl, inr, refl, ap, ◌∙◌, arith, append-nil}
 use Rattle.std.specs.Prelude.{filter, find, slice_get, option_and_then}
 use Rattle.std.specs.Option.{option_map_or}
 use Rattle.std.proofs.lemmas.Bool.{eqb-true}
@@ -13,16 +13,13 @@ use Rattle.arc_core.specs.Replay.{replay}
 use Rattle.trace_text.specs.declared.op.Op.{Op}
 use Rattle.trace_text.specs.declared.op.Op.TheVariants as ops
 use Rattle.trace_text.specs.declared.reply.Reply.{Reply}
-use Rattle.trace_run.specs.declared.access.KeptRead.{KeptRead}
+use Rattle.trace_run.specs.KeptReads.{KeptRead}
 use Rattle.trace_run.specs.Access.{events_of_drop}
-use Rattle.trace_run.specs.Effects.{Effect, Answered, GivenBack, PoolRefused, NoEffect, calls_of, calls_of_all, effect_of}
+use Rattle.trace_run.specs.Effects.{Effect, Answered, GivenBack, PoolRefused, NoEffect, effect_of}
 use Rattle.trace_run.specs.Lines.{is_in_shard, replies_where, shard_of_line}
 use Rattle.trace_run.specs.OneCaller.{events_of, events_of_all, events_of_dropping, is_of_block, kept_after, kept_after_all, kept_after_drop, kept_after_hold, without_oldest}
-use Rattle.trace_run.specs.OverShards.{AllLinesOver, events_over, kept_in_shard, shard_of_block}
-use Rattle.trace_run.specs.PlainLines.{IsPlainLine}
-use Rattle.trace_run.specs.PlainRun.{next_call, replies_to, reply_to, shards_after}
-use Rattle.arc_table.specs.PoolCalls.{PoolCall}
-use Rattle.trace_run.proofs.PlainLemmas.{drop-front, next-is}
+use Rattle.trace_run.specs.OverShards.{events_over, kept_in_shard, shard_of_block}
+use Rattle.trace_run.specs.PlainRun.{shards_after}
 
 -- ---- the kept reads of one shard
 
@@ -93,7 +90,7 @@ module _ (shards : ℕ) (blocks : List Ptr) (i : ℕ) where
   drop-else x (PoolRefused call) kept is = refl
   drop-else x NoEffect kept is = refl
 
-  kept-here : (op : Op) (reply : Reply) (kept : List KeptRead) → is_in_shard shards blocks i op ≡ true
+  pub kept-here : (op : Op) (reply : Reply) (kept : List KeptRead) → is_in_shard shards blocks i op ≡ true
       → kept_in_shard shards blocks i (kept_after blocks op reply kept) ≡ kept_after blocks op reply (kept_in_shard shards blocks i kept)
   kept-here (ops.Read n t x window) reply kept is = refl
   kept-here (ops.Hold n t x) reply kept is = go (slice_get blocks x)
@@ -104,7 +101,7 @@ module _ (shards : ℕ) (blocks : List Ptr) (i : ℕ) where
       go (Some ptr) = hold-here x ptr (effect_of reply) kept is
   kept-here (ops.Drop n x) reply kept is = drop-here x (effect_of reply) kept is
 
-  kept-else : (op : Op) (reply : Reply) (kept : List KeptRead) → is_in_shard shards blocks i op ≡ false
+  pub kept-else : (op : Op) (reply : Reply) (kept : List KeptRead) → is_in_shard shards blocks i op ≡ false
       → kept_in_shard shards blocks i (kept_after blocks op reply kept) ≡ kept_in_shard shards blocks i kept
   kept-else (ops.Read n t x window) reply kept is = refl
   kept-else (ops.Hold n t x) reply kept is = go (slice_get blocks x)
@@ -114,7 +111,7 @@ module _ (shards : ℕ) (blocks : List Ptr) (i : ℕ) where
       go (Some ptr) = hold-else x ptr (effect_of reply) kept is
   kept-else (ops.Drop n x) reply kept is = drop-else x (effect_of reply) kept is
 
-  events-here : (s : PlainShard) (op : Op) (reply : Reply) (kept : List KeptRead) → is_in_shard shards blocks i op ≡ true
+  pub events-here : (s : PlainShard) (op : Op) (reply : Reply) (kept : List KeptRead) → is_in_shard shards blocks i op ≡ true
       → events_of blocks s kept op reply ≡ events_of blocks s (kept_in_shard shards blocks i kept) op reply
   events-here s (ops.Read n t x window) reply kept is = refl
   events-here s (ops.Hold n t x) reply kept is = refl
@@ -128,13 +125,13 @@ module _ (shards : ℕ) (blocks : List Ptr) (i : ℕ) where
 
   -- ---- the shards after a line
 
-  same-shard : (s : ℕ → PlainShard) (j : ℕ) (es : List Event) → (j == i) ≡ true → shards_after s j es i ≡ replay (s i) es
+  pub same-shard : (s : ℕ → PlainShard) (j : ℕ) (es : List Event) → (j == i) ≡ true → shards_after s j es i ≡ replay (s i) es
   same-shard s j es is =
       let e : j ≡ i = eqb-true j i is in
       let t : (i == j) ≡ true = grind (arith, nat_tests, e) in
       rw t refl
 
-  other-shard : (s : ℕ → PlainShard) (j : ℕ) (es : List Event) → (j == i) ≡ false → shards_after s j es i ≡ s i
+  pub other-shard : (s : ℕ → PlainShard) (j : ℕ) (es : List Event) → (j == i) ≡ false → shards_after s j es i ≡ s i
   other-shard s j es is =
       let t : (i == j) ≡ false = grind (arith, nat_tests, is) in
       rw t refl
@@ -191,26 +188,3 @@ module _ (shards : ℕ) (blocks : List Ptr) (i : ℕ) where
         | inl in_it ↦ rw in_it (rest ∙ ap (λ (l : List KeptRead). kept_after_all blocks l (filter (is_in_shard shards blocks i) os) (replies_where (is_in_shard shards blocks i) os replies)) (kept-here shards blocks i op reply kept in_it))
         | inr out ↦ rw out (rest ∙ ap (λ (l : List KeptRead). kept_after_all blocks l (filter (is_in_shard shards blocks i) os) (replies_where (is_in_shard shards blocks i) os replies)) (kept-else shards blocks i op reply kept out))
       ]
-
--- ---- all replies
-
-pub plain-over : (image : List ℕ) (shards : ℕ) (blocks : List Ptr) (s : ℕ → PlainShard) (kept : List KeptRead) (os : List Op) (replies : List Reply)
-    → length replies ≡ length os → AllLinesOver (IsPlainLine image blocks) shards blocks s kept os replies
-    → replies ≡ replies_to image shards blocks s kept os (calls_of_all replies)
-plain-over image shards blocks s kept [] [] same lines = refl
-plain-over image shards blocks s kept [] (r ∷ rs) same lines = absurd (omega arith)
-plain-over image shards blocks s kept (o ∷ os) [] same lines = absurd (omega arith)
-plain-over image shards blocks s kept (o ∷ os) (r ∷ rs) same lines =
-    let own = calls_of (effect_of r) in
-    let rest = calls_of_all rs in
-    let call = next_call (own ++ rest) in
-    let i = shard_of_line shards blocks o in
-    let first : r ≡ reply_to image blocks (s i) kept o call = lines.0 call (next-is own rest) in
-    let next : Reply → List Reply = λ reply.
-    reply ∷ replies_to image shards blocks (shards_after s i (events_of blocks (s i) kept o reply)) (kept_after blocks o reply kept) os (drop (length (calls_of (effect_of reply))) (own ++ rest)) in
-    let goes : rs ≡ replies_to image shards blocks (shards_after s i (events_of blocks (s i) kept o r)) (kept_after blocks o r kept) os rest =
-    plain-over image shards blocks (shards_after s i (events_of blocks (s i) kept o r)) (kept_after blocks o r kept) os rs (omega arith) lines.1 in
-    let now : next r ≡ r ∷ rs =
-    ap (λ (cs : List PoolCall). r ∷ replies_to image shards blocks (shards_after s i (events_of blocks (s i) kept o r)) (kept_after blocks o r kept) os cs) (drop-front own rest)
-    ∙ ap (λ (l : List Reply). r ∷ l) (sym goes) in
-    sym (ap next (sym first) ∙ now)

@@ -20,6 +20,7 @@ use Rattle.arc_table.specs.declared.view.Line.{Line}
 use Rattle.arc_table.specs.declared.view.Line.TheVariants as line
 use Rattle.arc_table.specs.declared.view.Mine.{Mine}
 use Rattle.arc_table.specs.Fronts.{StartsWith, front_of}
+use Rattle.arc_table.specs.Geometry.{parties_of}
 use Rattle.arc_table.specs.TableLaws.{get_front, starts_more, starts_whole, there}
 use Rattle.trace_run.specs.Ends.{opening_of}
 use Rattle.trace_run.specs.Seen.{AddsAll, AddsOwn, AllSeen, HasAll, HasSeenItsOwn, IsSeen, Made, events_in, seen_of, turn_of}
@@ -43,12 +44,13 @@ module _ {A : Type 0} where
   get-either (x ∷ xs) m (suc j) a at = get-either xs m j a at
 
 -- what stands in a front stands in the history
-seen-more : (n : ℕ) (h front : List Line) (place : ℕ) → StartsWith h front → IsSeen n front place → IsSeen n h place
-seen-more n h front place starts seen = subst (λ (l : List Line). IsSeen n l place) (sym starts.1) (record {
+seen-more : (b n : ℕ) (h front : List Line) (place : ℕ) → StartsWith h front → IsSeen b n front place → IsSeen b n h place
+seen-more b n h front place starts seen = subst (λ (l : List Line). IsSeen b n l place) (sym starts.1) (record {
   event = seen.event;
   there = get_front front starts.0 place (line.Event seen.event) seen.there;
   number = seen.number;
   placed = λ pass. let x = seen.placed pass in (x.0, get_front front starts.0 (suc place) (line.Event x.0) x.1, x.2);
+  named = seen.named;
 })
 
 -- ---- one call
@@ -56,7 +58,7 @@ seen-more n h front place starts seen = subst (λ (l : List Line). IsSeen n l pl
 module _ {C : Type 0} (g : Config) where
   all-seen-more : (ks : List (Kept (Known C))) (s t : List (List Line)) → ((i : ℕ) → StartsWith (front_of (turn_of g i) t) (front_of (turn_of g i) s)) → AllSeen g ks s → AllSeen g ks t
   all-seen-more [] s t more all = tt
-  all-seen-more (k ∷ ks) s t more all = ((λ i j a at is. seen-more k.number (front_of (turn_of g i) t) (front_of (turn_of g i) s) a.place (more i) (all.0 i j a at is)), all-seen-more ks s t more all.1)
+  all-seen-more (k ∷ ks) s t more all = ((λ i j a at is. seen-more (parties_of g) k.number (front_of (turn_of g i) t) (front_of (turn_of g i) s) a.place (more i) (all.0 i j a at is)), all-seen-more ks s t more all.1)
 
   module _ (shard : ℕ) (before : ShardLog) (es : List Event) (p q : Place (Known C)) (made : Made g shard before es p q) where
     history-is : seen_of g shard q ≡ before.history ++ es
@@ -106,7 +108,7 @@ module _ {C : Type 0} (g : Config) where
         ∙ (ap (λ (n : ℕ). get_elem? (map line.Event before.history ++ map line.Event es) (n + z)) (sym (length-map before.history line.Event))
         ∙ (get-behind (map line.Event before.history) (map line.Event es) z ∙ events-at (map line.Event es) es refl z e at))
 
-    made-seen : (y : ℕ) → y < length es → IsSeen q.number (front_of (turn_of g shard) q.own.seen) (length before.history + y)
+    made-seen : (y : ℕ) → y < length es → IsSeen (parties_of g) q.number (front_of (turn_of g shard) q.own.seen) (length before.history + y)
     made-seen y inside =
         let e = there es y inside in
         let own = made.own y e.0 e.1 in
@@ -121,16 +123,17 @@ module _ {C : Type 0} (g : Config) where
                 (ap (λ (n : ℕ). get_elem? (front_of (turn_of g shard) q.own.seen) n) next ∙ at-end (suc y) x.0 x.1),
                 subst (λ (n : ℕ). IsTrue (goes_on n x.0)) (sym made.same.number) x.2,
               );
+          named = own.2;
         }
 
     pub made-sees : HasSeenItsOwn g p → HasSeenItsOwn g q
     made-sees own = record {
       own = λ j i a at is. ⊎_elim
-          (λ (old : get_elem? p.own.mine i ≡ some a). subst (λ (n : ℕ). IsSeen n (front_of (turn_of g j) q.own.seen) a.place) (sym made.same.number)
-          (seen-more p.number (front_of (turn_of g j) q.own.seen) (front_of (turn_of g j) p.own.seen) a.place (grows j) (own.own j i a old is)))
+          (λ (old : get_elem? p.own.mine i ≡ some a). subst (λ (n : ℕ). IsSeen (parties_of g) n (front_of (turn_of g j) q.own.seen) a.place) (sym made.same.number)
+          (seen-more (parties_of g) p.number (front_of (turn_of g j) q.own.seen) (front_of (turn_of g j) p.own.seen) a.place (grows j) (own.own j i a old is)))
           (λ (new : (y : ℕ) × (get_elem? made.news y ≡ some a)).
           let each = made.each new.0 a new.1 in
-          subst (λ (x : ℕ × ℕ). IsSeen q.number (front_of x.0 q.own.seen) x.1) (λ h. ((sym each.0 ∙ is) h, sym each.1 h)) (made-seen new.0 each.2))
+          subst (λ (x : ℕ × ℕ). IsSeen (parties_of g) q.number (front_of x.0 q.own.seen) x.1) (λ h. ((sym each.0 ∙ is) h, sym each.1 h)) (made-seen new.0 each.2))
           (get-either p.own.mine made.news i a (subst (λ (l : List Mine). get_elem? l i ≡ some a) made.mine at));
       joined = subst (λ (ks : List (Kept (Known C))). AllSeen g ks q.own.seen) (sym made.same.joined) (all-seen-more p.joined p.own.seen q.own.seen grows own.joined);
     }

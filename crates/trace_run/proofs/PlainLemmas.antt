@@ -1,4 +1,4 @@
--- A reply is that of the plain run, and so are all replies.
+-- A reply is that of the plain run.
 use Rattle.std.proofs.Common.{◌≡◌, ◌≢◌, ℕ, zero, suc, ◌+◌, ◌%◌, ◌<◌, ◌≤◌, ◌==◌, nat_lt, true, false, List, [], ◌∷◌, ◌++◌, length, drop, Some, None, is_some, inl, inr, refl, sym, ap, subst, ◌∙◌, arith}
 use Rattle.std.proofs.lemmas.Bool.Decides.{nat_tests}
 use Rattle.arc_lists.proofs.Tables.{cases_true}
@@ -13,22 +13,20 @@ use Rattle.blk_ptr.specs.Ptr.{IsOf, range_of, sha256_of}
 use Rattle.blk_ptr.specs.Size.{IsBlockSize, is_block_size_of, sector}
 use Rattle.std.proofs.lemmas.Slice.Eq.{bytes_eq-Decides}
 use Rattle.arc_core.specs.PlainShard.{PlainShard}
-use Rattle.arc_core.specs.Replay.{replay}
 use Rattle.trace_text.specs.declared.op.Op.{Op}
 use Rattle.trace_text.specs.declared.op.Op.TheVariants as ops
 use Rattle.trace_text.specs.declared.reply.Reply.{Reply}
 use Rattle.trace_text.specs.declared.reply.Reply.TheVariants.{Read, Kept, Dropped, Refused}
 use Rattle.trace_text.specs.declared.reply.Refusal.TheVariants as refusal
 use Rattle.dbuf_state.specs.declared.window.Window.{Window}
-use Rattle.trace_run.specs.declared.access.Access.{Access}
-use Rattle.trace_run.specs.declared.access.Access.TheVariants as access
-use Rattle.trace_run.specs.declared.access.KeptRead.{KeptRead}
-use Rattle.trace_run.specs.Access.{AsksPool, access_of, source_of}
+use Rattle.trace_run.specs.Access as access
+use Rattle.trace_run.specs.KeptReads.{KeptRead}
+use Rattle.trace_run.specs.Access.{Access, AsksPool, access_of, source_of}
 use Rattle.trace_run.specs.Answering.{IsReadOfImage, KeepsImage, ReadsImage}
 use Rattle.trace_run.specs.Answers.{AnswersDrop, AnswersHold, AnswersRead}
-use Rattle.trace_run.specs.Effects.{calls_from, calls_of, calls_of_all, effect_of}
+use Rattle.trace_run.specs.Effects.{calls_from, calls_of, effect_of}
 use Rattle.trace_run.specs.Lines.{shard_of_line}
-use Rattle.trace_run.specs.OneCaller.{AllLines, IsFoundAs, NamesSource, events_of, kept_after, oldest_kept}
+use Rattle.trace_run.specs.OneCaller.{IsFoundAs, NamesSource, events_of, kept_after, oldest_kept}
 use Rattle.trace_run.specs.PlainLines.{IsNext, IsPlainLine}
 use Rattle.trace_run.specs.PlainRun.{key_fault, next_call, refused_access, replies_to, reply_to, reply_to_drop, reply_to_hold, reply_to_read, shards_after}
 use Rattle.arc_table.specs.PoolCalls.{Failed, Gave, PoolCall}
@@ -47,7 +45,7 @@ other-test n is = grind (arith, nat_tests)
 less-test : (m n : ℕ) → m < n → nat_lt m n ≡ true
 less-test m n lt = grind (arith, nat_tests)
 
-least-test : (m n : ℕ) → n ≤ m → nat_lt m n ≡ false
+pub least-test : (m n : ℕ) → n ≤ m → nat_lt m n ≡ false
 least-test m n le = grind (arith, nat_tests)
 
 size-test : (n : ℕ) → IsBlockSize n → is_block_size_of n ≡ true
@@ -62,7 +60,7 @@ size-not n fails = elim (cases_true (is_block_size_of n)) [
   | inr none ↦ none
 ]
 
-valid-key : (len : ℕ) (key : Key) → IsValid len key → key_fault len key ≡ None
+pub valid-key : (len : ℕ) (key : Key) → IsValid len key → key_fault len key ≡ None
 valid-key len key valid =
     let birth : (key.birth == 0) ≡ false = other-test key.birth (λ e. absurd (omega (arith, e, valid.formed.born))) in
     rw (zero-test (key.offset % sector) valid.formed.aligned, size-test key.size valid.formed.sized, least-test len (end_of key) valid.inside, birth) refl
@@ -175,31 +173,6 @@ next-is (call ∷ calls) rest = refl
 pub drop-front : {X : Type 0} (xs ys : List X) → drop (length xs) (xs ++ ys) ≡ ys
 drop-front [] ys = refl
 drop-front (x ∷ xs) ys = drop-front xs ys
-
-pub plain-all : (image : List ℕ) (shards : ℕ) (blocks : List Ptr) (s : ℕ → PlainShard) (t : PlainShard) (kept : List KeptRead) (os : List Op) (replies : List Reply)
-    → ((op : Op) → shard_of_line shards blocks op ≡ 0) → s 0 ≡ t → length replies ≡ length os → AllLines (IsPlainLine image blocks) blocks t kept os replies
-    → replies ≡ replies_to image shards blocks s kept os (calls_of_all replies)
-plain-all image shards blocks s t kept [] [] one here same lines = refl
-plain-all image shards blocks s t kept [] (r ∷ rs) one here same lines = absurd (omega arith)
-plain-all image shards blocks s t kept (o ∷ os) [] one here same lines = absurd (omega arith)
-plain-all image shards blocks s t kept (o ∷ os) (r ∷ rs) one here same lines =
-    let own = calls_of (effect_of r) in
-    let rest = calls_of_all rs in
-    let call = next_call (own ++ rest) in
-    let first : r ≡ reply_to image blocks t kept o call = lines.0 call (next-is own rest) in
-    let events = events_of blocks t kept o r in
-    let later : shards_after s 0 events 0 ≡ replay t events = ap (λ (u : PlainShard). replay u events) here in
-    let left = kept_after blocks o r kept in
-    let goes : rs ≡ replies_to image shards blocks (shards_after s 0 events) left os rest = plain-all image shards blocks (shards_after s 0 events) (replay t events) left os rs one later (omega arith) lines.1 in
-    let next : ℕ → PlainShard → Reply → List Reply = λ i u reply.
-    reply ∷ replies_to image shards blocks (shards_after s i (events_of blocks u kept o reply)) (kept_after blocks o reply kept) os (drop (length (calls_of (effect_of reply))) (own ++ rest)) in
-    let moved : next (shard_of_line shards blocks o) (s (shard_of_line shards blocks o)) (reply_to image blocks (s (shard_of_line shards blocks o)) kept o call) ≡ next 0 t r =
-    ap (λ (i : ℕ). next i (s i) (reply_to image blocks (s i) kept o call)) (one o)
-    ∙ ap (λ (u : PlainShard). next 0 u (reply_to image blocks u kept o call)) here
-    ∙ ap (λ (reply : Reply). next 0 t reply) (sym first) in
-    let now : next 0 t r ≡ r ∷ rs =
-    ap (λ (cs : List PoolCall). r ∷ replies_to image shards blocks (shards_after s 0 events) left os cs) (drop-front own rest) ∙ ap (λ (l : List Reply). r ∷ l) (sym goes) in
-    sym (moved ∙ now)
 
 -- calls that all give bytes are as none
 abbrev pub AllGive : List PoolCall → Type 0

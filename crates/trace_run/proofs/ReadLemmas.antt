@@ -36,9 +36,8 @@ use Rattle.arc_table.specs.Reading.{Answers, AnswersRead, EndsAtPool, EndsMiss, 
 use Rattle.arc_table.specs.Scanning.{ArePasses}
 use Rattle.arc_table.specs.Standing.{is_cached_with}
 use Rattle.arc_table.proofs.Reached.{reached}
-use Rattle.trace_run.specs.declared.access.Access.{Access}
-use Rattle.trace_run.specs.declared.access.Access.TheVariants as access
-use Rattle.trace_run.specs.Access.{AsksPool, access_of, events_of_answered, events_of_refused, source_of}
+use Rattle.trace_run.specs.Access as access
+use Rattle.trace_run.specs.Access.{Access, AsksPool, access_of, events_of_answered, events_of_refused, source_of}
 use Rattle.trace_run.specs.Ends.{opening_of}
 use Rattle.trace_run.specs.Reads.{IsAlone, access_now, now_of}
 use Rattle.trace_run.specs.Seen.{HasSeenItsOwn, seen_of}

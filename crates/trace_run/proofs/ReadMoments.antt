@@ -1,5 +1,6 @@
 -- The moments of a read that the shared cache answered: those of its own party, behind the passes of its scan.
-use Rattle.std.proofs.Common.{◌≡◌, ℕ, zero, suc, false, IsTrue, List, [], ◌∷◌, ◌++◌, refl, sym, ap, ◌∙◌, eq-eqb}
+use Rattle.std.proofs.Common.{◌≡◌, ℕ, zero, suc, ◌<◌, false, IsTrue, List, [], ◌∷◌, ◌++◌, refl, sym, ap, ◌∙◌, subst, eq-eqb}
+use Rattle.std.specs.List.{AllByRecursion}
 use Rattle.std.proofs.lemmas.Bool.{false≢true}
 use mathlib.Core.Option.{some, some-injective, some-ne-none}
 use lib.ListN.{get_elem?}
@@ -11,7 +12,7 @@ use Rattle.arc_core.specs.PlainShard.{PlainShard}
 use Rattle.arc_core.specs.Replay.{replay}
 use Rattle.arc_core.specs.Step.{after}
 use Rattle.arc_table.specs.Scanning.{ArePasses}
-use Rattle.trace_run.specs.Seen.{AreOwn}
+use Rattle.trace_run.specs.Seen.{AreOwn, pass_owner}
 
 abbrev pub moment : PlainShard → Event → Moment
 moment s e = record { before = s; event = e }
@@ -44,12 +45,12 @@ own-behind g n turn s (Resize a c ∷ es) e all = absurd all
 
 -- ---- whose events they are
 
-pub own-none : (n : ℕ) → AreOwn n []
+pub own-none : {b : ℕ} (n : ℕ) → AreOwn b n []
 own-none n z e at = absurd (some-ne-none e (sym at))
 
-pub own-single : (n : ℕ) (e : Event) → number_of e ≡ n → is_pass e ≡ false → AreOwn n (e ∷ [])
+pub own-single : {b : ℕ} (n : ℕ) (e : Event) → number_of e ≡ n → is_pass e ≡ false → AreOwn b n (e ∷ [])
 own-single n e his none zero x at = let is : e ≡ x = some-injective e x at in
-    (ap number_of (sym is) ∙ his, (λ pass. absurd (false≢true (sym none ∙ (ap is_pass is ∙ pass)))))
+    (ap number_of (sym is) ∙ his, (λ pass. absurd (false≢true (sym none ∙ (ap is_pass is ∙ pass)))), (λ pass. absurd (false≢true (sym none ∙ (ap is_pass is ∙ pass)))))
 own-single n e his none (suc z) x at = absurd (some-ne-none x (sym at))
 
 -- the first of a scan's events, the last of which is this
@@ -96,12 +97,12 @@ pass-is g n turn (Clear a k) xs all = absurd all
 pass-is g n turn (Restore a k place d) xs all = absurd all
 pass-is g n turn (Resize a c) xs all = absurd all
 
--- the passes of a scan and the event behind them
-pub own-scan : (g : Config) (n turn : ℕ) (passes : List Event) (e : Event) → ArePasses g n turn passes → (number_of e ≡ n) × (is_pass e ≡ false) × IsTrue (goes_on n e)
-    → AreOwn n (passes ++ e ∷ [])
-own-scan g n turn [] e all fits z x at = own-single n e fits.0 fits.1 z x at
-own-scan g n turn (y ∷ ys) e all fits zero x at =
+-- the passes of a scan, each of which names one of so many parties, and the event behind them
+pub own-scan : (b : ℕ) (g : Config) (n turn : ℕ) (passes : List Event) (e : Event) → ArePasses g n turn passes → AllByRecursion (λ x. pass_owner x < b) passes
+    → (number_of e ≡ n) × (is_pass e ≡ false) × IsTrue (goes_on n e) → AreOwn b n (passes ++ e ∷ [])
+own-scan b g n turn [] e all named fits z x at = own-single n e fits.0 fits.1 z x at
+own-scan b g n turn (y ∷ ys) e all named fits zero x at =
     let is : y ≡ x = some-injective y x at in
     let h = pass-is g n turn y ys all in
-    (ap number_of (sym is) ∙ h.0, (λ pass. first-goes-on g n turn ys e h.1 fits.2))
-own-scan g n turn (y ∷ ys) e all fits (suc z) x at = own-scan g n turn ys e (pass-is g n turn y ys all).1 fits z x at
+    (ap number_of (sym is) ∙ h.0, (λ pass. first-goes-on g n turn ys e h.1 fits.2), (λ pass. subst (λ (v : Event). pass_owner v < b) is named.0))
+own-scan b g n turn (y ∷ ys) e all named fits (suc z) x at = own-scan b g n turn ys e (pass-is g n turn y ys all).1 named.1 fits z x at

@@ -1,7 +1,7 @@
 -- A closed cache whose parties have given all back is at rest.
-use Rattle.std.proofs.Common.{◌≡◌, ℕ, suc, ◌+◌, ◌-◌, ◌<◌, ◌≤◌, ◌==◌, true, IsTrue, List, [], ◌∷◌, ◌++◌, Option, Some, map, refl, sym, ap, ◌∙◌, subst, inl, inr, arith}
+use Rattle.std.proofs.Common.{◌≡◌, ℕ, suc, ◌+◌, ◌-◌, ◌/◌, ◌<◌, ◌≤◌, ◌==◌, true, IsTrue, List, [], ◌∷◌, Option, Some, refl, sym, ap, ◌∙◌, subst, inl, inr, arith}
 use Rattle.std.specs.Prelude.{slice_index, sum}
-use Rattle.std.specs.List.{list_all}
+use Rattle.std.specs.List.{AllByRecursion, list_all}
 use Rattle.std.specs.Option.{option_map_or}
 use Rattle.std.proofs.lemmas.Bool.{cases_lt, false≢true}
 use Rattle.std.proofs.lemmas.Bool.Decides.{nat_tests}
@@ -10,8 +10,10 @@ use mathlib.Core.Option.{some}
 use lib.ListN.{get_elem?}
 use Rattle.blk_ptr.specs.declared.key.Key.{Key}
 use Rattle.blk_ptr.specs.declared.ptr.Ptr.{Ptr}
+use Rattle.arc_lists.specs.Adapting.{IsCapacity, least_target}
 use Rattle.arc_lists.proofs.Standing.{both}
 use Rattle.arc_lists.proofs.Tables.{All-item, cases_true}
+use Rattle.arc_core.specs.Config.{IsConfig}
 use Rattle.arc_core.specs.declared.config.Config.{Config}
 use Rattle.arc_core.specs.declared.entry.Entry.{Entry}
 use Rattle.arc_core.specs.declared.entry.Phase.{Phase}
@@ -19,6 +21,7 @@ use Rattle.arc_core.specs.declared.entry.Phase.TheVariants.{Idle, Picking, Writi
 use Rattle.arc_core.specs.declared.entry.Picked.{Picked}
 use Rattle.arc_core.specs.Operations.{IsAtRest}
 use Rattle.arc_core.specs.PlainShard.{PlainShard, count_of, entry_key, entry_of, held_by, is_at_rest, is_free}
+use Rattle.arc_core.specs.Replay.{is_legal_history, replay}
 use Rattle.arc_core.specs.Sound.{IsSound, IsSoundEntry, fits_phase}
 use Rattle.arc_core.specs.Keeps.{holds_on}
 use Rattle.arc_core.specs.ShardLog.{ShardLog}
@@ -28,18 +31,19 @@ use Rattle.turn_table.specs.Places.{AllShow, IsIn, Place, ShowAll, SomeHas}
 use Rattle.arc_table.specs.declared.item.Item.{Item}
 use Rattle.arc_table.specs.declared.item.Item.TheVariants as item
 use Rattle.arc_table.specs.declared.view.Known.{Known}
-use Rattle.arc_table.specs.declared.view.Ledger.{Ledger}
 use Rattle.arc_table.specs.Cache.{Cache}
 use Rattle.arc_table.specs.Counted.{readings_of, shard_at}
 use Rattle.arc_table.specs.Ended.{Ended, Ends}
-use Rattle.arc_table.specs.Fronts.{list_at}
-use Rattle.arc_table.specs.Geometry.{IsShard, cell_number, numbers_of, parties_of, shard_turn}
+use Rattle.arc_table.specs.Geometry.{numbers_of, parties_of, shard_turn}
 use Rattle.arc_table.specs.Items.{Meanings, shard_in}
+use Rattle.arc_table.specs.Logged.{IsSoundLog}
 use Rattle.arc_table.specs.Scene.{Scene}
-use Rattle.arc_table.specs.TableLaws.{get_front, there, within}
+use Rattle.trace_run.specs.Ends.{opening_of}
+use Rattle.trace_run.specs.KeptBlocks.{AllIdle, IsIdle}
 use Rattle.trace_run.specs.Seen.{turn_of}
 use Rattle.trace_run.proofs.CloseLemmas.{get-map, value-at}
 use Rattle.trace_run.proofs.DropLemmas.{all-items}
+use Rattle.trace_run.proofs.HistoryLemmas.{IsReadEvent, none-counted, none-picked}
 
 -- ---- a shard of which no number holds anything
 
@@ -75,18 +79,29 @@ rests-where-none s sound none counts = record {
 
 -- ---- a closed cache
 
--- a party has given all back: it holds nothing, reads nothing and has picked nothing
-pub record IsIdle (l : Ledger) : Type 0 where
-  pub holds : l.holds ≡ []
-  pub readings : l.readings ≡ []
-  pub picked : l.picked ≡ []
+-- a shard at its start is sound
+opening-targets : (c : ℕ) → IsCapacity c → (least_target c ≤ c / 2) × (c / 2 ≤ c - least_target c)
+opening-targets c h = (omega arith, omega arith)
+
+opening-sound : (g : Config) → IsConfig g → IsSound (opening_of g)
+opening-sound g valid = record {
+  tidy = record {
+    once = tt;
+    entries = tt;
+    mru = record { once = refl; exact = λ k. refl };
+    mru_ghost = record { once = refl; exact = λ k. refl };
+    mfu = record { once = refl; exact = λ k. refl };
+    mfu_ghost = record { once = refl; exact = λ k. refl };
+  };
+  target_low = (opening-targets g.c valid.amounts.c).0;
+  target_high = (opening-targets g.c valid.amounts.c).1;
+  feed = refl;
+  picks = refl;
+  passed = refl;
+}
 
 module _ {C : Type 0} where
-  abbrev pub AllIdle : List (Kept (Known C)) → Type 0
-  AllIdle [] = Unit {0}
-  AllIdle (k ∷ ks) = IsIdle k.view.ledger × AllIdle ks
-
-  -- these parties have, and those that they keep by a join
+  -- these parties have given all back, and those that they keep by a join
   abbrev pub AreIdle : List (Place (Known C)) → Type 0
   AreIdle [] = Unit {0}
   AreIdle (p ∷ ps) = IsIdle p.own.ledger × AllIdle p.joined × AreIdle ps
@@ -102,10 +117,11 @@ module _ {C : Type 0} where
   party-idle views n (p ∷ ps) (inl (inr among)) shown idle = kept-idle views n p.joined among shown.0.1 idle.1
   party-idle views n (p ∷ ps) (inr among) shown idle = party-idle views n ps among shown.1 idle.2
 
+-- the history is one of reads and passes, and all parties have given all back
 module _ {C : Type 0} (m : Meanings C) (cache : Cache) (ps : List (Place (Known C))) (e : Ended C) (ends : Ends m cache ps e) (i : ℕ) (l : ShardLog) (at : get_elem? e.shards i ≡ some l)
     (config : ends.pact.scene.about.config ≡ cache.config)
     (all : (n : ℕ) → n < parties_of cache.config → SomeHas n ps) (idle : AreIdle ps)
-    (bare : (j : ℕ) (c : C) → get_elem? e.cells j ≡ some c → m.holds c ≡ []) where
+    (valid : IsConfig cache.config) (sound : IsSoundLog cache.config l) (reads : AllByRecursion (IsReadEvent cache.config.callers) l.history) where
   abbrev g : Config
   g = cache.config
 
@@ -128,13 +144,17 @@ module _ {C : Type 0} (m : Meanings C) (cache : Cache) (ps : List (Place (Known 
   shard-of-key : (k : Key) → turn_of g i ≡ shard_turn g k → shard_at scene k ≡ l.now
   shard-of-key k own = ap (λ (c : Config). shard_in c (scene.now (shard_turn c k))) config ∙ (ap (λ (x : ℕ). shard_in g (scene.now x)) (sym own) ∙ ap (shard_in g) shard-now)
 
+  replay-is : replay (opening_of g) l.history ≡ l.now
+  replay-is = ap (λ (s : PlainShard). replay s l.history) (sym sound.opening) ∙ sound.replayed.replayed
+
+  lawful : IsTrue (is_legal_history (opening_of g) l.history)
+  lawful = subst (λ (s : PlainShard). IsTrue (is_legal_history s l.history)) sound.opening sound.replayed.legal
+
   -- a cell's number holds nothing
-  cell-none : (j : ℕ) → j < g.cells → scene.kept j ≡ []
-  cell-none j inside =
-      let c = there e.cells j (subst (λ (n : ℕ). j < n) (sym ends.cells) inside) in
-      let value : get_elem? (map item.Cell e.cells ++ (map item.Bucket ends.buckets ++ map item.Shard e.shards)) j ≡ some (item.Cell c.0) =
-      get_front (map item.Cell e.cells) _ j (item.Cell c.0) (get-map item.Cell e.cells j c.0 c.1) in
-      (ends.pact.attached.free j (item.Cell c.0) (get-map free _ j (item.Cell c.0) value)).1 ∙ bare j c.0 c.1
+  cell-none : (n : ℕ) (k : Key) → g.callers < n → n < numbers_of g → count_of n k l.now ≡ 0
+  cell-none n k above below =
+      let few : n < 33 = let a = valid.counts.callers.1 in let b = valid.counts.cells.1 in omega arith in
+      subst (λ (s : PlainShard). count_of n k s ≡ 0) replay-is (none-counted g.callers n k (opening_of g) l.history above few (opening-sound g valid) lawful reads refl)
 
   no-count : (n : ℕ) (k : Key) → turn_of g i ≡ shard_turn g k → count_of n k l.now ≡ 0
   no-count n k own = elim (cases_lt n (parties_of g)) [
@@ -144,13 +164,7 @@ module _ {C : Type 0} (m : Meanings C) (cache : Cache) (ps : List (Place (Known 
         ap (count_of n k) (sym (shard-of-key k own)) ∙ (ends.pact.counted.parties n k below
         ∙ subst (λ (x : List Ptr × List Key). holds_on k x.0 + readings_of k x.1 ≡ 0) (λ q. (sym h.holds q, sym h.readings q)) refl)
     | inr above ↦ elim (cases_lt n (numbers_of g)) [
-      | inl cell ↦
-          let j : ℕ = n - parties_of g in
-          let inside : j < g.cells = omega arith in
-          let is : cell_number g j ≡ n = omega arith in
-          let inside_then : j < scene.about.config.cells = subst (λ (c : Config). j < c.cells) (sym config) inside in
-          ap (count_of n k) (sym (shard-of-key k own)) ∙ (subst (λ (x : ℕ). count_of x k (shard_at scene k) ≡ holds_on k (scene.kept j)) (ap (λ (c : Config). cell_number c j) config ∙ is) (ends.pact.counted.cells j k inside_then)
-          ∙ ap (holds_on k) (cell-none j inside))
+      | inl cell ↦ cell-none n k (omega arith) cell
       | inr other ↦
           let beyond : numbers_of scene.about.config ≤ n = subst (λ (c : Config). numbers_of c ≤ n) (sym config) other in
           ap (count_of n k) (sym (shard-of-key k own)) ∙ ends.pact.counted.others n k beyond
@@ -158,16 +172,9 @@ module _ {C : Type 0} (m : Meanings C) (cache : Cache) (ps : List (Place (Known 
   ]
 
   -- nothing is picked
-  none-picked : l.now.picked ≡ []
-  none-picked =
-      let feeder : g.callers < parties_of g = omega arith in
-      let h = ledger-idle g.callers feeder in
-      let inside : i < g.shards = subst (λ (n : ℕ). i < n) ends.shards (within e.shards i l at) in
-      let range : IsShard g (turn_of g i) = (omega arith, omega arith) in
-      let range_then : IsShard scene.about.config (turn_of g i) = subst (λ (c : Config). IsShard c (turn_of g i)) (sym config) range in
-      ap (λ (v : Item C). (shard_in scene.about.config v).picked) (sym shard-now) ∙ (ends.pact.counted.picked (turn_of g i) range_then
-      ∙ (ap (λ (c : Config). list_at (turn_of g i) (scene.ledger c.callers).picked) config ∙ ap (list_at (turn_of g i)) h.picked))
+  nothing-picked : l.now.picked ≡ []
+  nothing-picked = ap (λ (s : PlainShard). s.picked) (sym replay-is) ∙ none-picked g.callers (opening_of g) l.history reads refl
 
-  pub closed-rests : IsSound l.now → IsAtRest l.now
-  closed-rests sound = rests-where-none l.now sound none-picked
+  pub closed-rests : IsAtRest l.now
+  closed-rests = rests-where-none l.now sound.replayed.sound nothing-picked
       (λ n k x is. ap (λ (o : Option Entry). option_map_or (held_by n) o 0) (sym is) ∙ no-count n k (own-key k x is))

@@ -1,10 +1,12 @@
 -- A call with a scan is one that a party makes of what it finds: the passes of the scan, and then its event.
-use Rattle.std.proofs.Common.{◌≡◌, ◌≢◌, ℕ, ◌-◌, false, IsTrue, List, [], ◌∷◌, ◌++◌, length, map, refl, sym, ap, ◌∙◌, subst, arith}
+use Rattle.std.proofs.Common.{◌≡◌, ◌≢◌, ℕ, ◌-◌, ◌<◌, false, IsTrue, List, [], ◌∷◌, ◌++◌, length, map, refl, sym, ap, ◌∙◌, subst, arith}
+use Rattle.std.specs.List.{AllByRecursion}
 use Rattle.blk_ptr.specs.declared.key.Key.{Key}
 use Rattle.blk_ptr.specs.Hash.{shard_of}
 use Rattle.arc_core.specs.Config.{IsConfig}
 use Rattle.arc_core.specs.declared.config.Config.{Config}
 use Rattle.arc_core.specs.declared.event.Event.{Event}
+use Rattle.arc_core.specs.declared.event.Event.TheVariants.{Pass}
 use Rattle.arc_core.specs.Operations.{goes_on, is_pass, number_of}
 use Rattle.arc_core.specs.PlainShard.{PlainShard}
 use Rattle.arc_core.specs.Replay.{replay}
@@ -15,17 +17,17 @@ use Rattle.arc_table.specs.declared.view.Line.TheVariants as line
 use Rattle.arc_table.specs.declared.view.Mine.{Mine}
 use Rattle.arc_table.specs.Ending.{DoesRoomy}
 use Rattle.arc_table.specs.Fronts.{front_of}
-use Rattle.arc_table.specs.Geometry.{IsBucket, bucket_turn, shard_turn}
+use Rattle.arc_table.specs.Geometry.{IsBucket, bucket_turn, parties_of, shard_turn}
 use Rattle.arc_table.specs.Items.{Meanings}
-use Rattle.arc_table.specs.Scanning.{AllPairs, ArePasses, after_scan, gave_all, won_all}
+use Rattle.arc_table.specs.Scanning.{AllPairs, AreOfOthers, ArePasses, after_scan, gave_all, won_all}
 use Rattle.arc_table.specs.ShardGiving.{after_shard, mines_of, passes_in}
 use Rattle.arc_table.specs.TableLaws.{front_else, front_here, within}
 use Rattle.arc_table.specs.Views.{after_same}
 use Rattle.arc_table.proofs.PassMines.{mines_of_are}
 use Rattle.arc_table.proofs.Reached.{reached, sound_log}
-use Rattle.trace_run.specs.Seen.{HasSeenItsOwn, Made, turn_of}
+use Rattle.trace_run.specs.Seen.{HasSeenItsOwn, Made, pass_owner, turn_of}
 use Rattle.trace_run.proofs.ReadMoments.{own-scan}
-use Rattle.trace_run.proofs.SeenLemmas.{finds, shard-is-above}
+use Rattle.trace_run.proofs.SeenLemmas.{finds, parties-then, shard-is-above}
 
 -- a party that is the same to all others, has seen as much and has made as much
 record SameSeen {C : Type 0} (p q : Place (Known C)) : Type 0 where
@@ -41,6 +43,12 @@ module _ {C : Type 0} where
   gave-same : (vs : List (ℕ × Chain)) (p : Place (Known C)) → SameSeen p (gave_all vs p)
   gave-same [] p = record { number = refl; parties = refl; joined = refl; seen = refl; mine = refl; about = refl; ledger = refl }
   gave-same (v ∷ vs) p = let h = gave-same vs (gave_back p v.0 (after_same v.0 p.own)) in record { number = h.number; parties = h.parties; joined = h.joined; seen = h.seen; mine = h.mine; about = h.about; ledger = h.ledger }
+
+  -- the passes of a scan name parties
+  named-others : (b : ℕ) (g : Config) (n turn : ℕ) (r : Place (Known C)) (es : List Event) → r.parties ≡ b → ArePasses g n turn es → AreOfOthers r es → AllByRecursion (λ x. pass_owner x < b) es
+  named-others b g n turn r [] is passes others = tt
+  named-others b g n turn r (Pass a k owner ∷ es) is passes others = (subst (λ (x : ℕ). owner < x) is others.0.0, named-others b g n turn r es is passes.1 others.1)
+  named-others b g n turn r (_ ∷ es) is passes others = absurd passes
 
 module _ {C : Type 0} (m : Meanings C) (g : Config) where
   won-mine : (vs : List (ℕ × Chain)) (w : Known C) → (won_all m vs w).mine ≡ w.mine
@@ -102,5 +110,6 @@ module _ {C : Type 0} (m : Meanings C) (g : Config) (valid : IsConfig g) (k : Ke
         each = λ y a at.
             let each = news.each y a at in
             (each.0, each.1, (let w = within _ y a at in let l = news.long in omega arith));
-        own = own-scan g p.number (shard_turn g k) d.makes.passes e (subst (λ (n : ℕ). ArePasses g n (shard_turn g k) d.makes.passes) r.number d.makes.own) fits;
+        own = own-scan (parties_of g) g p.number (shard_turn g k) d.makes.passes e (subst (λ (n : ℕ). ArePasses g n (shard_turn g k) d.makes.passes) r.number d.makes.own)
+            (named-others (parties_of g) g d.reached.number (shard_turn g k) d.reached d.makes.passes (r.parties ∙ parties-then m g valid k d.chain d.before p d.reached d.takes config) d.makes.own d.makes.others) fits;
       }

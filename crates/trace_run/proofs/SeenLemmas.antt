@@ -13,6 +13,7 @@ use Rattle.hash_chain.specs.Chain.{Chain}
 use Rattle.turn_table.specs.declared.standing.Kept.{Kept}
 use Rattle.turn_table.specs.Moments.{WasFree}
 use Rattle.turn_table.specs.Places.{AllShow, HasNumber, IsIn, Place, saw}
+use Rattle.arc_table.specs.declared.about.About.{About}
 use Rattle.arc_table.specs.declared.item.Item.TheVariants as item
 use Rattle.arc_table.specs.declared.view.Known.{Known}
 use Rattle.arc_table.specs.declared.view.Line.{Line}
@@ -150,10 +151,10 @@ module _ {C : Type 0} (m : Meanings C) (g : Config) where
     listed-at : (x : ℕ) (e : Event) → get_elem? before.history x ≡ some e → HasPlace m scene (turn_of g i) x (scene.owner (turn_of g i) x)
     listed-at x e at = f.held.logged.places (turn_of g i) x (within (lines_in m (scene.now (turn_of g i))) x (line.Event e) (at-place x e at))
 
-    pub line-seen : (x : ℕ) (e : Event) → get_elem? before.history x ≡ some e → HasNumber (scene.owner (turn_of g i) x) p → IsSeen (scene.owner (turn_of g i) x) (front_of (turn_of g i) p.own.seen) x
+    pub line-seen : (x : ℕ) (e : Event) → get_elem? before.history x ≡ some e → HasNumber (scene.owner (turn_of g i) x) p → IsSeen (parties_of g) (scene.owner (turn_of g i) x) (front_of (turn_of g i) p.own.seen) x
     line-seen x e at has =
         let h = listed-at x e at in
-        subst (λ (n : ℕ). IsSeen (scene.owner (turn_of g i) x) (front_of (turn_of g i) p.own.seen) n) h.place (mine-seen (scene.owner (turn_of g i) x) has i h.index h.line h.at h.turn)
+        subst (λ (n : ℕ). IsSeen (parties_of g) (scene.owner (turn_of g i) x) (front_of (turn_of g i) p.own.seen) n) h.place (mine-seen (scene.owner (turn_of g i) x) has i h.index h.line h.at h.turn)
 
     pub line-owner : p.own.about.config ≡ g → (x : ℕ) (e : Event) → get_elem? before.history x ≡ some e → scene.owner (turn_of g i) x < parties_of g
     line-owner config x e at = subst (λ (c : Config). scene.owner (turn_of g i) x < parties_of c) (config_then m p (turn_of g i) before f ∙ config) (listed-at x e at).party
@@ -163,7 +164,7 @@ module _ {C : Type 0} (m : Meanings C) (g : Config) where
 module _ {C : Type 0} (m : Meanings C) (g : Config) (valid : IsConfig g) where
   all-seen-as : (ks : List (Kept (Known C))) (s t : List (List Line)) → ((i : ℕ) → front_of (turn_of g i) t ≡ front_of (turn_of g i) s) → AllSeen g ks s → AllSeen g ks t
   all-seen-as [] s t same all = tt
-  all-seen-as (k ∷ ks) s t same all = ((λ i j a at is. subst (λ (l : List Line). IsSeen k.number l a.place) (sym (same i)) (all.0 i j a at is)), all-seen-as ks s t same all.1)
+  all-seen-as (k ∷ ks) s t same all = ((λ i j a at is. subst (λ (l : List Line). IsSeen (parties_of g) k.number l a.place) (sym (same i)) (all.0 i j a at is)), all-seen-as ks s t same all.1)
 
   pub shard-is-above : (k : Key) (i : ℕ) → turn_of g i ≢ bucket_turn g k
   shard-is-above k i is = let b = (bucket_range g k valid).1 in omega arith
@@ -178,12 +179,19 @@ module _ {C : Type 0} (m : Meanings C) (g : Config) (valid : IsConfig g) where
     abbrev then : Place (Known C)
     then = saw t.between t.shard.knew
 
+    -- a party of a cache with this configuration counts its parties
+    pub parties-then : p.own.about.config ≡ g → p.parties ≡ parties_of g
+    parties-then config =
+        let f : WasFree (Pact m) then (shard_turn g k) (item.Shard before) = t.shard.free in
+        let settled : f.held.scene.about.config ≡ g = config_then m then (shard_turn g k) before f ∙ (ap (λ (a : About). a.config) (knew.about ∙ first.about) ∙ config) in
+        sym first.parties ∙ (sym f.stands.count ∙ (f.held.attached.parties ∙ ap parties_of settled))
+
     seen-then : (i : ℕ) → front_of (turn_of g i) then.own.seen ≡ front_of (turn_of g i) p.own.seen
     seen-then i = ap (front_of (turn_of g i)) (knew.seen ∙ first.seen) ∙ front_else (bucket_turn g k) (turn_of g i) [] p.own.seen (shard-is-above k i)
 
     own-then : HasSeenItsOwn g p → HasSeenItsOwn g then
     own-then own = record {
-      own = λ i j a at is. subst (λ (x : ℕ × List Line). IsSeen x.0 x.1 a.place) (λ h. (sym first.number h, sym (seen-then i) h)) (own.own i j a (subst (λ (l : List Mine). get_elem? l j ≡ some a) (knew.mine ∙ first.mine) at) is);
+      own = λ i j a at is. subst (λ (x : ℕ × List Line). IsSeen (parties_of g) x.0 x.1 a.place) (λ h. (sym first.number h, sym (seen-then i) h)) (own.own i j a (subst (λ (l : List Mine). get_elem? l j ≡ some a) (knew.mine ∙ first.mine) at) is);
       joined = subst (λ (ks : List (Kept (Known C))). AllSeen g ks then.own.seen) (sym first.joined)
           (all-seen-as p.joined p.own.seen then.own.seen (λ i. seen-then i) own.joined);
     }

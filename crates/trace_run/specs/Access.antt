@@ -11,8 +11,15 @@ use Rattle.arc_core.specs.declared.event.Origin.TheVariants as origin
 use Rattle.arc_core.specs.declared.served.Served.{Served}
 use Rattle.arc_core.specs.declared.served.Served.TheVariants as served
 use Rattle.arc_core.specs.PlainShard.{PlainShard, resident_digest}
-use Rattle.trace_run.specs.declared.access.Access.{Access}
-use Rattle.trace_run.specs.declared.access.Access.TheVariants.{Hit, Past, Miss}
+
+-- how a read finds its block
+pub data Access : Type 0 where
+  -- its bytes are cached, with the digest that is asked for
+  Hit : Access
+  -- bytes of this other digest are cached under its key: the read goes past the cache
+  Past : (kept : Digest) → Access
+  -- its bytes are not cached
+  Miss : Access
 
 -- bytes of this digest were asked for, and bytes of that digest are cached, or none
 abbrev pub found : Digest → Option Digest → Access

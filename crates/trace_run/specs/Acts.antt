@@ -7,7 +7,7 @@ use Rattle.arc_core.specs.Operations.{Act, Reads, Keeps, GivesBack, Fails}
 use Rattle.trace_text.specs.declared.op.Op.{Op}
 use Rattle.trace_text.specs.declared.op.Op.TheVariants as ops
 use Rattle.trace_text.specs.declared.reply.Reply.{Reply}
-use Rattle.trace_run.specs.declared.access.KeptRead.{KeptRead}
+use Rattle.trace_run.specs.KeptReads.{KeptRead}
 use Rattle.trace_run.specs.Effects.{Effect, Answered, GivenBack, PoolRefused, NoEffect, effect_of}
 use Rattle.trace_run.specs.Lines.{is_of_caller, replies_where}
 use Rattle.trace_run.specs.OneCaller.{kept_after, kept_after_all, oldest_key}

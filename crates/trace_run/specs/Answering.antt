@@ -1,5 +1,5 @@
 -- What the answer to one operation comes to.
-use Rattle.std.specs.Prelude.{ℕ, List, IfSome, slice_get}
+use Rattle.std.specs.Prelude.{◌≡◌, ℕ, List, IfSome, slice_get}
 use Rattle.blk_ptr.specs.declared.ptr.Ptr.{Ptr}
 use Rattle.blk_ptr.specs.Ptr.{IsOf, range_of}
 use Rattle.trace_text.specs.declared.op.Op.{Op}
@@ -7,14 +7,12 @@ use Rattle.trace_text.specs.declared.op.Op.TheVariants as ops
 use Rattle.trace_text.specs.declared.reply.Reply.{Reply}
 use Rattle.trace_text.specs.declared.reply.Reply.TheVariants as replies
 use Rattle.dbuf_state.specs.declared.window.Window.{Window}
-use Rattle.trace_run.specs.OneCaller.{IsFoundAs, events_of, kept_after}
-use Rattle.trace_run.specs.PlainCache.{MakesAll, PlainCache}
-use Rattle.trace_run.specs.Serving.{ShowsRange}
+use Rattle.trace_run.specs.Answers.{window_of}
 
--- The shard makes the operation's events, and the reply names where the bytes were found.
-pub record MakesAnswer (blocks : List Ptr) (op : Op) (old new : PlainCache) (reply : Reply) : Type 0 where
-  pub made : MakesAll (events_of blocks old.log.now old.kept op reply) (kept_after blocks op reply old.kept) old new
-  pub found : IsFoundAs blocks old.log.now op reply
+-- What is shown are the bytes that the image has in the key's range, and these are of the pointer.
+pub record ShowsRange (image : List ℕ) (ptr : Ptr) (window : Window) (shown : List ℕ) : Type 0 where
+  pub of : IsOf (range_of image ptr.key) ptr
+  pub range : shown ≡ window_of window (range_of image ptr.key)
 
 -- an answered read shows the bytes that the image has in its key's range, and a kept one is of these bytes
 abbrev pub ReadsImage : (image : List ℕ) → Ptr → Window → Reply → Type 0

@@ -16,6 +16,7 @@ use Rattle.trace_run.specs.Effects.{calls_of_all}
 use Rattle.trace_run.specs.Ends.{ends_of, opening_of}
 use Rattle.trace_run.specs.Lines.{is_in_shard, replies_where}
 use Rattle.trace_run.specs.OneCaller.{AreFoundAs, one_caller_histories}
+use Rattle.trace_run.specs.PlainReport.{IsPlainReport}
 use Rattle.trace_run.specs.PlainRun.{report_of}
 use Rattle.arc_table.specs.PoolCalls.{MakesCalls, PoolCall}
 
@@ -31,7 +32,8 @@ pub record Explain (trace : Trace) (replies : List Reply) (shard_ends : List Sha
   pub every_call : HoldEveryCallOnce trace.config (shard_of trace.config.shards) (opening_of trace.config)
       (acts_of_callers trace.blocks trace.config.callers trace.ops replies) histories
 
--- What more holds of a run with one caller: its report is a plain function of the trace, the bytes and which reads of the pool failed.
+-- What more holds of a run with one caller: its report is a plain function of the trace, the bytes and which reads of the pool failed, as far as
+-- no two contents share a digest.
 pub record RunsAlone {P : Type 0} (pool : Ghosts P) (before after : P) (trace : Trace) (report : Report) : Type 0 where
   -- the histories hold the caller's events and no others
   pub histories : report.histories ≡ one_caller_histories trace.config.shards trace.blocks 0 (opening_of trace.config) trace.ops report.replies
@@ -45,5 +47,5 @@ pub record RunsAlone {P : Type 0} (pool : Ghosts P) (before after : P) (trace : 
   pub replied : calls ≡ calls_of_all report.replies
   pub counted : length calls ≡ sum_by pool_reads report.histories
   pub made : MakesCalls pool calls before after
-  -- over a pool that tells its bytes the report is that of the plain run
-  pub plain : IfSome (pool.told before) (λ image. report ≡ report_of trace image calls)
+  -- over a pool that tells its bytes the report is that of the plain run, but that a cached block may be another content of its digest
+  pub plain : IfSome (pool.told before) (λ image. IsPlainReport trace image (report_of trace image calls) report)

@@ -13,15 +13,16 @@ use Rattle.arc_core.specs.declared.event.Event.TheVariants.{Drop}
 use Rattle.arc_core.specs.Operations.{Act}
 use Rattle.dbuf_cells.specs.declared.kept.Kept.{Kept}
 use Rattle.dbuf_cells.specs.declared.kept.Kept.TheVariants.{Held, Loose}
-use Rattle.turn_table.specs.Places.{Place}
+use Rattle.turn_table.specs.declared.standing.Kept.{Kept as Joined}
+use Rattle.turn_table.specs.Places.{Apart, Place}
 use Rattle.arc_table.specs.declared.view.Known.{Known}
+use Rattle.arc_table.specs.declared.view.Ledger.{Ledger}
 use Rattle.arc_table.specs.Both.{Does}
 use Rattle.arc_table.specs.Cache.{Cache, IsPartyOf}
 use Rattle.arc_table.specs.Holding.{ptr_of}
 use Rattle.arc_table.specs.Items.{Meanings}
-use Rattle.trace_run.specs.declared.access.KeptRead.{KeptRead}
 use Rattle.trace_run.specs.declared.kept_blocks.KeptBlock.{KeptBlock}
-use Rattle.trace_run.specs.PlainCache.{kept_read}
+use Rattle.trace_run.specs.KeptReads.{KeptRead, kept_read}
 use Rattle.trace_run.specs.OneCaller.{events_of_drops}
 use Rattle.trace_run.specs.Seen.{AddsAll, HasAll, HasSeenItsOwn, seen_of}
 use Rattle.trace_run.specs.Access.{events_of_drop}
@@ -58,15 +59,27 @@ abbrev pub IsOwnedBy : ℕ → Kept → Type 0
 IsOwnedBy n (Held hold) = hold.owner ≡ n
 IsOwnedBy n (Loose key block) = Unit {0}
 
+-- a party holds nothing and reads nothing
+pub record IsIdle (l : Ledger) : Type 0 where
+  pub holds : l.holds ≡ []
+  pub readings : l.readings ≡ []
+
 module _ {C : Type 0} where
+  -- so it is of each that another party keeps by a join
+  abbrev pub AllIdle : List (Joined (Known C)) → Type 0
+  AllIdle [] = Unit {0}
+  AllIdle (k ∷ ks) = IsIdle k.view.ledger × AllIdle ks
+
   -- The party is one of the cache, has no turn in hand, reads nothing just now, has seen all that it made, and holds what is kept, each as
-  -- often as it is kept.
+  -- often as it is kept. Those that it keeps by a join have other numbers, and hold and read nothing.
   pub record Stands (cache : Cache) (p : Place (Known C)) (kept : List KeptBlock) : Type 0 where
     pub valid : IsConfig cache.config
     pub of : IsPartyOf cache p
     pub free : p.held ≡ []
     pub idle : p.own.ledger.readings ≡ []
     pub seen : HasSeenItsOwn cache.config p
+    pub apart : Apart p.number p.joined
+    pub joined : AllIdle p.joined
     pub owned : AllByRecursion (λ b. IsOwnedBy p.number b.kept) kept
     pub listed : (x : Ptr) → times x p.own.ledger.holds ≡ times x (listed_all kept)
 

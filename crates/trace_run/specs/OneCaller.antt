@@ -13,12 +13,10 @@ use Rattle.arc_core.specs.Replay.{replay}
 use Rattle.trace_text.specs.declared.op.Op.{Op}
 use Rattle.trace_text.specs.declared.op.Op.TheVariants as ops
 use Rattle.trace_text.specs.declared.reply.Reply.{Reply}
-use Rattle.trace_run.specs.declared.access.Access.{Access}
-use Rattle.trace_run.specs.declared.access.KeptRead.{KeptRead}
-use Rattle.trace_run.specs.Access.{AsksPool, access_of, events_of_answered, events_of_drop, events_of_refused, held_key, source_of}
+use Rattle.trace_run.specs.Access.{Access, AsksPool, access_of, events_of_answered, events_of_drop, events_of_refused, held_key, source_of}
 use Rattle.trace_run.specs.Effects.{Effect, Answered, GivenBack, PoolRefused, NoEffect, effect_of}
 use Rattle.trace_run.specs.Lines.{is_in_shard, replies_where}
-use Rattle.trace_run.specs.PlainCache.{kept_read}
+use Rattle.trace_run.specs.KeptReads.{KeptRead, kept_read}
 
 -- ---- the reads that are kept
 

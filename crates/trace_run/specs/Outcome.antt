@@ -1,5 +1,5 @@
 -- What a run answers, status by status.
-use Rattle.std.specs.Prelude.{◌≡◌, ℕ, ◌+◌, ◌*◌, ◌^◌, ◌<◌, ◌≤◌, List, [], Option, Some, None, IfSome, is_some, count_by, map, replicate, sum_by, Bool, true, false}
+use Rattle.std.specs.Prelude.{◌≡◌, ◌⊎◌, ℕ, ◌+◌, ◌*◌, ◌^◌, ◌<◌, ◌≤◌, List, [], Option, Some, None, is_some, map, replicate, sum_by, Bool, true, false}
 use Rattle.std.specs.Bool.{OnFalse}
 use Rattle.std.specs.List.{range_with_len}
 use Rattle.std.specs.Io.KnownBytes.{Appends}
@@ -17,12 +17,14 @@ use Rattle.trace_run.specs.declared.words.Command.{Command}
 use Rattle.trace_run.specs.declared.words.Command.TheVariants.{Run, Gen, Paper}
 use Rattle.vdev_io.specs.declared.pool.Pool.{Ghosts}
 use Rattle.arc_core.specs.Operations.{pool_reads}
+use Rattle.arc_table.specs.Ended.{Ended}
 use Rattle.trace_text.specs.Generator.{generated_block, generated_read, generated_sizes}
-use Rattle.trace_run.specs.Answers.{AnswersAll, is_pool_fault}
+use Rattle.trace_run.specs.Answers.{AnswersAll}
 use Rattle.trace_run.specs.Explaining.{Explain, RunsAlone}
-use Rattle.trace_run.specs.PlainRun.{report_of, status_of}
+use Rattle.trace_run.specs.PlainRun.{report_of}
 use Rattle.trace_run.specs.States.{Handed, StreamState}
 use Rattle.trace_run.specs.Stream.{Gives, AppendsFront, TakesAtMost}
+use Rattle.trace_run.specs.Together.{RunsTogether, TellsClosed, answered_ops, faults_told, report_status}
 use Rattle.trace_run.specs.Words.{IsCommand, IsFirstWrong}
 
 -- The words are a command, and this is what it did; or they are none, and their first wrong word is told.
@@ -33,6 +35,7 @@ AnswersWords words did statuses.ReadsFailed = (command : Command) × IsCommand w
 AnswersWords words did (statuses.BadTrace line kind) = (command : Command) × IsCommand words command × did command
 AnswersWords words did statuses.SourceFault = (command : Command) × IsCommand words command × did command
 AnswersWords words did statuses.SinkFault = (command : Command) × IsCommand words command × did command
+AnswersWords words did statuses.PoolFault = (command : Command) × IsCommand words command × did command
 AnswersWords words did statuses.NoMemory = (command : Command) × IsCommand words command × did command
 
 -- The source was read to its end, and its text is this trace.
@@ -47,21 +50,26 @@ pub record IsBadTrace (before after : StreamState) (line : ℕ) (kind : Kind) : 
   pub given : Gives before.told after.told longest_text text
   pub fault : IsFirstFault text line kind
 
--- Each operation of the trace has its answer, and the histories explain the replies and the reads of the pool; its faults rose at least once
--- for each reply that says so, where each count had room. With one caller the report is a plain function.
-pub record IsRun {P : Type 0} (pool : Ghosts P) (before after : P) (trace : Trace) (report : Report) : Type 0 where
-  pub answers : AnswersAll (pool.size before) (pool.told before) trace.blocks trace.ops report.replies
+-- Each operation that was answered has its answer, and the histories, which are those of the closed cache, explain the replies and the reads of
+-- the pool; its faults rose at least once for each reply that says so, and once more where a fork failed, where each count had room. With one
+-- caller the report is a plain function; with several, each reads the pool through a fork of its own.
+pub record IsRun {C P : Type 0} (pool : Ghosts P) (before after : P) (trace : Trace) (fork_failed : Bool) (closed : Ended C) (report : Report) : Type 0 where
+  pub answers : AnswersAll (pool.size before) (pool.told before) trace.blocks (answered_ops trace fork_failed) report.replies
   pub explained : Explain trace report.replies report.ends report.histories
+  pub tells : TellsClosed closed report
   pub reads : pool.reads before < 2 ^ 63 → pool.reads after ≡ pool.reads before + sum_by pool_reads report.histories
-  pub faults : pool.faults before < 2 ^ 63 → pool.faults before + count_by is_pool_fault report.replies ≤ pool.faults after
-  pub alone : trace.config.callers ≡ 1 → RunsAlone pool before after trace report
+  pub faults : pool.faults before < 2 ^ 63 → pool.faults before + faults_told fork_failed report.replies ≤ pool.faults after
+  pub alone : trace.config.callers ≡ 1 → (fork_failed ≡ false) × RunsAlone pool before after trace report
+  pub together : 2 ≤ trace.config.callers → fork_failed ≡ false → RunsTogether pool before after trace report
+  pub failed : fork_failed ≡ true → Rose (pool.faults before) (pool.faults after)
 
 -- The report is that of a run of the trace that the source gave.
-pub record IsReport {P : Type 0} (pool : Ghosts P) (before after : Handed P) (report : Report) : Type 0 where
+pub record IsReport {C P : Type 0} (pool : Ghosts P) (before after : Handed P) (closed : Ended C) (report : Report) : Type 0 where
   pub trace : Trace
   pub read : WasRead before.source after.source trace
-  pub run : IsRun pool before.pool after.pool trace report
-  pub status : report.status ≡ status_of report.replies
+  pub fork_failed : Bool
+  pub run : IsRun pool before.pool after.pool trace fork_failed closed report
+  pub status : report.status ≡ report_status fork_failed report.replies
   pub whole : report.short ≡ false
 
 -- the made trace of this seed, with so many blocks and so many operations
@@ -78,10 +86,11 @@ zeros_of blocks = replicate (blocks * 512) 0
 
 -- The report is that of a made trace over its own pool of zero bytes, which doesn't fail: a plain function of the three numbers. No reply is
 -- a refusal, and none is printed.
-pub record IsGenReport (seed blocks ops : ℕ) (report : Report) : Type 0 where
+pub record IsGenReport {C : Type 0} (seed blocks ops : ℕ) (closed : Ended C) (report : Report) : Type 0 where
   pub plain : report ≡ record (report_of (generated seed blocks ops) (zeros_of blocks) []) { short = true }
   pub answers : AnswersAll (blocks * 512) (Some (zeros_of blocks)) (generated seed blocks ops).blocks (generated seed blocks ops).ops report.replies
   pub explained : Explain (generated seed blocks ops) report.replies report.ends report.histories
+  pub tells : TellsClosed closed report
   pub status : report.status ≡ 0
 
 -- the report is there exactly where the trace was run
@@ -89,6 +98,7 @@ abbrev pub has_report : Status → Bool
 has_report statuses.Ok = true
 has_report statuses.ReadsFailed = true
 has_report statuses.SinkFault = true
+has_report statuses.PoolFault = true
 has_report (statuses.Usage index) = false
 has_report (statuses.BadTrace line kind) = false
 has_report statuses.SourceFault = false
@@ -102,6 +112,7 @@ ran statuses.SourceFault = false
 ran statuses.Ok = true
 ran statuses.ReadsFailed = true
 ran statuses.SinkFault = true
+ran statuses.PoolFault = true
 ran statuses.NoMemory = true
 
 -- what a source must have done for a status
@@ -112,6 +123,7 @@ AnswersSource before after statuses.Ok = Unit {0}
 AnswersSource before after statuses.ReadsFailed = Unit {0}
 AnswersSource before after (statuses.Usage index) = Unit {0}
 AnswersSource before after statuses.SinkFault = Unit {0}
+AnswersSource before after statuses.PoolFault = Unit {0}
 AnswersSource before after statuses.NoMemory = Unit {0}
 
 -- What was written behind what the sink had: the report's text where the status is the report's, a front of it where the sink
@@ -119,10 +131,12 @@ AnswersSource before after statuses.NoMemory = Unit {0}
 abbrev pub AnswersSink : Bool → StreamState → StreamState → Status → Option Report → Type 0
 AnswersSink events before after statuses.Ok (Some report) = Appends before.told after.told (text_of report events) × (report.status ≡ 0)
 AnswersSink events before after statuses.ReadsFailed (Some report) = Appends before.told after.told (text_of report events) × (report.status ≡ 1)
+AnswersSink events before after statuses.PoolFault (Some report) = Appends before.told after.told (text_of report events) × (report.status ≡ 6)
 AnswersSink events before after statuses.SinkFault (Some report) =
     AppendsFront before.told after.told (text_of report events) × Rose before.faults after.faults
 AnswersSink events before after statuses.Ok None = after ≡ before
 AnswersSink events before after statuses.ReadsFailed None = after ≡ before
+AnswersSink events before after statuses.PoolFault None = after ≡ before
 AnswersSink events before after statuses.SinkFault None = after ≡ before
 AnswersSink events before after (statuses.Usage index) report = after ≡ before
 AnswersSink events before after (statuses.BadTrace line kind) report = after ≡ before
@@ -149,6 +163,7 @@ AnswersPageSource before after statuses.Ok = Unit {0}
 AnswersPageSource before after statuses.ReadsFailed = Unit {0}
 AnswersPageSource before after (statuses.Usage index) = Unit {0}
 AnswersPageSource before after statuses.SinkFault = Unit {0}
+AnswersPageSource before after statuses.PoolFault = Unit {0}
 AnswersPageSource before after statuses.NoMemory = Unit {0}
 
 -- What was read and written for a list of pages, with room for c of them: the text of the pages, a front of it where the sink failed,
@@ -165,17 +180,25 @@ AnswersPages c source_before source_after sink_before sink_after statuses.Source
     Rose source_before.faults source_after.faults × (sink_after ≡ sink_before)
 AnswersPages c source_before source_after sink_before sink_after statuses.NoMemory = sink_after ≡ sink_before
 AnswersPages c source_before source_after sink_before sink_after statuses.ReadsFailed = ⊥
+AnswersPages c source_before source_after sink_before sink_after statuses.PoolFault = ⊥
 AnswersPages c source_before source_after sink_before sink_after (statuses.Usage index) = ⊥
 
 -- ---- what each command does
 
+-- a fact of the report and of the closed cache, which are there together or not at all
+abbrev pub IfReported : {C : Type 0} → Option Report → Option (Ended C) → (Ended C → Report → Type 0) → Type 0
+IfReported None None fact = Unit {0}
+IfReported None (Some closed) fact = ⊥
+IfReported (Some report) None fact = ⊥
+IfReported (Some report) (Some closed) fact = fact closed report
+
 -- A run answers by what the source gave, and takes at most one byte past the longest text. Its report is that of the trace, and where none was
 -- run the pool is as it was.
-pub record DoesRun {P : Type 0} (pool : Ghosts P) (events : Bool) (before after : Handed P) (status : Status) (report : Option Report) : Type 0 where
+pub record DoesRun {C P : Type 0} (pool : Ghosts P) (events : Bool) (before after : Handed P) (status : Status) (report : Option Report) (closed : Option (Ended C)) : Type 0 where
   pub source : AnswersSource before.source after.source status
   pub took : TakesAtMost before.source.told after.source.told (longest_text + 1)
   pub unrun : OnFalse (ran status) (after.pool ≡ before.pool)
-  pub reported : IfSome report (IsReport pool before after)
+  pub reported : IfReported report closed (IsReport pool before after)
   pub sink : AnswersSink events before.sink after.sink status report
   pub present : is_some report ≡ has_report status
 
@@ -185,30 +208,31 @@ IsGenStatus statuses.Ok = Unit {0}
 IsGenStatus statuses.SinkFault = Unit {0}
 IsGenStatus statuses.NoMemory = Unit {0}
 IsGenStatus statuses.ReadsFailed = ⊥
+IsGenStatus statuses.PoolFault = ⊥
 IsGenStatus (statuses.Usage index) = ⊥
 IsGenStatus (statuses.BadTrace line kind) = ⊥
 IsGenStatus statuses.SourceFault = ⊥
 
 -- A made trace reads no source and leaves the pool that was handed in alone.
-pub record DoesGen {P : Type 0} (seed blocks ops : ℕ) (before after : Handed P) (status : Status) (report : Option Report) : Type 0 where
+pub record DoesGen {C P : Type 0} (seed blocks ops : ℕ) (before after : Handed P) (status : Status) (report : Option Report) (closed : Option (Ended C)) : Type 0 where
   pub fair : IsGenStatus status
   pub source : after.source ≡ before.source
   pub pool : after.pool ≡ before.pool
-  pub reported : IfSome report (IsGenReport seed blocks ops)
+  pub reported : IfReported report closed (IsGenReport seed blocks ops)
   pub sink : AnswersSink false before.sink after.sink status report
   pub present : is_some report ≡ has_report status
 
 -- A list of pages is told from what the source gave, of which at most one byte past the longest text is taken. There is no report, and the pool is left alone.
-pub record DoesPaper {P : Type 0} (c : ℕ) (before after : Handed P) (status : Status) (report : Option Report) : Type 0 where
+pub record DoesPaper {C P : Type 0} (c : ℕ) (before after : Handed P) (status : Status) (report : Option Report) (closed : Option (Ended C)) : Type 0 where
   pub answers : AnswersPages c before.source after.source before.sink after.sink status
   pub took : TakesAtMost before.source.told after.source.told (longest_text + 1)
   pub pool : after.pool ≡ before.pool
-  pub none : report ≡ None
+  pub none : (report ≡ None) × (closed ≡ None)
 
-abbrev pub Does : {P : Type 0} → Ghosts P → (before after : Handed P) → Status → Option Report → Command → Type 0
-Does pool before after status report (Run events) = DoesRun pool events before after status report
-Does pool before after status report (Gen seed blocks ops) = DoesGen seed blocks ops before after status report
-Does pool before after status report (Paper c) = DoesPaper c before after status report
+abbrev pub Does : {C P : Type 0} → Ghosts P → (before after : Handed P) → Status → Option Report → Option (Ended C) → Command → Type 0
+Does pool before after status report closed (Run events) = DoesRun pool events before after status report closed
+Does pool before after status report closed (Gen seed blocks ops) = DoesGen seed blocks ops before after status report closed
+Does pool before after status report closed (Paper c) = DoesPaper c before after status report closed
 
 -- a fact where the words are refused
 abbrev pub IfUsage : Status → Type 0 → Type 0
@@ -218,6 +242,7 @@ IfUsage statuses.ReadsFailed fact = Unit {0}
 IfUsage (statuses.BadTrace line kind) fact = Unit {0}
 IfUsage statuses.SourceFault fact = Unit {0}
 IfUsage statuses.SinkFault fact = Unit {0}
+IfUsage statuses.PoolFault fact = Unit {0}
 IfUsage statuses.NoMemory fact = Unit {0}
 
 -- a status at which a trace was not read
@@ -229,12 +254,18 @@ IsReadStatus statuses.Ok = ⊥
 IsReadStatus statuses.ReadsFailed = ⊥
 IsReadStatus (statuses.Usage index) = ⊥
 IsReadStatus statuses.SinkFault = ⊥
+IsReadStatus statuses.PoolFault = ⊥
+
+-- the status of a report of a run
+abbrev pub IsReportStatus : ℕ → Type 0
+IsReportStatus status = (status ≡ 0) ⊎ (status ≡ 1) ⊎ (status ≡ 6)
 
 -- a status at which a trace was run
 abbrev pub IsDelivered : Status → Type 0
 IsDelivered statuses.Ok = Unit {0}
 IsDelivered statuses.ReadsFailed = Unit {0}
 IsDelivered statuses.SinkFault = Unit {0}
+IsDelivered statuses.PoolFault = Unit {0}
 IsDelivered statuses.NoMemory = Unit {0}
 IsDelivered (statuses.Usage index) = ⊥
 IsDelivered (statuses.BadTrace line kind) = ⊥

@@ -8,7 +8,7 @@ use Rattle.arc_core.specs.declared.event.Event.{Event}
 use Rattle.arc_core.specs.PlainShard.{PlainShard}
 use Rattle.trace_text.specs.declared.op.Op.{Op}
 use Rattle.trace_text.specs.declared.reply.Reply.{Reply}
-use Rattle.trace_run.specs.declared.access.KeptRead.{KeptRead}
+use Rattle.trace_run.specs.KeptReads.{KeptRead}
 use Rattle.trace_run.specs.Lines.{shard_of_line}
 use Rattle.trace_run.specs.OneCaller.{events_of, kept_after}
 use Rattle.trace_run.specs.PlainRun.{shards_after}

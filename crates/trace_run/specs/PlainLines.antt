@@ -4,7 +4,7 @@ use Rattle.blk_ptr.specs.declared.ptr.Ptr.{Ptr}
 use Rattle.arc_core.specs.PlainShard.{PlainShard}
 use Rattle.trace_text.specs.declared.op.Op.{Op}
 use Rattle.trace_text.specs.declared.reply.Reply.{Reply}
-use Rattle.trace_run.specs.declared.access.KeptRead.{KeptRead}
+use Rattle.trace_run.specs.KeptReads.{KeptRead}
 use Rattle.trace_run.specs.Effects.{calls_of, effect_of}
 use Rattle.trace_run.specs.PlainRun.{reply_to}
 use Rattle.arc_table.specs.PoolCalls.{PoolCall}

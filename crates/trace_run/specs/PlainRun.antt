@@ -22,10 +22,9 @@ use Rattle.trace_text.specs.declared.reply.Reply.TheVariants.{Read, Kept, Droppe
 use Rattle.trace_text.specs.declared.report.Report.{Report}
 use Rattle.trace_text.specs.declared.trace.Trace.{Trace}
 use Rattle.dbuf_state.specs.declared.window.Window.{Window}
-use Rattle.trace_run.specs.declared.access.Access.{Access}
-use Rattle.trace_run.specs.declared.access.Access.TheVariants as access
-use Rattle.trace_run.specs.declared.access.KeptRead.{KeptRead}
-use Rattle.trace_run.specs.Access.{access_of, source_of}
+use Rattle.trace_run.specs.Access as access
+use Rattle.trace_run.specs.KeptReads.{KeptRead}
+use Rattle.trace_run.specs.Access.{Access, access_of, source_of}
 use Rattle.trace_run.specs.Answers.{is_refusal, window_of}
 use Rattle.trace_run.specs.Effects.{calls_of, effect_of}
 use Rattle.trace_run.specs.Ends.{ends_of, opening_of}

@@ -20,15 +20,14 @@ use Rattle.arc_table.specs.declared.view.Known.{Known}
 use Rattle.vdev_io.specs.declared.pool.Pool.{Ghosts}
 use Rattle.trace_text.specs.declared.reply.Refusal.{Refusal}
 use Rattle.trace_text.specs.declared.reply.Refusal.TheVariants as refusals
-use Rattle.trace_run.specs.declared.access.Access.{Access}
 use Rattle.trace_run.specs.declared.get.Got.{Got}
 use Rattle.trace_run.specs.declared.kept_blocks.KeptBlock.{KeptBlock}
-use Rattle.trace_run.specs.Access.{AsksPool, access_of, events_of_answered, events_of_refused, source_of}
-use Rattle.trace_run.specs.Effects.{calls_from}
+use Rattle.trace_run.specs.Access.{Access, AsksPool, access_of, events_of_answered, events_of_refused, source_of}
+use Rattle.trace_run.specs.Effects.{Effect, Answered, GivenBack, PoolRefused, NoEffect, calls_from}
 use Rattle.trace_run.specs.Ends.{opening_of}
 use Rattle.trace_run.specs.KeptBlocks.{read_of}
 use Rattle.trace_run.specs.OneCaller.{key_held_by}
-use Rattle.trace_run.specs.PlainCache.{kept_read}
+use Rattle.trace_run.specs.KeptReads.{kept_read}
 use Rattle.trace_run.specs.Read.{IsMismatch, IsReadOf}
 use Rattle.trace_run.specs.Seen.{AddsAll, AddsOwn, HasAll, seen_of}
 use Rattle.trace_run.specs.Told.{IsTold}
@@ -90,6 +89,13 @@ IsFromPool served.Hit = ⊥
 IsFromPool served.L2 = ⊥
 IsFromPool served.Pool = Unit {0}
 IsFromPool served.Past = Unit {0}
+
+-- the bytes that a reply tells of came from the pool in this call
+abbrev pub CameFromPool : Effect → Type 0
+CameFromPool (Answered from) = IsFromPool from
+CameFromPool GivenBack = ⊥
+CameFromPool (PoolRefused call) = ⊥
+CameFromPool NoEffect = ⊥
 
 -- What was got: a read of this block, whose bytes are of the pointer. Over a pool that tells its bytes they are those in the key's range,
 -- where they came from there in this call, and else those of a plain read unless two contents share a digest.

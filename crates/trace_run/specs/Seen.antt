@@ -4,6 +4,7 @@ use mathlib.Core.Option.{some}
 use lib.ListN.{get_elem?}
 use Rattle.arc_core.specs.declared.config.Config.{Config}
 use Rattle.arc_core.specs.declared.event.Event.{Event}
+use Rattle.arc_core.specs.declared.event.Event.TheVariants.{Pass}
 use Rattle.arc_core.specs.Operations.{Moment, goes_on, is_pass, moments, number_of, own_moments}
 use Rattle.arc_core.specs.Replay.{replay}
 use Rattle.arc_core.specs.ShardLog.{ShardLog}
@@ -14,6 +15,7 @@ use Rattle.arc_table.specs.declared.view.Line.{Line}
 use Rattle.arc_table.specs.declared.view.Line.TheVariants as line
 use Rattle.arc_table.specs.declared.view.Mine.{Mine}
 use Rattle.arc_table.specs.Fronts.{StartsWith, front_of}
+use Rattle.arc_table.specs.Geometry.{parties_of}
 use Rattle.trace_run.specs.Ends.{opening_of}
 
 -- the events among lines of histories
@@ -26,25 +28,32 @@ events_in (line.Entry ns ∷ ls) = events_in ls
 abbrev pub turn_of : Config → (shard : ℕ) → ℕ
 turn_of g shard = g.cells + (g.shards * g.buckets + shard)
 
+-- the owner that a pass names
+abbrev pub pass_owner : Event → ℕ
+pass_owner (Pass n k owner) = owner
+pass_owner _ = 0
+
 -- an event stands there with which n's scan goes on
 abbrev pub GoesOnAt : (n : ℕ) → List Line → (place : ℕ) → Type 0
 GoesOnAt n seen place = (e : Event) × (get_elem? seen place ≡ some (line.Event e)) × IsTrue (goes_on n e)
 
--- an event of n's stands there; where it is a pass, n's scan goes on right behind it
-pub record IsSeen (n : ℕ) (seen : List Line) (place : ℕ) : Type 0 where
+-- an event of n's stands there; where it is a pass, it names one of so many parties, and n's scan goes on right behind it
+pub record IsSeen (parties n : ℕ) (seen : List Line) (place : ℕ) : Type 0 where
   pub event : Event
   pub there : get_elem? seen place ≡ some (line.Event event)
   pub number : number_of event ≡ n
   pub placed : IsTrue (is_pass event) → GoesOnAt n seen (suc place)
+  pub named : IsTrue (is_pass event) → pass_owner event < parties
 
 -- these lines of shards stand in what was seen, and are n's
 abbrev pub AreSeen : Config → (n : ℕ) → List Mine → List (List Line) → Type 0
-AreSeen g n mines seen = (i j : ℕ) (a : Mine) → get_elem? mines j ≡ some a → a.turn ≡ turn_of g i → IsSeen n (front_of (turn_of g i) seen) a.place
+AreSeen g n mines seen = (i j : ℕ) (a : Mine) → get_elem? mines j ≡ some a → a.turn ≡ turn_of g i → IsSeen (parties_of g) n (front_of (turn_of g i) seen) a.place
 
--- these events are n's, and behind each pass n's scan goes on
-abbrev pub AreOwn : (n : ℕ) → List Event → Type 0
-AreOwn n es = (z : ℕ) (e : Event) → get_elem? es z ≡ some e
+-- these events are n's; behind each pass n's scan goes on, and it names one of so many parties
+abbrev pub AreOwn : (parties n : ℕ) → List Event → Type 0
+AreOwn parties n es = (z : ℕ) (e : Event) → get_elem? es z ≡ some e
     → (number_of e ≡ n) × (IsTrue (is_pass e) → (x : Event) × (get_elem? es (suc z) ≡ some x) × IsTrue (goes_on n x))
+    × (IsTrue (is_pass e) → pass_owner e < parties)
 
 module _ {C : Type 0} where
   -- what the party has seen of the history of the shard of this number
@@ -101,4 +110,4 @@ pub record Made {C : Type 0} (g : Config) (shard : ℕ) (before : ShardLog) (es 
   pub news : List Mine
   pub mine : q.own.mine ≡ p.own.mine ++ news
   pub each : (y : ℕ) (a : Mine) → get_elem? news y ≡ some a → (a.turn ≡ turn_of g shard) × (a.place ≡ length before.history + y) × (y < length es)
-  pub own : AreOwn p.number es
+  pub own : AreOwn (parties_of g) p.number es

@@ -10,4 +10,5 @@ code_of (statuses.Usage index) = 2
 code_of (statuses.BadTrace line kind) = 3
 code_of statuses.SourceFault = 4
 code_of statuses.SinkFault = 5
+code_of statuses.PoolFault = 6
 code_of statuses.NoMemory = 7

@@ -1,5 +1,6 @@
 //! One read of a caller through the shared cache (arc_read of OpenZFS 2.1's arc.c).
 ghost use Rattle.std.specs.Prelude.{◌≡◌, IfErr, IfOk, List};
+ghost use Rattle.blk_ptr.specs.Key.{IsValid};
 ghost use Rattle.arc_table.specs.PoolCalls.{KeepsPool};
 ghost use Rattle.trace_run.specs.KeptBlocks.{Stands};
 ghost use Rattle.trace_run.specs.Reads.{CallsFor, DidRead, IsCauseOf, IsGot, kept_then};
@@ -37,6 +38,7 @@ pub(crate) fn get<C: Keeps, P: Pool, D: CacheDev>(
     ensures stands { (kept : List KeptBlock) → Stands arcs.now party.old kept → Stands arcs.now party.new (kept_then kept result) }
     ensures did { DidRead arcs.now.config (D.size device.old) t ptr.now party.old party.new result }
     ensures got { IfOk result (IsGot (P.told pool.old) block ptr.now) }
+    ensures valid { IfOk result (λ got. IsValid (P.size pool.old) ptr.now.key) }
     ensures cause { IfErr result (IsCauseOf (P.size pool.old) (P.told pool.old) ptr.now) }
     ensures calls { CallsFor P.Pool pool.old pool.new result }
     ensures pool { KeepsPool P.Pool pool.old pool.new }

@@ -32,7 +32,12 @@ fn oldest_of(kept: &[KeptBlock], block: u32) -> Option<usize>
 }
 
 /// Gives back one of the reads that a caller keeps.
-fn give_back<C: Keeps>(rt: &impl Wait, arcs: &Arcs<C>, party: &mut Party<C>, read: KeptBlock)
+pub(crate) fn give_back<C: Keeps>(
+    rt: &impl Wait,
+    arcs: &Arcs<C>,
+    party: &mut Party<C>,
+    read: KeptBlock,
+)
     requires { (front : List KeptBlock) × (rest : List KeptBlock) × Stands arcs.now party.old (front ++ read ∷ rest) }
     ensures stands { (front rest : List KeptBlock) → Stands arcs.now party.old (front ++ read ∷ rest) → Stands arcs.now party.new (front ++ rest) }
     ensures gives { GivesBack (meanings C.holds C.entries C.opening C.claims C.sound) arcs.now.config read.kept party.old party.new }

@@ -1,20 +1,21 @@
 //! The run of a trace: from the words and the source to the report on the sink.
 #![tactic(auto)]
 
-mod access;
-mod answer;
-mod block_map;
-mod caller_cache;
+mod alone;
 mod get;
+mod group;
+mod in_order;
 mod kept_blocks;
+mod lines;
+mod opening;
 mod paper;
-mod read;
+mod ran;
 mod run_trace;
-mod serve;
 mod status;
 mod stream;
 #[cfg(test)]
 mod tests;
+mod together;
 mod top;
 mod words;
 mod zero_pool;

@@ -1,6 +1,9 @@
 //! How a run ended.
 ghost use Rattle.std.specs.Prelude.{◌≡◌};
 
+use arc_table::Closed;
+use dbuf_cells::Kept;
+use dbuf_state::Cell;
 use trace_text::{Kind, Report};
 
 /// The status of a run.
@@ -18,6 +21,8 @@ pub enum Status {
     SourceFault,
     /// The sink failed while the report was written.
     SinkFault,
+    /// A fork of the pool failed.
+    PoolFault,
     /// Memory was refused.
     NoMemory,
 }
@@ -36,16 +41,19 @@ impl Status {
             Status::BadTrace { .. } => 3,
             Status::SourceFault => 4,
             Status::SinkFault => 5,
+            Status::PoolFault => 6,
             Status::NoMemory => 7,
         }
     }
 }
 
 /// What a run answers.
-#[derive(Debug, Drop)]
+#[derive(Drop)]
 pub struct Outcome {
     /// How it ended.
     pub status: Status,
     /// The report, where the trace was run.
     pub report: Option<Report>,
+    /// The shared cache at its end, whose histories the report has. It is there where the report is.
+    pub closed: Option<Closed<Cell<Kept>>>,
 }

@@ -1,5 +1,7 @@
 //! Runs over a source, a sink and a pool in memory, with values from outside.
 
+mod callers;
+mod gates;
 mod pages;
 mod rows;
 mod statuses;
@@ -27,9 +29,9 @@ count hit 0 miss 1 past 0 pool 1 l2 0 pass 0 set 0
 end 0
 ";
 
-/// The letters that stand for digests in the texts of these tests: of 512, 1,024, 2,048 and 16,777,216 zero bytes, of the numbers
-/// from 0 to 255 twice, and one of no bytes that are known.
-const DIGESTS: [(char, &str); 6] = [
+/// The letters that stand for digests in the texts of these tests: of 512, 1,024, 2,048, 131,072 and 16,777,216 zero bytes, of the
+/// numbers from 0 to 255 twice, and one of no bytes that are known.
+const DIGESTS: [(char, &str); 7] = [
     (
         'Z',
         "076a27c79e5ace2a3d47f9dd2e83e4ff6ea8872b3c2218f66c92b89b55f36560",
@@ -41,6 +43,10 @@ const DIGESTS: [(char, &str); 6] = [
     (
         'X',
         "e5a00aa9991ac8a5ee3109844d84a55583bd20572ad3ffcd42792f3c36b183ad",
+    ),
+    (
+        'L',
+        "fa43239bcee7b97ca62f007cc68487560a39e19f74f3dde7486db3f98df8e471",
     ),
     (
         'M',

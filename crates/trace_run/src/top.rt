@@ -1,14 +1,15 @@
 //! The top call: from the words and the source to the report on the sink.
-ghost use Rattle.std.specs.Prelude.{◌≡◌, ◌≤◌, ◌<◌, ◌^◌, IfSome, IfOk, IfErr, None, false, is_some, ◌+◌};
+ghost use Rattle.std.specs.Prelude.{◌≡◌, ◌<◌, ◌^◌, IfOk, IfErr, None, false, is_some, ◌+◌};
 ghost use Rattle.trace_text.specs.Grammar.{IsFormed, longest_text};
 ghost use Rattle.trace_run.specs.Stream.{TakesAtMost};
-ghost use Rattle.trace_run.specs.Outcome.{AnswersWords, AnswersSource, AnswersSink, Does, DoesRun, IfUsage, IsDelivered, IsGenReport, IsGenStatus, IsReadStatus, WasRead, has_report};
-ghost use Rattle.arc_table.specs.PoolCalls.{KeepsPool};
+ghost use Rattle.trace_run.specs.Outcome.{AnswersWords, AnswersSource, AnswersSink, Does, DoesRun, IfReported, IfUsage, IsDelivered, IsGenReport, IsGenStatus, IsReadStatus, IsReportStatus, WasRead, has_report};
+ghost use Rattle.trace_run.specs.Group.{LeavesPool};
 ghost use Rattle.trace_run.specs.States.{handed, sink_state, source_state};
 ghost use Rattle.trace_run.specs.Words.{IsInRange, texts};
 ghost use Rattle.trace_run.specs.declared.words.Command.TheVariants as command;
 
 use crate::paper::run_paper;
+use crate::ran::Reported;
 use crate::run_trace::{run_generated_trace, run_trace};
 use crate::status::{Outcome, Status};
 use crate::stream::{ReadAllFault, read_all, write_all};
@@ -17,7 +18,7 @@ use blk_ptr::NoMemory;
 use std::alloc::Global;
 use std::sync::Wait;
 use std::thread::Threads;
-use trace_text::{Report, Trace, TraceFault, read_trace, report_text};
+use trace_text::{Trace, TraceFault, read_trace, report_text};
 use vdev_io::{CacheDev, Failed, Gate, Pool, Sink, Source};
 
 /// The most bytes of a trace.
@@ -43,35 +44,41 @@ pub fn run<R: Threads + Wait + Sync, S: Source, K: Sink, P: Pool, D: CacheDev, G
     // Usage comes exactly where the words are no command, with the first word that is wrong. Else the command did what it is to do:
     // a bad trace and a fault of the source come only with their causes, the report explains what was run, and its text is written.
     ensures answers { AnswersWords (texts words.now) (Does P.Pool
-        (handed S.Source K.Sink source.old sink.old pool.old) (handed S.Source K.Sink source.new sink.new pool.new) result.status result.report) result.status }
+        (handed S.Source K.Sink source.old sink.old pool.old) (handed S.Source K.Sink source.new sink.new pool.new) result.status result.report result.closed) result.status }
 
     // Where the words are refused nothing is touched, and where nothing is run the pool isn't.
     ensures untouched { IfUsage result.status
-        ((source.new ≡ source.old) × (sink.new ≡ sink.old) × (pool.new ≡ pool.old) × (result.report ≡ None)) }
+        ((source.new ≡ source.old) × (sink.new ≡ sink.old) × (pool.new ≡ pool.old) × (result.report ≡ None) × (result.closed ≡ None)) }
 
     // The pool holds what it held.
-    ensures pool { KeepsPool P.Pool pool.old pool.new }
+    ensures pool { LeavesPool P.Pool pool.old pool.new }
     ensures cache { cache.new ≡ cache.old }
 {
     match Command::parse(words) {
-        Ok(Command::Run { events }) => run_source(alloc, events, source, sink, pool, gate),
+        Ok(Command::Run { events }) => run_source(alloc, rt, events, source, sink, pool, gate),
         Ok(Command::Gen { seed, blocks, ops }) => run_generated(
-            alloc, seed, blocks, ops, sink, gate,
+            alloc, rt, seed, blocks, ops, sink, gate,
         ),
-        Ok(Command::Paper { c }) => Outcome {
-            status: run_paper(alloc, c, source, sink),
-            report: None,
-        },
-        Err(index) => Outcome {
-            status: Status::Usage { index },
-            report: None,
-        },
+        Ok(Command::Paper { c }) => untold(run_paper(alloc, c, source, sink)),
+        Err(index) => untold(Status::Usage { index }),
+    }
+}
+
+/// How a run ended that has no report.
+fn untold(status: Status) -> Outcome
+    ensures { (result.status ≡ status) × (result.report ≡ None) × (result.closed ≡ None) }
+{
+    Outcome {
+        status,
+        report: None,
+        closed: None,
     }
 }
 
 /// Runs the trace that the source holds, and writes its report to the sink.
-fn run_source<S: Source, K: Sink, P: Pool, G: Gate>(
+fn run_source<R: Threads + Wait + Sync, S: Source, K: Sink, P: Pool, G: Gate>(
     alloc: Global,
+    rt: &R,
     events: bool,
     source: &mut S,
     sink: &mut K,
@@ -80,30 +87,23 @@ fn run_source<S: Source, K: Sink, P: Pool, G: Gate>(
 ) -> Outcome
     ensures past_words { IfUsage result.status ⊥ }
     ensures does { DoesRun P.Pool events
-        (handed S.Source K.Sink source.old sink.old pool.old) (handed S.Source K.Sink source.new sink.new pool.new) result.status result.report }
-    ensures pool { KeepsPool P.Pool pool.old pool.new }
+        (handed S.Source K.Sink source.old sink.old pool.old) (handed S.Source K.Sink source.new sink.new pool.new) result.status result.report result.closed }
+    ensures pool { LeavesPool P.Pool pool.old pool.new }
 {
     let trace = match read_source(alloc, source) {
         Ok(trace) => trace,
-        Err(status) => {
-            return Outcome {
-                status,
-                report: None,
-            };
-        }
+        Err(status) => return untold(status),
     };
-    match run_trace(alloc, &trace, pool, gate) {
-        Ok(report) => deliver(alloc, events, sink, report),
-        Err(NoMemory) => Outcome {
-            status: Status::NoMemory,
-            report: None,
-        },
+    match run_trace(alloc, rt, &trace, pool, gate) {
+        Ok(reported) => deliver(alloc, events, sink, reported),
+        Err(NoMemory) => untold(Status::NoMemory),
     }
 }
 
 /// Makes a trace and runs it over a pool of its own, and writes the report to the sink.
-fn run_generated<K: Sink, G: Gate>(
+fn run_generated<R: Threads + Wait + Sync, K: Sink, G: Gate>(
     alloc: Global,
+    rt: &R,
     seed: u32,
     blocks: u32,
     ops: u32,
@@ -113,16 +113,13 @@ fn run_generated<K: Sink, G: Gate>(
     requires { IsInRange (command.Gen seed blocks ops) }
     ensures past_words { IfUsage result.status ⊥ }
     ensures fair { IsGenStatus result.status }
-    ensures reported { IfSome result.report (IsGenReport seed blocks ops) }
+    ensures reported { IfReported result.report result.closed (IsGenReport seed blocks ops) }
     ensures sink { AnswersSink false (sink_state K.Sink sink.old) (sink_state K.Sink sink.new) result.status result.report }
     ensures present { is_some result.report ≡ has_report result.status }
 {
-    match run_generated_trace(alloc, seed, blocks, ops, gate) {
-        Ok(report) => deliver(alloc, false, sink, report),
-        Err(NoMemory) => Outcome {
-            status: Status::NoMemory,
-            report: None,
-        },
+    match run_generated_trace(alloc, rt, seed, blocks, ops, gate) {
+        Ok(reported) => deliver(alloc, false, sink, reported),
+        Err(NoMemory) => untold(Status::NoMemory),
     }
 }
 
@@ -147,27 +144,27 @@ fn read_source<S: Source>(alloc: Global, source: &mut S) -> Result<Trace, Status
 }
 
 /// Writes a report's text to the sink.
-fn deliver<K: Sink>(alloc: Global, events: bool, sink: &mut K, report: Report) -> Outcome
-    requires { report.status ≤ 1 }
+fn deliver<K: Sink>(alloc: Global, events: bool, sink: &mut K, reported: Reported) -> Outcome
+    requires { IsReportStatus reported.report.status }
     ensures sink { AnswersSink events (sink_state K.Sink sink.old) (sink_state K.Sink sink.new) result.status result.report }
     ensures present { is_some result.report ≡ has_report result.status }
-    ensures same { IfSome result.report (λ told. told ≡ report) }
+    ensures same { IfReported result.report result.closed (λ closed told. (told ≡ reported.report) × (closed ≡ reported.closed)) }
     ensures which { IsDelivered result.status }
 {
+    let Reported { report, closed } = reported;
     let mut text = Vec::new(alloc);
     if let Err(NoMemory) = report_text(alloc, &report, events, &mut text) {
-        return Outcome {
-            status: Status::NoMemory,
-            report: None,
-        };
+        return untold(Status::NoMemory);
     }
-    let status = match write_all(sink, &text) {
-        Err(Failed) => Status::SinkFault,
-        Ok(()) if report.status == 0 => Status::Ok,
-        Ok(()) => Status::ReadsFailed,
+    let status = match (write_all(sink, &text), report.status) {
+        (Err(Failed), _) => Status::SinkFault,
+        (Ok(()), 0) => Status::Ok,
+        (Ok(()), 1) => Status::ReadsFailed,
+        (Ok(()), _) => Status::PoolFault,
     };
     Outcome {
         status,
         report: Some(report),
+        closed: Some(closed),
     }
 }

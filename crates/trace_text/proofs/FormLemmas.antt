@@ -1,6 +1,7 @@
 -- The lines of each word, from their fields.
-use Rattle.std.proofs.Common.{◌≡◌, ℕ, List, [], ◌∷◌, length, Result, Err, refl, ap, ◌∙◌, sym, arith}
+use Rattle.std.proofs.Common.{◌≡◌, ℕ, ◌≤◌, ◌^◌, List, [], ◌∷◌, length, Result, Err, refl, ap, ◌∙◌, sym, arith}
 use Rattle.std.specs.Prelude.{decimal}
+use Rattle.std.proofs.lemmas.Fmt.{decimal_injective}
 use Rattle.hex.specs.Hex.{encode_lower}
 use Rattle.blk_ptr.specs.declared.ptr.Ptr.{Ptr}
 use Rattle.arc_core.specs.declared.config.Config.{Config}
@@ -50,6 +51,13 @@ spell-drop callers fields line s =
 -- what comes after the first field
 pub next-fields : {fields rest others : List (List ℕ)} {a b : List ℕ} → fields ≡ a ∷ rest → fields ≡ b ∷ others → rest ≡ others
 next-fields e f = let joined = sym e ∙ f in cc
+
+-- the number in the first field
+pub same-number : {fields rest others : List (List ℕ)} (a b : ℕ) → a ≤ 2 ^ 32 → b ≤ 2 ^ 32 → fields ≡ decimal a ∷ rest → fields ≡ decimal b ∷ others → a ≡ b
+same-number a b low_a low_b e f = decimal_injective a b (omega arith) (omega arith) (first-field (sym e ∙ f))
+  where
+    first-field : {x y : List ℕ} {xs ys : List (List ℕ)} → x ∷ xs ≡ y ∷ ys → x ≡ y
+    first-field joined = cc
 
 -- fields with a number or a digest that is none are no line
 pub number-fault : (seen : Seen) (word : Word) (fields : List (List ℕ)) (r : Result Line Kind) (e kind : Kind) → r ≡ Err e → e ≡ kind → kind ≡ kinds.Number

@@ -91,8 +91,6 @@ IsFormed-generated seed blocks count trace some few short g =
         amounts = record { c = record { least = omega arith; most = omega arith }; all_shards = omega arith; mintime = omega arith; dbuf_bytes = omega arith };
         bounds = record { write_max = (omega arith, omega arith); headroom = (omega arith, omega arith) };
       };
-      one_caller = omega arith;
-      one_shard = omega arith;
       write_max = refl;
       headroom = refl;
     }

@@ -68,7 +68,7 @@ AddAll-one before few (line ∷ lines) x y a b =
 -- ---- a line that is added has no fault
 
 spelling-shape : (callers : ℕ) → callers ≤ 16 → (l : Line) → IsInRange callers l → HasShape (word_of l) (spelling l)
-spelling-shape callers few (Sizes z) r = (refl, (decimal_nonempty z.callers (omega (arith, r.one_caller)), (decimal_nonempty z.shards (omega (arith, r.one_shard)), (decimal_nonempty z.buckets (omega (arith, r.ranged.counts.buckets.1)), (decimal_nonempty z.cells (omega (arith, r.ranged.counts.cells.1)), (decimal_nonempty z.c (omega (arith, r.ranged.amounts.c.most)), (decimal_nonempty z.mintime (omega (arith, r.ranged.amounts.mintime)), (decimal_nonempty z.dbuf_bytes (omega (arith, r.ranged.amounts.dbuf_bytes)), tt))))))))
+spelling-shape callers few (Sizes z) r = (refl, (decimal_nonempty z.callers (omega (arith, r.ranged.counts.callers.1)), (decimal_nonempty z.shards (omega (arith, r.ranged.counts.shards.1)), (decimal_nonempty z.buckets (omega (arith, r.ranged.counts.buckets.1)), (decimal_nonempty z.cells (omega (arith, r.ranged.counts.cells.1)), (decimal_nonempty z.c (omega (arith, r.ranged.amounts.c.most)), (decimal_nonempty z.mintime (omega (arith, r.ranged.amounts.mintime)), (decimal_nonempty z.dbuf_bytes (omega (arith, r.ranged.amounts.dbuf_bytes)), tt))))))))
 spelling-shape callers few (Declared p) r = (refl, (decimal_nonempty p.key.offset (omega (arith, r.offset)), (decimal_nonempty p.key.size (omega (arith, r.size)), (decimal_nonempty p.key.birth (omega (arith, r.birth)), ((let twice = length-encode_with lower_digits p.digest.0 in omega (arith, r.digest.sized)), tt)))))
 spelling-shape callers few (Operation (ops.Read n t x w)) r = (refl, (decimal_nonempty n (omega (arith, r.0)), (decimal_nonempty t (omega (arith, r.1)), (decimal_nonempty x (omega (arith, r.2)), (decimal_nonempty w.at (omega (arith, r.3)), (decimal_nonempty w.len (omega (arith, w.short)), tt))))))
 spelling-shape callers few (Operation (ops.Hold n t x)) r = (refl, (decimal_nonempty n (omega (arith, r.0)), (decimal_nonempty t (omega (arith, r.1)), (decimal_nonempty x (omega (arith, r.2)), tt))))

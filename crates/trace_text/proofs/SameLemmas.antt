@@ -34,8 +34,8 @@ ptr-same a b e1 e2 e3 e4 = λ i. record { key = record { offset = e1 i; size = e
 -- two lines in range of one word, with one spelling, are one line
 same-sizes : (a b : Config) → AreSizes a → AreSizes b → spelling (Sizes a) ≡ spelling (Sizes b) → Sizes a ≡ Sizes b
 same-sizes a b p q e = ap Sizes (config-same a b
-    (decimal_injective a.callers b.callers (omega (arith, p.one_caller)) (omega (arith, q.one_caller)) (ap (λ f. get_or f 1 []) e))
-    (decimal_injective a.shards b.shards (omega (arith, p.one_shard)) (omega (arith, q.one_shard)) (ap (λ f. get_or f 2 []) e))
+    (decimal_injective a.callers b.callers (omega (arith, p.ranged.counts.callers.1)) (omega (arith, q.ranged.counts.callers.1)) (ap (λ f. get_or f 1 []) e))
+    (decimal_injective a.shards b.shards (omega (arith, p.ranged.counts.shards.1)) (omega (arith, q.ranged.counts.shards.1)) (ap (λ f. get_or f 2 []) e))
     (decimal_injective a.buckets b.buckets (omega (arith, p.ranged.counts.buckets.1)) (omega (arith, q.ranged.counts.buckets.1)) (ap (λ f. get_or f 3 []) e))
     (decimal_injective a.cells b.cells (omega (arith, p.ranged.counts.cells.1)) (omega (arith, q.ranged.counts.cells.1)) (ap (λ f. get_or f 4 []) e))
     (decimal_injective a.c b.c (omega (arith, p.ranged.amounts.c.most)) (omega (arith, q.ranged.amounts.c.most)) (ap (λ f. get_or f 5 []) e))

@@ -83,11 +83,9 @@ pub record IsDigest (digest : Digest) : Type 0 where
   pub sized : length digest.0 ≡ 32
   pub bytes : IsBytes digest.0
 
--- the sizes of a cache that an `arc` line may give: for now those of one caller and one shard, with the usual bounds of a feed
+-- the sizes of a cache that an `arc` line may give, with the usual bounds of a feed
 pub record AreSizes (sizes : Config) : Type 0 where
   pub ranged : IsConfig sizes
-  pub one_caller : sizes.callers ≤ 1
-  pub one_shard : sizes.shards ≤ 1
   pub write_max : sizes.bounds.write_max ≡ 8388608
   pub headroom : sizes.bounds.headroom ≡ 2
 

@@ -25,8 +25,8 @@ pub(crate) fn sizes(seen: Seen, fields: &mut Parts<'_>) -> Result<Line, Kind>
     requires { length fields.old ≡ field_count words.Arc }
     ensures { IsFormRead seen words.Arc fields.old result }
 {
-    let callers = next_number(fields, 1, 1)? as u32;
-    let shards = next_number(fields, 1, 1)?;
+    let callers = next_number(fields, 1, 16)? as u32;
+    let shards = next_number(fields, 1, 16)?;
     let buckets = next_number(fields, 1, 256)? as u32;
     let cells = next_number(fields, 1, 16)? as u32;
     let c = next_number(fields, 4096, LARGEST_SIZE)?;

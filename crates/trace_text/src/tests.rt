@@ -164,7 +164,7 @@ fn third_lines_with_no_fault(rt: HostRuntime) -> Result<(), Fail> {
 }
 
 /// A first line, and what is wrong with it.
-const FIRST_LINES: [(&str, Kind); 30] = [
+const FIRST_LINES: [(&str, Kind); 31] = [
     (" arc 1 1 16 1 4096 0 0", Kind::First),
     ("arc\t1 1 16 1 4096 0 0", Kind::First),
     ("Arc 1 1 16 1 4096 0 0", Kind::First),
@@ -178,9 +178,10 @@ const FIRST_LINES: [(&str, Kind); 30] = [
     ("arc 1  1 16 1 4096 0 0", Kind::Shape),
     ("arc 1 1 16 1 4096 0 ", Kind::Shape),
     ("arc x 1 16 1 4096 0", Kind::Shape),
-    ("arc 2 1 16 1 4096 0 0", Kind::Number),
+    ("arc 17 1 16 1 4096 0 0", Kind::Number),
     ("arc 0 1 16 1 4096 0 0", Kind::Number),
-    ("arc 1 2 16 1 4096 0 0", Kind::Number),
+    ("arc 1 17 16 1 4096 0 0", Kind::Number),
+    ("arc 1 16 16 1 268435457 0 0", Kind::Number),
     ("arc 1 1 0 1 4096 0 0", Kind::Number),
     ("arc 1 1 257 1 4096 0 0", Kind::Number),
     ("arc 1 1 16 0 4096 0 0", Kind::Number),
@@ -213,7 +214,7 @@ fn faults_of_a_first_line(rt: HostRuntime) -> Result<(), Fail> {
 }
 
 /// Texts, and the line and the kind of the first fault of each, or None.
-const TEXTS: [(&str, Option<(u32, Kind)>); 10] = [
+const TEXTS: [(&str, Option<(u32, Kind)>); 13] = [
     ("", Some((1, Kind::First))),
     ("\n", Some((1, Kind::First))),
     ("\n\n#\n", Some((1, Kind::First))),
@@ -224,6 +225,15 @@ const TEXTS: [(&str, Option<(u32, Kind)>); 10] = [
         Some((1, Kind::First)),
     ),
     ("#\narc 1 1 256 16 4294967296 4294967296 4294967296", None),
+    ("arc 16 16 256 16 268435456 0 0", None),
+    (
+        "arc 16 1 1 1 4096 0 0\nread 16 1 0 0 0",
+        Some((2, Kind::Number)),
+    ),
+    (
+        "arc 16 1 1 1 4096 0 0\nread 15 1 0 0 0",
+        Some((2, Kind::Order)),
+    ),
     (
         "arc 1 1 16 1 4096 0 0\narc 1 1 16 1 4096 0 0",
         Some((2, Kind::Word)),

@@ -2,7 +2,7 @@ use Rattle.std.proofs.Common.{Ok, refl, ap, ◌∙◌, subst}
 use Rattle.arc_table.specs.Items.{meanings}
 use Rattle.arc_table.specs.Reading.{outside}
 use Rattle.dbuf_cells.specs.declared.kept.Kept.TheVariants.{Loose}
-use Rattle.trace_run.proofs.GetLemmas.{adds, fault-did, fault-stands, held-did, held-got, held-stands, lists, past-did, past-stands}
+use Rattle.trace_run.proofs.GetLemmas.{adds, fault-did, fault-stands, held-did, held-got, held-stands, lists, ok-valid, past-did, past-stands}
 use Rattle.trace_run.proofs.ReadLemmas.{AddsRead}
 use Rattle.trace_run.proofs.ReadStands.{ListsAnswer}
 use Rattle.trace_run.proofs.get.get.Goals as goal
@@ -50,3 +50,13 @@ pub returns-in-Err-clause-did : goal.returns-in-Err-clause-did
 returns-in-Err-clause-did g c =
     fault-did (meanings g.C.Keeps.holds g.C.Keeps.entries g.C.Keeps.opening g.C.Keeps.claims g.C.Keeps.sound) c.args.arcs.now g.P.Pool g.D.CacheDev c.args.ptr.now c.args.t c.args.block
     (outside c.args.pool.now c.args.device.now) (outside c.read.new.pool c.read.new.cache) c.args.party.now c.read.new.party c.requires.0 c.requires.1 c.read.result c.read.ensures.answer c.in-Err.fault c.in-Err.is
+
+pub returns-in-Ok-Held-clause-valid : goal.returns-in-Ok-Held-clause-valid
+returns-in-Ok-Held-clause-valid g c =
+    ok-valid (meanings g.C.Keeps.holds g.C.Keeps.entries g.C.Keeps.opening g.C.Keeps.claims g.C.Keeps.sound) g.P.Pool g.D.CacheDev c.args.arcs.now.config c.args.ptr.now c.args.t
+    (outside c.args.pool.now c.args.device.now) (outside c.read.new.pool c.read.new.cache) c.args.party.now c.read.new.party c.read.result _ c.in-Ok-Held.is c.read.ensures.answer
+
+pub returns-in-Ok-Past-clause-valid : goal.returns-in-Ok-Past-clause-valid
+returns-in-Ok-Past-clause-valid g c =
+    ok-valid (meanings g.C.Keeps.holds g.C.Keeps.entries g.C.Keeps.opening g.C.Keeps.claims g.C.Keeps.sound) g.P.Pool g.D.CacheDev c.args.arcs.now.config c.args.ptr.now c.args.t
+    (outside c.args.pool.now c.args.device.now) (outside c.read.new.pool c.read.new.cache) c.args.party.now c.read.new.party c.read.result _ c.in-Ok-Past.is c.read.ensures.answer

@@ -4,7 +4,7 @@ use Rattle.std.specs.List.{position, remove}
 use Rattle.std.proofs.lemmas.List.{length-map}
 use Rattle.arc_table.specs.Items.{meanings}
 use Rattle.dbuf_state.proofs.CellLemmas.{position-map}
-use Rattle.trace_run.specs.declared.access.KeptRead.{KeptRead}
+use Rattle.trace_run.specs.KeptReads.{KeptRead}
 use Rattle.trace_run.specs.declared.kept_blocks.KeptBlock.{KeptBlock}
 use Rattle.trace_run.specs.KeptBlocks.{Drops, Stands, read_of}
 use Rattle.trace_run.specs.OneCaller.{is_of_block}

@@ -6,28 +6,33 @@ use Rattle.trace_run.specs.Answers.{AnswersAll, is_pool_fault}
 use Rattle.trace_run.specs.Explaining.{Explain}
 use Rattle.trace_run.specs.Outcome.{generated, zeros_of}
 use Rattle.trace_run.specs.PlainRun.{report_of}
-use Rattle.trace_run.proofs.GenLemmas.{made-report, made-trace, never-failed, none-refused}
+use Rattle.trace_run.proofs.GenLemmas.{made-plain, made-report, made-trace, never-failed, none-refused}
 use Rattle.trace_run.proofs.run_trace.run_generated_trace.Goals as goal
 
 pub returns : goal.returns
 returns g c =
     let len : c.new-pool.result.len ≡ c.args.blocks * 512 = c.new-pool.ensures.len ∙ ap (λ n. n * 512) c.from.ensures in
     let trace = c.in_ok-trace.trace in
-    let report = c.in_ok-report.report in
+    let reported = c.in_ok-reported.reported in
+    let report = reported.report in
     let drawn = c.in_ok-trace.ensures.drawn in
-    let run = c.in_ok-report.ensures.run in
+    let ran = c.in_ok-reported.ensures.run in
+    let run = ran.1 in
     let is : trace ≡ generated c.args.seed c.args.blocks c.args.ops = made-trace c.args.seed c.args.blocks c.args.ops trace drawn in
-    let alone = run.alone (ap (λ (t : Trace). t.config.callers) is) in
+    let one = run.alone (ap (λ (t : Trace). t.config.callers) is) in
+    let alone = one.1 in
     let give = never-failed _ (λ p. refl) alone.calls _ _ alone.made in
-    let answers : AnswersAll (c.args.blocks * 512) (Some (zeros_of c.args.blocks)) trace.blocks trace.ops report.replies = rw len at run.answers in
-    let fair : count_by is_pool_fault report.replies ≡ 0 = let h = run.faults (omega arith) in omega (arith, h) in
+    let answers : AnswersAll (c.args.blocks * 512) (Some (zeros_of c.args.blocks)) trace.blocks trace.ops report.replies = rw (len, one.0) at run.answers in
+    let fair : count_by is_pool_fault report.replies ≡ 0 = let h = rw one.0 at run.faults (omega arith) in omega (arith, h) in
     let none = none-refused c.args.seed c.args.blocks c.args.ops trace report.replies drawn answers fair in
-    let plain : report ≡ report_of trace (zeros_of c.args.blocks) alone.calls = rw len at alone.plain in
+    let plain : report ≡ report_of trace (zeros_of c.args.blocks) alone.calls =
+    made-plain c.args.seed c.args.blocks c.args.ops trace (zeros_of c.args.blocks) (report_of trace (zeros_of c.args.blocks) alone.calls) report drawn (rw len at alone.plain) in
     let whole : report ≡ report_of (generated c.args.seed c.args.blocks c.args.ops) (zeros_of c.args.blocks) [] =
     plain ∙ made-report c.args.seed c.args.blocks c.args.ops trace (zeros_of c.args.blocks) alone.calls is give in
     record {
       plain = ap (λ (r : Report). record r { short = true }) whole;
       answers = subst (λ (t : Trace). AnswersAll (c.args.blocks * 512) (Some (zeros_of c.args.blocks)) t.blocks t.ops report.replies) is answers;
       explained = subst (λ (t : Trace). Explain t report.replies report.ends report.histories) is run.explained;
-      status = c.in_ok-report.ensures.status ∙ rw none refl;
+      tells = record { histories = run.tells.histories; ends = run.tells.ends };
+      status = ran.2 ∙ rw (one.0, none) refl;
     }

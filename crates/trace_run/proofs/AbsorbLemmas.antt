@@ -1,0 +1,95 @@
+-- What a pool is once forks of it were taken back, and what it counts then.
+use Rattle.std.proofs.Common.{◌≡◌, ℕ, zero, suc, ◌+◌, ◌*◌, ◌<◌, ◌≤◌, ◌^◌, List, [], min, ◌∷◌, ◌++◌, length, get_or, refl, sym, ap, ◌∙◌, subst, arith}
+use Rattle.std.specs.Prelude.{sum_by}
+use Rattle.std.specs.List.{AllByRecursion}
+use Rattle.std.proofs.lemmas.List.Sums.{count_by-le-length, sum_by-cons}
+use Rattle.vdev_io.specs.declared.pool.Pool.{Ghosts}
+use Rattle.vdev_io.specs.Faults.{last_count}
+use Rattle.arc_table.specs.PoolCalls.{KeepsPool, MakesCalls, PoolCall, is_failed}
+use Rattle.trace_run.specs.Callers.{AbsorbsAll}
+use Rattle.trace_run.specs.Group.{IsFork, LeavesPool}
+use Rattle.trace_run.specs.Together.{over_callers}
+use Rattle.trace_run.proofs.RunLemmas.{calls-faults, calls-reads}
+
+module _ {P : Type 0} (pools : Ghosts P) where
+  -- ---- the pool has its length and its bytes
+
+  pub absorbed-leaves : (forks : List P) (old new : P) → AbsorbsAll pools forks old new → LeavesPool pools old new
+  absorbed-leaves [] old new is = record {
+    size = ap (λ (p : P). pools.size p) is;
+    told = ap (λ (p : P). pools.told p) is;
+    faults = let same : pools.faults new ≡ pools.faults old = ap (λ (p : P). pools.faults p) is in omega arith;
+  }
+  absorbed-leaves (fork ∷ forks) old new did =
+      let one = did.1 in
+      let rest = absorbed-leaves forks did.0 new did.2 in
+      record {
+        size = rest.size ∙ one.size;
+        told = rest.told ∙ one.told;
+        faults = omega (arith, one.faults, rest.faults);
+      }
+
+  pub kept-leaves : (a b c : P) → KeepsPool pools a b → LeavesPool pools b c → LeavesPool pools a c
+  kept-leaves a b c first second = record {
+    size = second.size ∙ first.size;
+    told = second.told ∙ first.told;
+    faults = omega (arith, first.faults, second.faults);
+  }
+
+  -- forks of a pool are forks of it as it is later
+  pub forks-moved : (old new : P) → KeepsPool pools old new → (forks : List P) → AllByRecursion (IsFork pools old) forks → AllByRecursion (IsFork pools new) forks
+  forks-moved old new keeps [] all = tt
+  forks-moved old new keeps (fork ∷ forks) all =
+      let one = all.0 in
+      (record { size = one.size ∙ sym keeps.size; told = one.told ∙ sym keeps.told; reads = one.reads; faults = one.faults }, forks-moved old new keeps forks all.1)
+
+  -- one fork more
+  pub fresh-then : (old now : P) → KeepsPool pools old now → (forks : List P) (fork : P) (more : List P) → more ≡ forks ++ fork ∷ [] → AllByRecursion (IsFork pools old) forks → IsFork pools now fork → AllByRecursion (IsFork pools old) more
+  fresh-then old now keeps forks fork more is all one = subst (AllByRecursion (IsFork pools old)) (sym is) (both forks all)
+    where
+      both : (fs : List P) → AllByRecursion (IsFork pools old) fs → AllByRecursion (IsFork pools old) (fs ++ fork ∷ [])
+      both [] have = (record { size = one.size ∙ keeps.size; told = one.told ∙ keeps.told; reads = one.reads; faults = one.faults }, tt)
+      both (f ∷ fs) have = (have.0, both fs have.1)
+
+  -- ---- what it counts
+
+  pub absorbed-reads : (forks : List P) (old new : P) → AbsorbsAll pools forks old new → pools.reads old + sum_by pools.reads forks ≤ last_count → pools.reads new ≡ pools.reads old + sum_by pools.reads forks
+  absorbed-reads [] old new is room = let same : pools.reads new ≡ pools.reads old = ap (λ (p : P). pools.reads p) is in omega arith
+  absorbed-reads (fork ∷ forks) old new did room =
+      let sum : sum_by pools.reads (fork ∷ forks) ≡ pools.reads fork + sum_by pools.reads forks = sum_by-cons pools.reads fork forks in
+      let one : pools.reads did.0 ≡ pools.reads old + pools.reads fork = omega (arith, did.1.reads, sum, room) in
+      omega (arith, sum, one, absorbed-reads forks did.0 new did.2 (omega (arith, sum, one, room)))
+
+  -- whatever room there was, the count of faults is their sum, as far as a count goes
+  pub absorbed-most : (forks : List P) (old new : P) → AbsorbsAll pools forks old new → min (pools.faults old + sum_by pools.faults forks) last_count ≤ pools.faults new
+  absorbed-most [] old new is = let same : pools.faults new ≡ pools.faults old = ap (λ (p : P). pools.faults p) is in let none : sum_by pools.faults [] ≡ 0 = refl in omega arith
+  absorbed-most (fork ∷ forks) old new did =
+      let sum : sum_by pools.faults (fork ∷ forks) ≡ pools.faults fork + sum_by pools.faults forks = sum_by-cons pools.faults fork forks in
+      omega (arith, sum, did.1.faults, absorbed-most forks did.0 new did.2)
+
+  -- forks that counted nothing
+  pub fresh-reads : (pool : P) (forks : List P) → AllByRecursion (IsFork pools pool) forks → sum_by pools.reads forks ≡ 0
+  fresh-reads pool [] all = refl
+  fresh-reads pool (fork ∷ forks) all = omega (arith, sum_by-cons pools.reads fork forks, all.0.reads, fresh-reads pool forks all.1)
+
+  -- a fork was read at most as often as there were calls
+  pub few-counts : (calls : List PoolCall) (fork done : P) → pools.reads fork ≡ 0 → pools.faults fork ≡ 0 → MakesCalls pools calls fork done → (most : ℕ) → length calls ≤ most → most ≤ last_count
+      → (pools.reads done ≤ most) × (pools.faults done ≤ most)
+  few-counts calls fork done reads faults made most few small = (
+    omega (arith, reads, few, calls-reads pools calls fork done made (omega (arith, reads, few, small))),
+    omega (arith, faults, few, count_by-le-length is_failed calls, calls-faults pools calls fork done made (omega (arith, faults, few, small))),
+  )
+
+-- ---- sums over callers
+
+over-shift : (k : ℕ) (f : ℕ → ℕ) → over_callers (suc k) f ≡ f 0 + over_callers k (λ n. f (suc n))
+over-shift zero f = omega arith
+over-shift (suc k) f = omega (arith, over-shift k f)
+
+pub over-sum : {P : Type 0} (f : P → ℕ) (xs : List P) (d : P) → over_callers (length xs) (λ n. f (get_or xs n d)) ≡ sum_by f xs
+over-sum f [] d = refl
+over-sum f (x ∷ xs) d = omega (arith, over-shift (length xs) (λ n. f (get_or (x ∷ xs) n d)), sum_by-cons f x xs, over-sum f xs d)
+
+pub sum-few : {P : Type 0} (f : P → ℕ) (xs : List P) (d : P) → ((k : ℕ) → k < length xs → f (get_or xs k d) ≤ 2 ^ 32) → sum_by f xs ≤ length xs * 2 ^ 32
+sum-few f [] d each = omega arith
+sum-few f (x ∷ xs) d each = omega (arith, sum_by-cons f x xs, each 0 (omega arith), sum-few f xs d (λ k lt. each (suc k) (omega (arith, lt))))

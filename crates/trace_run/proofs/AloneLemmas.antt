@@ -1,0 +1,394 @@
+-- The run of one caller over the shared cache: what its lines and the drops at the end made of each shard, and that this explains the replies.
+use Rattle.std.proofs.Common.{◌≡◌, ◌≢◌, ℕ, zero, suc, ◌+◌, ◌<◌, ◌≤◌, ◌==◌, ◌&&◌, cond, Bool, true, false, IsTrue, List, [], ◌∷◌, ◌++◌, length, map, get_or, Some, refl, sym, ap, ◌∙◌, subst, inl, inr, eq-eqb, arith}
+use Rattle.std.specs.Prelude.{filter, slice_get, sum_by}
+use Rattle.std.specs.List.{AllByRecursion, range_with_len}
+use Rattle.std.proofs.lemmas.Bool.{eqb-true}
+use Rattle.std.proofs.lemmas.List.{length-map}
+use Rattle.std.proofs.lemmas.List.Sums.{sum_by-cons}
+use mathlib.Core.Logic.{dite}
+use mathlib.Core.Option.{some, some-injective, some-ne-none}
+use native.Mathlib.Decide.{ℕ_discrete}
+use lib.ListN.{get_elem?}
+use Rattle.arc_lists.proofs.Tables.{cases_true}
+use Rattle.blk_ptr.specs.declared.ptr.Ptr.{Ptr}
+use Rattle.blk_ptr.specs.Hash.{shard_of}
+use Rattle.vdev_io.specs.declared.pool.Pool.{Ghosts}
+use Rattle.arc_core.specs.declared.config.Config.{Config}
+use Rattle.arc_core.specs.declared.event.Event.{Event}
+use Rattle.arc_core.specs.Operations.{Act, HoldEveryCallOnce, IsAtRest, Moment, Tell, acts_in, are_passes_placed, has_its_number, is_of_feed, is_pool_read, moments, number_of, own_moments, pool_reads}
+use Rattle.arc_core.specs.PlainShard.{PlainShard}
+use Rattle.arc_core.specs.Replay.{is_legal_history, replay}
+use Rattle.arc_core.specs.ShardLog.{ShardLog}
+use Rattle.turn_table.specs.Places.{Place, SomeHas}
+use Rattle.arc_table.specs.declared.view.Known.{Known}
+use Rattle.arc_table.specs.Cache.{Cache}
+use Rattle.arc_table.specs.Ended.{Ended, Ends}
+use Rattle.arc_table.specs.Geometry.{parties_of}
+use Rattle.arc_table.specs.Items.{Meanings}
+use Rattle.arc_table.specs.TableLaws.{there}
+use Rattle.trace_text.specs.declared.op.Op.{Op}
+use Rattle.trace_text.specs.declared.reply.Reply.{Reply}
+use Rattle.trace_text.specs.declared.trace.Trace.{Trace}
+use Rattle.trace_text.specs.Grammar.{IsFormed}
+use Rattle.trace_run.specs.KeptReads.{KeptRead}
+use Rattle.trace_run.specs.declared.kept_blocks.KeptBlock.{KeptBlock}
+use Rattle.trace_run.specs.Acts.{acts_of_all, acts_of_caller, acts_of_callers, acts_of_drops}
+use Rattle.trace_run.specs.Alone.{RanAlone, ends_in, histories_of}
+use Rattle.trace_run.specs.CallerLines.{At, DidLines, at}
+use Rattle.trace_run.specs.Effects.{calls_of_all}
+use Rattle.trace_run.specs.Ends.{end_of, ends_of, opening_of}
+use Rattle.trace_run.specs.Explaining.{Explain}
+use Rattle.trace_run.specs.KeptBlocks.{DroppedAlone, GivesAll, Stands, holds_in, read_of}
+use Rattle.trace_run.specs.Lines.{caller_of, is_in_shard, is_of_caller, replies_where, shard_of_line}
+use Rattle.trace_run.specs.OneCaller.{AreFoundAs, IsFoundAs, events_of, events_of_drops, kept_after, kept_after_all, one_caller_history}
+use Rattle.trace_run.specs.Opened.{HasJoined}
+use Rattle.trace_run.specs.OverShards.{AllLinesOver, AreNamed, events_over, kept_in_shard}
+use Rattle.trace_run.specs.PlainRun.{shards_after}
+use Rattle.trace_run.specs.Reads.{IsAlone, now_of}
+use Rattle.trace_run.specs.Seen.{HasAll, seen_of}
+use Rattle.trace_run.specs.Tally.{AreAnswered, IsOfCaller}
+use Rattle.trace_run.specs.Told.{IsTold}
+use Rattle.trace_run.proofs.CallerActLemmas.{callers-none}
+use Rattle.trace_run.proofs.GiveLemmas.{all-alone, all-number, all-told}
+use Rattle.trace_run.proofs.GroupCounts.{caller-reads, reads_by}
+use Rattle.trace_run.proofs.GroupLemmas.{lines-answers, lines-number}
+use Rattle.trace_run.proofs.HistoryLemmas.{IsReadEvent, read-number}
+use Rattle.trace_run.proofs.LinesLemmas.{lines-all, lines-answered, lines-calls, lines-found, lines-kept, lines-length, lines-named, lines-seen, lines-told}
+use Rattle.trace_run.proofs.NamedLemmas.{history-over, named-drops}
+use Rattle.trace_run.proofs.OpenLemmas.{joined-all, new-seen}
+use Rattle.trace_run.proofs.OverShardLemmas.{events-here, kept-else, kept-here, other-shard, same-shard}
+use Rattle.trace_run.proofs.OwnLemmas.{no-own-moments}
+use Rattle.trace_run.proofs.ReportLemmas.{all-own, of-caller, one-acts, one-caller, possible-at}
+use Rattle.trace_run.proofs.RestAlone.{all-there, alone-history, alone-legal, alone-now, alone-rests, alone-told}
+use Rattle.trace_run.proofs.TellLemmas.{IsMine, all-map, filter-all, mine-events, no-passes}
+
+-- ---- lists by their places
+
+module _ {A : Type 0} where
+  -- what is so at each place is so of all
+  all-at : (P : A → Type 0) (l : List A) → ((i : ℕ) (a : A) → get_elem? l i ≡ some a → P a) → AllByRecursion P l
+  all-at P [] each = tt
+  all-at P (x ∷ xs) each = (each 0 x refl, all-at P xs (λ i a is. each (suc i) a is))
+
+  all-then-at : (P : A → Type 0) (l : List A) → AllByRecursion P l → (i : ℕ) (a : A) → get_elem? l i ≡ some a → P a
+  all-then-at P [] all i a is = absurd (some-ne-none a (sym is))
+  all-then-at P (x ∷ xs) all zero a is = subst P (some-injective x a is) all.0
+  all-then-at P (x ∷ xs) all (suc i) a is = all-then-at P xs all.1 i a is
+
+module _ {A B : Type 0} (f : A → B) where
+  all-mapped : (P : B → Type 0) (l : List A) → ((i : ℕ) (a : A) → get_elem? l i ≡ some a → P (f a)) → AllByRecursion P (map f l)
+  all-mapped P [] each = tt
+  all-mapped P (x ∷ xs) each = (each 0 x refl, all-mapped P xs (λ i a is. each (suc i) a is))
+
+  same-mapped : (h : A → B) (l : List A) → ((i : ℕ) (a : A) → get_elem? l i ≡ some a → f a ≡ h a) → map f l ≡ map h l
+  same-mapped h [] each = refl
+  same-mapped h (x ∷ xs) each = λ i. each 0 x refl i ∷ same-mapped h xs (λ k a is. each (suc k) a is) i
+
+  -- a list that is counted off
+  counted-off : (h : ℕ → B) (l : List A) (n : ℕ) → ((i : ℕ) (a : A) → get_elem? l i ≡ some a → f a ≡ h (n + i)) → map f l ≡ map h (range_with_len n (length l))
+  counted-off h [] n each = refl
+  counted-off h (x ∷ xs) n each =
+      let first : f x ≡ h n = each 0 x refl ∙ ap h (omega arith) in
+      let rest : map f xs ≡ map h (range_with_len (n + 1) (length xs)) = counted-off h xs (n + 1) (λ i a is. each (suc i) a is ∙ ap h (omega arith)) in
+      λ i. first i ∷ rest i
+
+  index-mapped : (l : List A) (i : ℕ) (a : A) (d : B) → get_elem? l i ≡ some a → get_or (map f l) i d ≡ f a
+  index-mapped [] i a d is = absurd (some-ne-none a (sym is))
+  index-mapped (x ∷ xs) zero a d is = ap f (some-injective x a is)
+  index-mapped (x ∷ xs) (suc i) a d is = index-mapped xs i a d is
+
+  unmapped : (l : List A) (i : ℕ) (b : B) → get_elem? (map f l) i ≡ some b → (a : A) × (get_elem? l i ≡ some a) × (f a ≡ b)
+  unmapped [] i b is = absurd (some-ne-none b (sym is))
+  unmapped (x ∷ xs) zero b is = (x, refl, some-injective (f x) b is)
+  unmapped (x ∷ xs) (suc i) b is = unmapped xs i b is
+
+all-filtered : {A : Type 0} (P : A → Type 0) (test : A → Bool) (l : List A) → AllByRecursion P l → AllByRecursion P (filter test l)
+all-filtered P test [] all = tt
+all-filtered P test (x ∷ xs) all = elim (cases_true (test x)) [
+  | inl passes ↦ rw passes (all.0, all-filtered P test xs all.1)
+  | inr fails ↦ rw fails (all-filtered P test xs all.1)
+]
+
+-- what is so of each number is so of those from one on
+all-counted : (P : ℕ → Type 0) → ((n : ℕ) → P n) → (a n : ℕ) → AllByRecursion P (range_with_len a n)
+all-counted P each a zero = tt
+all-counted P each a (suc n) = (each a, all-counted P each (a + 1) n)
+
+-- ---- the operations are those of the one caller
+
+pub alone-ops : (trace : Trace) → IsFormed trace → trace.config.callers ≡ 1 → IsOfCaller 0 (length trace.blocks) trace.ops
+alone-ops trace formed one k op at =
+    let possible = possible-at trace.config trace.blocks trace.ops k op formed.ops at in
+    (one-caller trace.config trace.blocks op (omega arith) possible, possible.1)
+
+-- ---- events of one number
+
+-- each event that stands for a read of the pool is its number's
+mine-reads : (n : ℕ) (es : List Event) → AllByRecursion (IsMine n) es → reads_by n es ≡ pool_reads es
+mine-reads n [] all = refl
+mine-reads n (e ∷ es) all =
+    let his : (is_pool_read e && number_of e == n) ≡ is_pool_read e = with-true (is_pool_read e) (number_of e == n) (eq-eqb (number_of e) n all.0.0) in
+    let one : ◌≡◌ {A = ℕ} (cond (is_pool_read e && number_of e == n) 1 0) (cond (is_pool_read e) 1 0) = ap (λ (t : Bool). cond {A = ℕ} t 1 0) his in
+    omega (arith, sum_by-cons (λ (x : Event). cond (is_pool_read x && number_of x == n) 1 0) e es, sum_by-cons (λ (x : Event). cond (is_pool_read x) 1 0) e es, one, mine-reads n es all.1)
+  where
+    with-true : (b t : Bool) → t ≡ true → (b && t) ≡ b
+    with-true b t is = rw is (go b)
+      where
+        go : (b : Bool) → (b && true) ≡ b
+        go true = refl
+        go false = refl
+
+same-sums : (f h : List Event → ℕ) (l : List ShardLog) → ((i : ℕ) (log : ShardLog) → get_elem? l i ≡ some log → f log.history ≡ h log.history)
+    → sum_by f (map (λ (log : ShardLog). log.history) l) ≡ sum_by h (map (λ (log : ShardLog). log.history) l)
+same-sums f h [] each = refl
+same-sums f h (x ∷ xs) each =
+    let rest = map (λ (log : ShardLog). log.history) xs in
+    omega (arith, sum_by-cons f x.history rest, sum_by-cons h x.history rest, each 0 x refl, same-sums f h xs (λ i log is. each (suc i) log is))
+
+-- ---- what each line found, shard by shard
+
+module _ (shards : ℕ) (blocks : List Ptr) (i : ℕ) where
+  abbrev Fact : PlainShard → List KeptRead → Op → Reply → Type 0
+  Fact s kept op reply = IsFoundAs blocks s op reply
+
+  no-lines : (s : PlainShard) (kept : List KeptRead) (l : List Op) → AreFoundAs blocks s kept l []
+  no-lines s kept [] = tt
+  no-lines s kept (o ∷ l) = tt
+
+  pub found-over : (s : ℕ → PlainShard) (kept : List KeptRead) (os : List Op) (replies : List Reply) → AllLinesOver Fact shards blocks s kept os replies
+      → AreFoundAs blocks (s i) (kept_in_shard shards blocks i kept) (filter (is_in_shard shards blocks i) os) (replies_where (is_in_shard shards blocks i) os replies)
+  found-over s kept [] replies all = tt
+  found-over s kept (op ∷ os) [] all = no-lines (s i) (kept_in_shard shards blocks i kept) (filter (is_in_shard shards blocks i) (op ∷ os))
+  found-over s kept (op ∷ os) (reply ∷ replies) all =
+      let j : ℕ = shard_of_line shards blocks op in
+      let es : List Event = events_of blocks (s j) kept op reply in
+      let rest = found-over (shards_after s j es) (kept_after blocks op reply kept) os replies all.1 in
+      elim (cases_true (is_in_shard shards blocks i op)) [
+        | inl in_it ↦
+            let same : j ≡ i = eqb-true j i in_it in
+            let events : es ≡ events_of blocks (s i) (kept_in_shard shards blocks i kept) op reply =
+            ap (λ (n : ℕ). events_of blocks (s n) kept op reply) same ∙ events-here shards blocks i (s i) op reply kept in_it in
+            rw in_it (
+              subst (λ (n : ℕ). IsFoundAs blocks (s n) op reply) same all.0,
+              subst (λ (x : PlainShard × List KeptRead). AreFoundAs blocks x.0 x.1 (filter (is_in_shard shards blocks i) os) (replies_where (is_in_shard shards blocks i) os replies))
+                  (λ k. ((same-shard shards blocks i s j es in_it ∙ ap (replay (s i)) events) k, kept-here shards blocks i op reply kept in_it k)) rest,
+            )
+        | inr out ↦
+            rw out
+            (subst (λ (x : PlainShard × List KeptRead). AreFoundAs blocks x.0 x.1 (filter (is_in_shard shards blocks i) os) (replies_where (is_in_shard shards blocks i) os replies))
+            (λ k. (other-shard shards blocks i s j es out k, kept-else shards blocks i op reply kept out k)) rest)
+      ]
+
+-- ---- the run
+
+module _ {C P : Type 0} (m : Meanings C) (cache : Cache) (pools : Ghosts P) (blocks : List Ptr) (os : List Op) (replies : List Reply) (before after : P)
+    (p q r : Place (Known C)) (kept : List KeptBlock)
+    (one : cache.config.callers ≡ 1) (own : (k : ℕ) (op : Op) → slice_get os k ≡ Some op → caller_of op ≡ 0)
+    (first : HasJoined cache (parties_of cache.config) p)
+    (worked : DidLines cache.config pools 0 blocks (filter (is_of_caller p.number) os) replies (at p [] before) (at q (map read_of kept) after))
+    (between : Stands cache q kept) (gives : GivesAll m cache.config kept q r) (last : Stands cache r []) where
+  abbrev g : Config
+  g = cache.config
+
+  abbrev opening : PlainShard
+  opening = opening_of cache.config
+
+  abbrev a : At C P
+  a = at p [] before
+
+  abbrev b : At C P
+  b = at q (map read_of kept) after
+
+  all-his : AllByRecursion (λ op. caller_of op ≡ 0) os
+  all-his = all-own 0 os own
+
+  his-are : filter (is_of_caller 0) os ≡ os
+  his-are = filter-all (is_of_caller 0) os (of-caller os all-his)
+
+  did : DidLines cache.config pools 0 blocks os replies a b
+  did = subst (λ (l : List Op). DidLines cache.config pools 0 blocks l replies a b) (ap (λ (n : ℕ). filter (is_of_caller n) os) first.number ∙ his-are) worked
+
+  same-count : length replies ≡ length os
+  same-count = lines-length g pools 0 blocks os replies a b did
+
+  alone : IsAlone 0 p
+  alone = record { all = joined-all cache p first; none = refl }
+
+  all-q : HasAll q
+  all-q = (lines-all g pools 0 blocks os replies a b did alone).all
+
+  number-q : q.number ≡ 0
+  number-q = lines-number g pools 0 blocks os replies a b did ∙ first.number
+
+  number-r : r.number ≡ 0
+  number-r = all-number m cache kept q r between gives ∙ number-q
+
+  dropped : DroppedAlone g (map read_of kept) q r
+  dropped = all-alone m cache kept q r between gives all-q
+
+  kept-is : map read_of kept ≡ kept_after_all blocks [] os replies
+  kept-is = lines-kept g pools 0 blocks os replies a b did
+
+  named : AreNamed blocks (map read_of kept)
+  named = lines-named g pools 0 blocks os replies a b tt did
+
+  parties-r : r.parties ≡ parties_of cache.config
+  parties-r = last.of.row.1 ∙ (sym first.new.stands.of.row.1 ∙ first.new.parties)
+
+  pub may-end : (n : ℕ) → n < parties_of cache.config → SomeHas n (r ∷ [])
+  may-end = all-there cache r parties-r dropped.all
+
+  opens : (shard : ℕ) → now_of g shard p ≡ opening
+  opens shard = ap (replay opening) (new-seen cache p first.new shard)
+
+  -- ---- the shards
+
+  abbrev history_of : ℕ → List Event
+  history_of shard = one_caller_history blocks 0 opening (filter (is_in_shard g.shards blocks shard) os) (replies_where (is_in_shard g.shards blocks shard) os replies)
+
+  all-seen : (shard : ℕ) → seen_of g shard r ≡ history_of shard
+  all-seen shard =
+      let lines = lines-seen g pools 0 blocks os replies a b did alone shard in
+      let from : seen_of g shard q ≡ events_over g.shards blocks (λ i. opening) [] shard os replies =
+      lines ∙ (λ h. new-seen cache p first.new shard h ++ events_over g.shards blocks (λ i. opens i h) [] shard os replies) in
+      let drops : events_of_drops q.number (holds_in g shard (map read_of kept)) ≡ events_of_drops 0 (kept_in_shard g.shards blocks shard (kept_after_all blocks [] os replies)) =
+      ap (λ (n : ℕ). events_of_drops n (holds_in g shard (map read_of kept))) number-q
+      ∙ (named-drops g blocks 0 shard (map read_of kept) named ∙ ap (λ (l : List KeptRead). events_of_drops 0 (kept_in_shard g.shards blocks shard l)) kept-is) in
+      dropped.seen shard ∙ ((λ h. from h ++ drops h) ∙ history-over g.shards blocks 0 shard (λ i. opening) os replies)
+
+  module _ (closed : Ended C) (ends : Ends m cache (r ∷ []) closed) where
+    module _ (i : ℕ) (l : ShardLog) (at_i : get_elem? closed.shards i ≡ some l) where
+      the-history : l.history ≡ history_of i
+      the-history = alone-history m cache r closed ends parties-r last dropped.all i l at_i ∙ all-seen i
+
+      mine : AllByRecursion (IsMine 0) l.history
+      mine = subst (AllByRecursion (IsMine 0)) (sym the-history)
+          (mine-events blocks 0 opening (filter (is_in_shard g.shards blocks i) os) (replies_where (is_in_shard g.shards blocks i) os replies)
+          (all-filtered (λ op. caller_of op ≡ 0) (is_in_shard g.shards blocks i) os all-his))
+
+      reads : AllByRecursion (IsReadEvent g.callers) l.history
+      reads = all-map (IsMine 0) (IsReadEvent g.callers) l.history (λ e is. inl (let number = is.0 in let callers = one in omega arith, is.1, is.2)) mine
+
+      numbers : AllByRecursion (λ e. IsTrue (has_its_number g.callers g.cells e)) l.history
+      numbers = all-map (IsReadEvent g.callers) (λ e. IsTrue (has_its_number g.callers g.cells e)) l.history (λ e is. read-number g.callers g.cells e is) reads
+
+      no-others : (n : ℕ) → n ≢ 0 → own_moments n (moments opening l.history) ≡ []
+      no-others n differs = no-own-moments n opening l.history (λ y e is same. differs (sym same ∙ (all-then-at (IsMine 0) l.history mine y e is).0))
+
+      rests : IsAtRest (replay opening l.history)
+      rests = alone-rests m cache r closed ends parties-r last dropped.all i l at_i reads
+
+      now-is : replay opening l.history ≡ l.now
+      now-is = alone-now m cache r closed ends parties-r last dropped.all i l at_i
+
+    -- ---- every call
+
+    abbrev acts : List Act
+    acts = acts_of_callers blocks g.callers os replies
+
+    told-all : IsTold g (acts_of_caller blocks 0 os replies) r
+    told-all =
+        let lines = lines-told g pools 0 blocks os replies a b did [] first.new.told in
+        let then = all-told m cache kept q r between gives (acts_of_all blocks [] os replies) lines in
+        subst (λ (l : List Act). IsTold g l r) (λ h. acts_of_all blocks [] os replies ++ acts_of_drops (number-q h) (kept-is h)) then
+
+    tell-at : (shard n : ℕ) (l : ShardLog) → get_elem? closed.shards shard ≡ some l → n ≢ g.callers → Tell (acts_in (shard_of g.shards) shard n acts) (own_moments n (moments opening l.history))
+    tell-at shard n l at_l differs = dite (ℕ_discrete n 0)
+        (λ is.
+        subst (λ (k : ℕ). Tell (acts_in (shard_of g.shards) shard k acts) (own_moments k (moments opening l.history))) (number-r ∙ sym is)
+        (subst (λ (xs : List Act). Tell (acts_in (shard_of g.shards) shard r.number xs) (own_moments r.number (moments opening l.history))) (sym (one-acts g.callers one blocks os replies same-count all-his))
+        (alone-told m cache r closed ends parties-r last dropped.all shard l at_l (acts_of_caller blocks 0 os replies) told-all)))
+        (λ other.
+        let above : g.callers ≤ n = above-one n g.callers one other differs in
+        subst (λ (x : List Act × List Moment). Tell x.0 x.1) (λ h. (sym (callers-none (shard_of g.shards) shard blocks os replies g.callers n above) h, sym (no-others shard l at_l n other) h)) refl)
+      where
+        above-one : (n callers : ℕ) → callers ≡ 1 → n ≢ 0 → n ≢ callers → callers ≤ n
+        above-one n callers one other differs = omega arith
+
+    index-is : (shard : ℕ) (l : ShardLog) → get_elem? closed.shards shard ≡ some l → get_or (histories_of closed) shard [] ≡ l.history
+    index-is shard l at_l = index-mapped (λ (log : ShardLog). log.history) closed.shards shard l [] at_l
+
+    some-log : (shard : ℕ) → shard < length (histories_of closed) → (l : ShardLog) × (get_elem? closed.shards shard ≡ some l)
+    some-log shard below = there closed.shards shard (subst (λ (n : ℕ). shard < n) (length-map closed.shards (λ (log : ShardLog). log.history)) below)
+
+    every-call : HoldEveryCallOnce g (shard_of g.shards) opening acts (histories_of closed)
+    every-call = record {
+      told = λ shard n below differs.
+          let l = some-log shard below in
+          subst (λ (h : List Event). Tell (acts_in (shard_of g.shards) shard n acts) (own_moments n (moments opening h))) (sym (index-is shard l.0 l.1)) (tell-at shard n l.0 l.1 differs);
+      fed = λ shard below.
+          let l = some-log shard below in
+          let feeder : g.callers ≢ 0 = λ (none : g.callers ≡ 0). let callers = one in omega arith in
+          subst (λ (ms : List Moment). AllByRecursion (λ m. IsTrue (is_of_feed m.event)) ms)
+          (sym (ap (λ (h : List Event). own_moments g.callers (moments opening h)) (index-is shard l.0 l.1) ∙ no-others shard l.0 l.1 g.callers feeder)) tt;
+      numbers = all-mapped (λ (log : ShardLog). log.history) (λ history. AllByRecursion (λ e. IsTrue (has_its_number g.callers g.cells e)) history) closed.shards numbers;
+      passes = all-mapped (λ (log : ShardLog). log.history) (λ history. IsTrue (are_passes_placed history)) closed.shards (λ i l at_l. no-passes 0 l.history (mine i l at_l));
+    }
+
+    -- ---- the reads of the pool
+
+    counted-all : length (calls_of_all replies) ≡ sum_by pool_reads (histories_of closed)
+    counted-all =
+        caller-reads g (pools.size before) (pools.told before) blocks 0 os replies (histories_of closed) last.valid
+        (length-map closed.shards (λ (log : ShardLog). log.history) ∙ ends.shards)
+        (subst (λ (l : List Op). AreAnswered (pools.size before) (pools.told before) blocks [] l replies) (sym his-are) (lines-answers g pools 0 blocks os replies a b did))
+        (λ i h is.
+        let l = unmapped (λ (log : ShardLog). log.history) closed.shards i h is in
+        subst (λ (x : ℕ × List Op × List Event). Tell (acts_in (shard_of g.shards) i x.0 (acts_of_caller blocks 0 x.1 replies)) (own_moments x.0 (moments opening x.2))) (λ z. (number-r z, sym his-are z, l.2 z))
+        (alone-told m cache r closed ends parties-r last dropped.all i l.0 l.1 (acts_of_caller blocks 0 os replies) told-all))
+        ∙ same-sums (reads_by 0) pool_reads closed.shards (λ i l at_l. mine-reads 0 l.history (mine i l at_l))
+
+    -- ---- all of it
+
+    abbrev trace : Trace
+    trace = record { config = cache.config; blocks = blocks; ops = os }
+
+    explained : Explain trace replies (ends_in closed) (histories_of closed)
+    explained = record {
+      shards = length-map closed.shards (λ (log : ShardLog). log.history) ∙ ends.shards;
+      legal = all-mapped (λ (log : ShardLog). log.history) (λ history. IsTrue (is_legal_history opening history)) closed.shards (alone-legal m cache r closed ends parties-r last dropped.all);
+      ends = ends-are closed.shards (λ i l at_l. ap end_of (sym (now-is i l at_l)));
+      at_rest = all-mapped (λ (log : ShardLog). log.history) (λ history. IsAtRest (replay opening history)) closed.shards rests;
+      every_call = every-call;
+    }
+      where
+        ends-are : (l : List ShardLog) → ((i : ℕ) (log : ShardLog) → get_elem? l i ≡ some log → end_of log.now ≡ end_of (replay opening log.history)) → map (λ (log : ShardLog). end_of log.now) l ≡ ends_of g (map (λ (log : ShardLog). log.history) l)
+        ends-are [] each = refl
+        ends-are (x ∷ xs) each = λ i. each 0 x refl i ∷ ends-are xs (λ k log is. each (suc k) log is) i
+
+    pub ran : RanAlone pools before after trace replies closed
+    ran = record {
+      answers = lines-answered g pools 0 blocks 0 os replies a b own refl did;
+      made = lines-calls g pools 0 blocks os replies a b did;
+      histories = counted-off (λ (log : ShardLog). log.history) history_of closed.shards 0 (λ i l at_l. the-history i l at_l ∙ ap history_of (omega arith))
+          ∙ ap (λ (n : ℕ). map history_of (range_with_len 0 n)) ends.shards;
+      found = all-counted _ (λ shard. found-over g.shards blocks shard (λ i. opening) [] os replies found-all) 0 g.shards;
+      counted = counted-all;
+      explained = explained;
+      lines = record { first = a; last = b; alone = alone; none = refl; opens = opens; from = refl; to = refl; lines = did };
+    }
+      where
+        found-all : AllLinesOver (λ s kept op reply. IsFoundAs blocks s op reply) g.shards blocks (λ i. opening) [] os replies
+        found-all = subst (λ (s : ℕ → PlainShard). AllLinesOver (λ s kept op reply. IsFoundAs blocks s op reply) g.shards blocks s [] os replies) (λ h i. opens i h)
+            (lines-found g pools 0 blocks os replies a b did alone)
+
+-- what is asked of the run, by the trace
+module _ {C P : Type 0} (m : Meanings C) (cache : Cache) (pools : Ghosts P) (trace : Trace) (replies : List Reply) (before after : P) (p q r : Place (Known C)) (kept : List KeptBlock)
+    (config : cache.config ≡ trace.config) (formed : IsFormed trace) (one : trace.config.callers ≡ 1)
+    (first : HasJoined cache (parties_of cache.config) p)
+    (worked : DidLines cache.config pools 0 trace.blocks (filter (is_of_caller p.number) trace.ops) replies (at p [] before) (at q (map read_of kept) after))
+    (between : Stands cache q kept) (gives : GivesAll m cache.config kept q r) (last : Stands cache r []) where
+  callers : cache.config.callers ≡ 1
+  callers = ap (λ (g : Config). g.callers) config ∙ one
+
+  own : (k : ℕ) (op : Op) → slice_get trace.ops k ≡ Some op → caller_of op ≡ 0
+  own k op at = (alone-ops trace formed one k op at).0
+
+  pub end-there : (n : ℕ) → n < parties_of cache.config → SomeHas n (r ∷ [])
+  end-there = may-end m cache pools trace.blocks trace.ops replies before after p q r kept callers own first worked between gives last
+
+  pub ran-alone : (given : Cache) (ps : List (Place (Known C))) (closed : Ended C) → given ≡ cache → ps ≡ r ∷ [] → Ends m given ps closed → RanAlone pools before after trace replies closed
+  ran-alone given ps closed same listed ends =
+      subst (λ (g : Config). RanAlone pools before after (record { config = g; blocks = trace.blocks; ops = trace.ops }) replies closed) config
+      (ran m cache pools trace.blocks trace.ops replies before after p q r kept callers own first worked between gives last closed
+      (subst (λ (x : Cache × List (Place (Known C))). Ends m x.0 x.1 closed) (λ i. (same i, listed i)) ends))

@@ -1,0 +1,245 @@
+-- Several callers at once: from what each did on its own to what all have done.
+use Rattle.std.proofs.Common.{◌≡◌, ℕ, zero, suc, ◌+◌, ◌<◌, ◌≤◌, ◌^◌, List, [], ◌∷◌, ◌++◌, length, get_or, map, Option, refl, sym, ap, ◌∙◌, subst, arith}
+use Rattle.std.specs.Prelude.{Err, IfOk, Ok, Result, Vec, filter, sum_by}
+use Rattle.std.specs.List.{AllByRecursion, AllZip}
+use Rattle.std.specs.declared.alloc.Global.{Global}
+use Rattle.std.proofs.lemmas.List.{length-map}
+use Rattle.std.proofs.lemmas.List.Sums.{count_by-le-length, length-filter}
+use mathlib.Core.Option.{some}
+use lib.ListN.{get_elem?}
+use Rattle.blk_ptr.specs.declared.memory.NoMemory.{NoMemory}
+use Rattle.blk_ptr.specs.declared.ptr.Ptr.{Ptr}
+use Rattle.vdev_io.specs.declared.pool.Pool.{Ghosts}
+use Rattle.arc_core.specs.declared.config.Config.{Config}
+use Rattle.turn_table.specs.Places.{Place}
+use Rattle.arc_table.specs.Cache.{Cache}
+use Rattle.arc_table.specs.declared.view.Known.{Known}
+use Rattle.trace_text.specs.declared.op.Op.{Op}
+use Rattle.trace_text.specs.declared.reply.Reply.{Reply}
+use Rattle.trace_run.specs.KeptReads.{KeptRead}
+use Rattle.trace_run.specs.declared.group.Caller.{Caller}
+use Rattle.trace_run.specs.Acts.{acts_of_all, acts_of_drops}
+use Rattle.trace_run.specs.CallerLines.{At, DidLines, at}
+use Rattle.trace_run.specs.Callers.{AbsorbsAll, AllGaveBack, AreAtStart, AreEnlisted, GaveBack, HasDone, HasTried, IsReady, MayGiveBack}
+use Rattle.trace_run.specs.Effects.{calls_of_all}
+use Rattle.trace_run.specs.Group.{HasWorked, HaveWorked, IsFork}
+use Rattle.trace_run.specs.KeptBlocks.{Stands, read_of}
+use Rattle.trace_run.specs.Lines.{is_of_caller}
+use Rattle.trace_run.specs.OneCaller.{kept_after, kept_after_all}
+use Rattle.trace_run.specs.Tally.{AreAnswered}
+use Rattle.trace_run.specs.Told.{IsTold}
+use Rattle.trace_run.specs.Together.{over_callers}
+use Rattle.trace_run.proofs.AbsorbLemmas.{absorbed-leaves, absorbed-most, absorbed-reads, few-counts, over-sum, sum-few}
+use Rattle.trace_run.proofs.LinesLemmas.{lines-calls, lines-kept, lines-told}
+use Rattle.trace_run.proofs.RunLemmas.{calls-few}
+
+-- ---- lists, place by place
+
+pub zip-of : {X : Type 0} (R : X → X → Type 0) (xs ys : List X) → length ys ≡ length xs → ((i : ℕ) (d : X) → i < length xs → R (get_or xs i d) (get_or ys i d)) → AllZip R xs ys
+zip-of R [] [] long each = tt
+zip-of R [] (y ∷ ys) long each = absurd (omega arith)
+zip-of R (x ∷ xs) [] long each = absurd (omega arith)
+zip-of R (x ∷ xs) (y ∷ ys) long each = (each 0 x (omega arith), zip-of R xs ys (omega arith) (λ i d lt. each (suc i) d (omega (arith, lt))))
+
+-- ---- one caller
+
+-- lines that were done have their answers
+pub lines-answers : {C P : Type 0} (g : Config) (pools : Ghosts P) (device : ℕ) (blocks : List Ptr) (os : List Op) (rs : List Reply) (a b : At C P) → DidLines g pools device blocks os rs a b
+    → AreAnswered (pools.size a.pool) (pools.told a.pool) blocks a.kept os rs
+lines-answers g pools device blocks [] [] a b did = tt
+lines-answers g pools device blocks [] (r ∷ rs) a b did = absurd did
+lines-answers g pools device blocks (o ∷ os) [] a b did = absurd did
+lines-answers g pools device blocks (o ∷ os) (r ∷ rs) a b did =
+    let one = did.1 in
+    (one.answer, subst (λ (x : ℕ × Option (List ℕ) × List KeptRead). AreAnswered x.0 x.1 blocks x.2 os rs) (λ h. (one.keeps.size h, one.keeps.told h, one.kept h)) (lines-answers g pools device blocks os rs did.0 b did.2))
+
+pub lines-number : {C P : Type 0} (g : Config) (pools : Ghosts P) (device : ℕ) (blocks : List Ptr) (os : List Op) (rs : List Reply) (a b : At C P) → DidLines g pools device blocks os rs a b → b.party.number ≡ a.party.number
+lines-number {C} {P} g pools device blocks [] [] a b did = ap (λ (x : At C P). x.party.number) did
+lines-number g pools device blocks [] (r ∷ rs) a b did = absurd did
+lines-number g pools device blocks (o ∷ os) [] a b did = absurd did
+lines-number g pools device blocks (o ∷ os) (r ∷ rs) a b did = lines-number g pools device blocks os rs did.0 b did.2 ∙ did.1.did.number
+
+answers-length : (len : ℕ) (image : Option (List ℕ)) (blocks : List Ptr) (kept : List KeptRead) (os : List Op) (rs : List Reply) → AreAnswered len image blocks kept os rs → length rs ≡ length os
+answers-length len image blocks kept [] [] answers = refl
+answers-length len image blocks kept [] (r ∷ rs) answers = absurd answers
+answers-length len image blocks kept (o ∷ os) [] answers = absurd answers
+answers-length len image blocks kept (o ∷ os) (r ∷ rs) answers = ap suc (answers-length len image blocks (kept_after blocks o r kept) os rs answers.1)
+
+module _ {C P : Type 0} (cache : Cache) (pools : Ghosts P) (blocks : List Ptr) (ops : List Op) where
+  -- what the lines come to, of a caller that kept nothing
+  pub lines-done : (n device : ℕ) (old new : Caller C P) (rs : List Reply) → IsReady cache old → old.party.number ≡ n → Stands cache new.party new.kept.items
+      → DidLines cache.config pools device blocks (filter (is_of_caller n) ops) rs (at old.party (map read_of old.kept.items) old.pool) (at new.party (map read_of new.kept.items) new.pool)
+      → HasDone cache pools blocks ops n old.pool new rs
+  lines-done n device old new rs ready his stands did =
+      let g : Config = cache.config in
+      let os : List Op = filter (is_of_caller n) ops in
+      let a : At C P = at old.party (map read_of old.kept.items) old.pool in
+      let b : At C P = at new.party (map read_of new.kept.items) new.pool in
+      let none : map read_of old.kept.items ≡ [] = ap (map read_of) ready.none in
+      record {
+        number = lines-number g pools device blocks os rs a b did ∙ his;
+        stands = stands;
+        kept = lines-kept g pools device blocks os rs a b did ∙ ap (λ (ks : List KeptRead). kept_after_all blocks ks os rs) none;
+        told = subst (λ (ks : List KeptRead). IsTold g (acts_of_all blocks ks os rs) new.party) none (lines-told g pools device blocks os rs a b did [] ready.told);
+        answers = subst (λ (ks : List KeptRead). AreAnswered (pools.size old.pool) (pools.told old.pool) blocks ks os rs) none (lines-answers g pools device blocks os rs a b did);
+        calls = lines-calls g pools device blocks os rs a b did;
+      }
+
+  -- and of one whose lines are tried, where memory may be short
+  pub lines-tried : (device : ℕ) (old new : Caller C P) → IsReady cache old → IfOk new.replies (λ replies. Stands cache new.party new.kept.items)
+      → IfOk new.replies (λ replies. DidLines cache.config pools device blocks (filter (is_of_caller old.party.number) ops) replies.items (at old.party (map read_of old.kept.items) old.pool) (at new.party (map read_of new.kept.items) new.pool))
+      → HasTried cache pools blocks ops old new
+  lines-tried device old new ready stands did = record { done = both new.replies stands did }
+    where
+      both : (r : Result (Vec Reply Global) NoMemory) → IfOk r (λ replies. Stands cache new.party new.kept.items)
+          → IfOk r (λ replies. DidLines cache.config pools device blocks (filter (is_of_caller old.party.number) ops) replies.items (at old.party (map read_of old.kept.items) old.pool) (at new.party (map read_of new.kept.items) new.pool))
+          → IfOk r (λ replies. HasDone cache pools blocks ops old.party.number old.pool new replies.items)
+      both (Ok v) stood done = lines-done old.party.number device old new v.items ready refl stood done
+      both (Err e) stood done = tt
+
+  -- a caller that tried, and then gave back what it kept, has worked
+  worked-of : (old new : Caller C P) (rs : List Reply) (p : Place (Known C)) (n : ℕ) → old.party.number ≡ n → HasTried cache pools blocks ops old new → GaveBack cache new rs p
+      → HasWorked cache pools blocks ops n old.pool new.pool rs p
+  worked-of old new rs p n his tried gave =
+      let g : Config = cache.config in
+      let there : HasDone cache pools blocks ops old.party.number old.pool new gave.all.items =
+      subst (λ (r : Result (Vec Reply Global) NoMemory). IfOk r (λ replies. HasDone cache pools blocks ops old.party.number old.pool new replies.items)) gave.replied tried.done in
+      let done : HasDone cache pools blocks ops n old.pool new rs = subst (λ (x : ℕ × List Reply). HasDone cache pools blocks ops x.0 old.pool new x.1) (λ h. (his h, gave.replies_are h)) there in
+      record {
+        number = gave.number ∙ done.number;
+        stands = gave.stands;
+        told = subst (λ (x : ℕ × List KeptRead). IsTold g (acts_of_all blocks [] (filter (is_of_caller n) ops) rs ++ acts_of_drops x.0 x.1) p) (λ h. (done.number h, done.kept h)) (gave.told _ done.told);
+        answers = done.answers;
+        calls = done.calls;
+      }
+
+  -- ---- all callers
+
+  -- callers before their lines, by their numbers from this one on
+  abbrev AllStart : P → (n : ℕ) → List (Caller C P) → Type 0
+  AllStart pool n [] = Unit {0}
+  AllStart pool n (caller ∷ callers) = (caller.party.number ≡ n) × IsReady cache caller × IsFork pools pool caller.pool × AllStart pool (suc n) callers
+
+  -- what callers that were made of these parties and forks are
+  enlisted-start : (pool : P) (n : ℕ) (ps : List (Place (Known C))) (forks : List P) (callers : List (Caller C P)) → AreAtStart cache n ps → AllByRecursion (IsFork pools pool) forks → AreEnlisted ps forks callers
+      → AllStart pool n callers × (length callers ≡ length ps)
+  enlisted-start pool n [] [] [] start fresh made = (tt, refl)
+  enlisted-start pool n [] [] (caller ∷ callers) start fresh made = absurd made
+  enlisted-start pool n [] (fork ∷ forks) [] start fresh made = absurd made
+  enlisted-start pool n [] (fork ∷ forks) (caller ∷ callers) start fresh made = absurd made
+  enlisted-start pool n (p ∷ ps) [] [] start fresh made = absurd made
+  enlisted-start pool n (p ∷ ps) [] (caller ∷ callers) start fresh made = absurd made
+  enlisted-start pool n (p ∷ ps) (fork ∷ forks) [] start fresh made = absurd made
+  enlisted-start pool n (p ∷ ps) (fork ∷ forks) (caller ∷ callers) start fresh made =
+      let one = made.0 in
+      let rest = enlisted-start pool (suc n) ps forks callers start.1 fresh.1 made.1 in
+      let begins = start.0 in (
+        (
+          ap (λ (q : Place (Known C)). q.number) one.party ∙ begins.number,
+          record {
+            stands = subst (λ (q : Place (Known C)). Stands cache q []) (sym one.party) begins.stands;
+            told = subst (λ (q : Place (Known C)). IsTold cache.config [] q) (sym one.party) begins.told;
+            none = one.none;
+          },
+          subst (IsFork pools pool) (sym one.pool) fresh.0,
+          rest.0,
+        ),
+        ap suc rest.1,
+      )
+
+  starts-ready : (pool : P) (n : ℕ) (callers : List (Caller C P)) → AllStart pool n callers → AllByRecursion (IsReady cache) callers
+  starts-ready pool n [] start = tt
+  starts-ready pool n (caller ∷ callers) start = (start.1, starts-ready pool (suc n) callers start.3)
+
+  -- callers that were made of these parties and forks may begin
+  pub enlisted-ready : (pool : P) (ps : List (Place (Known C))) (forks : List P) (callers : List (Caller C P)) → AreAtStart cache 0 ps → AllByRecursion (IsFork pools pool) forks → AreEnlisted ps forks callers
+      → AllByRecursion (IsReady cache) callers
+  enlisted-ready pool ps forks callers start fresh made = starts-ready pool 0 callers (enlisted-start pool 0 ps forks callers start fresh made).0
+
+  may-give : (old new : Caller C P) → HasTried cache pools blocks ops old new → MayGiveBack cache new
+  may-give old new tried = stood new.replies (λ replies. HasDone cache pools blocks ops old.party.number old.pool new replies.items) (λ replies done. done.stands) tried.done
+    where
+      stood : (r : Result (Vec Reply Global) NoMemory) (F : Vec Reply Global → Type 0) → ((v : Vec Reply Global) → F v → Stands cache new.party new.kept.items) → IfOk r F → IfOk r (λ replies. Stands cache new.party new.kept.items)
+      stood (Ok v) F each holds = each v holds
+      stood (Err e) F each holds = tt
+
+  -- then what they keep may be given back
+  pub tried-may-give : (olds news : List (Caller C P)) → AllZip (HasTried cache pools blocks ops) olds news → AllByRecursion (MayGiveBack cache) news
+  tried-may-give [] [] tried = tt
+  tried-may-give [] (new ∷ news) tried = absurd tried
+  tried-may-give (old ∷ olds) [] tried = absurd tried
+  tried-may-give (old ∷ olds) (new ∷ news) tried = (may-give old new tried.0, tried-may-give olds news tried.1)
+
+  gave-length : (news : List (Caller C P)) (rss : List (List Reply)) (ps : List (Place (Known C))) → AllGaveBack cache news rss ps → (length rss ≡ length news) × (length ps ≡ length news)
+  gave-length [] [] [] gave = (refl, refl)
+  gave-length [] [] (p ∷ ps) gave = absurd gave
+  gave-length [] (rs ∷ rss) [] gave = absurd gave
+  gave-length [] (rs ∷ rss) (p ∷ ps) gave = absurd gave
+  gave-length (new ∷ news) [] [] gave = absurd gave
+  gave-length (new ∷ news) [] (p ∷ ps) gave = absurd gave
+  gave-length (new ∷ news) (rs ∷ rss) [] gave = absurd gave
+  gave-length (new ∷ news) (rs ∷ rss) (p ∷ ps) gave = let rest = gave-length news rss ps gave.1 in (ap suc rest.0, ap suc rest.1)
+
+  tried-length : (olds news : List (Caller C P)) → AllZip (HasTried cache pools blocks ops) olds news → length news ≡ length olds
+  tried-length [] [] tried = refl
+  tried-length [] (new ∷ news) tried = absurd tried
+  tried-length (old ∷ olds) [] tried = absurd tried
+  tried-length (old ∷ olds) (new ∷ news) tried = ap suc (tried-length olds news tried.1)
+
+  abbrev pool_of : Caller C P → P
+  pool_of caller = caller.pool
+
+  starts-fork : (pool : P) (n : ℕ) (olds : List (Caller C P)) → AllStart pool n olds → (k : ℕ) → k < length olds → IsFork pools pool (get_or (map pool_of olds) k pool)
+  starts-fork pool n [] start k lt = absurd (omega arith)
+  starts-fork pool n (old ∷ olds) start zero lt = start.2
+  starts-fork pool n (old ∷ olds) start (suc k) lt = starts-fork pool (suc n) olds start.3 k (omega arith)
+
+  -- what the caller of each number has done
+  worked-each : (pool : P) (n : ℕ) (olds news : List (Caller C P)) (rss : List (List Reply)) (ps : List (Place (Known C))) → AllStart pool n olds → AllZip (HasTried cache pools blocks ops) olds news
+      → AllGaveBack cache news rss ps → (k m : ℕ) → m ≡ n + k → k < length olds
+      → (rs : List Reply) × (p : Place (Known C)) × (get_elem? rss k ≡ some rs) × (get_elem? ps k ≡ some p)
+      × HasWorked cache pools blocks ops m (get_or (map pool_of olds) k pool) (get_or (map pool_of news) k pool) rs p
+  worked-each pool n [] news rss ps start tried gave k m is lt = absurd (omega arith)
+  worked-each pool n (old ∷ olds) [] rss ps start tried gave k m is lt = absurd tried
+  worked-each pool n (old ∷ olds) (new ∷ news) [] [] start tried gave k m is lt = absurd gave
+  worked-each pool n (old ∷ olds) (new ∷ news) [] (p ∷ ps) start tried gave k m is lt = absurd gave
+  worked-each pool n (old ∷ olds) (new ∷ news) (rs ∷ rss) [] start tried gave k m is lt = absurd gave
+  worked-each pool n (old ∷ olds) (new ∷ news) (rs ∷ rss) (p ∷ ps) start tried gave zero m is lt = (rs, p, refl, refl, worked-of old new rs p m (start.0 ∙ omega arith) tried.0 gave.0)
+  worked-each pool n (old ∷ olds) (new ∷ news) (rs ∷ rss) (p ∷ ps) start tried gave (suc k) m is lt = worked-each pool (suc n) olds news rss ps start.3 tried.1 gave.1 k m (omega arith) (omega arith)
+
+  -- a caller's fork counted at most as much as the trace has operations
+  few : (n : ℕ) (fork done pool : P) (rs : List Reply) (p : Place (Known C)) → length ops < 2 ^ 32 → IsFork pools pool fork → HasWorked cache pools blocks ops n fork done rs p
+      → (pools.reads done ≤ 2 ^ 32) × (pools.faults done ≤ 2 ^ 32)
+  few n fork done pool rs p short fresh worked =
+      let os : List Op = filter (is_of_caller n) ops in
+      let long : length rs ≡ length os = answers-length (pools.size fork) (pools.told fork) blocks [] os rs worked.answers in
+      let most : length (calls_of_all rs) ≤ 2 ^ 32 = omega (arith, short, long, length-filter (is_of_caller n) ops, count_by-le-length (is_of_caller n) ops, calls-few rs) in
+      few-counts pools (calls_of_all rs) fork done fresh.reads fresh.faults worked.calls (2 ^ 32) most (omega arith)
+
+  pub have-worked : (old new : P) (ps : List (Place (Known C))) (forks : List P) (olds news : List (Caller C P)) (rss : List (List Reply)) (qs : List (Place (Known C)))
+      → AreAtStart cache 0 ps → AllByRecursion (IsFork pools old) forks → length ps ≤ 16 → length ops < 2 ^ 32 → AreEnlisted ps forks olds → AllZip (HasTried cache pools blocks ops) olds news
+      → AbsorbsAll pools (map pool_of news) old new → AllGaveBack cache news rss qs → HaveWorked cache pools blocks ops (length ps) old new rss qs
+  have-worked old new ps forks olds news rss qs start fresh few_callers short made tried absorbs gave =
+      let begun = enlisted-start old 0 ps forks olds start fresh made in
+      let many : length olds ≡ length ps = begun.1 in
+      let same : length news ≡ length olds = tried-length olds news tried in
+      let dones : List P = map pool_of news in
+      let long : length dones ≡ length ps = length-map news pool_of ∙ (same ∙ many) in
+      let gone = gave-length news rss qs gave in
+      let each = λ (n : ℕ) (lt : n < length ps). worked-each old 0 olds news rss qs begun.0 tried gave n n (omega arith) (omega (arith, lt, many)) in
+      let fork = λ (n : ℕ) (lt : n < length ps). starts-fork old 0 olds begun.0 n (omega (arith, lt, many)) in
+      let counts = λ (n : ℕ) (lt : n < length ps). few n (get_or (map pool_of olds) n old) (get_or dones n old) old (each n lt).0 (each n lt).1 short (fork n lt) (each n lt).4 in
+      let reads = sum-few pools.reads dones old (λ k lt. (counts k (omega (arith, lt, long))).0) in
+      let all_reads : over_callers (length ps) (λ n. pools.reads (get_or dones n old)) ≡ sum_by pools.reads dones = ap (λ (l : ℕ). over_callers l (λ n. pools.reads (get_or dones n old))) (sym long) ∙ over-sum pools.reads dones old in
+      let all_faults : over_callers (length ps) (λ n. pools.faults (get_or dones n old)) ≡ sum_by pools.faults dones = ap (λ (l : ℕ). over_callers l (λ n. pools.faults (get_or dones n old))) (sym long) ∙ over-sum pools.faults dones old in
+      record {
+        replied = gone.0 ∙ (same ∙ many);
+        parties = gone.1 ∙ (same ∙ many);
+        forks = λ n. get_or (map pool_of olds) n old;
+        done = λ n. get_or dones n old;
+        fresh = fork;
+        each = each;
+        reads = λ room. omega (arith, all_reads, absorbed-reads pools dones old new absorbs (omega (arith, room, reads, long, few_callers)));
+        faults = omega (arith, all_faults, absorbed-most pools dones old new absorbs);
+        keeps = absorbed-leaves pools dones old new absorbs;
+      }

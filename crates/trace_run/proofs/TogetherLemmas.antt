@@ -1,0 +1,172 @@
+-- The lines of several callers, put together, have their answers where those of each caller have them.
+use Rattle.std.proofs.Common.{◌≡◌, ◌≢◌, ℕ, suc, ◌+◌, ◌<◌, false, List, [], ◌∷◌, ◌++◌, length, take, Option, Some, refl, sym, ap, ◌∙◌, subst, arith, append-nil, append_assoc, length-append, eq-eqb, ne_eqb}
+use Rattle.std.specs.Prelude.{filter, slice_get}
+use Rattle.std.proofs.lemmas.List.{length-take-le}
+use Rattle.std.proofs.lemmas.Option.{slice_get_within}
+use mathlib.Core.Logic.{dite}
+use mathlib.Core.Option.{some}
+use native.Mathlib.Decide.{ℕ_discrete}
+use lib.ListN.{get_elem?}
+use Rattle.blk_ptr.specs.declared.ptr.Ptr.{Ptr}
+use Rattle.turn_table.specs.Places.{Place}
+use Rattle.arc_table.specs.Cache.{Cache}
+use Rattle.arc_table.specs.declared.view.Known.{Known}
+use Rattle.vdev_io.specs.declared.pool.Pool.{Ghosts}
+use Rattle.trace_text.specs.declared.op.Op.{Op}
+use Rattle.trace_text.specs.declared.op.Op.TheVariants as ops
+use Rattle.trace_text.specs.declared.reply.Reply.{Reply}
+use Rattle.trace_run.specs.KeptReads.{KeptRead}
+use Rattle.trace_run.specs.Answers.{AnswersAll, drops, drops_one, keeps, keeps_one}
+use Rattle.trace_run.specs.Effects.{Answered, Effect, GivenBack, NoEffect, PoolRefused, effect_of}
+use Rattle.trace_run.specs.Group.{HaveWorked}
+use Rattle.trace_run.specs.InOrder.{AreInOrder, HaveReplies}
+use Rattle.trace_run.specs.Lines.{caller_of, is_of_caller, replies_where}
+use Rattle.trace_run.specs.OneCaller.{kept_after}
+use Rattle.trace_run.specs.Tally.{AnswersNow, AreAnswered, IsTally}
+use Rattle.trace_run.proofs.AnswerLemmas.{EachAnswers, dropped_reads-snoc, kept_reads-snoc, more_answers, more_tally, take_one, to_answer}
+
+-- ---- a line of another caller keeps and drops nothing of this one
+
+keeps-none : (e : Effect) → keeps_one e false ≡ 0
+keeps-none (Answered from) = refl
+keeps-none GivenBack = refl
+keeps-none (PoolRefused call) = refl
+keeps-none NoEffect = refl
+
+drops-none : (e : Effect) → drops_one e false ≡ 0
+drops-none (Answered from) = refl
+drops-none GivenBack = refl
+drops-none (PoolRefused call) = refl
+drops-none NoEffect = refl
+
+other-keeps : (n x : ℕ) (o : Op) (r : Reply) → caller_of o ≢ n → keeps n x o r ≡ 0
+other-keeps n x (ops.Read m t y window) r other = refl
+other-keeps n x (ops.Hold m t y) r other = rw (ne_eqb m n other) (keeps-none (effect_of r))
+other-keeps n x (ops.Drop m y) r other = refl
+
+other-drops : (n x : ℕ) (o : Op) (r : Reply) → caller_of o ≢ n → drops n x o r ≡ 0
+other-drops n x (ops.Read m t y window) r other = refl
+other-drops n x (ops.Hold m t y) r other = refl
+other-drops n x (ops.Drop m y) r other = rw (ne_eqb m n other) (drops-none (effect_of r))
+
+other-tally : (n : ℕ) (all : List Op) (replied : List Reply) (kept : List KeptRead) (o : Op) (r : Reply) → slice_get all (length replied) ≡ Some o → caller_of o ≢ n
+    → IsTally n (take (length replied) all) replied kept → IsTally n (take (length replied + 1) all) (replied ++ r ∷ []) kept
+other-tally n all replied kept o r here other tally = record {
+  each = λ x.
+      let inside : length replied < length all = slice_get_within all (length replied) o here in
+      let front : take (length replied + 1) all ≡ take (length replied) all ++ o ∷ [] = take_one all (length replied) o here in
+      let size : length replied ≡ length (take (length replied) all) = sym (length-take-le (length replied) all (omega arith)) in
+      let was = tally.each x in
+      let none_kept = other-keeps n x o r other in
+      let none_dropped = other-drops n x o r other in
+      let more_kept = kept_reads-snoc n x (take (length replied) all) replied o r size in
+      let more_dropped = dropped_reads-snoc n x (take (length replied) all) replied o r size in
+      rw front (omega (arith, was, none_kept, none_dropped, more_kept, more_dropped));
+}
+
+-- ---- one line after another
+
+get-after : (done os : List Op) (o : Op) → slice_get (done ++ o ∷ os) (length done) ≡ Some o
+get-after [] os o = refl
+get-after (x ∷ xs) os o = get-after xs os o
+
+module _ (pool_len : ℕ) (image : Option (List ℕ)) (blocks : List Ptr) where
+  -- how many replies there are
+  pub answered-length : (kept : List KeptRead) (os : List Op) (rs : List Reply) → AreAnswered pool_len image blocks kept os rs → length rs ≡ length os
+  answered-length kept [] [] answered = refl
+  answered-length kept [] (r ∷ rs) answered = absurd answered
+  answered-length kept (o ∷ os) [] answered = absurd answered
+  answered-length kept (o ∷ os) (r ∷ rs) answered = ap suc (answered-length (kept_after blocks o r kept) os rs answered.1)
+
+  -- Behind these lines the caller keeps these reads, by all that was replied, and its own lines among what is left have their answers.
+  record IsAnswered (n : ℕ) (earlier : List Op) (replied : List Reply) (os : List Op) (rs : List Reply) : Type 0 where
+    pub kept : List KeptRead
+    pub tally : IsTally n earlier replied kept
+    pub answers : AreAnswered pool_len image blocks kept (filter (is_of_caller n) os) (replies_where (is_of_caller n) os rs)
+
+  module _ (n : ℕ) (all : List Op) (replied : List Reply) (o : Op) (os : List Op) (r : Reply) (rs : List Reply) (here : slice_get all (length replied) ≡ Some o) (are : IsAnswered n (take (length replied) all) replied (o ∷ os) (r ∷ rs)) where
+    own-now : caller_of o ≡ n → AnswersNow pool_len image blocks are.kept o r × AreAnswered pool_len image blocks (kept_after blocks o r are.kept) (filter (is_of_caller n) os) (replies_where (is_of_caller n) os rs)
+    own-now own = rw (eq-eqb (caller_of o) n own) at are.answers
+
+    own-then : caller_of o ≡ n → IsAnswered n (take (length replied + 1) all) (replied ++ r ∷ []) os rs
+    own-then own = record {
+      kept = kept_after blocks o r are.kept;
+      tally = more_tally pool_len image blocks n all replied are.kept o r here are.tally own (own-now own).0;
+      answers = (own-now own).1;
+    }
+
+    other-then : caller_of o ≢ n → IsAnswered n (take (length replied + 1) all) (replied ++ r ∷ []) os rs
+    other-then other = record {
+      kept = are.kept;
+      tally = other-tally n all replied are.kept o r here other are.tally;
+      answers = rw (ne_eqb (caller_of o) n other) at are.answers;
+    }
+
+  -- the answers so far, and those to what is left, where all lines are of these callers
+  each-together : (who : ℕ → Type 0) (all : List Op) → ((k : ℕ) (op : Op) → slice_get all k ≡ Some op → who (caller_of op))
+      → (done os : List Op) (replied rs : List Reply) → all ≡ done ++ os → length replied ≡ length done → length rs ≡ length os → EachAnswers pool_len image blocks all replied
+      → ((n : ℕ) → who n → IsAnswered n (take (length replied) all) replied os rs) → EachAnswers pool_len image blocks all (replied ++ rs)
+  each-together who all own done [] replied [] is count long each are = subst (EachAnswers pool_len image blocks all) (sym (append-nil replied)) each
+  each-together who all own done [] replied (r ∷ rs) is count long each are = absurd (omega arith)
+  each-together who all own done (o ∷ os) replied [] is count long each are = absurd (omega arith)
+  each-together who all own done (o ∷ os) replied (r ∷ rs) is count long each are =
+      let here : slice_get all (length replied) ≡ Some o = ap (λ (l : List Op). slice_get l (length replied)) is ∙ (ap (slice_get (done ++ o ∷ os)) count ∙ get-after done os o) in
+      let mine = are (caller_of o) (own (length replied) o here) in
+      let answer : AnswersNow pool_len image blocks mine.kept o r = (own-now (caller_of o) all replied o os r rs here mine refl).0 in
+      let now : EachAnswers pool_len image blocks all (replied ++ r ∷ []) =
+      more_answers pool_len image blocks all replied o r here each (to_answer pool_len image blocks (caller_of o) (take (length replied) all) replied mine.kept o r mine.tally refl answer) in
+      let more : length replied + 1 ≡ length (replied ++ r ∷ []) = let l = length-append replied (r ∷ []) in omega arith in
+      let then : (n : ℕ) → who n → IsAnswered n (take (length (replied ++ r ∷ [])) all) (replied ++ r ∷ []) os rs =
+      λ n is_one. subst (λ (m : ℕ). IsAnswered n (take m all) (replied ++ r ∷ []) os rs) more
+      (dite (ℕ_discrete (caller_of o) n) (own-then n all replied o os r rs here (are n is_one)) (other-then n all replied o os r rs here (are n is_one))) in
+      subst (EachAnswers pool_len image blocks all) (append_assoc replied (r ∷ []) rs)
+      (each-together who all own (done ++ o ∷ []) os (replied ++ r ∷ []) rs (is ∙ sym (append_assoc done (o ∷ []) os)) (let l = length-append replied (r ∷ []) in let m = length-append done (o ∷ []) in omega arith)
+      (omega arith) now then)
+
+  -- ---- all lines
+
+  -- all lines have their answers, where they are of these callers and the lines of each have them
+  pub all-answered : (who : ℕ → Type 0) (os : List Op) (rs : List Reply) → length rs ≡ length os → ((k : ℕ) (op : Op) → slice_get os k ≡ Some op → who (caller_of op))
+      → ((n : ℕ) → who n → AreAnswered pool_len image blocks [] (filter (is_of_caller n) os) (replies_where (is_of_caller n) os rs)) → AnswersAll pool_len image blocks os rs
+  all-answered who os rs long own answers = record {
+    all = long;
+    each = each-together who os own [] os [] rs refl refl long (λ k op reply at there. nothing-there k reply there)
+        (λ n is_one. record { kept = []; tally = record { each = λ x. refl }; answers = answers n is_one });
+  }
+    where
+      nothing-there : {X : Type 0} (k : ℕ) (reply : Reply) → slice_get {X = Reply} [] k ≡ Some reply → X
+      nothing-there k reply there = cc
+
+  -- so are the replies that were put together of those to each caller
+  pub together-answered : (os : List Op) (replies : List (List Reply)) (merged : List Reply) → AreInOrder os replies merged → ((k : ℕ) (op : Op) → slice_get os k ≡ Some op → caller_of op < length replies)
+      → ((n : ℕ) → n < length replies → (rs : List Reply) × (get_elem? replies n ≡ some rs) × AreAnswered pool_len image blocks [] (filter (is_of_caller n) os) rs)
+      → AnswersAll pool_len image blocks os merged
+  together-answered os replies merged order own answers =
+      all-answered (λ n. n < length replies) os merged order.all own
+      (λ n lt. let of = answers n lt in subst (AreAnswered pool_len image blocks [] (filter (is_of_caller n) os)) (sym (order.each n of.0 of.1)) of.2)
+
+-- ---- what several callers have done
+
+module _ {C P : Type 0} (cache : Cache) (pools : Ghosts P) (blocks : List Ptr) (os : List Op) (callers : ℕ) (before after : P) (replies : List (List Reply)) (ps : List (Place (Known C)))
+    (own : (k : ℕ) (op : Op) → slice_get os k ≡ Some op → caller_of op < callers) (worked : HaveWorked cache pools blocks os callers before after replies ps) where
+  their-own : (k : ℕ) (op : Op) → slice_get os k ≡ Some op → caller_of op < length replies
+  their-own k op at = let lt = own k op at in let l = worked.replied in omega arith
+
+  -- their replies can be put together
+  pub worked-replies : HaveReplies os replies
+  worked-replies = record {
+    own = their-own;
+    each = λ n lt.
+        let w = worked.each n (let l = worked.replied in omega arith) in
+        let done = w.4 in
+        (w.0, w.2, answered-length _ _ blocks [] (filter (is_of_caller n) os) w.0 done.answers);
+  }
+
+  -- and are then the answers to the lines
+  pub worked-answered : (merged : List Reply) → AreInOrder os replies merged → AnswersAll (pools.size before) (pools.told before) blocks os merged
+  worked-answered merged order = together-answered (pools.size before) (pools.told before) blocks os replies merged order their-own
+      (λ n lt.
+      let m : n < callers = let l = worked.replied in omega arith in
+      let w = worked.each n m in
+      let fork = worked.fresh n m in
+      (w.0, w.2, subst (λ (x : ℕ × Option (List ℕ)). AreAnswered x.0 x.1 blocks [] (filter (is_of_caller n) os) w.0) (λ i. (fork.size i, fork.told i)) w.4.answers))

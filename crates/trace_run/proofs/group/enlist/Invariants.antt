@@ -1,0 +1,10 @@
+use Rattle.std.proofs.Common.{◌≡◌, ◌++◌, List, length}
+use Rattle.trace_run.specs.Callers.{AreEnlisted}
+use Rattle.trace_run.specs.declared.group.Caller.{Caller}
+use Rattle.trace_run.proofs.group.enlist.Given as goal
+
+abbrev pub invariant-loop-party : goal.invariant-loop-party
+invariant-loop-party g l = record {
+  made : (more : List (Caller g.row.C.Denot g.row.P.Denot)) → AreEnlisted l.party-iterator.rest.items l.forks.rest.items more → AreEnlisted l.fn.parties.items l.fn.forks.items (l.callers.items ++ more);
+  same : length l.forks.rest.items ≡ length l.party-iterator.rest.items;
+}

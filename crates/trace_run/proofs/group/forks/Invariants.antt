@@ -1,0 +1,15 @@
+use Rattle.std.proofs.Common.{◌≡◌, length}
+use Rattle.std.specs.List.{AllByRecursion}
+use Rattle.arc_table.specs.PoolCalls.{KeepsPool}
+use Rattle.trace_run.specs.Group.{IsFork}
+use Rattle.trace_run.proofs.group.forks.Given as goal
+
+abbrev pub invariant-loop : goal.invariant-loop
+invariant-loop g l =
+    let pools = g.P.Pool in
+    record {
+      keeps : KeepsPool pools l.fn.pool l.pool;
+      reads : pools.reads l.pool ≡ pools.reads l.fn.pool;
+      fresh : AllByRecursion (IsFork pools l.fn.pool) l.forks.items;
+      count : length l.forks.items ≡ l.counter;
+    }

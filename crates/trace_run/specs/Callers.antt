@@ -1,0 +1,102 @@
+-- What callers that work at once are between the steps of their work.
+use Rattle.std.specs.Prelude.{◌≡◌, ℕ, suc, List, [], ◌∷◌, ◌++◌, filter, map, IfOk, Vec, Ok}
+use Rattle.std.specs.declared.alloc.Global.{Global}
+use Rattle.blk_ptr.specs.declared.ptr.Ptr.{Ptr}
+use Rattle.arc_core.specs.Operations.{Act}
+use Rattle.arc_table.specs.Cache.{Cache}
+use Rattle.arc_table.specs.PoolCalls.{MakesCalls}
+use Rattle.arc_table.specs.declared.view.Known.{Known}
+use Rattle.turn_table.specs.Places.{Place}
+use Rattle.trace_text.specs.declared.op.Op.{Op}
+use Rattle.trace_text.specs.declared.reply.Reply.{Reply}
+use Rattle.vdev_io.specs.declared.pool.Pool.{Ghosts}
+use Rattle.vdev_io.specs.Faults.{sum_of_counts}
+use Rattle.trace_run.specs.declared.group.Caller.{Caller}
+use Rattle.trace_run.specs.Acts.{acts_of_all, acts_of_drops}
+use Rattle.trace_run.specs.Effects.{calls_of_all}
+use Rattle.trace_run.specs.KeptBlocks.{Stands, read_of}
+use Rattle.trace_run.specs.Lines.{is_of_caller}
+use Rattle.trace_run.specs.OneCaller.{kept_after_all}
+use Rattle.trace_run.specs.Tally.{AreAnswered}
+use Rattle.trace_run.specs.Told.{IsTold}
+
+-- ---- forks that are taken back
+
+module _ {P : Type 0} (pools : Ghosts P) where
+  -- a fork was taken back, and the pool counts what it counted
+  pub record Absorbs (fork old new : P) : Type 0 where
+    pub size : pools.size new ≡ pools.size old
+    pub told : pools.told new ≡ pools.told old
+    pub reads : pools.reads new ≡ sum_of_counts (pools.reads old) (pools.reads fork)
+    pub faults : pools.faults new ≡ sum_of_counts (pools.faults old) (pools.faults fork)
+
+  -- these forks were, one after another
+  abbrev pub AbsorbsAll : List P → (old new : P) → Type 0
+  AbsorbsAll [] old new = new ≡ old
+  AbsorbsAll (fork ∷ forks) old new = (next : P) × Absorbs fork old next × AbsorbsAll forks next new
+
+-- ---- before the lines
+
+module _ {C : Type 0} where
+  -- a party before the lines of its caller, which has this number
+  pub record IsAtStart (cache : Cache) (n : ℕ) (p : Place (Known C)) : Type 0 where
+    pub number : p.number ≡ n
+    pub stands : Stands cache p []
+    pub told : IsTold cache.config [] p
+
+  -- parties, by their numbers from this one on
+  abbrev pub AreAtStart : Cache → (n : ℕ) → List (Place (Known C)) → Type 0
+  AreAtStart cache n [] = Unit {0}
+  AreAtStart cache n (p ∷ ps) = IsAtStart cache n p × AreAtStart cache (suc n) ps
+
+module _ {C P : Type 0} where
+  -- a caller was made of this party and this fork, and keeps nothing
+  pub record IsEnlisted (p : Place (Known C)) (fork : P) (caller : Caller C P) : Type 0 where
+    pub party : caller.party ≡ p
+    pub pool : caller.pool ≡ fork
+    pub none : caller.kept.items ≡ []
+
+  -- these callers were made of these parties and forks
+  abbrev pub AreEnlisted : List (Place (Known C)) → List P → List (Caller C P) → Type 0
+  AreEnlisted [] [] [] = Unit {0}
+  AreEnlisted (p ∷ ps) (fork ∷ forks) (caller ∷ callers) = IsEnlisted p fork caller × AreEnlisted ps forks callers
+  AreEnlisted _ _ _ = ⊥
+
+  -- a caller that may begin
+  pub record IsReady (cache : Cache) (caller : Caller C P) : Type 0 where
+    pub stands : Stands cache caller.party []
+    pub told : IsTold cache.config [] caller.party
+    pub none : caller.kept.items ≡ []
+
+  -- ---- after the lines
+
+  -- A caller has done its lines, which were answered so, and keeps what they say. Its party has the number n, and its fork was as this one.
+  pub record HasDone (cache : Cache) (pools : Ghosts P) (blocks : List Ptr) (ops : List Op) (n : ℕ) (fork : P) (caller : Caller C P) (replies : List Reply) : Type 0 where
+    pub number : caller.party.number ≡ n
+    pub stands : Stands cache caller.party caller.kept.items
+    pub kept : map read_of caller.kept.items ≡ kept_after_all blocks [] (filter (is_of_caller n) ops) replies
+    pub told : IsTold cache.config (acts_of_all blocks [] (filter (is_of_caller n) ops) replies) caller.party
+    pub answers : AreAnswered (pools.size fork) (pools.told fork) blocks [] (filter (is_of_caller n) ops) replies
+    pub calls : MakesCalls pools (calls_of_all replies) fork caller.pool
+
+  -- so it was, where memory was enough
+  pub record HasTried (cache : Cache) (pools : Ghosts P) (blocks : List Ptr) (ops : List Op) (old new : Caller C P) : Type 0 where
+    pub done : IfOk new.replies (λ replies. HasDone cache pools blocks ops old.party.number old.pool new replies.items)
+
+  -- what a caller keeps may be given back
+  abbrev pub MayGiveBack : Cache → Caller C P → Type 0
+  MayGiveBack cache caller = IfOk caller.replies (λ replies. Stands cache caller.party caller.kept.items)
+
+  -- Its lines were answered so. Its party gave back all that it kept, and is this one then.
+  pub record GaveBack (cache : Cache) (caller : Caller C P) (replies : List Reply) (p : Place (Known C)) : Type 0 where
+    pub all : Vec Reply Global
+    pub replied : caller.replies ≡ Ok all
+    pub replies_are : all.items ≡ replies
+    pub number : p.number ≡ caller.party.number
+    pub stands : Stands cache p []
+    pub told : (before : List Act) → IsTold cache.config before caller.party → IsTold cache.config (before ++ acts_of_drops caller.party.number (map read_of caller.kept.items)) p
+
+  abbrev pub AllGaveBack : Cache → List (Caller C P) → List (List Reply) → List (Place (Known C)) → Type 0
+  AllGaveBack cache [] [] [] = Unit {0}
+  AllGaveBack cache (caller ∷ callers) (replies ∷ rest) (p ∷ ps) = GaveBack cache caller replies p × AllGaveBack cache callers rest ps
+  AllGaveBack cache _ _ _ = ⊥

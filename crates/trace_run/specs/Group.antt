@@ -1,0 +1,56 @@
+-- The work of several callers at once, each by its own lines, with its own party and its own fork of the pool.
+use Rattle.std.specs.Prelude.{◌≡◌, ◌<◌, ◌≤◌, ◌^◌, ◌+◌, ℕ, List, [], filter, length, min}
+use mathlib.Core.Option.{some}
+use lib.ListN.{get_elem?}
+use Rattle.blk_ptr.specs.declared.ptr.Ptr.{Ptr}
+use Rattle.arc_table.specs.Cache.{Cache}
+use Rattle.arc_table.specs.PoolCalls.{MakesCalls}
+use Rattle.arc_table.specs.declared.view.Known.{Known}
+use Rattle.turn_table.specs.Places.{Place}
+use Rattle.trace_text.specs.declared.op.Op.{Op}
+use Rattle.trace_text.specs.declared.reply.Reply.{Reply}
+use Rattle.vdev_io.specs.declared.pool.Pool.{Ghosts}
+use Rattle.vdev_io.specs.Faults.{last_count}
+use Rattle.trace_run.specs.Acts.{acts_of_caller}
+use Rattle.trace_run.specs.Effects.{calls_of_all}
+use Rattle.trace_run.specs.KeptBlocks.{Stands}
+use Rattle.trace_run.specs.Lines.{is_of_caller}
+use Rattle.trace_run.specs.Tally.{AreAnswered}
+use Rattle.trace_run.specs.Together.{over_callers}
+use Rattle.trace_run.specs.Told.{IsTold}
+
+-- A caller has done its work: its lines were answered, one after another, its fork of the pool was read as they say and in no other way, what it
+-- did is told, and it keeps nothing any more.
+pub record HasWorked {C P : Type 0} (cache : Cache) (pools : Ghosts P) (blocks : List Ptr) (ops : List Op) (n : ℕ) (fork done : P) (replies : List Reply) (p : Place (Known C)) : Type 0 where
+  pub number : p.number ≡ n
+  pub stands : Stands cache p []
+  pub told : IsTold cache.config (acts_of_caller blocks n (filter (is_of_caller n) ops) replies) p
+  pub answers : AreAnswered (pools.size fork) (pools.told fork) blocks [] (filter (is_of_caller n) ops) replies
+  pub calls : MakesCalls pools (calls_of_all replies) fork done
+
+-- a fork of a pool: it has the pool's length, tells the same bytes, and counted nothing yet
+pub record IsFork {P : Type 0} (pools : Ghosts P) (pool fork : P) : Type 0 where
+  pub size : pools.size fork ≡ pools.size pool
+  pub told : pools.told fork ≡ pools.told pool
+  pub reads : pools.reads fork ≡ 0
+  pub faults : pools.faults fork ≡ 0
+
+-- The pool has its length and the bytes that it tells, and its count of faults has not fallen, as far as a count goes: a fork is taken back by
+-- a sum of counts, which ends there.
+pub record LeavesPool {P : Type 0} (pools : Ghosts P) (old new : P) : Type 0 where
+  pub size : pools.size new ≡ pools.size old
+  pub told : pools.told new ≡ pools.told old
+  pub faults : min (pools.faults old) last_count ≤ pools.faults new
+
+-- So many callers have done their work, each on its own fork, and the pool has counted what the forks did, where there was room.
+pub record HaveWorked {C P : Type 0} (cache : Cache) (pools : Ghosts P) (blocks : List Ptr) (ops : List Op) (callers : ℕ) (before after : P) (replies : List (List Reply)) (ps : List (Place (Known C))) : Type 0 where
+  pub replied : length replies ≡ callers
+  pub parties : length ps ≡ callers
+  pub forks : ℕ → P
+  pub done : ℕ → P
+  pub fresh : (n : ℕ) → n < callers → IsFork pools before (forks n)
+  pub each : (n : ℕ) → n < callers → (rs : List Reply) × (p : Place (Known C)) × (get_elem? replies n ≡ some rs) × (get_elem? ps n ≡ some p)
+      × HasWorked cache pools blocks ops n (forks n) (done n) rs p
+  pub reads : pools.reads before < 2 ^ 63 → pools.reads after ≡ pools.reads before + over_callers callers (λ n. pools.reads (done n))
+  pub faults : min (pools.faults before + over_callers callers (λ n. pools.faults (done n))) last_count ≤ pools.faults after
+  pub keeps : LeavesPool pools before after

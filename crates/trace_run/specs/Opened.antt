@@ -1,0 +1,44 @@
+-- The parties of a cache that has just been made.
+use Rattle.std.specs.Prelude.{◌≡◌, ℕ, ◌<◌, List, [], length}
+use mathlib.Core.Option.{some}
+use lib.ListN.{get_elem?}
+use Rattle.arc_core.specs.declared.keeps.Keeps.{Ghosts}
+use Rattle.turn_table.specs.Places.{HasNumber, Place}
+use Rattle.arc_table.specs.declared.view.Known.{Known}
+use Rattle.arc_table.specs.Cache.{Cache}
+use Rattle.arc_table.specs.Geometry.{parties_of}
+use Rattle.arc_table.specs.Items.{Meanings}
+use Rattle.arc_table.specs.Views.{no_ledger}
+use Rattle.trace_run.specs.KeptBlocks.{Stands}
+use Rattle.trace_run.specs.Told.{IsTold}
+
+-- what a cell of this type means to the cache
+abbrev pub meanings_of : {C : Type 0} → Ghosts C → Meanings C
+meanings_of cells = record { holds = cells.holds; entries = cells.entries; opening = cells.opening; claims = cells.claims; sound = cells.sound }
+
+module _ {C : Type 0} where
+  -- A party that has done nothing yet, and seen nothing: it is one of so many as the cache has, and has begun nothing.
+  pub record IsNew (cache : Cache) (p : Place (Known C)) : Type 0 where
+    pub parties : p.parties ≡ parties_of cache.config
+    pub begun : p.own.ledger ≡ no_ledger
+    pub seen : p.own.seen ≡ []
+    pub stands : Stands cache p []
+    pub told : IsTold cache.config [] p
+
+  -- it is alone under its number
+  pub record IsOpened (cache : Cache) (n : ℕ) (p : Place (Known C)) : Type 0 where
+    pub number : p.number ≡ n
+    pub joined : p.joined ≡ []
+    pub new : IsNew cache p
+
+  -- the parties of the callers and that of the feeder, by their numbers
+  pub record AreOpened (cache : Cache) (ps : List (Place (Known C))) : Type 0 where
+    pub count : length ps ≡ parties_of cache.config
+    pub each : (n : ℕ) (p : Place (Known C)) → get_elem? ps n ≡ some p → IsOpened cache n p
+
+  -- the first party, which those of the numbers from 1 on and below this one have joined
+  pub record HasJoined (cache : Cache) (count : ℕ) (p : Place (Known C)) : Type 0 where
+    pub number : p.number ≡ 0
+    pub has : (n : ℕ) → n < count → HasNumber n p
+    pub low : (n : ℕ) → HasNumber n p → n < count
+    pub new : IsNew cache p

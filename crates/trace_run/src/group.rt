@@ -1,0 +1,247 @@
+//! The work of several callers at once, each by its own lines, with its own party and its own fork of the pool.
+ghost use Rattle.std.specs.Prelude.{All, ◌≡◌, ◌<◌, ◌≤◌, ◌^◌, ◌++◌, ◌∷◌, [], IfOk, IsErrOf, List, OnErr, OnOk, length, map, vec_len};
+ghost use Rattle.std.specs.List.{AllByRecursion, AllZip};
+ghost use Rattle.arc_table.specs.PoolCalls.{KeepsPool};
+ghost use Rattle.arc_table.specs.declared.view.Known.{Known};
+ghost use Rattle.turn_table.specs.Places.{Place};
+ghost use Rattle.trace_text.specs.declared.reply.Reply.{Reply};
+ghost use Rattle.vdev_io.specs.Faults.{HasIoCause, Rose};
+ghost use Rattle.vdev_io.specs.declared.fault.IoFault.{IoFault};
+ghost use Rattle.trace_run.specs.Callers.{Absorbs, AbsorbsAll, AllGaveBack, AreAtStart, AreEnlisted, GaveBack, HasTried, IsReady, MayGiveBack};
+ghost use Rattle.trace_run.specs.Group.{HaveWorked, IsFork, LeavesPool};
+ghost use Rattle.trace_run.specs.Tally.{AreDeclared};
+
+use crate::kept_blocks::{KeptBlock, give_back_all};
+use crate::lines::all_lines;
+use arc_core::Keeps;
+use arc_table::{Arcs, Party};
+use blk_ptr::{NoMemory, Ptr};
+use std::alloc::Global;
+use std::sync::Wait;
+use std::thread;
+use std::thread::Threads;
+use trace_text::{Op, Reply};
+use vdev_io::{Gate, IoFault, NoCache, Pool};
+
+/// The most callers that a trace may have.
+const MOST_CALLERS: usize = 16;
+
+/// A caller at work: its party, the reads that it keeps, its fork of the pool, and the replies to its lines once they are done.
+#[derive(Drop)]
+struct Caller<C: Keeps, P: Pool> {
+    party: Party<C>,
+    kept: Vec<KeptBlock>,
+    pool: P,
+    replies: Result<Vec<Reply>, NoMemory>,
+}
+
+/// What callers that worked at once come to, by their numbers.
+#[derive(Drop)]
+pub(crate) struct Worked<C: Keeps> {
+    /// Their parties.
+    pub(crate) parties: Vec<Party<C>>,
+    /// The replies to the lines of each.
+    pub(crate) replies: Vec<Vec<Reply>>,
+}
+
+/// Takes forks of a pool back, one after another.
+fn absorb_all<P: Pool>(pool: &mut P, forks: Vec<P>)
+    ensures { AbsorbsAll P.Pool forks.items pool.old pool.new }
+{
+    for fork in forks {
+        pool.absorb(fork);
+    }
+}
+
+/// Makes one fork more.
+fn one_fork<P: Pool>(alloc: Global, pool: &mut P, forks: &mut Vec<P>) -> Result<(), IoFault>
+    ensures made { OnOk result ((fork : P) × (forks.new.items ≡ forks.old.items ++ fork ∷ []) × IsFork P.Pool pool.old fork) }
+    ensures none { OnErr result (forks.new.items ≡ forks.old.items) }
+    ensures pool { KeepsPool P.Pool pool.old pool.new }
+    ensures reads { P.reads pool.new ≡ P.reads pool.old }
+    ensures cause { HasIoCause (P.faults pool.old) (P.faults pool.new) result }
+{
+    let fork = pool.fork(alloc)?;
+    match forks.push(fork) {
+        Ok(()) => Ok(()),
+        Err(_) => Err(IoFault::NoMemory),
+    }
+}
+
+/// A fork of a pool for each of so many callers. Where one can't be made, those that were are taken back, and only the pool's count of faults
+/// has changed.
+pub(crate) fn forks<P: Pool>(alloc: Global, pool: &mut P, callers: u32) -> Result<Vec<P>, IoFault>
+    ensures forks { IfOk result (λ forks. AllByRecursion (IsFork P.Pool pool.new) forks.items) }
+    ensures count { IfOk result (λ forks. vec_len forks ≡ callers) }
+    ensures pool { LeavesPool P.Pool pool.old pool.new }
+    ensures keeps { OnOk result (KeepsPool P.Pool pool.old pool.new) }
+    ensures reads { P.reads pool.old < 2 ^ 63 → P.reads pool.new ≡ P.reads pool.old }
+    ensures rose { IsErrOf result IoFault.Failed → Rose (P.faults pool.old) (P.faults pool.new) }
+{
+    let mut forks = Vec::new(alloc);
+    for _ in 0..callers {
+        if let Err(fault) = one_fork(alloc, pool, &mut forks) {
+            absorb_all(pool, forks);
+            return Err(fault);
+        }
+    }
+    Ok(forks)
+}
+
+/// Makes a caller of each party and its fork.
+fn enlist<C: Keeps, P: Pool>(
+    alloc: Global,
+    parties: Vec<Party<C>>,
+    forks: Vec<P>,
+) -> Result<Vec<Caller<C, P>>, NoMemory>
+    requires { vec_len forks ≡ vec_len parties }
+    ensures { IfOk result (λ callers. AreEnlisted parties.items forks.items callers.items) }
+{
+    let mut callers = Vec::with_capacity(alloc, parties.len())?;
+    let mut forks = forks.into_iter();
+    for party in parties {
+        let Some(pool) = forks.next() else {
+            unreachable!()
+        };
+        callers.push(Caller {
+            party,
+            kept: Vec::new(alloc),
+            pool,
+            replies: Ok(Vec::new(alloc)),
+        })?;
+    }
+    Ok(callers)
+}
+
+/// Does the lines of a caller.
+fn work<C: Keeps, P: Pool, G: Gate>(
+    alloc: Global,
+    rt: &impl Wait,
+    arcs: &Arcs<C>,
+    caller: &mut Caller<C, P>,
+    blocks: &[Ptr],
+    ops: &[Op],
+    gate: &G,
+)
+    requires ready { IsReady arcs.now caller.old }
+    requires declared { AreDeclared (length blocks.now) ops.now }
+    requires few { length ops.now < 2 ^ 32 }
+    ensures { HasTried arcs.now P.Pool blocks.now ops.now caller.old caller.new }
+{
+    caller.replies = all_lines(
+        alloc,
+        rt,
+        arcs,
+        &mut caller.party,
+        &mut caller.kept,
+        &mut caller.pool,
+        &mut NoCache,
+        blocks,
+        ops,
+        gate,
+    );
+}
+
+/// Does the lines of all callers, each in a thread of its own where one can be started.
+fn work_all<R: Threads + Wait + Sync, C: Keeps + Send, P: Pool, G: Gate>(
+    alloc: Global,
+    rt: &R,
+    arcs: &Arcs<C>,
+    callers: &mut [Caller<C, P>],
+    blocks: &[Ptr],
+    ops: &[Op],
+    gate: &G,
+)
+    requires ready { All (IsReady arcs.now) callers.old }
+    requires declared { AreDeclared (length blocks.now) ops.now }
+    requires few { length ops.now < 2 ^ 32 }
+    ensures { AllZip (HasTried arcs.now P.Pool blocks.now ops.now) callers.old callers.new }
+{
+    let each = |_: usize, caller: &mut Caller<C, P>|
+        requires { IsReady arcs.now caller.old × AreDeclared (length blocks.now) ops.now × (length ops.now < 2 ^ 32) }
+        ensures { HasTried arcs.entry.now P.Pool blocks.entry.now ops.entry.now caller.old caller.new }
+    { work(alloc, rt, arcs, caller, blocks, ops, gate) };
+    thread::for_each_mut(rt, callers, MOST_CALLERS, &each);
+}
+
+/// Takes a caller back that has done its lines: the pool takes its fork, and its party gives back what it keeps.
+fn take_back<C: Keeps, P: Pool>(
+    rt: &impl Wait,
+    arcs: &Arcs<C>,
+    caller: Caller<C, P>,
+    pool: &mut P,
+    worked: &mut Worked<C>,
+) -> Result<(), NoMemory>
+    requires { MayGiveBack arcs.now caller }
+    ensures absorbs { Absorbs P.Pool caller.pool pool.old pool.new }
+    ensures gave { OnOk result ((replies : List Reply) × (p : Place (Known C)) × (map (λ v. v.items) worked.new.replies.items ≡ map (λ v. v.items) worked.old.replies.items ++ replies ∷ [])
+        × (worked.new.parties.items ≡ worked.old.parties.items ++ p ∷ []) × GaveBack arcs.now caller replies p) }
+{
+    let Caller {
+        mut party,
+        kept,
+        pool: fork,
+        replies,
+    } = caller;
+    pool.absorb(fork);
+    let replies = replies?;
+    give_back_all(rt, arcs, &mut party, kept);
+    worked.parties.push(party)?;
+    worked.replies.push(replies)?;
+    Ok(())
+}
+
+/// Takes all callers back that have done their lines. The pool takes each fork, also where some caller was short of memory.
+fn take_all_back<C: Keeps, P: Pool>(
+    alloc: Global,
+    rt: &impl Wait,
+    arcs: &Arcs<C>,
+    callers: Vec<Caller<C, P>>,
+    pool: &mut P,
+) -> Result<Worked<C>, NoMemory>
+    requires { AllByRecursion (MayGiveBack arcs.now) callers.items }
+    ensures absorbs { AbsorbsAll P.Pool (map (λ caller. caller.pool) callers.items) pool.old pool.new }
+    ensures gave { IfOk result (λ worked. AllGaveBack arcs.now callers.items (map (λ v. v.items) worked.replies.items) worked.parties.items) }
+{
+    let mut worked = Worked {
+        parties: Vec::new(alloc),
+        replies: Vec::new(alloc),
+    };
+    let mut short = false;
+    for caller in callers {
+        if take_back(rt, arcs, caller, pool, &mut worked).is_err() {
+            short = true;
+        }
+    }
+    if short {
+        return Err(NoMemory);
+    }
+    Ok(worked)
+}
+
+/// Lets callers work at once, each by its own lines of a trace, with its own party and its own fork of the pool. Then each gives back what
+/// it keeps, and the pool takes its fork back, by their numbers.
+pub(crate) fn run_group<R: Threads + Wait + Sync, C: Keeps + Send, P: Pool, G: Gate>(
+    alloc: Global,
+    rt: &R,
+    arcs: &Arcs<C>,
+    parties: Vec<Party<C>>,
+    forks: Vec<P>,
+    pool: &mut P,
+    blocks: &[Ptr],
+    ops: &[Op],
+    gate: &G,
+) -> Result<Worked<C>, NoMemory>
+    requires parties { AreAtStart arcs.now 0 parties.items }
+    requires forks { AllByRecursion (IsFork P.Pool pool.old) forks.items }
+    requires same { vec_len forks ≡ vec_len parties }
+    requires callers { vec_len parties ≤ 16 }
+    requires declared { AreDeclared (length blocks.now) ops.now }
+    requires few { length ops.now < 2 ^ 32 }
+    ensures worked { IfOk result (λ worked. HaveWorked arcs.now P.Pool blocks.now ops.now (vec_len parties) pool.old pool.new (map (λ v. v.items) worked.replies.items) worked.parties.items) }
+    ensures pool { LeavesPool P.Pool pool.old pool.new }
+{
+    let mut callers = enlist(alloc, parties, forks)?;
+    work_all(alloc, rt, arcs, &mut callers, blocks, ops, gate);
+    take_all_back(alloc, rt, arcs, callers, pool)
+}

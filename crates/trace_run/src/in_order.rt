@@ -1,0 +1,29 @@
+//! The callers' replies, put together in the order of the trace's lines.
+ghost use Rattle.std.specs.Prelude.{IfOk, map};
+ghost use Rattle.trace_run.specs.InOrder.{AreInOrder, HaveReplies};
+
+use crate::lines::caller_of;
+use blk_ptr::NoMemory;
+use std::alloc::Global;
+use trace_text::{Op, Reply};
+
+/// Puts the callers' replies together, one for each operation. Each caller's are those to its own operations, in their order.
+pub(crate) fn in_order(
+    alloc: Global,
+    ops: &[Op],
+    mut replies: Vec<Vec<Reply>>,
+) -> Result<Vec<Reply>, NoMemory>
+    requires { HaveReplies ops.now (map (λ rs. rs.items) replies.items) }
+    ensures { IfOk result (λ merged. AreInOrder ops.now (map (λ rs. rs.items) replies.items) merged.items) }
+{
+    let mut merged = Vec::new(alloc);
+    for number in (0..ops.len()).rev() {
+        let caller = caller_of(ops[number]) as usize;
+        let Some(reply) = replies[caller].pop() else {
+            unreachable!()
+        };
+        merged.push(reply)?;
+    }
+    merged.reverse();
+    Ok(merged)
+}

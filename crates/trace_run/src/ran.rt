@@ -1,0 +1,113 @@
+//! What a run of a trace came to, and its report.
+ghost use Rattle.std.specs.Prelude.{◌≡◌, IfOk, map};
+ghost use Rattle.trace_run.specs.Ends.{end_of};
+ghost use Rattle.trace_run.specs.PlainRun.{status_of};
+ghost use Rattle.trace_run.specs.Together.{report_of_closed};
+
+use arc_core::Shard;
+use arc_table::Closed;
+use blk_ptr::{NoMemory, State};
+use dbuf_cells::Kept;
+use dbuf_state::Cell;
+use std::alloc::Global;
+use trace_text::{Ends, Histories, History, Replies, Reply, Report, ShardEnd};
+
+/// What a run of a trace came to.
+#[derive(Drop)]
+pub(crate) struct Ran {
+    /// The answers to the operations, in the order of their lines; none where a fork of the pool failed.
+    pub(crate) replies: Vec<Reply>,
+    /// The shared cache at its end.
+    pub(crate) closed: Closed<Cell<Kept>>,
+    /// Whether a fork of the pool failed, which ended the run before its first operation.
+    pub(crate) fork_failed: bool,
+}
+
+/// The report of a run, and the closed cache whose histories it has.
+#[derive(Drop)]
+pub(crate) struct Reported {
+    pub(crate) report: Report,
+    pub(crate) closed: Closed<Cell<Kept>>,
+}
+
+impl Ran {
+    /// The report of the run, with all replies.
+    pub(crate) fn report(self, alloc: Global) -> Result<Reported, NoMemory>
+        ensures report { IfOk result (λ told. told.report ≡ report_of_closed self.fork_failed self.replies.items self.closed) }
+        ensures closed { IfOk result (λ told. told.closed ≡ self.closed) }
+    {
+        let histories = histories_of(alloc, self.closed.shards())?;
+        let ends = ends_of(alloc, self.closed.shards())?;
+        let status = if self.fork_failed {
+            6
+        } else {
+            status_of(&self.replies)
+        };
+        let report = Report {
+            replies: Replies::from_vec(self.replies),
+            histories,
+            ends,
+            status,
+            short: false,
+        };
+        Ok(Reported {
+            report,
+            closed: self.closed,
+        })
+    }
+}
+
+/// The events of each shard.
+fn histories_of(alloc: Global, shards: &[Shard]) -> Result<Histories, NoMemory>
+    ensures { IfOk result (λ all. all ≡ map (λ log. log.history) shards.now) }
+{
+    let mut histories = Vec::new(alloc);
+    for shard in shards {
+        histories.push(History::from_vec(shard.history().to_vec(alloc)?))?;
+    }
+    Ok(Histories::from_vec(histories))
+}
+
+/// What each shard ends with.
+fn ends_of(alloc: Global, shards: &[Shard]) -> Result<Ends, NoMemory>
+    ensures { IfOk result (λ all. all ≡ map (λ log. end_of log.now) shards.now) }
+{
+    let mut ends = Vec::new(alloc);
+    for shard in shards {
+        ends.push(end_of(shard))?;
+    }
+    Ok(Ends::from_vec(ends))
+}
+
+/// The states of an entry, in the order of a report's sizes.
+const STATES: [State; 6] = [
+    State::Anon,
+    State::Mru,
+    State::MruGhost,
+    State::Mfu,
+    State::MfuGhost,
+    State::L2Only,
+];
+
+/// What a shard ends with.
+fn end_of(shard: &Shard) -> ShardEnd
+    ensures { result ≡ end_of shard.now.now }
+{
+    ShardEnd {
+        c: shard.c(),
+        p: shard.p(),
+        sizes: STATES.map(|state| shard.size(state)),
+    }
+}
+
+/// 0 where no reply is a refusal, and else 1.
+fn status_of(replies: &[Reply]) -> u8
+    ensures { result ≡ status_of replies.now }
+{
+    for reply in replies {
+        if let Reply::Refused(_) = reply {
+            return 1;
+        }
+    }
+    0
+}

@@ -1,0 +1,122 @@
+//! The run of a trace with several callers over the shared cache.
+ghost use Rattle.std.specs.Prelude.{◌≡◌, ◌<◌, ◌++◌, ◌∷◌, [], IfOk, false, sum_by, true, vec_len};
+ghost use Rattle.std.specs.List.{AllByRecursion};
+ghost use Rattle.arc_core.specs.Operations.{pool_reads};
+ghost use Rattle.arc_table.specs.Ended.{Ends};
+ghost use Rattle.trace_text.specs.Grammar.{IsFormed};
+ghost use Rattle.trace_run.specs.Group.{IsFork, LeavesPool};
+ghost use Rattle.trace_run.specs.GroupRun.{HaveStopped, RanGroup, RanTogether};
+ghost use Rattle.trace_run.specs.Alone.{ends_in, histories_of};
+ghost use Rattle.trace_run.specs.Explaining.{Explain};
+ghost use Rattle.trace_run.specs.Opened.{AreOpened, meanings_of};
+
+use crate::group::{forks, run_group};
+use crate::in_order::in_order;
+use crate::opening::open_cache;
+use crate::ran::Ran;
+use arc_core::Keeps;
+use arc_table::{Closed, Party};
+use blk_ptr::NoMemory;
+use dbuf_cells::{Cells, Kept};
+use dbuf_state::Cell;
+use std::alloc::Global;
+use std::sync::Wait;
+use std::thread::Threads;
+use trace_text::Trace;
+use vdev_io::{Gate, IoFault, Pool};
+
+/// Takes the feeder's party, which is the last one.
+fn take_feeder(parties: &mut Vec<Party<Cell<Kept>>>) -> Party<Cell<Kept>>
+    requires { 0 < vec_len parties.old }
+    ensures { parties.old.items ≡ parties.new.items ++ result ∷ [] }
+{
+    let Some(feeder) = parties.pop() else {
+        unreachable!()
+    };
+    feeder
+}
+
+/// Closes the cache of a run, once each party has given all back.
+fn close_run(arcs: Cells, parties: Vec<Party<Cell<Kept>>>) -> Result<Closed<Cell<Kept>>, NoMemory>
+    requires { HaveStopped arcs parties.items }
+    ensures { IfOk result (λ closed. Ends (meanings_of ⟦<Cell<Kept> as Keeps>⟧) arcs parties.items closed) }
+{
+    arcs.close(parties)
+}
+
+/// Lets the callers work at once, each on its fork of the pool, and closes the cache.
+fn run_callers<R: Threads + Wait + Sync, P: Pool, G: Gate>(
+    alloc: Global,
+    rt: &R,
+    trace: &Trace,
+    arcs: Cells,
+    mut parties: Vec<Party<Cell<Kept>>>,
+    forks: Vec<P>,
+    pool: &mut P,
+    gate: &G,
+) -> Result<Ran, NoMemory>
+    requires formed { IsFormed trace.now }
+    requires config { arcs.config ≡ trace.now.config }
+    requires opened { AreOpened arcs parties.items }
+    requires forks { AllByRecursion (IsFork P.Pool pool.old) forks.items }
+    requires count { vec_len forks ≡ trace.now.config.callers }
+    ensures ran { IfOk result (λ ran. RanGroup arcs P.Pool pool.old pool.new trace.now ran.replies.items ran.closed) }
+    ensures whole { IfOk result (λ ran. ran.fork_failed ≡ false) }
+    ensures pool { LeavesPool P.Pool pool.old pool.new }
+{
+    let feeder = take_feeder(&mut parties);
+    let blocks = trace.blocks.as_slice();
+    let ops = trace.ops.as_slice();
+    let mut worked = run_group(alloc, rt, &arcs, parties, forks, pool, blocks, ops, gate)?;
+    worked.parties.push(feeder)?;
+    let replies = in_order(alloc, ops, worked.replies)?;
+    let closed = close_run(arcs, worked.parties)?;
+    Ok(Ran {
+        replies,
+        closed,
+        fork_failed: false,
+    })
+}
+
+/// Closes the cache of a run that ends before its first operation, since a fork of the pool failed.
+fn run_none(
+    alloc: Global,
+    trace: &Trace,
+    arcs: Cells,
+    parties: Vec<Party<Cell<Kept>>>,
+) -> Result<Ran, NoMemory>
+    requires config { arcs.config ≡ trace.now.config }
+    requires formed { IsFormed trace.now }
+    requires opened { AreOpened arcs parties.items }
+    ensures none { IfOk result (λ ran. ran.replies.items ≡ []) }
+    ensures explained { IfOk result (λ ran. Explain trace.now [] (ends_in ran.closed) (histories_of ran.closed)) }
+    ensures reads { IfOk result (λ ran. sum_by pool_reads (histories_of ran.closed) ≡ 0) }
+    ensures failed { IfOk result (λ ran. ran.fork_failed ≡ true) }
+{
+    let closed = close_run(arcs, parties)?;
+    Ok(Ran {
+        replies: Vec::new(alloc),
+        closed,
+        fork_failed: true,
+    })
+}
+
+/// Runs a trace of several callers, each on its own fork of the pool. Where a fork fails, no operation is answered.
+pub(crate) fn run_together<R: Threads + Wait + Sync, P: Pool, G: Gate>(
+    alloc: Global,
+    rt: &R,
+    trace: &Trace,
+    pool: &mut P,
+    gate: &G,
+) -> Result<Ran, NoMemory>
+    requires { IsFormed trace.now }
+    ensures ran { IfOk result (λ ran. RanTogether P.Pool pool.old pool.new trace.now ran.fork_failed ran.replies.items ran.closed) }
+    ensures pool { LeavesPool P.Pool pool.old pool.new }
+{
+    let (arcs, parties) = open_cache(alloc, trace)?;
+    match forks(alloc, pool, trace.config.callers) {
+        Ok(forks) => run_callers(alloc, rt, trace, arcs, parties, forks, pool, gate),
+        Err(IoFault::Failed) => run_none(alloc, trace, arcs, parties),
+        Err(IoFault::NoMemory) => Err(NoMemory),
+    }
+}
