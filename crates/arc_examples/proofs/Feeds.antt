@@ -46,3 +46,13 @@ module _ {C : Type 0} (m : Meanings C) (cache : Cache) (p q : Place (Known C)) (
   restore-ready list (Ok u) a = ready-stays cache p q ready (restores_stays m cache.config ready.valid p.number list p q ready.of.config a)
   restore-ready list (Err (stop.NoMemory done)) a = ready-stays cache p q ready (stops-stay p.number list done a)
   restore-ready list (Err (stop.There done front)) a = ready-stays cache p q ready (stops-stay p.number list done a)
+
+-- ---- picks
+
+at-last : {X : Type 0} → (xs : List X) (x : X) → get_elem? (xs ++ x ∷ []) (length xs) ≡ some x
+at-last [] x = refl
+at-last (y ∷ xs) x = at-last xs x
+
+-- what is so of each item of a list is so of its last
+pub last-so : {X : Type 0} → (P : X → Type 0) (items gained rest : List X) (x : X) → items ≡ [] ++ gained → items ≡ rest ++ x ∷ [] → ((j : ℕ) (y : X) → get_elem? gained j ≡ some y → P y) → P x
+last-so P items gained rest x same last each = each (length rest) x (ap (λ l. get_elem? l (length rest)) (sym same ∙ last) ∙ at-last rest x)

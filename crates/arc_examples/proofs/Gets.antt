@@ -61,7 +61,10 @@ module _ {C : Type 0} (m : Meanings C) (cache : Cache) (ptr : Ptr) (t : ℕ) (p 
       (read_stays m cache.config ready.valid pools devices ptr t before now p q result ready.of.config a)
       (read-lists m cache.config ready.valid pools devices ptr t before now p q result ready.of.config ready.free a)
 
-  -- a try that gave a hold, one that made no event, and one that another party's turn lost
+  pub read-ready : {P D : Type 0} → (pools : PoolGhosts P) (devices : DeviceGhosts D) (before now : Outside P D) (result : Result Read ReadFault) → AnswersRead m pools devices cache.config ptr t before now p q result → IsReadyAs cache p q
+  read-ready pools devices before now result a = ready-stays cache p q ready (read_stays m cache.config ready.valid pools devices ptr t before now p q result ready.of.config a)
+
+  -- a try that gave a hold
   pub hit-got : (h : Hold) → Does m cache.config ptr.key (Hit p.number ptr.key t ∷ []) p q → IsHoldOf ptr p.number h → IsHeld cache.config q h → HasGot cache ptr.key h p q
   hit-got h d of held = record {
     ready = ready-stays cache p q ready (does_stays m cache.config ready.valid ptr.key (Hit p.number ptr.key t ∷ []) p q ready.of.config d);

@@ -29,6 +29,13 @@ const TWO: Config = Config {
     },
 };
 
+// The key of the first block of 2,048 bytes.
+const FIRST: Key = Key {
+    offset: 0,
+    size: 2048,
+    birth: 1,
+};
+
 // The pointer of the block of this number, among blocks of 2,048 zeros.
 fn big(number: u64) -> Ptr {
     let key = Key {

@@ -4,7 +4,7 @@ ghost use Rattle.arc_core.specs.declared.event.Why.{Why};
 ghost use Rattle.arc_table.specs.Feeding.{IsFeeder, IsPicked};
 ghost use Rattle.arc_examples.specs.Ready.{IsReady, IsReadyAs};
 
-use super::{big, has_events, opened};
+use super::{FIRST, big, has_events, opened};
 use crate::{Pair, Plain, close_pair, read_one};
 use arc_core::{Event, Origin, Restored, Why};
 use arc_table::{Arcs, Cleared, Front, Party};
@@ -20,7 +20,7 @@ fn restored<R: Wait>(rt: &R, arcs: &Arcs<Plain>, feeder: &mut Party<Plain>, plac
     ensures { IsReadyAs arcs.now feeder.old feeder.new }
 {
     let list = [Restored {
-        key: big(0).key,
+        key: FIRST,
         place,
         digest: None,
     }];
@@ -38,7 +38,10 @@ fn cleared<R: Wait>(
     requires feeder { IsFeeder arcs.now feeder.old }
     ensures { IsReadyAs arcs.now feeder.old feeder.new }
 {
-    arcs.clear(rt, feeder, big(0).key, place).ok()
+    match arcs.clear(rt, feeder, FIRST, place) {
+        Ok(cleared) => Some(cleared),
+        Err(NoMemory) => None,
+    }
 }
 
 // A place is restored, and taken twice.
@@ -65,7 +68,7 @@ fn a_place_is_cleared_once(rt: HostRuntime) -> Result<(), Fail> {
     Ok(())
 }
 
-// The first key that is picked.
+// A key that is picked.
 fn picked<R: Wait>(
     rt: &R,
     arcs: &Arcs<Plain>,
@@ -74,14 +77,17 @@ fn picked<R: Wait>(
 ) -> Option<Key>
     requires ready { IsReady arcs.now feeder.old }
     requires feeder { IsFeeder arcs.now feeder.old }
+    requires shard { arcs.now.config.shards ≡ 1 }
     requires settled { feeder.old.own.ledger.picked ≡ [] }
     ensures ready { IsReadyAs arcs.now feeder.old feeder.new }
     ensures picked { IfSome result (λ key. IsPicked arcs.now.config feeder.new key) }
 {
     let mut out = Vec::new(alloc);
-    arcs.pick(rt, feeder, 0, &mut out).ok()?;
-    let first = out.first()?;
-    Some(first.key)
+    let Ok(()) = arcs.pick(rt, feeder, 0, &mut out) else {
+        return None;
+    };
+    let last = out.pop()?;
+    Some(last.key)
 }
 
 // What becomes of a pick.
@@ -113,7 +119,7 @@ fn settled<R: Wait>(
     }
 }
 
-// The first key is picked, and its pick ends.
+// A key is picked, and its pick ends.
 fn fed<R: Wait>(
     rt: &R,
     arcs: &Arcs<Plain>,
@@ -123,6 +129,7 @@ fn fed<R: Wait>(
 ) -> Option<bool>
     requires ready { IsReady arcs.now feeder.old }
     requires feeder { IsFeeder arcs.now feeder.old }
+    requires shard { arcs.now.config.shards ≡ 1 }
     requires settled { feeder.old.own.ledger.picked ≡ [] }
     ensures { IsReadyAs arcs.now feeder.old feeder.new }
 {
@@ -173,7 +180,7 @@ fn row(
 fn a_block_that_was_written_has_its_place(rt: HostRuntime) -> Result<(), Fail> {
     let last = Event::Set {
         n: 2,
-        key: big(0).key,
+        key: FIRST,
         place: 4096,
     };
     let then = Then::Written { place: 4096 };
@@ -186,7 +193,7 @@ fn a_block_that_was_written_has_its_place(rt: HostRuntime) -> Result<(), Fail> {
 fn a_block_that_was_not_written_is_left(rt: HostRuntime) -> Result<(), Fail> {
     let last = Event::Leave {
         n: 2,
-        key: big(0).key,
+        key: FIRST,
         why: Why::Device,
     };
     let told = row(&rt, rt.alloc(), Then::Failed, last)

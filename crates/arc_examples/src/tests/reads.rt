@@ -48,7 +48,22 @@ fn device_of(alloc: Global, byte: u8) -> Result<MemCache, NoMemory> {
     Ok(MemCache::new(bytes, Vec::new(alloc)))
 }
 
-// Reads a block; the hold stays with the party.
+// Reads a block; a hold stays with the party.
+fn read_of<R: Wait, P: Pool, D: CacheDev>(
+    rt: &R,
+    arcs: &Arcs<Plain>,
+    party: &mut Party<Plain>,
+    ptr: &Ptr,
+    pool: &mut P,
+    device: &mut D,
+) -> Result<Read, ReadFault>
+    requires { IsReady arcs.now party.old }
+    ensures { IsReadyAs arcs.now party.old party.new }
+{
+    arcs.read(rt, party, ptr, 1, pool, device)
+}
+
+// What such a read answers.
 fn answer_of<R: Wait, P: Pool, D: CacheDev>(
     rt: &R,
     arcs: &Arcs<Plain>,
@@ -60,7 +75,7 @@ fn answer_of<R: Wait, P: Pool, D: CacheDev>(
     requires { IsReady arcs.now party.old }
     ensures { IsReadyAs arcs.now party.old party.new }
 {
-    match arcs.read(rt, party, ptr, 1, pool, device) {
+    match read_of(rt, arcs, party, ptr, pool, device) {
         Ok(Read::Held(_, served)) => Answer::Held(served),
         Ok(Read::Past { block, kept }) => Answer::Past {
             found: block.digest(),
