@@ -1,11 +1,8 @@
 -- What the feeder's calls leave of it: it is ready for the next call.
-use Rattle.std.proofs.Common.{◌≡◌, ℕ, List, [], ◌∷◌, ◌++◌, length, Bool, true, false, Result, Ok, Err, take, refl, sym, ap, ◌∙◌, subst}
-use mathlib.Core.Option.{some}
-use lib.ListN.{get_elem?}
+use Rattle.std.proofs.Common.{ℕ, List, [], Result, Ok, Err, take}
 use Rattle.blk_ptr.specs.declared.key.Key.{Key}
 use Rattle.arc_core.specs.declared.config.Config.{Config}
 use Rattle.arc_core.specs.declared.event.Event.{Event}
-use Rattle.arc_core.specs.declared.event.Why.{Why}
 use Rattle.arc_core.specs.declared.served.Restored.{Restored}
 use Rattle.turn_table.specs.Places.{Place}
 use Rattle.arc_table.specs.declared.feeds.Cleared.{Cleared}
@@ -15,7 +12,7 @@ use Rattle.arc_table.specs.declared.restores.RestoreStop.TheVariants as stop
 use Rattle.arc_table.specs.declared.view.Known.{Known}
 use Rattle.arc_table.specs.Both.{Does}
 use Rattle.arc_table.specs.Cache.{Cache}
-use Rattle.arc_table.specs.Feeding.{AnswersClear, AnswersRestore, AnswersSet, Leaves, StopsAt}
+use Rattle.arc_table.specs.Feeding.{AnswersClear, AnswersRestore, StopsAt}
 use Rattle.arc_table.specs.Items.{Meanings}
 use Rattle.arc_table.proofs.AfterRead.{stays_config}
 use Rattle.arc_table.proofs.Afterwards.{Stays, does_stays, restores_stays, stays_then}
@@ -30,13 +27,6 @@ module _ {C : Type 0} (m : Meanings C) (cache : Cache) (p q : Place (Known C)) (
   clear-ready k place (cleared.Done) a = does-ready k _ a
   clear-ready k place (cleared.Not front) a = does-ready k _ a.0
 
-  pub set-ready : (k : Key) (place : ℕ) (result : Bool) → AnswersSet m cache.config k place p q result → IsReadyAs cache p q
-  set-ready k place true a = does-ready k _ a
-  set-ready k place false a = does-ready k _ a
-
-  pub leave-ready : (k : Key) (why : Why) → Leaves m cache.config k why p q → IsReadyAs cache p q
-  leave-ready k why a = does-ready k _ a.2
-
   stops-stay : {Q : Restored → Place (Known C) → Place (Known C) → Type 0} → (n : ℕ) (list : List Restored) (done : ℕ) → StopsAt m Q cache.config n list done p q → Stays p q
   stops-stay n list done s =
       let a = restores_stays m cache.config ready.valid n (take done list) p s.reached ready.of.config s.restored in
@@ -46,13 +36,3 @@ module _ {C : Type 0} (m : Meanings C) (cache : Cache) (p q : Place (Known C)) (
   restore-ready list (Ok u) a = ready-stays cache p q ready (restores_stays m cache.config ready.valid p.number list p q ready.of.config a)
   restore-ready list (Err (stop.NoMemory done)) a = ready-stays cache p q ready (stops-stay p.number list done a)
   restore-ready list (Err (stop.There done front)) a = ready-stays cache p q ready (stops-stay p.number list done a)
-
--- ---- picks
-
-at-last : {X : Type 0} → (xs : List X) (x : X) → get_elem? (xs ++ x ∷ []) (length xs) ≡ some x
-at-last [] x = refl
-at-last (y ∷ xs) x = at-last xs x
-
--- what is so of each item of a list is so of its last
-pub last-so : {X : Type 0} → (P : X → Type 0) (items gained rest : List X) (x : X) → items ≡ [] ++ gained → items ≡ rest ++ x ∷ [] → ((j : ℕ) (y : X) → get_elem? gained j ≡ some y → P y) → P x
-last-so P items gained rest x same last each = each (length rest) x (ap (λ l. get_elem? l (length rest)) (sym same ∙ last) ∙ at-last rest x)

@@ -11,12 +11,15 @@ use Rattle.arc_examples.specs.Ready.{AreNew, IsNew, IsReady}
 
 some-new : (C : Type 0) (cache : Cache) (is : IsCache cache.row cache.config) (about : About) → about.config ≡ cache.config → (n k : ℕ) → AreNew {C = C} cache n (newcomers cache.row.table (parties_of cache.config) (newcomer about) n k)
 some-new C cache is about same n zero = tt
-some-new C cache is about same n (suc k) = (record {
-  ready = record { valid = is.valid; of = record { row = (refl, sym is.parties); config = same }; free = refl };
-  number = refl;
-  joined = refl;
-  picked = refl;
-}, some-new C cache is about same (suc n) k)
+some-new C cache is about same n (suc k) = (
+  record {
+    ready = record { valid = is.valid; of = record { row = (refl, sym is.parties); config = same }; free = refl };
+    number = refl;
+    joined = refl;
+    picked = refl;
+  },
+  some-new C cache is about same (suc n) k,
+)
 
 module _ {C : Type 0} (cache : Cache) where
   -- the parties that a new cache has

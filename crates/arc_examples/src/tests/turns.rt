@@ -3,7 +3,7 @@ ghost use Rattle.std.specs.Prelude.{◌≡◌, []};
 ghost use Rattle.arc_examples.specs.Ready.{IsReady, IsReadyAs};
 
 use super::opened;
-use crate::Plain;
+use crate::{Pair, Plain};
 use arc_table::{Arcs, Party};
 use std::test::Fail;
 
@@ -20,8 +20,14 @@ fn joined_and_parted(arcs: &Arcs<Plain>, one: &mut Party<Plain>, two: Party<Plai
 
 #[test]
 fn a_party_parts_under_its_own_number(rt: HostRuntime) -> Result<(), Fail> {
-    let mut pair = opened(rt.alloc()).ok().ok_or("memory")?;
-    let two = joined_and_parted(&pair.arcs, &mut pair.one.party, pair.two.party);
-    assert!(rt; two.number() == 1 && pair.one.party.number() == 0);
+    let pair = opened(rt.alloc()).ok().ok_or("memory")?;
+    let Pair {
+        arcs,
+        feeder: _,
+        mut one,
+        two,
+    } = pair;
+    let two = joined_and_parted(&arcs, &mut one.party, two.party);
+    assert!(rt; two.number() == 1 && one.party.number() == 0);
     Ok(())
 }
