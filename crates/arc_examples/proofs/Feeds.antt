@@ -1,7 +1,6 @@
 -- What the feeder's calls leave of it: it is ready for the next call.
 use Rattle.std.proofs.Common.{ℕ, List, [], Result, Ok, Err, take}
 use Rattle.blk_ptr.specs.declared.key.Key.{Key}
-use Rattle.arc_core.specs.declared.config.Config.{Config}
 use Rattle.arc_core.specs.declared.event.Event.{Event}
 use Rattle.arc_core.specs.declared.served.Restored.{Restored}
 use Rattle.turn_table.specs.Places.{Place}

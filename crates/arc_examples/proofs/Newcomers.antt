@@ -1,13 +1,12 @@
 -- The parties of a new cache.
 use Rattle.std.proofs.Common.{◌≡◌, ℕ, zero, suc, ◌+◌, List, [], ◌∷◌, ◌++◌, length, refl, sym, ap, ◌∙◌, subst, arith}
-use Rattle.arc_core.specs.declared.config.Config.{Config}
-use Rattle.turn_table.specs.Places.{Place, Row, newcomers}
+use Rattle.turn_table.specs.Places.{Place, newcomers}
 use Rattle.arc_table.specs.declared.about.About.{About}
 use Rattle.arc_table.specs.declared.view.Known.{Known}
 use Rattle.arc_table.specs.Cache.{Cache, IsCache, all_newcomers}
 use Rattle.arc_table.specs.Geometry.{parties_of}
 use Rattle.arc_table.specs.Views.{newcomer}
-use Rattle.arc_examples.specs.Ready.{AreNew, IsNew, IsReady}
+use Rattle.arc_examples.specs.Ready.{AreNew, IsNew}
 
 some-new : (C : Type 0) (cache : Cache) (is : IsCache cache.row cache.config) (about : About) → about.config ≡ cache.config → (n k : ℕ) → AreNew {C = C} cache n (newcomers cache.row.table (parties_of cache.config) (newcomer about) n k)
 some-new C cache is about same n zero = tt

@@ -1,5 +1,5 @@
 -- The holds that a party lists once a read is over: one on the block's key more where it gave one, and else those that it had.
-use Rattle.std.proofs.Common.{◌≡◌, ℕ, zero, suc, List, [], ◌∷◌, Result, Ok, Err, Option, refl, sym, ap, ◌∙◌, subst}
+use Rattle.std.proofs.Common.{◌≡◌, ℕ, zero, suc, [], ◌∷◌, Result, Ok, Err, Option, sym, ap, ◌∙◌, subst}
 use Rattle.vdev_io.specs.declared.device.CacheDev.{Ghosts as DeviceGhosts}
 use Rattle.vdev_io.specs.declared.pool.Pool.{Ghosts as PoolGhosts}
 use Rattle.blk_ptr.specs.declared.digest.Digest.{Digest}

@@ -1,5 +1,5 @@
 -- What a party that is ready may do, and that calls leave it ready.
-use Rattle.std.proofs.Common.{◌≡◌, ℕ, List, [], ◌∷◌, Bool, if◌then◌else◌, refl, sym, ap, ◌∙◌, subst, eq-eqb}
+use Rattle.std.proofs.Common.{◌≡◌, ℕ, ◌∷◌, Bool, if◌then◌else◌, refl, sym, ap, ◌∙◌, subst, eq-eqb}
 use Rattle.turn_table.specs.Board.{IsAmong, without}
 use Rattle.turn_table.specs.Places.{Place, gave_back, saw, took}
 use Rattle.arc_table.specs.declared.item.Item.{Item}
