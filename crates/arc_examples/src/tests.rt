@@ -66,10 +66,18 @@ fn has_events(closed: &Closed<crate::Plain>, events: &[Event]) -> bool {
         .all(|shard| shard.history() == events)
 }
 
-// Four callers do their calls, and the histories replay, with passes among their events.
+// Four callers do their calls, and the histories replay. A scan passes a key only where it meets a taken bucket, so one soak of a few has to.
 #[test]
-fn a_soak_replays(rt: HostRuntime) -> Result<(), Fail> {
-    let soaked = run_soak(&rt, rt.alloc()).ok().ok_or("memory")?;
-    assert!(rt; soaked.replay && soaked.passes > 0);
+fn soaks_replay(rt: HostRuntime) -> Result<(), Fail> {
+    let mut passes: u64 = 0;
+    for _ in 0..4 {
+        let soaked = run_soak(&rt, rt.alloc()).ok().ok_or("memory")?;
+        assert!(rt; soaked.replay);
+        passes = passes.wrapping_add(soaked.passes);
+        if passes > 0 {
+            break;
+        }
+    }
+    assert!(rt; passes > 0);
     Ok(())
 }
