@@ -1,0 +1,39 @@
+#!/usr/bin/env bash
+# Proves, builds and runs callers of the shared cache in a copy of the repository, and prints reads a second beside those of a plain cache
+# with one Mutex a shard. A line is hits or misses, callers and shards; ours, the plain one's, and the ratios: the plain one's to ours, and
+# ours to ours with one caller. Each figure is the best of ROUNDS runs, ours and the plain one's in turn (default 3). It needs rustc and
+# python3.
+set -eu
+here=$(cd "$(dirname "$0")" && pwd)
+copy=$(mktemp -d)
+trap 'rm -rf "$copy"' EXIT
+. "$here/callers/copy.sh"
+rustc --edition 2024 -O -A warnings -o "$copy/plain" "$here/../compare/shared_cache.rs"
+for _ in $(seq "${ROUNDS:-3}"); do
+    (cd "$copy/crates/callers_bench" && rt run >> "$copy/ours" 2> "$copy/log") || { cat "$copy/log"; exit 1; }
+    for kind in hits misses; do
+        for shards in 16 1; do
+            for callers in 1 2 4; do
+                echo "$kind $callers $shards $("$copy/plain" "$kind" "$callers" "$shards" 4096 200000)" >> "$copy/theirs"
+            done
+        done
+    done
+done
+python3 - "$copy/ours" "$copy/theirs" <<'PY'
+import sys
+
+def best(path):
+    rates = {}
+    for line in open(path):
+        words = line.split()
+        if len(words) == 4 and words[0] in ('hits', 'misses'):
+            row = words[0], int(words[1]), int(words[2])
+            rates[row] = max(rates.get(row, 0), int(words[3]))
+    return rates
+
+ours, theirs = (best(path) for path in sys.argv[1:])
+for (kind, callers, shards), rate in ours.items():
+    plain, one = theirs[kind, callers, shards], ours[kind, 1, shards]
+    print(f'{kind:7}{callers:3}{shards:4}{rate:12,}{plain:12,}{plain / rate:8.2f}{rate / one:8.2f}')
+PY
+uptime
