@@ -154,7 +154,7 @@ impl Shard {
         Ok(())
     }
 
-    /// `n` asks for a key at tick `t` whose bytes are cached.
+    /// `n` asks for a key at tick `t` whose bytes are cached (`arc_access` and `add_reference` of OpenZFS's `arc.c`).
     pub fn hit(&mut self, n: u32, key: Key, t: u64) -> Event
         requires legal { IsTrue (legal self.old.now (Event.Hit n key t)) }
         requires room { HasRoom (Event.Hit n key t) self.old }
@@ -170,7 +170,7 @@ impl Shard {
         event
     }
 
-    /// `n` begins to read a key at tick `t`.
+    /// `n` begins to read a key at tick `t` (a miss of `arc_read` in OpenZFS's `arc.c`).
     pub fn miss(&mut self, n: u32, key: Key, t: u64) -> Event
         requires legal { IsTrue (legal self.old.now (Event.Miss n key t)) }
         requires room { HasRoom (Event.Miss n key t) self.old }
@@ -186,7 +186,7 @@ impl Shard {
         event
     }
 
-    /// The bytes of a read of `n` have arrived, with this digest.
+    /// The bytes of a read of `n` have arrived, with this digest (`arc_read_done` of OpenZFS's `arc.c`).
     pub fn arrive(&mut self, n: u32, key: Key, digest: Digest, from: Origin) -> Event
         requires { IsTrue (legal self.old.now (Event.Arrive n key digest from)) }
         ensures event { result ≡ Event.Arrive n key digest from }
@@ -219,7 +219,7 @@ impl Shard {
         event
     }
 
-    /// `n` gives one hold back.
+    /// `n` gives one hold back (`remove_reference` of OpenZFS's `arc.c`).
     pub fn drop_one(&mut self, n: u32, key: Key) -> Event
         requires { IsTrue (legal self.old.now (Event.Drop n key)) }
         ensures event { result ≡ Event.Drop n key }

@@ -63,7 +63,7 @@ fn reason_for(shard: &Shard, n: u32, key: Key, why: Why) -> Why
 impl<C: Keeps> Arcs<C> {
     /// A picked key was written at this place of the cache device: its entry has the place from now on. False where the entry is gone, is
     /// being read, has another digest or a place already: the pick is left as gone. The party is the feeder. It may wait, and takes no
-    /// memory.
+    /// memory (`l2arc_write_done` of OpenZFS's `arc.c`).
     pub fn set(&self, rt: &impl Wait, party: &mut Party<C>, key: Key, place: u64) -> bool
         requires party { IsPartyOf self.now party.old }
         requires look { HasNoLook self.now party.old }
@@ -101,7 +101,7 @@ impl<C: Keeps> Arcs<C> {
     }
 
     /// The key's place on the cache device is no longer its own: its entry loses the place, where it has this one, and goes where only the
-    /// device had it. After want of memory there is no event. The party is the feeder. It may wait.
+    /// device had it (`l2arc_evict` of OpenZFS's `arc.c`). After want of memory there is no event. The party is the feeder. It may wait.
     pub fn clear(
         &self,
         rt: &impl Wait,

@@ -110,7 +110,7 @@ impl<C: Keeps> Arcs<C> {
 
     /// Puts in a block that a cell wrote, with one hold of the cell, which the party has in hand. The key's numbers are in their ranges,
     /// and the block has its size. Where the key is there, and not on the cache device alone, there is no event; nor where memory is
-    /// refused. It may wait.
+    /// refused. It may wait (`arc_write` of OpenZFS's `arc.c`).
     pub fn insert(
         &self,
         rt: &impl Wait,

@@ -51,7 +51,8 @@ pub(crate) struct Feed<C: Keeps> {
 impl<C: Keeps> Arcs<C> {
     /// Picks the keys that a feed of the cache device may take from this shard, and gives their blocks to `out`, in the order of the picks.
     /// A key whose bucket another party has is passed. All picks and the feed's end are made under one turn of the shard. After want of
-    /// memory there is no event, and `out` is as before. The party is the feeder, and has settled what it picked there. It may wait.
+    /// memory there is no event, and `out` is as before. The party is the feeder, and has settled what it picked there. It may wait
+    /// (`l2arc_write_buffers` of OpenZFS's `arc.c`).
     pub fn pick(
         &self,
         rt: &impl Wait,

@@ -75,7 +75,7 @@ impl<C: Keeps> Arcs<C> {
     /// Reads a block at a tick. Where its bytes are cached with the pointer's digest it is a hit. Where another party reads them just now,
     /// it waits and begins again. Where they are cached with another digest, it reads the pool past the cache and changes no entry. Else it
     /// is a miss: the bytes are read from the cache device where it has them, or else from the pool, with no turn held. A read that fails
-    /// takes the entry out. The block has the pointer's digest.
+    /// takes the entry out. The block has the pointer's digest (`arc_read` of OpenZFS's `arc.c`).
     pub fn read<P: Pool, D: CacheDev>(
         &self,
         rt: &impl Wait,

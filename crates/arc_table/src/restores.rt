@@ -63,7 +63,8 @@ fn restored_header(restored: &Restored) -> Header
 
 impl<C: Keeps> Arcs<C> {
     /// These keys stand on the cache device: each gets an entry of the kind that only the device has, in this order. It stops at a key that
-    /// has an entry, and where memory is refused; what was restored before stays. The party is the feeder. It may wait.
+    /// has an entry, and where memory is refused; what was restored before stays. The party is the feeder. It may wait
+    /// (`l2arc_hdr_restore` of OpenZFS's `arc.c`).
     pub fn restore(
         &self,
         rt: &impl Wait,

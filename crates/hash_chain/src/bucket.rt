@@ -49,7 +49,7 @@ impl Bucket {
         }
     }
 
-    /// Where the header of this key stands, until a header is removed.
+    /// Where the header of this key stands, until a header is removed (`buf_hash_find` of OpenZFS's `arc.c`).
     pub fn find(&self, key: Key) -> Option<usize>
         ensures found { IfSome result (λ i. (i < length self.now.headers) × (header_at key self.now.headers ≡ slice_get self.now.headers i)) }
         ensures key { IfSome result (λ i. IfSome (slice_get self.now.headers i) (λ h. h.key ≡ key)) }
@@ -82,7 +82,7 @@ impl Bucket {
         Ok(())
     }
 
-    /// Adds the header of a key that has none.
+    /// Adds the header of a key that has none (`buf_hash_insert` of OpenZFS's `arc.c`).
     pub fn add(&mut self, header: Header)
         requires room { 0 < self.old.spare }
         requires absent { header_at header.key self.old.headers ≡ None }
@@ -94,7 +94,7 @@ impl Bucket {
         self.spare -= 1;
     }
 
-    /// Takes the header at `i` out. The last one takes its place.
+    /// Takes the header at `i` out (`buf_hash_remove` of OpenZFS's `arc.c`). The last one takes its place.
     pub fn remove(&mut self, i: usize) -> Header
         requires { i < length self.old.headers }
         ensures value { slice_get self.old.headers i ≡ Some result }

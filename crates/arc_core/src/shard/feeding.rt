@@ -43,7 +43,7 @@ impl Shard {
         event
     }
 
-    /// The cell `n` puts a block in that it wrote at tick `t`.
+    /// The cell `n` puts a block in that it wrote at tick `t` (`arc_write_done` of OpenZFS's `arc.c`).
     pub fn insert(&mut self, n: u32, key: Key, digest: Digest, t: u64) -> Event
         requires legal { IsTrue (legal self.old.now (Event.Insert n key digest t)) }
         requires room { HasRoom (Event.Insert n key digest t) self.old }
@@ -59,7 +59,7 @@ impl Shard {
         event
     }
 
-    /// `n` gives one hold back and keeps a private copy; where it was the only hold, the entry goes.
+    /// `n` gives one hold back and keeps a private copy; where it was the only hold, the entry goes (`arc_release` of OpenZFS's `arc.c`).
     pub fn release(&mut self, n: u32, key: Key, sole: bool) -> Event
         requires { IsTrue (legal self.old.now (Event.Release n key sole)) }
         ensures event { result ≡ Event.Release n key sole }
@@ -73,7 +73,7 @@ impl Shard {
         event
     }
 
-    /// The feeder picks the candidate.
+    /// The feeder picks the candidate (`l2arc_write_buffers` of OpenZFS's `arc.c`).
     pub fn pick(&mut self, n: u32, key: Key) -> Event
         requires legal { IsTrue (legal self.old.now (Event.Pick n key)) }
         requires room { HasRoom (Event.Pick n key) self.old }
@@ -108,7 +108,7 @@ impl Shard {
         event
     }
 
-    /// A picked key was written at this place of the cache device.
+    /// A picked key was written at this place of the cache device (`l2arc_write_done` of OpenZFS's `arc.c`).
     pub fn set(&mut self, n: u32, key: Key, place: u64) -> Event
         requires { IsTrue (legal self.old.now (Event.Set n key place)) }
         ensures event { result ≡ Event.Set n key place }
@@ -136,7 +136,7 @@ impl Shard {
         event
     }
 
-    /// A key loses its place; where only the cache device had it, the entry goes.
+    /// A key loses its place; where only the cache device had it, the entry goes (`l2arc_evict` of OpenZFS's `arc.c`).
     pub fn clear(&mut self, n: u32, key: Key) -> Event
         requires legal { IsTrue (legal self.old.now (Event.Clear n key)) }
         requires room { HasRoom (Event.Clear n key) self.old }
@@ -152,7 +152,8 @@ impl Shard {
         event
     }
 
-    /// A key stands at this place of the cache device since an earlier run, with this digest where the device tells one.
+    /// A key stands at this place of the cache device since an earlier run, with this digest where the device tells one
+    /// (`l2arc_hdr_restore` of OpenZFS's `arc.c`).
     pub fn restore(&mut self, n: u32, key: Key, place: u64, digest: Option<Digest>) -> Event
         requires legal { IsTrue (legal self.old.now (Event.Restore n key place digest)) }
         requires room { HasRoom (Event.Restore n key place digest) self.old }
@@ -189,7 +190,7 @@ impl Shard {
         event
     }
 
-    /// The next key that the feed may pick. None exactly where it may pick none.
+    /// The next key that the feed may pick (`l2arc_write_eligible` of OpenZFS's `arc.c`). None exactly where it may pick none.
     pub fn candidate(&self) -> Option<Key>
         ensures { result ≡ candidate self.now.now }
     {

@@ -54,7 +54,7 @@ impl Table {
         )
     }
 
-    // Makes a ghost of an entry.
+    // Makes a ghost of an entry (`arc_evict_hdr` of OpenZFS's `arc.c`).
     fn evict(&mut self, key: Key)
         requires tidy { IsTidy self.old.shard }
         requires evictable { IsTrue (entry_is is_evictable key self.old.shard) }
@@ -66,7 +66,8 @@ impl Table {
         }
     }
 
-    // Drops a ghost: it becomes L2-only where it has a place on the cache device, else it leaves the table.
+    // Drops a ghost: it becomes L2-only where it has a place on the cache device, else it leaves the table (`arc_evict_hdr` and
+    // `arc_hdr_destroy` of OpenZFS's `arc.c`).
     fn drop_ghost(&mut self, key: Key)
         requires tidy { IsTidy self.old.shard }
         requires droppable { IsTrue (entry_is is_droppable key self.old.shard) }
@@ -84,7 +85,7 @@ impl Table {
         }
     }
 
-    /// Makes room for `z` bytes, as far as keys may go.
+    /// Makes room for `z` bytes, as far as keys may go (`arc_evict_state` of OpenZFS's `arc.c`).
     pub fn make_room(&mut self, z: u64)
         ensures shard { self.new.shard ≡ with_room z self.old.shard }
         ensures spare { self.new.spare ≡ self.old.spare }
@@ -99,7 +100,7 @@ impl Table {
         }
     }
 
-    /// Drops ghosts as far as they are above their bounds.
+    /// Drops ghosts as far as they are above their bounds (`arc_evict` of OpenZFS's `arc.c`).
     pub fn trim(&mut self)
         ensures shard { self.new.shard ≡ trimmed self.old.shard }
         ensures spare { self.old.spare ≤ self.new.spare }
@@ -114,7 +115,7 @@ impl Table {
         }
     }
 
-    /// Moves the target where the key is a ghost.
+    /// Moves the target where the key is a ghost (`arc_adapt` of OpenZFS's `arc.c`).
     pub fn adapt(&mut self, key: Key)
         ensures { self.new ≡ record self.old { shard = with_target_for key self.old.shard } }
     {

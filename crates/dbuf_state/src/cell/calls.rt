@@ -70,7 +70,7 @@ impl<H: Shows + Drop> Cell<H> {
         Ok(())
     }
 
-    /// `n` begins to bring the bytes of a clean block.
+    /// `n` begins to bring the bytes of a clean block (`dbuf_read` of OpenZFS's `dbuf.c`).
     pub fn reading(&mut self, n: u32, at: Oid)
         requires { IsTrue (dbuf_is (is_clean_in is_uncached) at self.old.dbufs) }
         ensures { self.new ≡ record self.old { dbufs = with_dbuf at (reading_by n) self.old.dbufs } }
@@ -78,7 +78,7 @@ impl<H: Shows + Drop> Cell<H> {
         self.done(at, Change::Reading(n));
     }
 
-    /// The bytes of a clean block were brought: the dbuf keeps what has them.
+    /// The bytes of a clean block were brought: the dbuf keeps what has them (`dbuf_read_done` of OpenZFS's `dbuf.c`).
     pub fn loaded(&mut self, at: Oid, kept: H)
         requires reading { IsTrue (dbuf_is (is_clean_in is_reading) at self.old.dbufs) }
         requires of { DbufHas (λ d. IsOfContent H.key_of H.bytes_of kept d.content) (dbuf_at at self.old.dbufs) }
@@ -114,7 +114,7 @@ impl<H: Shows + Drop> Cell<H> {
         self.done(at, Change::Keep(kept));
     }
 
-    /// Writes a whole block, which is mapped where it wasn't before.
+    /// Writes a whole block, which is mapped where it wasn't before (`dbuf_dirty` of OpenZFS's `dbuf.c`).
     pub fn dirty_with(&mut self, at: Oid, bytes: Vec<u8>)
         requires free { IsTrue (may_dirty at self.old.dbufs) }
         requires size { IsBlockSize (length bytes.items) }
@@ -142,7 +142,8 @@ impl<H: Shows + Drop> Cell<H> {
         self.done(at, Change::Written(from, Shown::of(bytes.bytes())));
     }
 
-    /// A dirty block was written to the pool, where this pointer names it: it is clean, and its dbuf keeps what has its bytes.
+    /// A dirty block was written to the pool, where this pointer names it: it is clean, and its dbuf keeps what has its bytes
+    /// (`dbuf_write_done` of OpenZFS's `dbuf.c`).
     pub fn synced(&mut self, at: Oid, ptr: Ptr, kept: H)
         requires dirty { DbufHas (λ d. IsDirtyOf ptr d.content) (dbuf_at at self.old.dbufs) }
         requires of { IsKeptOf H.key_of H.bytes_of kept ptr }
@@ -151,7 +152,7 @@ impl<H: Shows + Drop> Cell<H> {
         self.done(at, Change::Synced(ptr, kept));
     }
 
-    /// `n` keeps a dbuf from being evicted, once more. After want of memory the cell is as before.
+    /// `n` keeps a dbuf from being evicted, once more (`dbuf_add_ref` of OpenZFS's `dbuf.c`). After want of memory the cell is as before.
     pub fn pin(&mut self, n: u32, at: Oid) -> Result<(), NoMemory>
         ensures ok { OnOk result (self.new ≡ record self.old { dbufs = with_dbuf at (pinned_by n) self.old.dbufs }) }
         ensures err { OnErr result (self.new ≡ self.old) }
@@ -162,7 +163,7 @@ impl<H: Shows + Drop> Cell<H> {
         Ok(())
     }
 
-    /// `n` takes one of its pins back; false where it has none there.
+    /// `n` takes one of its pins back (`dbuf_rele` of OpenZFS's `dbuf.c`); false where it has none there.
     pub fn unpin(&mut self, n: u32, at: Oid) -> bool
         ensures pinned { result ≡ dbuf_is (λ d. has_pin n d.pins) at self.old.dbufs }
         ensures dbufs { self.new ≡ record self.old { dbufs = with_dbuf at (unpinned_by n) self.old.dbufs } }
@@ -185,7 +186,7 @@ impl<H: Shows + Drop> Cell<H> {
         }
     }
 
-    /// Takes the dbuf that is to be evicted out of the cache.
+    /// Takes the dbuf that is to be evicted out of the cache (`dbuf_evict_one` of OpenZFS's `dbuf.c`).
     pub fn evict(&mut self, at: Oid) -> H
         requires { IsTrue (is_evictable self.old.limit at (map standing_of self.old.dbufs)) }
         ensures dbufs { self.new ≡ record self.old { dbufs = with_dbuf at (without_kept state.Uncached) self.old.dbufs } }
