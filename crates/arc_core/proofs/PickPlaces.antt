@@ -8,16 +8,16 @@ use Rattle.blk_ptr.specs.declared.key.Key.{Key}
 use Rattle.blk_ptr.specs.Order.{key_eq}
 use Rattle.blk_ptr.proofs.Keys.{key_eq-is, key_eq-same}
 use Rattle.arc_links.specs.PlainLinks.{AreApart, Placed, element_at, last_place, placed, without_place}
-use Rattle.arc_links.proofs.Places.{AreApart-without, element_at-head, element_at-other, element_at-without_other, element_at-without_same, without_place-absent}
+use Rattle.arc_links.proofs.Places.{AreApart-without, element_at-head, element_at-other, element_at-without_other, element_at-without_same, none_is, without_place-absent}
 use Rattle.key_table.specs.PlainTable.{AreApart as AreRowsApart, Gains, HasKey, IsAmong, Loses, Row, row}
 use Rattle.arc_lists.specs.declared.name.Name.{Name}
 use Rattle.arc_lists.specs.Walks.{first_of}
 use Rattle.arc_lists.proofs.Tables.{cases_true, some_is}
 use Rattle.arc_core.specs.declared.entry.Picked.{Picked}
-use Rattle.arc_core.specs.declared.entry.Phase.TheVariants.{Idle, Writing}
-use Rattle.arc_core.specs.Changes.{pick_of, without_pick, writing_phase}
+use Rattle.arc_core.specs.Changes.{pick_of, without_pick}
 use Rattle.arc_core.specs.KeyRows.{name}
 use Rattle.arc_core.specs.PickPlaces.{AreIndexed, IsPickAt}
+use Rattle.arc_core.proofs.Feeding.{pick_of-append}
 
 -- the picks of some nodes, in their order
 abbrev pub in_order : List (Placed Picked) → List Picked
@@ -43,11 +43,7 @@ pick-last k p (y ∷ ys) none is = elim (cases_true (key_eq y.key k)) [
 ]
 
 pick-none : (k : Key) (p : Picked) (xs : List Picked) → pick_of k xs ≡ None → key_eq p.key k ≡ false → pick_of k (xs ++ p ∷ []) ≡ None
-pick-none k p [] none other = rw other refl
-pick-none k p (y ∷ ys) none other = elim (cases_true (key_eq y.key k)) [
-  | inl same ↦ absurd (cc (rw same at none))
-  | inr differs ↦ rw differs (pick-none k p ys (rw differs at none) other)
-]
+pick-none k p xs none other = none_is (pick_of k (xs ++ p ∷ [])) (pick_of-append k xs p (ap is_some none) other)
 
 without-front : (k : Key) (x p : Picked) (xs : List Picked) → pick_of k xs ≡ Some x → without_pick k (xs ++ p ∷ []) ≡ without_pick k xs ++ p ∷ []
 without-front k x p [] is = absurd (cc)
@@ -99,10 +95,6 @@ fewer k (y ∷ ys) is =
 pub none-first : (xs : List Picked) → None ≡ first_of (map (λ (p : Picked). p.key) xs) → xs ≡ []
 none-first [] is = refl
 none-first (y ∷ ys) is = absurd (cc)
-
-pub some-first : (k : Key) (xs : List Picked) → Some k ≡ first_of (map (λ (p : Picked). p.key) xs) → writing_phase xs ≡ Writing
-some-first k [] is = absurd (cc)
-some-first k (y ∷ ys) is = refl
 
 -- ---- the nodes
 
@@ -192,10 +184,14 @@ last-first at (n ∷ m ∷ ms) apart is =
       first = ap (λ l. first_of (map (λ (p : Picked). p.key) l)) (in_order-head n (m ∷ ms)) ∙ first-front rest.pick.key (in_order (m ∷ ms)) n.element rest.first;
     }
 
-pub last-none : (ns : List (Placed Picked)) → None ≡ last_place ns → ns ≡ []
-last-none [] is = refl
-last-none (n ∷ []) is = absurd (cc)
-last-none (n ∷ m ∷ ms) is = absurd (cc (last-none (m ∷ ms) is))
+pub first-none : (ns : List (Placed Picked)) → None ≡ last_place ns → None ≡ first_of (map (λ (p : Picked). p.key) (in_order ns))
+first-none [] is = refl
+first-none (n ∷ []) is = absurd (cc)
+first-none (n ∷ m ∷ ms) is = absurd (no-last m ms is)
+  where
+    no-last : (m : Placed Picked) (ms : List (Placed Picked)) → None ≡ last_place (m ∷ ms) → ⊥
+    no-last m [] is = cc
+    no-last m (o ∷ os) is = no-last o os is
 
 -- ---- the rows
 
