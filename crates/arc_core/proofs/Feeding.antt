@@ -1,7 +1,7 @@
 -- The picks of a feed, and the passed keys of a scan: what is chosen is wanted, and no key is picked twice.
-use Rattle.std.proofs.Common.{◌≡◌, ℕ, suc, ◌+◌, ◌*◌, ◌<◌, ◌≤◌, length, get_or, arith, Bool, true, false, not, if◌then◌else◌, nat_le, List, [], ◌∷◌, ◌++◌, reverse, Option, Some, None, is_some, inl, inr, refl, sym, ap, subst, ◌∙◌}
-use Rattle.std.specs.List.{list_all, position_from}
-use Rattle.std.specs.Prelude.{sum_by, remove}
+use Rattle.std.proofs.Common.{◌≡◌, ℕ, ◌+◌, ◌*◌, ◌≤◌, arith, Bool, true, false, not, if◌then◌else◌, nat_le, List, [], ◌∷◌, ◌++◌, reverse, Option, Some, None, is_some, inl, inr, refl, sym, subst, ◌∙◌}
+use Rattle.std.specs.List.{list_all}
+use Rattle.std.specs.Prelude.{sum_by}
 use Rattle.std.proofs.lemmas.List.Sums.{sum_by-cons}
 use Rattle.std.proofs.lemmas.Bool.Decides.{nat_tests}
 use Rattle.std.specs.Option.{option_and_then}
@@ -18,7 +18,7 @@ use Rattle.arc_core.specs.declared.entry.Picked.{Picked}
 use Rattle.arc_core.specs.declared.entry.Phase.TheVariants.{Picking}
 use Rattle.arc_core.specs.PlainShard.{PlainShard, is_passed, place_of}
 use Rattle.arc_core.specs.Candidate.{candidate, chosen, may_be_picked, picked_bytes, walk}
-use Rattle.arc_core.specs.Changes.{pick_of, pick_place, without_pick, writing_phase}
+use Rattle.arc_core.specs.Changes.{pick_of, without_pick, writing_phase}
 use Rattle.arc_core.specs.Sound.{are_distinct_picks, fits_phase}
 
 -- ---- what is chosen is wanted

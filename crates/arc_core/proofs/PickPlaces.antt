@@ -1,7 +1,7 @@
 -- The nodes of the picks, and the rows by which they are found.
-use Rattle.std.proofs.Common.{◌≡◌, ◌≢◌, ℕ, ◌+◌, ◌<◌, ◌≤◌, true, false, nat_eq, List, [], ◌∷◌, ◌++◌, length, map, reverse, Option, Some, None, is_some, inl, inr, refl, sym, ap, subst, ◌∙◌, arith}
+use Rattle.std.proofs.Common.{◌≡◌, ◌≢◌, ℕ, ◌+◌, ◌<◌, true, false, nat_eq, List, [], ◌∷◌, ◌++◌, length, map, reverse, Some, None, is_some, inl, inr, refl, sym, ap, subst, ◌∙◌, arith}
 use Rattle.std.specs.Prelude.{sum_by}
-use Rattle.std.proofs.lemmas.Bool.{eqb-true, false≢true}
+use Rattle.std.proofs.lemmas.Bool.{eqb-true}
 use Rattle.std.proofs.lemmas.List.{reverse-append}
 use Rattle.std.proofs.lemmas.List.Sums.{sum_by-cons}
 use Rattle.blk_ptr.specs.declared.key.Key.{Key}
@@ -16,7 +16,7 @@ use Rattle.arc_lists.proofs.Tables.{cases_true, some_is}
 use Rattle.arc_core.specs.declared.entry.Picked.{Picked}
 use Rattle.arc_core.specs.Changes.{pick_of, without_pick}
 use Rattle.arc_core.specs.KeyRows.{name}
-use Rattle.arc_core.specs.PickPlaces.{AreIndexed, IsPickAt}
+use Rattle.arc_core.specs.PickPlaces.{AreIndexed}
 use Rattle.arc_core.proofs.Feeding.{pick_of-append}
 
 -- the picks of some nodes, in their order
@@ -271,8 +271,8 @@ goes nodes old new k at indexed among apart loses = record {
       let p = indexed.placed j q was.1 in
       let here = indexed.placed k at among in
       let differ : q ≢ at = λ e.
-          let same : p.0 ≡ here.0 = some_is (sym p.1 ∙ ap (λ z. element_at z nodes) e ∙ here.1) in
-          was.0 (ap name (sym p.2 ∙ ap (λ (y : Picked). y.key) same ∙ here.2)) in
+      let same : p.0 ≡ here.0 = some_is (sym p.1 ∙ ap (λ z. element_at z nodes) e ∙ here.1) in
+      was.0 (ap name (sym p.2 ∙ ap (λ (y : Picked). y.key) same ∙ here.2)) in
       (p.0, element_at-without_other q at nodes differ ∙ p.1, p.2);
   listed = λ q y there.
       let differ : q ≢ at = λ e. absurd (cc (sym there ∙ ap (λ z. element_at z (without_place at nodes)) e ∙ element_at-without_same at nodes)) in

@@ -3,7 +3,6 @@ use Rattle.std.specs.Prelude.{ℕ, ◌+◌, ◌-◌, Bool, not, ◌||◌, if◌t
 use Rattle.blk_ptr.specs.declared.state.State.TheVariants.{L2Only}
 use Rattle.blk_ptr.specs.State.{is_same_state}
 use Rattle.std.specs.Option.{option_map_or}
-use Rattle.blk_ptr.specs.Order.{key_eq}
 use Rattle.blk_ptr.specs.declared.key.Key.{Key}
 use Rattle.arc_lists.specs.ByKey.{item_at, with_item, without, with_change}
 use Rattle.arc_lists.specs.Sequences.{put_at_head, taken_off}

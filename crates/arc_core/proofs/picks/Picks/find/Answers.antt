@@ -1,4 +1,4 @@
-use Rattle.std.proofs.Common.{sym, ap, is_some, ◌∙◌}
+use Rattle.std.proofs.Common.{sym, ap, is_some}
 use Rattle.arc_core.proofs.PickPlaces.{found, not-found}
 use Rattle.arc_core.proofs.picks.Picks.find.Goals as goal
 

@@ -1,4 +1,4 @@
-use Rattle.std.proofs.Common.{◌≡◌, ◌+◌, is_some, reverse, sym, ap, subst, ◌∙◌, arith}
+use Rattle.std.proofs.Common.{◌+◌, is_some, reverse, sym, ap, subst, ◌∙◌, arith}
 use Rattle.std.specs.Prelude.{sum_by}
 use Rattle.arc_links.specs.PlainLinks.{PlainLinks, elements}
 use Rattle.arc_core.specs.declared.entry.Picked.{Picked}
