@@ -1,7 +1,7 @@
 -- The picks of a feed, and the passed keys of a scan: what is chosen is wanted, and no key is picked twice.
-use Rattle.std.proofs.Common.{◌≡◌, ℕ, suc, ◌+◌, ◌*◌, ◌<◌, ◌≤◌, length, get_or, arith, Bool, true, false, not, if◌then◌else◌, nat_le, List, [], ◌∷◌, ◌++◌, reverse, Option, Some, None, is_some, inl, inr, refl, sym, ap, subst, ◌∙◌}
-use Rattle.std.specs.List.{list_all, position_from}
-use Rattle.std.specs.Prelude.{sum_by, remove}
+use Rattle.std.proofs.Common.{◌≡◌, ℕ, ◌+◌, ◌*◌, ◌≤◌, arith, Bool, true, false, not, if◌then◌else◌, nat_le, List, [], ◌∷◌, ◌++◌, reverse, Option, Some, None, is_some, inl, inr, refl, sym, subst, ◌∙◌}
+use Rattle.std.specs.List.{list_all}
+use Rattle.std.specs.Prelude.{sum_by}
 use Rattle.std.proofs.lemmas.List.Sums.{sum_by-cons}
 use Rattle.std.proofs.lemmas.Bool.Decides.{nat_tests}
 use Rattle.std.specs.Option.{option_and_then}
@@ -18,7 +18,7 @@ use Rattle.arc_core.specs.declared.entry.Picked.{Picked}
 use Rattle.arc_core.specs.declared.entry.Phase.TheVariants.{Picking}
 use Rattle.arc_core.specs.PlainShard.{PlainShard, is_passed, place_of}
 use Rattle.arc_core.specs.Candidate.{candidate, chosen, may_be_picked, picked_bytes, walk}
-use Rattle.arc_core.specs.Changes.{pick_of, pick_place, without_pick, writing_phase}
+use Rattle.arc_core.specs.Changes.{pick_of, without_pick, writing_phase}
 use Rattle.arc_core.specs.Sound.{are_distinct_picks, fits_phase}
 
 -- ---- what is chosen is wanted
@@ -90,7 +90,7 @@ distinct-append (x ∷ xs) pick once none = elim (cases_true (key_eq x.key pick.
       (distinct-append xs pick (and_right (not (is_some (pick_of x.key xs))) _ once) (rw differs at none))
 ]
 
-pub pick_of-without : (j k : Key) (picks : List Picked) → is_some (pick_of j picks) ≡ false → is_some (pick_of j (without_pick k picks)) ≡ false
+pick_of-without : (j k : Key) (picks : List Picked) → is_some (pick_of j picks) ≡ false → is_some (pick_of j (without_pick k picks)) ≡ false
 pick_of-without j k [] none = refl
 pick_of-without j k (x ∷ xs) none = elim (cases_true (key_eq x.key j)) [
   | inl here ↦ absurd (false≢true (sym (rw here at none)))
@@ -127,8 +127,6 @@ all-with_key test k (x ∷ xs) passes all = elim (cases_true (key_lt k x)) [
   | inr other ↦ rw other (both (test x) _ (and_left _ _ all) (all-with_key test k xs passes (and_right (test x) _ all)))
 ]
 
--- ---- where a pick stands
-
 pub has_key-stands : (k : Key) (ks : List Key) → has_key (λ x. x) k ks ≡ stands_on k ks
 has_key-stands k [] = refl
 has_key-stands k (x ∷ xs) = elim (cases_true (key_eq x k)) [
@@ -136,51 +134,7 @@ has_key-stands k (x ∷ xs) = elim (cases_true (key_eq x k)) [
   | inr differs ↦ rw differs (has_key-stands k xs)
 ]
 
--- the pick of the key stands here
-pub record PickAt (k : Key) (picks : List Picked) (i : ℕ) : Type 0 where
-  pub within : i < length picks
-  pub removed : remove picks i ≡ without_pick k picks
-  pub size : (d : Picked) → sum_by (λ (pick : Picked). pick.key.size) (without_pick k picks) + (get_or picks i d).key.size ≡ sum_by (λ (pick : Picked). pick.key.size) picks
-
-pick-from : (k : Key) (n : ℕ) (picks : List Picked) (m : ℕ) → position_from (λ (pick : Picked). key_eq pick.key k) n picks ≡ Some m → (i : ℕ) × (m ≡ n + i) × PickAt k picks i
-pick-from k n [] m is = cc
-pick-from k n (x ∷ xs) m is = elim (cases_true (key_eq x.key k)) [
-  | inl same ↦
-      let here : n ≡ m = some_is (rw same at is) in (
-        0,
-        omega (arith, here),
-        record {
-          within = omega arith;
-          removed = rw same refl;
-          size = λ d. rw same (omega (arith, sum_by-cons (λ (pick : Picked). pick.key.size) x xs));
-        },
-      )
-  | inr differs ↦
-      let rest = pick-from k (n + 1) xs m (rw differs at is) in (
-        suc rest.0,
-        omega (arith, rest.1),
-        record {
-          within = omega (arith, rest.2.within);
-          removed = rw differs (ap (λ l. x ∷ l) rest.2.removed);
-          size = λ d. rw differs (omega (arith, rest.2.size d, sum_by-cons (λ (pick : Picked). pick.key.size) x xs, sum_by-cons (λ (pick : Picked). pick.key.size) x (without_pick k xs)));
-        },
-      )
-]
-
-pub pick-at : (k : Key) (picks : List Picked) (i : ℕ) → pick_place k picks ≡ Some i → PickAt k picks i
-pick-at k picks i is =
-    let at = pick-from k 0 picks i is in
-    subst (PickAt k picks) (let same : at.0 ≡ i = omega (arith, at.1) in same) at.2
-
-nowhere-from : (k : Key) (n : ℕ) (picks : List Picked) → position_from (λ (pick : Picked). key_eq pick.key k) n picks ≡ None → without_pick k picks ≡ picks
-nowhere-from k n [] is = refl
-nowhere-from k n (x ∷ xs) is = elim (cases_true (key_eq x.key k)) [
-  | inl same ↦ let none : Some n ≡ None = rw same at is in cc
-  | inr differs ↦ rw differs (ap (λ l. x ∷ l) (nowhere-from k (n + 1) xs (rw differs at is)))
-]
-
-pub pick-nowhere : (k : Key) (picks : List Picked) → pick_place k picks ≡ None → without_pick k picks ≡ picks
-pick-nowhere k picks is = nowhere-from k 0 picks is
+-- ---- the bytes of a feed
 
 -- what a candidate and the picks have together is within the bound of one feed
 pub candidate-within : (s : PlainShard) (k : Key) → candidate s ≡ Some k → picked_bytes s + k.size ≤ s.bounds.write_max

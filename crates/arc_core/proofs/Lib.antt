@@ -19,7 +19,7 @@ pub mod Making
 pub mod Marking
 pub mod Others
 pub mod Owing
-pub mod PickNames
+pub mod PickPlaces
 pub mod Placing
 pub mod Scan
 pub mod Scanning

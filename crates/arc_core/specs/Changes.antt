@@ -2,9 +2,7 @@
 use Rattle.std.specs.Prelude.{ℕ, ◌+◌, ◌-◌, Bool, not, ◌||◌, if◌then◌else◌, List, [], ◌∷◌, slice_index, slice_set, Option, is_some}
 use Rattle.blk_ptr.specs.declared.state.State.TheVariants.{L2Only}
 use Rattle.blk_ptr.specs.State.{is_same_state}
-use Rattle.std.specs.List.{position_from}
 use Rattle.std.specs.Option.{option_map_or}
-use Rattle.blk_ptr.specs.Order.{key_eq}
 use Rattle.blk_ptr.specs.declared.key.Key.{Key}
 use Rattle.arc_lists.specs.ByKey.{item_at, with_item, without, with_change}
 use Rattle.arc_lists.specs.Sequences.{put_at_head, taken_off}
@@ -68,10 +66,6 @@ may_have place e = is_some place || not (is_same_state e.state L2Only)
 -- the pick of the key
 abbrev pub pick_of : Key → List Picked → Option Picked
 pick_of = item_at (λ pick. pick.key)
-
--- where the pick of the key stands in the list
-abbrev pub pick_place : Key → List Picked → Option ℕ
-pick_place k picks = position_from (λ pick. key_eq pick.key k) 0 picks
 
 -- a feed that writes goes on as long as a picked key is unsettled
 abbrev pub writing_phase : List Picked → Phase

@@ -15,7 +15,7 @@ pub mod KeyRows
 pub mod Keys
 pub mod Operations
 pub mod Owed
-pub mod PickNames
+pub mod PickPlaces
 pub mod Picks
 pub mod PlainShard
 pub mod PlainTable

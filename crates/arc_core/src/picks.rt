@@ -1,88 +1,26 @@
-//! What the feed has picked, in the order of its picks.
-ghost use Rattle.std.specs.Prelude.{◌≡◌, ◌+◌, ◌-◌, ◌<◌, ◌≤◌, ◌++◌, ◌∷◌, [], true, sum_by, vec_len, vec_capacity, OnOk};
-ghost use Rattle.blk_ptr.specs.declared.key.Key.{Key};
-ghost use Rattle.arc_lists.specs.Sequences.{stands_on};
-ghost use Rattle.arc_core.specs.Changes.{pick_of, pick_place, without_pick, writing_phase};
-ghost use Rattle.arc_core.specs.PickNames.{HaveNames};
+//! What the feed has picked, in the order of its picks, each found by its key's hash.
+ghost use Rattle.std.specs.Prelude.{◌≡◌, ◌+◌, ◌-◌, ◌<◌, ◌≤◌, ◌++◌, ◌∷◌, [], None, map, sum_by, IfSome, IfNone, OnOk};
+ghost use Rattle.key_table.specs.PlainTable.{HasKey, IsAmong, row};
+ghost use Rattle.arc_lists.specs.Walks.{first_of};
+ghost use Rattle.arc_core.specs.Changes.{pick_of, without_pick, writing_phase};
+ghost use Rattle.arc_core.specs.KeyRows.{name};
 ghost use Rattle.arc_core.specs.Picks.{no_picks};
 
 use crate::entry::{Phase, Picked};
-use crate::keys::Keys;
+use arc_links::Links;
+use arc_lists::Name;
 use blk_ptr::{Key, NoMemory};
+use key_table::Table;
 use std::alloc::Global;
 use std::marker::Model;
-
-// Adds a pick, the last one so far.
-fn push_pick(picks: &mut Vec<Picked>, pick: Picked)
-    requires { vec_len picks.old < vec_capacity picks.old }
-    ensures items { picks.new.items ≡ picks.old.items ++ pick ∷ [] }
-    ensures len { vec_len picks.new ≡ vec_len picks.old + 1 }
-    ensures capacity { vec_capacity picks.old ≤ vec_capacity picks.new }
-{
-    let _ = picks.push(pick);
-}
-
-// Removes the pick of a key, where there is one, and answers how many bytes it has.
-fn take_pick(picks: &mut Vec<Picked>, key: Key) -> u64
-    ensures items { picks.new.items ≡ without_pick key picks.old.items }
-    ensures bytes { sum_by (λ pick. pick.key.size) picks.new.items + result ≡ sum_by (λ pick. pick.key.size) picks.old.items }
-    ensures len { vec_len picks.new ≤ vec_len picks.old }
-    ensures capacity { vec_capacity picks.new ≡ vec_capacity picks.old }
-{
-    match place_of_pick(picks, key) {
-        Some(at) => picks.remove(at).key.size,
-        None => 0,
-    }
-}
-
-// Where the pick of a key stands.
-fn place_of_pick(picks: &[Picked], key: Key) -> Option<usize>
-    ensures { result ≡ pick_place key picks.now }
-{
-    picks.iter().position(|pick| pick.key == key)
-}
-
-// The pick of a key.
-fn pick_of(picks: &[Picked], key: Key) -> Option<Picked>
-    ensures { result ≡ pick_of key picks.now }
-{
-    for pick in picks {
-        if pick.key == key {
-            return Some(*pick);
-        }
-    }
-    None
-}
-
-// Sees to it that a key is among these.
-fn name(named: &mut Keys, key: Key)
-    requires { 0 < named.old.spare }
-    ensures there { stands_on key named.new.items ≡ true }
-    ensures others { (k : Key) → stands_on k named.old.items ≡ true → stands_on k named.new.items ≡ true }
-    ensures spare { named.old.spare ≤ named.new.spare + 1 }
-{
-    if !named.has(key) {
-        named.add(key);
-    }
-}
-
-// Forgets the keys where no pick is left.
-fn forget_if_none(named: &mut Keys, picks: &[Picked])
-    requires { HaveNames picks.now named.old.items }
-    ensures names { HaveNames picks.now named.new.items }
-    ensures spare { named.old.spare ≤ named.new.spare }
-{
-    if picks.is_empty() {
-        named.clear();
-    }
-}
 
 /// The picks. Contracts see them in their order, and the room that is left.
 #[derive(Debug, Drop)]
 pub struct Picks {
-    list: Vec<Picked>,
-    // The keys of the picks, and of those that were settled since there was none.
-    named: Keys,
+    // The last pick is at the head.
+    list: Links<Picked>,
+    // The place of each key's node.
+    places: Table<Name, usize>,
     spare: usize,
 }
 
@@ -91,11 +29,19 @@ impl Model for Picks {
 
     ghost Value = { PlainPicks };
 
-    ghost use Rattle.arc_core.specs.PickNames.{picks, PicksKeep};
+    ghost use Rattle.arc_core.specs.PickPlaces.{picks, PicksKeep};
 
     ghost view = { picks };
 
     ghost invariant = { PicksKeep };
+}
+
+// The place of a key's node.
+fn place_of(places: &Table<Name, usize>, key: Key) -> Option<usize>
+    ensures some { IfSome result (λ at. IsAmong (row (name key) at) places.now.rows) }
+    ensures none { IfNone result (HasKey (name key) places.now.rows → ⊥) }
+{
+    places.get(&Name(key)).copied()
 }
 
 impl Picks {
@@ -103,8 +49,8 @@ impl Picks {
         ensures { result ≡ no_picks }
     {
         Picks {
-            list: Vec::new(alloc),
-            named: Keys::new(alloc),
+            list: Links::new(alloc),
+            places: Table::new(alloc),
             spare: 0,
         }
     }
@@ -115,8 +61,12 @@ impl Picks {
         ensures ok { OnOk result (n ≤ self.new.spare) }
         ensures more { self.old.spare ≤ self.new.spare }
     {
-        self.list.reserve(n)?;
-        self.named.reserve(n)?;
+        if self.list.reserve(n).is_err() {
+            return Err(NoMemory);
+        }
+        if self.places.reserve(n).is_err() {
+            return Err(NoMemory);
+        }
         self.spare = self.spare.max(n);
         Ok(())
     }
@@ -125,10 +75,19 @@ impl Picks {
     pub fn find(&self, key: Key) -> Option<Picked>
         ensures { result ≡ pick_of key self.now.items }
     {
-        if self.named.has(key) {
-            pick_of(&self.list, key)
-        } else {
-            None
+        match place_of(&self.places, key) {
+            Some(at) => Some(self.list.key_at(at)),
+            None => None,
+        }
+    }
+
+    // The key of the first pick.
+    fn first(&self) -> Option<Key>
+        ensures { result ≡ first_of (map (λ pick. pick.key) self.now.items) }
+    {
+        match self.list.last() {
+            Some(at) => Some(self.list.key_at(at).key),
+            None => None,
         }
     }
 
@@ -136,21 +95,21 @@ impl Picks {
     pub fn phase(&self) -> Phase
         ensures { result ≡ writing_phase self.now.items }
     {
-        if self.list.is_empty() {
-            Phase::Idle
-        } else {
-            Phase::Writing
+        match self.first() {
+            Some(_) => Phase::Writing,
+            None => Phase::Idle,
         }
     }
 
-    /// Adds a pick, the last one so far.
+    /// Adds a pick of a key that has none, the last one so far.
     pub fn push(&mut self, pick: Picked)
-        requires { 0 < self.old.spare }
+        requires room { 0 < self.old.spare }
+        requires absent { pick_of pick.key self.old.items ≡ None }
         ensures items { self.new.items ≡ self.old.items ++ pick ∷ [] }
         ensures spare { self.new.spare ≡ self.old.spare - 1 }
     {
-        name(&mut self.named, pick.key);
-        push_pick(&mut self.list, pick);
+        let at = self.list.push_head(pick);
+        self.places.insert(Name(pick.key), at);
         self.spare -= 1;
     }
 
@@ -160,9 +119,13 @@ impl Picks {
         ensures bytes { sum_by (λ pick. pick.key.size) self.new.items + result ≡ sum_by (λ pick. pick.key.size) self.old.items }
         ensures spare { self.new.spare ≡ self.old.spare }
     {
-        let bytes = take_pick(&mut self.list, key);
-        forget_if_none(&mut self.named, &self.list);
-        bytes
+        match place_of(&self.places, key) {
+            Some(at) => {
+                let _ = self.places.remove(&Name(key));
+                self.list.remove(at).key.size
+            }
+            None => 0,
+        }
     }
 
     /// Forgets them all.
@@ -170,7 +133,8 @@ impl Picks {
         ensures items { self.new.items ≡ [] }
         ensures spare { self.new.spare ≡ self.old.spare }
     {
-        self.list.clear();
-        self.named.clear();
+        while let Some(key) = self.first() {
+            let _ = self.take(key);
+        }
     }
 }
