@@ -20,7 +20,7 @@ use Rattle.arc_core.specs.Cursor.{IsScanOf, first_unmarked, size_by, with_size}
 use Rattle.arc_core.specs.declared.table.search.Search.{Search}
 use Rattle.arc_core.specs.declared.shard.halts.Sought.{Sought}
 use Rattle.arc_core.specs.Edits.{is_evictable, is_off}
-use Rattle.arc_core.specs.Halts.{IsSought, IsSoughtFor}
+use Rattle.arc_core.specs.Halts.{IsSought}
 use Rattle.arc_core.specs.Search.{AtRoom, AtTrim, Covers, Stands, StandsBy, count}
 use Rattle.arc_core.specs.PlainShard.{PlainShard, entry_key, entry_of, is_passed}
 use Rattle.arc_core.specs.Rules.{evicted, evicting, next_evicted, with_room}
@@ -132,10 +132,6 @@ sought-more s marked more (Some v) covers sought = stands-more s marked more (vi
 pub or_there : (a b : Bool) → b ≡ true → (a || b) ≡ true
 or_there true b is = refl
 or_there false b is = is
-
-pub sought-for : (s : PlainShard) (marked : List Key) (o : Option Sought) (e : Event) (x : Search) → IsSought s marked o → IsSoughtFor o e x → Stands s marked (victims s e) x
-sought-for s marked None e x sought begun = absurd begun
-sought-for s marked (Some v) e x sought begun = subst (λ d. Stands s marked (victims s d) x) begun.0 (subst (λ y. Stands s marked (victims s v.event) y) begun.1 sought)
 
 -- ---- what the owner of the shard learns
 

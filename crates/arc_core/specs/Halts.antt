@@ -3,8 +3,6 @@ use Rattle.std.specs.Prelude.{◌≡◌, List, Option, Some, None}
 use Rattle.blk_ptr.specs.declared.key.Key.{Key}
 use Rattle.arc_core.specs.declared.shard.halts.Halts.{Halts}
 use Rattle.arc_core.specs.declared.shard.halts.Sought.{Sought}
-use Rattle.arc_core.specs.declared.event.Event.{Event}
-use Rattle.arc_core.specs.declared.table.search.Search.{Search}
 use Rattle.arc_core.specs.FeedWalk.{IsWalk}
 use Rattle.arc_core.specs.PlainShard.{PlainShard}
 use Rattle.arc_core.specs.Search.{Stands}
@@ -22,8 +20,3 @@ IsSought s marked (Some v) = Stands s marked (victims s v.event) v.search
 pub record AreHalts (s : PlainShard) (marked : List Key) (h : Halts) : Type 0 where
   pub sought : IsSought s marked h.sought
   pub walk : IsWalk s h.walk
-
--- the search has begun for this event, and stands here
-abbrev pub IsSoughtFor : Option Sought → Event → Search → Type 0
-IsSoughtFor None e x = ⊥
-IsSoughtFor (Some v) e x = (v.event ≡ e) × (v.search ≡ x)

@@ -64,8 +64,8 @@ abbrev pub Stands : PlainShard → (marked vs : List Key) → Search → Type 0
 Stands s marked vs x = StandsBy x.trims s marked vs x
 
 -- the search behind all that room evicts
-abbrev pub entered : Option Key → (z : ℕ) → State → Scan → Search
-entered about z comes x = record { about = about; z = z; comes = comes; trims = true; scan = with_size comes (size_by comes x + z) x }
+abbrev pub entered : Search → Search
+entered x = record x { trims = true; scan = with_size x.comes (size_by x.comes x.scan + x.z) x.scan }
 
 -- the first victim that isn't marked, where room is made alone or trim too; where room is made and none was found, ghosts are dropped now
 pub record IsFound (s : PlainShard) (marked vs : List Key) (trimmed : Bool) (x : Search) (found : Option Key) : Type 0 where

@@ -1,6 +1,6 @@
 //! Where the scans of a shard stand between two calls.
-ghost use Rattle.std.specs.Prelude.{◌≡◌, IsTrue, IfSome};
-ghost use Rattle.arc_core.specs.Halts.{IsSoughtFor, no_halts};
+ghost use Rattle.std.specs.Prelude.{◌≡◌, IsTrue};
+ghost use Rattle.arc_core.specs.Halts.{no_halts};
 
 use crate::event::Event;
 use crate::table::search::Search;
@@ -13,23 +13,11 @@ pub struct Sought {
     pub search: Search,
 }
 
-// Whether two events are one.
-fn is_same(a: &Event, b: &Event) -> bool
+/// Whether two events are one.
+pub fn is_same(a: &Event, b: &Event) -> bool
     ensures { IsTrue result → a.now ≡ b.now }
 {
     *a == *b
-}
-
-/// A search that has begun for this event.
-pub fn search_of(sought: Option<Sought>, e: &Event) -> Option<Search>
-    ensures { IfSome result (λ x. IsSoughtFor sought e.now x) }
-{
-    let sought = sought?;
-    if is_same(&sought.event, e) {
-        Some(sought.search)
-    } else {
-        None
-    }
 }
 
 /// Where the search for victims stands, and the walk of a feed.

@@ -3,6 +3,7 @@ ghost use Rattle.std.specs.Prelude.{◌≡◌, [], ◌||◌, IsTrue, IsSome, IfS
 ghost use Rattle.blk_ptr.specs.declared.key.Key.{Key};
 ghost use Rattle.blk_ptr.specs.Order.{key_eq};
 ghost use Rattle.arc_lists.specs.Sequences.{stands_on};
+ghost use Rattle.arc_core.specs.Halts.{IsSought};
 ghost use Rattle.arc_core.specs.PlainShard.{entry_of};
 ghost use Rattle.arc_core.specs.ShardLog.{AreAllNamed, IsUnnamed};
 ghost use Rattle.arc_core.specs.Search.{Stands};
@@ -10,67 +11,77 @@ ghost use Rattle.arc_core.specs.Sparing.{next_victim, victims};
 ghost use Rattle.arc_core.specs.Step.{legal};
 
 use super::Shard;
-use super::halts::{Sought, search_of};
+use super::halts::{Sought, is_same};
 use crate::event::Event;
+use crate::table::Table;
 use crate::table::search::Search;
 use blk_ptr::Key;
 
+// The search for an event's victims from its start, where the event has any.
+fn search_from_start(table: &Table, e: &Event) -> Option<Search>
+    requires { IsTrue (legal table.now.shard e.now) }
+    ensures some { IfSome result (λ x. Stands table.now.shard table.now.marked (victims table.now.shard e.now) x) }
+    ensures none { IfNone result (victims table.now.shard e.now ≡ []) }
+{
+    match *e {
+        Event::Miss { n, key, t } => Some(table.search_of_miss(n, key, t)),
+        Event::Insert { n, key, digest, t } => Some(table.search_of_insert(n, key, digest, t)),
+        Event::Resize { c, .. } => Some(table.search_of_capacity(c)),
+        Event::Pass { .. }
+        | Event::Hit { .. }
+        | Event::Arrive { .. }
+        | Event::Fail { .. }
+        | Event::Drop { .. }
+        | Event::Past { .. }
+        | Event::Hand { .. }
+        | Event::Release { .. }
+        | Event::Pick { .. }
+        | Event::FeedEnd { .. }
+        | Event::Set { .. }
+        | Event::Leave { .. }
+        | Event::Clear { .. }
+        | Event::Restore { .. } => None,
+    }
+}
+
+// The first victim that isn't marked, by a search from its start.
+fn first_victim(sought: &mut Option<Sought>, table: &Table, e: &Event) -> Option<Key>
+    requires legal { IsTrue (legal table.now.shard e.now) }
+    requires sought { IsSought table.now.shard table.now.marked sought.old }
+    ensures sought { IsSought table.now.shard table.now.marked sought.new }
+    ensures value { result ≡ next_victim table.now.shard table.now.marked e.now }
+{
+    match search_from_start(table, e) {
+        Some(mut search) => {
+            let found = table.search_on(&mut search);
+            *sought = Some(Sought { event: *e, search });
+            found
+        }
+        None => None,
+    }
+}
+
+// The first victim that isn't marked: a search that has begun for this event goes on from where it stands.
+fn unmarked_victim(sought: &mut Option<Sought>, table: &Table, e: &Event) -> Option<Key>
+    requires legal { IsTrue (legal table.now.shard e.now) }
+    requires sought { IsSought table.now.shard table.now.marked sought.old }
+    ensures sought { IsSought table.now.shard table.now.marked sought.new }
+    ensures value { result ≡ next_victim table.now.shard table.now.marked e.now }
+{
+    match sought {
+        Some(at) if is_same(&at.event, e) => table.search_on(&mut at.search),
+        _ => first_victim(sought, table, e),
+    }
+}
+
 impl Shard {
-    // The search for an event's victims from its start, where the event has any.
-    fn search_from_start(&self, e: &Event) -> Option<Search>
-        requires { IsTrue (legal self.now.now e.now) }
-        ensures some { IfSome result (λ x. Stands self.now.now self.now.marked (victims self.now.now e.now) x) }
-        ensures none { IfNone result (victims self.now.now e.now ≡ []) }
-    {
-        match *e {
-            Event::Miss { n, key, t } => Some(self.table.search_of_miss(n, key, t)),
-            Event::Insert { n, key, digest, t } => {
-                Some(self.table.search_of_insert(n, key, digest, t))
-            }
-            Event::Resize { c, .. } => Some(self.table.search_of_capacity(c)),
-            Event::Pass { .. }
-            | Event::Hit { .. }
-            | Event::Arrive { .. }
-            | Event::Fail { .. }
-            | Event::Drop { .. }
-            | Event::Past { .. }
-            | Event::Hand { .. }
-            | Event::Release { .. }
-            | Event::Pick { .. }
-            | Event::FeedEnd { .. }
-            | Event::Set { .. }
-            | Event::Leave { .. }
-            | Event::Clear { .. }
-            | Event::Restore { .. } => None,
-        }
-    }
-
-    // The search for an event's victims from where it stands, or else from its start.
-    fn search_for(&self, e: &Event) -> Option<Search>
-        requires { IsTrue (legal self.now.now e.now) }
-        ensures some { IfSome result (λ x. Stands self.now.now self.now.marked (victims self.now.now e.now) x) }
-        ensures none { IfNone result (victims self.now.now e.now ≡ []) }
-    {
-        match search_of(self.halts.sought, e) {
-            Some(search) => Some(search),
-            None => self.search_from_start(e),
-        }
-    }
-
     // The first key that an event evicts or drops, and that isn't marked.
     fn next_victim(&mut self, e: &Event) -> Option<Key>
         requires { IsTrue (legal self.old.now e.now) }
         ensures log { self.new ≡ self.old }
         ensures value { result ≡ next_victim self.old.now self.old.marked e.now }
     {
-        match self.search_for(e) {
-            Some(search) => {
-                let (search, found) = self.table.search_on(search);
-                self.halts.sought = Some(Sought { event: *e, search });
-                found
-            }
-            None => None,
-        }
+        unmarked_victim(&mut self.halts.sought, &self.table, e)
     }
 
     /// The first key that an event would evict or drop, and that isn't marked. None: every other key that isn't marked has the same

@@ -189,70 +189,55 @@ impl Table {
         }
     }
 
-    // A kind from which a key is evicted.
-    fn evicted_of(&self, about: Option<Key>, state: State, kind: Kind, key: Key) -> Kind
+    // Evicts a key from a kind.
+    fn evicted_of(&self, about: Option<Key>, state: State, kind: &mut Kind, key: Key)
         requires on { IsTrue (stands_on key (going_but about state self.now.shard)) }
-        requires size { key.size ≤ kind.size }
-        requires room { kind.ghost_size + key.size < 2 ^ 128 }
-        ensures { result ≡ behind_evicted key (going_but about state self.now.shard) kind }
+        requires size { key.size ≤ kind.old.size }
+        requires room { kind.old.ghost_size + key.size < 2 ^ 128 }
+        ensures { kind.new ≡ behind_evicted key (going_but about state self.now.shard) kind.old }
     {
-        let mut kind = kind;
         kind.next = self.next_going(about, state, key);
         kind.size -= u128::from(key.size);
         kind.ghost_size += u128::from(key.size);
-        kind
     }
 
-    // A kind of which a ghost is dropped.
-    fn dropped_of(
-        &self,
-        about: Option<Key>,
-        state: State,
-        lost: State,
-        kind: Kind,
-        key: Key,
-    ) -> Kind
-        requires on { MatchOption kind.old_ghost (IsTrue (stands_on key (going_but about state self.now.shard))) (λ g. IsTrue (stands_on key (going_but about lost self.now.shard))) }
-        requires size { key.size ≤ kind.ghost_size }
-        ensures { result ≡ behind_dropped key (going_but about state self.now.shard) (going_but about lost self.now.shard) kind }
+    // Drops a ghost of a kind.
+    fn dropped_of(&self, about: Option<Key>, state: State, lost: State, kind: &mut Kind, key: Key)
+        requires on { MatchOption kind.old.old_ghost (IsTrue (stands_on key (going_but about state self.now.shard))) (λ g. IsTrue (stands_on key (going_but about lost self.now.shard))) }
+        requires size { key.size ≤ kind.old.ghost_size }
+        ensures { kind.new ≡ behind_dropped key (going_but about state self.now.shard) (going_but about lost self.now.shard) kind.old }
     {
-        let mut kind = kind;
         if kind.old_ghost.is_some() {
             kind.old_ghost = self.next_going(about, lost, key);
         } else {
             kind.evicted = self.next_going(about, state, key);
         }
         kind.ghost_size -= u128::from(key.size);
-        kind
     }
 
-    // The scan behind the eviction of the next key.
-    pub(super) fn scan_evicted(&self, about: Option<Key>, scan: Scan, key: Key) -> Scan
-        requires { CanEvict about self.now.shard scan key }
-        ensures { (t : PlainShard) (z : ℕ) → IsScanOf about self.now.shard scan t → next_evicted z t ≡ Some key → IsScanOf about self.now.shard result (evicted key t) }
+    // The scan goes on behind the eviction of the next key.
+    pub(super) fn scan_evicted(&self, about: Option<Key>, scan: &mut Scan, key: Key)
+        requires { CanEvict about self.now.shard scan.old key }
+        ensures { (t : PlainShard) (z : ℕ) → IsScanOf about self.now.shard scan.old t → next_evicted z t ≡ Some key → IsScanOf about self.now.shard scan.new (evicted key t) }
     {
         let _lists = &self.lists;
-        let mut scan = scan;
         if is_at(scan.mru.next, key) {
-            scan.mru = self.evicted_of(about, State::Mru, scan.mru, key);
+            self.evicted_of(about, State::Mru, &mut scan.mru, key);
         } else {
-            scan.mfu = self.evicted_of(about, State::Mfu, scan.mfu, key);
+            self.evicted_of(about, State::Mfu, &mut scan.mfu, key);
         }
-        scan
     }
 
-    // The scan behind the drop of the next ghost.
-    pub(super) fn scan_dropped(&self, about: Option<Key>, scan: Scan, key: Key) -> Scan
-        requires { CanDrop about self.now.shard scan key }
-        ensures { (t : PlainShard) → IsScanOf about self.now.shard scan t → next_dropped t ≡ Some key → IsScanOf about self.now.shard result (dropped key t) }
+    // The scan goes on behind the drop of the next ghost.
+    pub(super) fn scan_dropped(&self, about: Option<Key>, scan: &mut Scan, key: Key)
+        requires { CanDrop about self.now.shard scan.old key }
+        ensures { (t : PlainShard) → IsScanOf about self.now.shard scan.old t → next_dropped t ≡ Some key → IsScanOf about self.now.shard scan.new (dropped key t) }
     {
         let _lists = &self.lists;
-        let mut scan = scan;
         if is_at(scan.mru.oldest_ghost(), key) {
-            scan.mru = self.dropped_of(about, State::Mru, State::MruGhost, scan.mru, key);
+            self.dropped_of(about, State::Mru, State::MruGhost, &mut scan.mru, key);
         } else {
-            scan.mfu = self.dropped_of(about, State::Mfu, State::MfuGhost, scan.mfu, key);
+            self.dropped_of(about, State::Mfu, State::MfuGhost, &mut scan.mfu, key);
         }
-        scan
     }
 }

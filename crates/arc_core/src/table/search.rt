@@ -30,111 +30,84 @@ pub struct Search {
     pub scan: Scan,
 }
 
-// The search behind all that room evicts: what comes in has come.
-fn enter(about: Option<Key>, z: u64, comes: State, scan: Scan) -> Search
-    requires { size_by comes scan + z < 2 ^ 128 }
-    ensures { result ≡ entered about z comes scan }
+// The search goes over to trim, behind all that room evicts: what comes in has come.
+fn enter(search: &mut Search)
+    requires { size_by search.old.comes search.old.scan + search.old.z < 2 ^ 128 }
+    ensures { search.new ≡ entered search.old }
 {
-    let mut scan = scan;
-    add_size(&mut scan, comes, z);
-    Search {
-        about,
-        z,
-        comes,
-        trims: true,
-        scan,
-    }
+    add_size(&mut search.scan, search.comes, search.z);
+    search.trims = true;
 }
 
 impl Table {
     // Goes on with room for `z` bytes as far as the keys that it evicts are marked.
-    fn unmarked_eviction(&self, about: Option<Key>, z: u64, scan: Scan) -> (Scan, Option<Key>)
-        requires { (comes : State) × (vs : List Key) × AtRoom about self.now.shard self.now.marked z comes vs scan }
-        ensures { (comes : State) (vs : List Key) → AtRoom about self.now.shard self.now.marked z comes vs scan
-            → IsRoomSearched about self.now.shard self.now.marked z comes vs result.0 result.1 }
+    fn unmarked_eviction(&self, about: Option<Key>, z: u64, scan: &mut Scan) -> Option<Key>
+        requires { (comes : State) × (vs : List Key) × AtRoom about self.now.shard self.now.marked z comes vs scan.old }
+        ensures { (comes : State) (vs : List Key) → AtRoom about self.now.shard self.now.marked z comes vs scan.old
+            → IsRoomSearched about self.now.shard self.now.marked z comes vs scan.new result }
     {
         let _lists = &self.lists;
-        let mut scan = scan;
         while let Some(key) = scan.next_evicted(z) {
             if !self.is_marked(key) {
-                return (scan, Some(key));
+                return Some(key);
             }
-            scan = self.scan_evicted(about, scan, key);
+            self.scan_evicted(about, scan, key);
         }
-        (scan, None)
+        None
     }
 
     // Goes on with trim as far as the ghosts that it drops are marked.
-    fn unmarked_drop(&self, about: Option<Key>, scan: Scan) -> (Scan, Option<Key>)
-        requires { (vs : List Key) × AtTrim about self.now.shard self.now.marked vs scan }
-        ensures { (vs : List Key) → AtTrim about self.now.shard self.now.marked vs scan
-            → IsTrimSearched about self.now.shard self.now.marked vs result.0 result.1 }
+    fn unmarked_drop(&self, about: Option<Key>, scan: &mut Scan) -> Option<Key>
+        requires { (vs : List Key) × AtTrim about self.now.shard self.now.marked vs scan.old }
+        ensures { (vs : List Key) → AtTrim about self.now.shard self.now.marked vs scan.old
+            → IsTrimSearched about self.now.shard self.now.marked vs scan.new result }
     {
         let _lists = &self.lists;
-        let mut scan = scan;
         while let Some(key) = scan.next_dropped() {
             if !self.is_marked(key) {
-                return (scan, Some(key));
+                return Some(key);
             }
-            scan = self.scan_dropped(about, scan, key);
+            self.scan_dropped(about, scan, key);
         }
-        (scan, None)
+        None
     }
 
     // Goes on with room; where it is made, the search goes over to trim.
-    fn search_room(&self, search: Search) -> (Search, Option<Key>)
-        requires room { search.trims ≡ false }
-        requires stands { (vs : List Key) × Stands self.now.shard self.now.marked vs search }
-        ensures { (vs : List Key) → Stands self.now.shard self.now.marked vs search → IsFound self.now.shard self.now.marked vs false result.0 result.1 }
+    fn search_room(&self, search: &mut Search) -> Option<Key>
+        requires room { search.old.trims ≡ false }
+        requires stands { (vs : List Key) × Stands self.now.shard self.now.marked vs search.old }
+        ensures { (vs : List Key) → Stands self.now.shard self.now.marked vs search.old → IsFound self.now.shard self.now.marked vs false search.new result }
     {
         let _lists = &self.lists;
-        let (about, z, comes) = (search.about, search.z, search.comes);
-        let (scan, found) = self.unmarked_eviction(about, z, search.scan);
-        match found {
-            Some(key) => {
-                let on = Search {
-                    about,
-                    z,
-                    comes,
-                    trims: false,
-                    scan,
-                };
-                (on, Some(key))
+        match self.unmarked_eviction(search.about, search.z, &mut search.scan) {
+            Some(key) => Some(key),
+            None => {
+                enter(search);
+                None
             }
-            None => (enter(about, z, comes, scan), None),
         }
     }
 
     // Goes on with trim.
-    fn search_trim(&self, search: Search) -> (Search, Option<Key>)
-        requires trim { search.trims ≡ true }
-        requires stands { (vs : List Key) × Stands self.now.shard self.now.marked vs search }
-        ensures { (vs : List Key) → Stands self.now.shard self.now.marked vs search → IsFound self.now.shard self.now.marked vs true result.0 result.1 }
+    fn search_trim(&self, search: &mut Search) -> Option<Key>
+        requires trim { search.old.trims ≡ true }
+        requires stands { (vs : List Key) × Stands self.now.shard self.now.marked vs search.old }
+        ensures { (vs : List Key) → Stands self.now.shard self.now.marked vs search.old → IsFound self.now.shard self.now.marked vs true search.new result }
     {
-        let (about, z, comes) = (search.about, search.z, search.comes);
-        let (scan, found) = self.unmarked_drop(about, search.scan);
-        let on = Search {
-            about,
-            z,
-            comes,
-            trims: true,
-            scan,
-        };
-        (on, found)
+        self.unmarked_drop(search.about, &mut search.scan)
     }
 
     /// Goes on with a search as far as its victims are marked, and answers the first that isn't.
-    pub fn search_on(&self, search: Search) -> (Search, Option<Key>)
-        requires { (vs : List Key) × Stands self.now.shard self.now.marked vs search }
-        ensures { (vs : List Key) → Stands self.now.shard self.now.marked vs search → IsFound self.now.shard self.now.marked vs true result.0 result.1 }
+    pub fn search_on(&self, search: &mut Search) -> Option<Key>
+        requires { (vs : List Key) × Stands self.now.shard self.now.marked vs search.old }
+        ensures { (vs : List Key) → Stands self.now.shard self.now.marked vs search.old → IsFound self.now.shard self.now.marked vs true search.new result }
     {
         if search.trims {
             return self.search_trim(search);
         }
-        let (on, found) = self.search_room(search);
-        match found {
-            Some(key) => (on, Some(key)),
-            None => self.search_trim(on),
+        match self.search_room(search) {
+            Some(key) => Some(key),
+            None => self.search_trim(search),
         }
     }
 
