@@ -1,5 +1,5 @@
 -- The rows of the entries and the entries in rising order.
-use Rattle.std.proofs.Common.{◌≡◌, false, List, length, Option, Some, None, IfSome, IfNone, IsSome, is_some, inl, inr, refl, sym, ap, subst, ◌∙◌}
+use Rattle.std.proofs.Common.{◌≡◌, false, List, length, Option, Some, None, IfSome, IfNone, IsSome, is_some, option_map, inl, inr, refl, sym, ap, subst, ◌∙◌}
 use Rattle.std.proofs.lemmas.Bool.{false≢true}
 use Rattle.blk_ptr.specs.declared.key.Key.{Key}
 use Rattle.key_table.specs.PlainTable.{AreApart, Changes, Gains, HasKey, IsAmong, Loses, Row, row}
@@ -43,6 +43,12 @@ none-there (Some e) P has none = absurd (none (has refl))
 
 pub entry-nowhere : (rows : List (Row Name Entry)) (k : Key) → AreApart rows → (HasKey (name k) rows → ⊥) → item_at entry_key k (entered rows) ≡ None
 entry-nowhere rows k apart none = none-there (item_at entry_key k (entered rows)) (HasKey (name k) rows) (has-name rows k apart) none
+
+-- what a look finds
+pub found-entry : {X : Type 0} (o : Option X) (of : X → Entry) (rows : List (Row Name Entry)) (k : Key) → AreApart rows → AreKeyed rows
+    → IfSome o (λ x. IsAmong (row (name k) (of x)) rows) → IfNone o (HasKey (name k) rows → ⊥) → option_map of o ≡ item_at entry_key k (entered rows)
+found-entry None of rows k apart keyed some none = sym (entry-nowhere rows k apart none)
+found-entry (Some x) of rows k apart keyed some none = sym (entry-there rows k (of x) apart keyed some)
 
 pub comes : (old new : List (Row Name Entry)) (e : Entry) → AreApart old → AreApart new → has_key entry_key e.key (entered old) ≡ false → Gains old new (row (name e.key) e)
     → entered new ≡ with_item entry_key e (entered old)

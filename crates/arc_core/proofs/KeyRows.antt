@@ -48,6 +48,10 @@ pub found-none : {A : Type 0} (o : Option A) (Q : Type 0) → IfNone o Q → is_
 found-none None Q none is = none
 found-none (Some a) Q none is = absurd (false≢true (sym is))
 
+pub none-stands : (rows : List (Row Name (Unit {0}))) (k : Key) → length rows ≡ 0 → stands_on k (named rows) ≡ false
+none-stands [] k none = refl
+none-stands (r ∷ rows) k none = absurd (omega (arith, none))
+
 -- ---- a key that comes, and one that goes
 
 pub key-comes : (old new : List (Row Name (Unit {0}))) (k : Key) → AreApart old → AreApart new → stands_on k (named old) ≡ false → Gains old new (row (name k) tt) → named new ≡ with_item (λ (j : Key). j) k (named old)

@@ -1,5 +1,5 @@
 //! The entries by their keys, each found by its key's hash.
-ghost use Rattle.std.specs.Prelude.{◌≡◌, ◌+◌, ◌-◌, ◌<◌, false, length, max, IsSome, OnOk, OnErr};
+ghost use Rattle.std.specs.Prelude.{◌≡◌, ◌+◌, ◌-◌, ◌<◌, false, length, max, IsSome, OnOk, OnErr, option_map};
 ghost use Rattle.arc_lists.specs.ByKey.{has_key, item_at, with_change, with_item, without};
 ghost use Rattle.arc_core.specs.Entries.{no_entries};
 ghost use Rattle.arc_core.specs.PlainShard.{entry_key};
@@ -58,13 +58,10 @@ impl Entries {
     }
 
     /// The entry of a key.
-    pub fn find(&self, key: Key) -> Option<Entry>
-        ensures { result ≡ item_at entry_key key self.now.items }
+    pub fn find(&self, key: Key) -> Option<&Entry>
+        ensures { option_map (λ e. e.now) result ≡ item_at entry_key key self.now.items }
     {
-        match self.rows.get(&Name(key)) {
-            Some(entry) => Some(*entry),
-            None => None,
-        }
+        self.rows.get(&Name(key))
     }
 
     /// Writes an entry over the one of its key.

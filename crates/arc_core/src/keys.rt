@@ -92,7 +92,7 @@ impl Keys {
     pub fn has(&self, key: Key) -> bool
         ensures { result ≡ stands_on key self.now.items }
     {
-        self.rows.get(&Name(key)).is_some()
+        !self.order.is_empty() && self.rows.get(&Name(key)).is_some()
     }
 
     /// Adds a key that isn't there.

@@ -270,7 +270,7 @@ impl Shard {
     {
         let _owed = &self.history;
         match self.table.find(key) {
-            Some(entry) => Some(view_of(&entry)),
+            Some(entry) => Some(view_of(entry)),
             None => None,
         }
     }

@@ -1,4 +1,4 @@
-ghost use Rattle.std.specs.Prelude.{◌≡◌, ℕ, ◌+◌, ◌-◌, ◌/◌, ◌<◌, ◌≤◌, false, IsTrue, IsSome, None, [], length, max, OnOk, OnErr};
+ghost use Rattle.std.specs.Prelude.{◌≡◌, ℕ, ◌+◌, ◌-◌, ◌/◌, ◌<◌, ◌≤◌, false, IsTrue, IsSome, None, [], length, max, OnOk, OnErr, option_map};
 ghost use Rattle.blk_ptr.specs.declared.key.Key.{Key};
 ghost use Rattle.arc_lists.specs.Adapting.{IsCapacity};
 ghost use Rattle.arc_core.specs.PlainShard.{entry_of, is_unheld, opening_shard, size_in};
@@ -104,8 +104,8 @@ impl Table {
     }
 
     /// The entry of a key.
-    pub fn find(&self, key: Key) -> Option<Entry>
-        ensures value { result ≡ entry_of key self.now.shard }
+    pub fn find(&self, key: Key) -> Option<&Entry>
+        ensures value { option_map (λ e. e.now) result ≡ entry_of key self.now.shard }
         ensures tidy { IsTidy self.now.shard }
     {
         self.entries.find(key)

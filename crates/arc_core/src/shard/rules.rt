@@ -182,7 +182,7 @@ impl Shard {
         let _owed = &self.history;
         is_number(n)
             && match self.table.find(key) {
-                Some(entry) => entry.is_held(n) && sole == is_held_once(&entry),
+                Some(entry) => entry.is_held(n) && sole == is_held_once(entry),
                 None => false,
             }
     }

@@ -1,4 +1,4 @@
-ghost use Rattle.std.specs.Prelude.{◌≡◌, ℕ, ◌+◌, ◌^◌, ◌<◌, ◌≤◌, IsTrue};
+ghost use Rattle.std.specs.Prelude.{◌≡◌, ℕ, ◌+◌, ◌^◌, ◌<◌, ◌≤◌, IsTrue, option_map};
 ghost use Rattle.arc_core.specs.declared.event.Event.{Event};
 ghost use Rattle.arc_core.specs.PlainShard.{numbers, one_hold};
 ghost use Rattle.arc_core.specs.Owed.{entries_for, owed_of};
@@ -35,9 +35,9 @@ fn one_hold(n: u32) -> [u64; NUMBERS]
 }
 
 // What a miss of `n` at tick `t` puts in for a key that had this entry.
-fn entry_to_read(n: u32, key: Key, t: u64, old: Option<Entry>) -> Entry
+fn entry_to_read(n: u32, key: Key, t: u64, old: Option<&Entry>) -> Entry
     requires { n < numbers }
-    ensures { result ≡ entry_to_read n key t old }
+    ensures { result ≡ entry_to_read n key t (option_map (λ e. e.now) old.entry) }
 {
     Entry {
         key,
@@ -78,7 +78,7 @@ impl Table {
         ensures { self.new ≡ record self.old { shard = effect self.old.shard (Event.Hit n key t) } }
     {
         let mintime = self.mintime;
-        if let Some(entry) = self.find(key) {
+        if let Some(entry) = self.find(key).copied() {
             self.place(entry.accessed(mintime, t).one_more(n));
         }
     }
@@ -88,7 +88,7 @@ impl Table {
         requires { IsTrue (legal self.old.shard (Event.Arrive n key digest from)) }
         ensures { self.new ≡ record self.old { shard = effect self.old.shard (Event.Arrive n key digest from) } }
     {
-        if let Some(mut entry) = self.find(key) {
+        if let Some(mut entry) = self.find(key).copied() {
             entry.state = arrived_state(entry.state);
             entry.reading = false;
             entry.digest = Some(digest);
@@ -101,7 +101,7 @@ impl Table {
         requires { IsTrue (legal self.old.shard (Event.Drop n key)) }
         ensures { self.new ≡ record self.old { shard = effect self.old.shard (Event.Drop n key) } }
     {
-        if let Some(entry) = self.find(key) {
+        if let Some(entry) = self.find(key).copied() {
             self.place(entry.one_less(n));
         }
     }
@@ -115,9 +115,9 @@ impl Table {
         ensures marks { self.new.marks ≡ self.old.marks }
         ensures marked { self.new.marked ≡ self.old.marked }
     {
-        let old = self.find(key);
+        let entry = entry_to_read(n, key, t, self.find(key));
         self.adapt(key);
-        self.take_in(entry_to_read(n, key, t, old));
+        self.take_in(entry);
     }
 
     /// A read of `n` has failed.
@@ -137,7 +137,7 @@ impl Table {
         requires counts { owed_of self.old.shard < 2 ^ 63 }
         ensures { self.new ≡ record self.old { shard = effect self.old.shard (Event.Hand n key to) } }
     {
-        if let Some(entry) = self.find(key) {
+        if let Some(entry) = self.find(key).copied() {
             self.place(entry.one_less(n).one_more(to));
         }
     }
@@ -152,7 +152,7 @@ impl Table {
     {
         if sole {
             self.remove(key);
-        } else if let Some(entry) = self.find(key) {
+        } else if let Some(entry) = self.find(key).copied() {
             self.place(entry.one_less(n));
         }
     }

@@ -58,7 +58,7 @@ impl Table {
         ensures { result ≡ stands key self.now.shard.sequences }
     {
         match self.find(key) {
-            Some(entry) => is_unheld(&entry) && entry.has_sequence(),
+            Some(entry) => is_unheld(entry) && entry.has_sequence(),
             None => false,
         }
     }
@@ -127,7 +127,7 @@ impl Table {
         requires { IsTrue (entry_is (may_have place) key self.old.shard) }
         ensures { self.new ≡ record self.old { shard = changed key (with_place place) self.old.shard } }
     {
-        match self.find(key) {
+        match self.find(key).copied() {
             Some(mut entry) => {
                 entry.place = place;
                 self.amend(entry);

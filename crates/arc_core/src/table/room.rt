@@ -60,7 +60,7 @@ impl Table {
         requires evictable { IsTrue (entry_is is_evictable key self.old.shard) }
         ensures { self.new ≡ record self.old { shard = evicted key self.old.shard } }
     {
-        if let Some(mut entry) = self.find(key) {
+        if let Some(mut entry) = self.find(key).copied() {
             entry.state = evicted_state(entry.state);
             self.place(entry);
         }
@@ -76,7 +76,7 @@ impl Table {
         ensures marks { self.new.marks ≡ self.old.marks }
         ensures marked { self.new.marked ≡ self.old.marked }
     {
-        match self.find(key) {
+        match self.find(key).copied() {
             Some(mut entry) if entry.place.is_some() => {
                 entry.state = State::L2Only;
                 self.place(entry);

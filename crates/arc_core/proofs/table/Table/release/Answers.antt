@@ -12,17 +12,17 @@ pub place-requires-clause-there : goal.place-requires-clause-there
 place-requires-clause-there c =
     let s = c.args.self.now.shard in
     let ok = subst (λ b. IsTrue (legal s (Release c.args.n c.args.key b))) c.if-sole.false c.requires in
-    subst (λ (e : Entry). IsSome (entry_of e.key s)) (sym c.one_less.ensures) (release-writes c.args.n c.args.key s c.in-Some.entry c.in-Some.ensures.tidy c.in-Some.ensures.value ok).there
+    subst (λ (e : Entry). IsSome (entry_of e.key s)) (sym c.one_less.ensures) (release-writes c.args.n c.args.key s c.in-Some.entry c.find.ensures.tidy (c.in-Some.ensures ∙ c.find.ensures.value) ok).there
 
 pub place-requires-clause-sound : goal.place-requires-clause-sound
 place-requires-clause-sound c =
     let s = c.args.self.now.shard in
     let ok = subst (λ b. IsTrue (legal s (Release c.args.n c.args.key b))) c.if-sole.false c.requires in
-    subst IsSoundEntry (sym c.one_less.ensures) (release-writes c.args.n c.args.key s c.in-Some.entry c.in-Some.ensures.tidy c.in-Some.ensures.value ok).sound
+    subst IsSoundEntry (sym c.one_less.ensures) (release-writes c.args.n c.args.key s c.in-Some.entry c.find.ensures.tidy (c.in-Some.ensures ∙ c.find.ensures.value) ok).sound
 
 pub returns-in-Some-clause-shard : goal.returns-in-Some-clause-shard
 returns-in-Some-clause-shard c =
     let s = c.args.self.now.shard in
     let ok = subst (λ b. IsTrue (legal s (Release c.args.n c.args.key b))) c.if-sole.false c.requires in
-    let is = (release-writes c.args.n c.args.key s c.in-Some.entry c.in-Some.ensures.tidy c.in-Some.ensures.value ok).effect in
+    let is = (release-writes c.args.n c.args.key s c.in-Some.entry c.find.ensures.tidy (c.in-Some.ensures ∙ c.find.ensures.value) ok).effect in
     ap (λ t. t.shard) c.place.ensures ∙ ap (λ e. placed e s) c.one_less.ensures ∙ is ∙ ap (λ b. effect s (Release c.args.n c.args.key b)) (sym c.if-sole.false)

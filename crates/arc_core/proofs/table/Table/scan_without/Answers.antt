@@ -1,4 +1,4 @@
-use Rattle.std.proofs.Common.{◌∙◌, ◌<◌, ◌≤◌, ◌^◌, ◌-◌, length, arith, Some, sym, ap, subst}
+use Rattle.std.proofs.Common.{◌∙◌, ◌<◌, ◌≤◌, ◌^◌, ◌-◌, length, option_map, arith, Some, sym, ap, subst}
 use Rattle.arc_core.specs.declared.table.scan.Scan.{Scan}
 use Rattle.arc_core.specs.Changes.{gone}
 use Rattle.arc_core.specs.Cursor.{IsScanOf, scan_at, size_by, with_size}
@@ -9,13 +9,13 @@ pub take_size-requires : goal.take_size-requires
 take_size-requires c =
     let s = c.args.self.now.shard in
     let is = c.scan_but-scan.ensures ∙ ap (λ n. scan_at (Some c.args.key) n c.args.p s) c.c.ensures in
-    subst (λ (x : Scan). c.args.key.size ≤ size_by c.in-Some.entry.state x) (sym is) (scan-at-le s c.args.key s.c c.args.p c.in-Some.entry c.in-Some.ensures.tidy (sym c.in-Some.ensures.value))
+    subst (λ (x : Scan). c.args.key.size ≤ size_by c.in-Some.entry.now.state x) (sym is) (scan-at-le s c.args.key s.c c.args.p c.in-Some.entry.now c.in-Some.ensures.tidy (sym c.in-Some.ensures.value))
 
 pub returns-in-Some : goal.returns-in-Some
 returns-in-Some c =
     let s = c.args.self.now.shard in
     let k = c.args.key in
-    let e = c.in-Some.entry in
+    let e = c.in-Some.entry.now in
     let is = c.scan_but-scan.ensures ∙ ap (λ n. scan_at (Some k) n c.args.p s) c.c.ensures in
     let few : length s.entries < 2 ^ 65 = omega (arith, c.self.invariant.few, ap (λ t. length t.shard.entries) c.self.view_is) in
     subst (λ (x : Scan). IsScanOf (Some k) s x (record (gone k s) { p = c.args.p }))
@@ -29,4 +29,4 @@ returns-in_default c =
     let is = c.scan_but-scan.ensures ∙ ap (λ n. scan_at (Some k) n c.args.p s) c.c.ensures in
     let few : length s.entries < 2 ^ 65 = omega (arith, c.self.invariant.few, ap (λ t. length t.shard.entries) c.self.view_is) in
     subst (λ (x : Scan). IsScanOf (Some k) s x (record (gone k s) { p = c.args.p })) (sym is)
-    (scan-without-none s k c.args.p c.find.ensures.tidy few (sym c.find.ensures.value ∙ c.in_default.is))
+    (scan-without-none s k c.args.p c.find.ensures.tidy few (sym c.find.ensures.value ∙ ap (option_map (λ e. e.now)) c.in_default.is))

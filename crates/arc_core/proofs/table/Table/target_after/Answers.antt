@@ -7,20 +7,20 @@ use Rattle.arc_core.proofs.table.Table.target_after.Goals as goal
 
 pub adapted-requires-clause-some : goal.adapted-requires-clause-some
 adapted-requires-clause-some c =
-    let at = found c.args.key c.args.self.now.shard c.in-Some.entry c.in-Some.ensures.tidy c.in-Some.ensures.value in
-    subst (λ k. 0 < k.size) at.key (sized c.in-Some.entry.key at.sound.key)
+    let at = found c.args.key c.args.self.now.shard c.in-Some.entry.now c.in-Some.ensures.tidy c.in-Some.ensures.value in
+    subst (λ k. 0 < k.size) at.key (sized c.in-Some.entry.now.key at.sound.key)
 
 pub adapted-requires-clause-there : goal.adapted-requires-clause-there
 adapted-requires-clause-there c =
-    let item : entry_of c.args.key (shard_in c.self.inside) ≡ Some c.in-Some.entry = ap (λ t. entry_of c.args.key t.shard) c.self.view_is ∙ sym c.in-Some.ensures.value in
-    rw c.self.invariant.members (subst (λ state. c.args.key.size ≤ size_of state (map member_of c.self.inside.entries.items)) c.in-MruGhost.is (entry-le c.args.key (shard_in c.self.inside) c.in-Some.entry item))
+    let item : entry_of c.args.key (shard_in c.self.inside) ≡ Some c.in-Some.entry.now = ap (λ t. entry_of c.args.key t.shard) c.self.view_is ∙ sym c.in-Some.ensures.value in
+    rw c.self.invariant.members (subst (λ state. c.args.key.size ≤ size_of state (map member_of c.self.inside.entries.items)) c.in-MruGhost.is (entry-le c.args.key (shard_in c.self.inside) c.in-Some.entry.now item))
 
 pub adapted-requires-in-MfuGhost-clause-some : goal.adapted-requires-in-MfuGhost-clause-some
 adapted-requires-in-MfuGhost-clause-some c =
-    let at = found c.args.key c.args.self.now.shard c.in-Some.entry c.in-Some.ensures.tidy c.in-Some.ensures.value in
-    subst (λ k. 0 < k.size) at.key (sized c.in-Some.entry.key at.sound.key)
+    let at = found c.args.key c.args.self.now.shard c.in-Some.entry.now c.in-Some.ensures.tidy c.in-Some.ensures.value in
+    subst (λ k. 0 < k.size) at.key (sized c.in-Some.entry.now.key at.sound.key)
 
 pub adapted-requires-in-MfuGhost-clause-there : goal.adapted-requires-in-MfuGhost-clause-there
 adapted-requires-in-MfuGhost-clause-there c =
-    let item : entry_of c.args.key (shard_in c.self.inside) ≡ Some c.in-Some.entry = ap (λ t. entry_of c.args.key t.shard) c.self.view_is ∙ sym c.in-Some.ensures.value in
-    rw c.self.invariant.members (subst (λ state. c.args.key.size ≤ size_of state (map member_of c.self.inside.entries.items)) c.in-MfuGhost.is (entry-le c.args.key (shard_in c.self.inside) c.in-Some.entry item))
+    let item : entry_of c.args.key (shard_in c.self.inside) ≡ Some c.in-Some.entry.now = ap (λ t. entry_of c.args.key t.shard) c.self.view_is ∙ sym c.in-Some.ensures.value in
+    rw c.self.invariant.members (subst (λ state. c.args.key.size ≤ size_of state (map member_of c.self.inside.entries.items)) c.in-MfuGhost.is (entry-le c.args.key (shard_in c.self.inside) c.in-Some.entry.now item))
