@@ -18,9 +18,8 @@ use Rattle.arc_core.specs.declared.table.scan.Scan.{Scan}
 use Rattle.arc_core.specs.Changes.{come, gone}
 use Rattle.arc_core.specs.Cursor.{IsScanOf, first_unmarked, size_by, with_size}
 use Rattle.arc_core.specs.declared.table.search.Search.{Search}
-use Rattle.arc_core.specs.declared.shard.halts.Sought.{Sought}
 use Rattle.arc_core.specs.Edits.{is_evictable, is_off}
-use Rattle.arc_core.specs.Halts.{IsSought}
+use Rattle.arc_core.specs.Halts.{IsSoughtFor}
 use Rattle.arc_core.specs.Search.{AtRoom, AtTrim, Covers, Stands, StandsBy, count}
 use Rattle.arc_core.specs.PlainShard.{PlainShard, entry_key, entry_of, is_passed}
 use Rattle.arc_core.specs.Rules.{evicted, evicting, next_evicted, with_room}
@@ -125,9 +124,9 @@ stands-more s marked more vs x covers = go x.trims
     go true on = record { at = on.at; turns = on.turns; scan = on.scan; enough = on.enough; left = λ most into. on.left most (λ k there. into k (covers k there)) }
     go false on = record { at = on.at; turns = on.turns; behind = on.behind; scan = on.scan; enough = on.enough; left = λ most into. on.left most (λ k there. into k (covers k there)); enters = on.enters }
 
-pub sought-more : (s : PlainShard) (marked more : List Key) (o : Option Sought) → Covers marked more → IsSought s marked o → IsSought s more o
-sought-more s marked more None covers sought = tt
-sought-more s marked more (Some v) covers sought = stands-more s marked more (victims s v.event) v.search covers sought
+pub sought-more : (s : PlainShard) (marked more : List Key) (o : Option Event) (x : Search) → Covers marked more → IsSoughtFor s marked o x → IsSoughtFor s more o x
+sought-more s marked more None x covers sought = tt
+sought-more s marked more (Some e) x covers sought = stands-more s marked more (victims s e) x covers sought
 
 pub or_there : (a b : Bool) → b ≡ true → (a || b) ≡ true
 or_there true b is = refl

@@ -1,5 +1,5 @@
 -- A call that makes a legal event keeps the shard's invariant.
-use Rattle.std.proofs.Common.{◌≡◌, List, refl, ◌+◌, ◌≤◌, IsTrue, [], ◌∷◌, ◌++◌, vec_len, vec_capacity}
+use Rattle.std.proofs.Common.{◌≡◌, List, refl, sym, subst, ◌+◌, ◌≤◌, IsTrue, [], ◌∷◌, ◌++◌, vec_len, vec_capacity}
 use Rattle.blk_ptr.specs.declared.key.Key.{Key}
 use Rattle.arc_lists.specs.declared.member.Member.{Member}
 use Rattle.arc_lists.specs.Queues.{IsSequenceOf}
@@ -7,7 +7,8 @@ use Rattle.arc_core.specs.declared.shard.Shard.TheInside.{Inside}
 use Rattle.arc_core.specs.declared.event.Event.{Event}
 use Rattle.arc_core.specs.PlainShard.{PlainShard, members}
 use Rattle.arc_core.specs.declared.shard.halts.Halts.{Halts}
-use Rattle.arc_core.specs.Halts.{AreHalts, no_halts}
+use Rattle.arc_core.specs.FeedWalk.{IsWalk}
+use Rattle.arc_core.specs.Halts.{AreForgotten, AreHalts, IsSoughtFor}
 use Rattle.arc_core.specs.Owed.{room_for}
 use Rattle.arc_core.specs.ShardModel.{ShardKeeps}
 use Rattle.arc_core.specs.Step.{after, legal}
@@ -27,5 +28,8 @@ pub none-marked : (ms : List Member) (ks : List Key) → ks ≡ [] → IsSequenc
 none-marked ms ks none = rw none (record { once = refl; members = tt })
 
 -- where no scan has begun, each stands where it was left
-pub none-halted : (s : PlainShard) (ks : List Key) (h : Halts) → h ≡ no_halts → AreHalts s ks h
-none-halted s ks h none = rw none (record { sought = tt; walk = tt })
+pub none-halted : (s : PlainShard) (ks : List Key) (h : Halts) → AreForgotten h → AreHalts s ks h
+none-halted s ks h none = record {
+  sought = subst (λ o. IsSoughtFor s ks o h.sought.search) (sym none.event) tt;
+  walk = subst (λ w. IsWalk s w) (sym none.walk) tt;
+}

@@ -5,7 +5,6 @@ ghost use Rattle.arc_core.specs.Candidate.{candidate};
 ghost use Rattle.arc_core.specs.ShardLog.{HasRoom, IsUnpicked, Makes, MayUnpick};
 ghost use Rattle.arc_core.specs.Step.{legal};
 
-use super::halts::Halts;
 use super::{Shard, append};
 use crate::event::{Event, Why};
 use blk_ptr::{Digest, Key};
@@ -23,7 +22,7 @@ impl Shard {
         append(&mut self.history, event);
         self.spare_events -= 1;
         let walk = self.table.walked_if_begun(self.halts.walk);
-        self.halts = Halts { sought: None, walk };
+        self.halts.keep_walk(walk);
         event
     }
 
@@ -85,10 +84,7 @@ impl Shard {
         self.table.pick(n, key);
         append(&mut self.history, event);
         self.spare_events -= 2;
-        self.halts = Halts {
-            sought: None,
-            walk: Some(self.table.walked(walk)),
-        };
+        self.halts.keep_walk(Some(self.table.walked(walk)));
         event
     }
 

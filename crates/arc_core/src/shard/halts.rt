@@ -1,6 +1,6 @@
 //! Where the scans of a shard stand between two calls.
-ghost use Rattle.std.specs.Prelude.{◌≡◌, IsTrue};
-ghost use Rattle.arc_core.specs.Halts.{no_halts};
+ghost use Rattle.std.specs.Prelude.{◌≡◌, IsTrue, None, Some};
+ghost use Rattle.arc_core.specs.Halts.{AreForgotten};
 
 use crate::event::Event;
 use crate::table::search::Search;
@@ -9,39 +9,55 @@ use crate::table::walk::Walk;
 /// How far the search for the victims of an event has come.
 #[derive(Clone, Copy, Debug, Drop)]
 pub struct Sought {
-    pub event: Event,
+    /// The event. None: no search has begun.
+    pub event: Option<Event>,
     pub search: Search,
 }
 
-/// Whether two events are one.
-pub fn is_same(a: &Event, b: &Event) -> bool
-    ensures { IsTrue result → a.now ≡ b.now }
-{
-    *a == *b
+impl Sought {
+    /// Whether the search has begun for this event.
+    pub fn is_for(&self, e: &Event) -> bool
+        ensures { IsTrue result → self.now.event ≡ Some e.now }
+    {
+        match &self.event {
+            Some(event) => *event == *e,
+            None => false,
+        }
+    }
 }
 
 /// Where the search for victims stands, and the walk of a feed.
 #[derive(Clone, Copy, Debug, Drop)]
 pub struct Halts {
-    pub sought: Option<Sought>,
+    pub sought: Sought,
     pub walk: Option<Walk>,
 }
 
 impl Halts {
     pub fn none() -> Halts
-        ensures { result ≡ no_halts }
+        ensures { AreForgotten result }
     {
         Halts {
-            sought: None,
+            sought: Sought {
+                event: None,
+                search: Search::none(),
+            },
             walk: None,
         }
     }
 
     /// Forgets both: they begin anew.
     pub fn forget(&mut self)
-        ensures { self.new ≡ no_halts }
+        ensures { AreForgotten self.new }
     {
-        self.sought = None;
-        self.walk = None;
+        self.keep_walk(None);
+    }
+
+    /// Forgets the search. The walk stands here.
+    pub fn keep_walk(&mut self, walk: Option<Walk>)
+        ensures { self.new ≡ record { sought = record self.old.sought { event = None }; walk = walk } }
+    {
+        self.sought.event = None;
+        self.walk = walk;
     }
 }

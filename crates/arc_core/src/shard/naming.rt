@@ -1,5 +1,5 @@
 //! The victims of an event, named one by one before it is made.
-ghost use Rattle.std.specs.Prelude.{◌≡◌, [], ◌||◌, IsTrue, IsSome, IfSome, IfNone};
+ghost use Rattle.std.specs.Prelude.{◌≡◌, [], ◌||◌, false, IsTrue, IsSome, IfSome, IfNone};
 ghost use Rattle.blk_ptr.specs.declared.key.Key.{Key};
 ghost use Rattle.blk_ptr.specs.Order.{key_eq};
 ghost use Rattle.arc_lists.specs.Sequences.{stands_on};
@@ -11,22 +11,22 @@ ghost use Rattle.arc_core.specs.Sparing.{next_victim, victims};
 ghost use Rattle.arc_core.specs.Step.{legal};
 
 use super::Shard;
-use super::halts::{Sought, is_same};
+use super::halts::Sought;
 use crate::event::Event;
 use crate::table::Table;
 use crate::table::search::Search;
 use blk_ptr::Key;
 
-// The search for an event's victims from its start, where the event has any.
-fn search_from_start(table: &Table, e: &Event) -> Option<Search>
+// Begins the search for an event's victims, where the event has any.
+fn begin(table: &Table, e: &Event, search: &mut Search) -> bool
     requires { IsTrue (legal table.now.shard e.now) }
-    ensures some { IfSome result (λ x. Stands table.now.shard table.now.marked (victims table.now.shard e.now) x) }
-    ensures none { IfNone result (victims table.now.shard e.now ≡ []) }
+    ensures some { IsTrue result → Stands table.now.shard table.now.marked (victims table.now.shard e.now) search.new }
+    ensures none { result ≡ false → (search.new ≡ search.old) × (victims table.now.shard e.now ≡ []) }
 {
     match *e {
-        Event::Miss { n, key, t } => Some(table.search_of_miss(n, key, t)),
-        Event::Insert { n, key, digest, t } => Some(table.search_of_insert(n, key, digest, t)),
-        Event::Resize { c, .. } => Some(table.search_of_capacity(c)),
+        Event::Miss { n, key, t } => *search = table.search_of_miss(n, key, t),
+        Event::Insert { n, key, digest, t } => *search = table.search_of_insert(n, key, digest, t),
+        Event::Resize { c, .. } => *search = table.search_of_capacity(c),
         Event::Pass { .. }
         | Event::Hit { .. }
         | Event::Arrive { .. }
@@ -40,38 +40,36 @@ fn search_from_start(table: &Table, e: &Event) -> Option<Search>
         | Event::Set { .. }
         | Event::Leave { .. }
         | Event::Clear { .. }
-        | Event::Restore { .. } => None,
+        | Event::Restore { .. } => return false,
     }
+    true
 }
 
 // The first victim that isn't marked, by a search from its start.
-fn first_victim(sought: &mut Option<Sought>, table: &Table, e: &Event) -> Option<Key>
+fn first_victim(sought: &mut Sought, table: &Table, e: &Event) -> Option<Key>
     requires legal { IsTrue (legal table.now.shard e.now) }
     requires sought { IsSought table.now.shard table.now.marked sought.old }
     ensures sought { IsSought table.now.shard table.now.marked sought.new }
     ensures value { result ≡ next_victim table.now.shard table.now.marked e.now }
 {
-    match search_from_start(table, e) {
-        Some(mut search) => {
-            let found = table.search_on(&mut search);
-            *sought = Some(Sought { event: *e, search });
-            found
-        }
-        None => None,
+    if begin(table, e, &mut sought.search) {
+        sought.event = Some(*e);
+        return table.search_on(&mut sought.search);
     }
+    None
 }
 
 // The first victim that isn't marked: a search that has begun for this event goes on from where it stands.
-fn unmarked_victim(sought: &mut Option<Sought>, table: &Table, e: &Event) -> Option<Key>
+fn unmarked_victim(sought: &mut Sought, table: &Table, e: &Event) -> Option<Key>
     requires legal { IsTrue (legal table.now.shard e.now) }
     requires sought { IsSought table.now.shard table.now.marked sought.old }
     ensures sought { IsSought table.now.shard table.now.marked sought.new }
     ensures value { result ≡ next_victim table.now.shard table.now.marked e.now }
 {
-    match sought {
-        Some(at) if is_same(&at.event, e) => table.search_on(&mut at.search),
-        _ => first_victim(sought, table, e),
+    if sought.is_for(e) {
+        return table.search_on(&mut sought.search);
     }
+    first_victim(sought, table, e)
 }
 
 impl Shard {
@@ -114,6 +112,6 @@ impl Shard {
         ensures { self.new ≡ record self.old { marked = [] } }
     {
         self.table.unmark_all();
-        self.halts.sought = None;
+        self.halts.sought.event = None;
     }
 }

@@ -1,5 +1,5 @@
 //! What room and trim would take from a shard, found without taking it.
-ghost use Rattle.std.specs.Prelude.{◌≡◌, ℕ, ◌+◌, ◌-◌, ◌<◌, ◌≤◌, ◌^◌, IsTrue, MatchOption, Some};
+ghost use Rattle.std.specs.Prelude.{◌≡◌, ℕ, ◌+◌, ◌-◌, ◌<◌, ◌≤◌, ◌^◌, IsTrue, MatchOption, None, Some};
 ghost use Rattle.blk_ptr.specs.declared.key.Key.{Key};
 ghost use Rattle.blk_ptr.specs.declared.state.State.{State};
 ghost use Rattle.arc_lists.specs.Sequences.{stands, stands_on};
@@ -29,6 +29,19 @@ pub struct Kind {
 impl Kind {
     ghost use Rattle.arc_core.specs.Cursor.{oldest_ghost};
 
+    // A kind in which no key is left.
+    fn none() -> Kind
+        ensures { oldest_ghost result ≡ None }
+    {
+        Kind {
+            next: None,
+            old_ghost: None,
+            evicted: None,
+            size: 0,
+            ghost_size: 0,
+        }
+    }
+
     /// The ghost that is dropped next.
     pub fn oldest_ghost(&self) -> Option<Key>
         ensures { result ≡ oldest_ghost self.now }
@@ -55,6 +68,19 @@ pub struct Scan {
 
 impl Scan {
     ghost use Rattle.arc_core.specs.Cursor.{dropped_by, evicted_by};
+
+    /// A scan in which no key is left.
+    pub fn none() -> Scan
+        ensures { dropped_by result ≡ None }
+    {
+        Scan {
+            mru: Kind::none(),
+            mfu: Kind::none(),
+            anon: 0,
+            c: 0,
+            p: 0,
+        }
+    }
 
     /// The key that room for `z` bytes evicts next.
     pub fn next_evicted(&self, z: u64) -> Option<Key>

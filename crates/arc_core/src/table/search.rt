@@ -30,6 +30,21 @@ pub struct Search {
     pub scan: Scan,
 }
 
+impl Search {
+    /// No search: it stands for no event.
+    pub fn none() -> Search
+        ensures { result.about ≡ None }
+    {
+        Search {
+            about: None,
+            z: 0,
+            comes: State::L2Only,
+            trims: false,
+            scan: Scan::none(),
+        }
+    }
+}
+
 // The search goes over to trim, behind all that room evicts: what comes in has come.
 fn enter(search: &mut Search)
     requires { size_by search.old.comes search.old.scan + search.old.z < 2 ^ 128 }

@@ -25,7 +25,7 @@ invariant_of-self c =
     let room : 1 ≤ s.spare_events = omega (arith, all) in
     let step = ap (λ t. t.shard) c.pass.ensures in
     made s _ e c.self.invariant ok step refl c.append.ensures.items c.append.ensures.len c.append.ensures.capacity (omega (arith, room)) (subst (λ (t : PlainTable). IsSequenceOf (members t.shard) t.marked) (sym c.pass.ensures) c.self.invariant.marked)
-    (record { sought = tt; walk = c.walked_if_begun-walk.ensures })
+    (rw c.keep_walk.ensures (record { sought = tt; walk = c.walked_if_begun-walk.ensures }))
 
 pub walked_if_begun-walk-requires : goal.walked_if_begun-walk-requires
 walked_if_begun-walk-requires c =

@@ -25,7 +25,7 @@ invariant_of-self c =
     let room : 2 ≤ s.spare_events = omega (arith, all) in
     let step = ap (λ t. t.shard) c.pick.ensures in
     made s _ e c.self.invariant ok step refl c.append.ensures.items c.append.ensures.len c.append.ensures.capacity (omega (arith, room)) (subst (λ (t : PlainTable). IsSequenceOf (members t.shard) t.marked) (sym c.pick.ensures) c.self.invariant.marked)
-    (record { sought = tt; walk = c.walked.ensures.walk })
+    (rw c.keep_walk.ensures (record { sought = tt; walk = c.walked.ensures.walk }))
 
 pub walk_from-walk-requires : goal.walk_from-walk-requires
 walk_from-walk-requires c = c.self.invariant.halts.walk
