@@ -83,13 +83,12 @@ held-one_less m n e lt some = elim (cases_true (m == n)) [
 ]
 
 -- a count of which a hold is handed over has room to rise
-pub hand-count : (n : ℕ) (k : Key) (to : ℕ) (s : PlainShard) (e : Entry) → IsTidy s → Some e ≡ entry_of k s → IsTrue (legal s (Hand n k to)) → owed_of s < 2 ^ 63 → held_by to (one_less n e) + 1 < 2 ^ 64
+pub hand-count : (n : ℕ) (k : Key) (to : ℕ) (s : PlainShard) (e : Entry) → IsTidy s → Some e ≡ entry_of k s → IsTrue (legal s (Hand n k to)) → owed_of s < 2 ^ 63 → holds_of (one_less n e) + 1 < 2 ^ 64
 hand-count n k to s e tidy is ok few =
     let rest = and_right (is_number n) _ ok in
     let h = holding n k s e tidy is (and_left _ _ ok) (and_right (is_cell to) _ rest) in
-    let lt = cell-lt to (and_left (is_cell to) _ rest) in
-    let less = held-one_less to n e (omega (arith, h.at.sound.numbers, h.lt)) h.some in
-    omega (arith, less, held-le to e (omega (arith, h.at.sound.numbers, lt)), owed-item k s.entries e h.at.item, few)
+    let less = sum_by-set (λ x. x) e.holds n (held_by n e - 1) 0 (omega (arith, h.at.sound.numbers, h.lt)) in
+    omega (arith, less, h.some, owed-item k s.entries e h.at.item, few)
 
 -- the one hold that there is
 held-sole : (m n : ℕ) (e : Entry) → n < length e.holds → m < length e.holds → holds_of e ≡ 1 → 0 < held_by n e → held_by m e ≡ one_if m n

@@ -75,12 +75,11 @@ hit-writes n t k s e tidy is ok =
     }
 
 -- a count of a hit entry has room to rise
-pub hit-count : (n t : ℕ) (k : Key) (s : PlainShard) (e : Entry) → IsTidy s → Some e ≡ entry_of k s → is_number n ≡ true → owed_of s < 2 ^ 63 → held_by n (accessed s.mintime t e) + 1 < 2 ^ 64
-hit-count n t k s e tidy is number few =
+pub hit-count : (t : ℕ) (k : Key) (s : PlainShard) (e : Entry) → IsTidy s → Some e ≡ entry_of k s → owed_of s < 2 ^ 63 → holds_of (accessed s.mintime t e) + 1 < 2 ^ 64
+hit-count t k s e tidy is few =
     let at = found k s e tidy is in
-    let lt = number-lt n number in
-    let same : held_by n (accessed s.mintime t e) ≡ held_by n e = ap (λ l. get_or l n 0) (accessed-keeps e.state s.mintime t e).holds in
-    omega (arith, same, held-le n e (omega (arith, at.sound.numbers)), owed-item k s.entries e at.item, few)
+    let same : holds_of (accessed s.mintime t e) ≡ holds_of e = ap sum (accessed-keeps e.state s.mintime t e).holds in
+    omega (arith, same, owed-item k s.entries e at.item, few)
 
 pub arrive-writes : (n : ℕ) (k : Key) (d : Digest) (from : Origin) (s : PlainShard) (e : Entry) → IsTidy s → Some e ≡ entry_of k s → IsTrue (legal s (Arrive n k d from)) → Writes s (Arrive n k d from) (arrived d e)
 arrive-writes n k d from s e tidy is ok =

@@ -1,6 +1,7 @@
 ghost use Rattle.std.specs.Prelude.{◌≡◌, ◌+◌, ◌^◌, ◌<◌, length};
 ghost use Rattle.arc_core.specs.Digests.{same_digest};
 
+use crate::holds::Holds;
 use blk_ptr::{Digest, Key, State};
 
 /// The numbers that may hold an entry: callers, the feeder and cells of dbufs are numbered below it.
@@ -12,7 +13,7 @@ pub struct Entry {
     pub key: Key,
     pub state: State,
     /// How many holds each number has.
-    pub holds: [u64; NUMBERS],
+    pub holds: Holds,
     /// Its bytes are being read.
     pub reading: bool,
     /// The tick of its last access.
@@ -38,7 +39,7 @@ fn same_digest(a: Option<Digest>, b: Option<Digest>) -> bool
 
 impl Entry {
     ghost use Rattle.arc_lists.specs.Sequences.{has_sequence};
-    ghost use Rattle.arc_core.specs.PlainShard.{held_by, is_resident, keeps_digest, numbers};
+    ghost use Rattle.arc_core.specs.PlainShard.{held_by, holds_of, is_resident, is_unheld, keeps_digest, numbers};
     ghost use Rattle.arc_core.specs.Changes.{one_less, one_more};
     ghost use Rattle.arc_core.specs.Rules.{accessed};
     ghost use Rattle.arc_core.specs.Step.{holds, may_be_placed, reads};
@@ -46,10 +47,10 @@ impl Entry {
     /// The entry with one hold of `n` more.
     pub fn one_more(mut self, n: u32) -> Entry
         requires number { n < numbers }
-        requires count { held_by n self + 1 < 2 ^ 64 }
+        requires count { holds_of self + 1 < 2 ^ 64 }
         ensures { result ≡ one_more n self }
     {
-        self.holds[n as usize] += 1;
+        self.holds.one_more(n);
         self
     }
 
@@ -59,7 +60,7 @@ impl Entry {
         requires count { 0 < held_by n self }
         ensures { result ≡ one_less n self }
     {
-        self.holds[n as usize] -= 1;
+        self.holds.one_less(n);
         self
     }
 
@@ -68,6 +69,13 @@ impl Entry {
         ensures { result ≡ is_resident self.now }
     {
         matches!(self.state, State::Mru | State::Mfu) && !self.reading
+    }
+
+    /// Whether nobody holds it.
+    pub fn is_unheld(&self) -> bool
+        ensures { result ≡ is_unheld self.now }
+    {
+        self.holds.is_none()
     }
 
     /// Whether it keeps this digest.
@@ -105,7 +113,7 @@ impl Entry {
         requires { n < numbers }
         ensures { result ≡ reads n self.now }
     {
-        self.reading && self.holds[n as usize] != 0
+        self.reading && self.holds.has(n)
     }
 
     /// Whether nobody reads it just now, and `n` holds it.
@@ -113,7 +121,7 @@ impl Entry {
         requires { n < numbers }
         ensures { result ≡ holds n self.now }
     {
-        !self.reading && self.holds[n as usize] != 0
+        !self.reading && self.holds.has(n)
     }
 
     /// The entry after an access at tick `t`: an MRU entry becomes MFU where its last access was more than `mintime` ticks ago

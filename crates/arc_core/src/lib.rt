@@ -5,6 +5,7 @@ mod config;
 mod entries;
 mod entry;
 mod event;
+mod holds;
 mod keeps;
 mod keys;
 mod laws;
@@ -16,6 +17,7 @@ mod table;
 pub use config::{Bounds, Config};
 pub use entry::{Entry, NUMBERS, Phase, Picked};
 pub use event::{Event, FailedAt, Origin, Why};
+pub use holds::Holds;
 pub use keeps::Keeps;
 pub use laws::{
     events_change_their_own_key, events_count_holds, events_keep_soundness,

@@ -81,34 +81,20 @@ fn append(history: &mut Vec<Event>, event: Event)
 
 // Who holds an entry that is being read, and how many holds there are.
 fn view_of(entry: &Entry) -> EntryView
-    requires { holds_of entry.now < 2 ^ 63 }
     ensures { result ≡ view_of entry.now }
 {
     EntryView {
         state: entry.state,
         reader: if entry.reading {
-            holder_of(&entry.holds)
+            entry.holds.first()
         } else {
             None
         },
         last: entry.last,
         place: entry.place,
         digest: entry.digest,
-        held: entry.holds.iter().sum(),
+        held: entry.holds.total(),
     }
-}
-
-// The least number that has a hold.
-fn holder_of(holds: &[u64]) -> Option<u32>
-    requires { length holds.now ≡ numbers }
-    ensures { result ≡ first_holder 0 holds.now }
-{
-    for (n, count) in holds.iter().enumerate() {
-        if *count != 0 {
-            return Some(n as u32);
-        }
-    }
-    None
 }
 
 impl Shard {
@@ -268,11 +254,7 @@ impl Shard {
     pub fn entry(&self, key: Key) -> Option<EntryView>
         ensures { result ≡ option_map view_of (entry_of key self.now.now) }
     {
-        let _owed = &self.history;
-        match self.table.find(key) {
-            Some(entry) => Some(view_of(entry)),
-            None => None,
-        }
+        self.table.find(key).map(view_of)
     }
 
     /// The digest of a key's bytes, where they are cached and nobody reads them just now.

@@ -1,7 +1,7 @@
 ghost use Rattle.std.specs.Prelude.{◌≡◌, ℕ, ◌+◌, ◌-◌, ◌/◌, ◌<◌, ◌≤◌, false, IsTrue, IsSome, None, [], length, max, OnOk, OnErr, option_map};
 ghost use Rattle.blk_ptr.specs.declared.key.Key.{Key};
 ghost use Rattle.arc_lists.specs.Adapting.{IsCapacity};
-ghost use Rattle.arc_core.specs.PlainShard.{entry_of, is_unheld, opening_shard, size_in};
+ghost use Rattle.arc_core.specs.PlainShard.{entry_of, opening_shard, size_in};
 ghost use Rattle.arc_core.specs.Changes.{come, gone, with_none_passed};
 ghost use Rattle.arc_core.specs.Edits.{amended, is_off, placed, HasAlike};
 ghost use Rattle.arc_core.specs.Sound.{IsSoundEntry, IsTidy};
@@ -49,13 +49,6 @@ impl Model for Table {
     ghost view = { plain_table };
 
     ghost invariant = { TableKeeps };
-}
-
-// Whether nobody holds an entry.
-fn is_unheld(entry: &Entry) -> bool
-    ensures { result ≡ is_unheld entry.now }
-{
-    entry.holds.iter().all(|count| *count == 0)
 }
 
 impl Table {
@@ -117,7 +110,7 @@ impl Table {
         requires sound { IsSoundEntry entry }
         ensures { self.new ≡ record self.old { shard = placed entry self.old.shard } }
     {
-        let unheld = is_unheld(&entry);
+        let unheld = entry.is_unheld();
         self.lists.take_out(entry.key);
         self.lists.put(entry.key, entry.state, unheld);
         self.entries.write(entry);

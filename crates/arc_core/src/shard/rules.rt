@@ -49,10 +49,9 @@ fn is_capacity(c: u64) -> bool
 
 // Whether there is one hold on an entry.
 fn is_held_once(entry: &Entry) -> bool
-    requires { holds_of entry.now < 2 ^ 63 }
     ensures { result ≡ (holds_of entry.now == 1) }
 {
-    entry.holds.iter().sum::<u64>() == 1
+    entry.holds.total() == 1
 }
 
 // Whether keys may be picked.
@@ -179,7 +178,6 @@ impl Shard {
     fn may_release(&self, n: u32, key: Key, sole: bool) -> bool
         ensures { result ≡ legal self.now.now (Event.Release n key sole) }
     {
-        let _owed = &self.history;
         is_number(n)
             && match self.table.find(key) {
                 Some(entry) => entry.is_held(n) && sole == is_held_once(entry),

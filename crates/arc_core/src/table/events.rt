@@ -1,6 +1,6 @@
 ghost use Rattle.std.specs.Prelude.{◌≡◌, ℕ, ◌+◌, ◌^◌, ◌<◌, ◌≤◌, IsTrue, option_map};
 ghost use Rattle.arc_core.specs.declared.event.Event.{Event};
-ghost use Rattle.arc_core.specs.PlainShard.{numbers, one_hold};
+ghost use Rattle.arc_core.specs.PlainShard.{numbers};
 ghost use Rattle.arc_core.specs.Owed.{entries_for, owed_of};
 ghost use Rattle.arc_core.specs.Rules.{arrived_state, target_after};
 ghost use Rattle.arc_core.specs.Search.{Stands};
@@ -9,8 +9,9 @@ ghost use Rattle.arc_core.specs.Step.{effect, entry_to_read, legal, written_entr
 
 use super::Table;
 use super::search::Search;
-use crate::entry::{Entry, NUMBERS};
+use crate::entry::Entry;
 use crate::event::{FailedAt, Origin};
+use crate::holds::Holds;
 use arc_lists::Ghost;
 use blk_ptr::{Digest, Key, State};
 
@@ -22,16 +23,6 @@ fn arrived_state(state: State) -> State
         State::Anon => State::Mru,
         other => other,
     }
-}
-
-// One hold of `n`, and none of any other number.
-fn one_hold(n: u32) -> [u64; NUMBERS]
-    requires { n < numbers }
-    ensures { result ≡ one_hold n }
-{
-    let mut holds = [0; NUMBERS];
-    holds[n as usize] = 1;
-    holds
 }
 
 // What a miss of `n` at tick `t` puts in for a key that had this entry.
@@ -46,7 +37,7 @@ fn entry_to_read(n: u32, key: Key, t: u64, old: Option<&Entry>) -> Entry
         } else {
             State::Anon
         },
-        holds: one_hold(n),
+        holds: Holds::one(n),
         reading: true,
         last: t,
         place: old.and_then(|entry| entry.place),
@@ -62,7 +53,7 @@ fn written_entry(n: u32, key: Key, digest: Digest, t: u64) -> Entry
     Entry {
         key,
         state: State::Mru,
-        holds: one_hold(n),
+        holds: Holds::one(n),
         reading: false,
         last: t,
         place: None,

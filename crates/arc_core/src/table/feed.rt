@@ -11,8 +11,9 @@ ghost use Rattle.arc_core.specs.Rules.{resized};
 ghost use Rattle.arc_core.specs.Sound.{IsTidy};
 ghost use Rattle.arc_lists.specs.Adapting.{IsCapacity};
 
-use super::{Table, is_unheld};
-use crate::entry::{Entry, NUMBERS, Phase, Picked};
+use super::Table;
+use crate::entry::{Entry, Phase, Picked};
+use crate::holds::Holds;
 use crate::{keys, picks};
 use blk_ptr::{Digest, Key, State};
 
@@ -23,7 +24,7 @@ pub fn restored_entry(key: Key, place: u64, digest: Option<Digest>) -> Entry
     Entry {
         key,
         state: State::L2Only,
-        holds: [0; NUMBERS],
+        holds: Holds::none(),
         reading: false,
         last: 0,
         place: Some(place),
@@ -58,7 +59,7 @@ impl Table {
         ensures { result ≡ stands key self.now.shard.sequences }
     {
         match self.find(key) {
-            Some(entry) => is_unheld(entry) && entry.has_sequence(),
+            Some(entry) => entry.is_unheld() && entry.has_sequence(),
             None => false,
         }
     }

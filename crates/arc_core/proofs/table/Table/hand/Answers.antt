@@ -1,6 +1,6 @@
 use Rattle.std.proofs.Common.{◌+◌, ◌<◌, ◌^◌, IsSome, sym, ap, subst, ◌∙◌}
 use Rattle.arc_core.specs.declared.entry.Entry.{Entry}
-use Rattle.arc_core.specs.PlainShard.{PlainShard, entry_of, held_by}
+use Rattle.arc_core.specs.PlainShard.{PlainShard, entry_of, holds_of}
 use Rattle.arc_core.specs.Changes.{one_more}
 use Rattle.arc_core.specs.Edits.{placed}
 use Rattle.arc_core.specs.Sound.{IsSoundEntry}
@@ -11,7 +11,7 @@ use Rattle.arc_core.proofs.table.Table.hand.Goals as goal
 pub one_more-requires-clause-count : goal.one_more-requires-clause-count
 one_more-requires-clause-count c =
     let s = c.args.self.now.shard in
-    subst (λ (e : Entry). held_by c.args.to e + 1 < 2 ^ 64) (sym c.one_less.ensures)
+    subst (λ (e : Entry). holds_of e + 1 < 2 ^ 64) (sym c.one_less.ensures)
     (hand-count c.args.n c.args.key c.args.to s c.in-Some.entry c.find.ensures.tidy (c.in-Some.ensures ∙ c.find.ensures.value) c.requires.legal c.requires.counts)
 
 pub place-requires-clause-there : goal.place-requires-clause-there

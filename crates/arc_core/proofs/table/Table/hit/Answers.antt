@@ -1,6 +1,6 @@
 use Rattle.std.proofs.Common.{◌+◌, ◌<◌, ◌^◌, IsSome, sym, ap, subst, ◌∙◌}
 use Rattle.arc_core.specs.declared.entry.Entry.{Entry}
-use Rattle.arc_core.specs.PlainShard.{PlainShard, entry_of, held_by}
+use Rattle.arc_core.specs.PlainShard.{PlainShard, entry_of, holds_of}
 use Rattle.arc_core.specs.Changes.{one_more}
 use Rattle.arc_core.specs.Edits.{placed}
 use Rattle.arc_core.specs.Rules.{accessed}
@@ -13,7 +13,7 @@ pub one_more-requires-clause-count : goal.one_more-requires-clause-count
 one_more-requires-clause-count c =
     let s = c.args.self.now.shard in
     let is = c.accessed.ensures ∙ ap (λ m. accessed m c.args.t c.in-Some.entry) (ap (λ t. t.shard.mintime) c.self.view_is) in
-    subst (λ (e : Entry). held_by c.args.n e + 1 < 2 ^ 64) (sym is) (hit-count c.args.n c.args.t c.args.key s c.in-Some.entry c.find.ensures.tidy (c.in-Some.ensures ∙ c.find.ensures.value) (and_left _ _ c.requires.legal) c.requires.counts)
+    subst (λ (e : Entry). holds_of e + 1 < 2 ^ 64) (sym is) (hit-count c.args.t c.args.key s c.in-Some.entry c.find.ensures.tidy (c.in-Some.ensures ∙ c.find.ensures.value) c.requires.counts)
 
 pub place-requires-clause-there : goal.place-requires-clause-there
 place-requires-clause-there c =

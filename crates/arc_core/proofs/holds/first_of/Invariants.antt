@@ -1,7 +1,7 @@
 use Rattle.std.proofs.Common.{◌≡◌, drop}
 use Rattle.arc_core.specs.View.{first_holder}
-use Rattle.arc_core.proofs.shard.holder_of.Given as goal
+use Rattle.arc_core.proofs.holds.first_of.Given as goal
 
 -- what is left decides
 abbrev pub invariant-loop-n : goal.invariant-loop-n
-invariant-loop-n l = first_holder l.n (drop l.n l.holds) ≡ first_holder 0 l.holds
+invariant-loop-n l = first_holder l.n (drop l.n l.counts) ≡ first_holder 0 l.counts
