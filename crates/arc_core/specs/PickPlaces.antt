@@ -17,7 +17,7 @@ picks t = record { items = reverse (elements t.list); spare = t.spare }
 abbrev pub IsPickAt : Key → ℕ → List (Placed Picked) → Type 0
 IsPickAt k at nodes = (pick : Picked) × (element_at at nodes ≡ Some pick) × (pick.key ≡ k)
 
--- each key has one row, with the place of its node, and each node has a row
+-- no two nodes stand at one place, each key has one row, with the place of its node, and each node has a row
 pub record AreIndexed (nodes : List (Placed Picked)) (rows : List (Row Name ℕ)) : Type 0 where
   pub apart : AreApart nodes
   pub rows_apart : AreRowsApart rows
@@ -26,5 +26,6 @@ pub record AreIndexed (nodes : List (Placed Picked)) (rows : List (Row Name ℕ)
 
 pub record PicksKeep (t : Inside) : Type 0 where
   pub indexed : AreIndexed t.list.nodes t.places.rows
+  -- there is room for the picks that may come
   pub room : t.spare ≤ t.list.spare
   pub places_room : t.spare ≤ t.places.spare
