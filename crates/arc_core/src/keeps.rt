@@ -29,3 +29,20 @@ pub trait Keeps {
     fn keeps(&self, key: Key) -> u64
         ensures { result ≡ holds_on key (holds self.now) };
 }
+
+/// A boxed value keeps what is in the box.
+impl<T: Keeps> Keeps for Box<T> {
+    ghost holds = { λ b. T.holds b.value };
+
+    ghost entries = { λ b. T.entries b.value };
+
+    ghost opening = { λ b. T.opening b.value };
+
+    ghost claims = { λ b n. T.claims b.value n };
+
+    ghost sound = { λ b. T.sound b.value };
+
+    fn keeps(&self, key: Key) -> u64 {
+        (**self).keeps(key)
+    }
+}

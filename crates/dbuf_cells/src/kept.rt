@@ -18,8 +18,11 @@ pub enum Kept {
     },
 }
 
+/// A cell of dbufs on the heap, so that a turn moves a word and not the cell.
+pub type HeapCell = Box<Cell<Kept>>;
+
 /// The shared cache below the cells of dbufs.
-pub type Cells = Arcs<Cell<Kept>>;
+pub type Cells = Arcs<HeapCell>;
 
 impl Shows for Kept {
     ghost use Rattle.dbuf_cells.specs.Kept.{bytes_of, is_held, key_of};

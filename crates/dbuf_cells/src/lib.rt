@@ -3,7 +3,7 @@
 
 mod kept;
 
-pub use kept::{Cells, Kept};
+pub use kept::{Cells, HeapCell, Kept};
 
 #[cfg(test)]
 mod tests;

@@ -1,6 +1,8 @@
-//! What a kept block shows, and how many holds a cell that keeps it counts.
-use crate::kept::Kept;
+//! What a kept block shows, and how many holds a cell on the heap counts.
+use crate::kept::{HeapCell, Kept};
+use arc_core::Keeps;
 use blk_ptr::{Block, Key, Shows};
+use dbuf_state::Cell;
 use std::alloc::Global;
 use std::sync::Arc;
 use std::test::Fail;
@@ -25,5 +27,13 @@ fn a_loose_block_is_no_hold(rt: HostRuntime) -> Result<(), Fail> {
     assert_eq!(rt; kept.key().size, 512);
     assert_eq!(rt; kept.block().bytes().len(), 512);
     assert!(rt; !kept.held());
+    Ok(())
+}
+
+#[test]
+fn an_empty_cell_on_the_heap_keeps_no_hold(rt: HostRuntime) -> Result<(), Fail> {
+    let alloc = rt.alloc();
+    let cell: HeapCell = Box::new(alloc, Cell::new(alloc, 4096))?;
+    assert_eq!(rt; cell.keeps(loose(alloc)?.key()), 0);
     Ok(())
 }

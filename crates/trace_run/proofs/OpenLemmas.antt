@@ -1,7 +1,8 @@
 -- What a party of a new cache is, and one that others have joined before anything was done.
-use Rattle.std.proofs.Common.{◌≡◌, ◌≢◌, ◌⊎◌, ℕ, zero, suc, ◌+◌, ◌<◌, List, [], ◌∷◌, ◌++◌, length, get_or, replicate, refl, sym, ap, ◌∙◌, subst, inl, inr, arith}
-use Rattle.std.specs.List.{remove}
-use Rattle.std.proofs.lemmas.List.{length-replicate}
+use Rattle.std.proofs.Common.{◌≡◌, ◌≢◌, ◌⊎◌, ℕ, zero, suc, ◌+◌, ◌<◌, List, [], ◌∷◌, ◌++◌, length, get_or, refl, sym, ap, ◌∙◌, subst, inl, inr, arith}
+use Rattle.std.specs.List.{AllByRecursion, remove}
+use Rattle.std.specs.declared.alloc.Global.{Global}
+use Rattle.std.specs.declared.boxed.Box.{Box}
 use mathlib.Core.Logic.{dite}
 use mathlib.Core.Option.{some, some-injective, some-ne-none}
 use native.Mathlib.Decide.{ℕ_discrete}
@@ -215,12 +216,37 @@ module _ {C : Type 0} (cache : Cache) (p : Place (Known C)) where
 pub opening-sound : (limit : ℕ) → IsSound (opening_log {H = Kept} limit)
 opening-sound limit = record { evicting = Never; history = record { legal = refl; settled = refl }; at_rest = refl }
 
--- so many cells at their start
-module _ (m : Meanings (CellLog Kept)) (limit : ℕ) (fresh : IsFreshCell m (opening_log limit)) where
-  fresh-at : (n i : ℕ) (c : CellLog Kept) → get_elem? (replicate n (opening_log limit)) i ≡ some c → IsFreshCell m c
-  fresh-at zero i c at = absurd (some-ne-none c (sym at))
-  fresh-at (suc n) zero c at = subst (IsFreshCell m) (some-injective (opening_log limit) c at) fresh
-  fresh-at (suc n) (suc i) c at = fresh-at n i c at
+-- a cell on the heap
+abbrev pub HeapCell : Type 0
+HeapCell = Box (CellLog Kept) Global
 
-  pub all-fresh : (g : Config) (cells : List (CellLog Kept)) → cells ≡ replicate g.cells (opening_log limit) → AreFreshCells m g cells
-  all-fresh g cells is = subst (AreFreshCells m g) (sym is) record { count = length-replicate g.cells (opening_log limit); each = fresh-at g.cells }
+-- it is at its start
+abbrev pub IsOpening : ℕ → HeapCell → Type 0
+IsOpening limit b = b.value ≡ opening_log limit
+
+-- so many cells on the heap at their start
+abbrev pub AreOpening : ℕ → ℕ → List HeapCell → Type 0
+AreOpening limit n cells = (length cells ≡ n) × AllByRecursion (IsOpening limit) cells
+
+module _ (limit : ℕ) where
+  more-opening : (cells : List HeapCell) (b : HeapCell) (n : ℕ) → AreOpening limit n cells → IsOpening limit b → AreOpening limit (suc n) (cells ++ b ∷ [])
+  more-opening [] b n are one = (ap suc are.0, (one, tt))
+  more-opening (c ∷ cs) b zero are one = absurd (omega (arith, are.0))
+  more-opening (c ∷ cs) b (suc n) are one =
+    let rest = more-opening cs b n (omega (arith, are.0), are.1.1) one in
+    (ap suc rest.0, (are.1.0, rest.1))
+
+  -- one more is made
+  pub one-opening : (cells : List HeapCell) (b : HeapCell) (n : ℕ) (more : List HeapCell) → AreOpening limit n cells → IsOpening limit b → more ≡ cells ++ b ∷ [] → AreOpening limit (n + 1) more
+  one-opening cells b n more are one is =
+    let h = more-opening cells b n are one in
+    subst (AreOpening limit (n + 1)) (sym is) (omega (arith, h.0), h.1)
+
+module _ (m : Meanings HeapCell) (limit : ℕ) (fresh : (b : HeapCell) → IsOpening limit b → IsFreshCell m b) where
+  fresh-at : (cells : List HeapCell) → AllByRecursion (IsOpening limit) cells → (i : ℕ) (b : HeapCell) → get_elem? cells i ≡ some b → IsFreshCell m b
+  fresh-at [] all i b at = absurd (some-ne-none b (sym at))
+  fresh-at (c ∷ cs) all zero b at = fresh b (subst (IsOpening limit) (some-injective c b at) all.0)
+  fresh-at (c ∷ cs) all (suc i) b at = fresh-at cs all.1 i b at
+
+  pub all-fresh : (g : Config) (cells : List HeapCell) → AreOpening limit g.cells cells → AreFreshCells m g cells
+  all-fresh g cells are = record { count = are.0; each = fresh-at cells are.1 }

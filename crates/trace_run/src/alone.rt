@@ -12,15 +12,14 @@ use crate::opening::open_cache;
 use crate::ran::Ran;
 use arc_table::Party;
 use blk_ptr::NoMemory;
-use dbuf_cells::{Cells, Kept};
-use dbuf_state::Cell;
+use dbuf_cells::{Cells, HeapCell};
 use std::alloc::Global;
 use std::sync::Wait;
 use trace_text::Trace;
 use vdev_io::{Gate, NoCache, Pool};
 
 /// The party of the one caller, which the feeder's has joined.
-fn only_party(arcs: &Cells, mut parties: Vec<Party<Cell<Kept>>>) -> Party<Cell<Kept>>
+fn only_party(arcs: &Cells, mut parties: Vec<Party<HeapCell>>) -> Party<HeapCell>
     requires one { arcs.now.config.callers ≡ 1 }
     requires opened { AreOpened arcs.now parties.items }
     ensures { HasJoined arcs.now (parties_of arcs.now.config) result }

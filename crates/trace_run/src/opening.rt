@@ -8,23 +8,23 @@ ghost use Rattle.trace_run.specs.Opened.{AreOpened, meanings_of};
 use arc_core::{Config, Keeps};
 use arc_table::{Arcs, Party};
 use blk_ptr::NoMemory;
-use dbuf_cells::{Cells, Kept};
+use dbuf_cells::{Cells, HeapCell};
 use dbuf_state::Cell;
 use std::alloc::Global;
 use trace_text::Trace;
 
-/// As many cells as the configuration says, each at its start with this limit of clean bytes.
+/// As many cells as the configuration says, each on the heap and at its start with this limit of clean bytes.
 pub(crate) fn fresh_cells(
     alloc: Global,
     config: &Config,
     limit: u64,
-) -> Result<Vec<Cell<Kept>>, NoMemory>
-    ensures { IfOk result (λ cells. AreFreshCells (meanings_of ⟦<Cell<Kept> as Keeps>⟧) config.now cells.items) }
+) -> Result<Vec<HeapCell>, NoMemory>
+    ensures { IfOk result (λ cells. AreFreshCells (meanings_of ⟦<HeapCell as Keeps>⟧) config.now cells.items) }
 {
     let mut cells = Vec::new(alloc);
     for made in 0..config.cells {
         let _ = made;
-        cells.push(Cell::new(alloc, limit))?;
+        cells.push(Box::new(alloc, Cell::new(alloc, limit))?)?;
     }
     Ok(cells)
 }
@@ -41,7 +41,7 @@ fn with_parties(arcs: Cells) -> Cells
 pub(crate) fn open_cache(
     alloc: Global,
     trace: &Trace,
-) -> Result<(Cells, Vec<Party<Cell<Kept>>>), NoMemory>
+) -> Result<(Cells, Vec<Party<HeapCell>>), NoMemory>
     requires { IsConfig trace.now.config }
     ensures config { IfOk result (λ r. r.0.config ≡ trace.now.config) }
     ensures parties { IfOk result (λ r. AreOpened r.0 r.1.items) }

@@ -7,8 +7,7 @@ ghost use Rattle.trace_run.specs.Together.{report_of_closed};
 use arc_core::Shard;
 use arc_table::Closed;
 use blk_ptr::{NoMemory, State};
-use dbuf_cells::Kept;
-use dbuf_state::Cell;
+use dbuf_cells::HeapCell;
 use std::alloc::Global;
 use trace_text::{Ends, Histories, History, Replies, Reply, Report, ShardEnd};
 
@@ -18,7 +17,7 @@ pub(crate) struct Ran {
     /// The answers to the operations, in the order of their lines; none where a fork of the pool failed.
     pub(crate) replies: Vec<Reply>,
     /// The shared cache at its end.
-    pub(crate) closed: Closed<Cell<Kept>>,
+    pub(crate) closed: Closed<HeapCell>,
     /// Whether a fork of the pool failed, which ended the run before its first operation.
     pub(crate) fork_failed: bool,
 }
@@ -27,7 +26,7 @@ pub(crate) struct Ran {
 #[derive(Drop)]
 pub(crate) struct Reported {
     pub(crate) report: Report,
-    pub(crate) closed: Closed<Cell<Kept>>,
+    pub(crate) closed: Closed<HeapCell>,
 }
 
 impl Ran {

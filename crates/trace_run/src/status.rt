@@ -2,8 +2,7 @@
 ghost use Rattle.std.specs.Prelude.{◌≡◌};
 
 use arc_table::Closed;
-use dbuf_cells::Kept;
-use dbuf_state::Cell;
+use dbuf_cells::HeapCell;
 use trace_text::{Kind, Report};
 
 /// The status of a run.
@@ -55,5 +54,5 @@ pub struct Outcome {
     /// The report, where the trace was run.
     pub report: Option<Report>,
     /// The shared cache at its end, whose histories the report has. It is there where the report is.
-    pub closed: Option<Closed<Cell<Kept>>>,
+    pub closed: Option<Closed<HeapCell>>,
 }

@@ -17,8 +17,7 @@ use crate::ran::Ran;
 use arc_core::Keeps;
 use arc_table::{Closed, Party};
 use blk_ptr::NoMemory;
-use dbuf_cells::{Cells, Kept};
-use dbuf_state::Cell;
+use dbuf_cells::{Cells, HeapCell};
 use std::alloc::Global;
 use std::sync::Wait;
 use std::thread::Threads;
@@ -26,7 +25,7 @@ use trace_text::Trace;
 use vdev_io::{Gate, IoFault, Pool};
 
 /// Takes the feeder's party, which is the last one.
-fn take_feeder(parties: &mut Vec<Party<Cell<Kept>>>) -> Party<Cell<Kept>>
+fn take_feeder(parties: &mut Vec<Party<HeapCell>>) -> Party<HeapCell>
     requires { 0 < vec_len parties.old }
     ensures { parties.old.items ≡ parties.new.items ++ result ∷ [] }
 {
@@ -37,9 +36,9 @@ fn take_feeder(parties: &mut Vec<Party<Cell<Kept>>>) -> Party<Cell<Kept>>
 }
 
 /// Closes the cache of a run, once each party has given all back.
-fn close_run(arcs: Cells, parties: Vec<Party<Cell<Kept>>>) -> Result<Closed<Cell<Kept>>, NoMemory>
+fn close_run(arcs: Cells, parties: Vec<Party<HeapCell>>) -> Result<Closed<HeapCell>, NoMemory>
     requires { HaveStopped arcs parties.items }
-    ensures { IfOk result (λ closed. Ends (meanings_of ⟦<Cell<Kept> as Keeps>⟧) arcs parties.items closed) }
+    ensures { IfOk result (λ closed. Ends (meanings_of ⟦<HeapCell as Keeps>⟧) arcs parties.items closed) }
 {
     arcs.close(parties)
 }
@@ -50,7 +49,7 @@ fn run_callers<R: Threads + Wait + Sync, P: Pool, G: Gate>(
     rt: &R,
     trace: &Trace,
     arcs: Cells,
-    mut parties: Vec<Party<Cell<Kept>>>,
+    mut parties: Vec<Party<HeapCell>>,
     forks: Vec<P>,
     pool: &mut P,
     gate: &G,
@@ -83,7 +82,7 @@ fn run_none(
     alloc: Global,
     trace: &Trace,
     arcs: Cells,
-    parties: Vec<Party<Cell<Kept>>>,
+    parties: Vec<Party<HeapCell>>,
 ) -> Result<Ran, NoMemory>
     requires config { arcs.config ≡ trace.now.config }
     requires formed { IsFormed trace.now }

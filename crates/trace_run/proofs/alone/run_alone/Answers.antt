@@ -5,8 +5,6 @@ use Rattle.turn_table.specs.Places.{Place, SomeHas}
 use Rattle.arc_table.specs.declared.view.Known.{Known}
 use Rattle.arc_table.specs.Cache.{Cache}
 use Rattle.arc_table.specs.Geometry.{parties_of}
-use Rattle.dbuf_cells.specs.declared.kept.Kept.{Kept}
-use Rattle.dbuf_state.specs.CellLog.{CellLog}
 use Rattle.trace_text.specs.declared.op.Op.{Op}
 use Rattle.trace_run.specs.KeptReads.{KeptRead}
 use Rattle.trace_run.specs.declared.kept_blocks.KeptBlock.{KeptBlock}
@@ -15,6 +13,7 @@ use Rattle.trace_run.specs.KeptBlocks.{read_of}
 use Rattle.trace_run.specs.Lines.{is_of_caller}
 use Rattle.trace_run.specs.Tally.{IsOfCaller}
 use Rattle.trace_run.proofs.AloneLemmas.{alone-ops, end-there, ran-alone}
+use Rattle.trace_run.proofs.OpenLemmas.{HeapCell}
 use Rattle.trace_run.proofs.alone.run_alone.Goals as goal
 
 pub all_lines-requires-clause-declared : goal.all_lines-requires-clause-declared
@@ -36,7 +35,7 @@ close-requires-clause-all g c =
     (λ i. (c.as_slice-blocks.ensures i, c.as_slice-ops.ensures i, map read_of (c.new-kept.ensures.items i))) c.in_ok-replies.ensures.did in
     let here = end-there _ cache g.P.Pool c.args.trace.now c.in_ok-replies.replies.items c.args.pool.now c.all_lines.new.pool p q r kept c.in_ok-arcs.ensures.config c.requires.formed c.requires.one
     c.only_party-party.ensures did c.in_ok-replies.ensures.stands c.give_back_all.ensures.gives c.give_back_all.ensures.stands in
-    λ n below. subst (λ (x : List (Place (Known (CellLog Kept)))). SomeHas n x) (sym c.in_ok-vec.ensures.items) (here n (subst (λ (x : Cache). n < parties_of x.config) c.arcs.view_is below))
+    λ n below. subst (λ (x : List (Place (Known HeapCell))). SomeHas n x) (sym c.in_ok-vec.ensures.items) (here n (subst (λ (x : Cache). n < parties_of x.config) c.arcs.view_is below))
 
 pub returns-clause-ran : goal.returns-clause-ran
 returns-clause-ran g c =

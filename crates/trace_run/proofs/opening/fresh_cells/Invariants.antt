@@ -1,6 +1,5 @@
-use Rattle.std.proofs.Common.{◌≡◌, replicate}
-use Rattle.dbuf_state.specs.CellLog.{opening_log}
+use Rattle.trace_run.proofs.OpenLemmas.{AreOpening}
 use Rattle.trace_run.proofs.opening.fresh_cells.Given as goal
 
 abbrev pub invariant-loop-made : goal.invariant-loop-made
-invariant-loop-made l = l.cells.items ≡ replicate l.made (opening_log l.limit)
+invariant-loop-made l = AreOpening l.limit l.made l.cells.items
