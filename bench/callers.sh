@@ -1,8 +1,8 @@
 #!/usr/bin/env bash
 # Proves, builds and runs callers of the shared cache in a copy of the repository, and prints reads a second beside those of a plain cache
 # with one Mutex a shard. A line is hits or misses, callers and shards; ours, the plain one's, and the ratios: the plain one's to ours, and
-# ours to ours with one caller. Each figure is the best of ROUNDS runs, ours and the plain one's in turn (default 3). It needs rustc and
-# python3.
+# ours to ours with one caller. Each figure is the best of ROUNDS runs, ours and the plain one's in turn (default 3). Then the same for the
+# whole program (callers/program.py), which is built if that was not done yet. It needs rustc and python3.
 set -eu
 here=$(cd "$(dirname "$0")" && pwd)
 copy=$(mktemp -d)
@@ -36,4 +36,7 @@ for (kind, callers, shards), rate in ours.items():
     plain, one = theirs[kind, callers, shards], ours[kind, 1, shards]
     print(f'{kind:7}{callers:3}{shards:4}{rate:12,}{plain:12,}{plain / rate:8.2f}{rate / one:8.2f}')
 PY
+tool=$here/../crates/arc_tool/out/arc_tool
+[ -x "$tool" ] || (cd "$here/../crates/arc_tool" && rt run -- --version)
+"$here/callers/program.py" "$tool"
 uptime
