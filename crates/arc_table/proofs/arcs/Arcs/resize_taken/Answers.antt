@@ -1,4 +1,4 @@
-use Rattle.std.proofs.Common.{◌≡◌, ℕ, ◌<◌, refl, sym, ap, ◌∙◌, subst}
+use Rattle.std.proofs.Common.{ℕ, ◌<◌, refl, sym, subst}
 use Rattle.arc_core.specs.PlainShard.{numbers}
 use Rattle.arc_core.specs.declared.event.Event.{Event}
 use Rattle.arc_core.specs.declared.event.Event.TheVariants.{Resize}
