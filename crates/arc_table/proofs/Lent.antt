@@ -18,8 +18,8 @@ use Rattle.arc_table.specs.Making.{IsTaken}
 abbrev pub lent : Both → ShardLog → Both
 lent b l = record { hand = b.hand; turn = b.turn; shard = l }
 
-pub lent_legal : {e : Event} {s l : ShardLog} → l ≡ s → IsTrue (legal s.now e) → IsTrue (legal l.now e)
-lent_legal {e} same ok = subst (λ (x : ShardLog). IsTrue (legal x.now e)) (sym same) ok
+pub lent_legal : (e : Event) {s l : ShardLog} → l ≡ s → IsTrue (legal s.now e) → IsTrue (legal l.now e)
+lent_legal e same ok = subst (λ (x : ShardLog). IsTrue (legal x.now e)) (sym same) ok
 
 pub lent_room : {e : Event} {s l : ShardLog} → l ≡ s → HasRoom e s → HasRoom e l
 lent_room {e} same room = subst (λ (x : ShardLog). HasRoom e x) (sym same) room

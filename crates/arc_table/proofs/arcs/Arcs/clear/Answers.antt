@@ -8,7 +8,6 @@ use Rattle.arc_table.specs.Both.{Makes}
 use Rattle.arc_table.specs.Feeding.{has_place}
 use Rattle.arc_table.specs.Geometry.{shard_turn}
 use Rattle.arc_table.specs.Items.{meanings}
-use Rattle.arc_table.specs.Making.{IsTaken}
 use Rattle.arc_table.proofs.FeedEvents.{clear_legal, clear_like, clear_there, feeder_is, number_few}
 use Rattle.arc_table.proofs.FollowEvents.{follow_made, header_there}
 use Rattle.arc_table.proofs.HitEvents.{some_there}

@@ -43,4 +43,3 @@ returns g c =
     let h = c.args.hold.now in
     subst (λ (l : ShardLog). Makes m c.args.self.now.config c.args.hold.now.key l (Drop h.owner h.key ∷ []) c.args.party.now c.give_both.new.party) same
     (makes_these m c.args.self.now.config h.key b.hand.before.value b.shard c.drop_one.new.self (Drop h.owner h.key ∷ []) c.args.party.now c.give_both.new.party taken.new c.drop_one.ensures.makes.history c.give_both.ensures)
-

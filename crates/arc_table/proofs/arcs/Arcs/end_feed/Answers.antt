@@ -13,7 +13,7 @@ pub feed_end-requires-clause-legal : goal.feed_end-requires-clause-legal
 feed_end-requires-clause-legal g c =
     let f = c.args.feed in
     let s = c.requires.scan in
-    lent_legal c.deref_mut.ensures.value
+    lent_legal (FeedEnd c.number.result) c.deref_mut.ensures.value
     (subst (λ (n : ℕ). IsTrue (legal f.shard.now (FeedEnd n))) (sym c.number.ensures) (end_legal c.args.party.now.number f.shard.now (number_few c.args.self.now.config f c.args.party.now s.0 s.1) s.1.phase c.requires.end))
 
 pub give_alone-requires-clause-given : goal.give_alone-requires-clause-given

@@ -49,4 +49,3 @@ returns g c =
     subst (λ (l : ShardLog). Makes m c.args.self.now.config c.args.key l (Fail q.number c.args.key c.args.at ∷ []) c.args.party.now c.give_both.new.party) same
     (makes_these m c.args.self.now.config c.args.key b.hand.before.value b.shard c.fail.new.self (Fail q.number c.args.key c.args.at ∷ []) q c.give_both.new.party taken.new
     (c.fail.ensures.makes.history ∙ ap (λ (x : ℕ). b.shard.history ++ Fail x c.args.key c.args.at ∷ []) c.number-n.ensures) c.give_both.ensures)
-

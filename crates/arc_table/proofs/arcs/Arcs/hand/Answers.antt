@@ -9,7 +9,6 @@ use Rattle.arc_table.specs.Both.{Makes}
 use Rattle.arc_table.specs.Geometry.{shard_turn}
 use Rattle.arc_table.specs.Holding.{IsListed, ptr_of}
 use Rattle.arc_table.specs.Items.{meanings}
-use Rattle.arc_table.specs.Making.{IsTaken}
 use Rattle.arc_table.proofs.HoldEvents.{acts_for, cell_is, hand_alike, hand_legal, handed_listed}
 use Rattle.arc_table.proofs.OneEvent.{alike_made, makes_these, some_is, taken_holding, taken_sound}
 use Rattle.arc_table.proofs.Reached.{listed_still, reached}

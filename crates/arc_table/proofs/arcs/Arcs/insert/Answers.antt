@@ -1,4 +1,4 @@
-use Rattle.std.proofs.Common.{◌≡◌, ◌+◌, ℕ, [], false, refl, sym, ap, ◌∙◌, subst, inr}
+use Rattle.std.proofs.Common.{◌≡◌, ◌+◌, ℕ, length, [], false, refl, sym, ap, ◌∙◌, subst, inr}
 use Rattle.std.specs.Prelude.{OnErr, Result, Ok, Err}
 use Rattle.blk_ptr.specs.declared.digest.Digest.{Digest}
 use Rattle.blk_ptr.specs.Ptr.{sha256_of}

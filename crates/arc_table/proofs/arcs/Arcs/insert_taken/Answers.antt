@@ -37,7 +37,7 @@ begin_scan-requires-clause-legal g c =
     insert_legal c.args.self.now.config c.args.party.now c.args.n c.args.tick c.args.key c.digest-digest.result c.args.both.shard.now c.requires.taken.kind.valid c.requires.cell c.requires.formed c.requires.new
 
 pub insert-requires-clause-legal : goal.insert-requires-clause-legal
-insert-requires-clause-legal g c = lent_legal c.deref_mut-shard.ensures.value c.in-Ok.ensures.ok.legal
+insert-requires-clause-legal g c = lent_legal (Insert c.args.n c.args.key c.digest-digest.result c.args.tick) c.deref_mut-shard.ensures.value c.in-Ok.ensures.ok.legal
 
 pub give_both-requires-clause-made : goal.give_both-requires-clause-made
 give_both-requires-clause-made g c =

@@ -32,7 +32,7 @@ begin_scan-requires-clause-legal g c =
     miss_legal m c.args.self.now.config c.args.key c.args.both c.args.party.now c.requires.taken c.requires.party.config c.requires.taken.kind.valid c.number-n.result c.args.tick c.number-n.ensures c.requires.formed c.requires.missing
 
 pub miss-requires-clause-legal : goal.miss-requires-clause-legal
-miss-requires-clause-legal g c = lent_legal c.deref_mut-shard.ensures.value c.in-Ok.ensures.ok.legal
+miss-requires-clause-legal g c = lent_legal (Miss c.number-n.result c.args.key c.args.tick) c.deref_mut-shard.ensures.value c.in-Ok.ensures.ok.legal
 
 pub give_both-requires-clause-made : goal.give_both-requires-clause-made
 give_both-requires-clause-made g c =

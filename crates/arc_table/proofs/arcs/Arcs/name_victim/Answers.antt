@@ -18,6 +18,7 @@ use Rattle.arc_table.specs.Items.{Meanings, meanings}
 use Rattle.arc_table.specs.Rule.{Pact}
 use Rattle.arc_table.proofs.ScanSteps.{free_bucket, free_not_held, mark_room, marked_fewer, marked_room, marked_step, pass_legal, pass_room, passed_fewer, passed_room, passed_step, won_fewer, won_room, won_step}
 use Rattle.arc_table.proofs.Lent.{lent_legal, lent_makes, lent_room}
+use Rattle.arc_core.specs.declared.event.Event.TheVariants.{Pass}
 use Rattle.arc_table.proofs.arcs.Arcs.name_victim.Goals as goal
 
 pub mark-requires-clause-room : goal.mark-requires-clause-room
@@ -147,7 +148,7 @@ pass-requires-clause-legal g c =
     let number : c.number.result ≡ c.args.party.now.number = c.number.ensures ∙ ap (λ (x : Place (Known g.row.C.Denot)). x.number) c.in-Busy.ensures.busy.1 in
     let parties : c.self.inside.turns.parties ≡ parties_of cfg = c.self.invariant.parties ∙ ap (λ (x : Cache). parties_of x.config) c.self.view_is in
     let a = own.0 in
-    lent_legal c.deref_mut.ensures.value
+    lent_legal (Pass c.number.result c.args.key c.in-Busy.owner) c.deref_mut.ensures.value
     (pass_legal m cfg valid c.args.key c.requires.victim.0 c.args.scan.now c.requires.victim.1 c.args.party.now c.number.result c.in-Busy.owner c.requires.scan number (omega arith) own.1)
 
 pub pass-requires-clause-room : goal.pass-requires-clause-room

@@ -25,7 +25,7 @@ victim-requires g c =
     let m : Meanings g.row.C.Denot = meanings g.C.Keeps.holds g.C.Keeps.entries g.C.Keeps.opening g.C.Keeps.claims g.C.Keeps.sound in
     let r = c.requires.scan in
     let s = c.loop-key.invariant.scan r.from r.passes r.may r.scan in
-    lent_legal c.deref_mut.ensures.value
+    lent_legal c.args.event.now c.deref_mut.ensures.value
     (legal_then m c.args.self.now.config c.args.scan.now c.loop-key.scan c.args.event.now r.from c.args.party.now c.loop-key.party r.passes s.0 c.requires.event c.loop-key.invariant.hand r.scan s.1 c.requires.legal)
 
 pub name_victim-requires-clause-party : goal.name_victim-requires-clause-party

@@ -54,4 +54,3 @@ returns-clause-ok g c =
     subst (λ (l : ShardLog). Makes m c.args.self.now.config c.args.key l (Past q.number c.args.key c.args.kept ∷ []) c.args.party.now c.give_both.new.party) same
     (makes_these m c.args.self.now.config c.args.key b.hand.before.value b.shard c.past.new.self (Past q.number c.args.key c.args.kept ∷ []) q c.give_both.new.party taken.new
     (c.past.ensures.makes.history ∙ (λ z. (c.reserve.ensures.log z).history ++ Past (n z) c.args.key c.args.kept ∷ [])) c.give_both.ensures)
-

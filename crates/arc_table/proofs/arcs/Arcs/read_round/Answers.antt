@@ -1,15 +1,22 @@
-use Rattle.std.proofs.Common.{[], refl, subst}
+use Rattle.std.proofs.Common.{[], refl, subst, sym}
 use Rattle.arc_table.specs.Items.{meanings}
 use Rattle.arc_table.specs.Reading.{outside}
 use Rattle.arc_table.proofs.AfterRead.{answers_stays}
 use Rattle.arc_table.proofs.Afterwards.{stays_free, stays_party}
-use Rattle.arc_table.proofs.Reached.{reached}
+use Rattle.arc_table.proofs.Reached.{reached, sound_log}
 use Rattle.arc_table.proofs.RoomyGives.{only_bucket}
 use Rattle.arc_table.proofs.Rounds.{does_these, missed_reading, missed_stays, none_stays, round_hit, round_missed, round_none, round_past}
-use Rattle.arc_core.specs.ShardLog.{ShardLog}
+use Rattle.arc_core.specs.ShardLog.{IsReplayed, ShardLog}
 use Rattle.arc_table.specs.Standing.{StandsSo}
 use Rattle.arc_table.specs.declared.hits.Standing.TheVariants as standing
 use Rattle.arc_table.proofs.arcs.Arcs.read_round.Goals as goal
+
+pub standing_of-requires : goal.standing_of-requires
+standing_of-requires g c =
+    let m = meanings g.C.Keeps.holds g.C.Keeps.entries g.C.Keeps.opening g.C.Keeps.claims g.C.Keeps.sound in
+    let b = c.take_both-both in
+    let log = sound_log m c.args.self.now.config c.args.ptr.key b.result.hand.own.bucket b.result.shard c.args.party.now b.new.party b.ensures.takes c.requires.party.config b.ensures.kind.valid in
+    subst (λ (l : ShardLog). IsReplayed l) (sym c.deref.ensures) log.replayed
 
 pub miss_taken-requires-clause-others : goal.miss_taken-requires-clause-others
 miss_taken-requires-clause-others g c =

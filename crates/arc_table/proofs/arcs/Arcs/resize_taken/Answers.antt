@@ -1,4 +1,4 @@
-use Rattle.std.proofs.Common.{◌≡◌, ℕ, ◌<◌, refl, sym, ap, ◌∙◌, subst}
+use Rattle.std.proofs.Common.{ℕ, ◌<◌, refl, sym, subst}
 use Rattle.arc_core.specs.PlainShard.{numbers}
 use Rattle.arc_core.specs.declared.event.Event.{Event}
 use Rattle.arc_core.specs.declared.event.Event.TheVariants.{Resize}
@@ -34,7 +34,7 @@ begin_scan-requires-clause-legal g c =
     resize_legal c.number-n.result c.args.c c.args.both.shard.now (subst (λ (n : ℕ). n < numbers) (sym c.number-n.ensures) few) c.requires.capacity
 
 pub resize-requires-clause-legal : goal.resize-requires-clause-legal
-resize-requires-clause-legal g c = lent_legal c.deref_mut.ensures.value c.in-Ok.ensures.ok.legal
+resize-requires-clause-legal g c = lent_legal (Resize c.number-n.result c.args.c) c.deref_mut.ensures.value c.in-Ok.ensures.ok.legal
 
 pub give_both-requires-clause-made : goal.give_both-requires-clause-made
 give_both-requires-clause-made g c =

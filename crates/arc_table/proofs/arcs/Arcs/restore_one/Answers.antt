@@ -14,7 +14,7 @@ use Rattle.arc_table.specs.Geometry.{shard_turn}
 use Rattle.arc_table.specs.Headed.{IsHead}
 use Rattle.arc_table.specs.InHand.{made_since}
 use Rattle.arc_table.specs.Items.{meanings}
-use Rattle.arc_table.specs.Making.{IsMade, IsTaken}
+use Rattle.arc_table.specs.Making.{IsMade}
 use Rattle.arc_table.proofs.FeedEvents.{no_header, none_there, restore_legal, restored_head, shown_there, feeder_is, number_few}
 use Rattle.arc_table.proofs.OneEvent.{makes_these, none_made, one_made, some_is, taken_head, taken_sound}
 use Rattle.arc_table.proofs.Reached.{reached}

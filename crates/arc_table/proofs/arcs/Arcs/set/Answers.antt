@@ -7,7 +7,6 @@ use Rattle.arc_core.specs.Step.{may_set}
 use Rattle.arc_table.specs.Both.{Makes}
 use Rattle.arc_table.specs.Geometry.{shard_turn}
 use Rattle.arc_table.specs.Items.{meanings}
-use Rattle.arc_table.specs.Making.{IsTaken}
 use Rattle.arc_table.proofs.FeedEvents.{feeder_is, leave_legal, leave_same, number_few, number_is, pick_there, set_legal, set_like, set_there, writes}
 use Rattle.arc_table.proofs.FollowEvents.{follow_made, header_there}
 use Rattle.arc_table.proofs.HitEvents.{some_there}

@@ -1,4 +1,4 @@
-use Rattle.std.proofs.Common.{◌∙◌, ap, length, subst}
+use Rattle.std.proofs.Common.{◌∙◌, ap, length, subst, sym}
 use Rattle.std.specs.Prelude.{IsTrue, ◌&&◌}
 use Rattle.arc_core.specs.PlainShard.{entry_is, is_resident, keeps_digest}
 use Rattle.arc_core.specs.Step.{is_missing, reads}
@@ -6,9 +6,18 @@ use Rattle.arc_table.specs.Items.{meanings}
 use Rattle.arc_table.specs.declared.hits.Standing.TheVariants as standing
 use Rattle.arc_table.proofs.Holders.{held_still}
 use Rattle.arc_table.proofs.Taking.{tells}
-use Rattle.arc_core.specs.ShardLog.{ShardLog}
+use Rattle.arc_core.specs.ShardLog.{IsReplayed, ShardLog}
 use Rattle.arc_table.specs.Standing.{StandsSo}
+use Rattle.arc_table.proofs.Reached.{sound_log}
 use Rattle.arc_table.proofs.arcs.Arcs.try_hit.Goals as goal
+
+pub standing_of-requires : goal.standing_of-requires
+standing_of-requires g c =
+    let m = meanings g.C.Keeps.holds g.C.Keeps.entries g.C.Keeps.opening g.C.Keeps.claims g.C.Keeps.sound in
+    let b = c.in-Taken.both in
+    let e = c.in-Taken.ensures in
+    let log = sound_log m c.args.self.now.config c.args.ptr.now.key b.hand.own.bucket b.shard c.args.party.now c.try_both.new.party e.takes c.requires.party.config e.kind.valid in
+    subst (λ (l : ShardLog). IsReplayed l) (sym c.deref-shard.ensures) log.replayed
 
 pub returns-in-Missing-clause-answer : goal.returns-in-Missing-clause-answer
 returns-in-Missing-clause-answer g c =
