@@ -83,7 +83,7 @@ held-one_less m n e lt some = elim (cases_true (m == n)) [
 ]
 
 -- a count of which a hold is handed over has room to rise
-pub hand-count : (n : ℕ) (k : Key) (to : ℕ) (s : PlainShard) (e : Entry) → IsTidy s → Some e ≡ entry_of k s → IsTrue (legal s (Hand n k to)) → owed_of s < 2 ^ 63 → holds_of (one_less n e) + 1 < 2 ^ 64
+pub hand-count : (n : ℕ) (k : Key) (to : ℕ) (s : PlainShard) (e : Entry) → IsTidy s → Some e ≡ entry_of k s → IsTrue (legal s (Hand n k to)) → owed_of s < 2 ^ 32 → holds_of (one_less n e) + 1 < 2 ^ 32
 hand-count n k to s e tidy is ok few =
     let rest = and_right (is_number n) _ ok in
     let h = holding n k s e tidy is (and_left _ _ ok) (and_right (is_cell to) _ rest) in

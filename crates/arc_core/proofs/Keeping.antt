@@ -31,6 +31,7 @@ ShardKeeps-step s n e kept ok step sound opened history len capacity spare marke
         legal = rw (opened, history) lawful;
       };
       room = omega (arith, kept.room, len, capacity, spare, owed, ap owed_of step);
+      few = omega (arith, kept.few, len, spare, owed, ap owed_of step);
       marked = marked;
       halts = halts;
     }

@@ -75,7 +75,7 @@ hit-writes n t k s e tidy is ok =
     }
 
 -- a count of a hit entry has room to rise
-pub hit-count : (t : ℕ) (k : Key) (s : PlainShard) (e : Entry) → IsTidy s → Some e ≡ entry_of k s → owed_of s < 2 ^ 63 → holds_of (accessed s.mintime t e) + 1 < 2 ^ 64
+pub hit-count : (t : ℕ) (k : Key) (s : PlainShard) (e : Entry) → IsTidy s → Some e ≡ entry_of k s → owed_of s + 1 < 2 ^ 32 → holds_of (accessed s.mintime t e) + 1 < 2 ^ 32
 hit-count t k s e tidy is few =
     let at = found k s e tidy is in
     let same : holds_of (accessed s.mintime t e) ≡ holds_of e = ap sum (accessed-keeps e.state s.mintime t e).holds in

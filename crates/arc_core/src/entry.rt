@@ -47,7 +47,7 @@ impl Entry {
     /// The entry with one hold of `n` more.
     pub fn one_more(mut self, n: u32) -> Entry
         requires number { n < numbers }
-        requires count { holds_of self + 1 < 2 ^ 64 }
+        requires count { holds_of self + 1 < 2 ^ 32 }
         ensures { result ≡ one_more n self }
     {
         self.holds.one_more(n);

@@ -11,8 +11,8 @@ use std::marker::Model;
 #[derive(Clone, Copy, Debug, PartialEq, Eq)]
 pub struct Holds {
     // How many there are in all, so that no look sums the counts.
-    total: u64,
-    counts: [u64; NUMBERS],
+    total: u32,
+    counts: [u32; NUMBERS],
 }
 
 impl Model for Holds {
@@ -31,7 +31,7 @@ impl Model for Holds {
 }
 
 // The least number that has a hold.
-fn first_of(counts: &[u64]) -> Option<u32>
+fn first_of(counts: &[u32]) -> Option<u32>
     requires { length counts.now ≡ numbers }
     ensures { result ≡ first_holder 0 counts.now }
 {
@@ -67,7 +67,7 @@ impl Holds {
     /// One hold of `n` more.
     pub fn one_more(&mut self, n: u32)
         requires number { n < numbers }
-        requires count { sum self.old + 1 < 2 ^ 64 }
+        requires count { sum self.old + 1 < 2 ^ 32 }
         ensures { self.new ≡ slice_set self.old n (slice_index self.old n + 1) }
     {
         self.counts[n as usize] += 1;
@@ -93,7 +93,7 @@ impl Holds {
     }
 
     /// How many there are in all.
-    pub fn total(&self) -> u64
+    pub fn total(&self) -> u32
         ensures { result ≡ sum self.now }
     {
         self.total

@@ -21,6 +21,9 @@ use halts::Halts;
 use std::alloc::Global;
 use std::marker::Model;
 
+// How many events a history has at most, those that are owed included, so that the holds on an entry are fewer than 2^32.
+const MOST_EVENTS: usize = u32::MAX as usize;
+
 /// What a shard shows of an entry.
 #[derive(Clone, Copy, Debug, PartialEq, Eq)]
 pub struct EntryView {
@@ -93,7 +96,7 @@ fn view_of(entry: &Entry) -> EntryView
         last: entry.last,
         place: entry.place,
         digest: entry.digest,
-        held: entry.holds.total(),
+        held: u64::from(entry.holds.total()),
     }
 }
 
@@ -118,7 +121,8 @@ impl Shard {
     }
 
     /// Makes room for `events` more events beyond those that are owed, and for `entries` more entries. One event is owed for
-    /// each hold, each reading and each picked key. After want of memory the shard is as before.
+    /// each hold, each reading and each picked key. After want of memory the shard is as before. A history that would have more than
+    /// 2^32 - 1 events with those that are owed is want of memory too.
     pub fn reserve(&mut self, events: usize, entries: usize) -> Result<(), NoMemory>
         ensures log { self.new ≡ record self.old { event_room = self.new.event_room; entry_room = self.new.entry_room } }
         ensures events { OnOk result (events ≤ self.new.event_room) }
@@ -127,7 +131,7 @@ impl Shard {
         ensures kept_entries { self.old.entry_room ≤ self.new.entry_room }
         ensures err { OnErr result (self.new ≡ self.old) }
     {
-        let before = self.history.capacity();
+        let before = self.history.capacity().min(MOST_EVENTS);
         if self.spare_events < events {
             let free = before - self.history.len();
             let more = free
@@ -135,8 +139,12 @@ impl Shard {
                 .ok_or(NoMemory)?;
             self.history.reserve(more)?;
         }
+        let spare = self.spare_events + (self.history.capacity().min(MOST_EVENTS) - before);
+        if spare < events {
+            return Err(NoMemory);
+        }
         self.table.reserve(entries, events)?;
-        self.spare_events += self.history.capacity() - before;
+        self.spare_events = spare;
         Ok(())
     }
 

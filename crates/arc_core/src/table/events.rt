@@ -65,7 +65,7 @@ impl Table {
     /// A hit of `n` at tick `t`.
     pub fn hit(&mut self, n: u32, key: Key, t: u64)
         requires legal { IsTrue (legal self.old.shard (Event.Hit n key t)) }
-        requires counts { owed_of self.old.shard < 2 ^ 63 }
+        requires counts { owed_of self.old.shard + 1 < 2 ^ 32 }
         ensures { self.new ≡ record self.old { shard = effect self.old.shard (Event.Hit n key t) } }
     {
         let mintime = self.mintime;
@@ -125,7 +125,7 @@ impl Table {
     /// `n` hands one hold to a cell.
     pub fn hand(&mut self, n: u32, key: Key, to: u32)
         requires legal { IsTrue (legal self.old.shard (Event.Hand n key to)) }
-        requires counts { owed_of self.old.shard < 2 ^ 63 }
+        requires counts { owed_of self.old.shard < 2 ^ 32 }
         ensures { self.new ≡ record self.old { shard = effect self.old.shard (Event.Hand n key to) } }
     {
         if let Some(entry) = self.find(key).copied() {

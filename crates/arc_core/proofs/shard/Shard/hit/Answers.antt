@@ -5,6 +5,13 @@ use Rattle.arc_core.specs.Step.{legal}
 use Rattle.arc_core.proofs.Making.{made, none-halted, none-marked}
 use Rattle.arc_core.proofs.shard.Shard.hit.Goals as goal
 
+-- the history has room for what is owed and for two events more
+pub hit-requires-clause-counts : goal.hit-requires-clause-counts
+hit-requires-clause-counts c =
+    let s = c.self.inside in
+    let all : 2 ≤ min s.spare_events s.table.marks = subst (λ l. 2 ≤ l.event_room) (sym c.self.view_is) c.requires.room.events in
+    omega (arith, all, c.self.invariant.few)
+
 pub invariant_of-self : goal.invariant_of-self
 invariant_of-self c =
     let s = c.self.inside in

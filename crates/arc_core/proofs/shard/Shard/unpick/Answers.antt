@@ -23,6 +23,7 @@ invariant_of-self c =
         legal = rw c.truncate.ensures.items (front-legal log c.args.len kept.replayed.legal);
       };
       room = omega (arith, kept.room, ap owed_of now, c.truncate.ensures.len, c.truncate.ensures.capacity);
+      few = omega (arith, kept.few, ap owed_of now, c.truncate.ensures.len);
       marked = none-marked _ _ (ap (λ t. t.marked) c.unpick.ensures.now);
       halts = none-halted _ _ _ c.forget.ensures;
     }

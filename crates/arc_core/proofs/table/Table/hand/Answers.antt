@@ -11,7 +11,7 @@ use Rattle.arc_core.proofs.table.Table.hand.Goals as goal
 pub one_more-requires-clause-count : goal.one_more-requires-clause-count
 one_more-requires-clause-count c =
     let s = c.args.self.now.shard in
-    subst (λ (e : Entry). holds_of e + 1 < 2 ^ 64) (sym c.one_less.ensures)
+    subst (λ (e : Entry). holds_of e + 1 < 2 ^ 32) (sym c.one_less.ensures)
     (hand-count c.args.n c.args.key c.args.to s c.in-Some.entry c.find.ensures.tidy (c.in-Some.ensures ∙ c.find.ensures.value) c.requires.legal c.requires.counts)
 
 pub place-requires-clause-there : goal.place-requires-clause-there

@@ -13,7 +13,7 @@ pub one_more-requires-clause-count : goal.one_more-requires-clause-count
 one_more-requires-clause-count c =
     let s = c.args.self.now.shard in
     let is = c.accessed.ensures ∙ ap (λ m. accessed m c.args.t c.in-Some.entry) (ap (λ t. t.shard.mintime) c.self.view_is) in
-    subst (λ (e : Entry). holds_of e + 1 < 2 ^ 64) (sym is) (hit-count c.args.t c.args.key s c.in-Some.entry c.find.ensures.tidy (c.in-Some.ensures ∙ c.find.ensures.value) c.requires.counts)
+    subst (λ (e : Entry). holds_of e + 1 < 2 ^ 32) (sym is) (hit-count c.args.t c.args.key s c.in-Some.entry c.find.ensures.tidy (c.in-Some.ensures ∙ c.find.ensures.value) c.requires.counts)
 
 pub place-requires-clause-there : goal.place-requires-clause-there
 place-requires-clause-there c =
