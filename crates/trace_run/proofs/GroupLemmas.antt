@@ -67,15 +67,15 @@ answers-length len image blocks kept (o ∷ os) (r ∷ rs) answers = ap suc (ans
 
 module _ {C P : Type 0} (cache : Cache) (pools : Ghosts P) (blocks : List Ptr) (ops : List Op) where
   -- what the lines come to, of a caller that kept nothing
-  pub lines-done : (n device : ℕ) (old new : Caller C P) (rs : List Reply) → IsReady cache old → old.party.number ≡ n → Stands cache new.party new.kept.items
-      → DidLines cache.config pools device blocks (filter (is_of_caller n) ops) rs (at old.party (map read_of old.kept.items) old.pool) (at new.party (map read_of new.kept.items) new.pool)
+  pub lines-done : (n device : ℕ) (old new : Caller C P) (rs : List Reply) → IsReady cache old → old.party.number ≡ n → Stands cache new.party new.kept
+      → DidLines cache.config pools device blocks (filter (is_of_caller n) ops) rs (at old.party (map read_of old.kept) old.pool) (at new.party (map read_of new.kept) new.pool)
       → HasDone cache pools blocks ops n old.pool new rs
   lines-done n device old new rs ready his stands did =
       let g : Config = cache.config in
       let os : List Op = filter (is_of_caller n) ops in
-      let a : At C P = at old.party (map read_of old.kept.items) old.pool in
-      let b : At C P = at new.party (map read_of new.kept.items) new.pool in
-      let none : map read_of old.kept.items ≡ [] = ap (map read_of) ready.none in
+      let a : At C P = at old.party (map read_of old.kept) old.pool in
+      let b : At C P = at new.party (map read_of new.kept) new.pool in
+      let none : map read_of old.kept ≡ [] = ap (map read_of) ready.none in
       record {
         number = lines-number g pools device blocks os rs a b did ∙ his;
         stands = stands;
@@ -86,13 +86,13 @@ module _ {C P : Type 0} (cache : Cache) (pools : Ghosts P) (blocks : List Ptr) (
       }
 
   -- and of one whose lines are tried, where memory may be short
-  pub lines-tried : (device : ℕ) (old new : Caller C P) → IsReady cache old → IfOk new.replies (λ replies. Stands cache new.party new.kept.items)
-      → IfOk new.replies (λ replies. DidLines cache.config pools device blocks (filter (is_of_caller old.party.number) ops) replies.items (at old.party (map read_of old.kept.items) old.pool) (at new.party (map read_of new.kept.items) new.pool))
+  pub lines-tried : (device : ℕ) (old new : Caller C P) → IsReady cache old → IfOk new.replies (λ replies. Stands cache new.party new.kept)
+      → IfOk new.replies (λ replies. DidLines cache.config pools device blocks (filter (is_of_caller old.party.number) ops) replies.items (at old.party (map read_of old.kept) old.pool) (at new.party (map read_of new.kept) new.pool))
       → HasTried cache pools blocks ops old new
   lines-tried device old new ready stands did = record { done = both new.replies stands did }
     where
-      both : (r : Result (Vec Reply Global) NoMemory) → IfOk r (λ replies. Stands cache new.party new.kept.items)
-          → IfOk r (λ replies. DidLines cache.config pools device blocks (filter (is_of_caller old.party.number) ops) replies.items (at old.party (map read_of old.kept.items) old.pool) (at new.party (map read_of new.kept.items) new.pool))
+      both : (r : Result (Vec Reply Global) NoMemory) → IfOk r (λ replies. Stands cache new.party new.kept)
+          → IfOk r (λ replies. DidLines cache.config pools device blocks (filter (is_of_caller old.party.number) ops) replies.items (at old.party (map read_of old.kept) old.pool) (at new.party (map read_of new.kept) new.pool))
           → IfOk r (λ replies. HasDone cache pools blocks ops old.party.number old.pool new replies.items)
       both (Ok v) stood done = lines-done old.party.number device old new v.items ready refl stood done
       both (Err e) stood done = tt
@@ -159,7 +159,7 @@ module _ {C P : Type 0} (cache : Cache) (pools : Ghosts P) (blocks : List Ptr) (
   may-give : (old new : Caller C P) → HasTried cache pools blocks ops old new → MayGiveBack cache new
   may-give old new tried = stood new.replies (λ replies. HasDone cache pools blocks ops old.party.number old.pool new replies.items) (λ replies done. done.stands) tried.done
     where
-      stood : (r : Result (Vec Reply Global) NoMemory) (F : Vec Reply Global → Type 0) → ((v : Vec Reply Global) → F v → Stands cache new.party new.kept.items) → IfOk r F → IfOk r (λ replies. Stands cache new.party new.kept.items)
+      stood : (r : Result (Vec Reply Global) NoMemory) (F : Vec Reply Global → Type 0) → ((v : Vec Reply Global) → F v → Stands cache new.party new.kept) → IfOk r F → IfOk r (λ replies. Stands cache new.party new.kept)
       stood (Ok v) F each holds = each v holds
       stood (Err e) F each holds = tt
 

@@ -1,6 +1,6 @@
 -- What a party lists for the reads that its caller keeps, and what is left once one of them is given back.
-use Rattle.std.proofs.Common.{◌≡◌, ℕ, zero, suc, ◌+◌, ◌<◌, cond, true, false, List, [], ◌∷◌, ◌++◌, length, Option, Some, map, get_or, refl, sym, ap, ◌∙◌, subst, inl, inr, arith, eq-eqb, append_assoc}
-use Rattle.std.specs.List.{AllByRecursion, remove}
+use Rattle.std.proofs.Common.{◌≡◌, ℕ, suc, ◌+◌, ◌<◌, cond, true, false, List, [], ◌∷◌, ◌++◌, length, Option, Some, refl, sym, ap, ◌∙◌, subst, inl, inr, arith, eq-eqb, append_assoc}
+use Rattle.std.specs.List.{AllByRecursion}
 use Rattle.std.proofs.lemmas.Bool.{false≢true}
 use Rattle.std.proofs.lemmas.List.Sums.{sum_by-append, sum_by-cons}
 use mathlib.Core.Option.{some}
@@ -36,9 +36,8 @@ use Rattle.arc_table.specs.Items.{Meanings}
 use Rattle.arc_table.specs.ShardGiving.{ledger_through}
 use Rattle.arc_table.proofs.Afterwards.{does_ledger, does_stays, stays_party}
 use Rattle.arc_table.proofs.Reached.{reached, rests}
-use Rattle.trace_run.specs.KeptReads.{KeptRead}
 use Rattle.trace_run.specs.declared.kept_blocks.KeptBlock.{KeptBlock}
-use Rattle.trace_run.specs.KeptBlocks.{Adds, AllIdle, Drops, GivesBack, IsOwnedBy, Stands, held_key, is_ptr, listed_all, listed_for, read_of, times}
+use Rattle.trace_run.specs.KeptBlocks.{Adds, AllIdle, Drops, GivesBack, IsOwnedBy, Stands, held_key, is_ptr, listed_all, listed_for, times}
 use Rattle.trace_run.specs.Seen.{AddsAll, AddsOwn, Made}
 use Rattle.trace_run.specs.Access.{events_of_drop}
 use Rattle.trace_run.specs.Acts.{acts_of_drop}
@@ -252,23 +251,3 @@ module _ {C : Type 0} (m : Meanings C) (cache : Cache) (p q : Place (Known C)) (
   pub given-drops : (kept : Kept) → read.kept ≡ kept → GivesBack m g kept p q → Drops g (held_key kept) p q
   given-drops (Held hold) is d = held-adds hold is d
   given-drops (Loose key block) is same = same
-
--- ---- the place of the oldest
-
-module _ {X : Type 0} where
-  pub split-at : (xs : List X) (i : ℕ) (d : X) → i < length xs → (front : List X) × (rest : List X) × (xs ≡ front ++ get_or xs i d ∷ rest) × (remove xs i ≡ front ++ rest)
-  split-at [] i d lt = absurd (omega arith)
-  split-at (x ∷ xs) zero d lt = ([], xs, refl, refl)
-  split-at (x ∷ xs) (suc i) d lt =
-      let h = split-at xs i d (omega arith) in
-      (x ∷ h.0, h.1, ap (λ (l : List X). x ∷ l) h.2, ap (λ (l : List X). x ∷ l) h.3)
-
-pub reads-removed : (kept : List KeptBlock) (i : ℕ) → i < length kept → remove (map read_of kept) i ≡ map read_of (remove kept i)
-reads-removed [] i lt = absurd (omega arith)
-reads-removed (x ∷ xs) zero lt = refl
-reads-removed (x ∷ xs) (suc i) lt = ap (λ (l : List KeptRead). read_of x ∷ l) (reads-removed xs i (omega arith))
-
-pub read-at : (kept : List KeptBlock) (i : ℕ) (d : KeptBlock) → i < length kept → get_or (map read_of kept) i (read_of d) ≡ read_of (get_or kept i d)
-read-at [] i d lt = absurd (omega arith)
-read-at (x ∷ xs) zero d lt = refl
-read-at (x ∷ xs) (suc i) d lt = read-at xs i d (omega arith)

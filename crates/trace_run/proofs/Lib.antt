@@ -18,6 +18,7 @@ pub mod GroupRunLemmas
 pub mod HistoryLemmas
 pub mod InOrderLemmas
 pub mod KeptBlockLemmas
+pub mod KeptQueueLemmas
 pub mod LineLemmas
 pub mod LinesLemmas
 pub mod MadeLemmas

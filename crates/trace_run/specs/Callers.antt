@@ -54,7 +54,7 @@ module _ {C P : Type 0} where
   pub record IsEnlisted (p : Place (Known C)) (fork : P) (caller : Caller C P) : Type 0 where
     pub party : caller.party ≡ p
     pub pool : caller.pool ≡ fork
-    pub none : caller.kept.items ≡ []
+    pub none : caller.kept ≡ []
 
   -- these callers were made of these parties and forks
   abbrev pub AreEnlisted : List (Place (Known C)) → List P → List (Caller C P) → Type 0
@@ -66,15 +66,15 @@ module _ {C P : Type 0} where
   pub record IsReady (cache : Cache) (caller : Caller C P) : Type 0 where
     pub stands : Stands cache caller.party []
     pub told : IsTold cache.config [] caller.party
-    pub none : caller.kept.items ≡ []
+    pub none : caller.kept ≡ []
 
   -- ---- after the lines
 
   -- A caller has done its lines, which were answered so, and keeps what they say. Its party has the number n, and its fork was as this one.
   pub record HasDone (cache : Cache) (pools : Ghosts P) (blocks : List Ptr) (ops : List Op) (n : ℕ) (fork : P) (caller : Caller C P) (replies : List Reply) : Type 0 where
     pub number : caller.party.number ≡ n
-    pub stands : Stands cache caller.party caller.kept.items
-    pub kept : map read_of caller.kept.items ≡ kept_after_all blocks [] (filter (is_of_caller n) ops) replies
+    pub stands : Stands cache caller.party caller.kept
+    pub kept : map read_of caller.kept ≡ kept_after_all blocks [] (filter (is_of_caller n) ops) replies
     pub told : IsTold cache.config (acts_of_all blocks [] (filter (is_of_caller n) ops) replies) caller.party
     pub answers : AreAnswered (pools.size fork) (pools.told fork) blocks [] (filter (is_of_caller n) ops) replies
     pub calls : MakesCalls pools (calls_of_all replies) fork caller.pool
@@ -85,7 +85,7 @@ module _ {C P : Type 0} where
 
   -- what a caller keeps may be given back
   abbrev pub MayGiveBack : Cache → Caller C P → Type 0
-  MayGiveBack cache caller = IfOk caller.replies (λ replies. Stands cache caller.party caller.kept.items)
+  MayGiveBack cache caller = IfOk caller.replies (λ replies. Stands cache caller.party caller.kept)
 
   -- Its lines were answered so. Its party gave back all that it kept, and is this one then.
   pub record GaveBack (cache : Cache) (caller : Caller C P) (replies : List Reply) (p : Place (Known C)) : Type 0 where
@@ -94,7 +94,7 @@ module _ {C P : Type 0} where
     pub replies_are : all.items ≡ replies
     pub number : p.number ≡ caller.party.number
     pub stands : Stands cache p []
-    pub told : (before : List Act) → IsTold cache.config before caller.party → IsTold cache.config (before ++ acts_of_drops caller.party.number (map read_of caller.kept.items)) p
+    pub told : (before : List Act) → IsTold cache.config before caller.party → IsTold cache.config (before ++ acts_of_drops caller.party.number (map read_of caller.kept)) p
 
   abbrev pub AllGaveBack : Cache → List (Caller C P) → List (List Reply) → List (Place (Known C)) → Type 0
   AllGaveBack cache [] [] [] = Unit {0}

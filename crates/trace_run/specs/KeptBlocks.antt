@@ -47,6 +47,19 @@ abbrev pub listed_all : List KeptBlock → List Ptr
 listed_all [] = []
 listed_all (b ∷ bs) = listed_for b.kept ++ listed_all bs
 
+-- no read is of the block
+abbrev pub AreOfOthers : ℕ → List KeptBlock → Type 0
+AreOfOthers n = AllByRecursion (λ (b : KeptBlock). b.block ≡ n → ⊥)
+
+-- the new reads are the old ones without this one, the oldest of its block
+pub record IsTakenOut (n : ℕ) (read : KeptBlock) (old new : List KeptBlock) : Type 0 where
+  pub front : List KeptBlock
+  pub rest : List KeptBlock
+  pub before : old ≡ front ++ read ∷ rest
+  pub after : new ≡ front ++ rest
+  pub oldest : AreOfOthers n front
+  pub block : read.block ≡ n
+
 -- how often a pointer is listed
 abbrev pub is_ptr : Ptr → Ptr → Bool
 is_ptr x y = key_eq x.key y.key && digest_eq x.digest y.digest

@@ -12,6 +12,7 @@ pub mod Group
 pub mod GroupRun
 pub mod InOrder
 pub mod KeptBlocks
+pub mod KeptQueue
 pub mod KeptReads
 pub mod Lines
 pub mod OneCaller

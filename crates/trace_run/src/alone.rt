@@ -6,7 +6,7 @@ ghost use Rattle.trace_text.specs.Grammar.{IsFormed};
 ghost use Rattle.trace_run.specs.Alone.{RanAlone};
 ghost use Rattle.trace_run.specs.Opened.{AreOpened, HasJoined};
 
-use crate::kept_blocks::give_back_all;
+use crate::kept_blocks::{KeptBlocks, give_back_all};
 use crate::lines::all_lines;
 use crate::opening::open_cache;
 use crate::ran::Ran;
@@ -46,7 +46,7 @@ pub(crate) fn run_alone<P: Pool, G: Gate>(
 {
     let (arcs, parties) = open_cache(alloc, trace)?;
     let mut party = only_party(&arcs, parties);
-    let mut kept = Vec::new(alloc);
+    let mut kept = KeptBlocks::new(alloc);
     let blocks = trace.blocks.as_slice();
     let ops = trace.ops.as_slice();
     let mut device = NoCache;

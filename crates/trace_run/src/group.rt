@@ -11,7 +11,7 @@ ghost use Rattle.trace_run.specs.Callers.{Absorbs, AbsorbsAll, AllGaveBack, AreA
 ghost use Rattle.trace_run.specs.Group.{HaveWorked, IsFork, LeavesPool};
 ghost use Rattle.trace_run.specs.Tally.{AreDeclared};
 
-use crate::kept_blocks::{KeptBlock, give_back_all};
+use crate::kept_blocks::{KeptBlocks, give_back_all};
 use crate::lines::all_lines;
 use arc_core::Keeps;
 use arc_table::{Arcs, Party};
@@ -30,7 +30,7 @@ const MOST_CALLERS: usize = 16;
 #[derive(Drop)]
 struct Caller<C: Keeps, P: Pool> {
     party: Party<C>,
-    kept: Vec<KeptBlock>,
+    kept: KeptBlocks,
     pool: P,
     replies: Result<Vec<Reply>, NoMemory>,
 }
@@ -105,7 +105,7 @@ fn enlist<C: Keeps, P: Pool>(
         };
         callers.push(Caller {
             party,
-            kept: Vec::new(alloc),
+            kept: KeptBlocks::new(alloc),
             pool,
             replies: Ok(Vec::new(alloc)),
         })?;

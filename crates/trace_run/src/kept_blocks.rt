@@ -1,10 +1,10 @@
 //! The reads that a caller of the shared cache keeps, each with its block, and how they are given back (arc_buf_destroy of OpenZFS 2.1's
 //! arc.c).
-ghost use Rattle.std.specs.Prelude.{◌≡◌, ◌==◌, ◌++◌, ◌∷◌, [], is_some, map, position, List};
+ghost use Rattle.std.specs.Prelude.{◌≡◌, ◌++◌, ◌∷◌, [], is_some, map, List, MatchOption, OnErr, OnOk};
 ghost use Rattle.arc_core.specs.Operations.{Act};
 ghost use Rattle.arc_table.specs.Items.{meanings};
 ghost use Rattle.trace_run.specs.Acts.{acts_of_drops};
-ghost use Rattle.trace_run.specs.KeptBlocks.{DroppedAlone, Drops, GivesAll, GivesBack, Stands, read_of};
+ghost use Rattle.trace_run.specs.KeptBlocks.{AreOfOthers, DroppedAlone, Drops, GivesAll, GivesBack, IsTakenOut, Stands, read_of};
 ghost use Rattle.trace_run.specs.OneCaller.{oldest_key, oldest_kept, without_oldest};
 ghost use Rattle.trace_run.specs.Seen.{HasAll};
 ghost use Rattle.trace_run.specs.Told.{IsTold};
@@ -12,7 +12,11 @@ ghost use Rattle.trace_run.specs.declared.kept_blocks.KeptBlock.{KeptBlock};
 
 use arc_core::Keeps;
 use arc_table::{Arcs, Party};
+use blk_ptr::NoMemory;
 use dbuf_cells::Kept;
+use key_queue::Queue;
+use std::alloc::Global;
+use std::marker::Model;
 use std::sync::Wait;
 
 /// A read that its caller keeps.
@@ -24,11 +28,61 @@ pub(crate) struct KeptBlock {
     pub(crate) kept: Kept,
 }
 
-/// Where the oldest read of a block stands.
-fn oldest_of(kept: &[KeptBlock], block: u32) -> Option<usize>
-    ensures { result ≡ position (λ (read : KeptBlock). read.block == block) kept.now }
-{
-    kept.iter().position(|read| read.block == block)
+/// The reads that a caller keeps, in the order in which they came. Contracts see the list of them, the oldest first.
+#[derive(Debug, Drop)]
+pub(crate) struct KeptBlocks {
+    // Each under the number of its block.
+    reads: Queue<KeptBlock>,
+}
+
+impl Model for KeptBlocks {
+    ghost use Rattle.std.specs.Prelude.{List};
+    ghost use Rattle.trace_run.specs.declared.kept_blocks.KeptBlock.{KeptBlock};
+
+    ghost Value = { List KeptBlock };
+
+    ghost use Rattle.trace_run.specs.KeptQueue.{AreUnderTheirBlocks, reads_of};
+
+    ghost view = { reads_of };
+
+    ghost invariant = { AreUnderTheirBlocks };
+}
+
+impl KeptBlocks {
+    /// No reads.
+    pub(crate) fn new(alloc: Global) -> KeptBlocks
+        ensures { result ≡ [] }
+    {
+        KeptBlocks {
+            reads: Queue::new(alloc),
+        }
+    }
+
+    /// Keeps a read, the newest one. After want of memory the reads are as before.
+    pub(crate) fn push(&mut self, read: KeptBlock) -> Result<(), NoMemory>
+        ensures ok { OnOk result (self.new ≡ self.old ++ read ∷ []) }
+        ensures err { OnErr result (self.new ≡ self.old) }
+    {
+        let block = read.block;
+        if self.reads.push(block, read).is_err() {
+            return Err(NoMemory);
+        }
+        Ok(())
+    }
+
+    /// Takes the oldest read of a block out. None exactly where none is kept.
+    pub(crate) fn take_oldest(&mut self, block: u32) -> Option<KeptBlock>
+        ensures { MatchOption result (AreOfOthers block self.old × (self.new ≡ self.old)) (λ read. IsTakenOut block read self.old self.new) }
+    {
+        self.reads.take_oldest(block)
+    }
+
+    /// Takes the oldest read of all out. None exactly where none is kept.
+    fn pop_oldest(&mut self) -> Option<KeptBlock>
+        ensures { MatchOption result ((self.old ≡ []) × (self.new ≡ [])) (λ read. self.old ≡ read ∷ self.new) }
+    {
+        self.reads.pop_oldest()
+    }
 }
 
 /// Gives back one of the reads that a caller keeps.
@@ -53,19 +107,18 @@ pub(crate) fn give_back_oldest<C: Keeps>(
     rt: &impl Wait,
     arcs: &Arcs<C>,
     party: &mut Party<C>,
-    kept: &mut Vec<KeptBlock>,
+    kept: &mut KeptBlocks,
     block: u32,
 ) -> bool
-    requires { Stands arcs.now party.old kept.old.items }
-    ensures stands { Stands arcs.now party.new kept.new.items }
-    ensures found { result ≡ is_some (oldest_kept block (map read_of kept.old.items)) }
-    ensures kept { map read_of kept.new.items ≡ without_oldest block (map read_of kept.old.items) }
-    ensures drops { Drops arcs.now.config (oldest_key block (map read_of kept.old.items)) party.old party.new }
+    requires { Stands arcs.now party.old kept.old }
+    ensures stands { Stands arcs.now party.new kept.new }
+    ensures found { result ≡ is_some (oldest_kept block (map read_of kept.old)) }
+    ensures kept { map read_of kept.new ≡ without_oldest block (map read_of kept.old) }
+    ensures drops { Drops arcs.now.config (oldest_key block (map read_of kept.old)) party.old party.new }
 {
-    let Some(at) = oldest_of(kept, block) else {
+    let Some(read) = kept.take_oldest(block) else {
         return false;
     };
-    let read = kept.remove(at);
     give_back(rt, arcs, party, read);
     true
 }
@@ -75,16 +128,16 @@ pub(crate) fn give_back_all<C: Keeps>(
     rt: &impl Wait,
     arcs: &Arcs<C>,
     party: &mut Party<C>,
-    kept: Vec<KeptBlock>,
+    mut kept: KeptBlocks,
 )
-    requires { Stands arcs.now party.old kept.items }
+    requires { Stands arcs.now party.old kept }
     ensures stands { Stands arcs.now party.new [] }
-    ensures gives { GivesAll (meanings C.holds C.entries C.opening C.claims C.sound) arcs.now.config kept.items party.old party.new }
+    ensures gives { GivesAll (meanings C.holds C.entries C.opening C.claims C.sound) arcs.now.config kept party.old party.new }
     ensures told { (before : List Act) → IsTold arcs.now.config before party.old
-        → IsTold arcs.now.config (before ++ acts_of_drops party.old.number (map read_of kept.items)) party.new }
-    ensures alone { HasAll party.old → DroppedAlone arcs.now.config (map read_of kept.items) party.old party.new }
+        → IsTold arcs.now.config (before ++ acts_of_drops party.old.number (map read_of kept)) party.new }
+    ensures alone { HasAll party.old → DroppedAlone arcs.now.config (map read_of kept) party.old party.new }
 {
-    for read in kept {
+    while let Some(read) = kept.pop_oldest() {
         give_back(rt, arcs, party, read);
     }
 }

@@ -17,7 +17,7 @@ ghost use Rattle.trace_text.specs.Grammar.{block_of};
 ghost use Rattle.trace_run.specs.declared.kept_blocks.KeptBlock.{KeptBlock};
 
 use crate::get::{Got, get};
-use crate::kept_blocks::{KeptBlock, give_back, give_back_oldest};
+use crate::kept_blocks::{KeptBlocks, give_back, give_back_oldest};
 use arc_core::{Keeps, ReadFault};
 use arc_table::{Arcs, Party};
 use blk_ptr::{Block, NoMemory, Ptr, Shows};
@@ -53,17 +53,17 @@ fn hold_line<C: Keeps, P: Pool, D: CacheDev>(
     rt: &impl Wait,
     arcs: &Arcs<C>,
     party: &mut Party<C>,
-    kept: &mut Vec<KeptBlock>,
+    kept: &mut KeptBlocks,
     pool: &mut P,
     device: &mut D,
     ptr: &Ptr,
     block: u32,
     t: u64,
 ) -> Result<Reply, NoMemory>
-    requires { Stands arcs.now party.old kept.old.items }
+    requires { Stands arcs.now party.old kept.old }
     ensures answer { IfOk result (AnswersHold (P.size pool.old) (P.told pool.old) ptr.now) }
-    ensures stands { IfOk result (λ reply. Stands arcs.now party.new kept.new.items) }
-    ensures kept { IfOk result (λ reply. map read_of kept.new.items ≡ kept_after_hold block ptr.now (effect_of reply) (map read_of kept.old.items)) }
+    ensures stands { IfOk result (λ reply. Stands arcs.now party.new kept.new) }
+    ensures kept { IfOk result (λ reply. map read_of kept.new ≡ kept_after_hold block ptr.now (effect_of reply) (map read_of kept.old)) }
     ensures did { IfOk result (λ reply. DidActs arcs.now.config (D.size device.old) (shard_of arcs.now.config.shards ptr.now.key)
         (acts_of_hold party.old.number t ptr.now (effect_of reply))
         (events_of_hold party.old.number t (now_of arcs.now.config (shard_of arcs.now.config.shards ptr.now.key) party.old) ptr.now (effect_of reply))
@@ -133,15 +133,15 @@ fn drop_line<C: Keeps>(
     rt: &impl Wait,
     arcs: &Arcs<C>,
     party: &mut Party<C>,
-    kept: &mut Vec<KeptBlock>,
+    kept: &mut KeptBlocks,
     block: u32,
 ) -> Reply
-    requires { Stands arcs.now party.old kept.old.items }
-    ensures answer { AnswersDrop (kept_of_block block (map read_of kept.old.items)) 0 block result }
-    ensures stands { Stands arcs.now party.new kept.new.items }
-    ensures kept { map read_of kept.new.items ≡ kept_after_drop block (effect_of result) (map read_of kept.old.items) }
-    ensures drops { Drops arcs.now.config (oldest_key block (map read_of kept.old.items)) party.old party.new }
-    ensures none { result ≢ Reply.Dropped → oldest_key block (map read_of kept.old.items) ≡ None }
+    requires { Stands arcs.now party.old kept.old }
+    ensures answer { AnswersDrop (kept_of_block block (map read_of kept.old)) 0 block result }
+    ensures stands { Stands arcs.now party.new kept.new }
+    ensures kept { map read_of kept.new ≡ kept_after_drop block (effect_of result) (map read_of kept.old) }
+    ensures drops { Drops arcs.now.config (oldest_key block (map read_of kept.old)) party.old party.new }
+    ensures none { result ≢ Reply.Dropped → oldest_key block (map read_of kept.old) ≡ None }
     ensures calls { calls_of (effect_of result) ≡ [] }
 {
     if give_back_oldest(rt, arcs, party, kept, block) {
@@ -156,19 +156,19 @@ fn line<C: Keeps, P: Pool, D: CacheDev>(
     rt: &impl Wait,
     arcs: &Arcs<C>,
     party: &mut Party<C>,
-    kept: &mut Vec<KeptBlock>,
+    kept: &mut KeptBlocks,
     pool: &mut P,
     device: &mut D,
     blocks: &[Ptr],
     op: Op,
 ) -> Result<Reply, NoMemory>
-    requires stands { Stands arcs.now party.old kept.old.items }
+    requires stands { Stands arcs.now party.old kept.old }
     requires own { caller_of op ≡ party.old.number }
     requires declared { block_of op < length blocks.now }
-    requires named { AreNamed blocks.now (map read_of kept.old.items) }
-    ensures stands { IfOk result (λ reply. Stands arcs.now party.new kept.new.items) }
+    requires named { AreNamed blocks.now (map read_of kept.old) }
+    ensures stands { IfOk result (λ reply. Stands arcs.now party.new kept.new) }
     ensures did { IfOk result (λ reply. DidLine arcs.now.config P.Pool (D.size device.old) blocks.now op reply
-        (at party.old (map read_of kept.old.items) pool.old) (at party.new (map read_of kept.new.items) pool.new)) }
+        (at party.old (map read_of kept.old) pool.old) (at party.new (map read_of kept.new) pool.new)) }
     ensures pool { KeepsPool P.Pool pool.old pool.new }
     ensures device { D.size device.new ≡ D.size device.old }
 {
@@ -208,20 +208,20 @@ pub(crate) fn all_lines<C: Keeps, P: Pool, D: CacheDev, G: Gate>(
     rt: &impl Wait,
     arcs: &Arcs<C>,
     party: &mut Party<C>,
-    kept: &mut Vec<KeptBlock>,
+    kept: &mut KeptBlocks,
     pool: &mut P,
     device: &mut D,
     blocks: &[Ptr],
     ops: &[Op],
     gate: &G,
 ) -> Result<Vec<Reply>, NoMemory>
-    requires stands { Stands arcs.now party.old kept.old.items }
+    requires stands { Stands arcs.now party.old kept.old }
     requires declared { AreDeclared (length blocks.now) ops.now }
-    requires named { AreNamed blocks.now (map read_of kept.old.items) }
+    requires named { AreNamed blocks.now (map read_of kept.old) }
     requires few { length ops.now < 2 ^ 32 }
-    ensures stands { IfOk result (λ replies. Stands arcs.now party.new kept.new.items) }
+    ensures stands { IfOk result (λ replies. Stands arcs.now party.new kept.new) }
     ensures did { IfOk result (λ replies. DidLines arcs.now.config P.Pool (D.size device.old) blocks.now (filter (is_of_caller party.old.number) ops.now) replies.items
-        (at party.old (map read_of kept.old.items) pool.old) (at party.new (map read_of kept.new.items) pool.new)) }
+        (at party.old (map read_of kept.old) pool.old) (at party.new (map read_of kept.new) pool.new)) }
     ensures pool { KeepsPool P.Pool pool.old pool.new }
     ensures device { D.size device.new ≡ D.size device.old }
 {

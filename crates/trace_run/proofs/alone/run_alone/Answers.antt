@@ -30,9 +30,9 @@ close-requires-clause-all g c =
     let p = c.only_party-party.result in
     let q = c.all_lines.new.party in
     let r = c.give_back_all.new.party in
-    let kept : List KeptBlock = c.all_lines.new.kept.items in
+    let kept : List KeptBlock = c.all_lines.new.kept in
     let did = subst (λ (x : List Ptr × List Op × List KeptRead). DidLines cache.config g.P.Pool 0 x.0 (filter (is_of_caller p.number) x.1) c.in_ok-replies.replies.items (at p x.2 c.args.pool.now) (at q (map read_of kept) c.all_lines.new.pool))
-    (λ i. (c.as_slice-blocks.ensures i, c.as_slice-ops.ensures i, map read_of (c.new-kept.ensures.items i))) c.in_ok-replies.ensures.did in
+    (λ i. (c.as_slice-blocks.ensures i, c.as_slice-ops.ensures i, map read_of (c.new-kept.ensures i))) c.in_ok-replies.ensures.did in
     let here = end-there _ cache g.P.Pool c.args.trace.now c.in_ok-replies.replies.items c.args.pool.now c.all_lines.new.pool p q r kept c.in_ok-arcs.ensures.config c.requires.formed c.requires.one
     c.only_party-party.ensures did c.in_ok-replies.ensures.stands c.give_back_all.ensures.gives c.give_back_all.ensures.stands in
     λ n below. subst (λ (x : List (Place (Known HeapCell))). SomeHas n x) (sym c.in_ok-vec.ensures.items) (here n (subst (λ (x : Cache). n < parties_of x.config) c.arcs.view_is below))
@@ -43,9 +43,9 @@ returns-clause-ran g c =
     let p = c.only_party-party.result in
     let q = c.all_lines.new.party in
     let r = c.give_back_all.new.party in
-    let kept : List KeptBlock = c.all_lines.new.kept.items in
+    let kept : List KeptBlock = c.all_lines.new.kept in
     let did = subst (λ (x : List Ptr × List Op × List KeptRead). DidLines cache.config g.P.Pool 0 x.0 (filter (is_of_caller p.number) x.1) c.in_ok-replies.replies.items (at p x.2 c.args.pool.now) (at q (map read_of kept) c.all_lines.new.pool))
-    (λ i. (c.as_slice-blocks.ensures i, c.as_slice-ops.ensures i, map read_of (c.new-kept.ensures.items i))) c.in_ok-replies.ensures.did in
+    (λ i. (c.as_slice-blocks.ensures i, c.as_slice-ops.ensures i, map read_of (c.new-kept.ensures i))) c.in_ok-replies.ensures.did in
     ran-alone _ cache g.P.Pool c.args.trace.now c.in_ok-replies.replies.items c.args.pool.now c.all_lines.new.pool p q r kept c.in_ok-arcs.ensures.config c.requires.formed c.requires.one
     c.only_party-party.ensures did c.in_ok-replies.ensures.stands c.give_back_all.ensures.gives c.give_back_all.ensures.stands
     _ c.in_ok-vec.field-0.items c.in_ok-closed.closed c.arcs.view_is c.in_ok-vec.ensures.items c.in_ok-closed.ensures

@@ -13,8 +13,8 @@ returns-clause-gave g c =
     let m = meanings g.C.Keeps.holds g.C.Keeps.entries g.C.Keeps.opening g.C.Keeps.claims g.C.Keeps.sound in
     let caller = c.args.caller in
     let replies : Vec Reply Global = c.in_ok-replies.replies in
-    let stands : Stands c.args.arcs.now caller.party caller.kept.items =
-    subst (λ (r : Result (Vec Reply Global) NoMemory). IfOk r (λ v. Stands c.args.arcs.now caller.party caller.kept.items)) c.in_ok-replies.was c.requires in (
+    let stands : Stands c.args.arcs.now caller.party caller.kept =
+    subst (λ (r : Result (Vec Reply Global) NoMemory). IfOk r (λ v. Stands c.args.arcs.now caller.party caller.kept)) c.in_ok-replies.was c.requires in (
       replies.items,
       c.give_back_all.new.party,
       ap (map (λ (v : Vec Reply Global). v.items)) c.in_ok-push-2.ensures.items ∙ map-append (λ (v : Vec Reply Global). v.items) c.args.worked.now.replies.items (replies ∷ []),
@@ -23,7 +23,7 @@ returns-clause-gave g c =
         all = replies;
         replied = c.in_ok-replies.was;
         replies_are = refl;
-        number = all-number m c.args.arcs.now caller.kept.items caller.party c.give_back_all.new.party stands c.give_back_all.ensures.gives;
+        number = all-number m c.args.arcs.now caller.kept caller.party c.give_back_all.new.party stands c.give_back_all.ensures.gives;
         stands = c.give_back_all.ensures.stands;
         told = c.give_back_all.ensures.told;
       },

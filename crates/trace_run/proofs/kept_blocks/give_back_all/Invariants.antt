@@ -1,3 +1,4 @@
+use Rattle.std.proofs.Common.{length}
 use Rattle.turn_table.specs.Places.{Place}
 use Rattle.arc_table.specs.declared.view.Known.{Known}
 use Rattle.arc_table.specs.Items.{meanings}
@@ -6,7 +7,10 @@ use Rattle.trace_run.proofs.kept_blocks.give_back_all.Given as goal
 
 abbrev pub invariant-loop-read : goal.invariant-loop-read
 invariant-loop-read g l = record {
-  stands : Stands l.arcs l.party l.read-iterator.rest.items;
-  gives : (q : Place (Known g.row.C.Denot)) → GivesAll (meanings g.C.Keeps.holds g.C.Keeps.entries g.C.Keeps.opening g.C.Keeps.claims g.C.Keeps.sound) l.arcs.config l.read-iterator.rest.items l.party q
-      → GivesAll (meanings g.C.Keeps.holds g.C.Keeps.entries g.C.Keeps.opening g.C.Keeps.claims g.C.Keeps.sound) l.arcs.config l.fn.kept.items l.fn.party q;
+  stands : Stands l.arcs l.party l.kept;
+  gives : (q : Place (Known g.row.C.Denot)) → GivesAll (meanings g.C.Keeps.holds g.C.Keeps.entries g.C.Keeps.opening g.C.Keeps.claims g.C.Keeps.sound) l.arcs.config l.kept l.party q
+      → GivesAll (meanings g.C.Keeps.holds g.C.Keeps.entries g.C.Keeps.opening g.C.Keeps.claims g.C.Keeps.sound) l.arcs.config l.fn.kept l.fn.party q;
 }
+
+abbrev pub decreases-loop-read : goal.decreases-loop-read
+decreases-loop-read g l = length l.kept

@@ -30,7 +30,7 @@ loop-number-preserved-then-caller_of-caller g c =
       named = was.named;
       number = was.number;
       did = subst (λ (os : List Op). DidLines c.args.arcs.now.config g.P.Pool size c.args.blocks.now os c.loop-number.replies.items
-          (at c.args.party.now (map read_of c.args.kept.now.items) c.args.pool.now) (at c.loop-number.party (map read_of c.loop-number.kept.items) c.loop-number.pool))
+          (at c.args.party.now (map read_of c.args.kept.now) c.args.pool.now) (at c.loop-number.party (map read_of c.loop-number.kept) c.loop-number.pool))
           (sym (others-more n ops c.loop-number.number op here other)) was.did;
       keeps = was.keeps;
       device = was.device;
@@ -51,9 +51,9 @@ loop-number-preserved g c =
     let replies = c.loop-number.replies.items in
     let here : slice_get ops c.loop-number.number ≡ Some op = slice_get_read _ _ _ _ refl c.loop-number-test.true c.index-ops-number.is in
     let his : caller_of op ≡ n = sym c.caller_of.ensures ∙ (c.if-caller_of-caller.false ∙ c.number-caller.ensures) in
-    let start = at c.args.party.now (map read_of c.args.kept.now.items) c.args.pool.now in
-    let before = at c.loop-number.party (map read_of c.loop-number.kept.items) c.loop-number.pool in
-    let after = at c.line.new.party (map read_of c.line.new.kept.items) c.line.new.pool in
+    let start = at c.args.party.now (map read_of c.args.kept.now) c.args.pool.now in
+    let before = at c.loop-number.party (map read_of c.loop-number.kept) c.loop-number.pool in
+    let after = at c.line.new.party (map read_of c.line.new.kept) c.line.new.pool in
     let one : DidLine config pool size blocks op reply before after = subst (λ (d : ℕ). DidLine config pool d blocks op reply before after) was.device c.in_ok-reply.ensures.did in
     record {
       stands = c.in_ok-reply.ensures.stands;
@@ -69,5 +69,5 @@ pub returns-clause-did : goal.returns-clause-did
 returns-clause-did g c =
     let long : length c.args.ops.now ≤ c.loop-number.number = omega arith in
     subst (λ (os : List Op). DidLines c.args.arcs.now.config g.P.Pool (g.D.CacheDev.size c.args.device.now) c.args.blocks.now (filter (is_of_caller c.args.party.now.number) os) c.loop-number.replies.items
-    (at c.args.party.now (map read_of c.args.kept.now.items) c.args.pool.now) (at c.loop-number.party (map read_of c.loop-number.kept.items) c.loop-number.pool))
+    (at c.args.party.now (map read_of c.args.kept.now) c.args.pool.now) (at c.loop-number.party (map read_of c.loop-number.kept) c.loop-number.pool))
     (take_all c.loop-number.number c.args.ops.now long) c.loop-number.invariant.did

@@ -9,7 +9,7 @@ use Rattle.trace_run.proofs.lines.line.Goals as goal
 
 pub returns-in-Read-clause-did : goal.returns-in-Read-clause-did
 returns-in-Read-clause-did g c =
-    let kept = map read_of c.args.kept.now.items in
+    let kept = map read_of c.args.kept.now in
     let q = c.read_line.new.party in
     let b = c.read_line.new.pool in
     subst (λ (op : Op). IfOk c.read_line.result (λ reply. DidLine c.args.arcs.now.config g.P.Pool (g.D.CacheDev.size c.args.device.now) c.args.blocks.now op reply (at c.args.party.now kept c.args.pool.now) (at q kept b))) (sym c.in-Read.is)
@@ -19,8 +19,8 @@ returns-in-Read-clause-did g c =
 
 pub returns-in-Hold-clause-did : goal.returns-in-Hold-clause-did
 returns-in-Hold-clause-did g c =
-    let kept = map read_of c.args.kept.now.items in
-    let now = map read_of c.hold_line.new.kept.items in
+    let kept = map read_of c.args.kept.now in
+    let now = map read_of c.hold_line.new.kept in
     let q = c.hold_line.new.party in
     let b = c.hold_line.new.pool in
     subst (λ (op : Op). IfOk c.hold_line.result (λ reply. DidLine c.args.arcs.now.config g.P.Pool (g.D.CacheDev.size c.args.device.now) c.args.blocks.now op reply (at c.args.party.now kept c.args.pool.now) (at q now b))) (sym c.in-Hold.is)
@@ -30,8 +30,8 @@ returns-in-Hold-clause-did g c =
 
 pub returns-in-Drop-clause-did : goal.returns-in-Drop-clause-did
 returns-in-Drop-clause-did g c =
-    let kept = map read_of c.args.kept.now.items in
-    let now = map read_of c.drop_line.new.kept.items in
+    let kept = map read_of c.args.kept.now in
+    let now = map read_of c.drop_line.new.kept in
     let q = c.drop_line.new.party in
     subst (λ (op : Op). DidLine c.args.arcs.now.config g.P.Pool (g.D.CacheDev.size c.args.device.now) c.args.blocks.now op c.drop_line.result (at c.args.party.now kept c.args.pool.now) (at q now c.args.pool.now)) (sym c.in-Drop.is)
     (drop-line c.args.arcs.now.config g.P.Pool (g.D.CacheDev.size c.args.device.now) c.args.blocks.now c.args.party.now q c.args.pool.now c.args.pool.now c.in-Drop.n c.in-Drop.x kept now c.drop_line.result

@@ -1,0 +1,3 @@
+pub mod FoundLemmas
+pub mod QueueLemmas
+pub mod SlotLemmas
