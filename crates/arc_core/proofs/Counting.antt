@@ -30,7 +30,7 @@ use Rattle.arc_core.specs.Step.{after, agree, arrived, hit_entry, holds, is_miss
 use Rattle.arc_core.proofs.Accesses.{accessed-keeps, unheld-held}
 use Rattle.arc_core.proofs.Evictions.{entry_of-is, or_other, passes}
 use Rattle.arc_core.specs.Owed.{owed_of}
-use Rattle.arc_core.proofs.Legal.{cell-lt, entry_is-and, held-le, holding, number-lt, owed-item}
+use Rattle.arc_core.proofs.Legal.{cell-lt, entry_is-and, holding, number-lt, owed-item}
 use Rattle.arc_core.proofs.Others.{own-entry, sparing}
 use Rattle.arc_core.proofs.Sparing.{spared-held}
 

@@ -1,10 +1,10 @@
-ghost use Rattle.std.specs.Prelude.{◌≡◌, ℕ, ◌+◌, ◌≤◌, ◌++◌, ◌∷◌, [], IsTrue, OnOk, OnErr, vec_len, vec_capacity, length, option_map, ◌^◌, ◌<◌};
+ghost use Rattle.std.specs.Prelude.{◌≡◌, ℕ, ◌+◌, ◌≤◌, ◌++◌, ◌∷◌, [], IsTrue, OnOk, OnErr, vec_len, vec_capacity, option_map, ◌<◌};
 ghost use Rattle.arc_lists.specs.Adapting.{IsCapacity};
 ghost use Rattle.arc_core.specs.declared.event.Event.{Event};
-ghost use Rattle.arc_core.specs.PlainShard.{entry_of, holds_of, numbers, resident_digest, size_in};
+ghost use Rattle.arc_core.specs.PlainShard.{entry_of, resident_digest, size_in};
 ghost use Rattle.arc_core.specs.ShardLog.{HasRoom, IsReplayed, Makes, opening_log};
 ghost use Rattle.arc_core.specs.Step.{legal};
-ghost use Rattle.arc_core.specs.View.{first_holder, view_of};
+ghost use Rattle.arc_core.specs.View.{view_of};
 
 mod counting;
 mod feeding;
@@ -101,7 +101,7 @@ fn view_of(entry: &Entry) -> EntryView
 }
 
 impl Shard {
-    ghost use Rattle.arc_core.specs.View.{first_holder, view_of};
+    ghost use Rattle.arc_core.specs.View.{view_of};
 
     /// A shard with no entries and no history. `c` is its capacity in bytes, from 4,096 to 2^32.
     pub fn new(alloc: Global, c: u64, mintime: u64, bounds: Bounds) -> Shard

@@ -1,5 +1,5 @@
 //! Where each event may come, and the step that makes whichever event it is given.
-ghost use Rattle.std.specs.Prelude.{◌≡◌, ◌<◌, ◌^◌, ◌↔◌, ◌==◌, IsTrue, not};
+ghost use Rattle.std.specs.Prelude.{◌≡◌, ◌↔◌, ◌==◌, IsTrue, not};
 ghost use Rattle.arc_core.specs.declared.event.Event.{Event};
 ghost use Rattle.arc_core.specs.Config.{is_capacity_of};
 ghost use Rattle.arc_core.specs.PlainShard.{holds_of, is_cell, is_number, is_party};

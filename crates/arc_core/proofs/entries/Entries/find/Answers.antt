@@ -1,4 +1,3 @@
-use Rattle.std.proofs.Common.{◌≡◌, sym}
 use Rattle.arc_core.proofs.EntryRows.{found-entry}
 use Rattle.arc_core.proofs.entries.Entries.find.Goals as goal
 

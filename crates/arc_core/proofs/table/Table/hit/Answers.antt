@@ -5,7 +5,6 @@ use Rattle.arc_core.specs.Changes.{one_more}
 use Rattle.arc_core.specs.Edits.{placed}
 use Rattle.arc_core.specs.Rules.{accessed}
 use Rattle.arc_core.specs.Sound.{IsSoundEntry}
-use Rattle.arc_lists.proofs.Standing.{and_left}
 use Rattle.arc_core.proofs.Legal.{hit-count, hit-writes}
 use Rattle.arc_core.proofs.table.Table.hit.Goals as goal
 
