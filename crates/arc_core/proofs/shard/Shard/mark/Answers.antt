@@ -24,7 +24,7 @@ invariant_of-self c =
     record {
       replayed = rw c.mark.ensures (record { sound = kept.replayed.sound; replayed = kept.replayed.replayed; legal = kept.replayed.legal });
       room = rw c.mark.ensures kept.room;
-       few = rw c.mark.ensures kept.few;
+      few = rw c.mark.ensures kept.few;
       halts = rw c.mark.ensures (record { sought = sought-more s.table.shard s.table.marked _ s.halts.sought.event s.halts.sought.search (λ j there. stands_on-with_key j s.table.marked k ∙ or_there (key_eq k j) _ there) kept.halts.sought; walk = kept.halts.walk });
       marked = subst (λ (t : PlainTable). IsSequenceOf (members t.shard) t.marked) (sym c.mark.ensures) more;
     }
