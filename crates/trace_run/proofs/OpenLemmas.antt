@@ -233,14 +233,14 @@ module _ (limit : ℕ) where
   more-opening [] b n are one = (ap suc are.0, (one, tt))
   more-opening (c ∷ cs) b zero are one = absurd (omega (arith, are.0))
   more-opening (c ∷ cs) b (suc n) are one =
-    let rest = more-opening cs b n (omega (arith, are.0), are.1.1) one in
-    (ap suc rest.0, (are.1.0, rest.1))
+      let rest = more-opening cs b n (omega (arith, are.0), are.1.1) one in
+      (ap suc rest.0, (are.1.0, rest.1))
 
   -- one more is made
   pub one-opening : (cells : List HeapCell) (b : HeapCell) (n : ℕ) (more : List HeapCell) → AreOpening limit n cells → IsOpening limit b → more ≡ cells ++ b ∷ [] → AreOpening limit (n + 1) more
   one-opening cells b n more are one is =
-    let h = more-opening cells b n are one in
-    subst (AreOpening limit (n + 1)) (sym is) (omega (arith, h.0), h.1)
+      let h = more-opening cells b n are one in
+      subst (AreOpening limit (n + 1)) (sym is) (omega (arith, h.0), h.1)
 
 module _ (m : Meanings HeapCell) (limit : ℕ) (fresh : (b : HeapCell) → IsOpening limit b → IsFreshCell m b) where
   fresh-at : (cells : List HeapCell) → AllByRecursion (IsOpening limit) cells → (i : ℕ) (b : HeapCell) → get_elem? cells i ≡ some b → IsFreshCell m b
