@@ -24,6 +24,7 @@ pub mod Reached
 pub mod OneEvent
 pub mod HoldEvents
 pub mod Taking
+pub mod Lent
 pub mod Standings
 pub mod HitEvents
 pub mod FollowEvents

@@ -42,3 +42,4 @@ pub mod PoolCalls
 pub mod Reading
 pub mod Picking
 pub mod Resizing
+pub mod Lending

@@ -95,8 +95,9 @@ impl<C: Keeps> Arcs<C> {
             from,
         } = fetched;
         let owner = party.number();
-        both.shard.arrive(owner, ptr.key, ptr.digest, from);
-        let header = written_header(&both.shard, ptr.key, shared);
+        let shard = &mut *both.shard;
+        shard.arrive(owner, ptr.key, ptr.digest, from);
+        let header = written_header(shard, ptr.key, shared);
         change_header(&mut both.hand.own.bucket, header);
         self.give_both(party, ptr.key, both);
         let Ptr { key, digest: _ } = ptr;
@@ -122,8 +123,9 @@ impl<C: Keeps> Arcs<C> {
         ensures { Makes (meanings C.holds C.entries C.opening C.claims C.sound) self.now.config key both.shard (Event.Fail party.old.number key at ∷ []) party.old party.new }
     {
         let n = party.number();
-        both.shard.fail(n, key, at);
-        follow(&mut both.hand.own.bucket, &both.shard, key);
+        let shard = &mut *both.shard;
+        shard.fail(n, key, at);
+        follow(&mut both.hand.own.bucket, shard, key);
         self.give_both(party, key, both);
     }
 }

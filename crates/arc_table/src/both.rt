@@ -15,9 +15,10 @@ ghost use Rattle.turn_table.specs.Taken.{IfBusy, IfTaken};
 use crate::arcs::{Arcs, Party};
 use crate::gives;
 use crate::hand::{Hand, Taken};
+use crate::heap_shard::HeapShard;
 use crate::item::Item;
 use crate::looks::bucket_turn_of;
-use arc_core::{Config, Keeps, Shard};
+use arc_core::{Config, Keeps};
 use blk_ptr::Key;
 use std::snapshot::Snapshot;
 use std::sync::Wait;
@@ -28,7 +29,7 @@ use turn_table::Take;
 pub(crate) struct Both {
     pub(crate) hand: Hand,
     pub(crate) turn: u32,
-    pub(crate) shard: Shard,
+    pub(crate) shard: HeapShard,
 }
 
 // The turn of a key's shard.

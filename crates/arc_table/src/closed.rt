@@ -54,7 +54,7 @@ fn sort_out<C: Drop>(values: Vec<Item<C>>, cells: &mut Vec<C>, shards: &mut Vec<
         match value {
             Item::Cell(cell) => cells.push_reserved(cell),
             Item::Bucket(bucket) => drop(bucket),
-            Item::Shard(shard) => shards.push_reserved(shard),
+            Item::Shard(shard) => shards.push_reserved(shard.into_shard()),
         }
     }
 }

@@ -73,13 +73,14 @@ impl<C: Keeps> Arcs<C> {
     {
         let mut both = self.take_both(rt, party, key);
         let n = party.number();
-        if !may_set(&both.shard, n, key) {
-            both.shard.leave(n, key, Why::Gone);
+        let shard = &mut *both.shard;
+        if !may_set(shard, n, key) {
+            shard.leave(n, key, Why::Gone);
             self.give_both(party, key, both);
             return false;
         }
-        both.shard.set(n, key, place);
-        follow(&mut both.hand.own.bucket, &both.shard, key);
+        shard.set(n, key, place);
+        follow(&mut both.hand.own.bucket, shard, key);
         self.give_both(party, key, both);
         true
     }
@@ -95,8 +96,9 @@ impl<C: Keeps> Arcs<C> {
     {
         let mut both = self.take_both(rt, party, key);
         let n = party.number();
-        let why = reason_for(&both.shard, n, key, why);
-        both.shard.leave(n, key, why);
+        let shard = &mut *both.shard;
+        let why = reason_for(shard, n, key, why);
+        shard.leave(n, key, why);
         self.give_both(party, key, both);
     }
 
@@ -116,17 +118,18 @@ impl<C: Keeps> Arcs<C> {
         ensures err { OnErr result (Does (meanings C.holds C.entries C.opening C.claims C.sound) self.now.config key [] party.old party.new) }
     {
         let mut both = self.take_both(rt, party, key);
-        if !has_place(&both.shard, key, place) {
-            let front = self.front_of(key, &both.shard);
+        let shard = &mut *both.shard;
+        if !has_place(shard, key, place) {
+            let front = self.front_of(key, shard);
             self.give_back(party, key, both);
             return Ok(Cleared::Not(front));
         }
-        let Ok(()) = both.shard.reserve(1, 0) else {
+        let Ok(()) = shard.reserve(1, 0) else {
             self.give_back(party, key, both);
             return Err(NoMemory);
         };
-        both.shard.clear(party.number(), key);
-        follow(&mut both.hand.own.bucket, &both.shard, key);
+        shard.clear(party.number(), key);
+        follow(&mut both.hand.own.bucket, shard, key);
         self.give_both(party, key, both);
         Ok(Cleared::Done)
     }

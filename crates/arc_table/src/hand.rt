@@ -9,9 +9,10 @@ ghost use Rattle.arc_table.specs.Items.{meanings};
 ghost use Rattle.arc_table.specs.ShardGiving.{IsGivenShard, after_shard};
 
 use crate::arcs::{Arcs, Party};
+use crate::heap_shard::HeapShard;
 use crate::item::Item;
 use crate::view::Known;
-use arc_core::{Keeps, Shard};
+use arc_core::Keeps;
 use hash_chain::Bucket;
 use std::snapshot::Snapshot;
 use turn_table::GivenView;
@@ -28,7 +29,7 @@ pub(crate) struct Taken {
 pub(crate) struct Hand {
     pub(crate) own: Taken,
     pub(crate) victims: Vec<Taken>,
-    pub(crate) before: Snapshot<Shard>,
+    pub(crate) before: Snapshot<HeapShard>,
 }
 
 /// A shard was given back, with these buckets in hand.
@@ -45,7 +46,7 @@ impl<C: Keeps> GivenView<Item<C>, Known<C>, Hand> for Events {
 
 impl<C: Keeps> Arcs<C> {
     // Gives the shard back, with the buckets in hand. These stay in hand, as the records of the party have them from then on.
-    pub(crate) fn give_shard(&self, party: &mut Party<C>, turn: u32, shard: Shard, hand: &Hand)
+    pub(crate) fn give_shard(&self, party: &mut Party<C>, turn: u32, shard: HeapShard, hand: &Hand)
         requires party { IsPartyOf self.now party.old }
         requires range { IsShard self.now.config turn }
         requires held { IsAmong turn party.old.held }

@@ -47,11 +47,12 @@ impl<C: Keeps> Arcs<C> {
         ensures { AnswersHand (meanings C.holds C.entries C.opening C.claims C.sound) self.now.config hold to party.old party.new result }
     {
         let mut both = self.take_both(rt, party, hold.key);
-        let Ok(()) = both.shard.reserve(1, 0) else {
+        let shard = &mut *both.shard;
+        let Ok(()) = shard.reserve(1, 0) else {
             self.give_back(party, hold.key, both);
             return Err(hold);
         };
-        both.shard.hand(hold.owner, hold.key, to);
+        shard.hand(hold.owner, hold.key, to);
         self.give_both(party, hold.key, both);
         Ok(Hold {
             key: hold.key,
@@ -85,9 +86,10 @@ impl<C: Keeps> Arcs<C> {
         requires hold { IsHeld self.now.config party.old hold.now }
         ensures { (sole : Bool) × Makes (meanings C.holds C.entries C.opening C.claims C.sound) self.now.config hold.now.key both.shard (Event.Release hold.now.owner hold.now.key sole ∷ []) party.old party.new }
     {
-        let sole = is_sole(&both.shard, hold.key);
-        both.shard.release(hold.owner, hold.key, sole);
-        follow(&mut both.hand.own.bucket, &both.shard, hold.key);
+        let shard = &mut *both.shard;
+        let sole = is_sole(shard, hold.key);
+        shard.release(hold.owner, hold.key, sole);
+        follow(&mut both.hand.own.bucket, shard, hold.key);
         self.give_both(party, hold.key, both);
     }
 }

@@ -85,8 +85,9 @@ impl<C: Keeps> Arcs<C> {
             Take::Busy { owner } => return TryHit::Busy { owner },
             Take::Taken(both) => both,
         };
-        let front = self.front_of(ptr.key, &both.shard);
-        match standing_of(&both.shard, *ptr) {
+        let shard: &Shard = &both.shard;
+        let front = self.front_of(ptr.key, shard);
+        match standing_of(shard, *ptr) {
             Standing::Here => match self.hit_taken(party, both, *ptr, tick) {
                 Ok(hold) => TryHit::Held(hold),
                 Err(NoMemory) => TryHit::NoMemory,
@@ -136,13 +137,14 @@ impl<C: Keeps> Arcs<C> {
             self.give_back(party, ptr.key, both);
             return Err(NoMemory);
         };
-        let Ok(()) = both.shard.reserve(2, 0) else {
+        let shard = &mut *both.shard;
+        let Ok(()) = shard.reserve(2, 0) else {
             self.give_back(party, ptr.key, both);
             return Err(NoMemory);
         };
         let owner = party.number();
-        both.shard.hit(owner, ptr.key, tick);
-        follow(&mut both.hand.own.bucket, &both.shard, ptr.key);
+        shard.hit(owner, ptr.key, tick);
+        follow(&mut both.hand.own.bucket, shard, ptr.key);
         self.give_both(party, ptr.key, both);
         let Ptr { key, digest: _ } = ptr;
         Ok(Hold { key, owner, block })

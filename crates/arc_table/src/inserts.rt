@@ -101,8 +101,9 @@ impl<C: Keeps> Arcs<C> {
                 return Err(NoMemory);
             }
         };
-        scan.both.shard.insert(n, key, digest, tick);
-        let header = written_header(&scan.both.shard, key, block);
+        let shard = &mut *scan.both.shard;
+        shard.insert(n, key, digest, tick);
+        let header = written_header(shard, key, block);
         put_header(&mut scan.both.hand.own.bucket, header);
         self.end_scan(party, scan);
         Ok(())
@@ -131,8 +132,9 @@ impl<C: Keeps> Arcs<C> {
         ensures err { OnErr result (Does (meanings C.holds C.entries C.opening C.claims C.sound) self.now.config key [] party.old party.new) }
     {
         let both = self.take_both(rt, party, key);
-        if !is_new_here(&both.shard, key) {
-            let front = self.front_of(key, &both.shard);
+        let shard: &Shard = &both.shard;
+        if !is_new_here(shard, key) {
+            let front = self.front_of(key, shard);
             self.give_back(party, key, both);
             return Ok(Inserted::There(front));
         }

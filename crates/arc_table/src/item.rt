@@ -3,7 +3,7 @@ ghost use Rattle.std.specs.Prelude.{◌≡◌};
 ghost use Rattle.arc_core.specs.ShardLog.{ShardLog};
 ghost use Rattle.hash_chain.specs.Chain.{Chain};
 
-use arc_core::Shard;
+use crate::heap_shard::HeapShard;
 use hash_chain::Bucket;
 
 /// What lies behind a turn: a cell of the layer above, the headers of a bucket, or a shard with its history.
@@ -11,7 +11,7 @@ use hash_chain::Bucket;
 pub enum Item<C> {
     Cell(C),
     Bucket(Bucket),
-    Shard(Shard),
+    Shard(HeapShard),
 }
 
 impl<C> Item<C> {
@@ -42,7 +42,7 @@ impl<C> Item<C> {
     }
 
     // The shard, where it is one.
-    pub(crate) fn into_shard(self) -> Shard
+    pub(crate) fn into_shard(self) -> HeapShard
         requires { (shard : ShardLog) × (self ≡ item.Shard shard) }
         ensures { self ≡ item.Shard result }
     {

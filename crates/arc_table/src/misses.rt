@@ -81,8 +81,9 @@ impl<C: Keeps> Arcs<C> {
                 return Err(NoMemory);
             }
         };
-        scan.both.shard.miss(n, key, tick);
-        let header = reading_header(&scan.both.shard, key);
+        let shard = &mut *scan.both.shard;
+        shard.miss(n, key, tick);
+        let header = reading_header(shard, key);
         put_header(&mut scan.both.hand.own.bucket, header);
         self.end_scan(party, scan);
         Ok(found)

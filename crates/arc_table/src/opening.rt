@@ -7,6 +7,7 @@ ghost use Rattle.arc_table.specs.Items.{no_chain};
 ghost use Rattle.arc_table.specs.Opening.{AreFresh, AreFreshCells, AreOpeningLogs};
 ghost use Rattle.arc_table.specs.declared.item.Item.TheVariants as item;
 
+use crate::heap_shard::HeapShard;
 use crate::item::Item;
 use arc_core::{Config, Keeps, Shard};
 use blk_ptr::NoMemory;
@@ -63,7 +64,7 @@ fn add_shards<C: Drop>(
     for made in 0..config.shards {
         let _ = made;
         let shard = Shard::new(alloc, config.c, config.mintime, config.bounds);
-        values.push(Item::Shard(shard))?;
+        values.push(Item::Shard(HeapShard::new(alloc, shard)?))?;
     }
     Ok(())
 }

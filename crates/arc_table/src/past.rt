@@ -41,11 +41,12 @@ impl<C: Keeps> Arcs<C> {
             self.give_back(party, key, both);
             return Err(NoMemory);
         };
-        let Ok(()) = both.shard.reserve(1, 0) else {
+        let shard = &mut *both.shard;
+        let Ok(()) = shard.reserve(1, 0) else {
             self.give_back(party, key, both);
             return Err(NoMemory);
         };
-        both.shard.past(party.number(), key, kept);
+        shard.past(party.number(), key, kept);
         self.give_both(party, key, both);
         Ok(bytes)
     }

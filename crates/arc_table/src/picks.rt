@@ -20,10 +20,11 @@ ghost use Rattle.arc_table.specs.ShardGiving.{IsGivenShard, after_shard};
 use crate::arcs::{Arcs, Party};
 use crate::gives;
 use crate::headers::block_of;
+use crate::heap_shard::HeapShard;
 use crate::item::Item;
 use crate::looks::bucket_turn_of;
 use crate::view::Known;
-use arc_core::{Event, Keeps, Shard};
+use arc_core::{Event, Keeps};
 use blk_ptr::{Block, Key, NoMemory};
 use std::snapshot::Snapshot;
 use std::sync::{Arc, Wait};
@@ -41,8 +42,8 @@ pub struct Picked {
 #[derive(Drop)]
 pub(crate) struct Feed<C: Keeps> {
     pub(crate) turn: u32,
-    pub(crate) shard: Shard,
-    pub(crate) before: Snapshot<Shard>,
+    pub(crate) shard: HeapShard,
+    pub(crate) before: Snapshot<HeapShard>,
     pub(crate) began: Snapshot<Party<C>>,
     pub(crate) had: usize,
     pub(crate) len: usize,
@@ -243,14 +244,14 @@ impl<C: Keeps> Arcs<C> {
             len: _,
         } = feed;
         self.turns
-            .give_with::<Snapshot<Shard>, Alone>(party, turn, Item::Shard(shard), &before);
+            .give_with::<Snapshot<HeapShard>, Alone>(party, turn, Item::Shard(shard), &before);
     }
 }
 
 /// A shard was given back, with no bucket in hand.
 pub(crate) struct Alone;
 
-impl<C: Keeps> GivenView<Item<C>, Known<C>, Snapshot<Shard>> for Alone {
+impl<C: Keeps> GivenView<Item<C>, Known<C>, Snapshot<HeapShard>> for Alone {
     ghost use Rattle.std.specs.Prelude.{[]};
     ghost use Rattle.arc_table.specs.InHand.{made_since};
     ghost use Rattle.arc_table.specs.Items.{log_in, meanings};

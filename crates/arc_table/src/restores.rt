@@ -102,12 +102,13 @@ impl<C: Keeps> Arcs<C> {
         ensures answer { AnswersOne (meanings C.holds C.entries C.opening C.claims C.sound) self.now.config restored.now party.old party.new result }
     {
         let mut both = self.take_both(rt, party, restored.key);
-        if both.shard.entry(restored.key).is_some() {
-            let front = self.front_of(restored.key, &both.shard);
+        let shard = &mut *both.shard;
+        if shard.entry(restored.key).is_some() {
+            let front = self.front_of(restored.key, shard);
             self.give_back(party, restored.key, both);
             return Err(Refused::There(front));
         }
-        let Ok(()) = both.shard.reserve(1, 1) else {
+        let Ok(()) = shard.reserve(1, 1) else {
             self.give_back(party, restored.key, both);
             return Err(Refused::NoMemory);
         };
@@ -115,7 +116,7 @@ impl<C: Keeps> Arcs<C> {
             self.give_both(party, restored.key, both);
             return Err(Refused::NoMemory);
         };
-        both.shard.restore(
+        shard.restore(
             party.number(),
             restored.key,
             restored.place,

@@ -62,9 +62,10 @@ fn reserve(both: &mut Both, alloc: Global) -> Result<Vec<Key>, NoMemory>
     ensures room { IfOk result (λ keys. HasBothRoom both.new (vec_capacity keys) × (keys.items ≡ [])) }
     ensures bucket { OnErr result (both.new.hand.own ≡ both.old.hand.own) }
 {
-    let most = both.shard.entries();
+    let shard = &mut *both.shard;
+    let most = shard.entries();
     let events = most.checked_add(3).ok_or(NoMemory)?;
-    both.shard.reserve(events, 1)?;
+    shard.reserve(events, 1)?;
     both.hand.victims.reserve(most)?;
     let keys = Vec::with_capacity(alloc, most)?;
     both.hand.own.bucket.reserve(1)?;

@@ -1,5 +1,6 @@
 use Rattle.std.proofs.Common.{◌≡◌, ◌++◌, ◌+◌, ◌≤◌, length, vec_len, vec_capacity, List, [], ◌∷◌, sym, ap, ◌∙◌, subst, arith}
 use mathlib.Core.List.{append_assoc, append-nil}
+use Rattle.arc_core.specs.ShardLog.{ShardLog}
 use Rattle.arc_table.specs.declared.item.Item.{Item}
 use Rattle.arc_table.specs.declared.item.Item.TheVariants as item
 use Rattle.arc_table.specs.Ended.{cells_in, shards_in}
@@ -72,7 +73,7 @@ loop-value-preserved g c =
     let same = c.push_reserved-in-Shard.ensures.capacity in
     record {
       cells = ap (λ (vs : List (Item g.row.C.Denot)). c.loop-value.cells.items ++ cells_in vs) (sym rest) ∙ before.cells;
-      shards = ap (λ l. l ++ shards_in rest') c.push_reserved-in-Shard.ensures.items ∙ (append_assoc c.loop-value.shards.items (c.in-Shard.shard ∷ []) (shards_in rest')
+      shards = ap (λ l. l ++ shards_in rest') (c.push_reserved-in-Shard.ensures.items ∙ ap (λ (l : ShardLog). c.loop-value.shards.items ++ l ∷ []) c.into_shard.ensures) ∙ (append_assoc c.loop-value.shards.items (c.in-Shard.shard ∷ []) (shards_in rest')
           ∙ (ap (λ (vs : List (Item g.row.C.Denot)). c.loop-value.shards.items ++ shards_in vs) (sym rest) ∙ before.shards));
       cells_room = subst (λ (vs : List (Item g.row.C.Denot)). vec_len c.loop-value.cells + length (cells_in vs) ≤ vec_capacity c.loop-value.cells) rest before.cells_room;
       shards_room = omega arith;

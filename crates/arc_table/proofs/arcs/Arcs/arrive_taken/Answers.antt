@@ -12,40 +12,59 @@ use Rattle.arc_table.specs.Items.{meanings}
 use Rattle.arc_table.proofs.ArriveEvents.{arrive_listed, arrive_made, entry_now, header_read, may_arrive}
 use Rattle.arc_table.proofs.HitEvents.{some_there}
 use Rattle.arc_table.proofs.OneEvent.{makes_these}
+use Rattle.arc_table.proofs.Lent.{lent, lent_taken}
+use Rattle.arc_table.specs.Both.{Makes}
+use Rattle.arc_core.specs.ShardLog.{ShardLog}
+use Rattle.arc_core.specs.PlainShard.{entry_is}
+use Rattle.arc_core.specs.Step.{may_come_from}
 use Rattle.arc_table.proofs.arcs.Arcs.arrive_taken.Goals as goal
 
 pub arrive-requires : goal.arrive-requires
 arrive-requires g c =
     let m = meanings g.C.Keeps.holds g.C.Keeps.entries g.C.Keeps.opening g.C.Keeps.claims g.C.Keeps.sound in
+    let same = c.deref_mut-shard.ensures.value in
+    let b = lent c.args.both c.deref_mut-shard.result.now in
+    let taken = lent_taken m c.args.self.now.config c.args.ptr.key c.args.both c.args.party.now c.deref_mut-shard.result.now same c.requires.taken in
+    let comes = subst (λ (l : ShardLog). IsTrue (entry_is (may_come_from c.args.fetched.from) c.args.ptr.key l.now)) (sym same) c.requires.comes in
     let ptr = c.args.ptr in
     let from = c.args.fetched.from in
-    subst (λ (x : ℕ). IsTrue (legal c.args.both.shard.now (Arrive x ptr.key ptr.digest from))) (sym c.number-owner.ensures)
-    (may_arrive m c.args.self.now.config ptr.key c.args.both c.args.party.now c.requires.taken c.requires.party.config c.requires.taken.kind.valid c.requires.reading ptr.digest from c.requires.comes)
+    subst (λ (x : ℕ). IsTrue (legal b.shard.now (Arrive x ptr.key ptr.digest from))) (sym c.number-owner.ensures)
+    (may_arrive m c.args.self.now.config ptr.key b c.args.party.now taken c.requires.party.config taken.kind.valid c.requires.reading ptr.digest from comes)
 
 pub written_header-header-requires : goal.written_header-header-requires
 written_header-header-requires g c =
     let m = meanings g.C.Keeps.holds g.C.Keeps.entries g.C.Keeps.opening g.C.Keeps.claims g.C.Keeps.sound in
+    let same = c.deref_mut-shard.ensures.value in
+    let b = lent c.args.both c.deref_mut-shard.result.now in
+    let taken = lent_taken m c.args.self.now.config c.args.ptr.key c.args.both c.args.party.now c.deref_mut-shard.result.now same c.requires.taken in
+    let comes = subst (λ (l : ShardLog). IsTrue (entry_is (may_come_from c.args.fetched.from) c.args.ptr.key l.now)) (sym same) c.requires.comes in
     let ptr = c.args.ptr in
     let from = c.args.fetched.from in
-    let now = c.arrive.ensures.makes.now ∙ ap (λ (x : ℕ). after c.args.both.shard.now (Arrive x ptr.key ptr.digest from)) c.number-owner.ensures in
-    some_there (entry_now m c.args.self.now.config ptr.key c.args.both c.args.party.now c.requires.taken c.requires.party.config c.requires.taken.kind.valid c.requires.reading ptr.digest from c.requires.comes c.arrive.new.self now)
+    let now = c.arrive.ensures.makes.now ∙ ap (λ (x : ℕ). after b.shard.now (Arrive x ptr.key ptr.digest from)) c.number-owner.ensures in
+    some_there (entry_now m c.args.self.now.config ptr.key b c.args.party.now taken c.requires.party.config taken.kind.valid c.requires.reading ptr.digest from comes c.arrive.new.self now)
 
 pub change_header-requires : goal.change_header-requires
 change_header-requires g c =
     let m = meanings g.C.Keeps.holds g.C.Keeps.entries g.C.Keeps.opening g.C.Keeps.claims g.C.Keeps.sound in
+    let same = c.deref_mut-shard.ensures.value in
+    let b = lent c.args.both c.deref_mut-shard.result.now in
+    let taken = lent_taken m c.args.self.now.config c.args.ptr.key c.args.both c.args.party.now c.deref_mut-shard.result.now same c.requires.taken in
     let k = c.args.ptr.key in
     let x = c.written_header-header.ensures in
     let key : c.written_header-header.result.key ≡ k = ap (λ (y : Header). y.key) x.2 in
-    let there = header_read m c.args.self.now.config k c.args.both c.args.party.now c.requires.taken c.requires.party.config c.requires.taken.kind.valid c.requires.reading in
-    some_there (ap (λ (y : Key). Rattle.hash_chain.specs.Chain.header_at y c.args.both.hand.own.bucket.headers) key ∙ there.1)
+    let there = header_read m c.args.self.now.config k b c.args.party.now taken c.requires.party.config taken.kind.valid c.requires.reading in
+    some_there (ap (λ (y : Key). Rattle.hash_chain.specs.Chain.header_at y b.hand.own.bucket.headers) key ∙ there.1)
 
 pub give_both-requires-clause-made : goal.give_both-requires-clause-made
 give_both-requires-clause-made g c =
     let m = meanings g.C.Keeps.holds g.C.Keeps.entries g.C.Keeps.opening g.C.Keeps.claims g.C.Keeps.sound in
+    let same = c.deref_mut-shard.ensures.value in
+    let b = lent c.args.both c.deref_mut-shard.result.now in
+    let taken = lent_taken m c.args.self.now.config c.args.ptr.key c.args.both c.args.party.now c.deref_mut-shard.result.now same c.requires.taken in
+    let comes = subst (λ (l : ShardLog). IsTrue (entry_is (may_come_from c.args.fetched.from) c.args.ptr.key l.now)) (sym same) c.requires.comes in
     let ptr = c.args.ptr in
     let k = ptr.key in
     let from = c.args.fetched.from in
-    let b = c.args.both in
     let made = c.arrive.ensures.makes in
     let number = c.number-owner.ensures in
     let now = made.now ∙ ap (λ (x : ℕ). after b.shard.now (Arrive x k ptr.digest from)) number in
@@ -58,18 +77,21 @@ give_both-requires-clause-made g c =
     let shared = c.requires.shared in
     let block : MatchOption o.block ⊥ (λ d. (sha256_of d.value ≡ ptr.digest) × (length d.value ≡ k.size)) =
     subst (λ (y : Header). MatchOption y.block ⊥ (λ d. (sha256_of d.value ≡ ptr.digest) × (length d.value ≡ k.size))) (sym x.2) (ap sha256_of shared ∙ of.digest, ap length shared ∙ of.size) in
-    arrive_made m c.args.self.now.config k b c.args.party.now c.requires.taken c.requires.party.config c.requires.taken.kind.valid c.requires.reading ptr.digest from c.requires.comes c.arrive.new.self now c.change_header.new.bucket o history made.opening
+    arrive_made m c.args.self.now.config k b c.args.party.now taken c.requires.party.config taken.kind.valid c.requires.reading ptr.digest from comes c.arrive.new.self now c.change_header.new.bucket o history made.opening
     with x.0 x.1 (ap (λ (y : Header). y.state) x.2, ap (λ (y : Header). y.reading) x.2, ap (λ (y : Header). y.place) x.2, ap (λ (y : Header). y.digest) x.2, block)
 
 pub returns-clause-makes : goal.returns-clause-makes
 returns-clause-makes g c =
     let m = meanings g.C.Keeps.holds g.C.Keeps.entries g.C.Keeps.opening g.C.Keeps.claims g.C.Keeps.sound in
+    let same = c.deref_mut-shard.ensures.value in
+    let b = lent c.args.both c.deref_mut-shard.result.now in
+    let taken = lent_taken m c.args.self.now.config c.args.ptr.key c.args.both c.args.party.now c.deref_mut-shard.result.now same c.requires.taken in
     let ptr = c.args.ptr in
-    let b = c.args.both in
     let q = c.args.party.now in
     let from = c.args.fetched.from in
-    makes_these m c.args.self.now.config ptr.key b.hand.before.value b.shard c.arrive.new.self (Arrive q.number ptr.key ptr.digest from ∷ []) q c.give_both.new.party c.requires.taken.new
-    (c.arrive.ensures.makes.history ∙ ap (λ (x : ℕ). b.shard.history ++ Arrive x ptr.key ptr.digest from ∷ []) c.number-owner.ensures) c.give_both.ensures
+    subst (λ (l : ShardLog). Makes m c.args.self.now.config c.args.ptr.key l (Arrive q.number ptr.key ptr.digest from ∷ []) c.args.party.now c.give_both.new.party) same
+    (makes_these m c.args.self.now.config ptr.key b.hand.before.value b.shard c.arrive.new.self (Arrive q.number ptr.key ptr.digest from ∷ []) q c.give_both.new.party taken.new
+    (c.arrive.ensures.makes.history ∙ ap (λ (x : ℕ). b.shard.history ++ Arrive x ptr.key ptr.digest from ∷ []) c.number-owner.ensures) c.give_both.ensures)
 
 pub returns-clause-hold : goal.returns-clause-hold
 returns-clause-hold g c =

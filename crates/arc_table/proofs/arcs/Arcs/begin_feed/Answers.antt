@@ -1,6 +1,5 @@
 use Rattle.std.proofs.Common.{◌≡◌, ℕ, ◌<◌, List, length, refl, sym, ap, ◌∙◌, subst}
-use Rattle.turn_table.specs.Board.{IsAmong}
-use Rattle.turn_table.specs.Places.{Place, saw}
+use Rattle.turn_table.specs.Places.{saw}
 use Rattle.arc_core.specs.declared.config.Config.{Config}
 use Rattle.arc_core.specs.Config.{IsConfig}
 use Rattle.arc_core.specs.declared.event.Event.{Event}
@@ -8,7 +7,6 @@ use Rattle.arc_core.specs.ShardLog.{ShardLog}
 use Rattle.arc_table.specs.declared.about.About.{About}
 use Rattle.arc_table.specs.declared.item.Item.{Item}
 use Rattle.arc_table.specs.declared.item.Item.TheVariants as item
-use Rattle.arc_table.specs.declared.view.Known.{Known}
 use Rattle.arc_table.specs.Both.{Takes}
 use Rattle.arc_table.specs.Cache.{Cache}
 use Rattle.arc_table.specs.Fronts.{list_at}
@@ -59,7 +57,7 @@ returns-clause-scan g c =
     ∙ (ap (λ (x : ℕ). list_at x p.own.ledger.picked) here ∙ c.requires.settled) in
     begins m config i l p c.take.new.party takes c.requires.party.config (subst IsConfig same c.self.invariant.valid) range c.requires.look
     record { turn = i; shard = l; before = c.of.result; began = c.of-2.result; had = c.args.had; len = length c.history.result.now }
-    refl refl c.of.ensures c.of-2.ensures (ap (λ (h : List Event). length h) c.history.ensures.history) none
+    refl refl c.of.ensures c.of-2.ensures (ap (λ (h : List Event). length h) c.history.ensures.history ∙ ap (λ (l : ShardLog). length l.history) c.deref.ensures) none
 
 pub returns-clause-picked : goal.returns-clause-picked
 returns-clause-picked g c =

@@ -14,7 +14,8 @@ pub name_victims-requires-clause-scan : goal.name_victims-requires-clause-scan
 name_victims-requires-clause-scan g c =
     let m : Meanings g.row.C.Denot = meanings g.C.Keeps.holds g.C.Keeps.entries g.C.Keeps.opening g.C.Keeps.claims g.C.Keeps.sound in
     let s : Scan = record { both = record { hand = c.reserve.new.both.hand; turn = c.reserve.new.both.turn; shard = c.unmark_all.new.self }; marked = c.in-Ok.marked } in
-    let is : s.both ≡ record c.reserve.new.both { shard = record c.reserve.new.both.shard { marked = [] } } = ap (λ (l : ShardLog). let b : Both = record { hand = c.reserve.new.both.hand; turn = c.reserve.new.both.turn; shard = l } in b) c.unmark_all.ensures in
+    let unmarked : c.unmark_all.new.self ≡ record c.reserve.new.both.shard { marked = [] } = c.unmark_all.ensures ∙ ap (λ (l : ShardLog). let x : ShardLog = record l { marked = [] } in x) c.deref_mut.ensures.value in
+    let is : s.both ≡ record c.reserve.new.both { shard = record c.reserve.new.both.shard { marked = [] } } = ap (λ (l : ShardLog). let b : Both = record { hand = c.reserve.new.both.hand; turn = c.reserve.new.both.turn; shard = l } in b) unmarked in
     record {
       from = c.args.party.now;
       passes = [];
@@ -27,15 +28,16 @@ returns-clause-ok g c =
     let m : Meanings g.row.C.Denot = meanings g.C.Keeps.holds g.C.Keeps.entries g.C.Keeps.opening g.C.Keeps.claims g.C.Keeps.sound in
     let cfg = c.args.self.now.config in
     let s : Scan = record { both = record { hand = c.reserve.new.both.hand; turn = c.reserve.new.both.turn; shard = c.unmark_all.new.self }; marked = c.in-Ok.marked } in
-    let is : s.both ≡ record c.reserve.new.both { shard = record c.reserve.new.both.shard { marked = [] } } = ap (λ (l : ShardLog). let b : Both = record { hand = c.reserve.new.both.hand; turn = c.reserve.new.both.turn; shard = l } in b) c.unmark_all.ensures in
+    let unmarked : c.unmark_all.new.self ≡ record c.reserve.new.both.shard { marked = [] } = c.unmark_all.ensures ∙ ap (λ (l : ShardLog). let x : ShardLog = record l { marked = [] } in x) c.deref_mut.ensures.value in
+    let is : s.both ≡ record c.reserve.new.both { shard = record c.reserve.new.both.shard { marked = [] } } = ap (λ (l : ShardLog). let b : Both = record { hand = c.reserve.new.both.hand; turn = c.reserve.new.both.turn; shard = l } in b) unmarked in
     let k = c.in-Ok.ensures.same in
     let room = c.in-Ok.ensures.room.0 in
     let begun = scan_begins m cfg c.args.both c.reserve.new.both c.args.party.now s k c.requires.may c.requires.new c.requires.alone is in
     let may : MayBegin cfg s.both c.args.party.now = (let h = may_keeps cfg c.args.both c.reserve.new.both c.args.party.now k c.requires.may in h) in
     let did = c.name_victims.ensures in
     let scan = did.scan c.args.party.now [] may begun in
-    let now : c.unmark_all.new.self.now ≡ c.args.both.shard.now = ap (λ (l : ShardLog). l.now) c.unmark_all.ensures ∙ k.now in
-    let entries : c.unmark_all.new.self.entry_room ≡ c.reserve.new.both.shard.entry_room = ap (λ (l : ShardLog). l.entry_room) c.unmark_all.ensures in
+    let now : c.unmark_all.new.self.now ≡ c.args.both.shard.now = ap (λ (l : ShardLog). l.now) unmarked ∙ k.now in
+    let entries : c.unmark_all.new.self.entry_room ≡ c.reserve.new.both.shard.entry_room = ap (λ (l : ShardLog). l.entry_room) unmarked in
     record {
       turn = did.hand.turn ∙ k.turn;
       own = ap (λ (t : Taken). t.turn) did.hand.own ∙ k.own;

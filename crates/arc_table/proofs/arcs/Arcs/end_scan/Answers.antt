@@ -32,7 +32,7 @@ spare_all-requires-clause-in_hand g c =
     let r = c.requires.made in
     let cfg : Config = c.self.inside.config in
     let h : HasMade m cfg r.0 r.1 r.2 c.args.party.now r.3 r.4 c.args.scan = subst (λ (x : Config). HasMade m x r.0 r.1 r.2 c.args.party.now r.3 r.4 c.args.scan) (sym (ap (λ (x : Cache). x.config) c.self.view_is)) r.5 in
-    λ k t. marked_in_hand m cfg r.0 r.1 r.2 c.args.party.now r.3 r.4 c.args.scan h k (subst (λ (ks : List Key). IsTrue (stands_on k ks)) c.deref.ensures.value t)
+    λ k t. marked_in_hand m cfg r.0 r.1 r.2 c.args.party.now r.3 r.4 c.args.scan h k (subst (λ (ks : List Key). IsTrue (stands_on k ks)) c.deref-2.ensures.value t)
 
 pub spare_all-requires-clause-heads : goal.spare_all-requires-clause-heads
 spare_all-requires-clause-heads g c =
@@ -40,7 +40,7 @@ spare_all-requires-clause-heads g c =
     let r = c.requires.made in
     let cfg : Config = c.self.inside.config in
     let h : HasMade m cfg r.0 r.1 r.2 c.args.party.now r.3 r.4 c.args.scan = subst (λ (x : Config). HasMade m x r.0 r.1 r.2 c.args.party.now r.3 r.4 c.args.scan) (sym (ap (λ (x : Cache). x.config) c.self.view_is)) r.5 in
-    subst (λ (ks : List Key). AllPairs (AreHeadsBut cfg c.args.scan.both.hand.before.value.now c.args.scan.both.shard.now ks) (buckets_of c.args.scan.both.hand)) (sym c.deref.ensures.value)
+    subst (λ (x : ShardLog × List Key). AllPairs (AreHeadsBut cfg c.args.scan.both.hand.before.value.now x.0.now x.1) (buckets_of c.args.scan.both.hand)) (λ z. (sym c.deref.ensures z, sym c.deref-2.ensures.value z))
     (all_heads m cfg r.0 r.1 r.2 c.args.party.now r.3 r.4 c.args.scan h)
 
 pub give_shard-requires-clause-range : goal.give_shard-requires-clause-range
@@ -60,11 +60,13 @@ give_shard-requires-clause-given g c =
     let cfg : Config = c.self.inside.config in
     let h : HasMade m cfg r.0 r.1 r.2 c.args.party.now r.3 r.4 c.args.scan = subst (λ (x : Config). HasMade m x r.0 r.1 r.2 c.args.party.now r.3 r.4 c.args.scan) (sym (ap (λ (x : Cache). x.config) c.self.view_is)) r.5 in
     let did = c.spare_all.ensures in
+    let heads : AllPairs (AreHeadsBut cfg c.args.scan.both.hand.before.value.now c.args.scan.both.shard.now []) (buckets_of c.spare_all.new.hand) =
+    subst (λ (l : ShardLog). AllPairs (AreHeadsBut cfg c.args.scan.both.hand.before.value.now l.now []) (buckets_of c.spare_all.new.hand)) c.deref.ensures did.heads in
     let hand : Hand = c.spare_all.new.hand in
     let es : List Event = r.1 ++ r.0 ∷ [] in
-    let give = may_give m cfg r.0 r.1 r.2 c.args.party.now r.3 r.4 c.args.scan h hand did.turns did.before did.heads in
+    let give = may_give m cfg r.0 r.1 r.2 c.args.party.now r.3 r.4 c.args.scan h hand did.turns did.before heads in
     let same : c.args.party.now.own.about.config ≡ cfg = scan_config m cfg c.args.scan.both.turn ((c.args.scan.both.hand.own.turn, r.4) ∷ []) c.args.scan.both.hand.before.value r.2 h.may c.args.party.now r.3 r.3.marked (pairs_of c.args.scan.both.hand.victims.items) r.1 h.scan in
-    let made : made_since c.args.scan.both.hand.before.value c.args.scan.both.shard ≡ es = made_events m cfg r.0 r.1 r.2 c.args.party.now r.3 r.4 c.args.scan h hand did.turns did.before did.heads in
+    let made : made_since c.args.scan.both.hand.before.value c.args.scan.both.shard ≡ es = made_events m cfg r.0 r.1 r.2 c.args.party.now r.3 r.4 c.args.scan h hand did.turns did.before heads in
     subst (λ (x : Config × ShardLog × List Event). IsGivenShard x.0 c.args.party.now c.args.scan.both.turn (buckets_of hand) x.1 x.2 c.args.scan.both.shard)
     (λ z. (sym same z, (sym did.before z).value, (sym made ∙ ap (λ (b : Rattle.std.specs.declared.snapshot.Snapshot.Snapshot ShardLog). made_since b.value c.args.scan.both.shard) (sym did.before)) z)) give
 
@@ -79,9 +81,11 @@ give_bucket-requires-clause-held g c =
     let cfg : Config = c.self.inside.config in
     let h : HasMade m cfg r.0 r.1 r.2 c.args.party.now r.3 r.4 c.args.scan = subst (λ (x : Config). HasMade m x r.0 r.1 r.2 c.args.party.now r.3 r.4 c.args.scan) (sym (ap (λ (x : Cache). x.config) c.self.view_is)) r.5 in
     let did = c.spare_all.ensures in
+    let heads : AllPairs (AreHeadsBut cfg c.args.scan.both.hand.before.value.now c.args.scan.both.shard.now []) (buckets_of c.spare_all.new.hand) =
+    subst (λ (l : ShardLog). AllPairs (AreHeadsBut cfg c.args.scan.both.hand.before.value.now l.now []) (buckets_of c.spare_all.new.hand)) c.deref.ensures did.heads in
     let hand : Hand = c.spare_all.new.hand in
     let es : List Event = made_since hand.before.value c.args.scan.both.shard in
-    let all = all_in_hand m cfg r.0 r.1 r.2 c.args.party.now r.3 r.4 c.args.scan h hand did.turns did.before did.heads es in
+    let all = all_in_hand m cfg r.0 r.1 r.2 c.args.party.now r.3 r.4 c.args.scan h hand did.turns did.before heads es in
     let place : Place (Known g.row.C.Denot) = gave_back c.args.party.now c.args.scan.both.turn (after_shard m (buckets_of hand) c.args.scan.both.turn c.args.scan.both.hand.before.value es c.args.scan.both.shard c.args.party.now.own) in
     let gave : c.give_shard.new.party ≡ place = c.give_shard.ensures ∙ ap (λ (b : Rattle.std.specs.declared.snapshot.Snapshot.Snapshot ShardLog). gave_back c.args.party.now c.args.scan.both.turn (after_shard m (buckets_of hand) c.args.scan.both.turn b.value es c.args.scan.both.shard c.args.party.now.own)) did.before in
     subst (λ (x : Place (Known g.row.C.Denot)). IsInHand m x hand.own.turn hand.own.bucket) (sym gave) all.0
@@ -98,7 +102,9 @@ give_buckets-requires-clause-apart g c =
     let cfg : Config = c.self.inside.config in
     let h : HasMade m cfg r.0 r.1 r.2 c.args.party.now r.3 r.4 c.args.scan = subst (λ (x : Config). HasMade m x r.0 r.1 r.2 c.args.party.now r.3 r.4 c.args.scan) (sym (ap (λ (x : Cache). x.config) c.self.view_is)) r.5 in
     let did = c.spare_all.ensures in
-    (still_apart m cfg r.0 r.1 r.2 c.args.party.now r.3 r.4 c.args.scan h c.spare_all.new.hand did.turns did.before did.heads).1
+    let heads : AllPairs (AreHeadsBut cfg c.args.scan.both.hand.before.value.now c.args.scan.both.shard.now []) (buckets_of c.spare_all.new.hand) =
+    subst (λ (l : ShardLog). AllPairs (AreHeadsBut cfg c.args.scan.both.hand.before.value.now l.now []) (buckets_of c.spare_all.new.hand)) c.deref.ensures did.heads in
+    (still_apart m cfg r.0 r.1 r.2 c.args.party.now r.3 r.4 c.args.scan h c.spare_all.new.hand did.turns did.before heads).1
 
 pub give_buckets-requires-clause-held : goal.give_buckets-requires-clause-held
 give_buckets-requires-clause-held g c =
@@ -107,10 +113,12 @@ give_buckets-requires-clause-held g c =
     let cfg : Config = c.self.inside.config in
     let h : HasMade m cfg r.0 r.1 r.2 c.args.party.now r.3 r.4 c.args.scan = subst (λ (x : Config). HasMade m x r.0 r.1 r.2 c.args.party.now r.3 r.4 c.args.scan) (sym (ap (λ (x : Cache). x.config) c.self.view_is)) r.5 in
     let did = c.spare_all.ensures in
+    let heads : AllPairs (AreHeadsBut cfg c.args.scan.both.hand.before.value.now c.args.scan.both.shard.now []) (buckets_of c.spare_all.new.hand) =
+    subst (λ (l : ShardLog). AllPairs (AreHeadsBut cfg c.args.scan.both.hand.before.value.now l.now []) (buckets_of c.spare_all.new.hand)) c.deref.ensures did.heads in
     let hand : Hand = c.spare_all.new.hand in
     let es : List Event = made_since hand.before.value c.args.scan.both.shard in
-    let all = all_in_hand m cfg r.0 r.1 r.2 c.args.party.now r.3 r.4 c.args.scan h hand did.turns did.before did.heads es in
-    let apart = still_apart m cfg r.0 r.1 r.2 c.args.party.now r.3 r.4 c.args.scan h hand did.turns did.before did.heads in
+    let all = all_in_hand m cfg r.0 r.1 r.2 c.args.party.now r.3 r.4 c.args.scan h hand did.turns did.before heads es in
+    let apart = still_apart m cfg r.0 r.1 r.2 c.args.party.now r.3 r.4 c.args.scan h hand did.turns did.before heads in
     let place : Place (Known g.row.C.Denot) = gave_back c.args.party.now c.args.scan.both.turn (after_shard m (buckets_of hand) c.args.scan.both.turn c.args.scan.both.hand.before.value es c.args.scan.both.shard c.args.party.now.own) in
     let gave : c.give_shard.new.party ≡ place = c.give_shard.ensures ∙ ap (λ (b : Rattle.std.specs.declared.snapshot.Snapshot.Snapshot ShardLog). gave_back c.args.party.now c.args.scan.both.turn (after_shard m (buckets_of hand) c.args.scan.both.turn b.value es c.args.scan.both.shard c.args.party.now.own)) did.before in
     subst (λ (x : Place (Known g.row.C.Denot)). AllPairs (IsInHand m x) (pairs_of hand.victims.items))

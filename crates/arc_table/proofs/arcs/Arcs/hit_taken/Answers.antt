@@ -11,6 +11,8 @@ use Rattle.arc_table.specs.Items.{meanings}
 use Rattle.arc_table.specs.Making.{IsTaken}
 use Rattle.arc_table.proofs.HitEvents.{block_of_it, found, hit_legal, hit_listed, hit_made, some_there}
 use Rattle.arc_table.proofs.OneEvent.{makes_these, taken_few}
+use Rattle.arc_table.proofs.Lent.{lent, lent_taken}
+use Rattle.arc_table.specs.Standing.{is_cached_with}
 use Rattle.arc_table.proofs.arcs.Arcs.hit_taken.Goals as goal
 
 pub block_of-requires : goal.block_of-requires
@@ -21,30 +23,46 @@ block_of-requires g c =
 pub give_back-requires-in_default-reserve-clause-taken : goal.give_back-requires-in_default-reserve-clause-taken
 give_back-requires-in_default-reserve-clause-taken g c =
     let m = meanings g.C.Keeps.holds g.C.Keeps.entries g.C.Keeps.opening g.C.Keeps.claims g.C.Keeps.sound in
-    subst (λ (l : ShardLog). IsTaken m c.args.self.now.config c.args.ptr.key record { hand = c.args.both.hand; turn = c.args.both.turn; shard = l } c.args.party.now) (sym c.in_default-reserve.ensures.err) c.requires.taken
+    let same = c.deref_mut-shard.ensures.value in
+    let b = lent c.args.both c.deref_mut-shard.result.now in
+    let taken = lent_taken m c.args.self.now.config c.args.ptr.key c.args.both c.args.party.now c.deref_mut-shard.result.now same c.requires.taken in
+    subst (λ (l : ShardLog). IsTaken m c.args.self.now.config c.args.ptr.key record { hand = b.hand; turn = b.turn; shard = l } c.args.party.now) (sym c.in_default-reserve.ensures.err) taken
 
 pub returns-in_default-reserve-clause-err : goal.returns-in_default-reserve-clause-err
 returns-in_default-reserve-clause-err g c =
     let m = meanings g.C.Keeps.holds g.C.Keeps.entries g.C.Keeps.opening g.C.Keeps.claims g.C.Keeps.sound in
-    subst (λ (l : ShardLog). Makes m c.args.self.now.config c.args.ptr.key l [] c.args.party.now c.give_back-in_default-reserve.new.party) c.in_default-reserve.ensures.err c.give_back-in_default-reserve.ensures
+    let same = c.deref_mut-shard.ensures.value in
+    subst (λ (l : ShardLog). Makes m c.args.self.now.config c.args.ptr.key l [] c.args.party.now c.give_back-in_default-reserve.new.party) (c.in_default-reserve.ensures.err ∙ same) c.give_back-in_default-reserve.ensures
 
 pub hit-requires-clause-legal : goal.hit-requires-clause-legal
 hit-requires-clause-legal g c =
     let m = meanings g.C.Keeps.holds g.C.Keeps.entries g.C.Keeps.opening g.C.Keeps.claims g.C.Keeps.sound in
-    let valid = c.requires.taken.kind.valid in
-    let f = found m c.args.self.now.config c.args.ptr c.args.both c.args.party.now c.requires.taken c.requires.party.config valid c.requires.here in
+    let same = c.deref_mut-shard.ensures.value in
+    let b = lent c.args.both c.deref_mut-shard.result.now in
+    let taken = lent_taken m c.args.self.now.config c.args.ptr.key c.args.both c.args.party.now c.deref_mut-shard.result.now same c.requires.taken in
+    let here = subst (λ (l : ShardLog). is_cached_with c.args.ptr l.now) (sym same) c.requires.here in
+    let valid = taken.kind.valid in
+    let f = found m c.args.self.now.config c.args.ptr b c.args.party.now taken c.requires.party.config valid here in
     subst (λ (x : ℕ × PlainShard). IsTrue (legal x.1 (Hit x.0 c.args.ptr.key c.args.tick))) (λ z. (sym c.number-owner.ensures z, (sym c.reserve.ensures.log z).now))
-    (hit_legal c.args.party.now.number c.args.tick c.args.ptr.key c.args.both.shard.now f.entry (taken_few m c.args.self.now.config c.args.ptr.key c.args.both c.args.party.now c.requires.taken c.requires.party.config valid) f.there f.resident)
+    (hit_legal c.args.party.now.number c.args.tick c.args.ptr.key b.shard.now f.entry (taken_few m c.args.self.now.config c.args.ptr.key b c.args.party.now taken c.requires.party.config valid) f.there f.resident)
 
 pub follow-requires : goal.follow-requires
 follow-requires g c =
     let m = meanings g.C.Keeps.holds g.C.Keeps.entries g.C.Keeps.opening g.C.Keeps.claims g.C.Keeps.sound in
-    some_there (found m c.args.self.now.config c.args.ptr c.args.both c.args.party.now c.requires.taken c.requires.party.config c.requires.taken.kind.valid c.requires.here).had
+    let same = c.deref_mut-shard.ensures.value in
+    let b = lent c.args.both c.deref_mut-shard.result.now in
+    let taken = lent_taken m c.args.self.now.config c.args.ptr.key c.args.both c.args.party.now c.deref_mut-shard.result.now same c.requires.taken in
+    let here = subst (λ (l : ShardLog). is_cached_with c.args.ptr l.now) (sym same) c.requires.here in
+    some_there (found m c.args.self.now.config c.args.ptr b c.args.party.now taken c.requires.party.config taken.kind.valid here).had
 
 pub give_both-requires-clause-made : goal.give_both-requires-clause-made
 give_both-requires-clause-made g c =
     let m = meanings g.C.Keeps.holds g.C.Keeps.entries g.C.Keeps.opening g.C.Keeps.claims g.C.Keeps.sound in
-    hit_made m c.args.self.now.config c.args.ptr c.args.both c.args.party.now c.requires.taken c.requires.party.config c.requires.taken.kind.valid c.requires.here c.args.tick c.hit.new.self
+    let same = c.deref_mut-shard.ensures.value in
+    let b = lent c.args.both c.deref_mut-shard.result.now in
+    let taken = lent_taken m c.args.self.now.config c.args.ptr.key c.args.both c.args.party.now c.deref_mut-shard.result.now same c.requires.taken in
+    let here = subst (λ (l : ShardLog). is_cached_with c.args.ptr l.now) (sym same) c.requires.here in
+    hit_made m c.args.self.now.config c.args.ptr b c.args.party.now taken c.requires.party.config taken.kind.valid here c.args.tick c.hit.new.self
     (c.hit.ensures.makes.now ∙ (λ z. after (c.reserve.ensures.log z).now (Hit (c.number-owner.ensures z) c.args.ptr.key c.args.tick))) c.follow.new.bucket
     (c.hit.ensures.makes.history ∙ (λ z. (c.reserve.ensures.log z).history ++ Hit (c.number-owner.ensures z) c.args.ptr.key c.args.tick ∷ []))
     (c.hit.ensures.makes.opening ∙ ap (λ (l : ShardLog). l.opening) c.reserve.ensures.log) c.follow.ensures
@@ -52,10 +70,13 @@ give_both-requires-clause-made g c =
 pub returns-clause-ok : goal.returns-clause-ok
 returns-clause-ok g c =
     let m = meanings g.C.Keeps.holds g.C.Keeps.entries g.C.Keeps.opening g.C.Keeps.claims g.C.Keeps.sound in
-    let b = c.args.both in
+    let same = c.deref_mut-shard.ensures.value in
+    let b = lent c.args.both c.deref_mut-shard.result.now in
+    let taken = lent_taken m c.args.self.now.config c.args.ptr.key c.args.both c.args.party.now c.deref_mut-shard.result.now same c.requires.taken in
     let q = c.args.party.now in
-    makes_these m c.args.self.now.config c.args.ptr.key b.hand.before.value b.shard c.hit.new.self (Hit q.number c.args.ptr.key c.args.tick ∷ []) q c.give_both.new.party c.requires.taken.new
-    (c.hit.ensures.makes.history ∙ (λ z. (c.reserve.ensures.log z).history ++ Hit (c.number-owner.ensures z) c.args.ptr.key c.args.tick ∷ [])) c.give_both.ensures
+    subst (λ (l : ShardLog). Makes m c.args.self.now.config c.args.ptr.key l (Hit q.number c.args.ptr.key c.args.tick ∷ []) c.args.party.now c.give_both.new.party) same
+    (makes_these m c.args.self.now.config c.args.ptr.key b.hand.before.value b.shard c.hit.new.self (Hit q.number c.args.ptr.key c.args.tick ∷ []) q c.give_both.new.party taken.new
+    (c.hit.ensures.makes.history ∙ (λ z. (c.reserve.ensures.log z).history ++ Hit (c.number-owner.ensures z) c.args.ptr.key c.args.tick ∷ [])) c.give_both.ensures)
 
 pub returns-clause-hold : goal.returns-clause-hold
 returns-clause-hold g c =

@@ -1,4 +1,4 @@
-use Rattle.std.proofs.Common.{◌≡◌, ◌+◌, ℕ, [], false, refl, sym, ap, ◌∙◌, subst, inr}
+use Rattle.std.proofs.Common.{◌≡◌, ◌+◌, ℕ, length, [], false, refl, sym, ap, ◌∙◌, subst, inr}
 use Rattle.std.specs.Prelude.{OnErr, Result, Ok, Err}
 use Rattle.blk_ptr.specs.declared.digest.Digest.{Digest}
 use Rattle.blk_ptr.specs.Ptr.{sha256_of}
@@ -16,6 +16,7 @@ use Rattle.arc_table.proofs.Reached.{cell_recorded, reached}
 use Rattle.arc_table.proofs.RoomyAfter.{does_roomy_stays}
 use Rattle.arc_table.proofs.RoomyGives.{inserted_listed, only_bucket}
 use Rattle.arc_table.proofs.Taking.{tells}
+use Rattle.arc_core.specs.ShardLog.{ShardLog}
 use Rattle.arc_table.proofs.arcs.Arcs.insert.Goals as goal
 
 pub insert_taken-requires-clause-others : goal.insert_taken-requires-clause-others
@@ -34,7 +35,7 @@ returns-then-not-is_new_here-clause-ok g c =
     let f = c.front_of-front in (
       record { chain = b.result.hand.own.bucket; before = b.result.shard; reached = b.new.party; takes = b.ensures.takes; makes = c.give_back.ensures },
       tells m (λ s. is_new_here k s ≡ false) config k b.result.hand.own.bucket b.result.shard c.args.party.now b.new.party c.give_back.new.party f.result b.ensures.takes c.requires.party.config b.ensures.kind.valid
-          f.ensures.shard f.ensures.len c.give_back.ensures (sym c.is_new_here.ensures ∙ c.if-not-is_new_here.true),
+          f.ensures.shard (f.ensures.len ∙ ap (λ (l : ShardLog). length l.history) c.deref-shard.ensures) c.give_back.ensures (sym (c.is_new_here.ensures ∙ ap (λ (l : ShardLog). is_new_here k l.now) c.deref-shard.ensures) ∙ c.if-not-is_new_here.true),
     )
 
 pub returns-in_err-insert_taken-clause-err : goal.returns-in_err-insert_taken-clause-err

@@ -17,6 +17,7 @@ use Rattle.arc_table.specs.Making.{IsMade}
 use Rattle.arc_table.specs.Items.{Meanings, meanings}
 use Rattle.arc_table.proofs.InsertEvents.{insert_legal, insert_made, insert_there, there_some}
 use Rattle.arc_table.proofs.MissEvents.{makes_roomy, may_taken, none_makes, none_roomier, scanned_party, scanned_replayed}
+use Rattle.arc_table.proofs.Lent.{lent_legal, lent_makes}
 use Rattle.arc_table.proofs.arcs.Arcs.insert_taken.Goals as goal
 
 pub begin_scan-requires-clause-may : goal.begin_scan-requires-clause-may
@@ -36,7 +37,7 @@ begin_scan-requires-clause-legal g c =
     insert_legal c.args.self.now.config c.args.party.now c.args.n c.args.tick c.args.key c.digest-digest.result c.args.both.shard.now c.requires.taken.kind.valid c.requires.cell c.requires.formed c.requires.new
 
 pub insert-requires-clause-legal : goal.insert-requires-clause-legal
-insert-requires-clause-legal g c = c.in-Ok.ensures.ok.legal
+insert-requires-clause-legal g c = lent_legal (Insert c.args.n c.args.key c.digest-digest.result c.args.tick) c.deref_mut-shard.ensures.value c.in-Ok.ensures.ok.legal
 
 pub give_both-requires-clause-made : goal.give_both-requires-clause-made
 give_both-requires-clause-made g c =
@@ -57,7 +58,7 @@ returns-in-Err-clause-err g c =
 pub written_header-header-requires : goal.written_header-header-requires
 written_header-header-requires g c =
     let h = c.in-Ok.ensures.ok in
-    there_some (insert_there c.args.n c.args.tick c.args.key c.digest-digest.result c.in-Ok.scan.both.shard c.insert.new.self h.scan.replayed h.legal c.insert.ensures.makes)
+    there_some (insert_there c.args.n c.args.tick c.args.key c.digest-digest.result c.in-Ok.scan.both.shard c.insert.new.self h.scan.replayed h.legal (lent_makes c.deref_mut-shard.ensures.value c.insert.ensures.makes))
 
 pub end_scan-requires-clause-party : goal.end_scan-requires-clause-party
 end_scan-requires-clause-party g c =
@@ -86,7 +87,7 @@ end_scan-requires-clause-made g c =
       s.both.shard,
       s.both.hand.own.bucket,
       insert_made m c.args.self.now.config c.args.key c.args.both c.args.party.now c.begin_scan.new.party c.args.n c.args.tick c.digest-digest.result s s' h c.requires.taken.kind.turn c.requires.taken.kind.own c.requires.cell
-          c.insert.ensures.makes refl refl refl refl refl x.0 x.1 o
+          (lent_makes c.deref_mut-shard.ensures.value c.insert.ensures.makes) refl refl refl refl refl x.0 x.1 o
           (ap (λ (y : Header). y.state) x.2, ap (λ (y : Header). y.reading) x.2, ap (λ (y : Header). y.place) x.2, ap (λ (y : Header). y.digest) x.2, block) with,
     )
 
@@ -101,5 +102,5 @@ returns-clause-ok g c =
     } in
     let e : Event = Insert c.args.n c.args.key c.digest-digest.result c.args.tick in
     let made = makes_roomy m c.args.self.now.config c.args.key c.args.both c.args.party.now c.begin_scan.new.party c.end_scan.new.party c.requires.taken.kind.turn c.requires.taken.kind.own c.requires.taken.new
-    e s s' h (scanned_replayed m c.args.self.now.config c.args.both e c.args.party.now c.begin_scan.new.party s h c.requires.taken.new) c.insert.ensures.makes refl refl refl refl c.end_scan.ensures in
+    e s s' h (scanned_replayed m c.args.self.now.config c.args.both e c.args.party.now c.begin_scan.new.party s h c.requires.taken.new) (lent_makes c.deref_mut-shard.ensures.value c.insert.ensures.makes) refl refl refl refl c.end_scan.ensures in
     subst (λ (d : Digest). MakesRoomy m c.args.self.now.config c.args.key c.args.both.shard (Insert c.args.n c.args.key d c.args.tick) c.args.party.now c.end_scan.new.party) (c.digest-digest.ensures ∙ ap sha256_of c.deref.ensures) made

@@ -12,6 +12,7 @@ use Rattle.arc_table.specs.InHand.{made_since}
 use Rattle.arc_table.specs.Making.{IsMade}
 use Rattle.arc_table.specs.Items.{Meanings, meanings}
 use Rattle.arc_table.proofs.MissEvents.{makes_roomy, may_taken, miss_legal, miss_made, miss_there, none_makes, none_roomier, scanned_party, scanned_replayed}
+use Rattle.arc_table.proofs.Lent.{lent_legal, lent_makes}
 use Rattle.arc_table.proofs.arcs.Arcs.miss_taken.Goals as goal
 
 pub begin_scan-requires-clause-may : goal.begin_scan-requires-clause-may
@@ -31,7 +32,7 @@ begin_scan-requires-clause-legal g c =
     miss_legal m c.args.self.now.config c.args.key c.args.both c.args.party.now c.requires.taken c.requires.party.config c.requires.taken.kind.valid c.number-n.result c.args.tick c.number-n.ensures c.requires.formed c.requires.missing
 
 pub miss-requires-clause-legal : goal.miss-requires-clause-legal
-miss-requires-clause-legal g c = c.in-Ok.ensures.ok.legal
+miss-requires-clause-legal g c = lent_legal (Miss c.number-n.result c.args.key c.args.tick) c.deref_mut-shard.ensures.value c.in-Ok.ensures.ok.legal
 
 pub give_both-requires-clause-made : goal.give_both-requires-clause-made
 give_both-requires-clause-made g c =
@@ -52,7 +53,7 @@ returns-in-Err-clause-err g c =
 pub reading_header-header-requires : goal.reading_header-header-requires
 reading_header-header-requires g c =
     let h = c.in-Ok.ensures.ok in
-    miss_there c.number-n.result c.args.tick c.args.key c.in-Ok.scan.both.shard c.miss.new.self h.scan.replayed h.legal c.miss.ensures.makes
+    miss_there c.number-n.result c.args.tick c.args.key c.in-Ok.scan.both.shard c.miss.new.self h.scan.replayed h.legal (lent_makes c.deref_mut-shard.ensures.value c.miss.ensures.makes)
 
 pub end_scan-requires-clause-party : goal.end_scan-requires-clause-party
 end_scan-requires-clause-party g c =
@@ -77,7 +78,7 @@ end_scan-requires-clause-made g c =
       s.both.shard,
       s.both.hand.own.bucket,
       miss_made m c.args.self.now.config c.args.key c.args.both c.args.party.now c.begin_scan.new.party c.number-n.result c.args.tick s s' h c.requires.taken.kind.turn c.requires.taken.kind.own c.number-n.ensures
-          c.miss.ensures.makes refl refl refl refl refl x.0 x.1 with,
+          (lent_makes c.deref_mut-shard.ensures.value c.miss.ensures.makes) refl refl refl refl refl x.0 x.1 with,
     )
 
 pub returns-clause-ok : goal.returns-clause-ok
@@ -91,5 +92,5 @@ returns-clause-ok g c =
     } in
     let e : Event = Miss c.number-n.result c.args.key c.args.tick in
     let made = makes_roomy m c.args.self.now.config c.args.key c.args.both c.args.party.now c.begin_scan.new.party c.end_scan.new.party c.requires.taken.kind.turn c.requires.taken.kind.own c.requires.taken.new
-    e s s' h (scanned_replayed m c.args.self.now.config c.args.both e c.args.party.now c.begin_scan.new.party s h c.requires.taken.new) c.miss.ensures.makes refl refl refl refl c.end_scan.ensures in
+    e s s' h (scanned_replayed m c.args.self.now.config c.args.both e c.args.party.now c.begin_scan.new.party s h c.requires.taken.new) (lent_makes c.deref_mut-shard.ensures.value c.miss.ensures.makes) refl refl refl refl c.end_scan.ensures in
     subst (λ (n : ℕ). MakesRoomy m c.args.self.now.config c.args.key c.args.both.shard (Miss n c.args.key c.args.tick) c.args.party.now c.end_scan.new.party) c.number-n.ensures made

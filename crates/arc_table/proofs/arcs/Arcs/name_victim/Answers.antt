@@ -17,6 +17,8 @@ use Rattle.arc_table.specs.InHand.{buckets_of}
 use Rattle.arc_table.specs.Items.{Meanings, meanings}
 use Rattle.arc_table.specs.Rule.{Pact}
 use Rattle.arc_table.proofs.ScanSteps.{free_bucket, free_not_held, mark_room, marked_fewer, marked_room, marked_step, pass_legal, pass_room, passed_fewer, passed_room, passed_step, won_fewer, won_room, won_step}
+use Rattle.arc_table.proofs.Lent.{lent_legal, lent_makes, lent_room}
+use Rattle.arc_core.specs.declared.event.Event.TheVariants.{Pass}
 use Rattle.arc_table.proofs.arcs.Arcs.name_victim.Goals as goal
 
 pub mark-requires-clause-room : goal.mark-requires-clause-room
@@ -146,12 +148,14 @@ pass-requires-clause-legal g c =
     let number : c.number.result ≡ c.args.party.now.number = c.number.ensures ∙ ap (λ (x : Place (Known g.row.C.Denot)). x.number) c.in-Busy.ensures.busy.1 in
     let parties : c.self.inside.turns.parties ≡ parties_of cfg = c.self.invariant.parties ∙ ap (λ (x : Cache). parties_of x.config) c.self.view_is in
     let a = own.0 in
-    pass_legal m cfg valid c.args.key c.requires.victim.0 c.args.scan.now c.requires.victim.1 c.args.party.now c.number.result c.in-Busy.owner c.requires.scan number (omega arith) own.1
+    lent_legal (Pass c.number.result c.args.key c.in-Busy.owner) c.deref_mut.ensures.value
+    (pass_legal m cfg valid c.args.key c.requires.victim.0 c.args.scan.now c.requires.victim.1 c.args.party.now c.number.result c.in-Busy.owner c.requires.scan number (omega arith) own.1)
 
 pub pass-requires-clause-room : goal.pass-requires-clause-room
 pass-requires-clause-room g c =
-    pass_room (meanings g.C.Keeps.holds g.C.Keeps.entries g.C.Keeps.opening g.C.Keeps.claims g.C.Keeps.sound) c.args.self.now.config
-    (subst IsConfig (ap (λ (x : Cache). x.config) c.self.view_is) c.self.invariant.valid) c.args.key c.requires.victim.0 c.args.scan.now c.requires.victim.1 c.number.result c.in-Busy.owner c.requires.room
+    lent_room c.deref_mut.ensures.value
+    (pass_room (meanings g.C.Keeps.holds g.C.Keeps.entries g.C.Keeps.opening g.C.Keeps.claims g.C.Keeps.sound) c.args.self.now.config
+    (subst IsConfig (ap (λ (x : Cache). x.config) c.self.view_is) c.self.invariant.valid) c.args.key c.requires.victim.0 c.args.scan.now c.requires.victim.1 c.number.result c.in-Busy.owner c.requires.room)
 
 pub returns-in-Busy-clause-scan : goal.returns-in-Busy-clause-scan
 returns-in-Busy-clause-scan g c p es may scan =
@@ -166,7 +170,7 @@ returns-in-Busy-clause-scan g c p es may scan =
     let ok = pass_legal m cfg valid c.args.key c.requires.victim.0 c.args.scan.now c.requires.victim.1 c.args.party.now c.number.result c.in-Busy.owner c.requires.scan number (omega arith) own.1 in
     let same : c.self.inside.turns.parties ≡ c.args.party.now.parties = ap (λ (x : Cache). x.row.parties) c.self.view_is ∙ sym c.requires.party.row.1 in
     let other : IsOther c.in-Busy.owner c.args.party.now = (subst (λ (n : ℕ). c.in-Busy.owner < n) same own.0, own.1, own.2) in
-    let step = passed_step m cfg valid c.args.key c.requires.victim.0 c.args.scan.now c.requires.victim.1 c.pass.new.self c.number.result c.in-Busy.owner c.pass.ensures.makes p c.args.party.now es may scan number ok other in (
+    let step = passed_step m cfg valid c.args.key c.requires.victim.0 c.args.scan.now c.requires.victim.1 c.pass.new.self c.number.result c.in-Busy.owner (lent_makes c.deref_mut.ensures.value c.pass.ensures.makes) p c.args.party.now es may scan number ok other in (
       step.0,
       subst (λ (q : Place (Known g.row.C.Denot)). IsScan m cfg p q (record { both = record { hand = c.args.scan.now.both.hand; turn = c.args.scan.now.both.turn; shard = c.pass.new.self }; marked = c.args.scan.now.marked }) step.0)
           (sym (c.in-Busy.ensures.busy.1 ∙ ap (λ (j : ℕ). Rattle.turn_table.specs.Places.saw c.args.party.now (Rattle.arc_table.specs.Views.after_lost j c.in-Busy.owner c.args.party.now.own)) turn)) step.1,
@@ -175,9 +179,9 @@ returns-in-Busy-clause-scan g c p es may scan =
 pub returns-in-Busy-clause-room : goal.returns-in-Busy-clause-room
 returns-in-Busy-clause-room g c =
     passed_room (meanings g.C.Keeps.holds g.C.Keeps.entries g.C.Keeps.opening g.C.Keeps.claims g.C.Keeps.sound) c.args.self.now.config
-    (subst IsConfig (ap (λ (x : Cache). x.config) c.self.view_is) c.self.invariant.valid) c.args.key c.requires.victim.0 c.args.scan.now c.requires.victim.1 c.pass.new.self c.number.result c.in-Busy.owner c.pass.ensures.makes
+    (subst IsConfig (ap (λ (x : Cache). x.config) c.self.view_is) c.self.invariant.valid) c.args.key c.requires.victim.0 c.args.scan.now c.requires.victim.1 c.pass.new.self c.number.result c.in-Busy.owner (lent_makes c.deref_mut.ensures.value c.pass.ensures.makes)
 
 pub returns-in-Busy-clause-fewer : goal.returns-in-Busy-clause-fewer
 returns-in-Busy-clause-fewer g c =
     passed_fewer (meanings g.C.Keeps.holds g.C.Keeps.entries g.C.Keeps.opening g.C.Keeps.claims g.C.Keeps.sound) c.args.self.now.config
-    (subst IsConfig (ap (λ (x : Cache). x.config) c.self.view_is) c.self.invariant.valid) c.args.key c.requires.victim.0 c.args.scan.now c.requires.victim.1 c.pass.new.self c.number.result c.in-Busy.owner c.pass.ensures.makes
+    (subst IsConfig (ap (λ (x : Cache). x.config) c.self.view_is) c.self.invariant.valid) c.args.key c.requires.victim.0 c.args.scan.now c.requires.victim.1 c.pass.new.self c.number.result c.in-Busy.owner (lent_makes c.deref_mut.ensures.value c.pass.ensures.makes)

@@ -1,4 +1,4 @@
-use Rattle.std.proofs.Common.{◌≡◌, ◌<◌, List, sym, ap, subst, arith}
+use Rattle.std.proofs.Common.{◌≡◌, ◌<◌, List, sym, ap, subst, arith, ◌∙◌}
 use Rattle.arc_core.specs.declared.event.Event.{Event}
 use Rattle.arc_core.specs.Owed.{room_for}
 use Rattle.arc_core.specs.ShardLog.{IsUnnamed, ShardLog}
@@ -8,6 +8,7 @@ use Rattle.arc_table.specs.declared.view.Known.{Known}
 use Rattle.arc_table.specs.Evicting.{HasScanRoom, IsScan, IsScanning, MayBegin, left_of}
 use Rattle.arc_table.specs.Items.{Meanings, meanings}
 use Rattle.arc_table.proofs.ScanSteps.{keeps_none, keeps_then, legal_then, may_after, party_after, room_below}
+use Rattle.arc_table.proofs.Lent.{lent_legal}
 use Rattle.arc_table.proofs.arcs.Arcs.name_victims.Goals as goal
 
 pub loop-key-init : goal.loop-key-init
@@ -24,7 +25,8 @@ victim-requires g c =
     let m : Meanings g.row.C.Denot = meanings g.C.Keeps.holds g.C.Keeps.entries g.C.Keeps.opening g.C.Keeps.claims g.C.Keeps.sound in
     let r = c.requires.scan in
     let s = c.loop-key.invariant.scan r.from r.passes r.may r.scan in
-    legal_then m c.args.self.now.config c.args.scan.now c.loop-key.scan c.args.event.now r.from c.args.party.now c.loop-key.party r.passes s.0 c.requires.event c.loop-key.invariant.hand r.scan s.1 c.requires.legal
+    lent_legal c.args.event.now c.deref_mut.ensures.value
+    (legal_then m c.args.self.now.config c.args.scan.now c.loop-key.scan c.args.event.now r.from c.args.party.now c.loop-key.party r.passes s.0 c.requires.event c.loop-key.invariant.hand r.scan s.1 c.requires.legal)
 
 pub name_victim-requires-clause-party : goal.name_victim-requires-clause-party
 name_victim-requires-clause-party g c = c.loop-key.invariant.party
@@ -37,17 +39,17 @@ name_victim-requires-clause-scan g c =
     let m : Meanings g.row.C.Denot = meanings g.C.Keeps.holds g.C.Keeps.entries g.C.Keeps.opening g.C.Keeps.claims g.C.Keeps.sound in
     let r = c.requires.scan in
     let s = c.loop-key.invariant.scan r.from r.passes r.may r.scan in
-    subst (λ (l : ShardLog). IsScanning m c.args.self.now.config (record { both = record { hand = c.loop-key.scan.both.hand; turn = c.loop-key.scan.both.turn; shard = l }; marked = c.loop-key.scan.marked }) c.loop-key.party) (sym c.in-Some.ensures.log)
+    subst (λ (l : ShardLog). IsScanning m c.args.self.now.config (record { both = record { hand = c.loop-key.scan.both.hand; turn = c.loop-key.scan.both.turn; shard = l }; marked = c.loop-key.scan.marked }) c.loop-key.party) (sym (c.in-Some.ensures.log ∙ c.deref_mut.ensures.value))
     record { from = r.from; passes = s.0; may = may_after c.args.self.now.config c.args.scan.now.both c.loop-key.scan.both r.from c.loop-key.invariant.hand r.may; scan = s.1 }
 
 pub name_victim-requires-clause-room : goal.name_victim-requires-clause-room
 name_victim-requires-clause-room g c =
-    subst (λ (l : ShardLog). HasScanRoom 0 (record { both = record { hand = c.loop-key.scan.both.hand; turn = c.loop-key.scan.both.turn; shard = l }; marked = c.loop-key.scan.marked })) (sym c.in-Some.ensures.log)
+    subst (λ (l : ShardLog). HasScanRoom 0 (record { both = record { hand = c.loop-key.scan.both.hand; turn = c.loop-key.scan.both.turn; shard = l }; marked = c.loop-key.scan.marked })) (sym (c.in-Some.ensures.log ∙ c.deref_mut.ensures.value))
     (room_below (room_for c.args.event.now) c.loop-key.scan c.loop-key.invariant.room)
 
 pub loop-key-smaller : goal.loop-key-smaller
 loop-key-smaller g c =
-    subst (λ (l : ShardLog). left_of c.name_victim.new.scan < left_of (record { both = record { hand = c.loop-key.scan.both.hand; turn = c.loop-key.scan.both.turn; shard = l }; marked = c.loop-key.scan.marked })) c.in-Some.ensures.log
+    subst (λ (l : ShardLog). left_of c.name_victim.new.scan < left_of (record { both = record { hand = c.loop-key.scan.both.hand; turn = c.loop-key.scan.both.turn; shard = l }; marked = c.loop-key.scan.marked })) (c.in-Some.ensures.log ∙ c.deref_mut.ensures.value)
     c.name_victim.ensures.fewer
 
 pub loop-key-preserved : goal.loop-key-preserved
@@ -55,7 +57,7 @@ loop-key-preserved g c =
     let m : Meanings g.row.C.Denot = meanings g.C.Keeps.holds g.C.Keeps.entries g.C.Keeps.opening g.C.Keeps.claims g.C.Keeps.sound in
     let cfg = c.args.self.now.config in
     let S : ShardLog → Scan = λ l. record { both = record { hand = c.loop-key.scan.both.hand; turn = c.loop-key.scan.both.turn; shard = l }; marked = c.loop-key.scan.marked } in
-    let log : c.victim.new.self ≡ c.loop-key.scan.both.shard = c.in-Some.ensures.log in
+    let log : c.victim.new.self ≡ c.loop-key.scan.both.shard = (c.in-Some.ensures.log ∙ c.deref_mut.ensures.value) in
     let did = c.name_victim.ensures in
     let r = c.requires.scan in
     let before = c.loop-key.invariant in
@@ -81,12 +83,12 @@ pub returns-clause-scan : goal.returns-clause-scan
 returns-clause-scan g c p es may scan =
     let m : Meanings g.row.C.Denot = meanings g.C.Keeps.holds g.C.Keeps.entries g.C.Keeps.opening g.C.Keeps.claims g.C.Keeps.sound in
     let s = c.loop-key.invariant.scan p es may scan in
-    (s.0, subst (λ (l : ShardLog). IsScan m c.args.self.now.config p c.loop-key.party (record { both = record { hand = c.loop-key.scan.both.hand; turn = c.loop-key.scan.both.turn; shard = l }; marked = c.loop-key.scan.marked }) s.0) (sym c.in_default.ensures.log) s.1)
+    (s.0, subst (λ (l : ShardLog). IsScan m c.args.self.now.config p c.loop-key.party (record { both = record { hand = c.loop-key.scan.both.hand; turn = c.loop-key.scan.both.turn; shard = l }; marked = c.loop-key.scan.marked }) s.0) (sym (c.in_default.ensures.log ∙ c.deref_mut.ensures.value)) s.1)
 
 pub returns-clause-room : goal.returns-clause-room
 returns-clause-room g c =
-    subst (λ (l : ShardLog). HasScanRoom (room_for c.args.event.now) (record { both = record { hand = c.loop-key.scan.both.hand; turn = c.loop-key.scan.both.turn; shard = l }; marked = c.loop-key.scan.marked })) (sym c.in_default.ensures.log)
+    subst (λ (l : ShardLog). HasScanRoom (room_for c.args.event.now) (record { both = record { hand = c.loop-key.scan.both.hand; turn = c.loop-key.scan.both.turn; shard = l }; marked = c.loop-key.scan.marked })) (sym (c.in_default.ensures.log ∙ c.deref_mut.ensures.value))
     c.loop-key.invariant.room
 
 pub returns-clause-entry_room : goal.returns-clause-entry_room
-returns-clause-entry_room g c = let a = c.loop-key.invariant.entry_room in let d : c.victim.new.self.entry_room ≡ c.loop-key.scan.both.shard.entry_room = ap (λ (l : ShardLog). l.entry_room) c.in_default.ensures.log in omega arith
+returns-clause-entry_room g c = let a = c.loop-key.invariant.entry_room in let d : c.victim.new.self.entry_room ≡ c.loop-key.scan.both.shard.entry_room = ap (λ (l : ShardLog). l.entry_room) (c.in_default.ensures.log ∙ c.deref_mut.ensures.value) in omega arith

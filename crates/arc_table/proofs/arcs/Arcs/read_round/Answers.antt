@@ -1,12 +1,22 @@
-use Rattle.std.proofs.Common.{[], refl}
+use Rattle.std.proofs.Common.{[], refl, subst, sym}
 use Rattle.arc_table.specs.Items.{meanings}
 use Rattle.arc_table.specs.Reading.{outside}
 use Rattle.arc_table.proofs.AfterRead.{answers_stays}
 use Rattle.arc_table.proofs.Afterwards.{stays_free, stays_party}
-use Rattle.arc_table.proofs.Reached.{reached}
+use Rattle.arc_table.proofs.Reached.{reached, sound_log}
 use Rattle.arc_table.proofs.RoomyGives.{only_bucket}
 use Rattle.arc_table.proofs.Rounds.{does_these, missed_reading, missed_stays, none_stays, round_hit, round_missed, round_none, round_past}
+use Rattle.arc_core.specs.ShardLog.{IsReplayed, ShardLog}
+use Rattle.arc_table.specs.Standing.{StandsSo}
+use Rattle.arc_table.specs.declared.hits.Standing.TheVariants as standing
 use Rattle.arc_table.proofs.arcs.Arcs.read_round.Goals as goal
+
+pub standing_of-requires : goal.standing_of-requires
+standing_of-requires g c =
+    let m = meanings g.C.Keeps.holds g.C.Keeps.entries g.C.Keeps.opening g.C.Keeps.claims g.C.Keeps.sound in
+    let b = c.take_both-both in
+    let log = sound_log m c.args.self.now.config c.args.ptr.key b.result.hand.own.bucket b.result.shard c.args.party.now b.new.party b.ensures.takes c.requires.party.config b.ensures.kind.valid in
+    subst (λ (l : ShardLog). IsReplayed l) (sym c.deref.ensures) log.replayed
 
 pub miss_taken-requires-clause-others : goal.miss_taken-requires-clause-others
 miss_taken-requires-clause-others g c =
@@ -40,11 +50,12 @@ end_miss-requires-clause-reading g c κs within =
 pub returns-in-Reading-clause-answer : goal.returns-in-Reading-clause-answer
 returns-in-Reading-clause-answer g c =
     let m = meanings g.C.Keeps.holds g.C.Keeps.entries g.C.Keeps.opening g.C.Keeps.claims g.C.Keeps.sound in
+    let stood = subst (λ (l : ShardLog). StandsSo c.args.ptr l.now (standing.Reading c.in-Reading.owner)) c.deref.ensures c.in-Reading.ensures in
     let b = c.take_both-both in (
       record {
         does = does_these m c.args.self.now.config c.args.ptr.key b.result.hand.own.bucket b.result.shard c.args.party.now b.new.party c.give_back.new.party b.ensures.takes [] c.give_back.ensures;
         owner = c.in-Reading.owner;
-        reading = c.in-Reading.ensures;
+        reading = stood;
       },
       refl,
     )
@@ -64,9 +75,10 @@ returns-in-Reading-clause-held g c =
 pub returns-in-Ok-clause-answer : goal.returns-in-Ok-clause-answer
 returns-in-Ok-clause-answer g c =
     let m = meanings g.C.Keeps.holds g.C.Keeps.entries g.C.Keeps.opening g.C.Keeps.claims g.C.Keeps.sound in
+    let stood = subst (λ (l : ShardLog). StandsSo c.args.ptr l.now (standing.Here)) c.deref.ensures c.in-Here.ensures in
     let b = c.take_both-both in
     round_hit m g.P.Pool g.D.CacheDev c.args.self.now.config c.args.ptr c.args.tick b.result.hand.own.bucket b.result.shard c.args.party.now b.new.party c.hit_taken.new.party b.ensures.takes
-    (outside c.args.pool.now c.args.cache.now) c.in-Ok.hold c.in-Here.ensures c.in-Ok.ensures.ok c.in-Ok.ensures.hold
+    (outside c.args.pool.now c.args.cache.now) c.in-Ok.hold stood c.in-Ok.ensures.ok c.in-Ok.ensures.hold
 
 pub returns-in-Err-clause-answer : goal.returns-in-Err-clause-answer
 returns-in-Err-clause-answer g c =
@@ -78,9 +90,10 @@ returns-in-Err-clause-answer g c =
 pub returns-in-Ok-past_taken-clause-answer : goal.returns-in-Ok-past_taken-clause-answer
 returns-in-Ok-past_taken-clause-answer g c =
     let m = meanings g.C.Keeps.holds g.C.Keeps.entries g.C.Keeps.opening g.C.Keeps.claims g.C.Keeps.sound in
+    let stood = subst (λ (l : ShardLog). StandsSo c.args.ptr l.now (standing.Other c.in-Other.kept)) c.deref.ensures c.in-Other.ensures in
     let b = c.take_both-both in
     round_past m g.P.Pool g.D.CacheDev c.args.self.now.config c.args.ptr c.args.tick b.result.hand.own.bucket b.result.shard c.args.party.now b.new.party c.past_taken.new.party b.ensures.takes
-    (outside c.args.pool.now c.args.cache.now) (outside c.read_past.new.pool c.args.cache.now) c.in-Other.kept c.read_past.result c.in-Other.ensures c.in-Ok-past_taken.ensures.ok refl c.read_past.ensures
+    (outside c.args.pool.now c.args.cache.now) (outside c.read_past.new.pool c.args.cache.now) c.in-Other.kept c.read_past.result stood c.in-Ok-past_taken.ensures.ok refl c.read_past.ensures
 
 pub returns-in-Err-past_taken-clause-answer : goal.returns-in-Err-past_taken-clause-answer
 returns-in-Err-past_taken-clause-answer g c =
@@ -92,9 +105,10 @@ returns-in-Err-past_taken-clause-answer g c =
 pub returns-in-Ok-miss_taken-clause-answer : goal.returns-in-Ok-miss_taken-clause-answer
 returns-in-Ok-miss_taken-clause-answer g c =
     let m = meanings g.C.Keeps.holds g.C.Keeps.entries g.C.Keeps.opening g.C.Keeps.claims g.C.Keeps.sound in
+    let stood = subst (λ (l : ShardLog). StandsSo c.args.ptr l.now (standing.Missing)) c.deref.ensures c.in-Missing.ensures in
     let b = c.take_both-both in
     round_missed m g.P.Pool g.D.CacheDev c.args.self.now.config c.args.ptr c.args.tick b.result.hand.own.bucket b.result.shard c.args.party.now b.new.party c.miss_taken.new.party b.ensures.takes
-    (outside c.args.pool.now c.args.cache.now) (outside c.end_miss.new.pool c.end_miss.new.cache) c.in-Ok-miss_taken.found c.end_miss.new.party c.end_miss.result c.in-Missing.ensures c.in-Ok-miss_taken.ensures.ok
+    (outside c.args.pool.now c.args.cache.now) (outside c.end_miss.new.pool c.end_miss.new.cache) c.in-Ok-miss_taken.found c.end_miss.new.party c.end_miss.result stood c.in-Ok-miss_taken.ensures.ok
     c.in-Ok-miss_taken.ensures.found c.end_miss.ensures.answer
 
 pub returns-in-Err-miss_taken-clause-answer : goal.returns-in-Err-miss_taken-clause-answer

@@ -1,4 +1,4 @@
-use Rattle.std.proofs.Common.{◌≡◌, ℕ, ◌<◌, refl, sym, ap, ◌∙◌, subst}
+use Rattle.std.proofs.Common.{ℕ, ◌<◌, refl, sym, subst}
 use Rattle.arc_core.specs.PlainShard.{numbers}
 use Rattle.arc_core.specs.declared.event.Event.{Event}
 use Rattle.arc_core.specs.declared.event.Event.TheVariants.{Resize}
@@ -13,6 +13,7 @@ use Rattle.arc_table.specs.Making.{IsMade}
 use Rattle.arc_table.proofs.MissEvents.{makes_roomy, may_taken, none_makes, none_roomier, scanned_party, scanned_replayed}
 use Rattle.arc_table.proofs.OneEvent.{taken_few}
 use Rattle.arc_table.proofs.CapacityEvents.{resize_legal, resize_made}
+use Rattle.arc_table.proofs.Lent.{lent_legal, lent_makes}
 use Rattle.arc_table.proofs.arcs.Arcs.resize_taken.Goals as goal
 
 pub begin_scan-requires-clause-may : goal.begin_scan-requires-clause-may
@@ -33,7 +34,7 @@ begin_scan-requires-clause-legal g c =
     resize_legal c.number-n.result c.args.c c.args.both.shard.now (subst (λ (n : ℕ). n < numbers) (sym c.number-n.ensures) few) c.requires.capacity
 
 pub resize-requires-clause-legal : goal.resize-requires-clause-legal
-resize-requires-clause-legal g c = c.in-Ok.ensures.ok.legal
+resize-requires-clause-legal g c = lent_legal (Resize c.number-n.result c.args.c) c.deref_mut.ensures.value c.in-Ok.ensures.ok.legal
 
 pub give_both-requires-clause-made : goal.give_both-requires-clause-made
 give_both-requires-clause-made g c =
@@ -66,7 +67,7 @@ end_scan-requires-clause-made g c =
       c.args.party.now,
       s.both.shard,
       s.both.hand.own.bucket,
-      resize_made m c.args.self.now.config c.args.both c.args.party.now c.begin_scan.new.party c.number-n.result c.args.c s c.resize.new.self h c.number-n.ensures c.requires.feeder c.resize.ensures.makes,
+      resize_made m c.args.self.now.config c.args.both c.args.party.now c.begin_scan.new.party c.number-n.result c.args.c s c.resize.new.self h c.number-n.ensures c.requires.feeder (lent_makes c.deref_mut.ensures.value c.resize.ensures.makes),
     )
 
 pub returns-clause-ok : goal.returns-clause-ok
@@ -77,5 +78,5 @@ returns-clause-ok g c =
     let s' : Scan = record { both = record { hand = s.both.hand; turn = s.both.turn; shard = c.resize.new.self }; marked = s.marked } in
     let e : Event = Resize c.number-n.result c.args.c in
     let made = makes_roomy m c.args.self.now.config c.args.key c.args.both c.args.party.now c.begin_scan.new.party c.end_scan.new.party c.requires.taken.kind.turn c.requires.taken.kind.own c.requires.taken.new
-    e s s' h (scanned_replayed m c.args.self.now.config c.args.both e c.args.party.now c.begin_scan.new.party s h c.requires.taken.new) c.resize.ensures.makes refl refl refl refl c.end_scan.ensures in
+    e s s' h (scanned_replayed m c.args.self.now.config c.args.both e c.args.party.now c.begin_scan.new.party s h c.requires.taken.new) (lent_makes c.deref_mut.ensures.value c.resize.ensures.makes) refl refl refl refl c.end_scan.ensures in
     subst (λ (n : ℕ). MakesRoomy m c.args.self.now.config c.args.key c.args.both.shard (Resize n c.args.c) c.args.party.now c.end_scan.new.party) c.number-n.ensures made

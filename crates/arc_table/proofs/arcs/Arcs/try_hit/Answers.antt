@@ -1,3 +1,4 @@
+use Rattle.std.proofs.Common.{◌∙◌, ap, length, subst, sym}
 use Rattle.std.specs.Prelude.{IsTrue, ◌&&◌}
 use Rattle.arc_core.specs.PlainShard.{entry_is, is_resident, keeps_digest}
 use Rattle.arc_core.specs.Step.{is_missing, reads}
@@ -5,59 +6,76 @@ use Rattle.arc_table.specs.Items.{meanings}
 use Rattle.arc_table.specs.declared.hits.Standing.TheVariants as standing
 use Rattle.arc_table.proofs.Holders.{held_still}
 use Rattle.arc_table.proofs.Taking.{tells}
+use Rattle.arc_core.specs.ShardLog.{IsReplayed, ShardLog}
+use Rattle.arc_table.specs.Standing.{StandsSo}
+use Rattle.arc_table.proofs.Reached.{sound_log}
 use Rattle.arc_table.proofs.arcs.Arcs.try_hit.Goals as goal
+
+pub standing_of-requires : goal.standing_of-requires
+standing_of-requires g c =
+    let m = meanings g.C.Keeps.holds g.C.Keeps.entries g.C.Keeps.opening g.C.Keeps.claims g.C.Keeps.sound in
+    let b = c.in-Taken.both in
+    let e = c.in-Taken.ensures in
+    let log = sound_log m c.args.self.now.config c.args.ptr.now.key b.hand.own.bucket b.shard c.args.party.now c.try_both.new.party e.takes c.requires.party.config e.kind.valid in
+    subst (λ (l : ShardLog). IsReplayed l) (sym c.deref-shard.ensures) log.replayed
 
 pub returns-in-Missing-clause-answer : goal.returns-in-Missing-clause-answer
 returns-in-Missing-clause-answer g c =
     let m = meanings g.C.Keeps.holds g.C.Keeps.entries g.C.Keeps.opening g.C.Keeps.claims g.C.Keeps.sound in
+    let stood = subst (λ (l : ShardLog). StandsSo c.args.ptr.now l.now (standing.Missing)) c.deref-shard.ensures c.in-Missing.ensures in
     let b = c.in-Taken.both in
     let e = c.in-Taken.ensures in
     let f = c.front_of-front in
     let k = c.args.ptr.now.key in (
       record { chain = b.hand.own.bucket; before = b.shard; reached = c.try_both.new.party; takes = e.takes; makes = c.give_back.ensures },
-      tells m (λ s. IsTrue (is_missing k s)) c.args.self.now.config k b.hand.own.bucket b.shard c.args.party.now c.try_both.new.party c.give_back.new.party f.result e.takes c.requires.party.config e.kind.valid f.ensures.shard f.ensures.len c.give_back.ensures c.in-Missing.ensures,
+      tells m (λ s. IsTrue (is_missing k s)) c.args.self.now.config k b.hand.own.bucket b.shard c.args.party.now c.try_both.new.party c.give_back.new.party f.result e.takes c.requires.party.config e.kind.valid f.ensures.shard (f.ensures.len ∙ ap (λ (l : ShardLog). length l.history) c.deref-shard.ensures) c.give_back.ensures stood,
     )
 
 pub returns-in-Other-clause-answer : goal.returns-in-Other-clause-answer
 returns-in-Other-clause-answer g c =
     let m = meanings g.C.Keeps.holds g.C.Keeps.entries g.C.Keeps.opening g.C.Keeps.claims g.C.Keeps.sound in
+    let stood = subst (λ (l : ShardLog). StandsSo c.args.ptr.now l.now (standing.Other c.in-Other.kept)) c.deref-shard.ensures c.in-Other.ensures in
     let b = c.in-Taken.both in
     let e = c.in-Taken.ensures in
     let f = c.front_of-front in
     let k = c.args.ptr.now.key in (
       record { chain = b.hand.own.bucket; before = b.shard; reached = c.try_both.new.party; takes = e.takes; makes = c.give_back-in-Other.ensures },
-      c.in-Other.ensures.0,
-      tells m (λ s. IsTrue (entry_is (λ e. is_resident e && keeps_digest c.in-Other.kept e) k s)) c.args.self.now.config k b.hand.own.bucket b.shard c.args.party.now c.try_both.new.party c.give_back-in-Other.new.party f.result e.takes c.requires.party.config e.kind.valid f.ensures.shard f.ensures.len c.give_back-in-Other.ensures c.in-Other.ensures.1,
+      stood.0,
+      tells m (λ s. IsTrue (entry_is (λ e. is_resident e && keeps_digest c.in-Other.kept e) k s)) c.args.self.now.config k b.hand.own.bucket b.shard c.args.party.now c.try_both.new.party c.give_back-in-Other.new.party f.result e.takes c.requires.party.config e.kind.valid f.ensures.shard (f.ensures.len ∙ ap (λ (l : ShardLog). length l.history) c.deref-shard.ensures) c.give_back-in-Other.ensures stood.1,
     )
 
 pub returns-in-Reading-clause-answer : goal.returns-in-Reading-clause-answer
 returns-in-Reading-clause-answer g c =
     let m = meanings g.C.Keeps.holds g.C.Keeps.entries g.C.Keeps.opening g.C.Keeps.claims g.C.Keeps.sound in
+    let stood = subst (λ (l : ShardLog). StandsSo c.args.ptr.now l.now (standing.Reading c.in-Reading.owner)) c.deref-shard.ensures c.in-Reading.ensures in
     let b = c.in-Taken.both in
     let e = c.in-Taken.ensures in
     let f = c.front_of-front in
     let k = c.args.ptr.now.key in (
       record { chain = b.hand.own.bucket; before = b.shard; reached = c.try_both.new.party; takes = e.takes; makes = c.give_back-in-Reading.ensures },
-      tells m (λ s. IsTrue (entry_is (reads c.in-Reading.owner) k s)) c.args.self.now.config k b.hand.own.bucket b.shard c.args.party.now c.try_both.new.party c.give_back-in-Reading.new.party f.result e.takes c.requires.party.config e.kind.valid f.ensures.shard f.ensures.len c.give_back-in-Reading.ensures c.in-Reading.ensures,
+      tells m (λ s. IsTrue (entry_is (reads c.in-Reading.owner) k s)) c.args.self.now.config k b.hand.own.bucket b.shard c.args.party.now c.try_both.new.party c.give_back-in-Reading.new.party f.result e.takes c.requires.party.config e.kind.valid f.ensures.shard (f.ensures.len ∙ ap (λ (l : ShardLog). length l.history) c.deref-shard.ensures) c.give_back-in-Reading.ensures stood,
     )
 
 pub returns-in-Missing-clause-holder : goal.returns-in-Missing-clause-holder
 returns-in-Missing-clause-holder g c n listed =
     let m = meanings g.C.Keeps.holds g.C.Keeps.entries g.C.Keeps.opening g.C.Keeps.claims g.C.Keeps.sound in
+    let stood = subst (λ (l : ShardLog). StandsSo c.args.ptr.now l.now (standing.Missing)) c.deref-shard.ensures c.in-Missing.ensures in
     let b = c.in-Taken.both in
     let e = c.in-Taken.ensures in
-    held_still m c.args.self.now.config b.hand.own.bucket b.shard c.args.ptr.now c.args.party.now c.try_both.new.party e.takes c.requires.party.config e.kind.valid n listed (standing.Missing) c.in-Missing.ensures
+    held_still m c.args.self.now.config b.hand.own.bucket b.shard c.args.ptr.now c.args.party.now c.try_both.new.party e.takes c.requires.party.config e.kind.valid n listed (standing.Missing) stood
 
 pub returns-in-Other-clause-holder : goal.returns-in-Other-clause-holder
 returns-in-Other-clause-holder g c n listed =
     let m = meanings g.C.Keeps.holds g.C.Keeps.entries g.C.Keeps.opening g.C.Keeps.claims g.C.Keeps.sound in
+    let stood = subst (λ (l : ShardLog). StandsSo c.args.ptr.now l.now (standing.Other c.in-Other.kept)) c.deref-shard.ensures c.in-Other.ensures in
     let b = c.in-Taken.both in
     let e = c.in-Taken.ensures in
-    held_still m c.args.self.now.config b.hand.own.bucket b.shard c.args.ptr.now c.args.party.now c.try_both.new.party e.takes c.requires.party.config e.kind.valid n listed (standing.Other c.in-Other.kept) c.in-Other.ensures
+    held_still m c.args.self.now.config b.hand.own.bucket b.shard c.args.ptr.now c.args.party.now c.try_both.new.party e.takes c.requires.party.config e.kind.valid n listed (standing.Other c.in-Other.kept) stood
 
 pub returns-in-Reading-clause-holder : goal.returns-in-Reading-clause-holder
 returns-in-Reading-clause-holder g c n listed =
     let m = meanings g.C.Keeps.holds g.C.Keeps.entries g.C.Keeps.opening g.C.Keeps.claims g.C.Keeps.sound in
+    let stood = subst (λ (l : ShardLog). StandsSo c.args.ptr.now l.now (standing.Reading c.in-Reading.owner)) c.deref-shard.ensures c.in-Reading.ensures in
     let b = c.in-Taken.both in
     let e = c.in-Taken.ensures in
-    held_still m c.args.self.now.config b.hand.own.bucket b.shard c.args.ptr.now c.args.party.now c.try_both.new.party e.takes c.requires.party.config e.kind.valid n listed (standing.Reading c.in-Reading.owner) c.in-Reading.ensures
+    held_still m c.args.self.now.config b.hand.own.bucket b.shard c.args.ptr.now c.args.party.now c.try_both.new.party e.takes c.requires.party.config e.kind.valid n listed (standing.Reading c.in-Reading.owner) stood
