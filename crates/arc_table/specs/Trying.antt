@@ -25,13 +25,13 @@ use Rattle.arc_table.specs.Telling.{Tells}
 use Rattle.arc_table.specs.Views.{after_lost, after_same, after_won}
 
 -- a hold, or another party that has the bucket or the shard, or no memory: what a party may get that holds the block already
-abbrev pub IsServed : TryHit → Type 0
-IsServed (hits.Held hold) = Unit {0}
-IsServed (hits.NotHere front) = ⊥
-IsServed (hits.Other kept front) = ⊥
-IsServed (hits.Reading owner front) = ⊥
-IsServed (hits.Busy owner) = Unit {0}
-IsServed (hits.NoMemory) = Unit {0}
+abbrev pub MayAnswerHolder : TryHit → Type 0
+MayAnswerHolder (hits.Held hold) = Unit {0}
+MayAnswerHolder (hits.NotHere front) = ⊥
+MayAnswerHolder (hits.Other kept front) = ⊥
+MayAnswerHolder (hits.Reading owner front) = ⊥
+MayAnswerHolder (hits.Busy owner) = Unit {0}
+MayAnswerHolder (hits.NoMemory) = Unit {0}
 
 module _ {C : Type 0} (m : Meanings C) where
   -- The party p tried the bucket of the key, and where it was free its shard, and found one of them with the party n; the bucket it gave

@@ -10,7 +10,7 @@ ghost use Rattle.arc_table.specs.Items.{meanings};
 ghost use Rattle.arc_table.specs.Looking.{HasNoLook};
 ghost use Rattle.arc_table.specs.Making.{IsTaken};
 ghost use Rattle.arc_table.specs.Standing.{StandsSo, is_cached_with};
-ghost use Rattle.arc_table.specs.Trying.{AnswersHit, IsServed};
+ghost use Rattle.arc_table.specs.Trying.{AnswersHit, MayAnswerHolder};
 
 use crate::arcs::{Arcs, Party};
 use crate::both::Both;
@@ -79,7 +79,7 @@ impl<C: Keeps> Arcs<C> {
         requires party { IsPartyOf self.now party.old }
         requires look { HasNoLook self.now party.old }
         ensures answer { AnswersHit (meanings C.holds C.entries C.opening C.claims C.sound) self.now.config ptr.now tick party.old party.new result }
-        ensures holder { (n : ℕ) → IsListed self.now.config party.old n ptr.now → IsServed result }
+        ensures holder { (n : ℕ) → IsListed self.now.config party.old n ptr.now → MayAnswerHolder result }
     {
         let both = match self.try_both(party, ptr.key) {
             Take::Busy { owner } => return TryHit::Busy { owner },

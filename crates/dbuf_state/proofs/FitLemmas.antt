@@ -15,7 +15,7 @@ use Rattle.dbuf_state.specs.declared.state.DbState.{DbState}
 use Rattle.dbuf_state.specs.declared.state.DbState.TheVariants.{Uncached, Read, Fill, Cached, Evicting}
 use Rattle.dbuf_state.specs.Dbufs.{DbufHas, Fits, IsFit, IsKeptOf, IsOfContent, dbuf_at, dbuf_is, dbuf_oid, dirty_with, emptied, is_cached, is_clean, is_clean_in, is_reading, is_uncached, cleared, size_of, standing_of, unpinned_by, with_dbuf, written}
 use Rattle.dbuf_state.specs.CellLog.{CellLog, fresh}
-use Rattle.dbuf_state.specs.Dbufs.{block_of}
+use Rattle.dbuf_state.specs.Dbufs.{plain_block}
 use Rattle.dbuf_state.specs.declared.pins.PinCount.{PinCount}
 use Rattle.dbuf_state.specs.Pins.{has_pin, unpinned}
 use Rattle.dbuf_state.specs.Objects.{patched}
@@ -139,7 +139,7 @@ module _ {H : Type 0} (key_of : H → Key) (bytes_of : H → List ℕ) where
   pub fits-clear : (d : Dbuf H) → (standing_of d).kept ≡ false → IsFit key_of bytes_of d → Fits key_of bytes_of d.content (emptied d.content d.state) d.kept
   fits-clear d none fit = go d.content d.state d.kept none fit
     where
-      go : (content : Content) (state : DbState) (kept : Option H) → objects.is_cached (block_of content state) ≡ false → Fits key_of bytes_of content state kept → Fits key_of bytes_of content (emptied content state) kept
+      go : (content : Content) (state : DbState) (kept : Option H) → objects.is_cached (plain_block content state) ≡ false → Fits key_of bytes_of content state kept → Fits key_of bytes_of content (emptied content state) kept
       go (Dirty bytes) state kept none fit = fit
       go (Clean ptr) Uncached kept none fit = fit
       go (Clean ptr) (Read n) kept none fit = fit
@@ -155,7 +155,7 @@ module _ {H : Type 0} where
   candidate-cached : (d : Dbuf H) → is_candidate (standing_of d) ≡ true → is_clean_in is_cached d ≡ true
   candidate-cached d h = go d.content d.state (and-parts ((standing_of d).kept) _ h).0
     where
-      go : (content : Content) (state : DbState) → objects.is_cached (block_of content state) ≡ true → (is_clean content && is_cached state) ≡ true
+      go : (content : Content) (state : DbState) → objects.is_cached (plain_block content state) ≡ true → (is_clean content && is_cached state) ≡ true
       go (Dirty bytes) state h = cc
       go (Clean ptr) Uncached h = cc
       go (Clean ptr) (Read n) h = cc

@@ -12,7 +12,7 @@ use Rattle.dbuf_state.specs.declared.state.Mapping.{Mapping}
 use Rattle.std.specs.List.{list_all}
 use Rattle.dbuf_state.specs.declared.state.DbState.TheVariants as state
 use Rattle.dbuf_state.specs.CellLog.{CellLog, fresh, touched}
-use Rattle.dbuf_state.specs.Dbufs.{DbufHas, block_of, cached_with, cleared, dbuf_at, dbuf_oid, dirty_with, emptied, is_cached, is_clean, is_clean_in, is_passing, is_reading, is_uncached, pinned_by, plain_dbuf, reading_by, synced_to, unpinned_by, unread, used_at, with_dbuf, without_kept, written, written_at}
+use Rattle.dbuf_state.specs.Dbufs.{DbufHas, plain_block, cached_with, cleared, dbuf_at, dbuf_oid, dirty_with, emptied, is_cached, is_clean, is_clean_in, is_passing, is_reading, is_uncached, pinned_by, plain_dbuf, reading_by, synced_to, unpinned_by, unread, used_at, with_dbuf, without_kept, written, written_at}
 use Rattle.dbuf_state.specs.History.{Leads}
 use Rattle.dbuf_state.specs.Objects.{Block, Evicting, IsBase, IsLegal, PlainCell, PlainDbuf, after, changed, effect, evicting_after, opening_cell, use_of}
 use Rattle.dbuf_state.specs.Objects as plain
@@ -29,7 +29,7 @@ goes-on c end (x ∷ es) e base leads legal of = (leads.0, (leads.1.0, leads.1.1
 
 -- ---- what becomes of a block
 
-loads : (content : Content) (s : DbState) → (is_clean content && is_reading s) ≡ true → block_of content state.Cached ≡ plain.loaded (block_of content s)
+loads : (content : Content) (s : DbState) → (is_clean content && is_reading s) ≡ true → plain_block content state.Cached ≡ plain.loaded (plain_block content s)
 loads (Dirty bytes) s h = refl
 loads (Clean ptr) state.Uncached h = cc
 loads (Clean ptr) (state.Read n) h = refl
@@ -37,7 +37,7 @@ loads (Clean ptr) state.Fill h = cc
 loads (Clean ptr) state.Cached h = cc
 loads (Clean ptr) state.Evicting h = cc
 
-evicts : (content : Content) (s : DbState) → (is_clean content && is_cached s) ≡ true → block_of content state.Uncached ≡ plain.evicted (block_of content s)
+evicts : (content : Content) (s : DbState) → (is_clean content && is_cached s) ≡ true → plain_block content state.Uncached ≡ plain.evicted (plain_block content s)
 evicts (Dirty bytes) s h = refl
 evicts (Clean ptr) state.Uncached h = cc
 evicts (Clean ptr) (state.Read n) h = cc
@@ -45,10 +45,10 @@ evicts (Clean ptr) state.Fill h = cc
 evicts (Clean ptr) state.Cached h = refl
 evicts (Clean ptr) state.Evicting h = cc
 
-patches : (from : ℕ) (bytes base : List ℕ) (content : Content) (s : DbState) → content ≡ Dirty base → block_of (written from bytes content) s ≡ plain.Dirty (plain.patched from bytes base)
-patches from bytes base content s is = ap (λ (k : Content). block_of (written from bytes k) s) is
+patches : (from : ℕ) (bytes base : List ℕ) (content : Content) (s : DbState) → content ≡ Dirty base → plain_block (written from bytes content) s ≡ plain.Dirty (plain.patched from bytes base)
+patches from bytes base content s is = ap (λ (k : Content). plain_block (written from bytes k) s) is
 
-empties : (content : Content) (s : DbState) → block_of content (emptied content s) ≡ plain.evicted (block_of content s)
+empties : (content : Content) (s : DbState) → plain_block content (emptied content s) ≡ plain.evicted (plain_block content s)
 empties (Dirty bytes) s = refl
 empties (Clean ptr) state.Uncached = refl
 empties (Clean ptr) (state.Read n) = refl
@@ -63,7 +63,7 @@ unchanged at (d ∷ ds) = elim (bool_cases (oid_eq at d.at)) [
   | inr fails ↦ rw fails (ap (λ (ps : List PlainDbuf). d ∷ ps) (unchanged at ds))
 ]
 
-reads : (n : ℕ) (content : Content) (s : DbState) → (is_clean content && is_uncached s) ≡ true → block_of content (state.Read n) ≡ block_of content s
+reads : (n : ℕ) (content : Content) (s : DbState) → (is_clean content && is_uncached s) ≡ true → plain_block content (state.Read n) ≡ plain_block content s
 reads n (Dirty bytes) s h = refl
 reads n (Clean ptr) state.Uncached h = refl
 reads n (Clean ptr) (state.Read m) h = refl
@@ -71,7 +71,7 @@ reads n (Clean ptr) state.Fill h = refl
 reads n (Clean ptr) state.Cached h = cc
 reads n (Clean ptr) state.Evicting h = refl
 
-unreads : (content : Content) (s : DbState) → (is_clean content && is_reading s) ≡ true → block_of content state.Uncached ≡ block_of content s
+unreads : (content : Content) (s : DbState) → (is_clean content && is_reading s) ≡ true → plain_block content state.Uncached ≡ plain_block content s
 unreads (Dirty bytes) s h = refl
 unreads (Clean ptr) state.Uncached h = refl
 unreads (Clean ptr) (state.Read m) h = refl

@@ -75,9 +75,9 @@ size_of (Clean ptr) = ptr.key.size
 size_of (Dirty bytes) = length bytes
 
 -- a clean block is cached where the dbuf has its bytes; while they are being read, or taken out, it counts as uncached
-abbrev pub block_of : Content → DbState → plain.Block
-block_of (Clean ptr) state = if is_cached state then plain.Cached ptr else plain.Uncached ptr
-block_of (Dirty bytes) state = plain.Dirty bytes
+abbrev pub plain_block : Content → DbState → plain.Block
+plain_block (Clean ptr) state = if is_cached state then plain.Cached ptr else plain.Uncached ptr
+plain_block (Dirty bytes) state = plain.Dirty bytes
 
 -- the bytes are of the pointer, where the block is clean
 abbrev pub AreOf : List ℕ → Content → Type 0
@@ -111,7 +111,7 @@ module _ {H : Type 0} where
   dbuf_oid d = d.at
 
   abbrev pub plain_dbuf : Dbuf H → PlainDbuf
-  plain_dbuf d = record { at = d.at; block = block_of d.content d.state; pins = d.pins; used = d.used }
+  plain_dbuf d = record { at = d.at; block = plain_block d.content d.state; pins = d.pins; used = d.used }
 
   abbrev pub standing_of : Dbuf H → Standing
   standing_of d = plain.standing (plain_dbuf d)

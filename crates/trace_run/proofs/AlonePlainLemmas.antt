@@ -27,7 +27,7 @@ use Rattle.trace_run.specs.Reads.{IsAlone, now_of}
 use Rattle.trace_run.specs.Tally.{AnswersNow}
 use Rattle.trace_run.proofs.LinesLemmas.{all-then, line-now, lines-length}
 use Rattle.trace_run.proofs.PlainLemmas.{drop-front, next-is}
-use Rattle.trace_run.proofs.PlainReplyLemmas.{IsServed, line-brings, line-plain}
+use Rattle.trace_run.proofs.PlainReplyLemmas.{IsPlainlyServed, line-brings, line-plain}
 use Rattle.trace_run.proofs.PlainReportLemmas.{alike-events, alike-kept, plain-alike, plain-but}
 use Rattle.trace_run.proofs.ResidentLemmas.{AreTold, Brings, told-replay}
 
@@ -35,7 +35,7 @@ use Rattle.trace_run.proofs.ResidentLemmas.{AreTold, Brings, told-replay}
 
 module _ {C P : Type 0} (g : Config) (pools : Ghosts P) (device : ℕ) (blocks : List Ptr) (image : List ℕ) where
   line-served : (o : Op) (r : Reply) (a b : At C P) → DidLine g pools device blocks o r a b → IsAlone device a.party → pools.size a.pool ≡ length image → pools.told a.pool ≡ Some image
-      → IsServed image blocks (now_of g (shard_of_line g.shards blocks o) a.party) a.kept o r
+      → IsPlainlyServed image blocks (now_of g (shard_of_line g.shards blocks o) a.party) a.kept o r
   line-served o r a b did alone size told = record {
     answer = subst (λ (x : ℕ × Option (List ℕ)). AnswersNow x.0 x.1 blocks a.kept o r) (λ h. (size h, told h)) did.answer;
     found = did.found alone;
@@ -43,7 +43,7 @@ module _ {C P : Type 0} (g : Config) (pools : Ghosts P) (device : ℕ) (blocks :
   }
 
   lines-served : (os : List Op) (rs : List Reply) (a b : At C P) → DidLines g pools device blocks os rs a b → IsAlone device a.party → pools.size a.pool ≡ length image → pools.told a.pool ≡ Some image
-      → AllLinesOver (IsServed image blocks) g.shards blocks (λ i. now_of g i a.party) a.kept os rs
+      → AllLinesOver (IsPlainlyServed image blocks) g.shards blocks (λ i. now_of g i a.party) a.kept os rs
   lines-served [] [] a b did alone size told = tt
   lines-served [] (r ∷ rs) a b did alone size told = absurd did
   lines-served (o ∷ os) [] a b did alone size told = absurd did
@@ -55,7 +55,7 @@ module _ {C P : Type 0} (g : Config) (pools : Ghosts P) (device : ℕ) (blocks :
       let rest = lines-served os rs next b did.2 (all-then g pools device blocks a.party next.party one.did.all alone) (one.keeps.size ∙ size) (one.keeps.told ∙ told) in
       let same : (λ (i : ℕ). now_of g i next.party) ≡ shards_after (λ i. now_of g i a.party) here es = λ h i. line-now g pools device blocks o r a next one alone i h in (
         line-served o r a next one alone size told,
-        subst (λ (x : (ℕ → PlainShard) × List KeptRead). AllLinesOver (IsServed image blocks) g.shards blocks x.0 x.1 os rs) (λ h. (same h, one.kept h)) rest,
+        subst (λ (x : (ℕ → PlainShard) × List KeptRead). AllLinesOver (IsPlainlyServed image blocks) g.shards blocks x.0 x.1 os rs) (λ h. (same h, one.kept h)) rest,
       )
 
 -- ---- all replies
@@ -70,7 +70,7 @@ module _ (image : List ℕ) (shards : ℕ) (blocks : List Ptr) where
       go false = told i
 
   pub plain-replies : (s : ℕ → PlainShard) (kept : List KeptRead) (os : List Op) (rs : List Reply) → length rs ≡ length os → ((i : ℕ) → AreTold image (s i).entries)
-      → AllLinesOver (IsServed image blocks) shards blocks s kept os rs → ArePlainReplies image blocks os (replies_to image shards blocks s kept os (calls_of_all rs)) rs
+      → AllLinesOver (IsPlainlyServed image blocks) shards blocks s kept os rs → ArePlainReplies image blocks os (replies_to image shards blocks s kept os (calls_of_all rs)) rs
   plain-replies s kept [] [] same told lines = tt
   plain-replies s kept [] (r ∷ rs) same told lines = absurd (omega arith)
   plain-replies s kept (o ∷ os) [] same told lines = absurd (omega arith)
@@ -103,7 +103,7 @@ plain-alone {C} {P} pools device trace report a b did alone none opens sized is 
     go (Some image) told =
         let opening : PlainShard = opening_of trace.config in
         let served = lines-served trace.config pools device trace.blocks image trace.ops report.replies a b did alone (sym (sized image told)) told in
-        let from : AllLinesOver (IsServed image trace.blocks) trace.config.shards trace.blocks (λ i. opening) [] trace.ops report.replies =
-        subst (λ (x : (ℕ → PlainShard) × List KeptRead). AllLinesOver (IsServed image trace.blocks) trace.config.shards trace.blocks x.0 x.1 trace.ops report.replies) (λ h. (λ i. opens i h, none h)) served in
+        let from : AllLinesOver (IsPlainlyServed image trace.blocks) trace.config.shards trace.blocks (λ i. opening) [] trace.ops report.replies =
+        subst (λ (x : (ℕ → PlainShard) × List KeptRead). AllLinesOver (IsPlainlyServed image trace.blocks) trace.config.shards trace.blocks x.0 x.1 trace.ops report.replies) (λ h. (λ i. opens i h, none h)) served in
         plain-but trace image (replies_to image trace.config.shards trace.blocks (λ i. opening) [] trace.ops (calls_of_all report.replies)) report is
         (plain-replies image trace.config.shards trace.blocks (λ i. opening) [] trace.ops report.replies (lines-length trace.config pools device trace.blocks trace.ops report.replies a b did) (λ i. tt) from)

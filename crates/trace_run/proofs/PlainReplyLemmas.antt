@@ -38,7 +38,7 @@ use Rattle.trace_run.proofs.PlainLemmas.{least-test, plain-line, valid-key}
 use Rattle.trace_run.proofs.ResidentLemmas.{AreTold, Brings, told-resident}
 
 -- What is known of a line: what it may answer, where it found its block, and that bytes from the pool are those that it tells.
-pub record IsServed (image : List ℕ) (blocks : List Ptr) (s : PlainShard) (kept : List KeptRead) (op : Op) (reply : Reply) : Type 0 where
+pub record IsPlainlyServed (image : List ℕ) (blocks : List Ptr) (s : PlainShard) (kept : List KeptRead) (op : Op) (reply : Reply) : Type 0 where
   pub answer : AnswersNow (length image) (Some image) blocks kept op reply
   pub found : IsFoundAs blocks s op reply
   pub range : CameFromPool (effect_of reply) → IsReadOfImage image blocks op reply
@@ -109,7 +109,7 @@ module _ (image : List ℕ) where
   drop-brings n x kept (PoolRefused call) = tt
   drop-brings n x kept NoEffect = tt
 
-  pub line-brings : (blocks : List Ptr) (s : PlainShard) (kept : List KeptRead) (op : Op) (reply : Reply) → IsServed image blocks s kept op reply
+  pub line-brings : (blocks : List Ptr) (s : PlainShard) (kept : List KeptRead) (op : Op) (reply : Reply) → IsPlainlyServed image blocks s kept op reply
       → AllByRecursion (Brings image) (events_of blocks s kept op reply)
   line-brings blocks s kept (ops.Read n t x window) reply is =
       let at = is.answer.1 in
@@ -197,7 +197,7 @@ module _ (image : List ℕ) where
   keeps-told s ptr Dropped answer named told range = absurd answer
   keeps-told s ptr (Refused r) answer named told range = tt
 
-  pub line-plain : (blocks : List Ptr) (s : PlainShard) (kept : List KeptRead) (op : Op) (reply : Reply) (call : PoolCall) → IsServed image blocks s kept op reply → AreTold image s.entries
+  pub line-plain : (blocks : List Ptr) (s : PlainShard) (kept : List KeptRead) (op : Op) (reply : Reply) (call : PoolCall) → IsPlainlyServed image blocks s kept op reply → AreTold image s.entries
       → IsNext (calls_of (effect_of reply)) call → IsPlainReply image blocks op (reply_to image blocks s kept op call) reply
   line-plain blocks s kept (ops.Read n t x window) reply call is told next =
       let at = is.answer.1 in
