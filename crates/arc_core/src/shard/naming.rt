@@ -91,6 +91,7 @@ impl Shard {
         ensures some { IfSome result (λ k. IsUnnamed k e.now self.old) }
         ensures none { IfNone result (AreAllNamed e.now self.old) }
     {
+        // For the proof: what the shard keeps of itself holds here.
         let _sound = &self.history;
         self.next_victim(e)
     }

@@ -246,6 +246,7 @@ impl Table {
         requires { CanEvict about self.now.shard scan.old key }
         ensures { (t : PlainShard) (z : ℕ) → IsScanOf about self.now.shard scan.old t → next_evicted z t ≡ Some key → IsScanOf about self.now.shard scan.new (evicted key t) }
     {
+        // For the proof: what the lists keep of themselves holds here.
         let _lists = &self.lists;
         if is_at(scan.mru.next, key) {
             self.evicted_of(about, State::Mru, &mut scan.mru, key);
@@ -259,6 +260,7 @@ impl Table {
         requires { CanDrop about self.now.shard scan.old key }
         ensures { (t : PlainShard) → IsScanOf about self.now.shard scan.old t → next_dropped t ≡ Some key → IsScanOf about self.now.shard scan.new (dropped key t) }
     {
+        // For the proof: what the lists keep of themselves holds here.
         let _lists = &self.lists;
         if is_at(scan.mru.oldest_ghost(), key) {
             self.dropped_of(about, State::Mru, State::MruGhost, &mut scan.mru, key);

@@ -61,6 +61,7 @@ impl Table {
         ensures { (comes : State) (vs : List Key) → AtRoom about self.now.shard self.now.marked z comes vs scan.old
             → IsRoomSearched about self.now.shard self.now.marked z comes vs scan.new result }
     {
+        // For the proof: what the lists keep of themselves holds here.
         let _lists = &self.lists;
         while let Some(key) = scan.next_evicted(z) {
             if !self.is_marked(key) {
@@ -77,6 +78,7 @@ impl Table {
         ensures { (vs : List Key) → AtTrim about self.now.shard self.now.marked vs scan.old
             → IsTrimSearched about self.now.shard self.now.marked vs scan.new result }
     {
+        // For the proof: what the lists keep of themselves holds here.
         let _lists = &self.lists;
         while let Some(key) = scan.next_dropped() {
             if !self.is_marked(key) {
@@ -93,6 +95,7 @@ impl Table {
         requires stands { (vs : List Key) × Stands self.now.shard self.now.marked vs search.old }
         ensures { (vs : List Key) → Stands self.now.shard self.now.marked vs search.old → IsFound self.now.shard self.now.marked vs false search.new result }
     {
+        // For the proof: what the lists keep of themselves holds here.
         let _lists = &self.lists;
         match self.unmarked_eviction(search.about, search.z, &mut search.scan) {
             Some(key) => Some(key),
@@ -130,6 +133,7 @@ impl Table {
     fn scan_without(&self, key: Key, p: u64) -> Scan
         ensures { IsScanOf (Some key) self.now.shard result (record (gone key self.now.shard) { p = p }) }
     {
+        // For the proof: what the entries keep of themselves holds here.
         let _entries = &self.entries;
         let mut scan = self.scan_but(Some(key), self.c(), p);
         if let Some(entry) = self.find(key) {
@@ -157,6 +161,7 @@ impl Table {
         requires sound { IsSoundEntry entry.now }
         ensures { Stands self.now.shard self.now.marked (victims_of_entry entry.now (record self.now.shard { p = p })) result }
     {
+        // For the proof: what the lists keep of themselves holds here.
         let _lists = &self.lists;
         let (key, comes) = (entry.key, entry.state);
         Search {
@@ -173,6 +178,7 @@ impl Table {
         requires { IsCapacity c }
         ensures { IsScanOf None self.now.shard result (resized c self.now.shard) }
     {
+        // For the proof: what the entries keep of themselves holds here.
         let _entries = &self.entries;
         let p = self.p().max(c / 16).min(c - c / 16);
         self.scan_but(None, c, p)

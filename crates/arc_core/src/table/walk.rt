@@ -82,6 +82,7 @@ impl Table {
         ensures walk { IsWalkOf self.now.shard result }
         ensures next { result.next ≡ chosen self.now.shard }
     {
+        // For the proof: what the lists keep of themselves holds here.
         let _lists = &self.lists;
         let (met, next) = self.walk_on(State::Mru, self.limit(), met, from);
         Walk {

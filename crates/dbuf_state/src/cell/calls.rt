@@ -45,6 +45,7 @@ impl<H: Shows + Drop> Cell<H> {
         ensures kept { DbufHas (λ d. d.kept ≡ Some result) (dbuf_at at self.old.dbufs) }
         ensures of { DbufHas (λ d. IsOfContent H.key_of H.bytes_of result d.content) (dbuf_at at self.old.dbufs) }
     {
+        // For the proof: what the cell keeps of itself holds here.
         let _ = &self.limit;
         let Some(kept) = self.done(at, Change::Unkeep(state)) else {
             unreachable!();
@@ -193,6 +194,7 @@ impl<H: Shows + Drop> Cell<H> {
         ensures kept { DbufHas (λ d. d.kept ≡ Some result) (dbuf_at at self.old.dbufs) }
         ensures of { DbufHas (λ d. IsOfContent H.key_of H.bytes_of result d.content) (dbuf_at at self.old.dbufs) }
     {
+        // For the proof: what the cell keeps of itself holds here.
         let _ = &self.limit;
         self.take_out(at, DbState::Uncached)
     }

@@ -42,6 +42,7 @@ impl<H: Shows + Drop> Cell<H> {
         ensures fit { AllByRecursion (IsFit H.key_of H.bytes_of) self.now.dbufs }
         ensures once { IsTrue (is_distinct dbuf_oid self.now.dbufs) }
     {
+        // For the proof: what the cell keeps of itself holds here.
         let _ = &self.limit;
         match self.dbuf(at) {
             Some(dbuf) => dbuf.state,
