@@ -70,7 +70,9 @@ impl<T: Drop> Queue<T> {
     {
         let alloc = *self.slots.allocator();
         let place = take_place(&mut self.places, number, alloc)?;
-        self.slots[place - self.base].value.take()
+        let value = self.slots[place - self.base].value.take();
+        trim(&mut self.slots, &mut self.base);
+        value
     }
 
     /// Takes the oldest value of all. None exactly where there is none.

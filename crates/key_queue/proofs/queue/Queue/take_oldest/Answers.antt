@@ -38,6 +38,12 @@ index_mut-requires g c =
     let within = cut-within n t.base c.in_ok-place.place taken.0 t.slots.items (cut n t.base c.in_ok-place.place taken.0 t.slots.items taken.1) in
     omega (arith, within, t.slots.ok.0)
 
+pub trim-requires : goal.trim-requires
+trim-requires g c =
+    let t = c.self.inside in
+    let slot : Slot g.row.T.Denot = record { number = c.index_mut.result.now.number; value = c.take-value.new.self } in
+    omega (arith, c.self.invariant.fits, length-set t.slots.items (c.in_ok-place.place - t.base) slot)
+
 pub invariant_of-self-2 : goal.invariant_of-self-2
 invariant_of-self-2 g c =
     let t = c.self.inside in
@@ -47,16 +53,16 @@ invariant_of-self-2 g c =
     let new = c.take_place.new.places.rows in
     let taken = c.in_ok-place.ensures.taken (places n t.base ss) (c.self.invariant.found n) in
     let oldest = cut n t.base q taken.0 ss taken.1 in
-    let slot : Slot g.row.T.Denot = record { number = c.index_mut.result.now.number; value = c.take.new.self } in
+    let slot : Slot g.row.T.Denot = record { number = c.index_mut.result.now.number; value = c.take-value.new.self } in
     let read : c.index_mut.result.now ≡ oldest.slot = c.index_mut.ensures.value ∙ cut-read n t.base q taken.0 ss oldest c.index_mut.result.now in
     let number : c.index_mut.result.now.number ≡ oldest.slot.number = ap (λ (s : Slot g.row.T.Denot). s.number) read in
-    let is : slot ≡ emptied n t.base q taken.0 ss oldest = λ i. record { number = number i; value = c.take.ensures.after i } in
+    let is : slot ≡ emptied n t.base q taken.0 ss oldest = λ i. record { number = number i; value = c.take-value.ensures.after i } in
     let e : set ss (q - t.base) slot ≡ remaining n t.base q taken.0 ss oldest = ap (set ss (q - t.base)) is ∙ cut-set n t.base q taken.0 ss oldest in
     record {
-      found = λ m. subst (λ l. IsFound m new (places m t.base l)) (sym e)
+      found = λ m. subst (IsFound m new) (sym (c.trim.ensures.places m)) (subst (λ l. IsFound m new (places m t.base l)) (sym e)
           (found-all t.places.rows new n (λ k. places k t.base ss) (λ k. places k t.base (remaining n t.base q taken.0 ss oldest)) c.self.invariant.found
-          (subst (IsFound n new) (sym (cut-places n t.base q taken.0 ss oldest)) taken.2) c.take_place.ensures.others (cut-others n t.base q taken.0 ss oldest) m);
-      fits = omega (arith, c.self.invariant.fits, length-set ss (q - t.base) slot);
+          (subst (IsFound n new) (sym (cut-places n t.base q taken.0 ss oldest)) taken.2) c.take_place.ensures.others (cut-others n t.base q taken.0 ss oldest) m));
+      fits = omega (arith, c.trim.ensures.fits, c.self.invariant.fits, length-set ss (q - t.base) slot);
     }
 
 pub returns : goal.returns
@@ -67,11 +73,11 @@ returns g c =
     let ss = t.slots.items in
     let taken = c.in_ok-place.ensures.taken (places n t.base ss) (c.self.invariant.found n) in
     let oldest = cut n t.base q taken.0 ss taken.1 in
-    let slot : Slot g.row.T.Denot = record { number = c.index_mut.result.now.number; value = c.take.new.self } in
+    let slot : Slot g.row.T.Denot = record { number = c.index_mut.result.now.number; value = c.take-value.new.self } in
     let read : c.index_mut.result.now ≡ oldest.slot = c.index_mut.ensures.value ∙ cut-read n t.base q taken.0 ss oldest c.index_mut.result.now in
     let number : c.index_mut.result.now.number ≡ oldest.slot.number = ap (λ (s : Slot g.row.T.Denot). s.number) read in
-    let is : slot ≡ emptied n t.base q taken.0 ss oldest = λ i. record { number = number i; value = c.take.ensures.after i } in
+    let is : slot ≡ emptied n t.base q taken.0 ss oldest = λ i. record { number = number i; value = c.take-value.ensures.after i } in
     let e : set ss (q - t.base) slot ≡ remaining n t.base q taken.0 ss oldest = ap (set ss (q - t.base)) is ∙ cut-set n t.base q taken.0 ss oldest in
-    let value : c.take.result ≡ Some oldest.value = c.take.ensures.value ∙ (ap (λ (s : Slot g.row.T.Denot). s.value) read ∙ oldest.held) in
+    let value : c.take-value.result ≡ Some oldest.value = c.take-value.ensures.value ∙ (ap (λ (s : Slot g.row.T.Denot). s.value) read ∙ oldest.held) in
     rw (value, ← c.self.view_is)
-    (subst (λ l. IsTaken n oldest.value (pairs ss) (pairs l)) (sym e) (cut-taken n t.base q taken.0 ss oldest))
+    (subst (IsTaken n oldest.value (pairs ss)) (sym c.trim.ensures.pairs) (subst (λ l. IsTaken n oldest.value (pairs ss) (pairs l)) (sym e) (cut-taken n t.base q taken.0 ss oldest)))
