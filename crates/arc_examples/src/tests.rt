@@ -4,6 +4,7 @@ ghost use Rattle.arc_examples.specs.Ready.{IsNew, IsReady};
 
 mod feeds;
 mod looks;
+mod picks;
 mod reads;
 mod turns;
 
