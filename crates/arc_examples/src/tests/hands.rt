@@ -54,7 +54,8 @@ fn made(alloc: Global, config: &Config) -> Result<(Arcs<Keeper>, Vec<Party<Keepe
     ensures count { IfOk result (λ r. length r.1.items ≡ config.now.callers + 1) }
 {
     let cells = vec![in alloc; Keeper { hold: None }]?;
-    Arcs::new(alloc, config, cells)
+    let (arcs, parties) = Arcs::new(alloc, config, cells)?;
+    Ok((arcs, parties))
 }
 
 // Of these parties, which stand by their numbers, the last.
@@ -63,7 +64,8 @@ fn last_of(arcs: &Arcs<Keeper>, parties: &mut Vec<Party<Keeper>>) -> Option<Part
     ensures last { IfSome result (λ p. IsNew arcs.now (length parties.new.items) p) }
     ensures rest { IfSome result (λ p. AreNew arcs.now 0 parties.new.items) }
 {
-    parties.pop()
+    let party = parties.pop()?;
+    Some(party)
 }
 
 // Reads a block of zeros: its hold, and where its bytes came from.
@@ -112,10 +114,9 @@ fn hand_over<R: Wait>(
     ensures ready { IfSome result (λ owner. IsReadyAs arcs.now party.old party.new) }
     ensures other { IfSome result (λ owner. IsReadyAs arcs.now other.old other.new) }
 {
-    let cell = arcs.take_cell(rt, party, 0);
-    if cell.hold.is_some() {
+    let Keeper { hold: None } = arcs.take_cell(rt, party, 0) else {
         return None;
-    }
+    };
     let owner = owner_of(arcs, other)?;
     let Ok(hold) = arcs.hand(rt, party, hold, CELL) else {
         return None;
