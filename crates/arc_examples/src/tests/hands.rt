@@ -45,8 +45,17 @@ impl Keeps for Keeper {
 // The number under which the cell holds a block.
 const CELL: u32 = 3;
 
-// Such a cache, and its parties by their numbers.
-fn made(alloc: Global, config: &Config) -> Result<(Arcs<Keeper>, Vec<Party<Keeper>>), NoMemory>
+// A pool of 2,048 zeros.
+fn zeros(alloc: Global) -> Result<MemPool, NoMemory> {
+    let bytes = vec![in alloc; 0u8; 2048]?;
+    MemPool::new(alloc, bytes, Vec::new(alloc), Vec::new(alloc))
+}
+
+// Such a cache, its parties by their numbers, and a pool.
+fn made(
+    alloc: Global,
+    config: &Config,
+) -> Result<(Arcs<Keeper>, Vec<Party<Keeper>>, MemPool), NoMemory>
     requires valid { IsConfig config.now }
     requires cells { config.now.cells ≡ 1 }
     ensures config { IfOk result (λ r. r.0.config ≡ config.now) }
@@ -55,7 +64,8 @@ fn made(alloc: Global, config: &Config) -> Result<(Arcs<Keeper>, Vec<Party<Keepe
 {
     let cells = vec![in alloc; Keeper { hold: None }]?;
     let (arcs, parties) = Arcs::new(alloc, config, cells)?;
-    Ok((arcs, parties))
+    let pool = zeros(alloc)?;
+    Ok((arcs, parties, pool))
 }
 
 // Of these parties, which stand by their numbers, the last.
@@ -126,11 +136,7 @@ fn hand_over<R: Wait>(
 }
 
 // The party takes the cell, gives up the hold that it keeps, and gives it back: the copy of the bytes.
-fn take_over<R: Wait>(
-    rt: &R,
-    arcs: &Arcs<Keeper>,
-    party: &mut Party<Keeper>,
-) -> Option<Vec<u8>>
+fn take_over<R: Wait>(rt: &R, arcs: &Arcs<Keeper>, party: &mut Party<Keeper>) -> Option<Vec<u8>>
     requires ready { IsReady arcs.now party.old }
     requires counts { (arcs.now.config.callers ≡ 2) × (arcs.now.config.cells ≡ 1) }
     ensures { IfSome result (λ bytes. IsReadyAs arcs.now party.old party.new) }
@@ -180,9 +186,7 @@ fn pass_on<R: Wait>(
 
 // The same on a new cache.
 fn row(rt: &impl Wait, alloc: Global) -> Result<Option<Told>, NoMemory> {
-    let (arcs, mut parties) = made(alloc, &TWO)?;
-    let bytes = vec![in alloc; 0; 2048]?;
-    let mut pool = MemPool::new(alloc, bytes, Vec::new(alloc), Vec::new(alloc))?;
+    let (arcs, mut parties, mut pool) = made(alloc, &TWO)?;
     let Some(_feeder) = last_of(&arcs, &mut parties) else {
         return Ok(None);
     };

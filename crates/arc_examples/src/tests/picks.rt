@@ -268,7 +268,10 @@ fn a_pick_whose_entry_is_gone_has_no_place(rt: HostRuntime) -> Result<(), Fail> 
         .ok_or("memory")?;
     let key = ptrs().0.key;
     assert!(rt; !told.set);
-    assert!(rt; told.copy.is_some_and(|bytes| bytes.as_slice() == [1; 2048].as_slice()));
+    assert!(rt;
+        told.copy
+            .is_some_and(|bytes| bytes.as_slice() == [1; 2048].as_slice())
+    );
     let events = [
         Event::FeedEnd { n: 2 },
         Event::Hit { n: 0, key, t: 3 },

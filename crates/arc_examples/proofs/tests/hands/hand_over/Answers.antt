@@ -18,7 +18,7 @@ pub give_cell-requires-clause-party : goal.give_cell-requires-clause-party
 give_cell-requires-clause-party g c =
     let k = c.take_cell.ensures.took in
     let t = took_is _ 0 (item.Cell c.take_cell.result) c.args.party.now c.take_cell.new.party record { owners = k.0; knew = k.1; lost = k.2; free = k.3; took = k.4 } in
-    then-party _ c.args.arcs.now c.take_cell.result c.args.party.now c.take_cell.new.party c.requires.ready c.requires.counts.1 t c.args.hold.key _ c.hand.new.party c.hand.ensures.0
+    then-party _ c.args.arcs.now c.take_cell.result c.args.party.now c.take_cell.new.party c.requires.ready c.requires.counts.1 t c.args.hold.key _ c.hand.new.party c.in-Ok.ensures.0
 
 pub give_cell-requires-clause-cell : goal.give_cell-requires-clause-cell
 give_cell-requires-clause-cell g c =
@@ -26,11 +26,11 @@ give_cell-requires-clause-cell g c =
     let t = took_is _ 0 (item.Cell c.take_cell.result) c.args.party.now c.take_cell.new.party record { owners = k.0; knew = k.1; lost = k.2; free = k.3; took = k.4 } in
     let held = (held-then _ c.args.arcs.now.config c.args.hold 0 (item.Cell c.take_cell.result) c.args.party.now c.take_cell.new.party c.requires.ready.free t c.requires.hold).1 in
     hands-cell _ c.args.arcs.now c.take_cell.result c.args.party.now c.take_cell.new.party c.requires.ready c.requires.counts.1 t _ c.args.hold c.hand.new.party _
-    (ap (λ (h : Hold). h.owner) c.hand.ensures.1) refl refl refl refl 3 (sym (ap (λ (n : ℕ). n + 1 + 0) c.requires.counts.0)) held (ap holds_of c.in-None.field-hold-is) c.hand.ensures.0
-    (ap (λ (h : Hold). ptr_of h ∷ []) c.hand.ensures.1)
+    (ap (λ (h : Hold). h.owner) c.in-Ok.ensures.1) refl refl refl refl 3 (sym (ap (λ (n : ℕ). n + 1 + 0) c.requires.counts.0)) held (ap holds_of c.in-None.is) c.in-Ok.ensures.0
+    (ap (λ (h : Hold). ptr_of h ∷ []) c.in-Ok.ensures.1)
 
 pub returns-clause-ready : goal.returns-clause-ready
 returns-clause-ready g c =
     let k = c.take_cell.ensures.took in
     let t = took_is _ 0 (item.Cell c.take_cell.result) c.args.party.now c.take_cell.new.party record { owners = k.0; knew = k.1; lost = k.2; free = k.3; took = k.4 } in
-    then-ready _ c.args.arcs.now c.take_cell.result c.args.party.now c.take_cell.new.party c.requires.ready c.requires.counts.1 t c.args.hold.key _ c.hand.new.party c.give_cell.new.party _ c.hand.ensures.0 refl c.give_cell.ensures
+    then-ready _ c.args.arcs.now c.take_cell.result c.args.party.now c.take_cell.new.party c.requires.ready c.requires.counts.1 t c.args.hold.key _ c.hand.new.party c.give_cell.new.party _ c.in-Ok.ensures.0 refl c.give_cell.ensures
