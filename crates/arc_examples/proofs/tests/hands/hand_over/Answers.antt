@@ -26,7 +26,7 @@ give_cell-requires-clause-cell g c =
     let t = took_is _ 0 (item.Cell c.take_cell.result) c.args.party.now c.take_cell.new.party record { owners = k.0; knew = k.1; lost = k.2; free = k.3; took = k.4 } in
     let held = (held-then _ c.args.arcs.now.config c.args.hold 0 (item.Cell c.take_cell.result) c.args.party.now c.take_cell.new.party c.requires.ready.free t c.requires.hold).1 in
     hands-cell _ c.args.arcs.now c.take_cell.result c.args.party.now c.take_cell.new.party c.requires.ready c.requires.counts.1 t _ c.args.hold c.hand.new.party _
-    (ap (λ (h : Hold). h.owner) c.in-Ok.ensures.1) refl refl refl refl 3 (sym (ap (λ (n : ℕ). n + 1 + 0) c.requires.counts.0)) held (ap holds_of c.in-None.is) c.in-Ok.ensures.0
+    (ap (λ (h : Hold). h.owner) c.in-Ok.ensures.1) refl refl refl refl 3 (sym (ap (λ (n : ℕ). n + 1 + 0) c.requires.counts.0)) held (ap holds_of c.in-None.enum_told_at-1-is) c.in-Ok.ensures.0
     (ap (λ (h : Hold). ptr_of h ∷ []) c.in-Ok.ensures.1)
 
 pub returns-clause-ready : goal.returns-clause-ready

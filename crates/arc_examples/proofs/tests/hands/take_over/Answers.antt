@@ -11,8 +11,8 @@ release-requires-clause-hold g c =
     let cell = c.in-Taken-Some.field-0 in
     let t = won-took _ 0 (item.Cell cell) c.args.party.now c.try_take_cell.new.party w.1 in
     let sound = cell-sound _ c.args.party.now 0 cell w.0 in
-    let owner = subst (IsUnder 3) c.in-Taken-Some.hold-is sound ∙ sym (ap (λ (n : ℕ). n + 1 + 0) c.requires.counts.0) in
-    hold-listed _ c.args.arcs.now cell c.args.party.now c.try_take_cell.new.party c.requires.ready c.requires.counts.1 t c.in-Taken-Some.hold owner (ap holds_of c.in-Taken-Some.hold-is)
+    let owner = subst (IsUnder 3) c.in-Taken-Some.hold-1-is sound ∙ sym (ap (λ (n : ℕ). n + 1 + 0) c.requires.counts.0) in
+    hold-listed _ c.args.arcs.now cell c.args.party.now c.try_take_cell.new.party c.requires.ready c.requires.counts.1 t c.in-Taken-Some.hold owner (ap holds_of c.in-Taken-Some.hold-1-is)
 
 pub give_cell-requires-clause-party : goal.give_cell-requires-clause-party
 give_cell-requires-clause-party g c =
@@ -27,10 +27,10 @@ give_cell-requires-clause-cell g c =
     let cell = c.in-Taken-Some.field-0 in
     let t = won-took _ 0 (item.Cell cell) c.args.party.now c.try_take_cell.new.party w.1 in
     let sound = cell-sound _ c.args.party.now 0 cell w.0 in
-    let owner = subst (IsUnder 3) c.in-Taken-Some.hold-is sound ∙ sym (ap (λ (n : ℕ). n + 1 + 0) c.requires.counts.0) in
+    let owner = subst (IsUnder 3) c.in-Taken-Some.hold-1-is sound ∙ sym (ap (λ (n : ℕ). n + 1 + 0) c.requires.counts.0) in
     let d = c.in-Ok.ensures.released in
     releases-cell _ c.args.arcs.now cell c.args.party.now c.try_take_cell.new.party c.requires.ready c.requires.counts.1 t _ c.in-Taken-Some.hold c.release.new.party _
-    tt refl refl refl refl d.0 owner (ap holds_of c.in-Taken-Some.hold-is) d.1 refl
+    tt refl refl refl refl d.0 owner (ap holds_of c.in-Taken-Some.hold-1-is) d.1 refl
 
 pub returns : goal.returns
 returns g c =
