@@ -1,9 +1,8 @@
-use Rattle.std.proofs.Common.{◌≡◌, ◌+◌, ℕ, List, [], ◌∷◌, refl, sym, ap}
-use Rattle.blk_ptr.specs.declared.ptr.Ptr.{Ptr}
+use Rattle.std.proofs.Common.{◌+◌, ℕ, [], ◌∷◌, refl, sym, ap}
 use Rattle.arc_table.specs.declared.hold.Hold.{Hold}
 use Rattle.arc_table.specs.declared.item.Item.TheVariants as item
 use Rattle.arc_table.specs.Holding.{ptr_of}
-use Rattle.arc_table.proofs.Reached.{Took, took_is}
+use Rattle.arc_table.proofs.Reached.{took_is}
 use Rattle.arc_examples.specs.Kept.{holds_of}
 use Rattle.arc_examples.proofs.Cells.{hands-cell, held-then, then-party, then-ready}
 use Rattle.arc_examples.proofs.tests.hands.hand_over.Goals as goal
