@@ -1,20 +1,26 @@
 -- What the feeder's calls leave of it: it is ready for the next call.
-use Rattle.std.proofs.Common.{ℕ, List, [], Result, Ok, Err, take}
+use Rattle.std.proofs.Common.{◌≡◌, ℕ, Bool, true, false, List, [], Result, Ok, Err, take, subst}
+use mathlib.Core.Option.{some}
+use lib.ListN.{get_elem?}
 use Rattle.blk_ptr.specs.declared.key.Key.{Key}
 use Rattle.arc_core.specs.declared.event.Event.{Event}
+use Rattle.arc_core.specs.declared.event.Why.{Why}
 use Rattle.arc_core.specs.declared.served.Restored.{Restored}
 use Rattle.turn_table.specs.Places.{Place}
 use Rattle.arc_table.specs.declared.feeds.Cleared.{Cleared}
 use Rattle.arc_table.specs.declared.feeds.Cleared.TheVariants as cleared
+use Rattle.arc_table.specs.declared.picks.Picked.{Picked}
 use Rattle.arc_table.specs.declared.restores.RestoreStop.{RestoreStop}
 use Rattle.arc_table.specs.declared.restores.RestoreStop.TheVariants as stop
 use Rattle.arc_table.specs.declared.view.Known.{Known}
 use Rattle.arc_table.specs.Both.{Does}
 use Rattle.arc_table.specs.Cache.{Cache}
-use Rattle.arc_table.specs.Feeding.{AnswersClear, AnswersRestore, StopsAt}
+use Rattle.arc_table.specs.Feeding.{AnswersClear, AnswersRestore, AnswersSet, IsPicked, Leaves, StopsAt}
 use Rattle.arc_table.specs.Items.{Meanings}
+use Rattle.arc_table.specs.Picking.{Feeds, PicksAll}
 use Rattle.arc_table.proofs.AfterRead.{stays_config}
 use Rattle.arc_table.proofs.Afterwards.{Stays, does_stays, restores_stays, stays_then}
+use Rattle.arc_table.proofs.FeedEnds.{feeds_stays}
 use Rattle.arc_examples.specs.Ready.{IsReady, IsReadyAs}
 use Rattle.arc_examples.proofs.Ready.{ready-stays}
 
@@ -35,3 +41,17 @@ module _ {C : Type 0} (m : Meanings C) (cache : Cache) (p q : Place (Known C)) (
   restore-ready list (Ok u) a = ready-stays cache p q ready (restores_stays m cache.config ready.valid p.number list p q ready.of.config a)
   restore-ready list (Err (stop.NoMemory done)) a = ready-stays cache p q ready (stops-stay p.number list done a)
   restore-ready list (Err (stop.There done front)) a = ready-stays cache p q ready (stops-stay p.number list done a)
+
+  pub set-ready : (k : Key) (place : ℕ) (result : Bool) → AnswersSet m cache.config k place p q result → IsReadyAs cache p q
+  set-ready k place true a = does-ready k _ a
+  set-ready k place false a = does-ready k _ a
+
+  pub leave-ready : (k : Key) (why : Why) → Leaves m cache.config k why p q → IsReadyAs cache p q
+  leave-ready k why a = does-ready k _ a.2
+
+  pub feeds-ready : (i : ℕ) (es : List Event) → Feeds m cache.config i es p q → IsReadyAs cache p q
+  feeds-ready i es f = ready-stays cache p q ready (feeds_stays m cache.config i es p q f)
+
+  -- all that is in `out` is picked, where nothing was there before
+  pub picks-listed : (i : ℕ) (new : List Picked) → PicksAll m cache.config i p q [] new → (j : ℕ) (x : Picked) → get_elem? new j ≡ some x → IsPicked cache.config q x.key
+  picks-listed i new a j x at = a.listed j x (subst (λ (l : List Picked). get_elem? l j ≡ some x) a.out at)

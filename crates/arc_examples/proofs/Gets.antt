@@ -15,6 +15,7 @@ use Rattle.arc_table.specs.declared.view.Ledger.{Ledger}
 use Rattle.arc_table.specs.Booking.{without_hold}
 use Rattle.arc_table.specs.Both.{Does}
 use Rattle.arc_table.specs.Cache.{Cache}
+use Rattle.arc_table.specs.Handing.{Releases}
 use Rattle.arc_table.specs.Holding.{IsHeld, IsHoldOf}
 use Rattle.arc_table.specs.Items.{Meanings}
 use Rattle.arc_table.specs.Reading.{AnswersRead, Outside}
@@ -22,7 +23,7 @@ use Rattle.arc_table.specs.Trying.{FindsBusy}
 use Rattle.arc_table.proofs.AfterRead.{read_stays}
 use Rattle.arc_table.proofs.Afterwards.{Stays, does_stays}
 use Rattle.arc_examples.specs.Ready.{Gets, HasGot, IsAsBefore, IsReady, IsReadyAs}
-use Rattle.arc_examples.proofs.Holds.{drop-holds, gained-back, hit-gains, none-holds, own-hold}
+use Rattle.arc_examples.proofs.Holds.{drop-holds, gained-back, hit-gains, none-holds, own-hold, release-holds}
 use Rattle.arc_examples.proofs.ReadHolds.{ReadLists, read-lists}
 use Rattle.arc_examples.proofs.Ready.{before-stays, ready-stays}
 use Rattle.arc_examples.proofs.Tries.{busy-ledger, busy-stays}
@@ -40,6 +41,14 @@ module _ {C : Type 0} (m : Meanings C) (cache : Cache) (h : Hold) (p q : Place (
 
   pub dropped-holds : IsHeld cache.config p h → q.own.ledger.holds ≡ without_hold h.key p.own.ledger.holds
   dropped-holds held = drop-holds m cache.config ready.valid h p q ready.of.config (own-hold cache.config p h ready.free held).0 d
+
+-- a hold is given up for a copy
+module _ {C : Type 0} (m : Meanings C) (cache : Cache) (h : Hold) (p q : Place (Known C)) (ready : IsReady cache p) (d : Releases m cache.config h p q) where
+  pub released-ready : IsReadyAs cache p q
+  released-ready = ready-stays cache p q ready (does_stays m cache.config ready.valid h.key _ p q ready.of.config d.1)
+
+  pub released-holds : IsHeld cache.config p h → q.own.ledger.holds ≡ without_hold h.key p.own.ledger.holds
+  released-holds held = release-holds m cache.config ready.valid h d.0 p q ready.of.config (own-hold cache.config p h ready.free held).0 d.1
 
 module _ {C : Type 0} (cache : Cache) (k : Key) where
   -- what was got is given back

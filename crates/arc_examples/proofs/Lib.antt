@@ -1,3 +1,4 @@
+pub mod Cells
 pub mod Feeds
 pub mod Gets
 pub mod Holds

@@ -3,7 +3,9 @@ ghost use Rattle.std.specs.Prelude.{◌≡◌, IfOk};
 ghost use Rattle.arc_examples.specs.Ready.{IsNew, IsReady};
 
 mod feeds;
+mod hands;
 mod looks;
+mod picks;
 mod reads;
 mod turns;
 
