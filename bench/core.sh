@@ -1,7 +1,8 @@
 #!/usr/bin/env bash
 # Proves, builds and runs the events of a shard in a copy of the repository, and prints nanoseconds beside those of the plain simulation's
 # shard. A line is one kind of event at one number of keys: a hit and its release; a miss with one eviction and one drop, its arrival and its
-# release; a pick; a pick that is left without a place; naming one victim of a block of 16 MiB; its eviction. It needs rustc and python3.
+# release; a pick; a pick that is left without a place; naming one victim of a block of 16 MiB; its eviction. The plain shard's pick is a bare
+# walk, and it leaves no pick and names no victim: those have no plain figure. It needs rustc and python3.
 set -eu
 here=$(cd "$(dirname "$0")" && pwd)
 copy=$(mktemp -d)

@@ -2,30 +2,28 @@
 use Rattle.std.proofs.Common.{◌≡◌, ℕ, zero, suc, ◌+◌, ◌^◌, ◌≤◌, ◌<◌, length, arith, Bool, true, false, not, ◌||◌, IsTrue, IfSome, IfNone, List, [], ◌∷◌, Option, Some, None, is_some, inl, inr, refl, sym, ap, subst, ◌∙◌}
 use Rattle.std.specs.List.{find}
 use Rattle.std.specs.Option.{option_map_or}
-use Rattle.std.proofs.lemmas.Bool.{false≢true}
 use Rattle.blk_ptr.specs.declared.key.Key.{Key}
 use Rattle.blk_ptr.specs.declared.state.State.{State}
 use Rattle.blk_ptr.specs.declared.state.State.TheVariants.{Anon, Mru, MruGhost, Mfu, MfuGhost, L2Only}
 use Rattle.blk_ptr.specs.Order.{key_eq}
 use Rattle.blk_ptr.proofs.Keys.{key_eq-same}
-use Rattle.arc_lists.specs.Room.{or_else}
 use Rattle.arc_lists.specs.Sequences.{stands, stands_on}
 use Rattle.arc_lists.proofs.Standing.{and_left, and_right, not_true, not_true_is}
-use Rattle.arc_lists.proofs.Tables.{cases_true, is_some_of, length-without, some_is, without-absent}
+use Rattle.arc_lists.proofs.Tables.{cases_true, length-without, some_is, without-absent}
 use Rattle.arc_core.specs.declared.entry.Entry.{Entry}
 use Rattle.arc_core.specs.declared.event.Event.{Event}
 use Rattle.arc_core.specs.declared.table.scan.Scan.{Scan}
 use Rattle.arc_core.specs.Changes.{come, gone}
-use Rattle.arc_core.specs.Cursor.{IsScanOf, first_unmarked, size_by, with_size}
+use Rattle.arc_core.specs.Cursor.{IsScanOf, size_by, with_size}
 use Rattle.arc_core.specs.declared.table.search.Search.{Search}
 use Rattle.arc_core.specs.Edits.{is_evictable, is_off}
 use Rattle.arc_core.specs.Halts.{IsSoughtFor}
-use Rattle.arc_core.specs.Search.{AtRoom, AtTrim, Covers, Stands, StandsBy, count}
+use Rattle.arc_core.specs.Search.{AtRoom, AtTrim, Covers, Stands, StandsBy}
 use Rattle.arc_core.specs.PlainShard.{PlainShard, entry_key, entry_of, is_passed}
 use Rattle.arc_core.specs.Rules.{evicted, evicting, next_evicted, with_room}
 use Rattle.arc_core.specs.ShardLog.{AreAllNamed, IsUnnamed, ShardLog}
 use Rattle.arc_core.specs.Sound.{IsSound, IsSoundEntry, IsTidy}
-use Rattle.arc_core.specs.Sparing.{dropped_by_trim, evicted_for, fitting_victims, next_victim, victims, victims_of_entry}
+use Rattle.arc_core.specs.Sparing.{fitting_victims, next_victim, victims, victims_of_entry}
 use Rattle.arc_core.specs.Step.{legal}
 use Rattle.arc_core.proofs.CursorStart.{scan-come}
 use Rattle.arc_core.proofs.Ending.{count-le}

@@ -1,5 +1,5 @@
 -- A scan that goes on as far as the keys are marked finds the first that isn't.
-use Rattle.std.proofs.Common.{◌≡◌, ℕ, zero, suc, ◌+◌, ◌≤◌, ◌<◌, length, arith, true, false, List, [], ◌∷◌, ◌++◌, Option, Some, None, inl, inr, refl, sym, ap, subst, ◌∙◌, length-append}
+use Rattle.std.proofs.Common.{◌≡◌, ℕ, zero, suc, ◌+◌, ◌<◌, length, arith, true, false, List, [], ◌∷◌, ◌++◌, Option, Some, None, inl, inr, refl, sym, ap, subst, ◌∙◌, length-append}
 use Rattle.std.specs.Option.{option_map_or}
 use Rattle.blk_ptr.specs.declared.key.Key.{Key}
 use Rattle.blk_ptr.specs.declared.state.State.{State}
@@ -10,11 +10,11 @@ use Rattle.arc_lists.proofs.Tables.{some_is}
 use Rattle.arc_core.specs.declared.table.scan.Kind.{Kind}
 use Rattle.arc_core.specs.declared.table.scan.Scan.{Scan}
 use Rattle.arc_core.specs.Cursor.{IsKindOf, IsScanOf, dropped_by, evicted_by, first_unmarked, size_by, with_size}
-use Rattle.arc_core.specs.Edits.{is_droppable, is_evictable}
+use Rattle.arc_core.specs.Edits.{is_droppable}
 use Rattle.arc_core.specs.PlainShard.{PlainShard}
 use Rattle.arc_core.specs.Rules.{dropped, evicted, evicting, next_dropped, next_evicted}
 use Rattle.arc_core.specs.Scan.{PlainKind, PlainScan, from_next, going, going_but, kind_in}
-use Rattle.arc_core.specs.Search.{AreLeft, AtRoom, AtTrim, count}
+use Rattle.arc_core.specs.Search.{AreLeft, AtRoom, AtTrim}
 use Rattle.arc_core.specs.Sound.{IsTidy}
 use Rattle.arc_core.specs.Sparing.{dropped_by_trim, drops, evictions}
 use Rattle.arc_core.proofs.CursorSteps.{distinct-going, mfu-ghost, mfu-next, mru-ghost, mru-next}

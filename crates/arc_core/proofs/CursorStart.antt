@@ -10,8 +10,7 @@ use Rattle.blk_ptr.specs.State.{is_same_state}
 use Rattle.arc_lists.specs.Adapting.{clamped_target}
 use Rattle.arc_lists.specs.ByKey.{without}
 use Rattle.arc_lists.specs.PlainLists.{member_key, share_of, size_of}
-use Rattle.arc_lists.specs.Room.{or_else}
-use Rattle.arc_lists.specs.Sequences.{Sequences, sequence_of, stands_on, taken_off, without_key}
+use Rattle.arc_lists.specs.Sequences.{Sequences, sequence_of, taken_off, without_key}
 use Rattle.arc_lists.specs.Walks.{first_of, oldest_first}
 use Rattle.arc_lists.proofs.SizeSums.{size_of-with_item, size_of-without}
 use Rattle.arc_lists.proofs.Tables.{cases_true, length-with_item, length-without, map-with_item, map-without}
@@ -19,7 +18,7 @@ use Rattle.arc_core.specs.declared.entry.Entry.{Entry}
 use Rattle.arc_core.specs.declared.table.scan.Kind.{Kind}
 use Rattle.arc_core.specs.declared.table.scan.Scan.{Scan}
 use Rattle.arc_core.specs.Changes.{come, gone}
-use Rattle.arc_core.specs.Cursor.{IsKindOf, IsScanOf, first_unmarked, scan_at, size_by, with_size}
+use Rattle.arc_core.specs.Cursor.{IsKindOf, IsScanOf, scan_at, size_by, with_size}
 use Rattle.arc_core.specs.PlainShard.{PlainShard, entry_key, entry_of, is_passed, member_of, size_in}
 use Rattle.arc_core.specs.Rules.{resized}
 use Rattle.arc_core.specs.Scan.{PlainKind, from_next, going, going_but, kind_in, may_go}

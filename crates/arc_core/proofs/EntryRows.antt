@@ -7,7 +7,7 @@ use Rattle.arc_lists.specs.declared.name.Name.{Name}
 use Rattle.arc_lists.specs.ByKey.{has_key, item_at, with_change, with_item, without}
 use Rattle.arc_lists.proofs.Enrolled.{name, one}
 use Rattle.arc_lists.proofs.Rising.{has-row, length-listed, listed, listed-changes, listed-gains, listed-loses, row-item}
-use Rattle.arc_lists.proofs.Tables.{is_some_of, item_at-key}
+use Rattle.arc_lists.proofs.Tables.{is_some_of}
 use Rattle.arc_core.specs.declared.entry.Entry.{Entry}
 use Rattle.arc_core.specs.EntryRows.{AreKeyed, entry_in}
 use Rattle.arc_core.specs.PlainShard.{entry_key}

@@ -1,12 +1,12 @@
 -- The rows of keys and the keys in rising order.
-use Rattle.std.proofs.Common.{◌≡◌, ℕ, ◌+◌, ◌<◌, IsSome, Bool, true, false, ◌||◌, IsTrue, List, [], ◌∷◌, ◌++◌, length, Option, Some, None, IfSome, IfNone, is_some, inl, inr, refl, sym, ap, subst, ◌∙◌, arith}
+use Rattle.std.proofs.Common.{◌≡◌, ℕ, ◌+◌, ◌<◌, IsSome, Bool, true, false, ◌||◌, List, [], ◌∷◌, ◌++◌, length, Option, Some, None, IfSome, IfNone, is_some, inl, inr, refl, sym, ap, subst, ◌∙◌, arith}
 use Rattle.std.proofs.lemmas.Bool.{false≢true}
 use Rattle.blk_ptr.specs.declared.key.Key.{Key}
 use Rattle.blk_ptr.specs.Order.{key_eq}
 use Rattle.blk_ptr.proofs.Keys.{key_eq-is, key_eq-same}
-use Rattle.key_table.specs.PlainTable.{AreApart, Gains, HasKey, IsAmong, Loses, Row, row}
+use Rattle.key_table.specs.PlainTable.{AreApart, Gains, HasKey, Loses, Row, row}
 use Rattle.arc_lists.specs.declared.name.Name.{Name}
-use Rattle.arc_lists.specs.ByKey.{has_key, item_at, with_item, without}
+use Rattle.arc_lists.specs.ByKey.{with_item}
 use Rattle.arc_lists.specs.Sequences.{stands_on}
 use Rattle.arc_lists.proofs.Enrolled.{one}
 use Rattle.arc_lists.proofs.Rising.{absent-row, length-listed, listed, listed-gains, listed-loses, row-item}

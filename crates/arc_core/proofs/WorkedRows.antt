@@ -69,7 +69,7 @@ overshoot = (refl, refl)
 failed_read : HasEnds (shard 0) (Miss 0 (block 512 0) 1 ∷ (Fail 0 (block 512 0) failed.Pool ∷ [])) (2048 ∷ (0 ∷ (0 ∷ (0 ∷ (0 ∷ (0 ∷ (0 ∷ [])))))))
 failed_read = (refl, refl)
 
--- a key whose bucket another party holds is passed, and the next one is evicted
+-- one key is passed, since its bucket is in another party's hands, and the next one is evicted
 passing : (is_legal_history (shard 0) (fetch (block 2048 0) 1 ++ fetch (block 2048 1) 2 ++ Pass 0 (block 2048 0) 1 ∷ [] ++ fetch (block 2048 2) 3) ≡ true)
     × ((replay (shard 0) (fetch (block 2048 0) 1 ++ fetch (block 2048 1) 2 ++ Pass 0 (block 2048 0) 1 ∷ [] ++ fetch (block 2048 2) 3)).sequences
     ≡ record { mru = block 2048 2 ∷ (block 2048 0 ∷ []); mru_ghost = block 2048 1 ∷ []; mfu = []; mfu_ghost = [] })

@@ -14,7 +14,6 @@ use Rattle.arc_core.specs.PlainShard.{PlainShard, size_in}
 use Rattle.arc_core.specs.Rules as Rules
 use Rattle.arc_core.specs.Scan.{PlainKind, from_next, going_but, kind_in}
 use Rattle.arc_core.specs.Sound.{IsTidy}
-use Rattle.arc_core.specs.Sparing.{evictions}
 
 -- the two are one key, or neither is there
 abbrev pub is_same_key : Option Key → Option Key → Bool

@@ -1,4 +1,4 @@
--- The events that are owed: one for each hold, each reading and each picked key, since each of them is to end.
+-- The events that are owed: whatever is held, being read or picked is to end, and each end is an event.
 use Rattle.std.specs.Prelude.{ℕ, ◌+◌, if◌then◌else◌, List, [], ◌∷◌, length}
 use Rattle.arc_core.specs.declared.entry.Entry.{Entry}
 use Rattle.arc_core.specs.declared.event.Event.{Event}

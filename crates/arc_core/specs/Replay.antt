@@ -14,7 +14,7 @@ abbrev pub is_legal_history : PlainShard → List Event → Bool
 is_legal_history s [] = true
 is_legal_history s (e ∷ es) = legal s e && is_legal_history (after s e) es
 
--- a prefix of a legal history is legal
+-- what begins a legal history is legal
 abbrev pub IsPrefixLegal : Type 0
 IsPrefixLegal = (s : PlainShard) (front rest : List Event) → IsTrue (is_legal_history s (front ++ rest)) → IsTrue (is_legal_history s front)
 

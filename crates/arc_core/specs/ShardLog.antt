@@ -64,7 +64,7 @@ pub record MayUnpick (len : ℕ) (log : ShardLog) : Type 0 where
   pub unpassed : (replay log.opening (take len log.history)).passed ≡ []
   pub scan : AllByRecursion (λ e. IsTrue (is_scan e)) (drop len log.history)
 
--- the events from this place on are gone, and the shard is as it was before them
+-- the events from this place on are gone, and so is what they changed
 pub record IsUnpicked (len : ℕ) (old new : ShardLog) : Type 0 where
   pub now : new.now ≡ replay old.opening (take len old.history)
   pub history : new.history ≡ take len old.history

@@ -19,7 +19,7 @@ use Rattle.arc_core.specs.Changes.{pick_of}
 -- ---- an entry by itself
 
 -- what may be known of an entry in its state: an anonymous one is being read; an MRU entry is at rest and has a digest; an MFU entry
--- too, unless it is being read; a ghost has a digest and no hold, and is at rest; an L2-only entry has a place and no hold, and is at rest
+-- too, unless it is being read; nobody holds or reads a ghost, which has a digest, nor an L2-only entry, which has a place
 abbrev pub fits_state : State → Entry → Bool
 fits_state Anon e = e.reading
 fits_state Mru e = is_at_rest e && is_some e.digest
@@ -70,7 +70,7 @@ pub record IsTidy (s : PlainShard) : Type 0 where
   -- each key has one entry, and each entry is sound
   pub once : IsRising entry_key s.entries
   pub entries : AllByRecursion IsSoundEntry s.entries
-  -- an entry stands on its state's sequence, once, exactly where it has no hold; no other key stands on a sequence
+  -- the sequence of a state has each of its entries that nobody holds, once, and no other key
   pub mru : IsSequence Mru s
   pub mru_ghost : IsSequence MruGhost s
   pub mfu : IsSequence Mfu s

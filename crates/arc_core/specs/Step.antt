@@ -78,7 +78,7 @@ agree false b = not b
 abbrev pub is_key : Key → Key → Bool
 is_key k x = key_eq x k
 
--- a picked key may gain a place: its entry is MRU, MFU or a ghost, at rest, has the digest that it was picked with, and no place
+-- a picked key may gain a place: its entry has none, is cached or a ghost, isn't being read, and has the digest of the pick still
 abbrev pub may_be_placed : Picked → Entry → Bool
 may_be_placed pick e =
     (is_cached e.state || is_ghost e.state) && (is_at_rest e && (same_digest e.digest pick.digest && is_none e.place))

@@ -1,3 +1,4 @@
+//! The numbers with which a cache is made, and their ranges.
 ghost use Rattle.std.specs.Prelude.{◌↔◌, ◌≤◌, IsTrue};
 
 /// How much one feed of the cache device may take from a shard.

@@ -65,22 +65,22 @@ impl Entries {
     }
 
     /// Writes an entry over the one of its key.
-    pub fn write(&mut self, entry: Entry)
-        requires { IsSome (item_at entry_key entry.key self.old.items) }
-        ensures items { self.new.items ≡ with_change entry_key entry.key (λ _. entry) self.old.items }
+    pub fn write(&mut self, entry: &Entry)
+        requires { IsSome (item_at entry_key entry.now.key self.old.items) }
+        ensures items { self.new.items ≡ with_change entry_key entry.now.key (λ _. entry.now) self.old.items }
         ensures spare { self.new.spare ≡ self.old.spare }
     {
-        let _ = self.rows.set(&Name(entry.key), entry);
+        let _ = self.rows.set(&Name(entry.key), *entry);
     }
 
     /// Adds an entry of a key that has none.
-    pub fn add(&mut self, entry: Entry)
+    pub fn add(&mut self, entry: &Entry)
         requires room { 0 < self.old.spare }
-        requires absent { has_key entry_key entry.key self.old.items ≡ false }
-        ensures items { self.new.items ≡ with_item entry_key entry self.old.items }
+        requires absent { has_key entry_key entry.now.key self.old.items ≡ false }
+        ensures items { self.new.items ≡ with_item entry_key entry.now self.old.items }
         ensures spare { self.new.spare ≡ self.old.spare - 1 }
     {
-        self.rows.insert(Name(entry.key), entry);
+        self.rows.insert(Name(entry.key), *entry);
     }
 
     /// Removes the entry of a key.

@@ -1,3 +1,4 @@
+//! What a shard keeps of one key, and what holds, accesses and picks ask of it.
 ghost use Rattle.std.specs.Prelude.{◌≡◌, ◌+◌, ◌^◌, ◌<◌, length};
 ghost use Rattle.arc_core.specs.Digests.{same_digest};
 
@@ -10,15 +11,17 @@ pub const NUMBERS: usize = 33;
 /// What a shard knows of one key.
 #[derive(Clone, Copy, Debug, PartialEq, Eq)]
 pub struct Entry {
+    /// The key, whose size is what the entry counts in bytes.
     pub key: Key,
+    /// Where it stands.
     pub state: State,
     /// How many holds each number has.
     pub holds: Holds,
     /// Its bytes are being read.
     pub reading: bool,
-    /// The tick of its last access.
+    /// The tick of the last access that counted.
     pub last: u64,
-    /// Its place on the cache device.
+    /// The byte at which its block begins on the cache device, where it is there.
     pub place: Option<u64>,
     /// The SHA-256 of its bytes, also after they were evicted.
     pub digest: Option<Digest>,
@@ -144,7 +147,9 @@ impl Entry {
 /// A key that the feeder picked, with the digest that it had then.
 #[derive(Clone, Copy, Debug, PartialEq, Eq)]
 pub struct Picked {
+    /// The key.
     pub key: Key,
+    /// The SHA-256 that its entry had at the pick.
     pub digest: Option<Digest>,
 }
 

@@ -1,3 +1,4 @@
+//! The events of a shard: every change that it knows, and what each says of itself.
 use blk_ptr::{Digest, Key};
 
 /// Where the bytes of a read came from.

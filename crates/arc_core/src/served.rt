@@ -1,3 +1,4 @@
+//! How a read was answered, why it was not, and what a start finds on a cache device.
 use blk_ptr::{Digest, Key, KeyFault};
 
 /// Where the bytes of an answered read came from.

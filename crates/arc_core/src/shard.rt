@@ -1,3 +1,4 @@
+//! One shard with the history that leads to it. Each event is a call; here are those of reads, and more stand in `shard/`.
 ghost use Rattle.std.specs.Prelude.{◌≡◌, ℕ, ◌+◌, ◌≤◌, ◌++◌, ◌∷◌, [], IsTrue, OnOk, OnErr, vec_len, vec_capacity, option_map, ◌<◌};
 ghost use Rattle.arc_lists.specs.Adapting.{IsCapacity};
 ghost use Rattle.arc_core.specs.declared.event.Event.{Event};
@@ -120,8 +121,8 @@ impl Shard {
         }
     }
 
-    /// Makes room for `events` more events beyond those that are owed, and for `entries` more entries. One event is owed for
-    /// each hold, each reading and each picked key. After want of memory the shard is as before. A history that would have more than
+    /// Makes room for `events` more events, and for `entries` more entries. Events that are owed, since something is held, being
+    /// read or picked that is to end, have room already and don't count. After want of memory the shard is as before. A history that would have more than
     /// 2^32 - 1 events with those that are owed is want of memory too.
     pub fn reserve(&mut self, events: usize, entries: usize) -> Result<(), NoMemory>
         ensures log { self.new ≡ record self.old { event_room = self.new.event_room; entry_room = self.new.entry_room } }

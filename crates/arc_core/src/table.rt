@@ -1,3 +1,4 @@
+//! A shard without its history: its entries and sequences, and what a feed and a scan for room have in hand.
 ghost use Rattle.std.specs.Prelude.{◌≡◌, ℕ, ◌+◌, ◌-◌, ◌/◌, ◌<◌, ◌≤◌, false, IsTrue, IsSome, None, [], length, max, OnOk, OnErr, option_map};
 ghost use Rattle.blk_ptr.specs.declared.key.Key.{Key};
 ghost use Rattle.arc_lists.specs.Adapting.{IsCapacity};
@@ -78,6 +79,10 @@ impl Table {
         ensures marks { OnOk result (self.new.marks ≡ max self.old.marks marks) }
         ensures err { OnErr result (self.new ≡ self.old) }
     {
+        // What there is room for in the lists has room everywhere.
+        if entries <= self.lists.spare() && marks <= self.marks {
+            return Ok(());
+        }
         let all = self.marks.max(marks);
         self.passed.reserve(all)?;
         self.picked.reserve(all)?;
@@ -105,33 +110,32 @@ impl Table {
     }
 
     /// Writes an entry over its key's, and puts the key at its sequence's head where nobody holds it.
-    pub fn place(&mut self, entry: Entry)
-        requires there { IsSome (entry_of entry.key self.old.shard) }
-        requires sound { IsSoundEntry entry }
-        ensures { self.new ≡ record self.old { shard = placed entry self.old.shard } }
+    pub fn place(&mut self, entry: &Entry)
+        requires there { IsSome (entry_of entry.now.key self.old.shard) }
+        requires sound { IsSoundEntry entry.now }
+        ensures { self.new ≡ record self.old { shard = placed entry.now self.old.shard } }
     {
         let unheld = entry.is_unheld();
-        self.lists.take_out(entry.key);
-        self.lists.put(entry.key, entry.state, unheld);
+        self.lists.change_state(entry.key, entry.state, unheld);
         self.entries.write(entry);
     }
 
     /// Writes an entry over its key's, which has the same state and holds, and leaves the key where it stands.
-    pub fn amend(&mut self, entry: Entry)
-        requires alike { HasAlike entry self.old.shard }
-        requires sound { IsSoundEntry entry }
-        ensures { self.new ≡ record self.old { shard = amended entry self.old.shard } }
+    pub fn amend(&mut self, entry: &Entry)
+        requires alike { HasAlike entry.now self.old.shard }
+        requires sound { IsSoundEntry entry.now }
+        ensures { self.new ≡ record self.old { shard = amended entry.now self.old.shard } }
     {
         self.entries.write(entry);
     }
 
     /// Adds an entry of a key that has none, on no sequence.
-    pub fn add(&mut self, entry: Entry)
+    pub fn add(&mut self, entry: &Entry)
         requires room { 0 < self.old.spare }
-        requires absent { entry_of entry.key self.old.shard ≡ None }
-        requires off { IsTrue (is_off entry) }
-        requires sound { IsSoundEntry entry }
-        ensures { self.new ≡ record self.old { shard = come entry self.old.shard; spare = self.old.spare - 1 } }
+        requires absent { entry_of entry.now.key self.old.shard ≡ None }
+        requires off { IsTrue (is_off entry.now) }
+        requires sound { IsSoundEntry entry.now }
+        ensures { self.new ≡ record self.old { shard = come entry.now self.old.shard; spare = self.old.spare - 1 } }
     {
         self.lists.put(entry.key, entry.state, false);
         self.entries.add(entry);

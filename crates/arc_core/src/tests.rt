@@ -1,3 +1,4 @@
+//! Worked traces of one shard, and a drawn one that is replayed.
 use crate::config::Bounds;
 use crate::event::{Event, FailedAt, Origin, Why};
 use crate::shard::Shard;

@@ -1,5 +1,5 @@
 -- A block that was got, by a read or by a try, and what is so once it is given back.
-use Rattle.std.proofs.Common.{◌≡◌, ℕ, [], ◌∷◌, Option, Some, None, Result, Ok, Err, ap, ◌∙◌, subst}
+use Rattle.std.proofs.Common.{◌≡◌, ℕ, [], ◌∷◌, ◌++◌, map, Option, Some, None, Result, Ok, Err, sym, ap, ◌∙◌, subst}
 use Rattle.vdev_io.specs.declared.device.CacheDev.{Ghosts as DeviceGhosts}
 use Rattle.vdev_io.specs.declared.pool.Pool.{Ghosts as PoolGhosts}
 use Rattle.blk_ptr.specs.declared.key.Key.{Key}
@@ -12,17 +12,20 @@ use Rattle.arc_table.specs.declared.read.Read.{Read}
 use Rattle.arc_table.specs.declared.read.Read.TheVariants as gave
 use Rattle.arc_table.specs.declared.view.Known.{Known}
 use Rattle.arc_table.specs.declared.view.Ledger.{Ledger}
+use Rattle.arc_table.specs.declared.view.Line.TheVariants as line
 use Rattle.arc_table.specs.Booking.{without_hold}
 use Rattle.arc_table.specs.Both.{Does}
 use Rattle.arc_table.specs.Cache.{Cache}
+use Rattle.arc_table.specs.Fronts.{front_of}
+use Rattle.arc_table.specs.Geometry.{shard_turn}
 use Rattle.arc_table.specs.Handing.{Releases}
 use Rattle.arc_table.specs.Holding.{IsHeld, IsHoldOf}
 use Rattle.arc_table.specs.Items.{Meanings}
 use Rattle.arc_table.specs.Reading.{AnswersRead, Outside}
 use Rattle.arc_table.specs.Trying.{FindsBusy}
 use Rattle.arc_table.proofs.AfterRead.{read_stays}
-use Rattle.arc_table.proofs.Afterwards.{Stays, does_stays}
-use Rattle.arc_examples.specs.Ready.{Gets, HasGot, IsAsBefore, IsReady, IsReadyAs}
+use Rattle.arc_table.proofs.Afterwards.{Stays, does_seen, does_stays}
+use Rattle.arc_examples.specs.Ready.{Gets, HasGivenBack, HasGot, IsAsBefore, IsReady, IsReadyAs}
 use Rattle.arc_examples.proofs.Holds.{drop-holds, gained-back, hit-gains, none-holds, own-hold, release-holds}
 use Rattle.arc_examples.proofs.ReadHolds.{ReadLists, read-lists}
 use Rattle.arc_examples.proofs.Ready.{before-stays, ready-stays}
@@ -42,6 +45,14 @@ module _ {C : Type 0} (m : Meanings C) (cache : Cache) (h : Hold) (p q : Place (
   pub dropped-holds : IsHeld cache.config p h → q.own.ledger.holds ≡ without_hold h.key p.own.ledger.holds
   dropped-holds held = drop-holds m cache.config ready.valid h p q ready.of.config (own-hold cache.config p h ready.free held).0 d
 
+  pub dropped-back : IsHeld cache.config p h → HasGivenBack cache h.key q
+  dropped-back held = record {
+    before = d.before.history;
+    seen = subst (λ (n : ℕ). front_of (shard_turn cache.config h.key) q.own.seen ≡ map line.Event (d.before.history ++ Drop n h.key ∷ []))
+        ((own-hold cache.config p h ready.free held).0 ∙ sym dropped-ready.number)
+        (does_seen m cache.config ready.valid h.key (Drop h.owner h.key ∷ []) p q d);
+  }
+
 -- a hold is given up for a copy
 module _ {C : Type 0} (m : Meanings C) (cache : Cache) (h : Hold) (p q : Place (Known C)) (ready : IsReady cache p) (d : Releases m cache.config h p q) where
   pub released-ready : IsReadyAs cache p q
@@ -51,6 +62,10 @@ module _ {C : Type 0} (m : Meanings C) (cache : Cache) (h : Hold) (p q : Place (
   released-holds held = release-holds m cache.config ready.valid h d.0 p q ready.of.config (own-hold cache.config p h ready.free held).0 d.1
 
 module _ {C : Type 0} (cache : Cache) (k : Key) where
+  -- it is given back under the key that it was got on
+  pub got-given : (hold : Hold) (p r q : Place (Known C)) → HasGot cache k hold p r → HasGivenBack cache hold.key q → HasGivenBack cache k q
+  got-given hold p r q got back = subst (λ (x : Key). HasGivenBack cache x q) got.key back
+
   -- what was got is given back
   pub got-back : (hold : Hold) (p r q : Place (Known C)) → HasGot cache k hold p r → IsReadyAs cache r q → q.own.ledger.holds ≡ without_hold hold.key r.own.ledger.holds → IsAsBefore cache p q
   got-back hold p r q got ready back = record {

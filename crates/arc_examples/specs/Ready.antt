@@ -1,12 +1,17 @@
 -- A party between calls, with a hold that it got, and once it has given it back.
-use Rattle.std.specs.Prelude.{◌≡◌, ℕ, suc, List, [], ◌∷◌, Option, Some, None}
+use Rattle.std.specs.Prelude.{◌≡◌, ℕ, suc, List, [], ◌∷◌, ◌++◌, map, Option, Some, None}
 use Rattle.blk_ptr.specs.declared.key.Key.{Key}
 use Rattle.blk_ptr.specs.declared.ptr.Ptr.{Ptr}
+use Rattle.arc_core.specs.declared.event.Event.{Event}
+use Rattle.arc_core.specs.declared.event.Event.TheVariants.{Drop}
 use Rattle.arc_core.specs.Config.{IsConfig}
 use Rattle.turn_table.specs.Places.{Place}
 use Rattle.arc_table.specs.declared.hold.Hold.{Hold}
 use Rattle.arc_table.specs.declared.view.Known.{Known}
+use Rattle.arc_table.specs.declared.view.Line.TheVariants as line
 use Rattle.arc_table.specs.Cache.{Cache, IsPartyOf}
+use Rattle.arc_table.specs.Fronts.{front_of}
+use Rattle.arc_table.specs.Geometry.{shard_turn}
 use Rattle.arc_table.specs.Holding.{IsHeld}
 
 -- the party is one of this cache, and holds no turn
@@ -44,6 +49,11 @@ module _ {C : Type 0} where
   abbrev pub Gets : Cache → Key → Place (Known C) → Place (Known C) → Option Hold → Type 0
   Gets cache k p q (Some hold) = HasGot cache k hold p q
   Gets cache k p q None = IsAsBefore cache p q
+
+  -- a hold on the key was given back: the last event that the party has seen of the key's shard is its own Drop
+  pub record HasGivenBack (cache : Cache) (k : Key) (p : Place (Known C)) : Type 0 where
+    pub before : List Event
+    pub seen : front_of (shard_turn cache.config k) p.own.seen ≡ map line.Event (before ++ Drop p.number k ∷ [])
 
 module _ {C : Type 0} where
   -- the party of this number of a new cache: it has joined none, and has picked nothing

@@ -1,9 +1,9 @@
 //! Steps of one or two calls. After each the party is ready for the next, and what it got is given back.
-ghost use Rattle.std.specs.Prelude.{◌≡◌, IfErr, IfOk, IfSome, OnErr};
+ghost use Rattle.std.specs.Prelude.{◌≡◌, IfErr, IfOk, IfSome, IsTrue, OnErr};
 ghost use Rattle.turn_table.specs.Places.{IsOther};
 ghost use Rattle.arc_table.specs.Booking.{without_hold};
 ghost use Rattle.arc_table.specs.Holding.{IsHeld};
-ghost use Rattle.arc_examples.specs.Ready.{Gets, HasGot, IsAsBefore, IsReady, IsReadyAs};
+ghost use Rattle.arc_examples.specs.Ready.{Gets, HasGivenBack, HasGot, IsAsBefore, IsReady, IsReadyAs};
 
 use crate::plain::Plain;
 use arc_table::{Arcs, Hold, Look, Party, Read, TryDrop, TryHit};
@@ -18,6 +18,7 @@ fn give_back<R: Wait>(rt: &R, arcs: &Arcs<Plain>, party: &mut Party<Plain>, hold
     requires hold { IsHeld arcs.now.config party.old hold }
     ensures ready { IsReadyAs arcs.now party.old party.new }
     ensures holds { party.new.own.ledger.holds ≡ without_hold hold.key party.old.own.ledger.holds }
+    ensures back { HasGivenBack arcs.now hold.key party.new }
 {
     arcs.drop_hold(rt, party, hold);
 }
@@ -28,6 +29,7 @@ fn try_back<R: Wait>(rt: &R, arcs: &Arcs<Plain>, party: &mut Party<Plain>, hold:
     requires hold { IsHeld arcs.now.config party.old hold }
     ensures ready { IsReadyAs arcs.now party.old party.new }
     ensures holds { party.new.own.ledger.holds ≡ without_hold hold.key party.old.own.ledger.holds }
+    ensures back { HasGivenBack arcs.now hold.key party.new }
 {
     match arcs.try_drop(party, hold) {
         TryDrop::Done => {}
@@ -86,7 +88,8 @@ pub fn read_one<R: Wait>(
     tick: u64,
 ) -> bool
     requires { IsReady arcs.now party.old }
-    ensures { IsAsBefore arcs.now party.old party.new }
+    ensures party { IsAsBefore arcs.now party.old party.new }
+    ensures back { IsTrue result → HasGivenBack arcs.now ptr.now.key party.new }
 {
     let Some(hold) = get(rt, arcs, party, pool, ptr, tick) else {
         return false;
@@ -105,7 +108,8 @@ pub fn read_and_try<R: Wait>(
     tick: u64,
 ) -> bool
     requires { IsReady arcs.now party.old }
-    ensures { IsAsBefore arcs.now party.old party.new }
+    ensures party { IsAsBefore arcs.now party.old party.new }
+    ensures back { IsTrue result → HasGivenBack arcs.now ptr.now.key party.new }
 {
     let Some(hold) = get(rt, arcs, party, pool, ptr, tick) else {
         return false;
@@ -145,7 +149,8 @@ pub fn try_one<R: Wait>(
     tick: u64,
 ) -> bool
     requires { IsReady arcs.now party.old }
-    ensures { IsAsBefore arcs.now party.old party.new }
+    ensures party { IsAsBefore arcs.now party.old party.new }
+    ensures back { IsTrue result → HasGivenBack arcs.now ptr.now.key party.new }
 {
     let Ok(hold) = try_get(arcs, party, ptr, tick) else {
         return false;

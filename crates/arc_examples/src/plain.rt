@@ -31,8 +31,11 @@ impl Keeps for Plain {
 /// What a caller works with, and how its draws begin.
 #[derive(Drop)]
 pub struct Caller {
+    /// Its party.
     pub party: Party<Plain>,
+    /// Its fork of the pool.
     pub pool: MemPool,
+    /// What its draws begin with.
     pub seed: u64,
 }
 

@@ -13,17 +13,24 @@ use vdev_io::{MemPool, Pool};
 /// A cache, its feeder and its two callers.
 #[derive(Drop)]
 pub struct Pair {
+    /// The cache.
     pub arcs: Arcs<Plain>,
+    /// The feeder.
     pub feeder: Caller,
+    /// Caller 0.
     pub one: Caller,
+    /// Caller 1.
     pub two: Caller,
 }
 
 /// A cache, its feeder and its four callers.
 #[derive(Drop)]
 pub struct Scene {
+    /// The cache.
     pub arcs: Arcs<Plain>,
+    /// The feeder.
     pub feeder: Caller,
+    /// The callers, by their numbers.
     pub callers: (Caller, Caller, Caller, Caller),
 }
 

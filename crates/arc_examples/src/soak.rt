@@ -1,7 +1,10 @@
 //! A soak: four callers do drawn calls at the same time on few keys and little room, and then the histories are replayed.
+ghost use Rattle.std.specs.Prelude.{◌≡◌, ◌≤◌, count_by, length};
 ghost use Rattle.std.specs.Thread.{IsSync};
 ghost use Rattle.arc_core.specs.Config.{IsConfig};
+ghost use Rattle.arc_core.specs.Operations.{is_pass};
 ghost use Rattle.arc_examples.specs.Ready.{IsAsBefore, IsReady};
+ghost use Rattle.arc_examples.specs.Soaking.{events_of, passes_of};
 
 use crate::calls::{look_at, read_and_try, read_one, try_one};
 use crate::plain::{Caller, Plain, config_of, draw, ptr_of};
@@ -22,8 +25,11 @@ const CALLS: u64 = 10_000;
 /// What a soak came to.
 #[derive(Clone, Copy, Drop)]
 pub struct Soaked {
-    pub events: u64,
-    pub passes: u64,
+    /// How many events all shards had.
+    pub events: u128,
+    /// How many of them are passes.
+    pub passes: u128,
+    /// Whether each history leads to its shard's end.
     pub replay: bool,
 }
 
@@ -150,35 +156,65 @@ fn replays(alloc: Global, config: &Config, shard: &Shard) -> bool
 }
 
 // How many passes these events have.
-fn passes_in(events: &[Event]) -> u64 {
-    events
-        .iter()
-        .filter(|event| matches!(
-            event,
-            Event::Pass {
-                n: _,
-                key: _,
-                owner: _
-            }
-        ))
-        .count() as u64
+fn passes_in(events: &[Event]) -> usize
+    ensures count { result ≡ count_by is_pass events.now }
+    ensures bound { result ≤ length events.now }
+{
+    events.iter().filter(|event| is_pass(event)).count()
 }
 
-// Replays the histories of all shards.
-fn judge(alloc: Global, config: &Config, shards: &[Shard]) -> Soaked
+// Whether the event is a pass.
+fn is_pass(event: &Event) -> bool
+    ensures { result ≡ is_pass event.now }
+{
+    matches!(event, Event::Pass { .. })
+}
+
+// How many events the histories of these shards have.
+fn count_events(shards: &[Shard]) -> u128
+    ensures { result ≡ events_of shards.now }
+{
+    let mut count = 0;
+    for shard in shards {
+        count += shard.history().len() as u128;
+    }
+    count
+}
+
+// How many passes they have.
+fn count_passes(shards: &[Shard]) -> u128
+    ensures { result ≡ passes_of shards.now }
+{
+    let mut count = 0;
+    for shard in shards {
+        count += passes_in(shard.history()) as u128;
+    }
+    count
+}
+
+// Whether each of them replays. That those of a closed cache do is proved of `Arcs::close`; here they are run once more, so there is no clause.
+fn all_replay(alloc: Global, config: &Config, shards: &[Shard]) -> bool
     requires { IsConfig config.now }
 {
-    let mut soaked = Soaked {
-        events: 0,
-        passes: 0,
-        replay: true,
-    };
     for shard in shards {
-        soaked.events = soaked.events.wrapping_add(shard.history().len() as u64);
-        soaked.passes = soaked.passes.wrapping_add(passes_in(shard.history()));
-        soaked.replay = soaked.replay && replays(alloc, config, shard);
+        if !replays(alloc, config, shard) {
+            return false;
+        }
     }
-    soaked
+    true
+}
+
+// Counts the events and passes of all shards, and replays their histories.
+fn judge(alloc: Global, config: &Config, shards: &[Shard]) -> Soaked
+    requires { IsConfig config.now }
+    ensures events { result.events ≡ events_of shards.now }
+    ensures passes { result.passes ≡ passes_of shards.now }
+{
+    Soaked {
+        events: count_events(shards),
+        passes: count_passes(shards),
+        replay: all_replay(alloc, config, shards),
+    }
 }
 
 /// Four callers do their calls, and the histories are replayed.

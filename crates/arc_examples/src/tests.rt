@@ -7,6 +7,7 @@ mod hands;
 mod looks;
 mod picks;
 mod reads;
+mod resizes;
 mod turns;
 
 use crate::{Pair, SIZE, opened_pair, run_soak};
@@ -71,15 +72,15 @@ fn has_events(closed: &Closed<crate::Plain>, events: &[Event]) -> bool {
 // Four callers do their calls, and the histories replay. A scan passes a key only where it meets a taken bucket, so one soak of a few has to.
 #[test]
 fn soaks_replay(rt: HostRuntime) -> Result<(), Fail> {
-    let mut passes: u64 = 0;
+    let mut passed = false;
     for _ in 0..4 {
         let soaked = run_soak(&rt, rt.alloc()).ok().ok_or("memory")?;
         assert!(rt; soaked.replay);
-        passes = passes.wrapping_add(soaked.passes);
-        if passes > 0 {
+        passed = soaked.passes > 0;
+        if passed {
             break;
         }
     }
-    assert!(rt; passes > 0);
+    assert!(rt; passed);
     Ok(())
 }

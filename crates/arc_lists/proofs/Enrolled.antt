@@ -1,5 +1,5 @@
 -- The rows of the members and their posts in rising order.
-use Rattle.std.proofs.Common.{◌≡◌, ◌+◌, false, List, length, Option, Some, None, IfNone, IfSome, IsSome, is_some, refl, sym, ap, subst, ◌∙◌}
+use Rattle.std.proofs.Common.{◌≡◌, false, List, length, Option, Some, None, IfNone, IfSome, IsSome, is_some, refl, sym, ap, subst, ◌∙◌}
 use Rattle.std.proofs.lemmas.Bool.{false≢true}
 use Rattle.blk_ptr.specs.declared.key.Key.{Key}
 use Rattle.key_table.specs.PlainTable.{AreApart, Changes, Gains, HasKey, IsAmong, Loses, Row, row}

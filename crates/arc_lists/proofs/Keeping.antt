@@ -1,5 +1,5 @@
 -- What a key that comes, goes, is put on its sequence or taken off keeps of the lists' invariant.
-use Rattle.std.proofs.Common.{◌≡◌, ℕ, suc, ◌+◌, ◌-◌, ◌<◌, ◌≤◌, ◌^◌, Bool, true, false, List, [], ◌∷◌, length, map, Option, Some, None, IsTrue, IsSome, IsSomeAnd, MatchOption, OnErr, OnOk, Result, Ok, Err, max, is_some, option_map, if◌then◌else◌, ◌⊎◌, inl, inr, refl, sym, ap, subst, ◌∙◌, arith}
+use Rattle.std.proofs.Common.{◌≡◌, ℕ, suc, ◌+◌, ◌-◌, ◌<◌, ◌≤◌, ◌^◌, Bool, true, false, List, [], ◌∷◌, length, Option, Some, None, IsTrue, IsSome, IsSomeAnd, MatchOption, OnErr, OnOk, Result, Ok, Err, max, is_some, option_map, if◌then◌else◌, ◌⊎◌, inl, inr, refl, sym, ap, subst, ◌∙◌, arith}
 use Rattle.std.specs.List.{AllByRecursion}
 use Rattle.std.proofs.lemmas.Bool.{false≢true}
 use Rattle.blk_ptr.specs.Size.{largest_block}
@@ -18,13 +18,13 @@ use Rattle.arc_lists.specs.ByKey.{IsAbove, IsRising, has_key, item_at, with_chan
 use Rattle.arc_lists.specs.Kept.{ListsKeep, plain}
 use Rattle.arc_lists.specs.PlainLists.{IsBound, PlainLists, member, member_key, share_of, size_of}
 use Rattle.arc_lists.specs.Posts.{Posts, member_of, members_of, post, post_key, standing}
-use Rattle.arc_lists.specs.Queues.{AreInState, AreNodesApart, ArePlaced, AreSequencesOf, HaveCapacity, HaveRoom, HaveSameNodes, IsEntered, IsOn, IsOnlyOn, IsPlaced, IsPushed, left, nodes_of, pushed, removed, sequences_in, size_at}
+use Rattle.arc_lists.specs.Queues.{AreInState, AreNodesApart, ArePlaced, AreSequencesOf, HaveCapacity, HaveRoom, HaveSameNodes, IsEntered, IsOn, IsOnlyOn, IsPlaced, IsPushed, left, nodes_of, pushed, sequences_in, size_at}
 use Rattle.arc_lists.specs.Sequences.{Sequences, has_sequence, is_distinct, put_at_head, sequence_of, stands, stands_on, taken_off}
 use Rattle.arc_lists.proofs.InState.{AreInState-head, AreInState-off, AreInState-with_item, AreInState-without, only_on}
-use Rattle.arc_lists.proofs.Placing.{apart-pushed, apart-removed, at-stands, member-at, members-come, members-go, members-stay, placed-new, room-pushed, room-removed, sequences-pushed, sequences-removed, stays-pushed, stays-removed}
+use Rattle.arc_lists.proofs.Placing.{apart-pushed, apart-removed, member-at, members-come, members-go, members-stay, placed-new, room-pushed, room-removed, sequences-pushed, sequences-removed, stays-pushed, stays-removed}
 use Rattle.arc_lists.proofs.SizeSums.{size_of-with_item, size_of-without, size_of-le}
 use Rattle.arc_lists.proofs.Standing.{AreSequencesOf-head, AreSequencesOf-off, AreSequencesOf-with_item, AreSequencesOf-without, HaveCapacity-le, IsOff, off_absent, off_each, stands_on-without_same, without_key-absent}
-use Rattle.arc_lists.proofs.Tables.{cases_true, some_is, item_at-map, All-with_item, All-without, IsRising-with_change, IsRising-with_item, IsRising-without, item_at-with_change_other, item_at-with_change_same, item_at-with_item_other, item_at-with_item_same, item_at-without_other, item_at-without_same, length-with_change, length-with_item, length-without, map-with_item}
+use Rattle.arc_lists.proofs.Tables.{cases_true, some_is, item_at-map, All-with_item, All-without, IsRising-with_change, IsRising-with_item, IsRising-without, item_at-with_change_other, item_at-with_change_same, item_at-with_item_other, item_at-with_item_same, item_at-without_other, item_at-without_same, length-with_change, length-with_item, length-without}
 
 pub length-members : (posts : List Post) → length (members_of posts) ≡ length posts
 length-members [] = refl

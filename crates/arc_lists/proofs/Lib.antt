@@ -1,3 +1,4 @@
+pub mod Changing
 pub mod Enrolled
 pub mod InState
 pub mod Keeping

@@ -1,26 +1,24 @@
 -- Where the nodes of the members stand, and what a node that comes or goes does to that.
-use Rattle.std.proofs.Common.{◌≡◌, ◌≢◌, ℕ, suc, ◌+◌, ◌-◌, ◌<◌, ◌≤◌, Bool, true, false, not, ◌&&◌, ◌||◌, nat_eq, List, [], ◌∷◌, length, map, filter, Option, Some, None, MatchOption, IsSome, is_some, option_map, ◌⊎◌, inl, inr, refl, sym, ap, subst, ◌∙◌, arith}
-use Rattle.std.proofs.lemmas.Bool.{eqb-true, eqb-false, false≢true}
+use Rattle.std.proofs.Common.{◌≡◌, ◌≢◌, ℕ, true, false, not, nat_eq, List, [], ◌∷◌, map, Option, Some, None, MatchOption, option_map, ◌⊎◌, inl, inr, refl, sym, ap, subst, ◌∙◌, arith}
+use Rattle.std.proofs.lemmas.Bool.{eqb-true, false≢true}
 use Rattle.blk_ptr.specs.declared.key.Key.{Key}
 use Rattle.blk_ptr.specs.declared.state.State.{State}
 use Rattle.blk_ptr.specs.declared.state.State.TheVariants.{Anon, Mru, MruGhost, Mfu, MfuGhost, L2Only}
 use Rattle.blk_ptr.specs.Order.{key_eq}
-use Rattle.blk_ptr.specs.State.{is_same_state}
-use Rattle.blk_ptr.proofs.Keys.{key_eq-is, key_eq-same, key_eq-sym}
-use Rattle.arc_links.specs.PlainLinks.{AreApart, Placed, PlainLinks, element_at, elements, placed, without_place}
+use Rattle.blk_ptr.proofs.Keys.{key_eq-is, key_eq-same}
+use Rattle.arc_links.specs.PlainLinks.{AreApart, Placed, element_at, placed, without_place}
 use Rattle.arc_links.proofs.Places.{AreApart-without, element_at-head, element_at-other, element_at-without_other, length-without, without_place-absent}
-use Rattle.arc_lists.specs.declared.member.Member.{Member}
 use Rattle.arc_lists.specs.declared.post.Post.{Post}
 use Rattle.arc_lists.specs.declared.post.Standing.{Standing}
 use Rattle.arc_lists.specs.declared.queues.Queues.{Queues}
 use Rattle.arc_lists.specs.ByKey.{item_at, with_change, with_item, without}
 use Rattle.arc_lists.specs.PlainLists.{member, member_key}
 use Rattle.arc_lists.specs.Posts.{member_of, members_of, post, post_key, standing}
-use Rattle.arc_lists.specs.Queues.{AreNodesApart, ArePlaced, HaveCapacity, HaveRoom, IsOnlyOn, IsPlaced, nodes_of, pushed, removed, sequences_in}
-use Rattle.arc_lists.specs.Sequences.{Sequences, has_sequence, is_distinct, put_at_head, sequence_of, stands_on, taken_off, without_key}
+use Rattle.arc_lists.specs.Queues.{AreNodesApart, HaveCapacity, HaveRoom, IsOnlyOn, IsPlaced, nodes_of, pushed, removed, sequences_in}
+use Rattle.arc_lists.specs.Sequences.{has_sequence, is_distinct, put_at_head, sequence_of, stands_on, taken_off, without_key}
 use Rattle.arc_lists.proofs.InState.{left}
-use Rattle.arc_lists.proofs.Standing.{and_left, and_right, not_true_is, or_left_false, or_right_false, stands_on-without_same, without_key-absent}
-use Rattle.arc_lists.proofs.Tables.{cases_true, some_is, item_at-map, item_at-with_change_other, item_at-with_change_same, item_at-with_item_other, item_at-with_item_same, item_at-without_other, item_at-without_same, map-with_change, map-with_item, map-without}
+use Rattle.arc_lists.proofs.Standing.{and_left, and_right, not_true_is, or_left_false, or_right_false, without_key-absent}
+use Rattle.arc_lists.proofs.Tables.{cases_true, some_is, item_at-map, map-with_item, map-without}
 
 -- the keys of some nodes
 abbrev pub keys_of : List (Placed Key) → List Key

@@ -1,12 +1,12 @@
 -- Rows in no order, put in rising order of their keys: what a table by key is as a rising list, and what a row that comes, goes or changes does to it.
-use Rattle.std.proofs.Common.{◌≡◌, ◌+◌, Bool, true, false, List, [], ◌∷◌, length, map, Option, Some, None, is_some, ◌⊎◌, inl, inr, refl, suc, sym, ap, subst, ◌∙◌, arith}
+use Rattle.std.proofs.Common.{◌≡◌, true, false, List, [], ◌∷◌, length, map, Option, Some, None, is_some, ◌⊎◌, inl, inr, refl, suc, sym, ap, subst, ◌∙◌, arith}
 use Rattle.std.proofs.lemmas.Bool.{false≢true}
 use Rattle.blk_ptr.specs.declared.key.Key.{Key}
 use Rattle.blk_ptr.specs.Order.{key_eq, key_lt}
 use Rattle.blk_ptr.proofs.Keys.{key_eq-is, key_eq-same, key_eq-sym, key_lt-flip}
 use Rattle.key_table.specs.PlainTable.{AreApart, Changes, Gains, HasKey, IsAmong, Loses, Row, row}
 use Rattle.arc_lists.specs.ByKey.{IsRising, has_key, in_order, item_at, with_change, with_item, without}
-use Rattle.arc_lists.proofs.Tables.{cases_true, some_is, absent_below, item-above, IsRising-with_change, IsRising-with_item, IsRising-without, item_at-key, item_at-with_change_other, item_at-with_change_same, item_at-with_item_other, item_at-with_item_same, item_at-without_other, item_at-without_same, length-with_item}
+use Rattle.arc_lists.proofs.Tables.{cases_true, some_is, absent_below, item-above, IsRising-with_change, IsRising-with_item, IsRising-without, item_at-with_change_other, item_at-with_change_same, item_at-with_item_other, item_at-with_item_same, item_at-without_other, item_at-without_same, length-with_item}
 
 some_or_none : {A : Type 0} (o : Option A) → ((a : A) × (o ≡ Some a)) ⊎ (o ≡ None)
 some_or_none None = inr refl

@@ -26,7 +26,7 @@ member_key m = m.key
 abbrev pub share_of : State → Member → ℕ
 share_of s m = if is_same_state m.state s then m.key.size else 0
 
--- the size of a state: the sum of the sizes of all its entries, those on no sequence included (arcs_size)
+-- the size of a state: what its entries have together, whether they stand on a sequence or not (arcs_size)
 abbrev pub size_of : State → List Member → ℕ
 size_of s [] = 0
 size_of s (m ∷ ms) = share_of s m + size_of s ms
@@ -59,7 +59,7 @@ take_out k l = record l {
 abbrev pub freed : Key → PlainLists → PlainLists
 freed k l = option_map_or (λ m. record l { sequences = put_at_head m.state k l.sequences }) (item_at member_key k l.members) l
 
--- the key is there, on no sequence, and its state has one
+-- the key has a state with a sequence, and doesn't stand on it
 pub record IsBound (k : Key) (l : PlainLists) : Type 0 where
   pub has_sequence : IsSomeAnd (item_at member_key k l.members) (λ m. IsTrue (has_sequence m.state))
   pub off : stands k l.sequences ≡ false

@@ -1,6 +1,5 @@
 -- The members as the rows of a table.
-use Rattle.std.specs.Prelude.{List, [], ◌∷◌, map}
-use Rattle.blk_ptr.specs.declared.key.Key.{Key}
+use Rattle.std.specs.Prelude.{map}
 use Rattle.key_table.specs.PlainTable.{AreApart, Row}
 use Rattle.arc_lists.specs.declared.members.Members.TheInside.{Inside}
 use Rattle.arc_lists.specs.declared.name.Name.{Name}

@@ -1,4 +1,5 @@
-ghost use Rattle.std.specs.Prelude.{◌≡◌, ℕ, ◌+◌, ◌-◌, ◌/◌, ◌<◌, ◌≤◌, Bool, false, IsTrue, IsSome, OnOk, OnErr, max};
+//! The four sequences with their members, the sizes by state, the target and the capacity.
+ghost use Rattle.std.specs.Prelude.{◌≡◌, ℕ, ◌+◌, ◌-◌, ◌/◌, ◌<◌, ◌≤◌, Bool, false, true, IsTrue, IsSome, OnOk, OnErr, max};
 ghost use Rattle.blk_ptr.specs.Size.{IsBlockSize};
 ghost use Rattle.blk_ptr.specs.declared.key.Key.{Key};
 ghost use Rattle.blk_ptr.specs.declared.state.State.TheVariants as state;
@@ -74,6 +75,13 @@ impl Lists {
         self.members.reserve(n)
     }
 
+    /// For how many more keys there is room.
+    pub fn spare(&self) -> usize
+        ensures { result ≡ self.now.spare }
+    {
+        self.members.spare()
+    }
+
     /// The target after `z` bytes of a ghost are asked for (`arc_adapt` of OpenZFS's `arc.c`).
     pub fn adapted(&self, kind: Ghost, z: u64) -> u64
         requires some { 0 < z }
@@ -100,7 +108,7 @@ impl Lists {
         self.p = self.adapted(kind, z);
     }
 
-    /// Adds a key under a state. Where it is unheld and the state has a sequence, it stands at that sequence's head.
+    /// Adds a key under a state. An unheld one goes to the head of the state's sequence, if there is one.
     pub fn put(&mut self, key: Key, s: State, unheld: bool)
         requires room { 0 < self.old.spare }
         requires absent { has_key member_key key self.old.members ≡ false }
@@ -122,6 +130,44 @@ impl Lists {
         self.queues.leave(state, at);
     }
 
+    /// Gives a key a state: it leaves the sequence on which it stands, and where it is unheld and the state has a sequence, it stands
+    /// at that sequence's head (`arc_change_state` of OpenZFS's `arc.c`).
+    pub fn change_state(&mut self, key: Key, s: State, unheld: bool)
+        requires there { IsSome (item_at member_key key self.old.members) }
+        requires size { IsBlockSize key.size }
+        ensures { self.new ≡ put key s unheld (take_out key self.old) }
+    {
+        if unheld {
+            self.change_to_unheld(key, s);
+        } else {
+            self.change_to_held(key, s);
+        }
+    }
+
+    // Gives a held key a state. It stands on no sequence then, so one search for it is enough.
+    fn change_to_held(&mut self, key: Key, s: State)
+        requires there { IsSome (item_at member_key key self.old.members) }
+        requires size { IsBlockSize key.size }
+        ensures { self.new ≡ put key s false (take_out key self.old) }
+    {
+        let before = self.members.set(key, Standing { state: s, at: None });
+        self.sizes.transfer(before.state, s, key.size);
+        self.queues.leave(before.state, before.at);
+    }
+
+    // Gives an unheld key a state. It leaves its sequence before it comes to the next one, since there may be no room for one more.
+    fn change_to_unheld(&mut self, key: Key, s: State)
+        requires there { IsSome (item_at member_key key self.old.members) }
+        requires size { IsBlockSize key.size }
+        ensures { self.new ≡ put key s true (take_out key self.old) }
+    {
+        let before = self.members.find(key);
+        self.sizes.transfer(before.state, s, key.size);
+        self.queues.leave(before.state, before.at);
+        let at = self.queues.put_at_head(s, key);
+        let _ = self.members.set(key, Standing { state: s, at });
+    }
+
     /// Puts a key that stands on no sequence at the head of its state's sequence.
     pub fn free(&mut self, key: Key)
         requires { IsBound key self.old }
@@ -129,7 +175,7 @@ impl Lists {
     {
         let Standing { state, at: _ } = self.members.find(key);
         let at = self.queues.put_at_head(state, key);
-        self.members.set(key, Standing { state, at });
+        let _ = self.members.set(key, Standing { state, at });
     }
 
     /// Takes a key off its sequence.
@@ -139,10 +185,10 @@ impl Lists {
     {
         let Standing { state, at } = self.members.find(key);
         self.queues.leave(state, at);
-        self.members.set(key, Standing { state, at: None });
+        let _ = self.members.set(key, Standing { state, at: None });
     }
 
-    /// The size of a state in bytes: the sum of the sizes of all its keys, those on no sequence included.
+    /// How many bytes the keys of a state have together, whether they stand on its sequence or not.
     pub fn size(&self, s: State) -> u128
         ensures { result ≡ size_of s self.now.members }
     {
@@ -163,8 +209,8 @@ impl Lists {
         self.c
     }
 
-    /// The next key that room for `z` bytes evicts with this `c` and `p`, where so many bytes of MRU and of MFU count as
-    /// evicted already, and no key is chosen that `skip` passes over. None where the bytes fit or no key may go
+    /// With this `c` and `p`, the key that is evicted next so that `z` bytes fit, where `mru_gone` bytes of MRU and `mfu_gone` of MFU
+    /// are as good as evicted; their keys, and others that may not go, `skip` tells. None where the bytes fit or no key may go
     /// (`arc_evict_state` of OpenZFS's `arc.c`).
     pub fn pick<F: Fn(Key) -> bool>(
         &self,
@@ -194,8 +240,8 @@ impl Lists {
         oldest(&self.queues.mfu, &skip).or(oldest_mru)
     }
 
-    /// The next ghost that trim drops with this `c`, where MRU and the two ghosts have these sizes, and no ghost is chosen
-    /// that `skip` passes over. None where trim drops none.
+    /// With this `c`, and with these sizes of MRU and of both ghosts, the ghost that trim drops next, but for those that `skip`
+    /// tells. None where trim drops none.
     pub fn trim<F: Fn(Key) -> bool>(
         &self,
         c: u64,

@@ -1,3 +1,4 @@
+//! How many bytes the keys of each state have.
 ghost use Rattle.std.specs.Prelude.{◌≡◌, ℕ, ◌+◌, ◌-◌, ◌^◌, ◌<◌, ◌≤◌, if◌then◌else◌};
 
 use blk_ptr::State;
@@ -71,6 +72,18 @@ impl Sizes {
             State::Mfu => self.mfu -= size,
             State::MfuGhost => self.mfu_ghost -= size,
             State::L2Only => self.l2_only -= size,
+        }
+    }
+
+    /// So many bytes go from one state to another.
+    pub fn transfer(&mut self, from: State, to: State, size: u64)
+        requires there { size ≤ size_at from self.old }
+        requires room { size_at to self.old + size < 2 ^ 128 }
+        ensures { (s : State) → size_at s self.new + (if is_same_state from s then size else 0) ≡ size_at s self.old + (if is_same_state to s then size else 0) }
+    {
+        if from != to {
+            self.take(from, size);
+            self.add(to, size);
         }
     }
 }

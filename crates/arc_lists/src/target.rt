@@ -1,3 +1,4 @@
+//! How far the target moves when a ghost is asked for.
 ghost use Rattle.std.specs.Prelude.{◌≡◌, ◌<◌, ◌≤◌, if◌then◌else◌};
 ghost use Rattle.arc_lists.specs.Adapting.{adapted, weight};
 

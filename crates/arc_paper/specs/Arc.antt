@@ -39,11 +39,11 @@ total s = length s.t1 + length s.t2 + length s.b1 + length s.b2
 
 -- ---- REPLACE
 
--- the last page of T1 goes to the head of B1
+-- B1 begins with the page that was the last of T1
 abbrev pub demote_t1 : Arc → Arc
 demote_t1 s = record s { t1 = but_last s.t1; b1 = last_of s.t1 ++ s.b1 }
 
--- the last page of T2 goes to the head of B2
+-- B2 begins with the page that was the last of T2
 abbrev pub demote_t2 : Arc → Arc
 demote_t2 s = record s { t2 = but_last s.t2; b2 = last_of s.t2 ++ s.b2 }
 
@@ -72,7 +72,7 @@ lowered s = record s { p = s.p - move_of (length s.b2) (length s.b1) }
 abbrev pub case_cached : ℕ → Arc → Arc
 case_cached x s = record s { t1 = without x s.t1; t2 = x ∷ without x s.t2 }
 
--- the page goes from B1 to the head of T2, and from B2
+-- the page leaves B1, or B2, and T2 begins with it
 abbrev pub from_b1 : ℕ → Arc → Arc
 from_b1 x s = record s { b1 = without x s.b1; t2 = x ∷ s.t2 }
 

@@ -49,7 +49,7 @@ promoted B2 x d = record d { b2 = without x d.b2; t2 = x ∷ d.t2 }
 abbrev pub admitted : ℕ → Lists → Lists
 admitted x d = record d { t1 = x ∷ d.t1 }
 
--- the last page of T1 goes to the head of B1, and that of T2 to the head of B2; of a ghost list nothing goes
+-- the last page of T1 or T2 leaves it, and the ghost list of that begins with it; of a ghost list nothing goes
 abbrev pub demoted : Queue → Lists → Lists
 demoted T1 d = record d { t1 = but_last d.t1; b1 = last_of d.t1 ++ d.b1 }
 demoted T2 d = record d { t2 = but_last d.t2; b2 = last_of d.t2 ++ d.b2 }

@@ -7,11 +7,10 @@ ghost use Rattle.arc_paper.specs.Queues.{links_in, nodes_in};
 ghost use Rattle.arc_paper.specs.Arc.{stands_in};
 ghost use Rattle.arc_paper.specs.Directory.{IsAbsent, IsFound, admitted, count_of, demoted, no_pages, pages_in, promoted, shortened};
 
-use crate::memory::NoMemory;
 use crate::queue::Queue;
 use crate::queues::Queues;
 use crate::spot::Spot;
-use key_table::Table;
+use key_table::{NoMemory, Table};
 use std::alloc::Global;
 use std::marker::Model;
 

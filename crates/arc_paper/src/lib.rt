@@ -6,7 +6,6 @@
 
 mod directory;
 mod laws;
-mod memory;
 mod pages;
 mod paper;
 mod queue;
@@ -16,7 +15,7 @@ mod spot;
 mod tests;
 mod text;
 
+pub use key_table::NoMemory;
 pub use laws::bounds_are_kept;
-pub use memory::NoMemory;
 pub use paper::{MOST_PAGES, Paper};
 pub use text::paper_text;

@@ -2,8 +2,8 @@
 ghost use Rattle.std.specs.Prelude.{◌≡◌, ◌+◌, ◌-◌, ◌<◌, ◌≤◌, ◌^◌, ◌∷◌, Some, None, IsSome, IfOk, length};
 ghost use Rattle.arc_links.specs.PlainLinks.{element_at, last_place, no_links, placed, without_place};
 
-use crate::memory::NoMemory;
 use arc_links::Links;
+use key_table::NoMemory;
 use std::alloc::Global;
 use std::marker::Model;
 
@@ -37,8 +37,10 @@ impl Pages {
         ensures { IfOk result (λ pages. pages ≡ record no_links { spare = room }) }
     {
         let mut links = Links::new(alloc);
-        links.reserve(room)?;
-        Ok(Pages { links, len: 0 })
+        match links.reserve(room) {
+            Ok(()) => Ok(Pages { links, len: 0 }),
+            Err(arc_links::NoMemory) => Err(NoMemory),
+        }
     }
 
     /// How many pages there are.

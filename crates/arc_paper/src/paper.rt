@@ -7,8 +7,8 @@ ghost use Rattle.arc_paper.specs.Directory.{IsAbsent, arc_of, count_of};
 ghost use Rattle.arc_paper.specs.Stepping.{replaced, roomed};
 
 use crate::directory::Directory;
-use crate::memory::NoMemory;
 use crate::queue::Queue;
+use key_table::NoMemory;
 use std::alloc::Global;
 use std::marker::Model;
 

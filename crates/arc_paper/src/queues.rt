@@ -4,9 +4,9 @@ ghost use Rattle.arc_links.specs.PlainLinks.{element_at, last_place, no_links, p
 ghost use Rattle.arc_paper.specs.declared.queue.Queue.{Queue as QueueName};
 ghost use Rattle.arc_paper.specs.Queues.{links_in, nodes_in, with_links};
 
-use crate::memory::NoMemory;
 use crate::pages::Pages;
 use crate::queue::Queue;
+use key_table::NoMemory;
 use std::alloc::Global;
 
 /// The four lists, each page at a place of its own.

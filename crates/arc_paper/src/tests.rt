@@ -1,8 +1,9 @@
+//! The policy beside a plain program over four vectors.
 ghost use Rattle.std.specs.Prelude.{◌≤◌};
 
-use crate::memory::NoMemory;
 use crate::paper::Paper;
 use crate::text::paper_text;
+use key_table::NoMemory;
 use std::alloc::Global;
 use std::test::Fail;
 
@@ -18,8 +19,7 @@ struct Plain {
 }
 
 fn to_head(pages: &mut Vec<u64>, x: u64) -> Result<(), NoMemory> {
-    pages.insert(0, x)?;
-    Ok(())
+    pages.insert(0, x).or(Err(NoMemory))
 }
 
 fn off(pages: &mut Vec<u64>, x: u64) {

@@ -4,8 +4,8 @@ ghost use Rattle.arc_paper.specs.Arc.{after, fresh, hits};
 ghost use Rattle.arc_paper.specs.Cache.{IsCapacity};
 ghost use Rattle.arc_paper.specs.Text.{end_line, page_line, page_lines, sizes_words, text_of};
 
-use crate::memory::NoMemory;
 use crate::paper::Paper;
+use key_table::NoMemory;
 use std::alloc::{AllocError, Global};
 use std::fmt::Write;
 

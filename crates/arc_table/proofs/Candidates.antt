@@ -1,6 +1,6 @@
 -- The feed's candidate: its bytes are cached at rest, it may be passed or picked, and then it is a candidate no more.
-use Rattle.std.proofs.Common.{◌≡◌, ◌≢◌, ◌⊎◌, ◌==◌, if◌then◌else◌, ℕ, ◌+◌, ◌*◌, ◌<◌, ◌≤◌, List, [], ◌∷◌, ◌++◌, length, Bool, true, false, Option, Some, None, refl, sym, ap, ◌∙◌, subst, inl, inr, ⊎_elim, ne_eqb, arith}
-use Rattle.std.specs.Prelude.{IsTrue, ◌&&◌, ◌||◌, not, is_some, is_none, nat_le, nat_lt, reverse, sum, count_by}
+use Rattle.std.proofs.Common.{◌≡◌, ◌≢◌, ◌⊎◌, ◌==◌, if◌then◌else◌, ℕ, ◌+◌, ◌*◌, ◌<◌, ◌≤◌, List, [], ◌∷◌, ◌++◌, Bool, true, false, Option, Some, None, refl, sym, ap, ◌∙◌, subst, inl, inr, ⊎_elim, ne_eqb, arith}
+use Rattle.std.specs.Prelude.{IsTrue, ◌&&◌, ◌||◌, not, is_some, is_none, nat_le, reverse, sum}
 use Rattle.std.specs.List.{list_all}
 use Rattle.std.specs.Option.{option_and_then, option_map_or}
 use Rattle.std.proofs.lemmas.Bool.Decides.{nat_tests}
@@ -18,15 +18,15 @@ use Rattle.arc_lists.specs.Sequences.{sequence_of, stands, stands_on}
 use Rattle.arc_core.specs.declared.entry.Entry.{Entry}
 use Rattle.arc_core.specs.declared.entry.Picked.{Picked}
 use Rattle.arc_core.specs.declared.event.Event.TheVariants.{FeedEnd, Pass, Pick}
-use Rattle.arc_core.specs.Candidate.{candidate, chosen, may_be_picked, walk}
+use Rattle.arc_core.specs.Candidate.{candidate, may_be_picked, walk}
 use Rattle.arc_core.specs.Changes.{pick_of}
 use Rattle.arc_core.specs.PlainShard.{PlainShard, entry_is, entry_of, holds_of, is_at_rest, place_of, is_passed, is_resident, is_unheld, numbers}
-use Rattle.arc_core.specs.Sound.{IsSequence, IsSound, belongs_on, fits_reading, fits_state}
+use Rattle.arc_core.specs.Sound.{IsSound, belongs_on, fits_reading, fits_state}
 use Rattle.arc_core.specs.Step.{after, legal, may_pick}
-use Rattle.arc_core.proofs.Feeding.{Wanted, candidate-chosen, candidate-wanted}
+use Rattle.arc_core.proofs.Feeding.{candidate-chosen, candidate-wanted}
 use Rattle.arc_core.proofs.Scanning.{oldest-in, sequence-stands}
 use Rattle.arc_table.proofs.FeedEvents.{number_is}
-use Rattle.arc_table.proofs.HitEvents.{Passes, passing}
+use Rattle.arc_table.proofs.HitEvents.{passing}
 use Rattle.arc_table.proofs.ScanRoom.{count_less, stands_with}
 use Rattle.arc_table.proofs.ShardGives.{entry_sound}
 use Rattle.arc_table.proofs.Standings.{both_true, or_false}

@@ -1,15 +1,13 @@
 -- A shard gets a new capacity: the party has just taken the shard's first bucket and the shard.
-use Rattle.std.proofs.Common.{◌≡◌, ℕ, zero, suc, ◌+◌, ◌*◌, ◌%◌, ◌^◌, ◌<◌, ◌≤◌, List, [], ◌∷◌, ◌++◌, length, Bool, true, false, Option, Some, None, refl, sym, ap, ◌∙◌, subst, inl, arith}
-use Rattle.std.specs.Prelude.{IsTrue, ◌&&◌, nat_le, OnOk, OnErr, Result, Ok, Err}
+use Rattle.std.proofs.Common.{◌≡◌, ℕ, zero, suc, ◌+◌, ◌*◌, ◌%◌, ◌^◌, ◌<◌, ◌≤◌, [], true, refl, sym, ap, ◌∙◌, inl, arith}
+use Rattle.std.specs.Prelude.{IsTrue, nat_le, OnOk, OnErr, Result, Ok, Err}
 use Rattle.std.proofs.lemmas.Bool.Decides.{nat_tests}
 use Rattle.std.proofs.lemmas.Option.{none-some}
-use Rattle.blk_ptr.specs.declared.key.Key.{Key}
 use Rattle.blk_ptr.specs.Hash.{hash_of_key}
 use Rattle.arc_lists.specs.Adapting.{IsCapacity}
 use Rattle.arc_lists.proofs.Standing.{both as both_true}
 use Rattle.arc_core.specs.declared.config.Config.{Config}
 use Rattle.arc_core.specs.Config.{IsConfig, is_capacity_of}
-use Rattle.arc_core.specs.declared.event.Event.{Event}
 use Rattle.arc_core.specs.declared.event.Event.TheVariants.{Resize}
 use Rattle.arc_core.specs.PlainShard.{PlainShard, is_number, numbers}
 use Rattle.arc_core.specs.ShardLog.{Makes as makes_one, ShardLog}

@@ -1,21 +1,16 @@
 -- A feed's scan begins: what is so of a party that has taken a shard alone.
-use Rattle.std.proofs.Common.{◌≡◌, ◌⊎◌, ℕ, ◌<◌, List, [], ◌∷◌, ◌++◌, length, Bool, true, false, Option, Some, None, refl, sym, ap, ◌∙◌, subst, inl, inr, append-nil, arith}
-use Rattle.std.specs.Prelude.{IsTrue}
+use Rattle.std.proofs.Common.{◌≡◌, ◌⊎◌, ℕ, ◌<◌, List, [], ◌∷◌, length, true, false, refl, sym, ap, ◌∙◌, subst, inl, inr, append-nil, arith}
 use mathlib.Core.Option.{some}
 use lib.ListN.{get_elem?}
-use Rattle.blk_ptr.specs.declared.key.Key.{Key}
 use Rattle.arc_core.specs.declared.config.Config.{Config}
 use Rattle.arc_core.specs.Config.{IsConfig}
-use Rattle.arc_core.specs.declared.entry.Entry.{Entry}
 use Rattle.arc_core.specs.declared.entry.Phase.{Phase}
 use Rattle.arc_core.specs.declared.entry.Phase.TheVariants.{Idle, Picking, Writing}
 use Rattle.arc_core.specs.declared.entry.Picked.{Picked}
-use Rattle.arc_core.specs.PlainShard.{entry_of}
 use Rattle.arc_core.specs.ShardLog.{ShardLog, IsReplayed}
 use Rattle.arc_core.specs.Sound.{fits_phase}
 use Rattle.arc_core.specs.Step.{may_pick}
 use Rattle.turn_table.specs.Board.{IsAmong}
-use Rattle.turn_table.specs.Moments.{WasFree}
 use Rattle.turn_table.specs.Places.{Place, saw}
 use Rattle.arc_table.specs.declared.about.About.{About}
 use Rattle.arc_table.specs.declared.item.Item.{Item}
@@ -32,7 +27,6 @@ use Rattle.arc_table.specs.Geometry.{IsBucket, IsCell, IsShard, parties_of, shar
 use Rattle.arc_table.specs.Items.{Meanings, shard_in}
 use Rattle.arc_table.specs.Logged.{IsSoundItem, IsSoundLog, is_picking}
 use Rattle.arc_table.specs.Picking.{HasPicked, HasTried, nth_shard_turn}
-use Rattle.arc_table.specs.Rule.{Pact}
 use Rattle.arc_table.specs.Scanning.{MayScan}
 use Rattle.arc_table.specs.Scene.{Scene}
 use Rattle.arc_table.specs.TableLaws.{item_here, list_here, within}

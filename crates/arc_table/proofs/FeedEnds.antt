@@ -1,6 +1,6 @@
 -- A feed's scan is over: what `pick` answers.
-use Rattle.std.proofs.Common.{◌≡◌, ◌==◌, if◌then◌else◌, ℕ, zero, suc, ◌≤◌, List, [], ◌∷◌, ◌++◌, length, take, Bool, true, false, Option, Some, None, refl, sym, ap, ◌∙◌, subst, append-nil, eq-eqb, arith}
-use Rattle.std.specs.Prelude.{IsTrue, is_some}
+use Rattle.std.proofs.Common.{◌≡◌, if◌then◌else◌, ℕ, zero, suc, ◌≤◌, List, [], ◌∷◌, ◌++◌, length, take, Bool, true, false, Some, refl, sym, ap, ◌∙◌, subst, append-nil, eq-eqb, arith}
+use Rattle.std.specs.Prelude.{is_some}
 use mathlib.Core.Option.{some, some-injective, some-ne-none}
 use lib.ListN.{get_elem?}
 use Rattle.blk_ptr.specs.declared.key.Key.{Key}
@@ -11,15 +11,13 @@ use Rattle.arc_core.specs.declared.entry.Picked.{Picked}
 use Rattle.arc_core.specs.declared.event.Event.{Event}
 use Rattle.arc_core.specs.declared.event.Event.TheVariants.{FeedEnd}
 use Rattle.arc_core.specs.Changes.{pick_of}
-use Rattle.turn_table.specs.Board.{IsAmong, without}
+use Rattle.turn_table.specs.Board.{without}
 use Rattle.turn_table.specs.Places.{Place}
-use Rattle.arc_table.specs.declared.about.About.{About}
 use Rattle.arc_table.specs.declared.item.Item.TheVariants as item
 use Rattle.arc_table.specs.declared.picks.Feed.{Feed}
 use Rattle.arc_table.specs.declared.picks.Picked.{Picked as Block}
 use Rattle.arc_table.specs.declared.view.Known.{Known}
 use Rattle.arc_table.specs.Both.{Takes}
-use Rattle.arc_table.specs.Feeding.{IsPicked}
 use Rattle.arc_table.specs.Fronts.{list_at}
 use Rattle.arc_table.specs.Geometry.{shard_turn}
 use Rattle.arc_table.specs.Items.{Meanings}

@@ -1,6 +1,6 @@
 -- A feed's scan: what each pick and each pass makes of it, and what is owed at its end.
-use Rattle.std.proofs.Common.{◌≡◌, ◌≢◌, ◌⊎◌, ◌==◌, if◌then◌else◌, ℕ, zero, suc, ◌+◌, ◌-◌, ◌<◌, ◌≤◌, List, [], ◌∷◌, ◌++◌, length, take, drop, Bool, true, false, cond, Option, Some, None, refl, sym, ap, ◌∙◌, subst, inl, inr, append-nil, append_assoc, length-append, arith}
-use Rattle.std.specs.Prelude.{IsTrue, ◌&&◌, not, count_by}
+use Rattle.std.proofs.Common.{◌≡◌, ◌≢◌, ℕ, zero, suc, ◌+◌, ◌-◌, ◌<◌, ◌≤◌, List, [], ◌∷◌, ◌++◌, length, take, drop, true, false, cond, Option, Some, None, refl, sym, ap, ◌∙◌, subst, inl, append-nil, append_assoc, length-append, arith}
+use Rattle.std.specs.Prelude.{IsTrue}
 use Rattle.std.specs.List.{AllByRecursion}
 use Rattle.std.specs.Option.{option_and_then}
 use Rattle.std.proofs.lemmas.List.Sums.{sum_by-cons}
@@ -12,24 +12,22 @@ use Rattle.blk_ptr.specs.Key.{is_well_formed}
 use Rattle.arc_lists.specs.ByKey as by_key
 use Rattle.arc_lists.proofs.Tables.{item_at-key}
 use Rattle.arc_core.specs.declared.config.Config.{Config}
-use Rattle.arc_core.specs.Config.{IsConfig}
 use Rattle.arc_core.specs.declared.entry.Entry.{Entry}
 use Rattle.arc_core.specs.declared.entry.Phase.{Phase}
 use Rattle.arc_core.specs.declared.entry.Phase.TheVariants.{Idle, Picking, Writing}
 use Rattle.arc_core.specs.declared.entry.Picked.{Picked}
 use Rattle.arc_core.specs.declared.event.Event.{Event}
 use Rattle.arc_core.specs.declared.event.Event.TheVariants.{FeedEnd, Pass, Pick}
-use Rattle.arc_core.specs.Operations.{event_key, is_of_feed, is_pass, number_of}
+use Rattle.arc_core.specs.Operations.{is_pass}
 use Rattle.arc_core.specs.PlainShard.{PlainShard, entry_key, entry_of, numbers}
-use Rattle.arc_core.specs.Replay.{is_legal_history, replay}
-use Rattle.arc_core.specs.ShardLog.{ShardLog, IsReplayed, IsUnpicked, MayUnpick, is_scan}
+use Rattle.arc_core.specs.Replay.{replay}
+use Rattle.arc_core.specs.ShardLog.{ShardLog, IsUnpicked, MayUnpick, is_scan}
 use Rattle.arc_core.specs.Sound.{fits_phase}
 use Rattle.arc_core.specs.Step.{after, legal, may_pick}
 use Rattle.arc_core.proofs.Stepping.{legal-append, replay-append}
 use Rattle.turn_table.specs.Board.{IsAmong}
 use Rattle.turn_table.specs.declared.standing.Kept.{Kept}
 use Rattle.turn_table.specs.Places.{Apart, IsOther, Place, gave_back}
-use Rattle.arc_table.specs.declared.item.Item.TheVariants as item
 use Rattle.arc_table.specs.declared.picks.Feed.{Feed}
 use Rattle.arc_table.specs.declared.picks.Picked.{Picked as Block}
 use Rattle.arc_table.specs.declared.view.Known.{Known}
@@ -43,7 +41,7 @@ use Rattle.arc_table.specs.Picking.{ArePicks, ArePicksOf, EndsFeed, HasNoted, Ha
 use Rattle.arc_table.specs.Scanning.{AreOfOthers, notes_of}
 use Rattle.arc_table.specs.ShardGiving.{ArePassesNoted, IsActor, IsGivenShard, SameHead, after_shard, passes_in}
 use Rattle.arc_table.specs.Views.{note}
-use Rattle.arc_table.proofs.OneEvent.{made_is, same_head, stays_settled}
+use Rattle.arc_table.proofs.OneEvent.{made_is, same_head}
 use Rattle.arc_table.proofs.Scans.{others_more, replayed_more, replayed_same}
 use Rattle.arc_table.proofs.ShardGives.{entry_sound}
 

@@ -1,6 +1,6 @@
 -- A feed's scan tries the bucket of its candidate.
-use Rattle.std.proofs.Common.{◌≡◌, ◌⊎◌, ℕ, List, [], ◌∷◌, ◌++◌, length, Bool, true, false, Option, Some, None, refl, sym, ap, ◌∙◌, subst, arith}
-use Rattle.std.specs.Prelude.{IsTrue, IsSome, IfOk, Result, Ok, Err, ◌&&◌}
+use Rattle.std.proofs.Common.{◌≡◌, ℕ, List, [], ◌∷◌, ◌++◌, length, true, false, Option, Some, None, refl, sym, ap, ◌∙◌, subst}
+use Rattle.std.specs.Prelude.{IsSome, IfOk, Result, Ok, Err, ◌&&◌}
 use Rattle.std.specs.Option.{option_and_then, option_map_or}
 use Rattle.blk_ptr.specs.declared.digest.Digest.{Digest}
 use Rattle.blk_ptr.specs.declared.key.Key.{Key}
@@ -12,8 +12,7 @@ use Rattle.arc_core.specs.declared.config.Config.{Config}
 use Rattle.arc_core.specs.declared.entry.Entry.{Entry}
 use Rattle.arc_core.specs.declared.event.Event.{Event}
 use Rattle.arc_core.specs.Candidate.{candidate}
-use Rattle.arc_core.specs.PlainShard.{PlainShard, entry_key, entry_of, is_resident, keeps_digest}
-use Rattle.arc_core.specs.ShardLog.{ShardLog}
+use Rattle.arc_core.specs.PlainShard.{entry_key, entry_of, is_resident, keeps_digest}
 use Rattle.hash_chain.specs.Chain.{Chain, header_at}
 use Rattle.turn_table.specs.Board.{IsAmong}
 use Rattle.turn_table.specs.Moments.{WasFree}

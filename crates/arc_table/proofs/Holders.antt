@@ -1,6 +1,6 @@
 -- A party that holds a block: the entry's bytes are cached, at rest, with the digest of the hold.
-use Rattle.std.proofs.Common.{◌≡◌, ◌==◌, ℕ, zero, suc, ◌<◌, List, [], ◌∷◌, Bool, true, false, Option, Some, None, refl, sym, ap, ◌∙◌, subst, arith}
-use Rattle.std.specs.Prelude.{IsTrue, ◌&&◌, slice_index}
+use Rattle.std.proofs.Common.{◌≡◌, ◌==◌, ℕ, zero, suc, ◌<◌, List, [], ◌∷◌, true, false, Option, Some, refl, sym, ap, ◌∙◌, arith}
+use Rattle.std.specs.Prelude.{◌&&◌, slice_index}
 use Rattle.std.specs.List.{list_all}
 use Rattle.std.specs.Option.{option_map_or}
 use Rattle.std.proofs.lemmas.Bool.Decides.{nat_tests}
@@ -11,10 +11,10 @@ use Rattle.blk_ptr.specs.declared.state.State.TheVariants.{Anon, Mru, MruGhost, 
 use Rattle.arc_core.specs.declared.config.Config.{Config}
 use Rattle.arc_core.specs.Config.{IsConfig}
 use Rattle.arc_core.specs.declared.entry.Entry.{Entry}
-use Rattle.arc_core.specs.PlainShard.{PlainShard, entry_is, entry_of, held_by, is_at_rest, is_resident, is_unheld, keeps_digest}
+use Rattle.arc_core.specs.PlainShard.{PlainShard, entry_of, held_by, is_at_rest, is_resident, is_unheld, keeps_digest}
 use Rattle.arc_core.specs.ShardLog.{ShardLog}
 use Rattle.arc_core.specs.Sound.{IsSound, fits_state}
-use Rattle.arc_core.specs.Step.{is_missing, is_without_bytes, reads}
+use Rattle.arc_core.specs.Step.{is_without_bytes, reads}
 use Rattle.hash_chain.specs.Chain.{Chain}
 use Rattle.turn_table.specs.Places.{Place}
 use Rattle.arc_table.specs.declared.hits.Standing.{Standing}

@@ -1,5 +1,5 @@
 -- One candidate of a feed is passed or picked: what is owed before, and what is so after.
-use Rattle.std.proofs.Common.{◌≡◌, ◌≢◌, ℕ, ◌<◌, ◌≤◌, List, [], ◌∷◌, ◌++◌, Some, true, refl, sym, ap, ◌∙◌, subst}
+use Rattle.std.proofs.Common.{◌≡◌, ◌≢◌, ℕ, ◌<◌, ◌≤◌, List, [], ◌∷◌, ◌++◌, Some, true, sym, ap, ◌∙◌, subst}
 use Rattle.std.specs.Prelude.{IsTrue, not}
 use Rattle.blk_ptr.specs.declared.key.Key.{Key}
 use Rattle.arc_core.specs.declared.config.Config.{Config}

@@ -1,9 +1,6 @@
 -- How a read ends that was begun by a miss: what was fetched and the event that ended it make its answer.
-use Rattle.std.proofs.Common.{◌≡◌, ℕ, List, [], ◌∷◌, Option, Some, Ok, Err, refl, sym, ap, ◌∙◌, subst}
-use Rattle.std.specs.Prelude.{Result, IfSome, ◌≤◌}
-use Rattle.blk_ptr.specs.declared.digest.Digest.{Digest}
+use Rattle.std.proofs.Common.{◌≡◌, ℕ, List, [], ◌∷◌, Option, Ok, Err, refl, sym, subst}
 use Rattle.blk_ptr.specs.declared.ptr.Ptr.{Ptr}
-use Rattle.blk_ptr.specs.Ptr.{range_of}
 use Rattle.vdev_io.specs.declared.device.CacheDev.{Ghosts as DeviceGhosts}
 use Rattle.vdev_io.specs.declared.pool.Pool.{Ghosts as PoolGhosts}
 use Rattle.arc_core.specs.declared.config.Config.{Config}
@@ -12,7 +9,6 @@ use Rattle.arc_core.specs.declared.event.FailedAt.TheVariants as failed
 use Rattle.arc_core.specs.declared.event.Origin.{Origin}
 use Rattle.arc_core.specs.declared.event.Origin.TheVariants as origin
 use Rattle.arc_core.specs.declared.served.Served.{Served}
-use Rattle.arc_core.specs.declared.served.Served.TheVariants as served
 use Rattle.arc_core.specs.declared.shard.EntryView.{EntryView}
 use Rattle.turn_table.specs.Places.{Place}
 use Rattle.arc_table.specs.declared.fetch.Fetched.{Fetched}
@@ -21,12 +17,11 @@ use Rattle.arc_table.specs.declared.fetch.Unfetched.TheVariants as unfetched
 use Rattle.arc_table.specs.declared.hold.Hold.{Hold}
 use Rattle.arc_table.specs.declared.read.Read.TheVariants as gave
 use Rattle.arc_table.specs.declared.view.Known.{Known}
-use Rattle.arc_table.specs.Arriving.{FindsCleared}
 use Rattle.arc_table.specs.Both.{Does}
 use Rattle.arc_table.specs.Fetching.{CameFromPool, CountsPool, CountsPoolFault, FailsPool, HasFetched, ReadsPool, WasPoolRead, WasUnread, origin_of}
 use Rattle.arc_table.specs.Items.{Meanings}
-use Rattle.arc_table.specs.PoolCalls.{Failed, Gave, KeepsPool, MakesCall}
-use Rattle.arc_table.specs.Reading.{EndsMiss, GivesBlock, GoesToPool, IsHeldOf, Outside, TurnsToPool, cleared, failed_at, fault_of, from_device, from_none, from_pool, outside, read, served_as, unread, unserved}
+use Rattle.arc_table.specs.PoolCalls.{KeepsPool}
+use Rattle.arc_table.specs.Reading.{EndsMiss, GivesBlock, GoesToPool, IsHeldOf, Outside, failed_at, fault_of, from_device, from_none, from_pool, read, served_as, unread, unserved}
 
 -- ---- what a fetch did to the pool
 

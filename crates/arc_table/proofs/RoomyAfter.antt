@@ -1,5 +1,5 @@
 -- What a party is after a call with a scan: it is a party of the cache still, with the turns that it had. What it lists and what it has made follow the passes and the event.
-use Rattle.std.proofs.Common.{◌≡◌, ◌≢◌, ◌==◌, if◌then◌else◌, ℕ, ◌-◌, List, [], ◌∷◌, ◌++◌, length, map, Bool, true, false, refl, sym, ap, ◌∙◌, subst, eq-eqb}
+use Rattle.std.proofs.Common.{◌≡◌, ◌==◌, if◌then◌else◌, ℕ, ◌-◌, List, [], ◌∷◌, ◌++◌, length, map, Bool, true, false, refl, sym, ap, ◌∙◌, subst, eq-eqb}
 use Rattle.std.proofs.lemmas.Bool.{eqb-true}
 use Rattle.blk_ptr.specs.declared.key.Key.{Key}
 use Rattle.arc_core.specs.declared.config.Config.{Config}

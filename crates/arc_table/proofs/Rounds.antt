@@ -4,7 +4,6 @@ use Rattle.std.specs.Prelude.{Result, IsTrue}
 use Rattle.blk_ptr.specs.declared.digest.Digest.{Digest}
 use Rattle.blk_ptr.specs.declared.key.Key.{Key}
 use Rattle.blk_ptr.specs.declared.ptr.Ptr.{Ptr}
-use mathlib.Core.Option.{some}
 use lib.ListN.{get_elem?}
 use Rattle.vdev_io.specs.declared.device.CacheDev.{Ghosts as DeviceGhosts}
 use Rattle.vdev_io.specs.declared.pool.Pool.{Ghosts as PoolGhosts}
@@ -27,14 +26,12 @@ use Rattle.arc_table.specs.declared.read.Read.TheVariants as gave
 use Rattle.arc_table.specs.declared.view.Known.{Known}
 use Rattle.arc_table.specs.Arriving.{IsReading}
 use Rattle.arc_table.specs.Both.{Does, Makes, TakesBoth}
-use Rattle.arc_table.specs.Cache.{Cache, IsPartyOf}
 use Rattle.arc_table.specs.Ending.{DoesRoomy, MakesRoomy}
 use Rattle.arc_table.specs.Holding.{IsHeld, IsHoldOf}
 use Rattle.arc_table.specs.Items.{Meanings}
-use Rattle.arc_table.specs.Looking.{HasNoLook}
 use Rattle.arc_table.specs.Reading.{Answers, EndsMiss, EndsPast, Outside, hit, known_at, missed, no_memory, past, ptr_with}
 use Rattle.arc_table.specs.Standing.{is_cached_with}
-use Rattle.arc_table.proofs.Afterwards.{Stays, does_stays, stays_free, stays_party}
+use Rattle.arc_table.proofs.Afterwards.{Stays, does_stays}
 use Rattle.arc_table.proofs.Reached.{reached}
 use Rattle.arc_table.proofs.RoomyAfter.{does_roomy_stays, missed_readings}
 

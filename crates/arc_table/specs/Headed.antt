@@ -10,7 +10,7 @@ use Rattle.arc_table.specs.Geometry.{bucket_turn, shard_turn}
 use Rattle.arc_table.specs.Items.{headers_in, shard_in}
 use Rattle.arc_table.specs.Scene.{Scene}
 
--- a header has a block exactly where its entry's bytes are cached and nobody reads them just now, and the block has the entry's digest and the size of the key
+-- a header keeps a block just while its entry's bytes are cached and aren't being read, and the block has the entry's digest and the key's size
 abbrev pub HasBlock : Entry → Header → Type 0
 HasBlock e h = MatchOption h.block
     (is_resident e ≡ false)

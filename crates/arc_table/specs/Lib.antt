@@ -2,6 +2,7 @@ pub mod Geometry
 pub mod Fronts
 pub mod Items
 pub mod Views
+pub mod Waiting
 pub mod Scene
 pub mod Attached
 pub mod Logged

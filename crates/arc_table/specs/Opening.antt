@@ -25,7 +25,7 @@ module _ {C : Type 0} (m : Meanings C) where
   abbrev pub about_of : Config → List C → About
   about_of g cells = record { config = g; openings = map m.opening cells }
 
-  -- a cell that may move in: it is sound, keeps nothing, and has no entries and no claims
+  -- a cell that may move in: it is sound and empty, without entries and claims
   pub record IsFreshCell (c : C) : Type 0 where
     pub sound : m.sound c
     pub holds : m.holds c ≡ []

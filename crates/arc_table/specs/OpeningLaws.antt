@@ -39,7 +39,7 @@ use Rattle.arc_table.specs.TableLaws.{there, within}
 opening_targets : (c : ℕ) → IsCapacity c → (least_target c ≤ c / 2) × (c / 2 ≤ c - least_target c)
 opening_targets c h = (omega arith, omega arith)
 
-opening_sound : (c mintime : ℕ) (bounds : Bounds) → IsCapacity c → IsSound (opening_shard c mintime bounds)
+pub opening_sound : (c mintime : ℕ) (bounds : Bounds) → IsCapacity c → IsSound (opening_shard c mintime bounds)
 opening_sound c mintime bounds h = record {
   tidy = record {
     once = tt;

@@ -1,4 +1,4 @@
--- The fifth part of the pact: each pass has a note of its own.
+-- The fifth part of the pact: for each pass there is a note, and no two passes have the same one.
 use Rattle.std.specs.Prelude.{◌≡◌, ℕ, ◌<◌, ◌≤◌, List, Some, None}
 use mathlib.Core.Option.{some}
 use lib.ListN.{get_elem?}

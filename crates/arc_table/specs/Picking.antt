@@ -1,6 +1,6 @@
 -- A feed's scan of one shard. It holds the shard and tries the bucket of each candidate: where it wins the bucket, the key is picked with
 -- the block that its header has, and the bucket is given back at once; a key whose bucket another party has is passed.
-use Rattle.std.specs.Prelude.{◌≡◌, ◌+◌, ℕ, ◌<◌, ◌≤◌, ◌*◌, IsTrue, List, [], ◌∷◌, ◌++◌, count_by, length, Some, take}
+use Rattle.std.specs.Prelude.{◌≡◌, ◌+◌, ℕ, ◌≤◌, ◌*◌, IsTrue, List, [], ◌∷◌, ◌++◌, count_by, length, Some, take}
 use mathlib.Core.Option.{some}
 use lib.ListN.{get_elem?}
 use Rattle.blk_ptr.specs.declared.key.Key.{Key}
@@ -18,7 +18,6 @@ use Rattle.arc_core.specs.Replay.{is_legal_history, replay}
 use Rattle.arc_core.specs.ShardLog.{ShardLog, IsReplayed}
 use Rattle.arc_core.specs.Step.{may_pick}
 use Rattle.turn_table.specs.Places.{Place, gave_back}
-use Rattle.arc_table.specs.declared.item.Item.{Item}
 use Rattle.arc_table.specs.declared.item.Item.TheVariants as item
 use Rattle.arc_table.specs.declared.picks.Feed.{Feed}
 use Rattle.arc_table.specs.declared.picks.Picked.{Picked}

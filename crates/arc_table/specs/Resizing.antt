@@ -1,5 +1,5 @@
 -- A new capacity of every shard.
-use Rattle.std.specs.Prelude.{◌≡◌, ℕ, zero, suc, ◌<◌, [], ◌∷◌, Result, Ok, Err}
+use Rattle.std.specs.Prelude.{◌≡◌, ℕ, zero, suc, ◌<◌, [], Result, Ok, Err}
 use Rattle.blk_ptr.specs.declared.key.Key.{Key}
 use Rattle.arc_core.specs.declared.config.Config.{Config}
 use Rattle.arc_core.specs.declared.event.Event.TheVariants.{Resize}

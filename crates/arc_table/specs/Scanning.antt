@@ -67,8 +67,8 @@ added [] held = held
 added (v ∷ vs) held = added vs (v.0 ∷ held)
 
 module _ {C : Type 0} where
-  -- each of these passes names an owner that is neither the party's own number nor one that it keeps by a join: so a party that has all
-  -- others by a join makes no pass
+  -- each of these passes names an owner that is neither the party's own number nor one that it keeps by a join: so a party that keeps
+  -- all others makes no pass
   abbrev pub AreOfOthers : Place (Known C) → List Event → Type 0
   AreOfOthers p [] = Unit {0}
   AreOfOthers p (Pass a k owner ∷ es) = IsOther owner p × AreOfOthers p es

@@ -1,12 +1,12 @@
 -- Lists read by place, functions changed at a number, tables of numbers, and what was seen of histories.
-use Rattle.std.proofs.Common.{◌≡◌, ◌≢◌, ◌⊎◌, ◌==◌, if◌then◌else◌, ℕ, zero, suc, ◌<◌, List, [], ◌∷◌, ◌++◌, length, true, false, Some, refl, sym, ap, ◌∙◌, subst, inl, inr, ⊎_elim, eq-eqb, ne_eqb, arith}
-use Rattle.std.specs.Prelude.{nat_lt}
+use Rattle.std.proofs.Common.{◌≡◌, ◌≢◌, ◌⊎◌, ◌==◌, if◌then◌else◌, ℕ, zero, suc, ◌<◌, List, [], ◌∷◌, ◌++◌, length, Some, refl, sym, ap, ◌∙◌, subst, inl, inr, ⊎_elim, eq-eqb, ne_eqb, arith}
 use mathlib.Core.Option.{some, some-injective, some-ne-none}
 use mathlib.Core.List.{append_assoc, append-nil}
 use mathlib.Core.Logic.{dite}
 use native.Mathlib.Decide.{ℕ_discrete}
 use lib.ListN.{get_elem?}
-use Rattle.arc_table.specs.Fronts.{with_at, item_at, without_item, list_at, front_of, put, seen_by_both, StartsWith}
+use Rattle.arc_table.specs.Fronts.{with_at, item_at, without_item, list_at, StartsWith}
+pub use Rattle.turn_table.proofs.Histories.{front_here, front_else, front_both}
 
 module _ {A : Type 0} where
   pub within : (l : List A) (i : ℕ) (a : A) → get_elem? l i ≡ some a → i < length l
@@ -65,29 +65,6 @@ module _ {A : Type 0} where
       (without_else i j ps h ∙ sym (subst (λ b. (if b then Some p.1 else item_at j ps) ≡ item_at j ps) (sym (ne_eqb j p.0 (λ e. h (e ∙ sym q)))) refl)))
       (λ q. subst (λ b. item_at j (if b then without_item i ps else (p ∷ without_item i ps)) ≡ item_at j (p ∷ ps)) (sym (ne_eqb i p.0 q))
       (λ k. if j == p.0 then Some p.1 else without_else i j ps h k))
-
-  -- what was seen of histories
-  pub front_here : (i : ℕ) (h : List A) (s : List (List A)) → front_of i (put i h s) ≡ h
-  front_here zero h [] = refl
-  front_here zero h (x ∷ xs) = refl
-  front_here (suc i) h [] = front_here i h []
-  front_here (suc i) h (x ∷ xs) = front_here i h xs
-
-  pub front_else : (i j : ℕ) (h : List A) (s : List (List A)) → j ≢ i → front_of j (put i h s) ≡ front_of j s
-  front_else zero zero h s n = absurd (n refl)
-  front_else zero (suc j) h [] n = refl
-  front_else zero (suc j) h (x ∷ xs) n = refl
-  front_else (suc i) zero h [] n = refl
-  front_else (suc i) zero h (x ∷ xs) n = refl
-  front_else (suc i) (suc j) h [] n = front_else i j h [] (λ e. n (ap suc e))
-  front_else (suc i) (suc j) h (x ∷ xs) n = front_else i j h xs (λ e. n (ap suc e))
-
-  -- the front after two have told each other is one of theirs
-  pub front_both : (i : ℕ) (a b : List (List A)) → (front_of i (seen_by_both a b) ≡ front_of i a) ⊎ (front_of i (seen_by_both a b) ≡ front_of i b)
-  front_both i [] b = inr refl
-  front_both i (x ∷ xs) [] = inl refl
-  front_both zero (x ∷ xs) (y ∷ ys) = elim (nat_lt (length x) (length y)) as (λ t. ((if t then y else x) ≡ x) ⊎ ((if t then y else x) ≡ y)) [ true ↦ inr refl | false ↦ inl refl ]
-  front_both (suc i) (x ∷ xs) (y ∷ ys) = front_both i xs ys
 
   -- a history that grows begins with what it began with
   pub starts_whole : (h : List A) → StartsWith h h

@@ -17,7 +17,7 @@ use std::marker::Model;
 use std::snapshot::Snapshot;
 use turn_table::Turns;
 
-/// The token of one caller or of the feeder. Contracts see what it knows, its number and the turns that it holds.
+/// The right of a caller, or of the feeder, to act under its number. Contracts see that number, what the party knows, and its turns in hand.
 pub type Party<C> = turn_table::Party<Item<C>, Pact<C>>;
 
 /// The shared cache: cells, buckets and shards, each behind a turn. Contracts see its row of turns and its numbers.
@@ -40,7 +40,7 @@ impl<C: Keeps> Model for Arcs<C> {
 
 impl<C: Keeps + Drop> Arcs<C> {
     /// A cache with these numbers over these cells, and its parties by their numbers: the callers, and then the feeder. The shards
-    /// are at their start, and the buckets are empty.
+    /// are at their start, and the buckets are empty. Err is want of memory.
     pub fn new(
         alloc: Global,
         config: &Config,

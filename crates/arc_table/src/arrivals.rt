@@ -17,11 +17,12 @@ use crate::arcs::{Arcs, Party};
 use crate::both::Both;
 use crate::fetch::Fetched;
 use crate::headers::follow;
+use crate::heap_bucket::HeapBucket;
 use crate::hold::Hold;
 use crate::inserts::written_header;
 use arc_core::{Event, FailedAt, Keeps, Origin, Shard};
 use blk_ptr::{Key, Ptr};
-use hash_chain::{Bucket, Header};
+use hash_chain::Header;
 use std::sync::Wait;
 
 // Whether bytes from there may arrive: those of the cache device only while the entry has a place there.
@@ -38,7 +39,7 @@ fn may_come(shard: &Shard, key: Key, from: Origin) -> bool
 }
 
 // The key, which has a header, has this one from now on.
-fn change_header(bucket: &mut Bucket, header: Header)
+fn change_header(bucket: &mut HeapBucket, header: Header)
     requires { IsSome (header_at header.key bucket.old.headers) }
     ensures { IsWith header.key (Some header) bucket.old.headers bucket.new.headers }
 {

@@ -1,5 +1,6 @@
 //! How a cache ends.
 ghost use Rattle.std.specs.Prelude.{◌≡◌, ◌++◌, ◌+◌, ◌≤◌, ℕ, ◌<◌, length, IfOk, vec_len, vec_capacity};
+ghost use Rattle.std.specs.Arc.{arc_value};
 ghost use Rattle.turn_table.specs.Places.{SomeHas};
 ghost use Rattle.arc_table.specs.Ended.{AreAtRest, Ends, cells_in, shards_in};
 ghost use Rattle.arc_table.specs.Geometry.{parties_of};
@@ -10,21 +11,24 @@ use crate::item::Item;
 use arc_core::{Keeps, Shard};
 use blk_ptr::NoMemory;
 use std::marker::Model;
+use std::sync::Arc;
 
 /// What the turns of a cache had at its end: its shards with their whole histories, and its cells. `Arcs::close` alone makes one.
 /// Contracts see both lists.
 #[derive(Drop)]
 pub struct Closed<C> {
-    shards: Vec<Shard>,
+    // Counted, so that a report of the run owns the histories too and needs no copy of them.
+    shards: Arc<Vec<Shard>>,
     cells: Vec<C>,
 }
 
 impl<C> Model for Closed<C> {
+    ghost use Rattle.std.specs.Arc.{arc_value};
     ghost use Rattle.arc_table.specs.Ended.{Ended};
 
     ghost Value = { Ended C };
 
-    ghost view = { λ c. record { shards = c.shards.items; cells = c.cells.items } };
+    ghost view = { λ c. record { shards = (arc_value c.shards).items; cells = c.cells.items } };
 }
 
 impl<C> Closed<C> {
@@ -33,6 +37,14 @@ impl<C> Closed<C> {
         ensures { result.now ≡ self.now.shards }
     {
         &self.shards
+    }
+
+    /// The shards, by their numbers, for one more owner. None is copied.
+    pub fn shared_shards(&self) -> Result<Arc<Vec<Shard>>, NoMemory>
+        ensures { IfOk result (λ shared. (arc_value shared).items ≡ self.now.shards) }
+    {
+        let shared = Arc::try_clone(&self.shards)?;
+        Ok(shared)
     }
 
     /// The cells, by their numbers.
@@ -60,7 +72,8 @@ fn sort_out<C: Drop>(values: Vec<Item<C>>, cells: &mut Vec<C>, shards: &mut Vec<
 }
 
 impl<C: Keeps + Drop> Arcs<C> {
-    /// The shards and the cells, once all parties are there and none holds a turn. They meet the pact, with what the parties know.
+    /// The shards and the cells, once all parties are there and none holds a turn. They meet the pact, with what the parties know. Err is
+    /// want of memory, and then they are lost.
     pub fn close(self, parties: Vec<Party<C>>) -> Result<Closed<C>, NoMemory>
         requires rest { AreAtRest self parties.items }
         requires all { (n : ℕ) → n < parties_of self.config → SomeHas n parties.items }
@@ -77,6 +90,7 @@ impl<C: Keeps + Drop> Arcs<C> {
             return Err(NoMemory);
         };
         sort_out(values, &mut cells, &mut shards);
+        let shards = Arc::new(alloc, shards)?;
         Ok(Closed { shards, cells })
     }
 }

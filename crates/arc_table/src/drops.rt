@@ -27,7 +27,7 @@ pub enum TryDrop {
 }
 
 impl<C: Keeps> Arcs<C> {
-    /// Gives a hold back, whose owner is the party or a cell that the party has in hand (`arc_buf_destroy` of OpenZFS's `arc.c`). It may
+    /// Gives back a hold of the party's own, or of a cell in its hands (`arc_buf_destroy` of OpenZFS's `arc.c`). It may
     /// wait, and takes no memory.
     pub fn drop_hold(&self, rt: &impl Wait, party: &mut Party<C>, hold: Hold)
         requires party { IsPartyOf self.now party.old }

@@ -21,7 +21,7 @@ use std::sync::Wait;
 pub enum Cleared {
     /// The entry had the place and lost it.
     Done,
-    /// In the replay of the front no entry of the key has that place.
+    /// The entry that the front's replay has of the key, if any, has another place or none.
     Not(Front),
 }
 

@@ -1,4 +1,5 @@
-//! How the bytes of a block are read, from the cache device or the pool, with no turn held.
+//! How the bytes of a block are read, from the cache device or the pool, with no turn held (`l2arc_read_done` of OpenZFS's `arc.c`, which
+//! goes on with the pool where the device's bytes are wrong).
 ghost use Rattle.std.specs.Prelude.{◌≡◌, ◌≢◌, ◌⊎◌, ℕ, List, Option, ◌+◌, ◌≤◌, ◌<◌, vec_len, IfOk, IfErr, IfSome, OnOk, Some, None, Ok, Err};
 ghost use Rattle.blk_ptr.specs.Key.{IsValid};
 ghost use Rattle.blk_ptr.specs.Ptr.{IsOf, range_of};

@@ -1,4 +1,4 @@
-/// A prefix of a shard's history: the first `len` events of what a party has seen of the shard of this number.
+/// How much of a shard's history an answer rests on: the first `len` events, which the party has seen.
 #[derive(Clone, Copy, Debug, PartialEq, Eq)]
 pub struct Front {
     /// The shard, from 0 to 15.

@@ -9,11 +9,11 @@ ghost use Rattle.arc_table.specs.Items.{meanings};
 ghost use Rattle.arc_table.specs.ShardGiving.{IsGivenShard, after_shard};
 
 use crate::arcs::{Arcs, Party};
+use crate::heap_bucket::HeapBucket;
 use crate::heap_shard::HeapShard;
 use crate::item::Item;
 use crate::view::Known;
 use arc_core::Keeps;
-use hash_chain::Bucket;
 use std::snapshot::Snapshot;
 use turn_table::GivenView;
 
@@ -21,7 +21,7 @@ use turn_table::GivenView;
 #[derive(Drop)]
 pub(crate) struct Taken {
     pub(crate) turn: u32,
-    pub(crate) bucket: Bucket,
+    pub(crate) bucket: HeapBucket,
 }
 
 /// The buckets in hand while a shard is given back, with the shard as it was when it was taken.

@@ -61,7 +61,7 @@ impl<C: Keeps> Arcs<C> {
         })
     }
 
-    /// Gives a hold up, whose owner is the party or a cell that the party has in hand, and keeps a private copy of its bytes. Where it was
+    /// Gives up a hold of the party's own, or of a cell in its hands, and keeps a private copy of its bytes. Where it was
     /// the only hold, the entry goes (`arc_release` of OpenZFS's `arc.c`). Err is want of memory: the hold comes back, and the party is as before. It may wait.
     pub fn release(&self, rt: &impl Wait, party: &mut Party<C>, hold: Hold) -> Result<Vec<u8>, Hold>
         requires party { IsPartyOf self.now party.old }

@@ -4,9 +4,9 @@ ghost use Rattle.std.specs.Prelude.{◌≡◌};
 use blk_ptr::{Block, Key};
 use std::sync::Arc;
 
-/// A hold on an entry, with the entry's block. While a party lists it, the entry's bytes stay cached. It is spent by `drop_hold`,
-/// `try_drop`, `hand` or `release`; where it is only let go, its entry stays held for good. Contracts see its key, its owner's number
-/// and its block.
+/// A hold on an entry, with the entry's block. While a party lists it, the entry's bytes stay cached. The calls `drop_hold`,
+/// `try_drop`, `hand` and `release` end it; a hold that is merely let go keeps its entry held for good. Contracts see its key, its
+/// owner's number and its block.
 #[derive(Debug, Drop)]
 pub struct Hold {
     pub(crate) key: Key,

@@ -32,7 +32,7 @@ use std::sync::{Arc, Wait};
 pub enum Inserted {
     /// The block is in, and the cell has a hold on it.
     Held(Hold),
-    /// In the replay of the front the key is there, and not on the cache device alone.
+    /// The front's replay has an entry of the key that isn't L2-only.
     There(Front),
 }
 

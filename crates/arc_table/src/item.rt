@@ -3,14 +3,17 @@ ghost use Rattle.std.specs.Prelude.{◌≡◌};
 ghost use Rattle.arc_core.specs.ShardLog.{ShardLog};
 ghost use Rattle.hash_chain.specs.Chain.{Chain};
 
+use crate::heap_bucket::HeapBucket;
 use crate::heap_shard::HeapShard;
-use hash_chain::Bucket;
 
-/// What lies behind a turn: a cell of the layer above, the headers of a bucket, or a shard with its history.
+/// What lies behind a turn.
 #[derive(Drop)]
 pub enum Item<C> {
+    /// A cell of the layer above.
     Cell(C),
-    Bucket(Bucket),
+    /// The headers of a bucket.
+    Bucket(HeapBucket),
+    /// A shard with its history.
     Shard(HeapShard),
 }
 
@@ -30,7 +33,7 @@ impl<C> Item<C> {
     }
 
     // The bucket, where it is one.
-    pub(crate) fn into_bucket(self) -> Bucket
+    pub(crate) fn into_bucket(self) -> HeapBucket
         requires { (bucket : Chain) × (self ≡ item.Bucket bucket) }
         ensures { self ≡ item.Bucket result }
     {

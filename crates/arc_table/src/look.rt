@@ -2,15 +2,16 @@
 ghost use Rattle.std.specs.Prelude.{◌≡◌, option_map};
 ghost use Rattle.hash_chain.specs.Chain.{header_at};
 
+use crate::heap_bucket::HeapBucket;
 use blk_ptr::Key;
-use hash_chain::{Bucket, Header};
+use hash_chain::Header;
 
 /// A bucket whose turn a party keeps. Contracts see its turn, the key that was asked for, and its headers.
 #[derive(Drop)]
 pub struct BucketTurn {
     pub(crate) turn: u32,
     pub(crate) key: Key,
-    pub(crate) bucket: Bucket,
+    pub(crate) bucket: HeapBucket,
 }
 
 /// What `try_look` gave.

@@ -18,12 +18,13 @@ ghost use Rattle.arc_table.specs.Making.{IsTaken};
 
 use crate::arcs::{Arcs, Party};
 use crate::both::Both;
+use crate::heap_bucket::HeapBucket;
 use arc_core::{EntryView, Event, Keeps, Shard};
 use blk_ptr::{Key, NoMemory};
-use hash_chain::{Bucket, Header};
+use hash_chain::Header;
 
 // The key has this header from now on.
-pub(crate) fn put_header(bucket: &mut Bucket, header: Header)
+pub(crate) fn put_header(bucket: &mut HeapBucket, header: Header)
     requires { 0 < bucket.old.spare }
     ensures { IsWith header.key (Some header) bucket.old.headers bucket.new.headers }
 {

@@ -7,11 +7,11 @@ ghost use Rattle.arc_table.specs.Items.{no_chain};
 ghost use Rattle.arc_table.specs.Opening.{AreFresh, AreFreshCells, AreOpeningLogs};
 ghost use Rattle.arc_table.specs.declared.item.Item.TheVariants as item;
 
+use crate::heap_bucket::HeapBucket;
 use crate::heap_shard::HeapShard;
 use crate::item::Item;
 use arc_core::{Config, Keeps, Shard};
 use blk_ptr::NoMemory;
-use hash_chain::Bucket;
 use std::alloc::{AllocError, Global};
 
 // The cells, then empty buckets, then shards at their start.
@@ -47,7 +47,7 @@ fn add_buckets<C: Drop>(
 {
     for made in 0..count {
         let _ = made;
-        values.push(Item::Bucket(Bucket::new(alloc)))?;
+        values.push(Item::Bucket(HeapBucket::new(alloc)?))?;
     }
     Ok(())
 }

@@ -9,7 +9,9 @@ use turn_table::TurnRule;
 /// What the parties know at the start is made of these: the cache's numbers, and the cells before they moved in.
 #[derive(Drop)]
 pub struct Settled<C> {
+    /// The cache's numbers.
     pub config: Config,
+    /// The cells, by their numbers.
     pub cells: Snapshot<Vec<C>>,
 }
 

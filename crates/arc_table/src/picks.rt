@@ -33,7 +33,9 @@ use turn_table::{GivenView, Take};
 /// A key that the feeder picked, with its block, which has the digest that the key was picked with.
 #[derive(Debug, Drop)]
 pub struct Picked {
+    /// The key, whose numbers are in their ranges.
     pub key: Key,
+    /// One owner of the block that the key's header has.
     pub block: Arc<Block>,
 }
 
@@ -51,7 +53,7 @@ pub(crate) struct Feed<C: Keeps> {
 
 impl<C: Keeps> Arcs<C> {
     /// Picks the keys that a feed of the cache device may take from this shard, and gives their blocks to `out`, in the order of the picks.
-    /// A key whose bucket another party has is passed. All picks and the feed's end are made under one turn of the shard. After want of
+    /// A key whose bucket another party has is passed. Until the feed's end is made the shard isn't given back. After want of
     /// memory there is no event, and `out` is as before. The party is the feeder, and has settled what it picked there. It may wait
     /// (`l2arc_write_buffers` of OpenZFS's `arc.c`).
     pub fn pick(

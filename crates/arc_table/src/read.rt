@@ -6,7 +6,8 @@ ghost use Rattle.arc_table.specs.Cache.{IsPartyOf};
 ghost use Rattle.arc_table.specs.Items.{meanings};
 ghost use Rattle.arc_table.specs.Looking.{HasNoLook};
 ghost use Rattle.arc_table.specs.PoolCalls.{KeepsPool};
-ghost use Rattle.arc_table.specs.Reading.{AnswersRead, AnswersRound, EndsMiss, GoesToPool, KeepsDevice, failed_at, fault_of, outside, served_as};
+ghost use Rattle.arc_table.specs.Reading.{Answers, AnswersRead, AnswersRound, EndsMiss, GoesToPool, KeepsDevice, failed_at, fault_of, outside, served_as};
+ghost use Rattle.arc_table.specs.Waiting.{HasAllIdle};
 
 use crate::arcs::{Arcs, Party};
 use crate::fetch::{Unfetched, fetch, fetch_pool};
@@ -75,7 +76,8 @@ impl<C: Keeps> Arcs<C> {
     /// Reads a block at a tick. Where its bytes are cached with the pointer's digest it is a hit. Where another party reads them just now,
     /// it waits and begins again. Where they are cached with another digest, it reads the pool past the cache and changes no entry. Else it
     /// is a miss: the bytes are read from the cache device where it has them, or else from the pool, with no turn held. A read that fails
-    /// takes the entry out. The block has the pointer's digest (`arc_read` of OpenZFS's `arc.c`).
+    /// takes the entry out. The block has the pointer's digest (`arc_read` of OpenZFS's `arc.c`). A party that has every number by a join, and
+    /// reads nothing under any, doesn't wait.
     pub fn read<P: Pool, D: CacheDev>(
         &self,
         rt: &impl Wait,
@@ -90,6 +92,9 @@ impl<C: Keeps> Arcs<C> {
         ensures answer { AnswersRead (meanings C.holds C.entries C.opening C.claims C.sound) P.Pool D.CacheDev self.now.config ptr.now tick
             (outside pool.old cache.old) (outside pool.new cache.new)
             party.old party.new result }
+        ensures alone { HasAllIdle self.now.config party.old → IsValid (P.size pool.old) ptr.now.key
+            → Answers (meanings C.holds C.entries C.opening C.claims C.sound) P.Pool D.CacheDev self.now.config ptr.now tick
+            (outside pool.old cache.old) (outside pool.new cache.new) party.old party.new result }
         ensures party { IsPartyOf self.now party.new }
         ensures held { party.new.held ≡ party.old.held }
         ensures pool { KeepsPool P.Pool pool.old pool.new }

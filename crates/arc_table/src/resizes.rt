@@ -19,9 +19,10 @@ use arc_core::{Event, Keeps};
 use blk_ptr::{Key, NoMemory};
 use std::sync::Wait;
 
-/// Memory was refused before the shard `done` was resized. The shards below it have the new capacity.
+/// Memory was refused before all shards were resized.
 #[derive(Clone, Copy, Debug, PartialEq, Eq)]
 pub struct ResizeStop {
+    /// The number of the shard that was not resized. Those below it have the new capacity.
     pub done: u32,
 }
 

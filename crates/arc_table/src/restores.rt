@@ -22,7 +22,7 @@ use std::sync::Wait;
 pub enum RestoreStop {
     /// Memory was refused after the first `done`.
     NoMemory { done: usize },
-    /// After the first `done`: in the replay of the front the next key is there.
+    /// After the first `done`, since the front's replay has an entry of the next key.
     There { done: usize, front: Front },
 }
 
@@ -31,7 +31,7 @@ pub enum RestoreStop {
 pub(crate) enum Refused {
     /// Memory was refused.
     NoMemory,
-    /// In the replay of the front the key is there.
+    /// The front's replay has an entry of the key.
     There(Front),
 }
 

@@ -12,10 +12,11 @@ ghost use Rattle.arc_table.specs.Scanning.{AllPairs, AreApart};
 ghost use Rattle.arc_table.specs.Sparing.{AreHeadsBut, spared_header, turn_place, turns_in, with_bucket};
 
 use crate::hand::{Hand, Taken};
+use crate::heap_bucket::HeapBucket;
 use crate::looks::bucket_turn_of;
 use arc_core::{Config, EntryView, Shard};
 use blk_ptr::{Key, State};
-use hash_chain::{Bucket, Header};
+use hash_chain::Header;
 
 // Whether a state's bytes are cached.
 fn is_cached(state: State) -> bool
@@ -42,7 +43,7 @@ fn ghost_of(header: &Header, state: State) -> Header
 }
 
 // The header of a key says what the key's entry does, which is seen so.
-pub(crate) fn spare(bucket: &mut Bucket, key: Key, entry: Option<EntryView>)
+pub(crate) fn spare(bucket: &mut HeapBucket, key: Key, entry: Option<EntryView>)
     ensures { IsWith key (spared_header entry (header_at key bucket.old.headers)) bucket.old.headers bucket.new.headers }
 {
     let Some(at) = bucket.find(key) else { return };

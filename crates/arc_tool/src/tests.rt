@@ -49,15 +49,14 @@ Exit status:
   0   Everything was done
   1   The trace was run, and some reply is a refusal
   2   A word behind the file names is wrong; its index from 0 is told
-  3   The standard input holds no trace
+  3   The standard input holds no trace, or no list of pages
   4   The standard input could not be read
   5   The standard output could not be written
-  6   The pool could not be used by several callers, or not be written
+  6   The pool could not be opened once more for each of several callers
   7   There was too little memory
-  8   The pool is full
   9   The file names are missing, or a word is not UTF-8
-  11  The pool's file could not be opened
-  12  The cache device's file could not be opened
+  11  The pool's file could not be opened, or is longer than 2^40 bytes
+  12  There is no cache device yet: CACHE is not -
 ";
 
 /// The first two words are the files' names, `-` among them; `--help` and `--version` show their texts; else the words are faulty.

@@ -1,4 +1,4 @@
--- The states of an entry of the cache, compared (arc_state_t of arc.c).
+-- The states of an entry of the cache, compared (arc_state_t of arc_impl.h).
 use Rattle.std.specs.Prelude.{Bool, true, false}
 use Rattle.blk_ptr.specs.declared.state.State.{State}
 use Rattle.blk_ptr.specs.declared.state.State.TheVariants.{Anon, Mru, MruGhost, Mfu, MfuGhost, L2Only}

@@ -1,3 +1,4 @@
+//! Bytes that are sealed with their SHA-256.
 ghost use Rattle.std.specs.Prelude.{◌≡◌, ℕ, List};
 ghost use Rattle.blk_ptr.specs.Ptr.{sha256_of};
 

@@ -1,3 +1,4 @@
+//! A SHA-256, and how it is printed.
 ghost use Rattle.std.specs.Prelude.{◌≡◌, Some};
 ghost use Rattle.hex.specs.Hex.{encode_lower};
 ghost use Rattle.blk_ptr.specs.Ptr.{sha256_of};

@@ -1,3 +1,4 @@
+//! Bytes as they are printed.
 ghost use Rattle.std.specs.Prelude.{◌≡◌, ◌≤◌, length, Some};
 ghost use Rattle.hex.specs.Hex.{encode_lower};
 

@@ -1,3 +1,4 @@
+//! The key of a block, and the tests that it has to pass before the block is read.
 ghost use Rattle.std.specs.Prelude.{◌≡◌, ◌↔◌, IsTrue, MatchResult, Some};
 ghost use Rattle.blk_ptr.specs.Size.{IsBlockSize};
 
@@ -43,7 +44,8 @@ pub fn is_block_size(size: u64) -> bool
 impl Key {
     ghost use Rattle.blk_ptr.specs.Key.{IsValid, IsFirstFault};
 
-    /// Tests whether this key names a block of a pool of `pool_len` bytes, and gives it back where it does.
+    /// Tests whether this key names a block of a pool of `pool_len` bytes, and gives it back where it does. Err is the first test that
+    /// fails, in the order of [`KeyFault`] (`zfs_blkptr_verify` of OpenZFS's `zio.c` makes such tests).
     pub fn check(self, pool_len: u64) -> Result<Key, KeyFault>
         ensures valid { MatchResult result
             (λ key. (key ≡ self) × IsValid pool_len self)

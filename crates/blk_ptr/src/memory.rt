@@ -1,3 +1,4 @@
+//! Want of memory.
 use std::alloc::{AllocError, AllocFailed};
 
 /// Memory was refused. It is the one answer that has no cause in any contract.

@@ -1,4 +1,4 @@
-/// Where an entry of the cache stands (`arc_state_t` of OpenZFS's `arc.c`).
+/// Where an entry of the cache stands (`arc_state_t` of OpenZFS's `arc_impl.h`).
 #[derive(Clone, Copy, Debug, PartialEq, Eq)]
 pub enum State {
     /// Being read for the first time, and on no list yet (`arc_anon`).

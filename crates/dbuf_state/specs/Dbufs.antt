@@ -238,7 +238,7 @@ module _ {H : Type 0} where
   IsInside change.Clear content = Unit {0}
 
   module _ (key_of : H → Key) (bytes_of : H → List ℕ) where
-    -- a kept value is of a pointer where its key is the pointer's key and its block's bytes are of the pointer
+    -- what is kept is the pointer's block: it has the pointer's key, and bytes that are of the pointer
     pub record IsKeptOf (kept : H) (ptr : Ptr) : Type 0 where
       pub key : key_of kept ≡ ptr.key
       pub bytes : IsOf (bytes_of kept) ptr

@@ -201,7 +201,7 @@ effect base ds (Evict n at) = changed at (with_block evicted) ds
 effect base ds (Synced n at ptr) = changed at (with_block (λ _. Cached ptr)) ds
 effect base ds (End n) = map ended ds
 
--- the Oid that an event uses: every event but Evict, Synced and End is a use
+-- the Oid that an event uses; an Evict, a Synced and an End use none
 abbrev pub use_of : CellEvent → Option Oid
 use_of (Get n at) = Some at
 use_of (Put n at size fill) = Some at

@@ -17,7 +17,7 @@ module _ {H : Type 0} where
 
   pub record IsSound (c : CellLog H) : Type 0 where
     pub evicting : Evicting
-    -- its history is legal from its opening, and its map, dbufs, pins and last uses are those of the replay
+    -- the history is legal from the opening, and leads to the map, the dbufs, the pins and the last uses that are there
     pub history : IsHistory c.limit c.opening c.history (plain_cell evicting c)
     -- no dbuf is being filled or evicted
     pub at_rest : IsTrue (list_all (λ d. not (is_passing d.state)) c.dbufs)

@@ -61,7 +61,7 @@ pub enum CellEvent {
 }
 
 impl CellEvent {
-    /// Which block it uses: every event but Evict, Synced and End is a use.
+    /// Which block it uses. An Evict, a Synced and an End use none.
     pub fn use_of(&self) -> Option<Oid>
         ensures { result ≡ use_of self.now }
     {

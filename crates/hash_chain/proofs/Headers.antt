@@ -342,3 +342,28 @@ changed hs i h once below same =
         (λ t. subst (λ b. (if b then Some h else (if key_eq g.key j then None else header_at j hs)) ≡ (if b then Some h else header_at j hs)) (sym t) refl)
         (λ f. subst (λ (z : Bool × Bool). (if z.0 then Some h else (if z.1 then None else header_at j hs)) ≡ (if z.0 then Some h else header_at j hs)) (λ k. (sym f k, sym (subst (λ (q : Key). key_eq q j ≡ false) (sym is) f) k)) refl)
         (cases (key_eq h.key j))
+
+pub some_is : (a b : Header) → ◌≡◌ {A = Option Header} (Some a) (Some b) → a ≡ b
+some_is a b e = cc
+
+-- the header at i put there once more
+pub set_same : (hs : List Header) (i : ℕ) (h : Header) → slice_get hs i ≡ Some h → set hs i h ≡ hs
+set_same [] i h at = refl
+set_same (g ∷ gs) zero h at = let same : g ≡ h = cc in ap (λ (z : Header). z ∷ gs) (sym same)
+set_same (g ∷ gs) (suc i) h at = ap (λ l. g ∷ l) (set_same gs i h at)
+
+-- and its key has what it had
+pub with_same : (hs : List Header) (i : ℕ) (h : Header) → AreOnce hs → slice_get hs i ≡ Some h → IsWith h.key (Some h) hs hs
+with_same hs i h once at j = ⊎_elim
+    (λ t. subst (λ (k : Key). header_at k hs ≡ Some h) (key_eq-is h.key j t) (found hs i h once at) ∙ sym (subst (λ b. (if b then Some h else header_at j hs) ≡ Some h) (sym t) refl))
+    (λ f. sym (subst (λ b. (if b then Some h else header_at j hs) ≡ header_at j hs) (sym f) refl))
+    (cases (key_eq h.key j))
+
+-- the header at i is g from then on, which says the same but for its state and its place
+pub changed_to : (hs : List Header) (i : ℕ) (h g : Header) → AreOnce hs → slice_get hs i ≡ Some h → g.key ≡ h.key → Changed hs (set hs i g) g
+changed_to hs i h g once at same = changed hs i g once (below hs i h at) (subst (λ (o : Option Header). IfSome o (λ z. z.key ≡ g.key)) (sym at) (sym same))
+  where
+    below : (hs : List Header) (i : ℕ) (h : Header) → slice_get hs i ≡ Some h → i < length hs
+    below [] i h at = absurd (some_none h (sym at))
+    below (g ∷ gs) zero h at = omega arith
+    below (g ∷ gs) (suc i) h at = let less = below gs i h at in omega arith

@@ -1,11 +1,12 @@
 //! A bucket of headers, one a key.
-ghost use Rattle.std.specs.Prelude.{◌≡◌, ◌+◌, ◌-◌, ◌<◌, [], ◌∷◌, ◌++◌, length, max, slice_get, slice_set, Some, None, IfSome, IfNone, OnOk, OnErr};
+ghost use Rattle.std.specs.Prelude.{◌≡◌, ◌+◌, ◌-◌, ◌<◌, [], ◌∷◌, ◌++◌, length, max, slice_get, slice_set, Some, None, IfSome, IfNone, OnOk, OnErr, IsTrue};
 ghost use Rattle.std.specs.List.{position};
+ghost use Rattle.hash_chain.specs.declared.header.Header.{Header};
 ghost use Rattle.hash_chain.specs.Chain.{header_at, IsWith};
 ghost use Rattle.hash_chain.specs.Kept.{is_key};
 
 use crate::header::Header;
-use blk_ptr::{Key, NoMemory};
+use blk_ptr::{Key, NoMemory, State};
 use std::alloc::Global;
 use std::marker::Model;
 
@@ -35,6 +36,13 @@ fn place_of(keys: &[Key], key: Key) -> Option<usize>
     ensures { result ≡ position (is_key key) keys.now }
 {
     keys.iter().position(|k| *k == key)
+}
+
+// Whether a header says this state and this place.
+fn says(header: &Header, state: State, place: Option<u64>) -> bool
+    ensures { IsTrue result → record header.now { state = state; place = place } ≡ header.now }
+{
+    header.state == state && header.place == place
 }
 
 impl Bucket {
@@ -114,5 +122,19 @@ impl Bucket {
         ensures map { IsWith header.key (Some header) self.old.headers self.new.headers }
     {
         self.headers[i] = header;
+    }
+
+    /// The header at `i` says this state and this place from now on (`arc_change_state` of OpenZFS's `arc.c`). Nothing is written where it says so already.
+    pub fn change_state(&mut self, i: usize, state: State, place: Option<u64>)
+        requires { i < length self.old.headers }
+        ensures headers { (h : Header) → slice_get self.old.headers i ≡ Some h → self.new ≡ record self.old { headers = slice_set self.old.headers i (record h { state = state; place = place }) } }
+        ensures map { (h : Header) → slice_get self.old.headers i ≡ Some h → IsWith h.key (Some (record h { state = state; place = place })) self.old.headers self.new.headers }
+    {
+        if says(self.at(i), state, place) {
+            return;
+        }
+        let header = &mut self.headers[i];
+        header.state = state;
+        header.place = place;
     }
 }

@@ -2,7 +2,7 @@
 use blk_ptr::{Block, Digest, Key, State};
 use std::sync::Arc;
 
-/// What a bucket keeps of one key (`arc_buf_hdr_t` of OpenZFS's `arc.c`). It says what the key's entry in its shard says, and has the bytes besides.
+/// What a bucket keeps of one key (`arc_buf_hdr_t` of OpenZFS's `arc_impl.h`). It says what the key's entry in its shard says, and has the bytes besides.
 #[derive(Debug, Drop)]
 pub struct Header {
     /// The key.

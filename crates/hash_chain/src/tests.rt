@@ -45,6 +45,13 @@ fn replace(bucket: &mut Bucket, header: Header) {
     }
 }
 
+// The key's header says another state.
+fn move_to(bucket: &mut Bucket, key: Key, state: State) {
+    if let Some(at) = bucket.find(key) {
+        bucket.change_state(at, state, None);
+    }
+}
+
 // The header that the key has.
 fn header_of(bucket: &Bucket, offset: u64) -> Option<&Header> {
     let at = bucket.find(key(offset))?;
@@ -66,5 +73,9 @@ fn headers_are_found_by_their_keys(rt: HostRuntime) -> Result<(), Fail> {
     replace(&mut bucket, header(1024, Some(block)));
     assert!(rt; header_of(&bucket, 1024).is_some_and(|h| h.block.is_some()));
     assert!(rt; header_of(&bucket, 512).is_some_and(|h| h.block.is_none()));
+    move_to(&mut bucket, key(1024), State::Mfu);
+    assert!(rt;
+        header_of(&bucket, 1024).is_some_and(|h| h.state == State::Mfu && h.block.is_some())
+    );
     Ok(())
 }

@@ -112,7 +112,8 @@ pub fn chain_all<K: Hashed, V>(slots: &mut Slab<Slot<K, V>>, heads: &mut [usize]
 /// The most chains that are asked for: a vector of so many places is more than any memory has.
 const MOST: usize = 1 << 60;
 
-/// Sees to it that there are at least `all` chains. Where there were fewer, every slot is chained anew.
+/// Sees to it that there are at least twice as many chains as `all`, so that most slots are the first of theirs. Where there were
+/// fewer, every slot is chained anew.
 pub fn widen<K: Hashed, V>(
     slots: &mut Slab<Slot<K, V>>,
     heads: &mut Vec<usize>,
@@ -128,13 +129,13 @@ pub fn widen<K: Hashed, V>(
     ensures length { length slots.new.slots ≡ length slots.old.slots }
     ensures capacity { slots.new.capacity ≡ slots.old.capacity }
 {
-    if all <= heads.len() {
+    if all <= heads.len() / 2 {
         return Ok(());
     }
     if all > MOST {
         return Err(NoMemory);
     }
-    let mut more = Vec::from_elem(*heads.allocator(), NO_PLACE, all.next_power_of_two())?;
+    let mut more = Vec::from_elem(*heads.allocator(), NO_PLACE, (2 * all).next_power_of_two())?;
     chain_all(slots, &mut more);
     *heads = more;
     Ok(())

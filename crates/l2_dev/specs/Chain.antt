@@ -60,8 +60,8 @@ pub record IsHeld (image : List ℕ) (visit : Visit) : Type 0 where
   pub digest : sha256_of (bytes_at image visit.ptr.place log_len) ≡ visit.ptr.digest
   pub bytes : IsLogBlock (bytes_at image visit.ptr.place log_len) visit.block
 
--- Two pointers lead on at each moment. The first names the next log block, and the second the one behind it; the previous
--- pointer of a log block names the log block two further on. So the chain is two lists, one into the other.
+-- Two pointers lead on at each moment: to the next log block, and to the one behind that. The pointer inside a log block leads
+-- past its neighbour, to the one after. So the chain is two lists, one into the other.
 abbrev pub IsLinked : Option LogPtr → Option LogPtr → List Visit → Type 0
 IsLinked newest second [] = Unit {0}
 IsLinked newest second (visit ∷ visits) = (newest ≡ Some visit.ptr) × IsLinked second visit.block.prev visits

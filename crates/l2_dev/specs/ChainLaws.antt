@@ -1,4 +1,4 @@
--- The walk on an image that holds a standing list visits that list first, whatever stands elsewhere.
+-- Where an image holds a standing list, a walk begins with that list, whatever stands elsewhere.
 use Rattle.std.specs.Prelude.{◌≡◌, ◌≢◌, ℕ, ◌+◌, ◌*◌, ◌≤◌, ◌⊎◌, List, [], ◌∷◌, ◌++◌, length, Option, None, Some}
 use Rattle.std.proofs.Common.{inl, inr, refl, sym, ap, subst, ◌∙◌, arith}
 use Rattle.std.specs.List.{AllByRecursion}

@@ -1,4 +1,4 @@
--- What a device of the second level ends as, where the device below it is lent.
+-- What a started cache device ends as, where the device below it is lent.
 use Rattle.std.specs.Borrow.{Lends, MutBor, Fml, RattleType}
 use Rattle.l2_dev.specs.declared.device.L2Dev.{L2Dev}
 use Rattle.l2_dev.specs.contracts.device.L2Dev.{the_row}

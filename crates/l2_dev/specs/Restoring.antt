@@ -24,8 +24,7 @@ written_in lap entry = record { live = record { key = entry.key; place = entry.p
 abbrev pub told_by : Visit → List Written
 told_by visit = map (written_in visit.block.lap) (reverse visit.block.entries)
 
--- its range lies in the part of the ring in which its log block lies, by the lap of both, and it ends at or before the log
--- block's place
+-- by the lap that it shares with its log block its range lies in the same part of the ring, and the log block stands behind it
 abbrev pub is_valid : Plan → ℕ → Written → Bool
 is_valid numbers place written = stays numbers written && nat_le (written.live.place + written.live.key.size) place
 
@@ -41,7 +40,7 @@ found_in numbers visits = flat_map (valid_of numbers) visits
 abbrev pub is_same_key : Written → Written → Bool
 is_same_key a b = key_eq a.live.key b.live.key
 
--- of entries with one key only the first
+-- the entries whose key no earlier one has
 abbrev pub firsts : List Written → List Written
 firsts [] = []
 firsts (written ∷ rest) = written ∷ filter (λ other. not (is_same_key other written)) (firsts rest)

@@ -24,8 +24,8 @@ block_range visit = log_range visit.ptr visit.block.lap
 abbrev pub passed_ranges : Plan → List Visit → List Range
 passed_ranges numbers visits = flat_map (λ visit. block_range visit ∷ map range_of (valid_of numbers visit)) visits
 
--- the log blocks and their valid entries were written one before the other, the newest first: each log block lies before
--- the one visited ahead of it, each valid entry before the next one of its log block and behind the log block visited next
+-- the log blocks and their valid entries were written one before the other, the newest first: so each log block was written
+-- earlier than the one before it on the list, and its valid entries between the next log block and itself
 abbrev pub IsOrderly : Plan → List Visit → Type 0
 IsOrderly numbers visits = IsInOrder (passed_ranges numbers visits)
 
@@ -99,7 +99,7 @@ abbrev pub AnyOf : {X : Type 0} → (X → Type 0) → List X → Type 0
 AnyOf P [] = ⊥
 AnyOf P (x ∷ xs) = P x ⊎ AnyOf P xs
 
--- the longest front of the list whose log blocks the plan leaves in the lower or the upper part
+-- the front of the list as far as the plan leaves each log block in a part of the ring
 abbrev pub leading : Plan → List Visit → List Visit
 leading plan [] = []
 leading plan (visit ∷ visits) =

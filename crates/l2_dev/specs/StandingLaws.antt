@@ -1,4 +1,4 @@
--- What a plan, wrapping or not, leaves of a standing list, and what one more log block makes of it.
+-- What is left of a standing list under a plan, whether a lap begins or not, and what one more log block makes of it.
 use Rattle.std.specs.Prelude.{◌≡◌, ℕ, ◌+◌, ◌*◌, ◌<◌, ◌≤◌, List, [], ◌∷◌, ◌++◌, length, Bool, true, false, cond, ◌&&◌, map, reverse, Option, Some}
 use Rattle.std.proofs.Common.{refl, sym, ap, subst, ◌∙◌, leb, arith}
 use Rattle.std.proofs.lemmas.Bool.{false≢true}

@@ -182,7 +182,7 @@ impl Cursor {
         Ok(())
     }
 
-    /// Forgets what is pending: the hand goes back to where the last commit, or else the last begin, left it.
+    /// Forgets what is pending: the hand is again as after the last commit, or after a begin since.
     pub(crate) fn forget(&mut self)
         ensures forgotten { IsForgotten self.old self.new }
     {

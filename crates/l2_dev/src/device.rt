@@ -22,7 +22,7 @@ use l2_ring::{Live, Ring};
 use std::alloc::Global;
 use vdev_io::CacheDev;
 
-/// A device of the second level that was started.
+/// A cache device that was started (`l2arc_dev_t` of OpenZFS's `arc_impl.h`).
 #[derive(Drop)]
 pub struct L2Dev<D: CacheDev> {
     pub(crate) dev: D,
@@ -87,7 +87,8 @@ impl<D: CacheDev> L2Dev<D> {
     ghost use Rattle.std.specs.Borrow.{sem};
 
     /// Takes the plan for `n` bytes, writes the header with it and flushes. What the plan drops goes to the end of
-    /// `dropped`. After [`DevErr::NoMemory`] nothing has changed; after [`DevErr::DevFault`] the plan is taken all the same.
+    /// `dropped` (`l2arc_evict` of OpenZFS's `arc.c`). After [`DevErr::NoMemory`] nothing has changed; a [`DevErr::DevFault`] comes
+    /// when the plan is taken already.
     pub fn begin(&mut self, n: u64, dropped: &mut Vec<Live>) -> Result<(), DevErr>
         requires whole { self.old.cursor.ring.end ≤ D.size self.old.dev }
         requires room { IsRoom self.old.cursor.ring n }
@@ -111,8 +112,8 @@ impl<D: CacheDev> L2Dev<D> {
         Ok(())
     }
 
-    /// Writes the block's bytes at the hand, and answers their place. After an error nothing is pending, and the hand
-    /// stands where the last commit, or else the last begin, left it.
+    /// Writes the block's bytes at the hand, and answers their place (`l2arc_write_buffers` and `l2arc_log_blk_insert` of OpenZFS's
+    /// `arc.c`). After an error nothing is pending, and the hand is as after the last commit, or after a begin since.
     pub fn put(&mut self, key: Key, block: &Block) -> Result<u64, DevErr>
         requires whole { self.old.cursor.ring.end ≤ D.size self.old.dev }
         requires formed { IsWellFormed key }
@@ -141,9 +142,9 @@ impl<D: CacheDev> L2Dev<D> {
         Ok(place)
     }
 
-    /// Writes the log block of the pending entries behind their blocks, flushes, writes the header and flushes. At Ok they
-    /// are live. After an error nothing is pending, and the hand stands where the last commit, or else the last begin,
-    /// left it.
+    /// Writes the log block of the pending entries behind their blocks, flushes, writes the header and flushes
+    /// (`l2arc_log_blk_commit` and `l2arc_dev_hdr_update` of OpenZFS's `arc.c`). At Ok they are live. After an error nothing is
+    /// pending, and the hand is as after the last commit, or after a begin since.
     pub fn commit(&mut self) -> Result<(), DevErr>
         requires whole { self.old.cursor.ring.end ≤ D.size self.old.dev }
         requires some { 0 < length self.old.cursor.pending }

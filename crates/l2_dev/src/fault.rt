@@ -1,3 +1,4 @@
+//! The faults of a call of the device, and what they come from.
 ghost use Rattle.std.specs.Prelude.{◌≡◌};
 ghost use Rattle.l2_dev.specs.declared.fault.DevErr.TheVariants as err;
 

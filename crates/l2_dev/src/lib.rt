@@ -1,4 +1,4 @@
-//! The device of the second level: what is written to it, and what is found on it again.
+//! The cache device: what is written to it, and what is found on it again.
 #![tactic(auto)]
 
 mod cursor;

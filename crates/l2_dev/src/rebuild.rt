@@ -1,4 +1,5 @@
-//! What is found on a device again: its header, and the entries that the walk restores.
+//! What is found on a device again: its header, and the entries that the walk restores (`l2arc_rebuild`, `l2arc_dev_hdr_read` and
+//! `l2arc_log_blk_restore` of OpenZFS's `arc.c`).
 ghost use Rattle.std.specs.Prelude.{◌≡◌, ◌<◌, ◌≤◌, ◌⊎◌, ◌++◌, ℕ, [], List, length, map, reverse, Option, None, Some, IfOk, OnOk, IsErrOf, MatchResult};
 ghost use Rattle.std.specs.List.{All};
 ghost use Rattle.vdev_io.specs.Faults.{HasCause, Rose};

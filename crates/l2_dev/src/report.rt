@@ -1,3 +1,5 @@
+//! What a feed of the cache device did. No call makes one yet.
+
 /// How a feed ended.
 #[derive(Clone, Copy, Debug, PartialEq, Eq)]
 pub enum FeedStop {
@@ -12,13 +14,14 @@ pub enum FeedStop {
 /// What a feed did.
 #[derive(Clone, Copy, Debug, PartialEq, Eq)]
 pub struct FeedReport {
-    /// The blocks that were picked.
+    /// How many blocks were picked.
     pub picked: u32,
-    /// The sum of their sizes.
+    /// The sum of their sizes, in bytes.
     pub bytes: u64,
-    /// The blocks that have a place now.
+    /// How many of them have a place now.
     pub written: u32,
-    /// The places that were taken away, since they may be written over.
+    /// How many places were taken away, since they may be written over.
     pub cleared: u64,
+    /// How it ended.
     pub end: FeedStop,
 }

@@ -40,8 +40,8 @@ impl<D: CacheDev> L2Dev<D> {
     ghost use Rattle.l2_dev.specs.Rebuilding.{HaveKeys, IsOpened, IsStarted, ring_end_of};
     ghost use Rattle.l2_dev.specs.Starting.{OnReady, OnShort, OnRefused, IsShort, StartKeeps};
 
-    /// Reads the header and walks along the chain of log blocks, each of which is read once. Nothing is written. A header that
-    /// is refused or can't be read gives a ring of which nothing was written, and no entries.
+    /// Reads the header and walks along the chain of log blocks, each of which is read once. Nothing is written. Where the
+    /// header is refused, or the device fails at it, the ring is fresh and there are no entries (`l2arc_rebuild` of OpenZFS's `arc.c`).
     pub fn start(alloc: Global, dev: D) -> Started<D>
         ensures short { OnShort result (λ d len. (d ≡ dev) × (len ≡ D.size dev) × (len < least_ring_end)) }
         ensures long { D.size dev < least_ring_end → IsShort result }

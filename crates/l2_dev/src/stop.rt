@@ -9,7 +9,7 @@ pub enum Stop {
     Short { len: u64 },
     /// The first sector is no header of this device.
     Header(LogFault),
-    /// A pointer's place is no multiple of 512, or its log block is not wholly inside the ring.
+    /// A pointer leads to a place that is unaligned, or to a log block that isn't wholly inside the ring.
     Outside { place: u64 },
     /// A pointer's log block lies in neither part of the ring, so its bytes may have been written over.
     Evicted { place: u64 },

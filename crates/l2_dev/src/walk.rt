@@ -1,4 +1,4 @@
-//! The walk along the chain of log blocks, from the newest on.
+//! The walk along the chain of log blocks, from the newest on (`l2arc_log_blkptr_valid` and `l2arc_log_blk_read` of OpenZFS's `arc.c`).
 ghost use Rattle.std.specs.Prelude.{◌≡◌, ◌≢◌, ℕ, ◌+◌, ◌≤◌, ◌++◌, List, length, Option, Some, Ok, IfOk, OnOk, IsErrOf, MatchResult, IsTrue, ◌↔◌};
 ghost use Rattle.std.specs.List.{All};
 ghost use Rattle.blk_ptr.specs.Ptr.{sha256_of};

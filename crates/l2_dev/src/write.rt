@@ -20,7 +20,7 @@ pub(crate) fn write_at<D: CacheDev>(dev: &mut D, offset: u64, bytes: &[u8]) -> R
     dev.write(offset, bytes)
 }
 
-/// Writes the bytes and flushes. After Ok a crash leaves what a read gives.
+/// Writes the bytes and flushes. Right after Ok a crash leaves what reads give.
 pub(crate) fn write_through<D: CacheDev>(
     dev: &mut D,
     offset: u64,
@@ -37,7 +37,7 @@ pub(crate) fn write_through<D: CacheDev>(
     dev.flush()
 }
 
-/// Writes the header to the first sector and flushes.
+/// Writes the header to the first sector and flushes (`l2arc_dev_hdr_update` of OpenZFS's `arc.c`).
 pub(crate) fn write_header<D: CacheDev>(dev: &mut D, header: &DevHeader) -> Result<(), Failed>
     requires inside { header_len ≤ D.size dev.old }
     ensures written { HeaderWritten D.told D.has_sectors D.may_leave D.moment D.left_since header.now dev.old dev.new result }

@@ -1,3 +1,4 @@
+//! What a log block tells of one block.
 ghost use Rattle.std.specs.Prelude.{◌≡◌, ◌≤◌, ◌%◌};
 ghost use Rattle.blk_ptr.specs.Size.{sector};
 ghost use Rattle.blk_ptr.specs.Key.{IsWellFormed};

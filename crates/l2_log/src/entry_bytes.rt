@@ -1,3 +1,4 @@
+//! The bytes of an entry, read and written.
 ghost use Rattle.std.specs.Prelude.{◌≡◌, ◌+◌, ◌≤◌, ◌↔◌, false, length, MatchResult, IsTrue};
 ghost use Rattle.l2_log.specs.Bytes.{AreZero, IsKeptOutside, IsZeroIn};
 ghost use Rattle.l2_log.specs.Rules.{entry_len, fields_len, is_there, IsEntrySize};

@@ -1,3 +1,4 @@
+//! Why bytes are no header, or no log block.
 ghost use Rattle.std.specs.Prelude.{◌≡◌};
 ghost use Rattle.l2_log.specs.declared.fault.LogReadFault.TheVariants.{Fault, NoMemory as Refused};
 

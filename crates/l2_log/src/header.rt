@@ -1,3 +1,4 @@
+//! The header of a cache device.
 ghost use Rattle.std.specs.Prelude.{◌≤◌};
 ghost use Rattle.l2_log.specs.Rules.{IsVersion, IsRingEnd, IsRingPlace};
 

@@ -1,3 +1,4 @@
+//! The tests of a header's bytes, in the order in which faults are told.
 ghost use Rattle.std.specs.Prelude.{◌≡◌, ℕ, ◌≤◌, length, ◌↔◌, IsTrue, MatchResult};
 ghost use Rattle.l2_log.specs.Rules.{header_len, IsRingPlace};
 ghost use Rattle.l2_log.specs.Places.{IsFieldFault};

@@ -1,4 +1,4 @@
-//! The bytes of the second level's device: its header, and the log blocks that name what it holds.
+//! The bytes of the cache device: its header, and the log blocks that name what it holds.
 //!
 //! Numbers are 64 bits wide, the lowest byte first. What no field covers is zero, and a reader refuses
 //! anything else there. There are two versions: in version 2, the one that is written, an entry has the digest of its block.

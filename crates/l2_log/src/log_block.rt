@@ -1,3 +1,4 @@
+//! A log block and its entries.
 ghost use Rattle.std.specs.Prelude.{◌≡◌, ◌≤◌, length};
 ghost use Rattle.std.specs.List.{All};
 ghost use Rattle.l2_log.specs.Rules.{IsVersion, IsCount, IsCountWith, has_digests, most_with, stored_version, is_there};

@@ -1,3 +1,4 @@
+//! The tests of a log block's bytes, and its entries one by one.
 ghost use Rattle.std.specs.Prelude.{◌≡◌, ℕ, ◌+◌, ◌*◌, ◌<◌, ◌≤◌, length, MatchResult};
 ghost use Rattle.std.specs.List.{All};
 ghost use Rattle.l2_log.specs.Rules.{log_len, entry_len, first_entry, most_with, is_there, IsCountWith};

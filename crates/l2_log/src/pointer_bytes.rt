@@ -1,3 +1,4 @@
+//! The bytes of a pointer to a log block, read and written.
 ghost use Rattle.std.specs.Prelude.{◌+◌, ◌≤◌, length, MatchResult};
 ghost use Rattle.l2_log.specs.Bytes.{AreZero, IsKeptOutside};
 ghost use Rattle.l2_log.specs.Places.{IsFieldFault};

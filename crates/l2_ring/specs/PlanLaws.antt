@@ -1,5 +1,5 @@
--- What a plan, wrapping or not, leaves of ranges that lie where their laps ask for. The laws are of plain numbers; no call
--- is named.
+-- What is left under a plan, whether a lap begins or not, of ranges that lie where their laps ask for. The laws are of plain
+-- numbers; no call is named.
 use Rattle.std.specs.Prelude.{◌≡◌, ℕ, ◌+◌, ◌-◌, ◌*◌, ◌<◌, ◌≤◌, ◌⊎◌, min, max, List, [], ◌∷◌, Bool, true, false, length, suc}
 use Rattle.std.proofs.Common.{inl, inr, refl, ap, ◌&&◌, ◌||◌, leb, eqb, arith}
 use Rattle.std.proofs.lemmas.Bool.{cases_lt, false≢true, leb-true, le-leb, eqb-true, eq-eqb, and_parts, and_from}

@@ -1,5 +1,5 @@
 -- The ring of the cache device: where the next bytes go, and which ranges hold what was written
--- (l2arc_evict and the hand of l2arc_dev_t in arc.c; the lap and its rules are this project's).
+-- (l2arc_evict in arc.c, and the hand of l2arc_dev_t in arc_impl.h; the lap and its rules are this project's).
 use Rattle.std.specs.Prelude.{◌≡◌, ℕ, ◌+◌, ◌-◌, ◌^◌, ◌%◌, ◌<◌, ◌≤◌, min, max, List}
 use Rattle.blk_ptr.specs.Size.{sector}
 use Rattle.l2_log.specs.Rules.{ring_start, IsRingEnd, IsRingPlace}

@@ -10,8 +10,8 @@ use Rattle.l2_ring.specs.declared.plan.Plan.{Plan}
 abbrev pub lies_within : ℕ → ℕ → ℕ → ℕ → Bool
 lies_within from to place size = nat_le from place && nat_le (place + size) to
 
--- a range that was written in this lap lies in the part of the plan that the lap asks for: the lower part for the plan's
--- lap, and the upper part for the lap before
+-- a range that was written in this lap lies in the part of the plan that the lap asks for: the lower one if it is the plan's
+-- lap, the upper one if it is the lap before that
 abbrev pub stays_at : Plan → ℕ → ℕ → ℕ → Bool
 stays_at plan lap place size =
     (lies_within ring_start plan.hand place size && (lap == plan.lap))

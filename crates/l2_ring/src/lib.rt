@@ -1,4 +1,4 @@
-//! The ring of the second level's device: where the next bytes go, which ranges are live, and what a plan drops.
+//! The ring of the cache device: where the next bytes go, which of the ranges behind them are live still, and which entries a plan drops.
 //!
 //! The ring is the range from [`RING_START`](l2_log::RING_START) to its end. It is written from the hand on. What was
 //! written in this lap lies below the hand, in the lower part. What is left of the lap before lies between the evict

@@ -1,3 +1,4 @@
+//! The numbers of a ring that has room for the next bytes, and what stays live under them.
 ghost use Rattle.std.specs.Prelude.{◌≡◌};
 ghost use Rattle.l2_ring.specs.Stays.{stays_at, lies_within};
 
@@ -24,8 +25,8 @@ fn lies_within(from: u64, to: u64, place: u64, size: u64) -> bool
 }
 
 impl Plan {
-    /// Whether `size` bytes from `place` on, written in this lap, lie in the part that the lap asks for: the lower part for
-    /// the plan's lap, and the upper part for the lap before.
+    /// Whether `size` bytes from `place` on, written in this lap, lie in the part that the lap asks for: the lower one if it is the
+    /// plan's lap, the upper one if it is the lap before that.
     pub fn keeps(self, lap: u64, place: u64, size: u64) -> bool
         ensures { result ≡ stays_at self lap place size }
     {

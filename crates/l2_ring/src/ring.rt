@@ -1,3 +1,4 @@
+//! The ring and its live entries.
 ghost use Rattle.std.specs.Prelude.{◌≡◌, ℕ, ◌+◌, ◌-◌, ◌%◌, ◌<◌, ◌≤◌, ◌⊎◌, ◌↔◌, ◌++◌, [], ◌∷◌, length, map, max, IsTrue, MatchResult, vec_len};
 ghost use Rattle.std.specs.List.{filter};
 ghost use Rattle.std.specs.Vec.{vec_capacity};
@@ -195,7 +196,7 @@ impl Ring {
         self.lap = plan.lap;
     }
 
-    /// Makes room for `n` more entries.
+    /// Makes room for `n` more entries. After want of memory the ring is as before.
     pub fn reserve(&mut self, n: usize) -> Result<(), NoMemory>
         ensures numbers { IsSameRing self.old self.new }
         ensures live { self.new.live ≡ self.old.live }

@@ -46,6 +46,7 @@ pub mod ScanAlone
 pub mod SeenLemmas
 pub mod ServeLemmas
 pub mod StreamLemmas
+pub mod TakenLemmas
 pub mod TellLemmas
 pub mod TogetherLemmas
 pub mod ToldLemmas

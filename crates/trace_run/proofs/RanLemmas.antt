@@ -7,7 +7,7 @@ use Rattle.trace_text.specs.declared.reply.Reply.{Reply}
 use Rattle.trace_text.specs.declared.report.Report.{Report}
 use Rattle.trace_text.specs.declared.trace.Trace.{Trace}
 use Rattle.vdev_io.specs.declared.pool.Pool.{Ghosts}
-use Rattle.trace_run.specs.Alone.{RanAlone, ends_in, histories_of}
+use Rattle.trace_run.specs.Alone.{RanAlone, ends_in}
 use Rattle.trace_run.specs.Effects.{calls_of_all}
 use Rattle.trace_run.specs.Ends.{ends_of}
 use Rattle.trace_run.specs.GroupRun.{RanTogether}

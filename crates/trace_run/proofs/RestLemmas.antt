@@ -1,5 +1,5 @@
 -- A closed cache whose parties have given all back is at rest.
-use Rattle.std.proofs.Common.{◌≡◌, ℕ, suc, ◌+◌, ◌-◌, ◌/◌, ◌<◌, ◌≤◌, ◌==◌, true, IsTrue, List, [], ◌∷◌, Option, Some, refl, sym, ap, ◌∙◌, subst, inl, inr, arith}
+use Rattle.std.proofs.Common.{◌≡◌, ℕ, suc, ◌+◌, ◌<◌, ◌≤◌, ◌==◌, true, IsTrue, List, [], ◌∷◌, Option, Some, refl, sym, ap, ◌∙◌, subst, inl, inr, arith}
 use Rattle.std.specs.Prelude.{slice_index, sum}
 use Rattle.std.specs.List.{AllByRecursion, list_all}
 use Rattle.std.specs.Option.{option_map_or}
@@ -10,7 +10,6 @@ use mathlib.Core.Option.{some}
 use lib.ListN.{get_elem?}
 use Rattle.blk_ptr.specs.declared.key.Key.{Key}
 use Rattle.blk_ptr.specs.declared.ptr.Ptr.{Ptr}
-use Rattle.arc_lists.specs.Adapting.{IsCapacity, least_target}
 use Rattle.arc_lists.proofs.Standing.{both}
 use Rattle.arc_lists.proofs.Tables.{All-item, cases_true}
 use Rattle.arc_core.specs.Config.{IsConfig}
@@ -38,6 +37,7 @@ use Rattle.arc_table.specs.Geometry.{numbers_of, parties_of, shard_turn}
 use Rattle.arc_table.specs.Items.{Meanings, shard_in}
 use Rattle.arc_table.specs.Logged.{IsSoundLog}
 use Rattle.arc_table.specs.Scene.{Scene}
+use Rattle.arc_table.specs.OpeningLaws.{opening_sound}
 use Rattle.trace_run.specs.Ends.{opening_of}
 use Rattle.trace_run.specs.KeptBlocks.{AllIdle, IsIdle}
 use Rattle.trace_run.specs.Seen.{turn_of}
@@ -80,25 +80,8 @@ rests-where-none s sound none counts = record {
 -- ---- a closed cache
 
 -- a shard at its start is sound
-opening-targets : (c : ℕ) → IsCapacity c → (least_target c ≤ c / 2) × (c / 2 ≤ c - least_target c)
-opening-targets c h = (omega arith, omega arith)
-
 opening-sound : (g : Config) → IsConfig g → IsSound (opening_of g)
-opening-sound g valid = record {
-  tidy = record {
-    once = tt;
-    entries = tt;
-    mru = record { once = refl; exact = λ k. refl };
-    mru_ghost = record { once = refl; exact = λ k. refl };
-    mfu = record { once = refl; exact = λ k. refl };
-    mfu_ghost = record { once = refl; exact = λ k. refl };
-  };
-  target_low = (opening-targets g.c valid.amounts.c).0;
-  target_high = (opening-targets g.c valid.amounts.c).1;
-  feed = refl;
-  picks = refl;
-  passed = refl;
-}
+opening-sound g valid = opening_sound g.c g.mintime g.bounds valid.amounts.c
 
 module _ {C : Type 0} where
   -- these parties have given all back, and those that they keep by a join

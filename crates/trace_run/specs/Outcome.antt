@@ -38,7 +38,7 @@ AnswersWords words did statuses.SinkFault = (command : Command) × IsCommand wor
 AnswersWords words did statuses.PoolFault = (command : Command) × IsCommand words command × did command
 AnswersWords words did statuses.NoMemory = (command : Command) × IsCommand words command × did command
 
--- The source was read to its end, and its text is this trace.
+-- The source gave a text, all that it had as far as it tells, and the text is this trace.
 pub record WasRead (before after : StreamState) (trace : Trace) : Type 0 where
   pub text : List ℕ
   pub given : Gives before.told after.told longest_text text
@@ -84,7 +84,7 @@ generated seed blocks ops = record {
 abbrev pub zeros_of : (blocks : ℕ) → List ℕ
 zeros_of blocks = replicate (blocks * 512) 0
 
--- The report is that of a made trace over its own pool of zero bytes, which doesn't fail: a plain function of the three numbers. No reply is
+-- The report is that of a made trace, whose zero bytes are a pool that doesn't fail: a plain function of the three numbers. No reply is
 -- a refusal, and none is printed.
 pub record IsGenReport {C : Type 0} (seed blocks ops : ℕ) (closed : Ended C) (report : Report) : Type 0 where
   pub plain : report ≡ record (report_of (generated seed blocks ops) (zeros_of blocks) []) { short = true }
@@ -143,7 +143,7 @@ AnswersSink events before after (statuses.BadTrace line kind) report = after ≡
 AnswersSink events before after statuses.SourceFault report = after ≡ before
 AnswersSink events before after statuses.NoMemory report = after ≡ before
 
--- The source was read to its end, and its text is these pages.
+-- The source gave a text, all that it had as far as it tells, and the text is these pages.
 pub record WerePagesRead (before after : StreamState) (pages : List ℕ) : Type 0 where
   pub text : List ℕ
   pub given : Gives before.told after.told longest_text text

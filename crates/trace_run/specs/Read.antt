@@ -4,8 +4,8 @@ use Rattle.blk_ptr.specs.declared.digest.Digest.{Digest}
 use Rattle.blk_ptr.specs.declared.ptr.Ptr.{Ptr}
 use Rattle.blk_ptr.specs.Ptr.{sha256_of, IsOf, IsPlainRead, IsSameOrCollides}
 
--- The bytes that a read gives are of the pointer. Over a pool that tells its bytes they are those of a plain read, where
--- that succeeds, unless two contents share a digest.
+-- The bytes that a read gives are of the pointer. Over a pool that tells its bytes a plain read gives the same
+-- ones if it gives any, or two contents have one digest.
 pub record IsReadOf (image : Option (List ℕ)) (ptr : Ptr) (bytes : List ℕ) : Type 0 where
   pub of : IsOf bytes ptr
   pub plain : IfSome image (λ told. (others : List ℕ) → IsPlainRead told ptr (Ok others) → IsSameOrCollides bytes others)

@@ -8,10 +8,9 @@ ghost use Rattle.trace_run.specs.Outcome.{AnswersPages, AnswersPageSource, IfUsa
 
 use crate::status::Status;
 use crate::stream::{ReadAllFault, read_all, write_all};
-use crate::top::LONGEST_TRACE;
 use arc_paper::paper_text;
 use std::alloc::Global;
-use trace_text::{TraceFault, read_pages};
+use trace_text::{LONGEST_TEXT, TraceFault, read_pages};
 use vdev_io::{Failed, Sink, Source};
 
 /// Reads a list of pages from the source, and writes to the sink which of them are hits of a cache for `c` pages.
@@ -48,7 +47,7 @@ fn pages_of<S: Source>(alloc: Global, source: &mut S) -> Result<Vec<u64>, Status
     ensures err { IfErr result (AnswersPageSource (source_state S.Source source.old) (source_state S.Source source.new)) }
     ensures which { IfErr result IsReadStatus }
 {
-    let text = match read_all(alloc, source, LONGEST_TRACE) {
+    let text = match read_all(alloc, source, LONGEST_TEXT) {
         Ok(text) => text,
         Err(ReadAllFault::SourceFault) => return Err(Status::SourceFault),
         Err(ReadAllFault::NoMemory) => return Err(Status::NoMemory),

@@ -1,5 +1,6 @@
 //! What a run of a trace came to, and its report.
 ghost use Rattle.std.specs.Prelude.{◌≡◌, IfOk, map};
+ghost use Rattle.std.specs.Arc.{arc_value};
 ghost use Rattle.trace_run.specs.Ends.{end_of};
 ghost use Rattle.trace_run.specs.PlainRun.{status_of};
 ghost use Rattle.trace_run.specs.Together.{report_of_closed};
@@ -9,6 +10,7 @@ use arc_table::Closed;
 use blk_ptr::{NoMemory, State};
 use dbuf_cells::HeapCell;
 use std::alloc::Global;
+use std::sync::Arc;
 use trace_text::{Ends, Histories, History, Replies, Reply, Report, ShardEnd};
 
 /// What a run of a trace came to.
@@ -35,7 +37,7 @@ impl Ran {
         ensures report { IfOk result (λ told. told.report ≡ report_of_closed self.fork_failed self.replies.items self.closed) }
         ensures closed { IfOk result (λ told. told.closed ≡ self.closed) }
     {
-        let histories = histories_of(alloc, self.closed.shards())?;
+        let histories = histories_of(alloc, &self.closed.shared_shards()?)?;
         let ends = ends_of(alloc, self.closed.shards())?;
         let status = if self.fork_failed {
             6
@@ -56,13 +58,13 @@ impl Ran {
     }
 }
 
-/// The events of each shard.
-fn histories_of(alloc: Global, shards: &[Shard]) -> Result<Histories, NoMemory>
-    ensures { IfOk result (λ all. all ≡ map (λ log. log.history) shards.now) }
+/// The events of each shard, which lie where they are.
+fn histories_of(alloc: Global, shards: &Arc<Vec<Shard>>) -> Result<Histories, NoMemory>
+    ensures { IfOk result (λ all. all ≡ map (λ log. log.history) (arc_value shards.now).items) }
 {
     let mut histories = Vec::new(alloc);
-    for shard in shards {
-        histories.push(History::from_vec(shard.history().to_vec(alloc)?))?;
+    for number in 0..shards.len() {
+        histories.push(History::of_shard(shards, number)?)?;
     }
     Ok(Histories::from_vec(histories))
 }

@@ -18,11 +18,8 @@ use blk_ptr::NoMemory;
 use std::alloc::Global;
 use std::sync::Wait;
 use std::thread::Threads;
-use trace_text::{Trace, TraceFault, read_trace, report_text};
+use trace_text::{LONGEST_TEXT, Trace, TraceFault, read_trace, report_text};
 use vdev_io::{CacheDev, Failed, Gate, Pool, Sink, Source};
-
-/// The most bytes of a trace.
-pub(crate) const LONGEST_TRACE: usize = 67_108_864;
 
 /// Does what the words ask: `run` reads a trace from the source and runs it over the pool, `gen` makes a trace and runs it
 /// over a pool of its own. Both write the report to the sink. `paper` reads a list of pages from the source, and writes to the sink
@@ -30,7 +27,8 @@ pub(crate) const LONGEST_TRACE: usize = 67_108_864;
 ///
 /// The words are looked at first, then the source, then the trace in it. At [`Status::Usage`] nothing is touched; at
 /// [`Status::BadTrace`] and [`Status::SourceFault`] nothing is run and nothing written. At [`Status::SinkFault`] the report is
-/// there and a front of its text was written. [`Status::NoMemory`] may come in place of any later answer.
+/// there and a front of its text was written. [`Status::NoMemory`] may come wherever memory is taken, in
+/// place of all but [`Status::Usage`].
 pub fn run<R: Threads + Wait + Sync, S: Source, K: Sink, P: Pool, D: CacheDev, G: Gate>(
     alloc: Global,
     rt: &R,
@@ -94,7 +92,10 @@ fn run_source<R: Threads + Wait + Sync, S: Source, K: Sink, P: Pool, G: Gate>(
         Ok(trace) => trace,
         Err(status) => return untold(status),
     };
-    match run_trace(alloc, rt, &trace, pool, gate) {
+    let ran = run_trace(alloc, rt, &trace, pool, gate);
+    // Its memory serves the report's text.
+    drop(trace);
+    match ran {
         Ok(reported) => deliver(alloc, events, sink, reported),
         Err(NoMemory) => untold(Status::NoMemory),
     }
@@ -131,7 +132,7 @@ fn read_source<S: Source>(alloc: Global, source: &mut S) -> Result<Trace, Status
     ensures err { IfErr result (AnswersSource (source_state S.Source source.old) (source_state S.Source source.new)) }
     ensures which { IfErr result IsReadStatus }
 {
-    let text = match read_all(alloc, source, LONGEST_TRACE) {
+    let text = match read_all(alloc, source, LONGEST_TEXT) {
         Ok(text) => text,
         Err(ReadAllFault::SourceFault) => return Err(Status::SourceFault),
         Err(ReadAllFault::NoMemory) => return Err(Status::NoMemory),

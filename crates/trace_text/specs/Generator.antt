@@ -39,7 +39,7 @@ generated_block i = record {
 abbrev pub generated_read : ℕ → ℕ → ℕ → Op
 generated_read seed blocks i = Read 0 (i + 1) (draw seed (suc i) / 65536 % blocks) empty_window
 
--- one caller, one shard, 256 buckets, one cell, and a cache of a quarter of the blocks or of 4,096 bytes
+-- one caller, and one shard that has room for a quarter of the blocks, or for 4,096 bytes where that is more
 abbrev pub generated_sizes : ℕ → Config
 generated_sizes blocks = record {
   callers = 1;

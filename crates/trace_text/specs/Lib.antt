@@ -3,6 +3,7 @@ pub mod EndText
 pub mod EventText
 pub mod Generator
 pub mod Grammar
+pub mod Owned
 pub mod Pages
 pub mod Reading
 pub mod ReportText

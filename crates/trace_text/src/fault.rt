@@ -14,7 +14,7 @@ pub enum Kind {
     Order,
     /// There is one line more than a trace may have of its sort.
     Count,
-    /// The text is longer than 64 MiB. The line is the one that holds the first byte past that length.
+    /// The text has more than 64 MiB, and this line has the first byte too many.
     Length,
 }
 

@@ -1,5 +1,8 @@
 //! The fields of a line, taken one after another as numbers in their ranges.
-ghost use Rattle.std.specs.Prelude.{◌↔◌, IsTrue};
+ghost use Rattle.std.specs.Prelude.{◌<◌, ◌+◌, ◌*◌, ◌^◌, ◌↔◌, IsTrue};
+ghost use Rattle.std.specs.Char.{digit_value};
+ghost use Rattle.std.specs.Option.{SomeIff};
+ghost use Rattle.std.specs.Str.Parse.{AllDigits, digits_value};
 ghost use Rattle.trace_text.specs.Reading.{BeginsAsNumber, IsDigestRead, IsNumberRead, IsSpelledBy, IsWordRead, TakesBelow, TakesDigest, TakesNumber};
 
 use crate::fault::Kind;
@@ -33,6 +36,28 @@ fn begins_as_number(field: &[u8]) -> bool
     }
 }
 
+/// The number that is written by one digit more, where the byte is a digit and the number is below 2^64.
+fn with_digit(value: u64, byte: u8) -> Option<u64>
+    ensures { SomeIff result ((digit_value byte < 10) × (value * 10 + digit_value byte < 2 ^ 64)) (value * 10 + digit_value byte) }
+{
+    let digit = (byte as char).to_digit(10)?;
+    value.checked_mul(10)?.checked_add(u64::from(digit))
+}
+
+/// The number below 2^64 that a field of decimal digits writes. `str::parse` would go over the field once more, to see that it is UTF-8.
+fn digits_value(field: &[u8]) -> Option<u64>
+    ensures { SomeIff result (AllDigits 10 field.now × (digits_value 10 field.now < 2 ^ 64)) (digits_value 10 field.now) }
+{
+    let mut value = 0;
+    for place in 0..field.len() {
+        let Some(next) = with_digit(value, field[place]) else {
+            return None;
+        };
+        value = next;
+    }
+    Some(value)
+}
+
 /// The number that a field spells in decimal, with no sign and no leading zero, where it is from `low` to `high`. The words of the
 /// command line are read so too.
 pub fn number(field: &[u8], low: u64, high: u64) -> Option<u64>
@@ -41,12 +66,13 @@ pub fn number(field: &[u8], low: u64, high: u64) -> Option<u64>
     if !begins_as_number(field) {
         return None;
     }
-    let Ok(text) = str::from_utf8(field) else {
+    let Some(value) = digits_value(field) else {
         return None;
     };
-    match text.parse::<u64>() {
-        Ok(value) if low <= value && value <= high => Some(value),
-        _ => None,
+    if low <= value && value <= high {
+        Some(value)
+    } else {
+        None
     }
 }
 

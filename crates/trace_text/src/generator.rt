@@ -20,7 +20,8 @@ pub const MOST_GENERATED_BLOCKS: u32 = 32_768;
 pub const MOST_GENERATED_READS: u32 = 1_000_000;
 
 /// Makes a trace of reads of blocks that are drawn by the linear congruential generator of the C standard's example of
-/// `rand`, over a pool of zero bytes: one caller, one shard, 256 buckets, one cell, and room for a quarter of the blocks.
+/// `rand`, over a pool of zero bytes, by one caller in one shard with room for a quarter of the blocks. Err is want of
+/// memory.
 pub fn gen_trace(alloc: Global, seed: u32, blocks: u32, ops: u32) -> Result<Trace, NoMemory>
     requires seeded { seed < 2 ^ 31 }
     requires some { 1 ≤ blocks }

@@ -1,12 +1,16 @@
 //! Lists of the values of traces and reports.
-ghost use Rattle.std.specs.Prelude.{◌≡◌, ◌↔◌, IsTrue, length, slice_get};
+ghost use Rattle.std.specs.Prelude.{◌≡◌, ◌↔◌, IfOk, IsTrue, length, slice_get};
+ghost use Rattle.std.specs.Arc.{arc_value};
+ghost use Rattle.trace_text.specs.Owned.{history_at};
 
 use crate::ends::ShardEnd;
 use crate::op::Op;
 use crate::reply::Reply;
-use arc_core::Event;
+use arc_core::{Event, Shard};
 use blk_ptr::Ptr;
+use std::alloc::AllocError;
 use std::marker::Model;
+use std::sync::Arc;
 
 /// A list whose vector is taken in and given back as it is. Contracts see the list.
 #[derive(Debug, Drop)]
@@ -23,9 +27,6 @@ pub type Ops = Items<Op>;
 /// The replies of a run, in the order of the operations.
 pub type Replies = Items<Reply>;
 
-/// The events of one shard, in their order.
-pub type History = Items<Event>;
-
 /// The histories of all shards, in the order of their numbers.
 pub type Histories = Items<History>;
 
@@ -38,6 +39,64 @@ impl<T> Model for Items<T> {
     ghost Value = { List T };
 
     ghost view = { λ all. all.items.items };
+}
+
+/// The events of one shard, in their order: in a list of their own, or in the shard, which a closed cache owns too. Contracts see the list.
+#[derive(Debug, Drop)]
+pub struct History {
+    events: Events,
+}
+
+/// Where the events of a shard lie.
+#[derive(Debug, Drop)]
+enum Events {
+    Listed(Vec<Event>),
+    InShard(Arc<Vec<Shard>>, usize),
+}
+
+impl Model for History {
+    ghost use Rattle.std.specs.Prelude.{List};
+    ghost use Rattle.arc_core.specs.declared.event.Event.{Event};
+
+    ghost Value = { List Event };
+
+    ghost use Rattle.trace_text.specs.Owned.{events_in};
+
+    ghost view = { λ history. events_in history.events };
+}
+
+impl History {
+    /// Takes the list as it is. It takes no memory.
+    pub fn from_vec(events: Vec<Event>) -> History
+        ensures { result ≡ events.items }
+    {
+        History {
+            events: Events::Listed(events),
+        }
+    }
+
+    /// The history of the shard of this number, counted from 0; none past the last. The shards get one more owner, and no event is copied.
+    pub fn of_shard(shards: &Arc<Vec<Shard>>, number: usize) -> Result<History, AllocError>
+        ensures { IfOk result (λ history. history ≡ history_at (arc_value shards.now).items number) }
+    {
+        let shards = Arc::try_clone(shards)?;
+        Ok(History {
+            events: Events::InShard(shards, number),
+        })
+    }
+
+    /// The events, in their order.
+    pub fn as_slice(&self) -> &[Event]
+        ensures { result.now ≡ self.now }
+    {
+        match &self.events {
+            Events::Listed(events) => events,
+            Events::InShard(shards, number) => match shards.get(*number) {
+                Some(shard) => shard.history(),
+                None => &[],
+            },
+        }
+    }
 }
 
 impl<T> Items<T> {

@@ -11,7 +11,7 @@ use crate::words::LineFault;
 use std::alloc::Global;
 
 /// The most bytes of a text.
-pub(crate) const LONGEST_TEXT: usize = 67_108_864;
+pub const LONGEST_TEXT: usize = 67_108_864;
 
 /// Reads a trace, which for now has one caller and one shard. Its text and its faults are those of `specs/Grammar.antt`:
 /// an `Ok` is the one trace that the text is, and a `Bad` names the first line at fault and what is wrong with it.

@@ -9,7 +9,7 @@ pub struct Report {
     pub histories: Histories,
     /// What each shard ends with, in the same order.
     pub ends: Ends,
-    /// The status at which the report was made.
+    /// How the run went: 0, 1 where a reply is a refusal, 6 where the pool could not be forked for each caller.
     pub status: u8,
     /// Whether the text leaves the replies out, as that of a generated trace does.
     pub short: bool,

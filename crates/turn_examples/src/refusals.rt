@@ -1,7 +1,8 @@
 //! A count of refusals that nobody can make up: who found the turn 1 taken may add one to the count behind the turn 0.
-ghost use Rattle.std.specs.Prelude.{◌≡◌, ◌+◌, ◌<◌, ◌≤◌, [], length, IsTrue, IfOk};
+ghost use Rattle.std.specs.Prelude.{◌≡◌, ◌⊎◌, ℕ, ◌+◌, ◌-◌, ◌^◌, ◌<◌, ◌≤◌, false, if◌then◌else◌, [], length, IsTrue, IfOk};
+ghost use Rattle.turn_table.specs.Moments.{WasFree, WasTaken};
 ghost use Rattle.turn_table.specs.Places.{IsPartyOf, took, saw};
-ghost use Rattle.turn_examples.specs.Refusals.{clerk};
+ghost use Rattle.turn_examples.specs.Refusals.{Counted, clerk};
 
 use std::alloc::Global;
 use std::collections::LinkedList;
@@ -83,7 +84,8 @@ fn count_one<R: Wait>(rt: &R, desk: &Desk, party: &mut Hand) -> bool
     requires owed { party.old.own.told < length party.old.own.notes }
     ensures party { party.new ≡ saw party.old party.new.own }
     ensures notes { party.new.own.notes ≡ party.old.own.notes }
-    ensures told { IsTrue result → party.new.own.told ≡ party.old.own.told + 1 }
+    ensures told { party.new.own.told ≡ party.old.own.told + (if result then 1 else 0) }
+    ensures end { result ≡ false → party.new.own.count ≡ 2 ^ 64 - 1 }
 {
     let count = take_count(rt, desk, party);
     let Some(more) = count.checked_add(1) else {
@@ -94,12 +96,15 @@ fn count_one<R: Wait>(rt: &R, desk: &Desk, party: &mut Hand) -> bool
     true
 }
 
-/// Tries the turn 1, and counts the refusal where another party has it. True where it was counted.
+/// Tries the turn 1, and counts the refusal where another party has it. True where it was counted; false where the turn was free,
+/// or the count is at its end.
 pub fn try_and_count<R: Wait>(rt: &R, desk: &Desk, party: &mut Hand) -> bool
     requires row { IsPartyOf desk.now party.old × (1 < desk.now.turns) × (party.old.held ≡ []) }
     requires all { party.old.own.told ≡ length party.old.own.notes }
     ensures party { party.new ≡ saw party.old party.new.own }
-    ensures told { IsTrue result → party.new.own.told ≡ party.old.own.told + 1 }
+    ensures told { party.new.own.told ≡ party.old.own.told + (if result then 1 else 0) }
+    ensures refused { IsTrue result → (owner : ℕ) × WasTaken Counted party.old 1 owner }
+    ensures free { result ≡ false → ((value : ℕ) × WasFree Counted party.old 1 value) ⊎ (party.new.own.count ≡ 2 ^ 64 - 1) }
 {
     match desk.try_take(party, 1) {
         Take::Busy { owner: _ } => count_one(rt, desk, party),

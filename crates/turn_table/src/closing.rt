@@ -55,7 +55,8 @@ fn take_values<V: Drop>(closed: &mut Closed<Option<V>, Global>, values: &mut Vec
 }
 
 impl<V: Drop, R: TurnRule<V>> Turns<V, R> {
-    /// The values, once all parties are there and none holds a turn. They meet the rule, with what the parties know.
+    /// The values, once all parties are there and none holds a turn. They meet the rule, with what the parties know. Err is want of
+    /// memory, and then they are lost.
     pub fn close(self, mut parties: Vec<Party<V, R>>) -> Result<Vec<V>, NoMemory>
         requires free { AreFree self parties.items }
         requires all { (n : ℕ) → n < self.parties → SomeHas n parties.items }

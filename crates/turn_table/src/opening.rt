@@ -36,7 +36,8 @@ fn filled<V: Drop>(alloc: Global, values: Vec<V>) -> Result<Vec<Option<V>>, Allo
 }
 
 impl<V: Drop, R: TurnRule<V>> Turns<V, R> {
-    /// A row of these values, whose turns are free, and its parties by their numbers. `about` is what the opening views are made of.
+    /// A row of these values, whose turns are free, and its parties by their numbers. `about` is what the opening
+    /// views are made of. Err is want of memory.
     pub fn new(
         alloc: Global,
         values: Vec<V>,

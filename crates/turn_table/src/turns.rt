@@ -14,9 +14,19 @@ use atomic_table::Table;
 use std::alloc::Global;
 use std::marker::{Brand, Model, PhantomData};
 use std::sync::Wait;
-use std::thread;
+use std::{hint, thread};
 
-/// A row of values, each behind a turn.
+// How often a waiting party looks at a turn before it lets another thread run. It pauses twice as long before each look.
+const LOOKS: u32 = 8;
+
+// Lets the processor rest, so many times.
+fn pause(times: u32) {
+    for _ in 0..times {
+        hint::spin_loop();
+    }
+}
+
+/// Values in a row, with a turn for each.
 pub struct Turns<V, R: TurnRule<V>> {
     pub(crate) table: RowTable<V, R>,
     pub(crate) turns: u32,
@@ -101,6 +111,20 @@ impl<V, R: TurnRule<V>> Turns<V, R> {
         shared.store::<Give<N>>(&mut party.seat, i as usize, 0);
     }
 
+    // Waits for a while until the turn looks free, and then lets another thread run. It only reads the word, so that it doesn't take the
+    // word's cache line from the holder before the turn is given back.
+    fn wait(&self, i: u32)
+        requires { i < self.now.turns }
+    {
+        for look in 0..LOOKS {
+            pause(1 << look);
+            if self.table.shared.peek(i as usize) == 0 {
+                return;
+            }
+        }
+        thread::yield_now();
+    }
+
     /// Takes the turn `i`, and waits while another party has it.
     pub fn take(&self, rt: &impl Wait, party: &mut Party<V, R>, i: u32) -> V
         requires row { IsPartyOf self.now party.old }
@@ -111,7 +135,7 @@ impl<V, R: TurnRule<V>> Turns<V, R> {
         for _ in rt.forever() {
             match self.try_take(party, i) {
                 Take::Taken(value) => return value,
-                Take::Busy { owner: _ } => thread::yield_now(),
+                Take::Busy { owner: _ } => self.wait(i),
             }
         }
         unreachable!()

@@ -1,3 +1,4 @@
+//! The cache device as a trait: its calls, and what a crash may leave of it.
 ghost use Rattle.std.specs.Prelude.{◌≡◌, ℕ, ◌+◌, ◌≤◌, List, Option, None, Some, Bool, false, length, take, drop, IsTrue, IfOk, OnOk, OnErr, IfSome};
 ghost use Rattle.vdev_io.specs.Device.{IsWritten, LeavesOnly, LeavesNoMore, LeavesSame, FollowsBySector, Elapses, ElapsesTo, Stands};
 ghost use Rattle.vdev_io.specs.Untold.{untold};
@@ -6,7 +7,7 @@ ghost use Rattle.vdev_io.specs.Faults.{HasCause, HasIoCause, sum_of_counts};
 use crate::fault::{Failed, IoFault};
 use std::alloc::Global;
 
-/// The disk of the second level. Nothing that is read from it is trusted.
+/// The cache device, on which the L2ARC is. Nothing that is read from it is trusted.
 ///
 /// What it holds is its image. Until a flush, a crash may leave another one. A disk of sectors says more of that: each
 /// sector that a write touches is old or new until a flush, each by itself, and everything else is what a read gives.
@@ -92,7 +93,7 @@ pub trait CacheDev: Sized + Send + Drop {
     /// An image that is told has the device's length.
     ghost told_len: { (dev : Self) (image : List ℕ) → told dev ≡ Some image → length image ≡ size dev };
 
-    /// What a read gives is one of the images that a crash now may leave.
+    /// Of the images that a crash now may leave, one is what reads give.
     ghost leaves_told: { (dev : Self) (image : List ℕ) → told dev ≡ Some image → may_leave dev image };
 
     /// A crash leaves an image of the device's length.

@@ -31,7 +31,7 @@ pub struct FileCache<'a, R: Files> {
 }
 
 impl<'a, R: Files> FileCache<'a, R> {
-    /// Opens the file of this name to be read and written.
+    /// Opens the file of this name to be read and written. It may have 2^32 bytes at most.
     pub fn open(alloc: Global, rt: &'a R, name: &str) -> Result<FileCache<'a, R>, OpenFault>
         ensures len { IfOk result (λ cache. cache.len ≤ 2 ^ 32) }
         ensures told { IfOk result (λ cache. (opened : R.File) × HasLength R.File.stream_position R.File.stream_bytes opened cache.len) }

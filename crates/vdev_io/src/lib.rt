@@ -1,7 +1,7 @@
 //! The outside as traits: where a trace comes from, where a report goes, and the disks between.
 //!
-//! Each trait has a count of faults that never falls. A call answers [`Failed`] only where that count rose in
-//! the very call, so code that is generic over a trait cannot make a fault up. What an object holds is told where
+//! Sources, sinks, pools and devices count their faults, and no count falls. [`Failed`] is answered only by a call in which the
+//! count rose, so code that is generic over a trait cannot make a fault up. What an object holds is told where
 //! it is known, as by the objects in memory, and the clauses on content speak of that.
 #![tactic(auto)]
 

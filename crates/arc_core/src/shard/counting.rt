@@ -1,3 +1,4 @@
+//! How many entries a shard has.
 ghost use Rattle.std.specs.Prelude.{◌≡◌, length};
 
 use super::Shard;

@@ -193,8 +193,8 @@ impl Shard {
         self.table.candidate(self.halts.walk)
     }
 
-    /// Takes back the events from this place on, which are picks and passes alone, made since there was no feed and no passed key. The
-    /// shard is as it was before them.
+    /// Takes back the events from this place on, and what they changed. They are picks and passes alone, made since there was no feed
+    /// and no passed key.
     pub fn unpick(&mut self, len: usize)
         requires { MayUnpick len self.old }
         ensures { IsUnpicked len self.old self.new }

@@ -143,7 +143,7 @@ impl Shard {
             }
     }
 
-    fn may_pass_by(&self, n: u32, key: Key, kept: Digest) -> bool
+    fn may_read_past(&self, n: u32, key: Key, kept: Digest) -> bool
         ensures { result ≡ legal self.now.now (Event.Past n key kept) }
     {
         is_number(n)
@@ -255,7 +255,7 @@ impl Shard {
             } => self.may_arrive(n, key, digest, from),
             Event::Fail { n, key, at } => self.may_fail(n, key, at),
             Event::Drop { n, key } => self.may_drop(n, key),
-            Event::Past { n, key, kept } => self.may_pass_by(n, key, kept),
+            Event::Past { n, key, kept } => self.may_read_past(n, key, kept),
             Event::Hand { n, key, to } => self.may_hand(n, key, to),
             Event::Insert { n, key, digest, t } => self.may_insert(n, key, digest, t),
             Event::Release { n, key, sole } => self.may_release(n, key, sole),

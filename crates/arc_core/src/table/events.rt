@@ -1,3 +1,4 @@
+//! What the events of callers and of cells do to a shard's table.
 ghost use Rattle.std.specs.Prelude.{◌≡◌, ℕ, ◌+◌, ◌^◌, ◌<◌, ◌≤◌, IsTrue, option_map};
 ghost use Rattle.arc_core.specs.declared.event.Event.{Event};
 ghost use Rattle.arc_core.specs.PlainShard.{numbers};
@@ -70,7 +71,7 @@ impl Table {
     {
         let mintime = self.mintime;
         if let Some(entry) = self.find(key).copied() {
-            self.place(entry.accessed(mintime, t).one_more(n));
+            self.place(&entry.accessed(mintime, t).one_more(n));
         }
     }
 
@@ -83,7 +84,7 @@ impl Table {
             entry.state = arrived_state(entry.state);
             entry.reading = false;
             entry.digest = Some(digest);
-            self.place(entry);
+            self.place(&entry);
         }
     }
 
@@ -93,7 +94,7 @@ impl Table {
         ensures { self.new ≡ record self.old { shard = effect self.old.shard (Event.Drop n key) } }
     {
         if let Some(entry) = self.find(key).copied() {
-            self.place(entry.one_less(n));
+            self.place(&entry.one_less(n));
         }
     }
 
@@ -106,9 +107,15 @@ impl Table {
         ensures marks { self.new.marks ≡ self.old.marks }
         ensures marked { self.new.marked ≡ self.old.marked }
     {
-        let entry = entry_to_read(n, key, t, self.find(key));
-        self.adapt(key);
-        self.take_in(entry);
+        let old = self.find(key);
+        let is_there = old.is_some();
+        let entry = entry_to_read(n, key, t, old);
+        if is_there {
+            self.adapt(key);
+            self.take_in(&entry);
+        } else {
+            self.bring_in(&entry);
+        }
     }
 
     /// A read of `n` has failed.
@@ -129,7 +136,7 @@ impl Table {
         ensures { self.new ≡ record self.old { shard = effect self.old.shard (Event.Hand n key to) } }
     {
         if let Some(entry) = self.find(key).copied() {
-            self.place(entry.one_less(n).one_more(to));
+            self.place(&entry.one_less(n).one_more(to));
         }
     }
 
@@ -144,7 +151,7 @@ impl Table {
         if sole {
             self.remove(key);
         } else if let Some(entry) = self.find(key).copied() {
-            self.place(entry.one_less(n));
+            self.place(&entry.one_less(n));
         }
     }
 
@@ -157,7 +164,7 @@ impl Table {
         ensures marks { self.new.marks ≡ self.old.marks }
         ensures marked { self.new.marked ≡ self.old.marked }
     {
-        self.take_in(written_entry(n, key, digest, t));
+        self.take_in(&written_entry(n, key, digest, t));
     }
 
     // The target after a key is asked for: it moves where the key is a ghost.

@@ -64,8 +64,8 @@ impl Table {
         }
     }
 
-    /// Whether a picked key may gain a place: its entry is MRU, MFU or a ghost, at rest, has the digest that it was picked with, and no
-    /// place.
+    /// Whether a picked key may gain a place: its entry has none, is cached or a ghost, isn't being read, and has the digest of the pick
+    /// still.
     pub fn may_set(&self, key: Key) -> bool
         ensures { result ≡ may_set key self.now.shard }
     {
@@ -131,7 +131,7 @@ impl Table {
         match self.find(key).copied() {
             Some(mut entry) => {
                 entry.place = place;
-                self.amend(entry);
+                self.amend(&entry);
             }
             None => {}
         }
@@ -177,7 +177,7 @@ impl Table {
         requires room { 0 < self.old.spare }
         ensures { self.new ≡ record self.old { shard = effect self.old.shard (Event.Restore n key place digest); spare = self.old.spare - 1 } }
     {
-        self.add(restored_entry(key, place, digest));
+        self.add(&restored_entry(key, place, digest));
     }
 
     /// The table gets a new capacity: blocks are evicted and ghosts dropped as far as it asks.

@@ -1,7 +1,8 @@
+//! Room and trim: which blocks are evicted, which ghosts are dropped, and how an entry comes in.
 ghost use Rattle.std.specs.Prelude.{◌≡◌, ℕ, ◌+◌, ◌<◌, ◌≤◌, IsTrue, IsSome, None};
 ghost use Rattle.blk_ptr.specs.declared.key.Key.{Key};
 ghost use Rattle.arc_core.specs.PlainShard.{entry_is, entry_of};
-ghost use Rattle.arc_core.specs.Changes.{gone};
+ghost use Rattle.arc_core.specs.Changes.{come, gone};
 ghost use Rattle.arc_core.specs.Edits.{is_droppable, is_evictable, is_off};
 ghost use Rattle.arc_core.specs.Rules.{dropped, evicted, evicted_state, next_dropped, next_evicted, trimmed, with_room, with_target_for};
 ghost use Rattle.arc_core.specs.Sound.{IsSoundEntry, IsTidy};
@@ -62,7 +63,7 @@ impl Table {
     {
         if let Some(mut entry) = self.find(key).copied() {
             entry.state = evicted_state(entry.state);
-            self.place(entry);
+            self.place(&entry);
         }
     }
 
@@ -79,7 +80,7 @@ impl Table {
         match self.find(key).copied() {
             Some(mut entry) if entry.place.is_some() => {
                 entry.state = State::L2Only;
-                self.place(entry);
+                self.place(&entry);
             }
             _ => self.remove(key),
         }
@@ -144,17 +145,31 @@ impl Table {
     }
 
     /// Takes an entry in: its key is taken out, room is made for its bytes, the entry comes in, and the ghosts are trimmed.
-    pub fn take_in(&mut self, entry: Entry)
-        requires room { entry_of entry.key self.old.shard ≡ None → 0 < self.old.spare }
-        requires off { IsTrue (is_off entry) }
-        requires sound { IsSoundEntry entry }
-        ensures shard { self.new.shard ≡ taken_in entry self.old.shard }
+    pub fn take_in(&mut self, entry: &Entry)
+        requires room { entry_of entry.now.key self.old.shard ≡ None → 0 < self.old.spare }
+        requires off { IsTrue (is_off entry.now) }
+        requires sound { IsSoundEntry entry.now }
+        ensures shard { self.new.shard ≡ taken_in entry.now self.old.shard }
         ensures spare { self.old.spare ≤ self.new.spare + 1 }
-        ensures kept { IsSome (entry_of entry.key self.old.shard) → self.old.spare ≤ self.new.spare }
+        ensures kept { IsSome (entry_of entry.now.key self.old.shard) → self.old.spare ≤ self.new.spare }
         ensures marks { self.new.marks ≡ self.old.marks }
         ensures marked { self.new.marked ≡ self.old.marked }
     {
         self.take_out(entry.key);
+        self.bring_in(entry);
+    }
+
+    /// Takes an entry in whose key has none: room is made for its bytes, the entry comes in, and the ghosts are trimmed.
+    pub fn bring_in(&mut self, entry: &Entry)
+        requires room { 0 < self.old.spare }
+        requires absent { entry_of entry.now.key self.old.shard ≡ None }
+        requires off { IsTrue (is_off entry.now) }
+        requires sound { IsSoundEntry entry.now }
+        ensures shard { self.new.shard ≡ trimmed (come entry.now (with_room entry.now.key.size self.old.shard)) }
+        ensures spare { self.old.spare ≤ self.new.spare + 1 }
+        ensures marks { self.new.marks ≡ self.old.marks }
+        ensures marked { self.new.marked ≡ self.old.marked }
+    {
         self.make_room(entry.key.size);
         self.add(entry);
         self.trim();

@@ -24,7 +24,7 @@ struct Seen {
 }
 
 // Where the block of this number stands, by the header that its bucket has.
-fn state_of(arcs: &Arcs<Plain>, caller: &mut Caller, number: u64) -> Option<State>
+pub(super) fn state_of(arcs: &Arcs<Plain>, caller: &mut Caller, number: u64) -> Option<State>
     requires { IsReady arcs.now caller.old.party }
     ensures { IsReadyAs arcs.now caller.old.party caller.new.party }
 {

@@ -7,10 +7,11 @@ ghost use Rattle.arc_table.specs.Feeding.{IsFeeder, IsPicked};
 ghost use Rattle.arc_table.specs.declared.picks.Picked.{Picked};
 ghost use Rattle.arc_examples.specs.Ready.{IsReady, IsReadyAs};
 
-use super::TWO;
-use crate::{Plain, close_pair, opened_pair, read_and_release, read_one};
-use arc_core::{Bounds, Config, Event, Why};
-use arc_table::{Arcs, Closed, Party, Picked};
+use super::reads::{Answer, answer_of, device_of};
+use super::{TWO, big};
+use crate::{Caller, Plain, close_pair, opened_pair, read_and_release, read_one};
+use arc_core::{Bounds, Config, Event, Served, Why};
+use arc_table::{Arcs, Closed, Look, Party, Picked};
 use blk_ptr::{Key, NoMemory, Ptr, digest_of};
 use std::alloc::Global;
 use std::sync::Wait;
@@ -32,15 +33,19 @@ const ONE_FITS: Config = Config {
     },
 };
 
-// How the first pick is settled.
-#[derive(Clone, Copy, Drop)]
+// What happens around the first pick.
+#[derive(Clone, Copy, Drop, PartialEq, Eq)]
 enum Then {
     // it was written at a place
     Set,
+    // it was written at a place; then two blocks are read, so that its block is evicted, and its block is read again
+    SetEvicted,
     // it is left, since the device failed
     Leave,
     // the block's only hold is given up, and then it was written at a place
     SetGone,
+    // the feeder picks while another party looks at the bucket of the first block; what it picks was written at a place
+    SetBehindLook,
 }
 
 // A pool of 4,096 bytes of this value.
@@ -108,6 +113,55 @@ fn picked<R: Wait>(
     Ok(out)
 }
 
+// What is picked while another party looks at the bucket of the first block.
+fn picked_behind_a_look<R: Wait>(
+    rt: &R,
+    alloc: Global,
+    arcs: &Arcs<Plain>,
+    feeder: &mut Party<Plain>,
+    other: &mut Party<Plain>,
+) -> Result<Vec<Picked>, NoMemory>
+    requires ready { IsReady arcs.now feeder.old }
+    requires feeder { IsFeeder arcs.now feeder.old }
+    requires shard { 0 < arcs.now.config.shards }
+    requires new { feeder.old.own.ledger.picked ≡ [] }
+    requires other { IsReady arcs.now other.old }
+    ensures ready { IfOk result (λ out. IsReadyAs arcs.now feeder.old feeder.new) }
+    ensures other { IfOk result (λ out. IsReadyAs arcs.now other.old other.new) }
+    ensures picked { IfOk result (λ out. (j : ℕ) (x : Picked) → get_elem? out.items j ≡ some x → IsPicked arcs.now.config feeder.new x.key) }
+{
+    let Look::Seen(look) = arcs.try_look(other, ptrs().0.key) else {
+        return Err(NoMemory);
+    };
+    let picks = picked(rt, alloc, arcs, feeder);
+    arcs.end_look(other, look);
+    picks
+}
+
+// What is picked, as that is to happen.
+fn picked_then<R: Wait>(
+    rt: &R,
+    alloc: Global,
+    arcs: &Arcs<Plain>,
+    feeder: &mut Party<Plain>,
+    other: &mut Party<Plain>,
+    then: Then,
+) -> Result<Vec<Picked>, NoMemory>
+    requires ready { IsReady arcs.now feeder.old }
+    requires feeder { IsFeeder arcs.now feeder.old }
+    requires shard { 0 < arcs.now.config.shards }
+    requires new { feeder.old.own.ledger.picked ≡ [] }
+    requires other { IsReady arcs.now other.old }
+    ensures ready { IfOk result (λ out. IsReadyAs arcs.now feeder.old feeder.new) }
+    ensures other { IfOk result (λ out. IsReadyAs arcs.now other.old other.new) }
+    ensures picked { IfOk result (λ out. (j : ℕ) (x : Picked) → get_elem? out.items j ≡ some x → IsPicked arcs.now.config feeder.new x.key) }
+{
+    match then {
+        Then::SetBehindLook => picked_behind_a_look(rt, alloc, arcs, feeder, other),
+        _ => picked(rt, alloc, arcs, feeder),
+    }
+}
+
 // The first key that was picked.
 fn first_of(picks: &[Picked]) -> Option<Key>
     ensures { IfSome result (λ k. (x : Picked) × (get_elem? picks.now 0 ≡ some x) × (k ≡ x.key)) }
@@ -150,7 +204,9 @@ fn settle<R: Wait>(
     ensures { IsReadyAs arcs.now feeder.old feeder.new }
 {
     match then {
-        Then::Set | Then::SetGone => set_one(rt, arcs, feeder, key),
+        Then::Set | Then::SetEvicted | Then::SetGone | Then::SetBehindLook => {
+            set_one(rt, arcs, feeder, key)
+        }
         Then::Leave => {
             leave_one(rt, arcs, feeder, key);
             false
@@ -170,17 +226,42 @@ fn give_up<R: Wait>(
     ensures { IsReadyAs arcs.now party.old party.new }
 {
     match then {
-        Then::Set | Then::Leave => None,
         Then::SetGone => read_and_release(rt, arcs, party, pool, &ptrs().0, 3),
+        _ => None,
     }
 }
 
-// What was picked, the copy of the bytes that were given up, whether the first key has a place, and the shard at its end.
+// Two other blocks are read, and then the first one, over a device that has its bytes at the place: what that read answers.
+fn read_again<R: Wait>(
+    rt: &R,
+    alloc: Global,
+    arcs: &Arcs<Plain>,
+    one: &mut Caller,
+    then: Then,
+) -> Option<Answer>
+    requires { IsReady arcs.now one.old.party }
+    ensures { IsReadyAs arcs.now one.old.party one.new.party }
+{
+    if then != Then::SetEvicted {
+        return None;
+    }
+    let Ok(mut device) = device_of(alloc, 1) else {
+        return None;
+    };
+    let _ = read_one(rt, arcs, &mut one.party, &mut one.pool, &big(2), 4);
+    let _ = read_one(rt, arcs, &mut one.party, &mut one.pool, &big(3), 5);
+    let (party, pool) = (&mut one.party, &mut one.pool);
+    Some(answer_of(rt, arcs, party, &ptrs().0, pool, &mut device))
+}
+
+// What was picked, the copy of the bytes that were given up, whether the first key has a place, what the last read answers, and the shard
+// at its end.
 #[derive(Drop)]
 struct Told {
     picks: Vec<Picked>,
     copy: Option<Vec<u8>>,
     set: bool,
+    again: Option<Answer>,
     closed: Closed<Plain>,
 }
 
@@ -189,20 +270,23 @@ fn row(rt: &impl Wait, alloc: Global, config: &Config, then: Then) -> Result<Tol
     requires valid { IsConfig config.now }
     requires counts { (config.now.callers ≡ 2) × (config.now.shards ≡ 1) × (config.now.cells ≡ 1) }
 {
-    let mut pair = opened_pair(alloc, config, 8)?;
+    let mut pair = opened_pair(alloc, config, 16)?;
     let mut pools = (pool_of(alloc, 1)?, pool_of(alloc, 2)?);
     let _ = read_both(rt, &pair.arcs, &mut pair.one.party, &mut pools);
-    let picks = picked(rt, alloc, &pair.arcs, &mut pair.feeder.party)?;
+    let (feeder, two) = (&mut pair.feeder.party, &mut pair.two.party);
+    let picks = picked_then(rt, alloc, &pair.arcs, feeder, two, then)?;
     let Some(key) = first_of(&picks) else {
         return Err(NoMemory);
     };
     let copy = give_up(rt, &pair.arcs, &mut pair.one.party, &mut pools.0, then);
     let set = settle(rt, &pair.arcs, &mut pair.feeder.party, key, then);
+    let again = read_again(rt, alloc, &pair.arcs, &mut pair.one, then);
     let closed = close_pair(alloc, pair)?;
     Ok(Told {
         picks,
         copy,
         set,
+        again,
         closed,
     })
 }
@@ -284,6 +368,44 @@ fn a_pick_whose_entry_is_gone_has_no_place(rt: HostRuntime) -> Result<(), Fail> 
             n: 2,
             key,
             why: Why::Gone,
+        },
+    ];
+    assert!(rt; ends_with(&told.closed, &events));
+    Ok(())
+}
+
+#[test]
+fn a_block_with_a_place_is_read_from_the_device_once_it_is_evicted(
+    rt: HostRuntime,
+) -> Result<(), Fail> {
+    let told = row(&rt, rt.alloc(), &ONE_FITS, Then::SetEvicted)
+        .ok()
+        .ok_or("memory")?;
+    assert!(rt; told.set && told.again == Some(Answer::Held(Served::L2)));
+    Ok(())
+}
+
+#[test]
+fn a_key_under_a_look_is_not_picked(rt: HostRuntime) -> Result<(), Fail> {
+    let told = row(&rt, rt.alloc(), &TWO, Then::SetBehindLook)
+        .ok()
+        .ok_or("memory")?;
+    let (one, two) = ptrs();
+    assert!(rt; told.picks.len() == 1 && told.set);
+    assert!(rt; is_block(told.picks.first(), &two, &[2; 2048]));
+    let (n, key) = (2, two.key);
+    let events = [
+        Event::Pass {
+            n,
+            key: one.key,
+            owner: 1,
+        },
+        Event::Pick { n, key },
+        Event::FeedEnd { n },
+        Event::Set {
+            n,
+            key,
+            place: 4096,
         },
     ];
     assert!(rt; ends_with(&told.closed, &events));

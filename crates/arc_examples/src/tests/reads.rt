@@ -20,7 +20,7 @@ const A: Key = Key {
 
 // What a read answered.
 #[derive(Clone, Copy, Debug, PartialEq, Eq)]
-enum Answer {
+pub(super) enum Answer {
     // a hold, and where its bytes came from
     Held(Served),
     // the digest of the block that was read past the cache, and that of what the cache keeps
@@ -43,7 +43,7 @@ fn pool_of(alloc: Global, byte: u8, fail: &[u64]) -> Result<MemPool, NoMemory> {
 }
 
 // A cache device of bytes of this value.
-fn device_of(alloc: Global, byte: u8) -> Result<MemCache, NoMemory> {
+pub(super) fn device_of(alloc: Global, byte: u8) -> Result<MemCache, NoMemory> {
     let bytes = vec![in alloc; byte; 8192]?;
     Ok(MemCache::new(bytes, Vec::new(alloc)))
 }
@@ -64,7 +64,7 @@ fn read_of<R: Wait, P: Pool, D: CacheDev>(
 }
 
 // What such a read answers.
-fn answer_of<R: Wait, P: Pool, D: CacheDev>(
+pub(super) fn answer_of<R: Wait, P: Pool, D: CacheDev>(
     rt: &R,
     arcs: &Arcs<Plain>,
     party: &mut Party<Plain>,

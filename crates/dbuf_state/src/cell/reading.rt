@@ -50,7 +50,7 @@ impl<H: Shows + Drop> Cell<H> {
         }
     }
 
-    /// The dirty blocks, by rising Oids.
+    /// The dirty blocks, by rising Oids. Err is want of memory for the list.
     pub fn dirty(&self) -> Result<Vec<Oid>, NoMemory>
         ensures rising { IfOk result (λ oids. IsSorted ⟦<Oid as Ord>⟧.cmp oids.items) }
         ensures all { IfOk result (λ oids. IsPermutation (dirty_oids self.now.dbufs) oids.items) }

@@ -1,4 +1,4 @@
-use Rattle.arc_examples.proofs.Gets.{dropped-holds, dropped-ready}
+use Rattle.arc_examples.proofs.Gets.{dropped-back, dropped-holds, dropped-ready}
 use Rattle.arc_examples.proofs.Ready.{ready-looks}
 use Rattle.arc_examples.proofs.calls.give_back.Goals as goal
 
@@ -10,3 +10,6 @@ returns-clause-ready g c = dropped-ready _ c.args.arcs.now c.args.hold c.args.pa
 
 pub returns-clause-holds : goal.returns-clause-holds
 returns-clause-holds g c = dropped-holds _ c.args.arcs.now c.args.hold c.args.party.now c.drop_hold.new.party c.requires.ready c.drop_hold.ensures c.requires.hold
+
+pub returns-clause-back : goal.returns-clause-back
+returns-clause-back g c = dropped-back _ c.args.arcs.now c.args.hold c.args.party.now c.drop_hold.new.party c.requires.ready c.drop_hold.ensures c.requires.hold

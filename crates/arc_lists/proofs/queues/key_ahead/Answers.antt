@@ -1,5 +1,5 @@
-use Rattle.std.proofs.Common.{◌≡◌, None, Option, Some, sym, ◌∙◌}
-use Rattle.arc_links.specs.PlainLinks.{in_front, last_place}
+use Rattle.std.proofs.Common.{sym, ◌∙◌}
+use Rattle.arc_links.specs.PlainLinks.{in_front}
 use Rattle.arc_lists.proofs.Oldest.{front-there, front_key-is, last_key-none}
 use Rattle.arc_lists.proofs.queues.key_ahead.Goals as goal
 

@@ -1,4 +1,4 @@
-use Rattle.std.proofs.Common.{◌≡◌, ◌<◌, Bool, IsSome, Some, ap, false, is_some, length, refl, suc, subst, sym, true, ◌∙◌}
+use Rattle.std.proofs.Common.{◌≡◌, ◌<◌, IsSome, ap, false, is_some, length, suc, subst, sym, true, ◌∙◌}
 use Rattle.std.specs.Option.{option_map_or}
 use Rattle.arc_links.specs.PlainLinks.{element_at, in_front}
 use Rattle.arc_lists.specs.Sequences.{oldest_unskipped}

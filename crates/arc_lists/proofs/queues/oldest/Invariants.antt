@@ -1,4 +1,4 @@
-use Rattle.std.proofs.Common.{◌≡◌, Bool, IsSome, MatchOption, Option, None, Some, length, suc}
+use Rattle.std.proofs.Common.{◌≡◌, Bool, IsSome, MatchOption, length, suc}
 use Rattle.std.specs.Option.{option_map_or}
 use Rattle.blk_ptr.specs.declared.key.Key.{Key}
 use Rattle.arc_links.specs.PlainLinks.{element_at, elements, in_front}

@@ -1,4 +1,4 @@
-use Rattle.std.proofs.Common.{◌≡◌, refl, arith}
+use Rattle.std.proofs.Common.{refl, arith}
 use Rattle.trace_run.specs.Outcome.{IsRun}
 use Rattle.trace_run.specs.Together.{report_of_closed}
 use Rattle.trace_run.proofs.RanLemmas.{alone-told, together-run}

@@ -1,8 +1,8 @@
-use Rattle.std.proofs.Common.{◌≡◌, ◌++◌, drop, string_bytes}
+use Rattle.std.proofs.Common.{◌≡◌, ◌++◌, drop}
 use Rattle.trace_text.specs.ReportText.{reply_lines}
 use Rattle.trace_text.proofs.print.write_replies.Given as goal
 
 -- what was written and the lines to come are the old text and all lines
 abbrev pub invariant-loop-number : goal.invariant-loop-number
 invariant-loop-number l =
-    string_bytes l.text ++ reply_lines l.number-counter (drop l.number-counter l.replies) ≡ string_bytes l.fn.text ++ reply_lines 0 l.replies
+    l.text.items ++ reply_lines l.number (drop l.number l.replies) ≡ l.fn.text.items ++ reply_lines 0 l.replies

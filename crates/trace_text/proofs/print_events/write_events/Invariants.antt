@@ -1,8 +1,8 @@
-use Rattle.std.proofs.Common.{◌≡◌, ◌++◌, drop, string_bytes}
+use Rattle.std.proofs.Common.{◌≡◌, ◌++◌, drop}
 use Rattle.trace_text.specs.EventText.{event_lines}
 use Rattle.trace_text.proofs.print_events.write_events.Given as goal
 
 -- what was written and the lines to come are the old text and all lines
 abbrev pub invariant-loop-number : goal.invariant-loop-number
 invariant-loop-number l =
-    string_bytes l.text ++ event_lines l.shard l.number-counter (drop l.number-counter l.events) ≡ string_bytes l.fn.text ++ event_lines l.shard 0 l.events
+    l.text.items ++ event_lines l.shard l.number (drop l.number l.events) ≡ l.fn.text.items ++ event_lines l.shard 0 l.events

@@ -1,4 +1,4 @@
-use Rattle.std.proofs.Common.{◌≡◌, IsSome, sym, ap, subst}
+use Rattle.std.proofs.Common.{IsSome, sym, subst}
 use Rattle.arc_lists.specs.ByKey.{item_at}
 use Rattle.arc_core.specs.PlainShard.{entry_key}
 use Rattle.arc_core.proofs.EntryRows.{goes, has-name, keyed-goes}

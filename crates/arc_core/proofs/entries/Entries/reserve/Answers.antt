@@ -1,4 +1,3 @@
-use Rattle.std.proofs.Common.{sym, ap, subst}
 use Rattle.arc_core.proofs.entries.Entries.reserve.Goals as goal
 
 pub invariant_of-self-2 : goal.invariant_of-self-2

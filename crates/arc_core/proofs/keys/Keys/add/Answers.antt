@@ -1,4 +1,4 @@
-use Rattle.std.proofs.Common.{◌≡◌, ◌<◌, ◌+◌, false, length, sym, ap, subst, ◌∙◌, arith}
+use Rattle.std.proofs.Common.{◌≡◌, ◌<◌, false, sym, subst, arith}
 use Rattle.arc_lists.specs.Sequences.{stands_on}
 use Rattle.arc_core.proofs.KeyRows.{key-comes, listed-comes, longer, named, no-name}
 use Rattle.arc_core.proofs.keys.Keys.add.Goals as goal

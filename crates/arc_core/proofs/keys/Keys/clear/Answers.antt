@@ -1,4 +1,4 @@
-use Rattle.std.proofs.Common.{length, sym, ap, ◌∙◌, arith}
+use Rattle.std.proofs.Common.{arith}
 use Rattle.arc_core.proofs.KeyRows.{length-named}
 use Rattle.arc_core.proofs.keys.Keys.clear.Goals as goal
 

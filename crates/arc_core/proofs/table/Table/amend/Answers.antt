@@ -10,7 +10,7 @@ use Rattle.arc_core.proofs.table.Table.amend.Goals as goal
 pub invariant_of-self : goal.invariant_of-self
 invariant_of-self c =
     let kept = c.self.invariant in
-    let e = c.args.entry in
+    let e = c.args.entry.now in
     let has : HasAlike e (shard_in c.self.inside) = subst (λ t. HasAlike e t.shard) (sym c.self.view_is) c.requires.alike in
     let old = some_and _ (entry_of e.key (shard_in c.self.inside)) has in
     record {

@@ -1,8 +1,6 @@
-use Rattle.std.proofs.Common.{◌≡◌, ◌<◌, false, refl, sym, subst, ◌∙◌, arith}
-use Rattle.arc_lists.proofs.Tables.{IsRising-with_item}
+use Rattle.std.proofs.Common.{◌≡◌, ◌<◌, false, refl, sym, subst, arith}
 use Rattle.arc_core.specs.PlainShard.{is_passed}
 use Rattle.arc_core.specs.TableModel.{shard_in}
-use Rattle.arc_core.proofs.Feeding.{has_key-stands}
 use Rattle.arc_core.proofs.Tables.{IsTidy-same}
 use Rattle.arc_core.proofs.table.Table.pass.Goals as goal
 

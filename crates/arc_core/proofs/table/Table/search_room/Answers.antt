@@ -1,5 +1,4 @@
-use Rattle.std.proofs.Common.{◌≡◌, ◌+◌, ◌<◌, ◌^◌, List, arith, sym, ap, subst}
-use Rattle.blk_ptr.specs.declared.key.Key.{Key}
+use Rattle.std.proofs.Common.{arith, sym, ap, subst}
 use Rattle.arc_core.specs.Search.{Stands}
 use Rattle.arc_core.specs.declared.table.search.Search.{Search}
 use Rattle.arc_core.proofs.CursorEnds.{at-room, size_by-small}

@@ -1,13 +1,7 @@
 use Rattle.std.proofs.Common.{ap, ◌∙◌}
 use Rattle.arc_core.specs.Changes.{come}
 use Rattle.arc_core.specs.Rules.{trimmed, with_room}
-use Rattle.arc_core.proofs.Evictions.{absent-evicting}
 use Rattle.arc_core.proofs.table.Table.take_in.Goals as goal
 
-pub add-requires-clause-absent : goal.add-requires-clause-absent
-add-requires-clause-absent c = rw c.make_room.ensures.shard (absent-evicting c.args.entry.key _ _ _ c.take_out.ensures.absent)
-
 pub returns-clause-shard : goal.returns-clause-shard
-returns-clause-shard c =
-    c.trim.ensures.shard ∙ ap (λ t. trimmed t.shard) c.add.ensures ∙ ap (λ s. trimmed (come c.args.entry s)) c.make_room.ensures.shard
-    ∙ ap (λ s. trimmed (come c.args.entry (with_room c.args.entry.key.size s))) c.take_out.ensures.shard
+returns-clause-shard c = c.bring_in.ensures.shard ∙ ap (λ s. trimmed (come c.args.entry.now (with_room c.args.entry.now.key.size s))) c.take_out.ensures.shard

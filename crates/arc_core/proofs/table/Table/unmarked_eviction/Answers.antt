@@ -1,6 +1,5 @@
-use Rattle.std.proofs.Common.{◌∙◌, Some, ap, sym, subst}
+use Rattle.std.proofs.Common.{◌∙◌, sym, subst}
 use Rattle.arc_core.specs.Sound.{IsTidy}
-use Rattle.arc_lists.proofs.Tables.{some_is}
 use Rattle.arc_core.proofs.CursorRuns.{chosen-evicted, fewer-evicted, room-found, room-more}
 use Rattle.arc_core.proofs.table.Table.unmarked_eviction.Goals as goal
 

@@ -1,5 +1,5 @@
 use Rattle.std.proofs.Common.{◌≡◌, sym, ap, subst, ◌∙◌, arith}
-use Rattle.blk_ptr.specs.declared.state.State.TheVariants.{Mfu, Mru}
+use Rattle.blk_ptr.specs.declared.state.State.TheVariants.{Mfu}
 use Rattle.arc_lists.specs.Room.{or_else}
 use Rattle.arc_lists.specs.Walks.{first_of, oldest_first}
 use Rattle.std.proofs.Common.{reverse}

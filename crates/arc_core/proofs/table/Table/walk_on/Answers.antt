@@ -1,4 +1,4 @@
-use Rattle.std.proofs.Common.{◌≡◌, ◌+◌, ◌≤◌, IsTrue, Some, length, true, refl, sym, ap, subst, ◌∙◌, arith}
+use Rattle.std.proofs.Common.{◌≡◌, ◌+◌, ◌≤◌, IsTrue, length, true, refl, sym, ap, subst, ◌∙◌, arith}
 use Rattle.arc_lists.specs.Sequences.{sequence_of, stands, stands_on}
 use Rattle.arc_lists.specs.Walks.{next_to, oldest_first}
 use Rattle.arc_core.specs.Candidate.{may_be_picked, walk}

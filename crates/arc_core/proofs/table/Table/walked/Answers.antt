@@ -1,10 +1,9 @@
-use Rattle.std.proofs.Common.{◌≡◌, ◌≤◌, Bool, Some, None, IsTrue, false, true, refl, sym, ap, subst, ◌∙◌, arith, reverse}
-use Rattle.blk_ptr.specs.declared.key.Key.{Key}
+use Rattle.std.proofs.Common.{◌≡◌, Some, sym, ap, subst, ◌∙◌, arith, reverse}
 use Rattle.arc_lists.specs.Room.{or_else}
 use Rattle.arc_lists.specs.Walks.{first_of, oldest_first}
 use Rattle.blk_ptr.specs.declared.state.State.TheVariants.{Mru, Mfu}
 use Rattle.arc_core.specs.Candidate.{may_be_picked, walk}
-use Rattle.arc_core.specs.FeedWalk.{IsWalkOf, Wants, chosen_by, limit_of}
+use Rattle.arc_core.specs.FeedWalk.{IsWalkOf, limit_of}
 use Rattle.arc_core.specs.Scan.{from_next}
 use Rattle.arc_core.proofs.FeedWalks.{none-first, on-mfu, some-first}
 use Rattle.arc_core.proofs.Scanning.{first-stands, from-first}

@@ -1,9 +1,7 @@
-use Rattle.std.proofs.Common.{◌≡◌, ◌≤◌, Bool, sym, ap, subst, ◌∙◌, arith}
-use Rattle.blk_ptr.specs.declared.key.Key.{Key}
+use Rattle.std.proofs.Common.{◌≡◌, sym, subst, ◌∙◌, arith}
 use Rattle.arc_lists.specs.Walks.{oldest_first}
 use Rattle.blk_ptr.specs.declared.state.State.TheVariants.{Mru}
 use Rattle.arc_core.specs.Candidate.{may_be_picked, walk}
-use Rattle.arc_core.specs.FeedWalk.{Wants, limit_of}
 use Rattle.arc_core.specs.Scan.{from_next}
 use Rattle.arc_core.proofs.table.Table.walked_on_mru.Goals as goal
 

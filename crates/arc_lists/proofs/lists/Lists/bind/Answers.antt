@@ -1,4 +1,4 @@
-use Rattle.std.proofs.Common.{◌≡◌, IsSome, None, ap, is_some, refl, sym, subst, true}
+use Rattle.std.proofs.Common.{◌≡◌, None, refl, sym, subst, true}
 use Rattle.arc_lists.specs.Posts.{members_of}
 use Rattle.arc_lists.specs.Queues.{sequences_in}
 use Rattle.arc_lists.specs.Sequences.{stands}
@@ -20,11 +20,11 @@ pub set-requires : goal.set-requires
 set-requires c = rw c.find-state.ensures refl
 
 pub invariant_of-self : goal.invariant_of-self
-invariant_of-self c = ListsKeep-bind c.self.inside _ c.args.key c.find-state.result c.self.invariant c.find-state.ensures c.set.ensures refl c.leave.ensures
+invariant_of-self c = ListsKeep-bind c.self.inside _ c.args.key c.find-state.result c.self.invariant c.find-state.ensures c.set.ensures.posts refl c.leave.ensures
 
 pub returns : goal.returns
 returns c =
     let l = c.self.inside in
     let s = c.find-state.result in
-    rw (← c.self.view_is, c.set.ensures, c.leave.ensures)
+    rw (← c.self.view_is, c.set.ensures.posts, c.leave.ensures)
     (lists-same _ _ _ _ _ _ _ (members-stay c.args.key s.state s.at None l.members.posts c.find-state.ensures) (left-of l c.args.key s c.self.invariant c.find-state.ensures).sequences)

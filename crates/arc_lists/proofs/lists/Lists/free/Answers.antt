@@ -1,7 +1,7 @@
-use Rattle.std.proofs.Common.{◌≡◌, false, IsSome, IsTrue, Some, ap, arith, is_some, option_map, refl, sym, subst, true, ◌∙◌}
-use Rattle.arc_lists.specs.ByKey.{has_key, item_at}
-use Rattle.arc_lists.specs.PlainLists.{IsBound, freed, member, member_key}
-use Rattle.arc_lists.specs.Posts.{members_of, post, post_key}
+use Rattle.std.proofs.Common.{◌≡◌, false, IsTrue, ap, arith, is_some, refl, sym, subst, true}
+use Rattle.arc_lists.specs.ByKey.{has_key}
+use Rattle.arc_lists.specs.PlainLists.{IsBound, member_key}
+use Rattle.arc_lists.specs.Posts.{members_of}
 use Rattle.arc_lists.specs.Queues.{sequences_in}
 use Rattle.arc_lists.specs.Sequences.{stands}
 use Rattle.arc_lists.proofs.Keeping.{ListsKeep-free, bound-post, length-members, lists-same, rising-members, sequences-entered}
@@ -30,7 +30,7 @@ invariant_of-self c =
     let there : IsTrue (has_key member_key c.args.key (members_of l.members.posts)) = ap is_some (member-at c.args.key l.members.posts c.find-state.result c.find-state.ensures) in
     let off : stands c.args.key (sequences_in l.queues) ≡ false = subst (λ z. stands c.args.key z.sequences ≡ false) (sym c.self.view_is) c.requires.off in
     let room = HaveRoom-free (members_of l.members.posts) c.args.key _ l.queues (rising-members l.members.posts kept.rising) there (off_each _ _ off) kept.listed (omega (arith, length-members l.members.posts)) kept.queues in
-    ListsKeep-free l _ c.args.key c.find-state.result c.put_at_head-at.result kept c.find-state.ensures off c.set.ensures refl c.put_at_head-at.ensures room
+    ListsKeep-free l _ c.args.key c.find-state.result c.put_at_head-at.result kept c.find-state.ensures off c.set.ensures.posts refl c.put_at_head-at.ensures room
 
 pub returns : goal.returns
 returns c =
@@ -38,6 +38,6 @@ returns c =
     let s = c.find-state.result in
     let at = c.put_at_head-at.result in
     let item = member-at c.args.key l.members.posts s c.find-state.ensures in
-    rw (← c.self.view_is, c.set.ensures, item)
+    rw (← c.self.view_is, c.set.ensures.posts, item)
     (lists-same _ _ _ _ _ _ _ (members-stay c.args.key s.state s.at at l.members.posts c.find-state.ensures)
     (sequences-entered true s.state c.args.key at l.queues c.put_at_head-at.new.self c.put_at_head-at.ensures))

@@ -1,4 +1,4 @@
-use Rattle.std.proofs.Common.{◌≡◌, IsSome, None, Some, ap, is_some, refl, subst, sym, true, ◌∙◌}
+use Rattle.std.proofs.Common.{◌≡◌, None, Some, ap, is_some, subst, sym, true, ◌∙◌}
 use Rattle.blk_ptr.specs.declared.state.State.{State}
 use Rattle.arc_links.specs.PlainLinks.{element_at}
 use Rattle.arc_lists.specs.Posts.{members_of}
@@ -8,7 +8,7 @@ use Rattle.arc_lists.specs.Walks.{ahead_of, next_to, oldest_first}
 use Rattle.arc_lists.proofs.InState.{stands-member}
 use Rattle.arc_lists.proofs.Keeping.{distinct-of, on-place, post-of}
 use Rattle.arc_lists.proofs.Oldest.{ahead-is}
-use Rattle.arc_lists.proofs.Placing.{keys_of, sequence-nodes}
+use Rattle.arc_lists.proofs.Placing.{sequence-nodes}
 use Rattle.arc_lists.proofs.Tables.{some_is}
 use Rattle.arc_lists.proofs.Walking.{newer-is}
 use Rattle.arc_lists.proofs.lists.Lists.newer.Goals as goal

@@ -1,7 +1,7 @@
-use Rattle.std.proofs.Common.{◌≡◌, ◌<◌, false, refl, sym, subst, arith, if◌then◌else◌}
+use Rattle.std.proofs.Common.{◌≡◌, ◌<◌, false, sym, subst, arith}
 use Rattle.arc_lists.specs.ByKey.{has_key}
 use Rattle.arc_lists.specs.PlainLists.{member_key}
-use Rattle.arc_lists.specs.Posts.{members_of, post_key, standing}
+use Rattle.arc_lists.specs.Posts.{members_of, standing}
 use Rattle.arc_lists.proofs.Keeping.{ListsKeep-put, length-members, lists-same, no-post, rising-members, sequences-entered, size_at-lt}
 use Rattle.arc_lists.proofs.Placing.{members-come}
 use Rattle.arc_lists.proofs.Standing.{HaveRoom-more}

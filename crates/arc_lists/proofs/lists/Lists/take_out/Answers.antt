@@ -1,4 +1,4 @@
-use Rattle.std.proofs.Common.{IsSome, arith, refl, sym, subst, ◌∙◌}
+use Rattle.std.proofs.Common.{IsSome, sym, subst}
 use Rattle.arc_lists.specs.ByKey.{item_at}
 use Rattle.arc_lists.specs.PlainLists.{member_key}
 use Rattle.arc_lists.specs.Posts.{members_of}

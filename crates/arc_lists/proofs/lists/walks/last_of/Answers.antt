@@ -1,4 +1,4 @@
-use Rattle.std.proofs.Common.{◌≡◌, None, Option, Some, sym, ◌∙◌}
+use Rattle.std.proofs.Common.{sym, ◌∙◌}
 use Rattle.arc_lists.proofs.Oldest.{last-there, last_key-is, last_key-none}
 use Rattle.arc_lists.proofs.lists.walks.last_of.Goals as goal
 

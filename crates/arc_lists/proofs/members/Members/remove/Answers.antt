@@ -1,7 +1,7 @@
-use Rattle.std.proofs.Common.{◌≡◌, ◌+◌, IsSome, sym, ap, subst}
+use Rattle.std.proofs.Common.{◌+◌, IsSome, sym, ap, subst}
 use Rattle.arc_lists.specs.ByKey.{item_at}
 use Rattle.arc_lists.specs.Posts.{post_key}
-use Rattle.arc_lists.proofs.Enrolled.{enrolled, goes, has-name, post-there}
+use Rattle.arc_lists.proofs.Enrolled.{goes, has-name, post-there}
 use Rattle.arc_lists.proofs.members.Members.remove.Goals as goal
 
 pub remove-requires : goal.remove-requires

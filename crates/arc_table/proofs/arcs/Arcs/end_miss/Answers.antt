@@ -1,7 +1,4 @@
-use Rattle.std.proofs.Common.{[], ◌∷◌, Err, refl, sym, ap, subst}
-use mathlib.Core.Option.{some}
-use lib.ListN.{get_elem?}
-use Rattle.blk_ptr.specs.declared.key.Key.{Key}
+use Rattle.std.proofs.Common.{[], ◌∷◌, Err, sym, subst}
 use Rattle.arc_core.specs.declared.event.Event.TheVariants.{Fail}
 use Rattle.arc_core.specs.declared.event.FailedAt.{FailedAt}
 use Rattle.arc_core.specs.declared.served.ReadFault.{ReadFault}

@@ -1,10 +1,23 @@
-use Rattle.std.proofs.Common.{◌≡◌, ℕ, suc, refl, sym, ap, ◌∙◌, subst}
+use Rattle.std.proofs.Common.{ℕ, suc, refl, sym, ap, ◌∙◌, subst, arith}
+use Rattle.blk_ptr.specs.declared.key.Key.{Key}
+use Rattle.blk_ptr.specs.declared.key.KeyFault.{KeyFault}
+use Rattle.blk_ptr.specs.declared.key.KeyFault.TheVariants as fault
 use Rattle.blk_ptr.specs.Key.{IsFirstFault, IsValid}
 use Rattle.turn_table.specs.Board.{IsAmong}
+use Rattle.turn_table.specs.Places.{Place}
+use Rattle.arc_table.specs.declared.view.Known.{Known}
 use Rattle.arc_table.specs.Items.{meanings}
 use Rattle.arc_table.specs.PoolCalls.{KeepsPool}
 use Rattle.arc_table.specs.Reading.{Answers, KeepsDevice, Outside, answered, outside, refused}
+use Rattle.arc_table.proofs.Readers.{waits_not}
 use Rattle.arc_table.proofs.arcs.Arcs.read.Goals as goal
+
+-- a key that fails a test is not valid
+not_valid : (len : ℕ) (k : Key) (why : KeyFault) → IsFirstFault len k why → IsValid len k → ⊥
+not_valid len k (fault.Unaligned) first valid = first valid.formed.aligned
+not_valid len k (fault.Size) first valid = first.1 valid.formed.sized
+not_valid len k (fault.OutOfPool end n) first valid = let a = first.4 in let b = valid.inside in omega arith
+not_valid len k (fault.BirthZero) first valid = let a = first.3 in let b = valid.formed.born in omega arith
 
 pub returns-in-Err-clause-answer : goal.returns-in-Err-clause-answer
 returns-in-Err-clause-answer g c = refused c.in-Err.fault refl (subst (λ (n : ℕ). IsFirstFault n c.args.ptr.now.key c.in-Err.fault) c.len.ensures c.in-Err.ensures.valid) refl refl
@@ -49,3 +62,16 @@ loop-preserved g c =
 
 pub returns-in-Answered-clause-held : goal.returns-in-Answered-clause-held
 returns-in-Answered-clause-held g c = c.in-Answered.ensures.held ∙ c.loop.invariant.held
+
+pub returns-in-Err-clause-alone : goal.returns-in-Err-clause-alone
+returns-in-Err-clause-alone g c none valid =
+    absurd (not_valid (g.P.Pool.size c.args.pool.now) c.args.ptr.now.key c.in-Err.fault (subst (λ (n : ℕ). IsFirstFault n c.args.ptr.now.key c.in-Err.fault) c.len.ensures c.in-Err.ensures.valid) valid)
+
+pub returns-in-Answered-clause-alone : goal.returns-in-Answered-clause-alone
+returns-in-Answered-clause-alone g c none valid =
+    let m = meanings g.C.Keeps.holds g.C.Keeps.entries g.C.Keeps.opening g.C.Keeps.claims g.C.Keeps.sound in
+    let i = c.loop.invariant in
+    let same = waits_not m c.args.self.now.config none.valid c.args.ptr.now.key c.args.party.now c.requires.party.config none i.waits.0 c.loop.party i.waits.1 in
+    subst (λ (x : Place (Known g.row.C.Denot)). Answers m g.P.Pool g.D.CacheDev c.args.self.now.config c.args.ptr.now c.args.tick (outside c.args.pool.now c.args.cache.now) (outside c.read_round.new.pool c.read_round.new.cache) x c.read_round.new.party c.in-Answered.answer) same
+    (subst (λ (x : Outside g.row.P.Denot g.row.D.Denot). Answers m g.P.Pool g.D.CacheDev c.args.self.now.config c.args.ptr.now c.args.tick x (outside c.read_round.new.pool c.read_round.new.cache) c.loop.party c.read_round.new.party c.in-Answered.answer)
+    (λ z. outside (i.pool z) (i.cache z)) c.in-Answered.ensures.answer)

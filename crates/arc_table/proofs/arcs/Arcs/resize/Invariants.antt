@@ -1,4 +1,4 @@
-use Rattle.std.proofs.Common.{◌≡◌, ◌≤◌}
+use Rattle.std.proofs.Common.{◌≡◌}
 use Rattle.arc_table.specs.Cache.{IsPartyOf}
 use Rattle.arc_table.specs.Items.{meanings}
 use Rattle.arc_table.specs.Resizing.{Resizes}

@@ -1,4 +1,4 @@
-use Rattle.std.proofs.Common.{◌≡◌, ℕ, ◌<◌, ◌≤◌, List, sym, ap, ◌∙◌, subst, refl, arith}
+use Rattle.std.proofs.Common.{◌≡◌, ℕ, ◌<◌, sym, ap, ◌∙◌, subst, arith}
 use Rattle.turn_table.specs.Board.{IsAmong}
 use Rattle.turn_table.specs.Moments.{WasFree}
 use Rattle.arc_core.specs.declared.config.Config.{Config}
