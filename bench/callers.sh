@@ -1,7 +1,8 @@
 #!/usr/bin/env bash
 # Proves, builds and runs callers of the shared cache in a copy of the repository, and prints reads a second beside those of a plain cache
 # with one Mutex a shard. A line is hits or misses, callers and shards; ours, the plain one's, and the ratios: the plain one's to ours, and
-# ours to ours with one caller. Each figure is the best of ROUNDS runs, ours and the plain one's in turn (default 3). Then the same for the
+# ours to ours with one caller. Each figure is the best of ROUNDS runs, ours and the plain one's in turn (default 3). Below stand hits of callers
+# that have a plain cache of their own each, and their ratio to one caller: what the machine gives where nothing is shared. Then the same for the
 # whole program (callers/program.py), which is built if that was not done yet. It needs rustc and python3.
 set -eu
 here=$(cd "$(dirname "$0")" && pwd)
@@ -18,6 +19,9 @@ for _ in $(seq "${ROUNDS:-3}"); do
             done
         done
     done
+    for callers in 1 2 4; do
+        echo "own $callers 16 $("$copy/plain" own "$callers" 16 4096 200000)" >> "$copy/theirs"
+    done
 done
 python3 - "$copy/ours" "$copy/theirs" <<'PY'
 import sys
@@ -26,7 +30,7 @@ def best(path):
     rates = {}
     for line in open(path):
         words = line.split()
-        if len(words) == 4 and words[0] in ('hits', 'misses'):
+        if len(words) == 4 and words[0] in ('hits', 'misses', 'own'):
             row = words[0], int(words[1]), int(words[2])
             rates[row] = max(rates.get(row, 0), int(words[3]))
     return rates
@@ -35,6 +39,9 @@ ours, theirs = (best(path) for path in sys.argv[1:])
 for (kind, callers, shards), rate in ours.items():
     plain, one = theirs[kind, callers, shards], ours[kind, 1, shards]
     print(f'{kind:7}{callers:3}{shards:4}{rate:12,}{plain:12,}{plain / rate:8.2f}{rate / one:8.2f}')
+for callers in 1, 2, 4:
+    rate = theirs['own', callers, 16]
+    print(f'{"own":7}{callers:3}{16:4}{"":12}{rate:12,}{"":8}{rate / theirs["own", 1, 16]:8.2f}')
 PY
 tool=$here/../crates/arc_tool/out/arc_tool
 [ -x "$tool" ] || (cd "$here/../crates/arc_tool" && rt run -- --version)

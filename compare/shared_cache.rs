@@ -1,9 +1,10 @@
 //! A plain cache that callers share: each shard behind a `Mutex`, which nobody keeps while the pool is read or a digest is computed.
 //!
-//!     rustc -O shared_cache.rs && ./shared_cache hits|misses CALLERS SHARDS BLOCKS READS
+//!     rustc -O shared_cache.rs && ./shared_cache hits|misses|own CALLERS SHARDS BLOCKS READS
 //!
 //! Each caller reads so many drawn blocks of 512 bytes of a pool in memory, and gives each back. It prints the reads of all callers a second. With
-//! `hits` every block was read before; with `misses` the cache has room for a sixteenth of them.
+//! `hits` every block was read before; with `misses` the cache has room for a sixteenth of them. With `own` the reads are hits too, and each caller
+//! has a cache of its own, which shows what the machine gives to callers that share nothing.
 
 mod key;
 #[allow(dead_code)]
@@ -101,19 +102,25 @@ fn perform(words: &[String]) -> Option<()> {
     let [kind, numbers @ ..] = words else { return None };
     let numbers: Vec<u64> = numbers.iter().map(|word| word.parse().ok()).collect::<Option<_>>()?;
     let [callers, shards, blocks, reads] = numbers[..] else { return None };
-    let room = if kind == "hits" { 2 * blocks * SIZE } else { (blocks * SIZE / 16 / shards).max(4_096) };
+    let room = if kind == "misses" { (blocks * SIZE / 16 / shards).max(4_096) } else { 2 * blocks * SIZE };
     let digest = sha256(&[0; SIZE as usize]);
-    let cache = Cache::new(shards as usize, room, vec![0; (blocks * SIZE) as usize]);
-    if kind == "hits" {
-        for block in 0..blocks {
+    let caches: Vec<Cache> = (0..if kind == "own" { callers } else { 1 })
+        .map(|_| Cache::new(shards as usize, room, vec![0; (blocks * SIZE) as usize]))
+        .collect();
+    if kind != "misses" {
+        for (cache, block) in caches.iter().flat_map(|cache| (0..blocks).map(move |block| (cache, block))) {
             cache.release(cache.read(Key { offset: block * SIZE, size: SIZE, birth: 1 }, digest, 0)?);
         }
     }
     let start = Instant::now();
     let read: u64 = thread::scope(|scope| {
-        let cache = &cache;
-        let callers: Vec<_> =
-            (0..callers).map(|n| scope.spawn(move || caller(cache, digest, n + 1, blocks, reads as usize))).collect();
+        let caches = &caches;
+        let callers: Vec<_> = (0..callers)
+            .map(|n| {
+                let cache = &caches[n as usize % caches.len()];
+                scope.spawn(move || caller(cache, digest, n + 1, blocks, reads as usize))
+            })
+            .collect();
         callers.into_iter().map(|it| it.join().unwrap_or(0)).sum()
     });
     println!("{:.0}", read as f64 / start.elapsed().as_secs_f64());
