@@ -1,13 +1,18 @@
 -- What is always true of a bucket.
-use Rattle.std.specs.Prelude.{◌≡◌, Bool, List, [], ◌∷◌, map, None}
+use Rattle.std.specs.Prelude.{◌≡◌, ℕ, ◌/◌, ◌^◌, Bool, List, [], ◌∷◌, map, None}
 use Rattle.blk_ptr.specs.declared.key.Key.{Key}
 use Rattle.blk_ptr.specs.Order.{key_eq}
+use Rattle.blk_ptr.specs.Hash.{hash_of_key}
 use Rattle.hash_chain.specs.declared.header.Header.{Header}
 use Rattle.hash_chain.specs.Chain.{header_at}
 
 -- whether j is the key k
 abbrev pub is_key : Key → Key → Bool
 is_key k j = key_eq j k
+
+-- the tag of a key: the highest byte of its hash, of 64 bits
+unfoldable pub tag_of_key : Key → ℕ
+tag_of_key key = hash_of_key key / 2 ^ 56
 
 abbrev pub keys_of : List Header → List Key
 keys_of hs = map (λ h. h.key) hs

@@ -1,41 +1,111 @@
 //! A bucket of headers, one a key.
-ghost use Rattle.std.specs.Prelude.{◌≡◌, ◌+◌, ◌-◌, ◌<◌, [], ◌∷◌, ◌++◌, length, max, slice_get, slice_set, Some, None, IfSome, IfNone, OnOk, OnErr, IsTrue};
+ghost use Rattle.std.specs.Prelude.{◌≡◌, ◌≢◌, ℕ, ◌+◌, ◌-◌, ◌<◌, ◌≤◌, [], ◌∷◌, ◌++◌, length, map, max, slice_get, slice_index, slice_set, Some, None, IfSome, IfNone, OnOk, OnErr, IsTrue};
 ghost use Rattle.std.specs.List.{position};
 ghost use Rattle.hash_chain.specs.declared.header.Header.{Header};
 ghost use Rattle.hash_chain.specs.Chain.{header_at, IsWith};
-ghost use Rattle.hash_chain.specs.Kept.{is_key};
+ghost use Rattle.hash_chain.specs.Kept.{is_key, tag_of_key};
 
 use crate::header::Header;
-use blk_ptr::{Key, NoMemory, State};
+use blk_ptr::{Key, NoMemory, State, hash_of};
 use std::alloc::Global;
 use std::marker::Model;
+use std::simd::prelude::*;
 
-/// The headers of the keys that fall into one bucket. Contracts see a finite map by key. The keys lie side by side, so that a search reads nothing else.
+// How many tags are compared at a time.
+const LANES: usize = 16;
+
+/// The headers of the keys that fall into one bucket. Contracts see a finite map by key. Beside each key lies a byte of its hash, its tag: a search goes over the tags, many at
+/// a time, and reads a key only where the tag is the one that it looks for.
 #[derive(Debug, Drop)]
 pub struct Bucket {
+    tags: Vec<u8>,
     keys: Vec<Key>,
     headers: Vec<Header>,
     spare: usize,
 }
 
 impl Model for Bucket {
-    ghost use Rattle.std.specs.Prelude.{◌≡◌, ◌+◌, ◌≤◌, vec_len, vec_capacity};
+    ghost use Rattle.std.specs.Prelude.{◌≡◌, ◌+◌, ◌≤◌, map, vec_len, vec_capacity};
     ghost use Rattle.hash_chain.specs.Chain.{Chain};
-    ghost use Rattle.hash_chain.specs.Kept.{keys_of, AreOnce};
+    ghost use Rattle.hash_chain.specs.Kept.{keys_of, tag_of_key, AreOnce};
 
     ghost Value = { Chain };
 
     ghost view = { λ b. record { headers = b.headers.items; spare = b.spare } };
 
     ghost invariant = { λ b. (b.keys.items ≡ keys_of b.headers.items) × AreOnce b.headers.items
-        × (vec_len b.keys + b.spare ≤ vec_capacity b.keys) × (vec_len b.headers + b.spare ≤ vec_capacity b.headers) };
+        × (vec_len b.keys + b.spare ≤ vec_capacity b.keys) × (vec_len b.headers + b.spare ≤ vec_capacity b.headers)
+        × (b.tags.items ≡ map tag_of_key b.keys.items) × (vec_len b.tags + b.spare ≤ vec_capacity b.tags) };
 }
 
-// Where a key stands.
-fn place_of(keys: &[Key], key: Key) -> Option<usize>
+// The tag of a key: the highest byte of its hash, since buckets are chosen by the lower ones.
+fn tag_of(key: Key) -> u8
+    ensures { result ≡ tag_of_key key }
+{
+    (hash_of(key) >> 56) as u8
+}
+
+// How many of the `LANES` tags from `at` on come before the first that is this one.
+fn others(tags: &[u8], at: usize, tag: u8) -> usize
+    requires { at + LANES ≤ length tags.now }
+    ensures most { result ≤ LANES }
+    ensures others { (k : ℕ) → at ≤ k → k < at + result → slice_index tags.now k ≢ tag }
+{
+    let lanes = u8x16::from_slice(&tags[at..]);
+    let same = lanes.simd_eq(u8x16::splat(tag)).to_bitmask();
+    if same == 0 {
+        LANES
+    } else {
+        same.trailing_zeros() as usize
+    }
+}
+
+// The first place from `from` on at which this tag may stand, where fewer than `LANES` tags are left. The last `LANES` tags are read, so some of them twice.
+fn start_at_end(tags: &[u8], from: usize, tag: u8) -> usize
+    requires { length tags.now < from + LANES }
+    ensures { (k : ℕ) → from ≤ k → k < result → slice_index tags.now k ≢ tag }
+{
+    if tags.len() < LANES {
+        return from;
+    }
+    let last = tags.len() - LANES;
+    from.max(last + others(tags, last, tag))
+}
+
+// Where a key stands among keys that have these tags, and not before `from`, where fewer than `LANES` are left.
+fn place_at_end(tags: &[u8], keys: &[Key], key: Key, from: usize) -> Option<usize>
+    requires tags { tags.now ≡ map tag_of_key keys.now }
+    requires left { length tags.now < from + LANES }
+    requires passed { (k : ℕ) → k < from → slice_get keys.now k ≢ Some key }
     ensures { result ≡ position (is_key key) keys.now }
 {
-    keys.iter().position(|k| *k == key)
+    let start = start_at_end(tags, from, tag_of(key));
+    for place in start..keys.len() {
+        if keys[place] == key {
+            return Some(place);
+        }
+    }
+    None
+}
+
+// Where a key stands among keys that have these tags.
+fn place_of(tags: &[u8], keys: &[Key], key: Key) -> Option<usize>
+    requires { tags.now ≡ map tag_of_key keys.now }
+    ensures { result ≡ position (is_key key) keys.now }
+{
+    let tag = tag_of(key);
+    let mut from = 0;
+    while LANES <= tags.len() - from {
+        let ahead = others(tags, from, tag);
+        from += ahead;
+        if ahead < LANES {
+            if keys[from] == key {
+                return Some(from);
+            }
+            from += 1;
+        }
+    }
+    place_at_end(tags, keys, key, from)
 }
 
 // Whether a header says this state and this place.
@@ -51,6 +121,7 @@ impl Bucket {
         ensures { result ≡ record { headers = []; spare = 0 } }
     {
         Bucket {
+            tags: Vec::new(alloc),
             keys: Vec::new(alloc),
             headers: Vec::new(alloc),
             spare: 0,
@@ -63,7 +134,7 @@ impl Bucket {
         ensures key { IfSome result (λ i. IfSome (slice_get self.now.headers i) (λ h. h.key ≡ key)) }
         ensures absent { IfNone result (header_at key self.now.headers ≡ None) }
     {
-        place_of(&self.keys, key)
+        place_of(&self.tags, &self.keys, key)
     }
 
     /// The header at `i`.
@@ -84,6 +155,7 @@ impl Bucket {
         if n <= self.spare {
             return Ok(());
         }
+        self.tags.reserve(n)?;
         self.keys.reserve(n)?;
         self.headers.reserve(n)?;
         self.spare = n;
@@ -97,6 +169,7 @@ impl Bucket {
         ensures headers { self.new ≡ record { headers = self.old.headers ++ header ∷ []; spare = self.old.spare - 1 } }
         ensures map { IsWith header.key (Some header) self.old.headers self.new.headers }
     {
+        self.tags.push_reserved(tag_of(header.key));
         self.keys.push_reserved(header.key);
         self.headers.push_reserved(header);
         self.spare -= 1;
@@ -109,6 +182,7 @@ impl Bucket {
         ensures map { IsWith result.key None self.old.headers self.new.headers }
         ensures spare { self.new.spare ≡ self.old.spare + 1 }
     {
+        self.tags.swap_remove(i);
         self.keys.swap_remove(i);
         self.spare += 1;
         self.headers.swap_remove(i)

@@ -38,6 +38,14 @@ fn put(bucket: &mut Bucket, header: Header) -> Result<(), NoMemory> {
     Ok(())
 }
 
+// Adds the headers of so many keys, one a sector.
+fn fill(bucket: &mut Bucket, keys: u32) -> Result<(), NoMemory> {
+    for sector in 0..keys {
+        put(bucket, header(512 * u64::from(sector), None))?;
+    }
+    Ok(())
+}
+
 // Puts another header in the place of its key's.
 fn replace(bucket: &mut Bucket, header: Header) {
     if let Some(at) = bucket.find(header.key) {
@@ -77,5 +85,21 @@ fn headers_are_found_by_their_keys(rt: HostRuntime) -> Result<(), Fail> {
     assert!(rt;
         header_of(&bucket, 1024).is_some_and(|h| h.state == State::Mfu && h.block.is_some())
     );
+    Ok(())
+}
+
+#[test]
+fn one_of_many_headers_is_found(rt: HostRuntime) -> Result<(), Fail> {
+    let mut bucket = Bucket::new(rt.alloc());
+    fill(&mut bucket, 50).ok().ok_or("memory")?;
+    for sector in 0..50u32 {
+        let offset = 512 * u64::from(sector);
+        assert!(rt; header_of(&bucket, offset).is_some_and(|h| h.key.offset == offset));
+    }
+    assert!(rt; bucket.find(key(25_600)).is_none());
+    let place = bucket.find(key(10_240)).ok_or("the key")?;
+    let gone = bucket.remove(place);
+    assert!(rt; gone.key == key(10_240) && bucket.find(key(10_240)).is_none());
+    assert!(rt; header_of(&bucket, 25_088).is_some_and(|h| h.key == key(25_088)));
     Ok(())
 }

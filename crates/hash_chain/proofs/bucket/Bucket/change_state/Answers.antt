@@ -28,7 +28,7 @@ invariant_of-self c =
     let m : Header = c.index_mut-header.result.now in
     let range : c.args.i < length hs = subst (λ (b : Chain). c.args.i < length b.headers) (sym c.self.view_is) c.requires in
     let r = changed_to hs c.args.i m (record m { state = c.args.state; place = c.args.place }) i.1 (get_value hs c.args.i m range c.index_mut-header.ensures.value) refl in
-    (i.0 ∙ sym r.keys, r.once, i.2, i.3)
+    (i.0 ∙ sym r.keys, r.once, i.2, i.3, i.4, i.5)
 
 pub returns-clause-headers : goal.returns-clause-headers
 returns-clause-headers c h at =

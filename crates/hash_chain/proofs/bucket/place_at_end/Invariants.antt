@@ -1,0 +1,6 @@
+use Rattle.hash_chain.proofs.Tags.{IsNotBefore}
+use Rattle.hash_chain.proofs.bucket.place_at_end.Given as goal
+
+-- the key stands at no place so far
+abbrev pub invariant-loop-place : goal.invariant-loop-place
+invariant-loop-place l = IsNotBefore l.keys l.key l.place
