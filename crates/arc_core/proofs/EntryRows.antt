@@ -61,6 +61,13 @@ pub turns : (old new : List (Row Name Entry)) (e : Entry) → AreApart old → A
     → entered new ≡ with_change entry_key e.key (λ _. e) (entered old)
 turns old new e apart apart' has changes = listed-changes entry_key name entry_in spells one old new (row (name e.key) e) apart apart' has changes
 
+-- the same of an entry that is changed in place, and keeps its key
+pub changes-entry : (old new : List (Row Name Entry)) (k : Key) (e : Entry) → AreApart old → AreApart new → HasKey (name k) old → e.key ≡ k → Changes old new (row (name k) e)
+    → entered new ≡ with_change entry_key k (λ _. e) (entered old)
+changes-entry old new k e apart apart' has is changes =
+    subst (λ h. entered new ≡ with_change entry_key h (λ _. e) (entered old)) is
+    (turns old new e apart apart' (subst (λ h. HasKey (name h) old) (sym is) has) (subst (λ h. Changes old new (row (name h) e)) (sym is) changes))
+
 -- ---- each row keeps the entry of its key
 
 pub keyed-comes : (old new : List (Row Name Entry)) (e : Entry) → AreKeyed old → Gains old new (row (name e.key) e) → AreKeyed new
@@ -77,3 +84,6 @@ keyed-turns old new e keyed changes r there = elim ((changes r).0 there) [
   | inl is ↦ subst (λ (z : Row Name Entry). z.value.key ≡ z.key.0) (sym is) refl
   | inr before ↦ keyed r before.1
 ]
+
+pub keyed-changes : (old new : List (Row Name Entry)) (k : Key) (e : Entry) → e.key ≡ k → AreKeyed old → Changes old new (row (name k) e) → AreKeyed new
+keyed-changes old new k e is keyed changes = keyed-turns old new e keyed (subst (λ h. Changes old new (row (name h) e)) (sym is) changes)

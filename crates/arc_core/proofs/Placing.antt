@@ -1,5 +1,5 @@
 -- Places on the cache device that entries gain and lose.
-use Rattle.std.proofs.Common.{◌≡◌, ℕ, Bool, true, false, not, ◌||◌, if◌then◌else◌, IsTrue, IsSome, IsSomeAnd, Option, Some, None, is_some, refl, sym, ap, subst}
+use Rattle.std.proofs.Common.{◌≡◌, ℕ, Bool, true, false, not, ◌||◌, if◌then◌else◌, IsTrue, IsSome, IsSomeAnd, IfSome, IfNone, Option, Some, None, is_some, refl, sym, ap, subst}
 use Rattle.std.specs.Option.{option_map_or}
 use Rattle.std.proofs.lemmas.Bool.{false≢true}
 use Rattle.blk_ptr.specs.declared.key.Key.{Key}
@@ -56,3 +56,8 @@ clear-has n k s ok more =
 
 pub cleared-is : (k : Key) (s : PlainShard) (b : Bool) → entry_is (λ e. is_same_state e.state L2Only) k s ≡ b → (if b then gone k s else changed k (with_place None) s) ≡ cleared k s
 cleared-is k s b is = ap (λ x. if x then gone k s else changed k (with_place None) s) (sym is)
+
+-- the answer of a change of an entry that is there
+pub answered : {A : Type 0} (P : A → Type 0) (Q : Type 0) (o : Option A) → IfSome o P → IfNone o Q → (Q → ⊥) → record { value : A; fact : P value }
+answered P Q None some none there = absurd (there none)
+answered P Q (Some a) some none there = record { value = a; fact = some }

@@ -1,12 +1,13 @@
 //! The entries by their keys, each found by its key's hash.
-ghost use Rattle.std.specs.Prelude.{◌≡◌, ◌+◌, ◌-◌, ◌<◌, false, length, max, IsSome, OnOk, OnErr, option_map};
+ghost use Rattle.std.specs.Prelude.{◌≡◌, ◌+◌, ◌-◌, ◌<◌, false, length, max, IsSome, IfNone, IfSome, OnOk, OnErr, Some, None, option_map};
+ghost use Rattle.std.specs.Fn.{FnOnceReturnsAtMut, FnOnceTakesAtMut};
 ghost use Rattle.arc_lists.specs.ByKey.{has_key, item_at, with_change, with_item, without};
-ghost use Rattle.arc_core.specs.Entries.{no_entries};
+ghost use Rattle.arc_core.specs.Entries.{IsChanged, no_entries};
 ghost use Rattle.arc_core.specs.PlainShard.{entry_key};
 
 use crate::entry::Entry;
 use arc_lists::Name;
-use blk_ptr::{Key, NoMemory};
+use blk_ptr::{Key, NoMemory, State};
 use key_table::Table;
 use std::alloc::Global;
 use std::marker::Model;
@@ -64,13 +65,20 @@ impl Entries {
         self.rows.get(&Name(key))
     }
 
-    /// Writes an entry over the one of its key.
-    pub fn write(&mut self, entry: &Entry)
-        requires { IsSome (item_at entry_key entry.now.key self.old.items) }
-        ensures items { self.new.items ≡ with_change entry_key entry.now.key (λ _. entry.now) self.old.items }
-        ensures spare { self.new.spare ≡ self.old.spare }
+    /// Changes the entry of a key in place, and answers its state then and whether nobody holds it. The change leaves its key.
+    pub fn change<F: FnOnce(&mut Entry)>(&mut self, key: Key, change: F) -> Option<(State, bool)>
+        requires takes { (e : Entry) → item_at entry_key key self.old.items ≡ Some e → FnOnceTakesAtMut F.FnOnce change e }
+        requires keeps { (e made : Entry) → item_at entry_key key self.old.items ≡ Some e → FnOnceReturnsAtMut F.FnOnce change e tt made → made.key ≡ key }
+        ensures some { IfSome result (IsChanged (λ e made. FnOnceReturnsAtMut F.FnOnce change e tt made) key self.old self.new) }
+        ensures none { IfNone result (item_at entry_key key self.old.items ≡ None) }
     {
-        let _ = self.rows.set(&Name(entry.key), *entry);
+        match self.rows.get_mut(&Name(key)) {
+            Some(entry) => {
+                change(entry);
+                Some((entry.state, entry.is_unheld()))
+            }
+            None => None,
+        }
     }
 
     /// Adds an entry of a key that has none.

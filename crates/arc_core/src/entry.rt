@@ -47,24 +47,22 @@ impl Entry {
     ghost use Rattle.arc_core.specs.Rules.{accessed};
     ghost use Rattle.arc_core.specs.Step.{holds, may_be_placed, reads};
 
-    /// The entry with one hold of `n` more.
-    pub fn one_more(mut self, n: u32) -> Entry
+    /// One hold of `n` more.
+    pub fn one_more(&mut self, n: u32)
         requires number { n < numbers }
-        requires count { holds_of self + 1 < 2 ^ 32 }
-        ensures { result ≡ one_more n self }
+        requires count { holds_of self.old + 1 < 2 ^ 32 }
+        ensures { self.new ≡ one_more n self.old }
     {
         self.holds.one_more(n);
-        self
     }
 
-    /// The entry with one hold of `n` less.
-    pub fn one_less(mut self, n: u32) -> Entry
+    /// One hold of `n` less.
+    pub fn one_less(&mut self, n: u32)
         requires number { n < numbers }
-        requires count { 0 < held_by n self }
-        ensures { result ≡ one_less n self }
+        requires count { 0 < held_by n self.old }
+        ensures { self.new ≡ one_less n self.old }
     {
         self.holds.one_less(n);
-        self
     }
 
     /// Whether its bytes are cached and nobody reads them just now.
@@ -127,10 +125,10 @@ impl Entry {
         !self.reading && self.holds.has(n)
     }
 
-    /// The entry after an access at tick `t`: an MRU entry becomes MFU where its last access was more than `mintime` ticks ago
-    /// (`arc_access` of OpenZFS's `arc.c`).
-    pub fn accessed(mut self, mintime: u64, t: u64) -> Entry
-        ensures { result ≡ accessed mintime t self }
+    /// An access at tick `t`: an MRU entry becomes MFU where its last access was more than `mintime` ticks ago (`arc_access` of
+    /// OpenZFS's `arc.c`).
+    pub fn access(&mut self, mintime: u64, t: u64)
+        ensures { self.new ≡ accessed mintime t self.old }
     {
         match self.state {
             State::Mru if t > self.last && t - self.last > mintime => {
@@ -140,7 +138,6 @@ impl Entry {
             State::Mfu => self.last = t,
             _ => {}
         }
-        self
     }
 }
 

@@ -1,10 +1,11 @@
 //! A shard without its history: its entries and sequences, and what a feed and a scan for room have in hand.
-ghost use Rattle.std.specs.Prelude.{◌≡◌, ℕ, ◌+◌, ◌-◌, ◌/◌, ◌<◌, ◌≤◌, false, IsTrue, IsSome, None, [], length, max, OnOk, OnErr, option_map};
+ghost use Rattle.std.specs.Prelude.{◌≡◌, ℕ, ◌+◌, ◌-◌, ◌/◌, ◌<◌, ◌≤◌, false, IsTrue, IsSome, Some, None, [], length, max, OnOk, OnErr, option_map};
+ghost use Rattle.std.specs.Fn.{FnOnceReturnsAtMut, FnOnceTakesAtMut};
 ghost use Rattle.blk_ptr.specs.declared.key.Key.{Key};
 ghost use Rattle.arc_lists.specs.Adapting.{IsCapacity};
 ghost use Rattle.arc_core.specs.PlainShard.{entry_of, opening_shard, size_in};
 ghost use Rattle.arc_core.specs.Changes.{come, gone, with_none_passed};
-ghost use Rattle.arc_core.specs.Edits.{amended, is_off, placed, HasAlike};
+ghost use Rattle.arc_core.specs.Edits.{is_off, placed};
 ghost use Rattle.arc_core.specs.Sound.{IsSoundEntry, IsTidy};
 
 mod events;
@@ -109,24 +110,17 @@ impl Table {
         self.entries.find(key)
     }
 
-    /// Writes an entry over its key's, and puts the key at its sequence's head where nobody holds it.
-    pub fn place(&mut self, entry: &Entry)
-        requires there { IsSome (entry_of entry.now.key self.old.shard) }
-        requires sound { IsSoundEntry entry.now }
-        ensures { self.new ≡ record self.old { shard = placed entry.now self.old.shard } }
+    /// Changes the entry of a key in place, and puts the key at its sequence's head where nobody holds it then.
+    pub fn place<F: FnOnce(&mut Entry)>(&mut self, key: Key, change: F)
+        requires there { IsSome (entry_of key self.old.shard) }
+        requires takes { IsTidy self.old.shard → (e : Entry) → entry_of key self.old.shard ≡ Some e → FnOnceTakesAtMut F.FnOnce change e }
+        requires sound { IsTidy self.old.shard → (e made : Entry) → entry_of key self.old.shard ≡ Some e → FnOnceReturnsAtMut F.FnOnce change e tt made → (made.key ≡ key) × IsSoundEntry made }
+        ensures tidy { IsTidy self.old.shard }
+        ensures placed { (e made : Entry) × (entry_of key self.old.shard ≡ Some e) × FnOnceReturnsAtMut F.FnOnce change e tt made × (self.new ≡ record self.old { shard = placed made self.old.shard }) }
     {
-        let unheld = entry.is_unheld();
-        self.lists.change_state(entry.key, entry.state, unheld);
-        self.entries.write(entry);
-    }
-
-    /// Writes an entry over its key's, which has the same state and holds, and leaves the key where it stands.
-    pub fn amend(&mut self, entry: &Entry)
-        requires alike { HasAlike entry.now self.old.shard }
-        requires sound { IsSoundEntry entry.now }
-        ensures { self.new ≡ record self.old { shard = amended entry.now self.old.shard } }
-    {
-        self.entries.write(entry);
+        if let Some((state, unheld)) = self.entries.change(key, change) {
+            self.lists.change_state(key, state, unheld);
+        }
     }
 
     /// Adds an entry of a key that has none, on no sequence.

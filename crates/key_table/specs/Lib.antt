@@ -1,4 +1,5 @@
 pub mod Chains
 pub mod Indexed
 pub mod Indexes
+pub mod Lends
 pub mod PlainTable

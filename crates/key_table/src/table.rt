@@ -1,5 +1,6 @@
 //! The table itself.
 ghost use Rattle.std.specs.Prelude.{◌≡◌, ◌+◌, ◌-◌, ◌<◌, length, max, OnOk, OnErr, IfSome, IfNone};
+ghost use Rattle.std.specs.Borrow.{sem};
 ghost use Rattle.key_table.specs.PlainTable.{AreApart, Changes, Gains, HasKey, IsAmong, Loses, no_rows, row};
 
 use crate::chain::{NO_PLACE, Slot, chain_of, find, place_in_front, set_next, widen};
@@ -34,6 +35,8 @@ impl<K: Hashed, V> Model for Table<K, V> {
 }
 
 impl<K: Hashed + Drop, V> Table<K, V> {
+    ghost use Rattle.key_table.specs.Lends.{lends_value};
+
     /// The empty table, without room.
     pub fn new(alloc: Global) -> Table<K, V>
         ensures { result ≡ no_rows }
@@ -85,6 +88,22 @@ impl<K: Hashed + Drop, V> Table<K, V> {
         let chain = chain_of(key, self.heads.len());
         let at = find(&self.slots, self.heads[chain], key)?;
         Some(&self.slots[at].value)
+    }
+
+    /// The value of a key, to write.
+    pub fn get_mut(&mut self, key: &K) -> Option<&mut V>
+        ensures* writes_back { sem 𝓛 (lends_value K.row V.row K.Hashed self.entry key.now result) }
+        ensures some { IfSome result (λ v. IsAmong (row key.now v.now) self.old.rows) }
+        ensures none { IfNone result (HasKey key.now self.old.rows → ⊥) }
+    {
+        if self.heads.is_empty() {
+            return None;
+        }
+        let chain = chain_of(key, self.heads.len());
+        match find(&self.slots, self.heads[chain], key) {
+            Some(at) => Some(&mut self.slots[at].value),
+            None => None,
+        }
     }
 
     /// Adds the row of a key that has none.

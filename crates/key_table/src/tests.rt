@@ -16,3 +16,18 @@ fn a_row_comes_changes_and_goes(rt: HostRuntime) -> Result<(), Fail> {
     assert_eq!(rt; table.get(&7).copied(), None);
     Ok(())
 }
+
+#[test]
+fn a_value_changes_in_its_place(rt: HostRuntime) -> Result<(), Fail> {
+    let mut table: Table<u64, u32> = Table::new(rt.alloc());
+    assert!(rt; table.get_mut(&7).is_none());
+    table.reserve(2)?;
+    table.insert(7, 70);
+    if let Some(value) = table.get_mut(&7) {
+        *value = 71;
+    }
+    assert!(rt; table.get_mut(&8).is_none());
+    assert_eq!(rt; table.get(&7).copied(), Some(71));
+    assert_eq!(rt; table.len(), 1);
+    Ok(())
+}

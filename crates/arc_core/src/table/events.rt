@@ -1,9 +1,10 @@
 //! What the events of callers and of cells do to a shard's table.
 ghost use Rattle.std.specs.Prelude.{◌≡◌, ℕ, ◌+◌, ◌^◌, ◌<◌, ◌≤◌, IsTrue, option_map};
 ghost use Rattle.arc_core.specs.declared.event.Event.{Event};
-ghost use Rattle.arc_core.specs.PlainShard.{numbers};
+ghost use Rattle.arc_core.specs.PlainShard.{held_by, holds_of, numbers};
+ghost use Rattle.arc_core.specs.Changes.{one_less};
 ghost use Rattle.arc_core.specs.Owed.{entries_for, owed_of};
-ghost use Rattle.arc_core.specs.Rules.{arrived_state, target_after};
+ghost use Rattle.arc_core.specs.Rules.{accessed, arrived_state, target_after};
 ghost use Rattle.arc_core.specs.Search.{Stands};
 ghost use Rattle.arc_core.specs.Sparing.{victims};
 ghost use Rattle.arc_core.specs.Step.{effect, entry_to_read, legal, written_entry};
@@ -70,9 +71,16 @@ impl Table {
         ensures { self.new ≡ record self.old { shard = effect self.old.shard (Event.Hit n key t) } }
     {
         let mintime = self.mintime;
-        if let Some(entry) = self.find(key).copied() {
-            self.place(&entry.accessed(mintime, t).one_more(n));
-        }
+        self.place(
+            key,
+            |entry|
+                requires number { n < numbers }
+                requires count { holds_of (accessed mintime t entry.old) + 1 < 2 ^ 32 }
+            {
+                entry.access(mintime, t);
+                entry.one_more(n);
+            },
+        );
     }
 
     /// The bytes of a read of `n` have arrived.
@@ -80,12 +88,11 @@ impl Table {
         requires { IsTrue (legal self.old.shard (Event.Arrive n key digest from)) }
         ensures { self.new ≡ record self.old { shard = effect self.old.shard (Event.Arrive n key digest from) } }
     {
-        if let Some(mut entry) = self.find(key).copied() {
+        self.place(key, |entry| {
             entry.state = arrived_state(entry.state);
             entry.reading = false;
             entry.digest = Some(digest);
-            self.place(&entry);
-        }
+        });
     }
 
     /// `n` gives one hold back.
@@ -93,9 +100,7 @@ impl Table {
         requires { IsTrue (legal self.old.shard (Event.Drop n key)) }
         ensures { self.new ≡ record self.old { shard = effect self.old.shard (Event.Drop n key) } }
     {
-        if let Some(entry) = self.find(key).copied() {
-            self.place(&entry.one_less(n));
-        }
+        self.place(key, |entry| entry.one_less(n));
     }
 
     /// `n` begins to read a key at tick `t`.
@@ -135,9 +140,18 @@ impl Table {
         requires counts { owed_of self.old.shard < 2 ^ 32 }
         ensures { self.new ≡ record self.old { shard = effect self.old.shard (Event.Hand n key to) } }
     {
-        if let Some(entry) = self.find(key).copied() {
-            self.place(&entry.one_less(n).one_more(to));
-        }
+        self.place(
+            key,
+            |entry|
+                requires from { n < numbers }
+                requires some { 0 < held_by n entry.old }
+                requires to { to < numbers }
+                requires count { holds_of (one_less n entry.old) + 1 < 2 ^ 32 }
+            {
+                entry.one_less(n);
+                entry.one_more(to);
+            },
+        );
     }
 
     /// `n` gives one hold back and keeps a private copy.
@@ -150,8 +164,8 @@ impl Table {
     {
         if sole {
             self.remove(key);
-        } else if let Some(entry) = self.find(key).copied() {
-            self.place(&entry.one_less(n));
+        } else {
+            self.place(key, |entry| entry.one_less(n));
         }
     }
 

@@ -128,13 +128,9 @@ impl Table {
         requires { IsTrue (entry_is (may_have place) key self.old.shard) }
         ensures { self.new ≡ record self.old { shard = changed key (with_place place) self.old.shard } }
     {
-        match self.find(key).copied() {
-            Some(mut entry) => {
-                entry.place = place;
-                self.amend(&entry);
-            }
-            None => {}
-        }
+        let _ = self.entries.change(key, |entry| {
+            entry.place = place;
+        });
     }
 
     /// A picked key was written at a place of the cache device.

@@ -61,10 +61,9 @@ impl Table {
         requires evictable { IsTrue (entry_is is_evictable key self.old.shard) }
         ensures { self.new ≡ record self.old { shard = evicted key self.old.shard } }
     {
-        if let Some(mut entry) = self.find(key).copied() {
+        self.place(key, |entry| {
             entry.state = evicted_state(entry.state);
-            self.place(&entry);
-        }
+        });
     }
 
     // Drops a ghost: it becomes L2-only where it has a place on the cache device, else it leaves the table (`arc_evict_hdr` and
@@ -77,11 +76,10 @@ impl Table {
         ensures marks { self.new.marks ≡ self.old.marks }
         ensures marked { self.new.marked ≡ self.old.marked }
     {
-        match self.find(key).copied() {
-            Some(mut entry) if entry.place.is_some() => {
+        match self.find(key) {
+            Some(entry) if entry.place.is_some() => self.place(key, |entry| {
                 entry.state = State::L2Only;
-                self.place(&entry);
-            }
+            }),
             _ => self.remove(key),
         }
     }

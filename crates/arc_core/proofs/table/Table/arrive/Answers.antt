@@ -1,26 +1,26 @@
-use Rattle.std.proofs.Common.{Some, false, sym, ap, subst, ◌∙◌}
-use Rattle.blk_ptr.specs.declared.state.State.{State}
+use Rattle.std.proofs.Common.{◌≡◌, rules, sym, ap, subst, ◌∙◌}
+use Rattle.arc_core.specs.declared.entry.Entry.{Entry}
 use Rattle.arc_core.specs.PlainShard.{PlainShard}
 use Rattle.arc_core.specs.Edits.{placed}
 use Rattle.arc_core.specs.Sound.{IsSoundEntry}
-use Rattle.arc_core.specs.declared.entry.Entry.{Entry}
+use Rattle.arc_core.specs.Step.{arrived}
+use Rattle.arc_core.proofs.Evictions.{found}
 use Rattle.arc_core.proofs.Legal.{arrive-writes}
 use Rattle.arc_core.proofs.table.Table.arrive.Goals as goal
 
-pub place-requires-clause-there : goal.place-requires-clause-there
-place-requires-clause-there c =
-    let s = c.args.self.now.shard in
-    (arrive-writes c.args.n c.args.key c.args.digest c.args.from s c.in-Some.entry c.find.ensures.tidy (c.in-Some.ensures ∙ c.find.ensures.value) c.requires).there
-
 pub place-requires-clause-sound : goal.place-requires-clause-sound
-place-requires-clause-sound c =
+place-requires-clause-sound c tidy e made item gave =
     let s = c.args.self.now.shard in
-    let entry : State → Entry = λ (state : State). record c.in-Some.entry { state = state; reading = false; digest = Some c.args.digest } in
-    subst (λ state. IsSoundEntry (entry state)) (sym c.arrived_state-entry.ensures) (arrive-writes c.args.n c.args.key c.args.digest c.args.from s c.in-Some.entry c.find.ensures.tidy (c.in-Some.ensures ∙ c.find.ensures.value) c.requires).sound
+    let is : made ≡ arrived c.args.digest e = search rules in
+    let writes = arrive-writes c.args.n c.args.key c.args.digest c.args.from s e tidy (sym item) c.requires in
+    (ap (λ (x : Entry). x.key) is ∙ (found c.args.key s e tidy (sym item)).key, subst IsSoundEntry (sym is) writes.sound)
 
-pub returns-in-Some : goal.returns-in-Some
-returns-in-Some c =
+pub returns : goal.returns
+returns c =
     let s = c.args.self.now.shard in
-    let entry : State → Entry = λ (state : State). record c.in-Some.entry { state = state; reading = false; digest = Some c.args.digest } in
-    let effect = (arrive-writes c.args.n c.args.key c.args.digest c.args.from s c.in-Some.entry c.find.ensures.tidy (c.in-Some.ensures ∙ c.find.ensures.value) c.requires).effect in
-    c.place.ensures ∙ ap (λ (s : PlainShard). record c.args.self.now { shard = s }) (ap (λ state. placed (entry state) s) c.arrived_state-entry.ensures ∙ effect)
+    let e = c.place.ensures.placed.0 in
+    let made = c.place.ensures.placed.1 in
+    let gave = c.place.ensures.placed.3 in
+    let is : made ≡ arrived c.args.digest e = search rules in
+    let writes = arrive-writes c.args.n c.args.key c.args.digest c.args.from s e c.place.ensures.tidy (sym c.place.ensures.placed.2) c.requires in
+    c.place.ensures.placed.4 ∙ ap (λ (s : PlainShard). record c.args.self.now { shard = s }) (ap (λ e. placed e s) is ∙ writes.effect)
