@@ -11,6 +11,7 @@ pub mod EntryRows
 pub mod Evictions
 pub mod FeedWalks
 pub mod Feeding
+pub mod FewKeys
 pub mod Frames
 pub mod Keeping
 pub mod KeyRows

@@ -5,7 +5,7 @@ use Rattle.key_table.specs.PlainTable.{AreApart, HasKey, Row}
 use Rattle.arc_lists.specs.declared.name.Name.{Name}
 use Rattle.arc_lists.specs.ByKey.{in_order}
 use Rattle.arc_lists.specs.Sequences.{stands_on}
-use Rattle.arc_core.specs.declared.keys.Keys.TheInside.{Inside}
+use Rattle.arc_core.specs.declared.keys.many.ManyKeys.TheInside.{Inside}
 use Rattle.arc_core.specs.Keys.{PlainKeys}
 
 -- the key of a row, and a key as a row has it

@@ -9,6 +9,7 @@ pub mod Ending
 pub mod Entries
 pub mod EntryRows
 pub mod FeedWalk
+pub mod FewKeys
 pub mod Halts
 pub mod Keeps
 pub mod KeyRows

@@ -1,22 +1,28 @@
-//! Keys that are found by their hashes, and forgotten all at once in as much time as there are.
-ghost use Rattle.std.specs.Prelude.{◌≡◌, ℕ, ◌+◌, ◌-◌, ◌<◌, ◌≤◌, false, [], ◌++◌, ◌∷◌, length, vec_len, vec_capacity, OnOk, OnErr};
+//! Keys that are found as fast where there are many as where there are few, and forgotten all at once in as much time as there are.
+ghost use Rattle.std.specs.Prelude.{◌≡◌, ℕ, ◌+◌, ◌-◌, ◌<◌, ◌≤◌, false, [], length, OnOk};
 ghost use Rattle.arc_lists.specs.ByKey.{with_item};
 ghost use Rattle.arc_lists.specs.Sequences.{stands_on};
+ghost use Rattle.std.specs.List.{list_any};
+ghost use Rattle.blk_ptr.specs.Order.{key_eq};
 ghost use Rattle.arc_core.specs.Keys.{empty_keys};
-ghost use Rattle.arc_core.specs.KeyRows.{AreListed, AreListedBut};
 
-use arc_lists::Name;
+mod many;
+
 use blk_ptr::{Key, NoMemory};
-use key_table::Table;
+use many::ManyKeys;
 use std::alloc::Global;
 use std::marker::Model;
+
+// So many keys are looked through faster than one is found by its hash. Most events mark fewer.
+const FEW: usize = 8;
 
 /// Keys. Contracts see them in rising order, and the room that is left.
 #[derive(Debug, Drop)]
 pub struct Keys {
-    rows: Table<Name, ()>,
-    // The same keys, in the order in which they came.
-    order: Vec<Key>,
+    // The first that came, at most `FEW`.
+    few: Vec<Key>,
+    // Those that came behind them.
+    more: ManyKeys,
 }
 
 impl Model for Keys {
@@ -24,45 +30,18 @@ impl Model for Keys {
 
     ghost Value = { PlainKeys };
 
-    ghost use Rattle.arc_core.specs.KeyRows.{keys, KeysKeep};
+    ghost use Rattle.arc_core.specs.FewKeys.{keys, KeysKeep};
 
     ghost view = { keys };
 
     ghost invariant = { KeysKeep };
 }
 
-// Takes one key off, where it is there.
-fn take_off(rows: &mut Table<Name, ()>, order: &[Key], key: Key)
-    requires { AreListedBut key rows.old.rows order.now }
-    ensures listed { AreListed rows.new.rows order.now }
-    ensures room { rows.new.spare + length rows.new.rows ≡ rows.old.spare + length rows.old.rows }
+// Whether a key is one of a few.
+fn is_among(few: &[Key], key: Key) -> bool
+    ensures { result ≡ list_any (λ k. key_eq k key) few.now }
 {
-    if rows.get(&Name(key)).is_some() {
-        let () = rows.remove(&Name(key));
-    }
-}
-
-// Takes the keys off that are listed, which are all.
-fn take_all(rows: &mut Table<Name, ()>, order: &mut Vec<Key>)
-    requires { AreListed rows.old.rows order.old.items }
-    ensures rows { rows.new.rows ≡ [] }
-    ensures order { order.new.items ≡ [] }
-    ensures spare { rows.new.spare ≡ rows.old.spare + length rows.old.rows }
-    ensures capacity { vec_capacity order.new ≡ vec_capacity order.old }
-{
-    while let Some(key) = order.pop() {
-        take_off(rows, order, key);
-    }
-}
-
-// Puts a key behind the others, for which there is room.
-fn put_last(order: &mut Vec<Key>, key: Key)
-    requires { vec_len order.old < vec_capacity order.old }
-    ensures items { order.new.items ≡ order.old.items ++ key ∷ [] }
-    ensures len { vec_len order.new ≡ vec_len order.old + 1 }
-    ensures capacity { vec_capacity order.old ≤ vec_capacity order.new }
-{
-    let _ = order.push(key);
+    few.iter().any(|k| *k == key)
 }
 
 impl Keys {
@@ -70,8 +49,8 @@ impl Keys {
         ensures { result ≡ empty_keys }
     {
         Keys {
-            rows: Table::new(alloc),
-            order: Vec::new(alloc),
+            few: Vec::new(alloc),
+            more: ManyKeys::new(alloc),
         }
     }
 
@@ -81,18 +60,18 @@ impl Keys {
         ensures ok { OnOk result (n ≤ self.new.spare) }
         ensures more { self.old.spare ≤ self.new.spare }
     {
-        self.order.reserve(n)?;
-        if self.rows.reserve(n).is_err() {
-            return Err(NoMemory);
+        if self.few.capacity() < FEW {
+            self.few.reserve(FEW)?;
         }
-        Ok(())
+        let all = n.checked_add(self.few.len()).ok_or(NoMemory)?;
+        self.more.reserve(all)
     }
 
     /// Whether a key is one of them.
     pub fn has(&self, key: Key) -> bool
         ensures { result ≡ stands_on key self.now.items }
     {
-        !self.order.is_empty() && self.rows.get(&Name(key)).is_some()
+        is_among(&self.few, key) || self.more.has(key)
     }
 
     /// Adds a key that isn't there.
@@ -102,8 +81,11 @@ impl Keys {
         ensures items { self.new.items ≡ with_item (λ k. k) key self.old.items }
         ensures spare { self.new.spare ≡ self.old.spare - 1 }
     {
-        self.rows.insert(Name(key), ());
-        put_last(&mut self.order, key);
+        if self.few.len() < FEW.min(self.few.capacity()) {
+            self.few.push_reserved(key);
+        } else {
+            self.more.add(key);
+        }
     }
 
     /// Forgets them all.
@@ -111,6 +93,7 @@ impl Keys {
         ensures items { self.new.items ≡ [] }
         ensures spare { self.new.spare ≡ self.old.spare + length self.old.items }
     {
-        take_all(&mut self.rows, &mut self.order);
+        self.few.clear();
+        self.more.clear();
     }
 }

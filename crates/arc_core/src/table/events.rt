@@ -1,7 +1,8 @@
 //! What the events of callers and of cells do to a shard's table.
-ghost use Rattle.std.specs.Prelude.{◌≡◌, ℕ, ◌+◌, ◌^◌, ◌<◌, ◌≤◌, IsTrue, option_map};
+ghost use Rattle.std.specs.Prelude.{◌≡◌, ℕ, ◌+◌, ◌^◌, ◌<◌, ◌≤◌, if◌then◌else◌, IsTrue, option_map};
+ghost use Rattle.blk_ptr.specs.declared.state.State.{State};
 ghost use Rattle.arc_core.specs.declared.event.Event.{Event};
-ghost use Rattle.arc_core.specs.PlainShard.{held_by, holds_of, numbers};
+ghost use Rattle.arc_core.specs.PlainShard.{entry_of, held_by, holds_of, numbers};
 ghost use Rattle.arc_core.specs.Changes.{one_less};
 ghost use Rattle.arc_core.specs.Owed.{entries_for, owed_of};
 ghost use Rattle.arc_core.specs.Rules.{accessed, arrived_state, target_after};
@@ -61,6 +62,13 @@ fn written_entry(n: u32, key: Key, digest: Digest, t: u64) -> Entry
         place: None,
         digest: Some(digest),
     }
+}
+
+// The state in which a miss puts a key in, which had an entry or had none.
+fn read_state(was_there: bool) -> State
+    ensures { result ≡ (if was_there then State.Mfu else State.Anon) }
+{
+    if was_there { State::Mfu } else { State::Anon }
 }
 
 impl Table {
@@ -181,11 +189,12 @@ impl Table {
         self.take_in(&written_entry(n, key, digest, t));
     }
 
-    // The target after a key is asked for: it moves where the key is a ghost.
-    fn target_after(&self, key: Key) -> u64
+    // The target after a key with this entry is asked for: it moves where the key is a ghost.
+    fn target_after(&self, key: Key, found: Option<&Entry>) -> u64
+        requires { option_map (λ e. e.now) found ≡ entry_of key self.now.shard }
         ensures { result ≡ target_after key self.now.shard }
     {
-        let Some(entry) = self.find(key) else {
+        let Some(entry) = found else {
             return self.p();
         };
         match entry.state {
@@ -200,8 +209,9 @@ impl Table {
         requires { IsTrue (legal self.now.shard (Event.Miss n key t)) }
         ensures { Stands self.now.shard self.now.marked (victims self.now.shard (Event.Miss n key t)) result }
     {
-        let entry = entry_to_read(n, key, t, self.find(key));
-        self.search_of_entry(&entry, self.target_after(key))
+        let found = self.find(key);
+        let comes = read_state(found.is_some());
+        self.search_as_comes(key, comes, found, self.target_after(key, found))
     }
 
     /// The search for the victims of an insertion, from its start.
@@ -209,7 +219,6 @@ impl Table {
         requires { IsTrue (legal self.now.shard (Event.Insert n key digest t)) }
         ensures { Stands self.now.shard self.now.marked (victims self.now.shard (Event.Insert n key digest t)) result }
     {
-        let entry = written_entry(n, key, digest, t);
-        self.search_of_entry(&entry, self.p())
+        self.search_as_comes(key, State::Mru, self.find(key), self.p())
     }
 }

@@ -1,5 +1,7 @@
 //! The victims of an event, found one after another: what is found is marked, and the search goes on from where it stands.
-ghost use Rattle.std.specs.Prelude.{◌≡◌, ℕ, ◌+◌, ◌-◌, ◌<◌, ◌^◌, false, true, IsTrue, List};
+ghost use Rattle.std.specs.Prelude.{◌≡◌, ℕ, ◌+◌, ◌-◌, ◌<◌, ◌^◌, false, true, IsTrue, List, option_map};
+ghost use Rattle.arc_core.specs.declared.entry.Entry.{Entry};
+ghost use Rattle.arc_core.specs.PlainShard.{entry_of};
 ghost use Rattle.blk_ptr.specs.declared.key.Key.{Key};
 ghost use Rattle.blk_ptr.specs.declared.state.State.{State};
 ghost use Rattle.arc_core.specs.Cursor.{IsScanOf, scan_at, size_by, with_size};
@@ -129,14 +131,15 @@ impl Table {
         }
     }
 
-    // The scan of the table without a key, with this target.
-    fn scan_without(&self, key: Key, p: u64) -> Scan
+    // The scan of the table without a key that has this entry, with this target.
+    fn scan_without(&self, key: Key, found: Option<&Entry>, p: u64) -> Scan
+        requires { option_map (λ e. e.now) found ≡ entry_of key self.now.shard }
         ensures { IsScanOf (Some key) self.now.shard result (record (gone key self.now.shard) { p = p }) }
     {
         // For the proof: what the entries keep of themselves holds here.
         let _entries = &self.entries;
         let mut scan = self.scan_but(Some(key), self.c(), p);
-        if let Some(entry) = self.find(key) {
+        if let Some(entry) = found {
             take_size(&mut scan, entry.state, key.size);
         }
         scan
@@ -155,21 +158,21 @@ impl Table {
         }
     }
 
-    /// The search for what is evicted and dropped as an entry comes in with this target, from its start.
-    pub fn search_of_entry(&self, entry: &Entry, p: u64) -> Search
-        requires off { IsTrue (is_off entry.now) }
-        requires sound { IsSoundEntry entry.now }
-        ensures { Stands self.now.shard self.now.marked (victims_of_entry entry.now (record self.now.shard { p = p })) result }
+    /// The search for what is evicted and dropped as a key comes in with this state and this target, from its start. The key has the
+    /// entry that was found.
+    pub fn search_as_comes(&self, key: Key, comes: State, found: Option<&Entry>, p: u64) -> Search
+        requires { option_map (λ e. e.now) found ≡ entry_of key self.now.shard }
+        ensures { (e : Entry) → e.key ≡ key → e.state ≡ comes → IsTrue (is_off e) → IsSoundEntry e
+            → Stands self.now.shard self.now.marked (victims_of_entry e (record self.now.shard { p = p })) result }
     {
         // For the proof: what the lists keep of themselves holds here.
         let _lists = &self.lists;
-        let (key, comes) = (entry.key, entry.state);
         Search {
             about: Some(key),
             z: key.size,
             comes,
             trims: false,
-            scan: self.scan_without(key, p),
+            scan: self.scan_without(key, found, p),
         }
     }
 

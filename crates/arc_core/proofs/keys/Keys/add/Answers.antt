@@ -1,34 +1,22 @@
-use Rattle.std.proofs.Common.{◌≡◌, ◌<◌, false, sym, subst, arith}
+use Rattle.std.proofs.Common.{◌≡◌, false, sym, ap, subst, ◌∙◌}
+use Rattle.arc_lists.specs.ByKey.{with_item}
 use Rattle.arc_lists.specs.Sequences.{stands_on}
-use Rattle.arc_core.proofs.KeyRows.{key-comes, listed-comes, longer, named, no-name}
+use Rattle.arc_core.specs.FewKeys.{beside}
+use Rattle.arc_core.proofs.FewKeys.{absent-more, beside-few, beside-more}
 use Rattle.arc_core.proofs.keys.Keys.add.Goals as goal
 
-pub insert-requires-clause-absent : goal.insert-requires-clause-absent
-insert-requires-clause-absent c =
-    let rows = c.self.inside.rows.rows in
-    no-name rows c.args.key c.self.invariant.listed.apart (subst (λ m. stands_on c.args.key m.items ≡ false) (sym c.self.view_is) c.requires.absent)
+pub add-requires-clause-absent : goal.add-requires-clause-absent
+add-requires-clause-absent c =
+    absent-more c.args.key c.self.inside.few.items c.self.inside.more.items (subst (λ m. stands_on c.args.key m.items ≡ false) (sym c.self.view_is) c.requires.absent)
 
-pub put_last-requires : goal.put_last-requires
-put_last-requires c =
-    let kept = c.self.invariant in
-    let some : 0 < c.self.inside.rows.spare = subst (λ m. 0 < m.spare) (sym c.self.view_is) c.requires.room in
-    omega (arith, kept.many, kept.room, some)
+pub returns-then-len-min-clause-items : goal.returns-then-len-min-clause-items
+returns-then-len-min-clause-items c =
+    let few = c.self.inside.few.items in
+    let more = c.self.inside.more.items in
+    ap (λ l. beside l more) c.push_reserved.ensures.items ∙ beside-few few c.args.key more ∙ ap (λ m. with_item (λ k. k) c.args.key m.items) c.self.view_is
 
-pub invariant_of-self : goal.invariant_of-self
-invariant_of-self c =
-    let rows = c.self.inside.rows.rows in
-    let kept = c.self.invariant in
-    let off : stands_on c.args.key (named rows) ≡ false = subst (λ m. stands_on c.args.key m.items ≡ false) (sym c.self.view_is) c.requires.absent in
-    let some : 0 < c.self.inside.rows.spare = subst (λ m. 0 < m.spare) (sym c.self.view_is) c.requires.room in
-    let more = longer rows c.insert.new.self.rows c.args.key kept.listed.apart c.insert.ensures.apart off c.insert.ensures.rows in
-    record {
-      listed = listed-comes rows c.insert.new.self.rows c.args.key c.self.inside.order.items c.put_last.new.order.items kept.listed c.insert.ensures.apart c.insert.ensures.rows c.put_last.ensures.items;
-      many = omega (arith, kept.many, more, c.put_last.ensures.len);
-      room = omega (arith, kept.room, more, c.insert.ensures.spare, some, c.put_last.ensures.capacity);
-    }
-
-pub returns-clause-items : goal.returns-clause-items
-returns-clause-items c =
-    let rows = c.self.inside.rows.rows in
-    let off : stands_on c.args.key (named rows) ≡ false = subst (λ m. stands_on c.args.key m.items ≡ false) (sym c.self.view_is) c.requires.absent in
-    rw (← c.self.view_is) (key-comes rows c.insert.new.self.rows c.args.key c.self.invariant.listed.apart c.insert.ensures.apart off c.insert.ensures.rows)
+pub returns-else-len-min-clause-items : goal.returns-else-len-min-clause-items
+returns-else-len-min-clause-items c =
+    let few = c.self.inside.few.items in
+    let more = c.self.inside.more.items in
+    ap (beside few) c.add.ensures.items ∙ beside-more few c.args.key more ∙ ap (λ m. with_item (λ k. k) c.args.key m.items) c.self.view_is

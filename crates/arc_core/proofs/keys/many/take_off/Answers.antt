@@ -2,7 +2,7 @@ use Rattle.std.proofs.Common.{sym, ◌∙◌, arith}
 use Rattle.key_table.specs.PlainTable.{HasKey}
 use Rattle.arc_core.specs.KeyRows.{name}
 use Rattle.arc_core.proofs.KeyRows.{found-has, found-none, listed-off, listed-past, shorter}
-use Rattle.arc_core.proofs.keys.take_off.Goals as goal
+use Rattle.arc_core.proofs.keys.many.take_off.Goals as goal
 
 pub returns-then-is_some-clause-listed : goal.returns-then-is_some-clause-listed
 returns-then-is_some-clause-listed c = listed-off c.args.rows.now.rows c.remove.new.self.rows c.args.key c.args.order.now c.requires c.remove.ensures.apart c.remove.ensures.rows

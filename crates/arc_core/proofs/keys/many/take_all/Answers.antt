@@ -1,7 +1,7 @@
 use Rattle.std.proofs.Common.{◌∷◌, length, sym, ap, subst, ◌∙◌, arith, refl}
 use Rattle.arc_core.specs.KeyRows.{AreListed}
 use Rattle.arc_core.proofs.KeyRows.{listed-none, none-left, listed-swap}
-use Rattle.arc_core.proofs.keys.take_all.Goals as goal
+use Rattle.arc_core.proofs.keys.many.take_all.Goals as goal
 
 pub loop-key-init : goal.loop-key-init
 loop-key-init c = record { listed = c.requires; room = refl; capacity = refl }

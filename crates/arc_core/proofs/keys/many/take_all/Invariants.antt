@@ -1,6 +1,6 @@
 use Rattle.std.proofs.Common.{◌≡◌, ◌+◌, length, vec_capacity}
 use Rattle.arc_core.specs.KeyRows.{AreListed}
-use Rattle.arc_core.proofs.keys.take_all.Given as goal
+use Rattle.arc_core.proofs.keys.many.take_all.Given as goal
 
 abbrev pub invariant-loop-key : goal.invariant-loop-key
 invariant-loop-key l = record {
