@@ -28,7 +28,7 @@ use Rattle.arc_core.specs.ShardLog.{ShardLog}
 use Rattle.arc_core.specs.Sound.{IsSound, fits_state}
 use Rattle.arc_core.specs.Step.{after, arrived, legal, may_come_from, reads}
 use Rattle.arc_core.proofs.Others.{own-entry}
-use Rattle.hash_chain.specs.Chain.{Chain, IsWith}
+use Rattle.hash_chain.specs.Chain.{Chain, IsWith, header_at}
 use Rattle.hash_chain.specs.declared.header.Header.{Header}
 use Rattle.turn_table.specs.Places.{Place}
 use Rattle.arc_table.specs.declared.about.About.{About}
@@ -47,8 +47,8 @@ use Rattle.arc_table.specs.Making.{IsMade, IsTaken}
 use Rattle.arc_table.specs.Standing.{Follows}
 use Rattle.arc_table.proofs.Bookings.{readings_cons}
 use Rattle.arc_table.proofs.FollowEvents.{IsLikeIf, follow_made, header_there, like_none}
-use Rattle.arc_table.proofs.HitEvents.{passes_at}
-use Rattle.arc_table.proofs.OneEvent.{one_made, some_is, taken_few, taken_number, taken_sound}
+use Rattle.arc_table.proofs.HitEvents.{head_there, passes_at}
+use Rattle.arc_table.proofs.OneEvent.{one_made, some_is, taken_few, taken_head, taken_number, taken_sound}
 use Rattle.arc_table.proofs.Reached.{counted, counted_there, is_read, reached}
 use Rattle.arc_table.proofs.ShardGives.{entry_sound}
 use Rattle.arc_table.proofs.Standings.{both_true}
@@ -170,6 +170,16 @@ module _ {C : Type 0} (m : Meanings C) (g : Config) (k : Key) (b : Both) (q : Pl
   pub may_arrive : (d : Digest) (from : Origin) → IsTrue (entry_is (may_come_from from) k b.shard.now) → IsTrue (legal b.shard.now (Arrive q.number k d from))
   may_arrive d from comes = arrive_legal q.number k d from b.shard.now few taken_read comes
 
+  -- what the header of the key says of the entry that is being read
+  pub header_says : (h : Header) → header_at k b.hand.own.bucket.headers ≡ Some h → Says taken_read.entry h
+  header_says h had =
+      let x = head_there (entry_of k b.shard.now) (header_at k b.hand.own.bucket.headers) taken_read.entry (taken_head m g k b q taken same valid) taken_read.there in
+      subst (Says taken_read.entry) (some_is x.0 h (sym x.1 ∙ had)) x.2
+
+  -- whether bytes may come is told by the place that it says
+  pub comes_by : (from : Origin) (h : Header) (answer : Bool) → header_at k b.hand.own.bucket.headers ≡ Some h → ((e : Entry) → h.place ≡ e.place → answer ≡ may_come_from from e) → answer ≡ entry_is (may_come_from from) k b.shard.now
+  comes_by from h answer had told = told taken_read.entry (header_says h had).place ∙ sym (ap (λ (o : Option Entry). option_map_or (may_come_from from) o false) taken_read.there)
+
   pub may_fail : (at : FailedAt) → IsTrue (legal b.shard.now (Fail q.number k at))
   may_fail at = fail_legal q.number k at b.shard.now few taken_read
 
@@ -203,7 +213,7 @@ module _ {C : Type 0} (m : Meanings C) (g : Config) (k : Key) (b : Both) (q : Pl
       (λ x there. subst (IsLikeIf x) (sym (own-entry b.shard.now (Fail q.number k at) k sound (may_fail at) refl)) (like_none x)) f
 
   -- its header is there
-  pub header_read : (h : Header) × (Rattle.hash_chain.specs.Chain.header_at k b.hand.own.bucket.headers ≡ Some h)
+  pub header_read : (h : Header) × (header_at k b.hand.own.bucket.headers ≡ Some h)
   header_read = header_there m g k b q taken same valid taken_read.entry taken_read.there
 
 -- the hold is listed then

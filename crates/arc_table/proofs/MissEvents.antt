@@ -1,10 +1,11 @@
 -- A read of a block that isn't cached begins: the party has just taken the key's bucket and its shard.
 use Rattle.std.proofs.Common.{◌≡◌, if◌then◌else◌, ℕ, ◌<◌, List, [], ◌∷◌, ◌++◌, length, Bool, true, false, Option, Some, None, refl, sym, ap, ◌∙◌, subst, inl, inr, arith, append-nil, append_assoc, eq-eqb}
-use Rattle.std.specs.Prelude.{IsTrue, IsSome, ◌&&◌}
-use Rattle.std.specs.Option.{option_map_or}
+use Rattle.std.specs.Prelude.{IsTrue, IsSome, ◌&&◌, is_some}
+use Rattle.std.specs.Option.{option_and_then, option_map, option_map_or}
 use Rattle.std.proofs.lemmas.Bool.Decides.{nat_tests}
 use Rattle.blk_ptr.specs.declared.key.Key.{Key}
 use Rattle.blk_ptr.specs.Key.{is_well_formed}
+use Rattle.blk_ptr.specs.declared.state.State.TheVariants.{Anon, Mfu}
 use Rattle.blk_ptr.specs.Order.{key_eq}
 use Rattle.blk_ptr.proofs.Keys.{key_eq-same, key_eq-sym}
 use Rattle.arc_lists.proofs.Standing.{and_right, both as both_true}
@@ -13,11 +14,13 @@ use Rattle.arc_core.specs.Config.{IsConfig}
 use Rattle.arc_core.specs.declared.entry.Entry.{Entry}
 use Rattle.arc_core.specs.declared.event.Event.{Event}
 use Rattle.arc_core.specs.declared.event.Event.TheVariants.{Miss}
+use Rattle.arc_core.specs.declared.shard.EntryView.{EntryView}
 use Rattle.arc_core.specs.Operations.{event_key, is_about}
 use Rattle.arc_core.specs.PlainShard.{PlainShard, entry_of, is_number, is_resident}
 use Rattle.arc_core.specs.Replay.{is_legal_history, replay}
 use Rattle.arc_core.specs.ShardLog.{IsReplayed, Makes as makes_one, ShardLog}
 use Rattle.arc_core.specs.Step.{after, entry_to_read, is_missing, legal}
+use Rattle.arc_core.specs.View.{view_of}
 use Rattle.arc_core.proofs.Others.{own-entry}
 use Rattle.arc_core.proofs.Stepping.{replay-append}
 use Rattle.hash_chain.specs.Chain.{Chain, IsWith, header_at}
@@ -242,9 +245,20 @@ none_makes {C} m g k b back q q' r keeps new same =
     let none : made_since back.hand.before.value back.shard ≡ [] = made_is back.hand.before.value back.shard [] (keeps.history ∙ (ap (λ (l : ShardLog). l.history) (sym before) ∙ sym (append-nil back.hand.before.value.history))) in
     subst (λ (x : ShardLog × List Event × Place (Known C)). Makes m g k x.0 x.1 x.2 r) (λ z. (before z, none z, same z))
 
--- the key has an entry once it is being read
-pub miss_there : (n tick : ℕ) (k : Key) (l l' : ShardLog) → IsReplayed l → IsTrue (legal l.now (Miss n k tick)) → makes_one (Miss n k tick) l l' → IsSome (entry_of k l'.now)
-miss_there n tick k l l' replayed ok makes = subst (λ (o : Option Entry). IsSome o) (sym (ap (entry_of k) makes.now ∙ own-entry l.now (Miss n k tick) k replayed.sound ok refl)) refl
+-- the key's entry once it is being read
+pub miss_entry : (n tick : ℕ) (k : Key) (l l' : ShardLog) → IsReplayed l → IsTrue (legal l.now (Miss n k tick)) → makes_one (Miss n k tick) l l' → entry_of k l'.now ≡ Some (entry_to_read n k tick (entry_of k l.now))
+miss_entry n tick k l l' replayed ok makes = ap (entry_of k) makes.now ∙ own-entry l.now (Miss n k tick) k replayed.sound ok refl
+
+-- its header, as it is made of what was shown of the key before
+pub reading_is : (n tick : ℕ) (k : Key) (found : Option EntryView) (o : Option Entry) → found ≡ option_map view_of o
+    → ◌≡◌ {A = Header} (record { key = k; state = if is_some found then Mfu else Anon; reading = true; place = option_and_then (λ v. v.place) found; digest = None; block = None })
+    (record { key = k; state = (entry_to_read n k tick o).state; reading = true; place = (entry_to_read n k tick o).place; digest = None; block = None })
+reading_is n tick k found None is = ap (λ (f : Option EntryView). let h : Header = record { key = k; state = if is_some f then Mfu else Anon; reading = true; place = option_and_then (λ v. v.place) f; digest = None; block = None } in h) is
+reading_is n tick k found (Some e) is = ap (λ (f : Option EntryView). let h : Header = record { key = k; state = if is_some f then Mfu else Anon; reading = true; place = option_and_then (λ v. v.place) f; digest = None; block = None } in h) is
+
+-- a scan changes no entry
+pub scanned_entry : {C : Type 0} (m : Meanings C) (g : Config) (k : Key) (b : Both) (e : Event) (q q' : Place (Known C)) (s : Scan) → HasScanned m g b e q q' s → b.hand.before.value ≡ b.shard → entry_of k s.both.shard.now ≡ entry_of k b.shard.now
+scanned_entry m g k b e q q' s h new = ap (entry_of k) h.scan.now ∙ ap (λ (l : ShardLog). entry_of k l.now) (ap (λ x. x.value) h.before ∙ new)
 
 -- a party that has scanned is one of its cache still
 pub scanned_party : {C : Type 0} (m : Meanings C) (g : Config) (b : Both) (e : Event) (cache : Cache) (q q' : Place (Known C)) (s : Scan) → HasScanned m g b e q q' s → IsPartyOf cache q → IsPartyOf cache q'

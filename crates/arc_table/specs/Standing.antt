@@ -22,6 +22,10 @@ StandsSo ptr s (standing.Reading owner) = IsTrue (entry_is (reads owner) ptr.key
 StandsSo ptr s (standing.Other kept) = (kept ≢ ptr.digest) × IsTrue (entry_is (λ e. is_resident e && keeps_digest kept e) ptr.key s)
 StandsSo ptr s (standing.Here) = is_cached_with ptr s
 
+-- the bytes that a header has, if there is one
+abbrev pub bytes_of : Option Header → Option (List ℕ)
+bytes_of o = option_map (λ block. block.value) (option_and_then (λ h. h.block) o)
+
 -- the bytes that the key's header has
 abbrev pub bytes_at : Key → List Header → Option (List ℕ)
 bytes_at k hs = option_map (λ block. block.value) (option_and_then (λ h. h.block) (header_at k hs))

@@ -1,10 +1,12 @@
 //! How a read ends: its bytes arrive, or it has failed.
-ghost use Rattle.std.specs.Prelude.{◌≡◌, IsSome, IsTrue, IfSome, IfNone, Some, None, [], ◌∷◌};
+ghost use Rattle.std.specs.Prelude.{◌≡◌, ◌<◌, IsTrue, IfSome, IfNone, Some, None, [], ◌∷◌, false, length, slice_get};
 ghost use Rattle.blk_ptr.specs.Ptr.{IsOf};
+ghost use Rattle.arc_core.specs.declared.entry.Entry.{Entry};
 ghost use Rattle.arc_core.specs.declared.event.Event.{Event};
 ghost use Rattle.arc_core.specs.PlainShard.{entry_is};
+ghost use Rattle.arc_core.specs.Rules.{arrived_state};
 ghost use Rattle.arc_core.specs.Step.{may_come_from};
-ghost use Rattle.hash_chain.specs.Chain.{IsWith, header_at};
+ghost use Rattle.hash_chain.specs.Chain.{header_at};
 ghost use Rattle.arc_table.specs.Arriving.{FindsCleared, IsReading};
 ghost use Rattle.arc_table.specs.Both.{Does, Makes};
 ghost use Rattle.arc_table.specs.Cache.{IsPartyOf};
@@ -17,36 +19,44 @@ use crate::arcs::{Arcs, Party};
 use crate::both::Both;
 use crate::fetch::Fetched;
 use crate::headers::follow;
-use crate::heap_bucket::HeapBucket;
 use crate::hold::Hold;
-use crate::inserts::written_header;
-use arc_core::{Event, FailedAt, Keeps, Origin, Shard};
-use blk_ptr::{Key, Ptr};
+use arc_core::{Event, FailedAt, Keeps, Origin};
+use blk_ptr::{Block, Digest, Key, Ptr, State};
 use hash_chain::Header;
-use std::sync::Wait;
+use std::sync::{Arc, Wait};
 
 // Whether bytes from there may arrive: those of the cache device only while the entry has a place there.
-fn may_come(shard: &Shard, key: Key, from: Origin) -> bool
-    ensures { result ≡ entry_is (may_come_from from) key shard.now.now }
+fn may_come(place: Option<u64>, from: Origin) -> bool
+    ensures { (e : Entry) → place ≡ e.place → result ≡ may_come_from from e }
 {
-    match shard.entry(key) {
-        Some(entry) => match from {
-            Origin::Pool => true,
-            Origin::L2 => entry.place.is_some(),
-        },
-        None => false,
+    match from {
+        Origin::Pool => true,
+        Origin::L2 => place.is_some(),
     }
 }
 
-// The key, which has a header, has this one from now on.
-fn change_header(bucket: &mut HeapBucket, header: Header)
-    requires { IsSome (header_at header.key bucket.old.headers) }
-    ensures { IsWith header.key (Some header) bucket.old.headers bucket.new.headers }
+// The state of an entry whose bytes have arrived.
+fn arrived_state(state: State) -> State
+    ensures { result ≡ arrived_state state }
 {
-    let Some(at) = bucket.find(header.key) else {
-        unreachable!()
-    };
-    bucket.change(at, header);
+    match state {
+        State::Anon => State::Mru,
+        other => other,
+    }
+}
+
+// What a header says of an entry whose bytes have arrived, where it said this while they were being read.
+fn arrived_header(header: &Header, digest: Digest, block: Arc<Block>) -> Header
+    ensures { result ≡ record { key = header.now.key; state = arrived_state header.now.state; reading = false; place = header.now.place; digest = Some digest; block = Some block } }
+{
+    Header {
+        key: header.key,
+        state: arrived_state(header.state),
+        reading: false,
+        place: header.place,
+        digest: Some(digest),
+        block: Some(block),
+    }
 }
 
 impl<C: Keeps> Arcs<C> {
@@ -71,17 +81,31 @@ impl<C: Keeps> Arcs<C> {
         ensures cleared { IfNone result ((fetched.from ≡ Origin.L2) × FindsCleared (meanings C.holds C.entries C.opening C.claims C.sound) self.now.config ptr.now.key party.old party.new) }
     {
         let both = self.take_both(rt, party, ptr.key);
-        if !may_come(&both.shard, ptr.key, fetched.from) {
+        let Some(at) = both.hand.own.bucket.find(ptr.key) else {
+            unreachable!()
+        };
+        if !may_come(both.hand.own.bucket.at(at).place, fetched.from) {
             self.give_back(party, ptr.key, both);
             return None;
         }
-        Some(self.arrive_taken(party, both, *ptr, fetched))
+        Some(self.arrive_taken(party, both, at, *ptr, fetched))
     }
 
-    // The bytes of a read arrive, of the key whose bucket and shard the party has just taken, and both are given back.
-    fn arrive_taken(&self, party: &mut Party<C>, mut both: Both, ptr: Ptr, fetched: Fetched) -> Hold
+    // The bytes of a read arrive, of the key whose bucket and shard the party has just taken, and whose header stands at `at`. Both are
+    // given back.
+    fn arrive_taken(
+        &self,
+        party: &mut Party<C>,
+        mut both: Both,
+        at: usize,
+        ptr: Ptr,
+        fetched: Fetched,
+    ) -> Hold
         requires party { IsPartyOf self.now party.old }
         requires taken { IsTaken (meanings C.holds C.entries C.opening C.claims C.sound) self.now.config ptr.key both party.old }
+        requires range { at < length both.hand.own.bucket.headers }
+        requires found { header_at ptr.key both.hand.own.bucket.headers ≡ slice_get both.hand.own.bucket.headers at }
+        requires key { IfSome (slice_get both.hand.own.bucket.headers at) (λ h. h.key ≡ ptr.key) }
         requires reading { IsReading ptr.key party.old }
         requires of { IsOf fetched.block.value ptr }
         requires shared { fetched.shared.value ≡ fetched.block.value }
@@ -98,8 +122,8 @@ impl<C: Keeps> Arcs<C> {
         let owner = party.number();
         let shard = &mut *both.shard;
         shard.arrive(owner, ptr.key, ptr.digest, from);
-        let header = written_header(shard, ptr.key, shared);
-        change_header(&mut both.hand.own.bucket, header);
+        let header = arrived_header(both.hand.own.bucket.at(at), ptr.digest, shared);
+        both.hand.own.bucket.change(at, header);
         self.give_both(party, ptr.key, both);
         let Ptr { key, digest: _ } = ptr;
         Hold { key, owner, block }

@@ -1,8 +1,10 @@
 //! Hits that never wait.
-ghost use Rattle.std.specs.Prelude.{◌≡◌, ℕ, IfOk, OnErr, [], ◌∷◌, length};
+ghost use Rattle.std.specs.Prelude.{◌≡◌, ℕ, IfOk, OnErr, [], ◌∷◌, length, option_map};
 ghost use Rattle.blk_ptr.specs.Hash.{shard_of};
 ghost use Rattle.arc_core.specs.declared.event.Event.{Event};
-ghost use Rattle.arc_core.specs.ShardLog.{IsReplayed};
+ghost use Rattle.arc_core.specs.PlainShard.{PlainShard, entry_of};
+ghost use Rattle.arc_core.specs.Sound.{IsSound};
+ghost use Rattle.arc_core.specs.View.{view_of};
 ghost use Rattle.arc_table.specs.Both.{Makes};
 ghost use Rattle.arc_table.specs.Cache.{IsPartyOf};
 ghost use Rattle.arc_table.specs.Holding.{IsHeld, IsHoldOf, IsListed};
@@ -15,9 +17,10 @@ ghost use Rattle.arc_table.specs.Trying.{AnswersHit, MayAnswerHolder};
 use crate::arcs::{Arcs, Party};
 use crate::both::Both;
 use crate::front::Front;
-use crate::headers::{block_of, follow};
+use crate::headers::{block_at, follow_at};
 use crate::hold::Hold;
-use arc_core::{Event, Keeps, Shard};
+use crate::spare::is_cached;
+use arc_core::{EntryView, Event, Keeps, Shard};
 use blk_ptr::{Digest, Key, NoMemory, Ptr};
 use turn_table::Take;
 
@@ -51,24 +54,26 @@ pub(crate) enum Standing {
     Here,
 }
 
-// What the shard says of the pointer.
-pub(crate) fn standing_of(shard: &Shard, ptr: Ptr) -> Standing
-    requires { IsReplayed shard.now }
-    ensures { StandsSo ptr shard.now.now result }
+// What a shard says of the pointer that shows this of its key.
+pub(crate) fn standing_of(found: Option<EntryView>, ptr: Ptr) -> Standing
+    ensures { (s : PlainShard) → IsSound s → found ≡ option_map view_of (entry_of ptr.key s) → StandsSo ptr s result }
 {
-    if let Some(kept) = shard.resident(ptr.key) {
-        if kept == ptr.digest {
-            return Standing::Here;
-        }
-        return Standing::Other { kept };
-    }
-    let Some(entry) = shard.entry(ptr.key) else {
+    let Some(entry) = found else {
         return Standing::Missing;
     };
-    match entry.reader {
-        Some(owner) => Standing::Reading { owner },
-        None => Standing::Missing,
+    if let Some(owner) = entry.reader {
+        return Standing::Reading { owner };
     }
+    if !is_cached(entry.state) {
+        return Standing::Missing;
+    }
+    let Some(kept) = entry.digest else {
+        return Standing::Missing;
+    };
+    if kept == ptr.digest {
+        return Standing::Here;
+    }
+    Standing::Other { kept }
 }
 
 impl<C: Keeps> Arcs<C> {
@@ -87,7 +92,8 @@ impl<C: Keeps> Arcs<C> {
         };
         let shard: &Shard = &both.shard;
         let front = self.front_of(ptr.key, shard);
-        match standing_of(shard, *ptr) {
+        let found = shard.entry(ptr.key);
+        match standing_of(found, *ptr) {
             Standing::Here => match self.hit_taken(party, both, *ptr, tick) {
                 Ok(hold) => TryHit::Held(hold),
                 Err(NoMemory) => TryHit::NoMemory,
@@ -133,7 +139,10 @@ impl<C: Keeps> Arcs<C> {
         ensures hold { IfOk result (λ hold. IsHoldOf ptr party.old.number hold × IsHeld self.now.config party.new hold) }
         ensures err { OnErr result (Makes (meanings C.holds C.entries C.opening C.claims C.sound) self.now.config ptr.key both.shard [] party.old party.new) }
     {
-        let Ok(block) = block_of(&both.hand.own.bucket, ptr.key) else {
+        let Some(at) = both.hand.own.bucket.find(ptr.key) else {
+            unreachable!()
+        };
+        let Ok(block) = block_at(&both.hand.own.bucket, at) else {
             self.give_back(party, ptr.key, both);
             return Err(NoMemory);
         };
@@ -144,7 +153,7 @@ impl<C: Keeps> Arcs<C> {
         };
         let owner = party.number();
         shard.hit(owner, ptr.key, tick);
-        follow(&mut both.hand.own.bucket, shard, ptr.key);
+        follow_at(&mut both.hand.own.bucket, shard, ptr.key, at);
         self.give_both(party, ptr.key, both);
         let Ptr { key, digest: _ } = ptr;
         Ok(Hold { key, owner, block })

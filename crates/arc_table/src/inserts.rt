@@ -47,7 +47,7 @@ fn is_new_here(shard: &Shard, key: Key) -> bool
 }
 
 // What a header says of an entry whose bytes are these.
-pub(crate) fn written_header(shard: &Shard, key: Key, block: Arc<Block>) -> Header
+fn written_header(shard: &Shard, key: Key, block: Arc<Block>) -> Header
     requires { IsSome (entry_of key shard.now.now) }
     ensures { (e : Entry) × (entry_of key shard.now.now ≡ Some e)
         × (result ≡ record { key = key; state = e.state; reading = false; place = e.place; digest = e.digest; block = Some block }) }

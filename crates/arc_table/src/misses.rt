@@ -1,13 +1,12 @@
 //! How a read of a block that isn't cached begins.
-ghost use Rattle.std.specs.Prelude.{◌≡◌, ℕ, ◌<◌, ◌∷◌, [], IsTrue, IsSome, IfOk, OnOk, OnErr, Some, None, true};
+ghost use Rattle.std.specs.Prelude.{◌≡◌, ℕ, ◌<◌, ◌∷◌, [], if◌then◌else◌, IsTrue, OnOk, OnErr, Some, None, is_some, option_and_then, true};
 ghost use Rattle.std.specs.Option.{option_map};
 ghost use Rattle.blk_ptr.specs.Key.{is_well_formed};
-ghost use Rattle.arc_core.specs.declared.entry.Entry.{Entry};
 ghost use Rattle.arc_core.specs.declared.event.Event.{Event};
 ghost use Rattle.arc_core.specs.PlainShard.{entry_of};
 ghost use Rattle.arc_core.specs.Step.{is_missing};
 ghost use Rattle.arc_core.specs.View.{view_of};
-ghost use Rattle.hash_chain.specs.Chain.{header_at, IsWith};
+ghost use Rattle.hash_chain.specs.Chain.{IsWith};
 ghost use Rattle.turn_table.specs.Board.{IsAmong};
 ghost use Rattle.arc_table.specs.Both.{Makes};
 ghost use Rattle.arc_table.specs.Cache.{IsPartyOf};
@@ -19,8 +18,8 @@ ghost use Rattle.arc_table.specs.Making.{IsTaken};
 use crate::arcs::{Arcs, Party};
 use crate::both::Both;
 use crate::heap_bucket::HeapBucket;
-use arc_core::{EntryView, Event, Keeps, Shard};
-use blk_ptr::{Key, NoMemory};
+use arc_core::{EntryView, Event, Keeps};
+use blk_ptr::{Key, NoMemory, State};
 use hash_chain::Header;
 
 // The key has this header from now on.
@@ -34,46 +33,45 @@ pub(crate) fn put_header(bucket: &mut HeapBucket, header: Header)
     }
 }
 
-// What a header says of an entry whose bytes are being read.
-fn reading_header(shard: &Shard, key: Key) -> Header
-    requires { IsSome (entry_of key shard.now.now) }
-    ensures { (e : Entry) × (entry_of key shard.now.now ≡ Some e)
-        × (result ≡ record { key = key; state = e.state; reading = true; place = e.place; digest = e.digest; block = None }) }
+// What a header says of an entry whose bytes are being read, where this was known of the key before.
+fn reading_header(key: Key, found: Option<EntryView>) -> Header
+    ensures { result ≡ record { key = key; state = if is_some found then State.Mfu else State.Anon; reading = true; place = option_and_then (λ v. v.place) found; digest = None; block = None } }
 {
-    let Some(entry) = shard.entry(key) else {
-        unreachable!()
-    };
     Header {
         key,
-        state: entry.state,
+        state: if found.is_some() {
+            State::Mfu
+        } else {
+            State::Anon
+        },
         reading: true,
-        place: entry.place,
-        digest: entry.digest,
+        place: found.and_then(|entry| entry.place),
+        digest: None,
         block: None,
     }
 }
 
 impl<C: Keeps> Arcs<C> {
-    // Begins to read the key whose bucket and shard the party has just taken, and gives all back. It answers what was known of the key
-    // before. Where memory is refused there is no event.
+    // Begins to read the key whose bucket and shard the party has just taken, and gives all back. This is known of the key before. Where
+    // memory is refused there is no event.
     pub(crate) fn miss_taken(
         &self,
         party: &mut Party<C>,
         both: Both,
         key: Key,
+        found: Option<EntryView>,
         tick: u64,
-    ) -> Result<Option<EntryView>, NoMemory>
+    ) -> Result<(), NoMemory>
         requires party { IsPartyOf self.now party.old }
         requires taken { IsTaken (meanings C.holds C.entries C.opening C.claims C.sound) self.now.config key both party.old }
         requires others { (j : ℕ) → IsAmong j party.old.held → IsBucket self.now.config j → j ≡ bucket_turn self.now.config key }
         requires formed { IsTrue (is_well_formed key) }
         requires missing { IsTrue (is_missing key both.shard.now) }
-        ensures found { IfOk result (λ found. found ≡ option_map view_of (entry_of key both.shard.now)) }
+        requires found { found ≡ option_map view_of (entry_of key both.shard.now) }
         ensures ok { OnOk result (MakesRoomy (meanings C.holds C.entries C.opening C.claims C.sound) self.now.config key both.shard (Event.Miss party.old.number key tick) party.old party.new) }
         ensures err { OnErr result (Makes (meanings C.holds C.entries C.opening C.claims C.sound) self.now.config key both.shard [] party.old party.new) }
     {
         let n = party.number();
-        let found = both.shard.entry(key);
         let event = Event::Miss { n, key, t: tick };
         let mut scan = match self.begin_scan(party, both, &event) {
             Ok(scan) => scan,
@@ -84,9 +82,9 @@ impl<C: Keeps> Arcs<C> {
         };
         let shard = &mut *scan.both.shard;
         shard.miss(n, key, tick);
-        let header = reading_header(shard, key);
+        let header = reading_header(key, found);
         put_header(&mut scan.both.hand.own.bucket, header);
         self.end_scan(party, scan);
-        Ok(found)
+        Ok(())
     }
 }

@@ -134,7 +134,8 @@ impl<C: Keeps> Arcs<C> {
         ensures cache { KeepsDevice D.CacheDev cache.old cache.new }
     {
         let both = self.take_both(rt, party, ptr.key);
-        match standing_of(&both.shard, ptr) {
+        let found = both.shard.entry(ptr.key);
+        match standing_of(found, ptr) {
             Standing::Reading { owner: _ } => {
                 self.give_back(party, ptr.key, both);
                 Round::Reading
@@ -147,8 +148,8 @@ impl<C: Keeps> Arcs<C> {
                 Ok(bytes) => Round::Answered(read_past(self.alloc, pool, &ptr, bytes, kept)),
                 Err(NoMemory) => Round::Answered(Err(ReadFault::NoMemory)),
             },
-            Standing::Missing => match self.miss_taken(party, both, ptr.key, tick) {
-                Ok(found) => { Round::Answered(self.end_miss(rt, party, &ptr, found, pool, cache)) }
+            Standing::Missing => match self.miss_taken(party, both, ptr.key, found, tick) {
+                Ok(()) => { Round::Answered(self.end_miss(rt, party, &ptr, found, pool, cache)) }
                 Err(NoMemory) => Round::Answered(Err(ReadFault::NoMemory)),
             },
         }

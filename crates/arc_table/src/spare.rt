@@ -19,7 +19,7 @@ use blk_ptr::{Key, State};
 use hash_chain::Header;
 
 // Whether a state's bytes are cached.
-fn is_cached(state: State) -> bool
+pub(crate) fn is_cached(state: State) -> bool
     ensures { result ≡ is_cached state }
 {
     match state {

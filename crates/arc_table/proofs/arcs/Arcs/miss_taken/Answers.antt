@@ -1,5 +1,9 @@
-use Rattle.std.proofs.Common.{Some, None, true, ℕ, refl, sym, subst}
+use Rattle.std.proofs.Common.{Some, None, true, ℕ, refl, sym, ap, ◌∙◌, subst}
+use Rattle.std.specs.Option.{option_map}
 use Rattle.arc_core.specs.declared.event.Event.{Event}
+use Rattle.arc_core.specs.PlainShard.{entry_of}
+use Rattle.arc_core.specs.Step.{entry_to_read}
+use Rattle.arc_core.specs.View.{view_of}
 use Rattle.arc_core.specs.declared.event.Event.TheVariants.{Miss}
 use Rattle.turn_table.specs.Places.{Place}
 use Rattle.arc_table.specs.declared.scan.Scan.{Scan}
@@ -11,7 +15,7 @@ use Rattle.arc_table.specs.Ending.{MakesRoomy}
 use Rattle.arc_table.specs.InHand.{made_since}
 use Rattle.arc_table.specs.Making.{IsMade}
 use Rattle.arc_table.specs.Items.{Meanings, meanings}
-use Rattle.arc_table.proofs.MissEvents.{makes_roomy, may_taken, miss_legal, miss_made, miss_there, none_makes, none_roomier, scanned_party, scanned_replayed}
+use Rattle.arc_table.proofs.MissEvents.{makes_roomy, may_taken, miss_entry, miss_legal, miss_made, none_makes, none_roomier, reading_is, scanned_entry, scanned_party, scanned_replayed}
 use Rattle.arc_table.proofs.Lent.{lent_legal, lent_makes}
 use Rattle.arc_table.proofs.arcs.Arcs.miss_taken.Goals as goal
 
@@ -50,11 +54,6 @@ returns-in-Err-clause-err g c =
     let e = c.in-Err.ensures.err in
     none_makes m c.args.self.now.config c.args.key c.args.both c.in-Err.both c.args.party.now c.begin_scan.new.party c.give_both.new.party e.0 c.requires.taken.new e.2 c.give_both.ensures
 
-pub reading_header-header-requires : goal.reading_header-header-requires
-reading_header-header-requires g c =
-    let h = c.in-Ok.ensures.ok in
-    miss_there c.number-n.result c.args.tick c.args.key c.in-Ok.scan.both.shard c.miss.new.self h.scan.replayed h.legal (lent_makes c.deref_mut-shard.ensures.value c.miss.ensures.makes)
-
 pub end_scan-requires-clause-party : goal.end_scan-requires-clause-party
 end_scan-requires-clause-party g c =
     let m : Meanings g.row.C.Denot = meanings g.C.Keeps.holds g.C.Keeps.entries g.C.Keeps.opening g.C.Keeps.claims g.C.Keeps.sound in
@@ -69,16 +68,21 @@ end_scan-requires-clause-made g c =
       both = record { hand = record { own = record { turn = s.both.hand.own.turn; bucket = c.put_header.new.bucket }; victims = s.both.hand.victims; before = s.both.hand.before }; turn = s.both.turn; shard = c.miss.new.self };
       marked = s.marked;
     } in
-    let x = c.reading_header-header.ensures in
-    let with : IsWith c.args.key (Some (record { key = c.args.key; state = x.0.state; reading = true; place = x.0.place; digest = x.0.digest; block = None })) s.both.hand.own.bucket.headers c.put_header.new.bucket.headers =
-    subst (λ (y : Header). IsWith y.key (Some y) s.both.hand.own.bucket.headers c.put_header.new.bucket.headers) x.2 c.put_header.ensures in (
+    let o = entry_of c.args.key s.both.shard.now in
+    let x = entry_to_read c.number-n.result c.args.key c.args.tick o in
+    let makes = lent_makes c.deref_mut-shard.ensures.value c.miss.ensures.makes in
+    let there = miss_entry c.number-n.result c.args.tick c.args.key s.both.shard c.miss.new.self h.scan.replayed h.legal makes in
+    let kept = scanned_entry m c.args.self.now.config c.args.key c.args.both (Miss c.number-n.result c.args.key c.args.tick) c.args.party.now c.begin_scan.new.party s h c.requires.taken.new in
+    let header = c.reading_header-header.ensures ∙ reading_is c.number-n.result c.args.tick c.args.key c.args.found o (c.requires.found ∙ ap (option_map view_of) (sym kept)) in
+    let with : IsWith c.args.key (Some (record { key = c.args.key; state = x.state; reading = true; place = x.place; digest = x.digest; block = None })) s.both.hand.own.bucket.headers c.put_header.new.bucket.headers =
+    subst (λ (y : Header). IsWith y.key (Some y) s.both.hand.own.bucket.headers c.put_header.new.bucket.headers) header c.put_header.ensures in (
       Miss c.number-n.result c.args.key c.args.tick,
       h.passes,
       c.args.party.now,
       s.both.shard,
       s.both.hand.own.bucket,
       miss_made m c.args.self.now.config c.args.key c.args.both c.args.party.now c.begin_scan.new.party c.number-n.result c.args.tick s s' h c.requires.taken.kind.turn c.requires.taken.kind.own c.number-n.ensures
-          (lent_makes c.deref_mut-shard.ensures.value c.miss.ensures.makes) refl refl refl refl refl x.0 x.1 with,
+          makes refl refl refl refl refl x there with,
     )
 
 pub returns-clause-ok : goal.returns-clause-ok

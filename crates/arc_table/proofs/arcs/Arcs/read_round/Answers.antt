@@ -1,4 +1,7 @@
-use Rattle.std.proofs.Common.{[], refl, subst, sym}
+use Rattle.std.proofs.Common.{[], refl, ap, ◌∙◌}
+use Rattle.std.specs.Option.{option_map}
+use Rattle.arc_core.specs.PlainShard.{entry_of}
+use Rattle.arc_core.specs.View.{view_of}
 use Rattle.arc_table.specs.Items.{meanings}
 use Rattle.arc_table.specs.Reading.{outside}
 use Rattle.arc_table.proofs.AfterRead.{answers_stays}
@@ -6,17 +9,8 @@ use Rattle.arc_table.proofs.Afterwards.{stays_free, stays_party}
 use Rattle.arc_table.proofs.Reached.{reached, sound_log}
 use Rattle.arc_table.proofs.RoomyGives.{only_bucket}
 use Rattle.arc_table.proofs.Rounds.{does_these, missed_reading, missed_stays, none_stays, round_hit, round_missed, round_none, round_past}
-use Rattle.arc_core.specs.ShardLog.{IsReplayed, ShardLog}
-use Rattle.arc_table.specs.Standing.{StandsSo}
-use Rattle.arc_table.specs.declared.hits.Standing.TheVariants as standing
+use Rattle.arc_core.specs.ShardLog.{ShardLog}
 use Rattle.arc_table.proofs.arcs.Arcs.read_round.Goals as goal
-
-pub standing_of-requires : goal.standing_of-requires
-standing_of-requires g c =
-    let m = meanings g.C.Keeps.holds g.C.Keeps.entries g.C.Keeps.opening g.C.Keeps.claims g.C.Keeps.sound in
-    let b = c.take_both-both in
-    let log = sound_log m c.args.self.now.config c.args.ptr.key b.result.hand.own.bucket b.result.shard c.args.party.now b.new.party b.ensures.takes c.requires.party.config b.ensures.kind.valid in
-    subst (λ (l : ShardLog). IsReplayed l) (sym c.deref.ensures) log.replayed
 
 pub miss_taken-requires-clause-others : goal.miss_taken-requires-clause-others
 miss_taken-requires-clause-others g c =
@@ -50,8 +44,10 @@ end_miss-requires-clause-reading g c κs within =
 pub returns-in-Reading-clause-answer : goal.returns-in-Reading-clause-answer
 returns-in-Reading-clause-answer g c =
     let m = meanings g.C.Keeps.holds g.C.Keeps.entries g.C.Keeps.opening g.C.Keeps.claims g.C.Keeps.sound in
-    let stood = subst (λ (l : ShardLog). StandsSo c.args.ptr l.now (standing.Reading c.in-Reading.owner)) c.deref.ensures c.in-Reading.ensures in
-    let b = c.take_both-both in (
+    let b = c.take_both-both in
+    let log = sound_log m c.args.self.now.config c.args.ptr.key b.result.hand.own.bucket b.result.shard c.args.party.now b.new.party b.ensures.takes c.requires.party.config b.ensures.kind.valid in
+    let shown = c.entry-found.ensures ∙ ap (λ (l : ShardLog). option_map view_of (entry_of c.args.ptr.key l.now)) c.deref.ensures in
+    let stood = c.in-Reading.ensures b.result.shard.now log.replayed.sound shown in (
       record {
         does = does_these m c.args.self.now.config c.args.ptr.key b.result.hand.own.bucket b.result.shard c.args.party.now b.new.party c.give_back.new.party b.ensures.takes [] c.give_back.ensures;
         owner = c.in-Reading.owner;
@@ -75,8 +71,10 @@ returns-in-Reading-clause-held g c =
 pub returns-in-Ok-clause-answer : goal.returns-in-Ok-clause-answer
 returns-in-Ok-clause-answer g c =
     let m = meanings g.C.Keeps.holds g.C.Keeps.entries g.C.Keeps.opening g.C.Keeps.claims g.C.Keeps.sound in
-    let stood = subst (λ (l : ShardLog). StandsSo c.args.ptr l.now (standing.Here)) c.deref.ensures c.in-Here.ensures in
     let b = c.take_both-both in
+    let log = sound_log m c.args.self.now.config c.args.ptr.key b.result.hand.own.bucket b.result.shard c.args.party.now b.new.party b.ensures.takes c.requires.party.config b.ensures.kind.valid in
+    let shown = c.entry-found.ensures ∙ ap (λ (l : ShardLog). option_map view_of (entry_of c.args.ptr.key l.now)) c.deref.ensures in
+    let stood = c.in-Here.ensures b.result.shard.now log.replayed.sound shown in
     round_hit m g.P.Pool g.D.CacheDev c.args.self.now.config c.args.ptr c.args.tick b.result.hand.own.bucket b.result.shard c.args.party.now b.new.party c.hit_taken.new.party b.ensures.takes
     (outside c.args.pool.now c.args.cache.now) c.in-Ok.hold stood c.in-Ok.ensures.ok c.in-Ok.ensures.hold
 
@@ -90,8 +88,10 @@ returns-in-Err-clause-answer g c =
 pub returns-in-Ok-past_taken-clause-answer : goal.returns-in-Ok-past_taken-clause-answer
 returns-in-Ok-past_taken-clause-answer g c =
     let m = meanings g.C.Keeps.holds g.C.Keeps.entries g.C.Keeps.opening g.C.Keeps.claims g.C.Keeps.sound in
-    let stood = subst (λ (l : ShardLog). StandsSo c.args.ptr l.now (standing.Other c.in-Other.kept)) c.deref.ensures c.in-Other.ensures in
     let b = c.take_both-both in
+    let log = sound_log m c.args.self.now.config c.args.ptr.key b.result.hand.own.bucket b.result.shard c.args.party.now b.new.party b.ensures.takes c.requires.party.config b.ensures.kind.valid in
+    let shown = c.entry-found.ensures ∙ ap (λ (l : ShardLog). option_map view_of (entry_of c.args.ptr.key l.now)) c.deref.ensures in
+    let stood = c.in-Other.ensures b.result.shard.now log.replayed.sound shown in
     round_past m g.P.Pool g.D.CacheDev c.args.self.now.config c.args.ptr c.args.tick b.result.hand.own.bucket b.result.shard c.args.party.now b.new.party c.past_taken.new.party b.ensures.takes
     (outside c.args.pool.now c.args.cache.now) (outside c.read_past.new.pool c.args.cache.now) c.in-Other.kept c.read_past.result stood c.in-Ok-past_taken.ensures.ok refl c.read_past.ensures
 
@@ -105,11 +105,13 @@ returns-in-Err-past_taken-clause-answer g c =
 pub returns-in-Ok-miss_taken-clause-answer : goal.returns-in-Ok-miss_taken-clause-answer
 returns-in-Ok-miss_taken-clause-answer g c =
     let m = meanings g.C.Keeps.holds g.C.Keeps.entries g.C.Keeps.opening g.C.Keeps.claims g.C.Keeps.sound in
-    let stood = subst (λ (l : ShardLog). StandsSo c.args.ptr l.now (standing.Missing)) c.deref.ensures c.in-Missing.ensures in
     let b = c.take_both-both in
+    let log = sound_log m c.args.self.now.config c.args.ptr.key b.result.hand.own.bucket b.result.shard c.args.party.now b.new.party b.ensures.takes c.requires.party.config b.ensures.kind.valid in
+    let shown = c.entry-found.ensures ∙ ap (λ (l : ShardLog). option_map view_of (entry_of c.args.ptr.key l.now)) c.deref.ensures in
+    let stood = c.in-Missing.ensures b.result.shard.now log.replayed.sound shown in
     round_missed m g.P.Pool g.D.CacheDev c.args.self.now.config c.args.ptr c.args.tick b.result.hand.own.bucket b.result.shard c.args.party.now b.new.party c.miss_taken.new.party b.ensures.takes
-    (outside c.args.pool.now c.args.cache.now) (outside c.end_miss.new.pool c.end_miss.new.cache) c.in-Ok-miss_taken.found c.end_miss.new.party c.end_miss.result stood c.in-Ok-miss_taken.ensures.ok
-    c.in-Ok-miss_taken.ensures.found c.end_miss.ensures.answer
+    (outside c.args.pool.now c.args.cache.now) (outside c.end_miss.new.pool c.end_miss.new.cache) c.entry-found.result c.end_miss.new.party c.end_miss.result stood c.in-Ok-miss_taken.ensures.ok
+    (c.entry-found.ensures ∙ ap (λ (l : ShardLog). option_map view_of (entry_of c.args.ptr.key l.now)) c.deref.ensures) c.end_miss.ensures.answer
 
 pub returns-in-Err-miss_taken-clause-answer : goal.returns-in-Err-miss_taken-clause-answer
 returns-in-Err-miss_taken-clause-answer g c =
@@ -189,3 +191,33 @@ returns-in-Err-miss_taken-clause-held g c =
     let m = meanings g.C.Keeps.holds g.C.Keeps.entries g.C.Keeps.opening g.C.Keeps.claims g.C.Keeps.sound in
     let b = c.take_both-both in
     (answers_stays m c.args.self.now.config b.ensures.kind.valid g.P.Pool g.D.CacheDev c.args.ptr c.args.tick (outside c.args.pool.now c.args.cache.now) (outside c.args.pool.now c.args.cache.now) c.args.party.now c.miss_taken.new.party _ c.requires.party.config (returns-in-Err-miss_taken-clause-answer g c)).held
+
+pub miss_taken-requires-clause-missing : goal.miss_taken-requires-clause-missing
+miss_taken-requires-clause-missing g c =
+    let m = meanings g.C.Keeps.holds g.C.Keeps.entries g.C.Keeps.opening g.C.Keeps.claims g.C.Keeps.sound in
+    let b = c.take_both-both in
+    let log = sound_log m c.args.self.now.config c.args.ptr.key b.result.hand.own.bucket b.result.shard c.args.party.now b.new.party b.ensures.takes c.requires.party.config b.ensures.kind.valid in
+    let shown = c.entry-found.ensures ∙ ap (λ (l : ShardLog). option_map view_of (entry_of c.args.ptr.key l.now)) c.deref.ensures in
+    let stood = c.in-Missing.ensures b.result.shard.now log.replayed.sound shown in
+    stood
+
+pub hit_taken-requires-clause-here : goal.hit_taken-requires-clause-here
+hit_taken-requires-clause-here g c =
+    let m = meanings g.C.Keeps.holds g.C.Keeps.entries g.C.Keeps.opening g.C.Keeps.claims g.C.Keeps.sound in
+    let b = c.take_both-both in
+    let log = sound_log m c.args.self.now.config c.args.ptr.key b.result.hand.own.bucket b.result.shard c.args.party.now b.new.party b.ensures.takes c.requires.party.config b.ensures.kind.valid in
+    let shown = c.entry-found.ensures ∙ ap (λ (l : ShardLog). option_map view_of (entry_of c.args.ptr.key l.now)) c.deref.ensures in
+    let stood = c.in-Here.ensures b.result.shard.now log.replayed.sound shown in
+    stood
+
+pub past_taken-requires-clause-kept : goal.past_taken-requires-clause-kept
+past_taken-requires-clause-kept g c =
+    let m = meanings g.C.Keeps.holds g.C.Keeps.entries g.C.Keeps.opening g.C.Keeps.claims g.C.Keeps.sound in
+    let b = c.take_both-both in
+    let log = sound_log m c.args.self.now.config c.args.ptr.key b.result.hand.own.bucket b.result.shard c.args.party.now b.new.party b.ensures.takes c.requires.party.config b.ensures.kind.valid in
+    let shown = c.entry-found.ensures ∙ ap (λ (l : ShardLog). option_map view_of (entry_of c.args.ptr.key l.now)) c.deref.ensures in
+    let stood = c.in-Other.ensures b.result.shard.now log.replayed.sound shown in
+    stood.1
+
+pub miss_taken-requires-clause-found : goal.miss_taken-requires-clause-found
+miss_taken-requires-clause-found g c = c.entry-found.ensures ∙ ap (λ (l : ShardLog). option_map view_of (entry_of c.args.ptr.key l.now)) c.deref.ensures

@@ -1,30 +1,25 @@
-use Rattle.std.proofs.Common.{◌∙◌, ap, length, subst, sym}
+use Rattle.std.proofs.Common.{◌∙◌, ap, length}
+use Rattle.std.specs.Option.{option_map}
 use Rattle.std.specs.Prelude.{IsTrue, ◌&&◌}
-use Rattle.arc_core.specs.PlainShard.{entry_is, is_resident, keeps_digest}
+use Rattle.arc_core.specs.PlainShard.{entry_is, entry_of, is_resident, keeps_digest}
 use Rattle.arc_core.specs.Step.{is_missing, reads}
+use Rattle.arc_core.specs.View.{view_of}
 use Rattle.arc_table.specs.Items.{meanings}
 use Rattle.arc_table.specs.declared.hits.Standing.TheVariants as standing
 use Rattle.arc_table.proofs.Holders.{held_still}
 use Rattle.arc_table.proofs.Taking.{tells}
-use Rattle.arc_core.specs.ShardLog.{IsReplayed, ShardLog}
-use Rattle.arc_table.specs.Standing.{StandsSo}
+use Rattle.arc_core.specs.ShardLog.{ShardLog}
 use Rattle.arc_table.proofs.Reached.{sound_log}
 use Rattle.arc_table.proofs.arcs.Arcs.try_hit.Goals as goal
-
-pub standing_of-requires : goal.standing_of-requires
-standing_of-requires g c =
-    let m = meanings g.C.Keeps.holds g.C.Keeps.entries g.C.Keeps.opening g.C.Keeps.claims g.C.Keeps.sound in
-    let b = c.in-Taken.both in
-    let e = c.in-Taken.ensures in
-    let log = sound_log m c.args.self.now.config c.args.ptr.now.key b.hand.own.bucket b.shard c.args.party.now c.try_both.new.party e.takes c.requires.party.config e.kind.valid in
-    subst (λ (l : ShardLog). IsReplayed l) (sym c.deref-shard.ensures) log.replayed
 
 pub returns-in-Missing-clause-answer : goal.returns-in-Missing-clause-answer
 returns-in-Missing-clause-answer g c =
     let m = meanings g.C.Keeps.holds g.C.Keeps.entries g.C.Keeps.opening g.C.Keeps.claims g.C.Keeps.sound in
-    let stood = subst (λ (l : ShardLog). StandsSo c.args.ptr.now l.now (standing.Missing)) c.deref-shard.ensures c.in-Missing.ensures in
     let b = c.in-Taken.both in
     let e = c.in-Taken.ensures in
+    let log = sound_log m c.args.self.now.config c.args.ptr.now.key b.hand.own.bucket b.shard c.args.party.now c.try_both.new.party e.takes c.requires.party.config e.kind.valid in
+    let shown = c.entry-found.ensures ∙ ap (λ (l : ShardLog). option_map view_of (entry_of c.args.ptr.now.key l.now)) c.deref-shard.ensures in
+    let stood = c.in-Missing.ensures b.shard.now log.replayed.sound shown in
     let f = c.front_of-front in
     let k = c.args.ptr.now.key in (
       record { chain = b.hand.own.bucket; before = b.shard; reached = c.try_both.new.party; takes = e.takes; makes = c.give_back.ensures },
@@ -34,9 +29,11 @@ returns-in-Missing-clause-answer g c =
 pub returns-in-Other-clause-answer : goal.returns-in-Other-clause-answer
 returns-in-Other-clause-answer g c =
     let m = meanings g.C.Keeps.holds g.C.Keeps.entries g.C.Keeps.opening g.C.Keeps.claims g.C.Keeps.sound in
-    let stood = subst (λ (l : ShardLog). StandsSo c.args.ptr.now l.now (standing.Other c.in-Other.kept)) c.deref-shard.ensures c.in-Other.ensures in
     let b = c.in-Taken.both in
     let e = c.in-Taken.ensures in
+    let log = sound_log m c.args.self.now.config c.args.ptr.now.key b.hand.own.bucket b.shard c.args.party.now c.try_both.new.party e.takes c.requires.party.config e.kind.valid in
+    let shown = c.entry-found.ensures ∙ ap (λ (l : ShardLog). option_map view_of (entry_of c.args.ptr.now.key l.now)) c.deref-shard.ensures in
+    let stood = c.in-Other.ensures b.shard.now log.replayed.sound shown in
     let f = c.front_of-front in
     let k = c.args.ptr.now.key in (
       record { chain = b.hand.own.bucket; before = b.shard; reached = c.try_both.new.party; takes = e.takes; makes = c.give_back-in-Other.ensures },
@@ -47,9 +44,11 @@ returns-in-Other-clause-answer g c =
 pub returns-in-Reading-clause-answer : goal.returns-in-Reading-clause-answer
 returns-in-Reading-clause-answer g c =
     let m = meanings g.C.Keeps.holds g.C.Keeps.entries g.C.Keeps.opening g.C.Keeps.claims g.C.Keeps.sound in
-    let stood = subst (λ (l : ShardLog). StandsSo c.args.ptr.now l.now (standing.Reading c.in-Reading.owner)) c.deref-shard.ensures c.in-Reading.ensures in
     let b = c.in-Taken.both in
     let e = c.in-Taken.ensures in
+    let log = sound_log m c.args.self.now.config c.args.ptr.now.key b.hand.own.bucket b.shard c.args.party.now c.try_both.new.party e.takes c.requires.party.config e.kind.valid in
+    let shown = c.entry-found.ensures ∙ ap (λ (l : ShardLog). option_map view_of (entry_of c.args.ptr.now.key l.now)) c.deref-shard.ensures in
+    let stood = c.in-Reading.ensures b.shard.now log.replayed.sound shown in
     let f = c.front_of-front in
     let k = c.args.ptr.now.key in (
       record { chain = b.hand.own.bucket; before = b.shard; reached = c.try_both.new.party; takes = e.takes; makes = c.give_back-in-Reading.ensures },
@@ -59,23 +58,39 @@ returns-in-Reading-clause-answer g c =
 pub returns-in-Missing-clause-holder : goal.returns-in-Missing-clause-holder
 returns-in-Missing-clause-holder g c n listed =
     let m = meanings g.C.Keeps.holds g.C.Keeps.entries g.C.Keeps.opening g.C.Keeps.claims g.C.Keeps.sound in
-    let stood = subst (λ (l : ShardLog). StandsSo c.args.ptr.now l.now (standing.Missing)) c.deref-shard.ensures c.in-Missing.ensures in
     let b = c.in-Taken.both in
     let e = c.in-Taken.ensures in
+    let log = sound_log m c.args.self.now.config c.args.ptr.now.key b.hand.own.bucket b.shard c.args.party.now c.try_both.new.party e.takes c.requires.party.config e.kind.valid in
+    let shown = c.entry-found.ensures ∙ ap (λ (l : ShardLog). option_map view_of (entry_of c.args.ptr.now.key l.now)) c.deref-shard.ensures in
+    let stood = c.in-Missing.ensures b.shard.now log.replayed.sound shown in
     held_still m c.args.self.now.config b.hand.own.bucket b.shard c.args.ptr.now c.args.party.now c.try_both.new.party e.takes c.requires.party.config e.kind.valid n listed (standing.Missing) stood
 
 pub returns-in-Other-clause-holder : goal.returns-in-Other-clause-holder
 returns-in-Other-clause-holder g c n listed =
     let m = meanings g.C.Keeps.holds g.C.Keeps.entries g.C.Keeps.opening g.C.Keeps.claims g.C.Keeps.sound in
-    let stood = subst (λ (l : ShardLog). StandsSo c.args.ptr.now l.now (standing.Other c.in-Other.kept)) c.deref-shard.ensures c.in-Other.ensures in
     let b = c.in-Taken.both in
     let e = c.in-Taken.ensures in
+    let log = sound_log m c.args.self.now.config c.args.ptr.now.key b.hand.own.bucket b.shard c.args.party.now c.try_both.new.party e.takes c.requires.party.config e.kind.valid in
+    let shown = c.entry-found.ensures ∙ ap (λ (l : ShardLog). option_map view_of (entry_of c.args.ptr.now.key l.now)) c.deref-shard.ensures in
+    let stood = c.in-Other.ensures b.shard.now log.replayed.sound shown in
     held_still m c.args.self.now.config b.hand.own.bucket b.shard c.args.ptr.now c.args.party.now c.try_both.new.party e.takes c.requires.party.config e.kind.valid n listed (standing.Other c.in-Other.kept) stood
 
 pub returns-in-Reading-clause-holder : goal.returns-in-Reading-clause-holder
 returns-in-Reading-clause-holder g c n listed =
     let m = meanings g.C.Keeps.holds g.C.Keeps.entries g.C.Keeps.opening g.C.Keeps.claims g.C.Keeps.sound in
-    let stood = subst (λ (l : ShardLog). StandsSo c.args.ptr.now l.now (standing.Reading c.in-Reading.owner)) c.deref-shard.ensures c.in-Reading.ensures in
     let b = c.in-Taken.both in
     let e = c.in-Taken.ensures in
+    let log = sound_log m c.args.self.now.config c.args.ptr.now.key b.hand.own.bucket b.shard c.args.party.now c.try_both.new.party e.takes c.requires.party.config e.kind.valid in
+    let shown = c.entry-found.ensures ∙ ap (λ (l : ShardLog). option_map view_of (entry_of c.args.ptr.now.key l.now)) c.deref-shard.ensures in
+    let stood = c.in-Reading.ensures b.shard.now log.replayed.sound shown in
     held_still m c.args.self.now.config b.hand.own.bucket b.shard c.args.ptr.now c.args.party.now c.try_both.new.party e.takes c.requires.party.config e.kind.valid n listed (standing.Reading c.in-Reading.owner) stood
+
+pub hit_taken-requires-clause-here : goal.hit_taken-requires-clause-here
+hit_taken-requires-clause-here g c =
+    let m = meanings g.C.Keeps.holds g.C.Keeps.entries g.C.Keeps.opening g.C.Keeps.claims g.C.Keeps.sound in
+    let b = c.in-Taken.both in
+    let e = c.in-Taken.ensures in
+    let log = sound_log m c.args.self.now.config c.args.ptr.now.key b.hand.own.bucket b.shard c.args.party.now c.try_both.new.party e.takes c.requires.party.config e.kind.valid in
+    let shown = c.entry-found.ensures ∙ ap (λ (l : ShardLog). option_map view_of (entry_of c.args.ptr.now.key l.now)) c.deref-shard.ensures in
+    let stood = c.in-Here.ensures b.shard.now log.replayed.sound shown in
+    stood
