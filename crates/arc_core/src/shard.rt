@@ -144,7 +144,7 @@ impl Shard {
         if spare < events {
             return Err(NoMemory);
         }
-        self.table.reserve(entries, events)?;
+        self.table.reserve_more(entries, events)?;
         self.spare_events = spare;
         Ok(())
     }
