@@ -10,10 +10,10 @@ use Rattle.arc_core.specs.declared.entry.Entry.{Entry}
 use Rattle.arc_core.specs.declared.event.Event.TheVariants.{Clear, Set}
 use Rattle.arc_core.specs.PlainShard.{PlainShard, entry_is, entry_of, is_number}
 use Rattle.arc_core.specs.Changes.{changed, gone, may_have, with_place}
-use Rattle.arc_core.specs.Edits.{HasAlike, amended}
+use Rattle.arc_core.specs.Edits.{HasAlike}
 use Rattle.arc_core.specs.Sound.{IsSoundEntry}
 use Rattle.arc_core.specs.Step.{cleared, is_writing, legal}
-use Rattle.arc_core.proofs.Evictions.{Found, changed-written, passes}
+use Rattle.arc_core.proofs.Evictions.{Found, passes}
 use Rattle.arc_core.proofs.Legal.{IsSoundEntry-place}
 use Rattle.arc_core.proofs.Soundness.{placed-entry, settable}
 
@@ -22,10 +22,6 @@ own-item k s e at = subst (λ h. entry_of h s ≡ Some e) (sym at.key) at.item
 
 pub alike-place : (place : Option ℕ) (k : Key) (s : PlainShard) (e : Entry) → Found k s e → HasAlike (with_place place e) s
 alike-place place k s e at = subst (λ o. IsSomeAnd o (λ old. (old.state ≡ e.state) × (old.holds ≡ e.holds))) (sym (own-item k s e at)) (refl, refl)
-
-pub amended-place : (place : Option ℕ) (k : Key) (s : PlainShard) (e : Entry) → Found k s e → amended (with_place place e) s ≡ changed k (with_place place) s
-amended-place place k s e at = subst (λ h. amended (with_place place e) s ≡ changed h (with_place place) s) at.key
-    (ap (λ es. record s { entries = es }) (sym (changed-written e.key (with_place place) s.entries e (own-item k s e at))))
 
 needs-place : (place l2 : Bool) → (place || not l2) ≡ true → l2 ≡ true → place ≡ true
 needs-place true l2 h is = refl

@@ -1,5 +1,5 @@
 -- The entries with their room, as plain data.
-use Rattle.std.specs.Prelude.{◌≡◌, ℕ, Bool, List, [], Option, Some, None}
+use Rattle.std.specs.Prelude.{◌≡◌, ℕ, Bool, List, [], Some}
 use Rattle.blk_ptr.specs.declared.key.Key.{Key}
 use Rattle.blk_ptr.specs.declared.state.State.{State}
 use Rattle.arc_lists.specs.ByKey.{item_at, with_change}

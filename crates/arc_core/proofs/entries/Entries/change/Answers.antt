@@ -1,8 +1,6 @@
-use Rattle.std.proofs.Common.{◌≡◌, IfNone, Some, None, refl, sym, ap, subst, ◌∙◌}
+use Rattle.std.proofs.Common.{◌≡◌, Some, refl, ap}
 use Rattle.std.specs.Fn.{FnOnceReturnsAtMut}
 use Rattle.arc_lists.specs.ByKey.{item_at}
-use Rattle.arc_lists.proofs.Enrolled.{name}
-use Rattle.arc_core.specs.declared.entry.Entry.{Entry}
 use Rattle.arc_core.specs.PlainShard.{entry_key}
 use Rattle.arc_core.proofs.EntryRows.{changes-entry, entry-nowhere, entry-there, keyed-changes}
 use Rattle.arc_core.proofs.entries.Entries.change.Goals as goal

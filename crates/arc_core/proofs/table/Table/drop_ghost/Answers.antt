@@ -1,4 +1,4 @@
-use Rattle.std.proofs.Common.{◌≡◌, true, Some, is_some, rules, sym, ap, subst, ◌∙◌}
+use Rattle.std.proofs.Common.{◌≡◌, true, is_some, rules, sym, ap, subst, ◌∙◌}
 use Rattle.blk_ptr.specs.declared.state.State.TheVariants.{L2Only}
 use Rattle.arc_lists.proofs.Tables.{some_is}
 use Rattle.arc_core.specs.declared.entry.Entry.{Entry}

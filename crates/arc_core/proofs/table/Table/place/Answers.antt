@@ -5,8 +5,7 @@ use Rattle.blk_ptr.specs.Key.{is_well_formed}
 use Rattle.arc_lists.specs.ByKey.{with_change}
 use Rattle.arc_lists.specs.PlainLists.{put, take_out}
 use Rattle.arc_lists.proofs.Tables.{length-with_change}
-use Rattle.arc_core.specs.declared.entry.Entry.{Entry}
-use Rattle.arc_core.specs.PlainShard.{PlainShard, entry_key, entry_of, is_unheld}
+use Rattle.arc_core.specs.PlainShard.{entry_key, entry_of, is_unheld}
 use Rattle.arc_core.specs.Edits.{placed}
 use Rattle.arc_core.specs.TableModel.{shard_in}
 use Rattle.arc_core.specs.PlainTable.{PlainTable}

@@ -1,4 +1,4 @@
-use Rattle.std.proofs.Common.{◌≡◌, IsTrue, None, Some, length, refl, rules, sym, ap, subst, ◌∙◌, arith}
+use Rattle.std.proofs.Common.{◌≡◌, IsTrue, None, length, refl, rules, sym, ap, subst, ◌∙◌, arith}
 use Rattle.arc_lists.specs.ByKey.{item_at, with_change}
 use Rattle.arc_lists.proofs.Tables.{item_at-key, length-with_change}
 use Rattle.arc_core.specs.declared.entry.Entry.{Entry}
