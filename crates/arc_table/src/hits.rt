@@ -67,6 +67,7 @@ pub(crate) fn standing_of(found: Option<EntryView>, ptr: Ptr) -> Standing
     if !is_cached(entry.state) {
         return Standing::Missing;
     }
+    // A sound shard shows a digest wherever it shows cached bytes.
     let Some(kept) = entry.digest else {
         return Standing::Missing;
     };
