@@ -75,37 +75,33 @@ no-fields [] h = refl
 no-fields (field ∷ fields) h = absurd (omega arith)
 
 -- the line of fields that were taken one after the other
-pub read-spelled : (callers : ℕ) (f0 f1 f2 f3 f4 f5 : List (List ℕ)) (n t x a l : ℕ) (w : Window) → w.at ≡ a → w.len ≡ l → length f0 ≡ 5
+pub read-spelled : (callers : ℕ) (f0 f1 f2 f3 f4 f5 : List (List ℕ)) (n t x a l : ℕ) (w : Window) → w.at ≡ a → w.len ≡ l → f5 ≡ []
     → f0 ≡ decimal n ∷ f1 → f1 ≡ decimal t ∷ f2 → f2 ≡ decimal x ∷ f3 → f3 ≡ decimal a ∷ f4 → f4 ≡ decimal l ∷ f5
     → IsOperation callers (ops.Read n t x w) → Spell callers (text_of words.Read ∷ f0) (Operation (ops.Read n t x w))
-read-spelled callers f0 f1 f2 f3 f4 f5 n t x a l w wa wl five e0 e1 e2 e3 e4 ranged =
-    let left = no-fields f5 (omega (arith, ap length e0, ap length e1, ap length e2, ap length e3, ap length e4)) in
+read-spelled callers f0 f1 f2 f3 f4 f5 n t x a l w wa wl left e0 e1 e2 e3 e4 ranged =
     let all : f0 ≡ decimal n ∷ decimal t ∷ decimal x ∷ decimal w.at ∷ decimal w.len ∷ [] =
     e0 ∙ ap (λ f. decimal n ∷ f) (e1 ∙ ap (λ f. decimal t ∷ f) (e2 ∙ ap (λ f. decimal x ∷ f) (e3 ∙ rw (wa, wl) (ap (λ f. decimal a ∷ f) (e4 ∙ ap (λ f. decimal l ∷ f) left))))) in
     record { spelled = ap (λ f. text_of words.Read ∷ f) all; ranged = ranged }
 
-pub hold-spelled : (callers : ℕ) (f0 f1 f2 f3 : List (List ℕ)) (n t x : ℕ) → length f0 ≡ 3
+pub hold-spelled : (callers : ℕ) (f0 f1 f2 f3 : List (List ℕ)) (n t x : ℕ) → f3 ≡ []
     → f0 ≡ decimal n ∷ f1 → f1 ≡ decimal t ∷ f2 → f2 ≡ decimal x ∷ f3
     → IsOperation callers (ops.Hold n t x) → Spell callers (text_of words.Hold ∷ f0) (Operation (ops.Hold n t x))
-hold-spelled callers f0 f1 f2 f3 n t x three e0 e1 e2 ranged =
-    let left = no-fields f3 (omega (arith, ap length e0, ap length e1, ap length e2)) in
+hold-spelled callers f0 f1 f2 f3 n t x left e0 e1 e2 ranged =
     let all : f0 ≡ decimal n ∷ decimal t ∷ decimal x ∷ [] =
     e0 ∙ ap (λ f. decimal n ∷ f) (e1 ∙ ap (λ f. decimal t ∷ f) (e2 ∙ ap (λ f. decimal x ∷ f) left)) in
     record { spelled = ap (λ f. text_of words.Hold ∷ f) all; ranged = ranged }
 
-pub drop-spelled : (callers : ℕ) (f0 f1 f2 : List (List ℕ)) (n x : ℕ) → length f0 ≡ 2
+pub drop-spelled : (callers : ℕ) (f0 f1 f2 : List (List ℕ)) (n x : ℕ) → f2 ≡ []
     → f0 ≡ decimal n ∷ f1 → f1 ≡ decimal x ∷ f2
     → IsOperation callers (ops.Drop n x) → Spell callers (text_of words.Drop ∷ f0) (Operation (ops.Drop n x))
-drop-spelled callers f0 f1 f2 n x two e0 e1 ranged =
-    let left = no-fields f2 (omega (arith, ap length e0, ap length e1)) in
+drop-spelled callers f0 f1 f2 n x left e0 e1 ranged =
     let all : f0 ≡ decimal n ∷ decimal x ∷ [] = e0 ∙ ap (λ f. decimal n ∷ f) (e1 ∙ ap (λ f. decimal x ∷ f) left) in
     record { spelled = ap (λ f. text_of words.Drop ∷ f) all; ranged = ranged }
 
-pub block-spelled : (callers : ℕ) (f0 f1 f2 f3 f4 : List (List ℕ)) (p : Ptr) → length f0 ≡ 4
+pub block-spelled : (callers : ℕ) (f0 f1 f2 f3 f4 : List (List ℕ)) (p : Ptr) → f4 ≡ []
     → f0 ≡ decimal p.key.offset ∷ f1 → f1 ≡ decimal p.key.size ∷ f2 → f2 ≡ decimal p.key.birth ∷ f3 → f3 ≡ encode_lower p.digest.0 ∷ f4
     → IsDeclarable p → Spell callers (text_of words.Block ∷ f0) (Declared p)
-block-spelled callers f0 f1 f2 f3 f4 p four e0 e1 e2 e3 ranged =
-    let left = no-fields f4 (omega (arith, ap length e0, ap length e1, ap length e2, ap length e3)) in
+block-spelled callers f0 f1 f2 f3 f4 p left e0 e1 e2 e3 ranged =
     let all : f0 ≡ fields_after (Declared p) =
     e0 ∙ ap (λ f. decimal p.key.offset ∷ f) (e1 ∙ ap (λ f. decimal p.key.size ∷ f) (e2 ∙ ap (λ f. decimal p.key.birth ∷ f) (e3 ∙ ap (λ f. encode_lower p.digest.0 ∷ f) left))) in
     record { spelled = ap (λ f. text_of words.Block ∷ f) all; ranged = ranged }

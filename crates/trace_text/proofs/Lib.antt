@@ -1,8 +1,10 @@
 pub mod SplitLemmas
 pub mod NumberLemmas
+pub mod PartLemmas
 pub mod WordLemmas
 pub mod FormLemmas
 pub mod DigestLemmas
+pub mod HexFieldLemmas
 pub mod DraftLemmas
 pub mod LinesLemmas
 pub mod PageLemmas
@@ -10,3 +12,4 @@ pub mod SameLemmas
 pub mod LawLemmas
 pub mod FormedLemmas
 pub mod GeneratorLemmas
+pub mod CountingLemmas

@@ -1,6 +1,8 @@
 -- What the reader's own functions answer, in the words of the grammar.
-use Rattle.std.specs.Prelude.{◌≡◌, ◌≢◌, ℕ, ◌<◌, ◌≤◌, List, ◌∷◌, Option, Some, None, Result, Ok, Err, decimal, false, length, slice_index}
-use Rattle.hex.specs.Hex.{encode_lower}
+use Rattle.std.specs.Prelude.{◌≡◌, ◌≢◌, ℕ, ◌^◌, ◌/◌, ◌%◌, ◌<◌, ◌≤◌, List, ◌∷◌, Option, Some, None, Result, Ok, Err, decimal, false, length, slice_index, take}
+use Rattle.std.specs.Str.Parse.{AllDigits, digits_value}
+use Rattle.memchr.specs.Find.{Nowhere, Passes, is_byte}
+use Rattle.hex.specs.Hex.{encode_lower, lower_digits}
 use Rattle.blk_ptr.specs.declared.digest.Digest.{Digest}
 use Rattle.arc_core.specs.declared.config.Config.{Config}
 use Rattle.trace_text.specs.declared.fault.Kind.{Kind}
@@ -8,6 +10,7 @@ use Rattle.trace_text.specs.declared.fault.Kind.TheVariants as kinds
 use Rattle.trace_text.specs.declared.fault.TraceFault.{TraceFault}
 use Rattle.trace_text.specs.declared.fault.TraceFault.TheVariants as faults
 use Rattle.trace_text.specs.declared.fault.TraceFault.TheVariants.{Bad}
+use Rattle.trace_text.specs.declared.parts.LeadingNumber.{LeadingNumber}
 use Rattle.trace_text.specs.declared.words.Line.{Line}
 use Rattle.trace_text.specs.declared.words.LineFault.{LineFault}
 use Rattle.trace_text.specs.declared.words.LineFault.TheVariants.{Wrong, NoMemory}
@@ -24,15 +27,41 @@ abbrev pub IsNumberRead : ℕ → ℕ → List ℕ → Option ℕ → Type 0
 IsNumberRead low high field (Some n) = (field ≡ decimal n) × (low ≤ n) × (n ≤ high)
 IsNumberRead low high field None = (n : ℕ) → low ≤ n → n ≤ high → field ≡ decimal n → ⊥
 
+-- the first part of a text ends here, at the first place of the byte that parts it, or with the text
+pub record EndsPart (at : ℕ) (text : List ℕ) (end : ℕ) : Type 0 where
+  pub within : end ≤ length text
+  pub before : Nowhere (Passes (is_byte at) text) 0 end
+  pub here : end < length text → Passes (is_byte at) text end
+
+-- the field is of decimal digits, which write a number below 2^64
+abbrev pub IsOfDigits : List ℕ → Type 0
+IsOfDigits field = AllDigits 10 field × (digits_value 10 field < 2 ^ 64)
+
+-- the first part of a text is of digits, which write this number, or it is not
+abbrev pub LeadsWithNumber : ℕ → List ℕ → Option LeadingNumber → Type 0
+LeadsWithNumber at text (Some number) =
+    EndsPart at text number.digits × IsOfDigits (take number.digits text) × (number.value ≡ digits_value 10 (take number.digits text))
+LeadsWithNumber at text None = (end : ℕ) → EndsPart at text end → IsOfDigits (take end text) → ⊥
+
+-- the first field is a number and the others are left, or it is none
+abbrev pub IsNumberTaken : List (List ℕ) → List (List ℕ) → Option ℕ → Type 0
+IsNumberTaken old new (Some n) = (old ≡ decimal n ∷ new) × (n < 2 ^ 64)
+IsNumberTaken old new None = (n : ℕ) (rest : List (List ℕ)) → n < 2 ^ 64 → old ≡ decimal n ∷ rest → ⊥
+
 -- the field is a digest, or it is none
 abbrev pub IsDigestRead : List ℕ → Option Digest → Type 0
 IsDigestRead field (Some digest) = (field ≡ encode_lower digest.0) × IsDigest digest
 IsDigestRead field None = (digest : Digest) → IsDigest digest → field ≡ encode_lower digest.0 → ⊥
 
--- the field is the lower-case hex of these bytes, which are a digest, or it is not
-abbrev pub IsSpelledBy : List ℕ → List ℕ → Option Digest → Type 0
-IsSpelledBy bytes field (Some digest) = (digest.0 ≡ bytes) × (field ≡ encode_lower bytes) × IsDigest digest
-IsSpelledBy bytes field None = field ≢ encode_lower bytes
+-- the digit is that of this value in lower-case hex, or it is none
+abbrev pub IsHexRead : ℕ → Option ℕ → Type 0
+IsHexRead digit (Some value) = (value < 16) × (digit ≡ slice_index lower_digits value)
+IsHexRead digit None = (value : ℕ) → value < 16 → digit ≡ slice_index lower_digits value → ⊥
+
+-- the two digits spell this byte in lower-case hex, or none
+abbrev pub IsByteRead : ℕ → ℕ → Option ℕ → Type 0
+IsByteRead high low (Some byte) = (byte < 256) × (high ≡ slice_index lower_digits (byte / 16)) × (low ≡ slice_index lower_digits (byte % 16))
+IsByteRead high low None = (byte : ℕ) → byte < 256 → high ≡ slice_index lower_digits (byte / 16) → low ≡ slice_index lower_digits (byte % 16) → ⊥
 
 -- the field is a word, or it is none
 abbrev pub IsWordRead : List ℕ → Option Word → Type 0

@@ -1,82 +1,88 @@
 //! Counts the events of all shards.
-ghost use Rattle.std.specs.Prelude.{◌≡◌, ◌≤◌, count_by, length};
-ghost use Rattle.arc_core.specs.Operations.{is_pool_read};
-ghost use Rattle.trace_text.specs.Counting.{count_all, counts_in, test_of};
+ghost use Rattle.std.specs.Prelude.{◌≡◌, length};
+ghost use Rattle.trace_text.specs.Counting.{AreAtMost, AreFew, counts_in, counts_of_shard, with_counts, with_event};
 
-use crate::counts::{Counted, Counts};
+use crate::counts::Counts;
 use crate::items::History;
 use arc_core::{Event, FailedAt, Origin};
 
-/// Counts the events of all shards.
+/// What no events are counted as.
+const NONE: Counts = Counts {
+    hit: 0,
+    miss: 0,
+    past: 0,
+    pool: 0,
+    l2: 0,
+    pass: 0,
+    set: 0,
+};
+
+/// Counts the events of all shards. A history is long, so it is gone over once for all counts.
 pub fn counts_of(histories: &[History]) -> Counts
     ensures { result ≡ counts_in histories.now }
 {
-    Counts {
-        hit: count_of(Counted::Hits, histories),
-        miss: count_of(Counted::Misses, histories),
-        past: count_of(Counted::PastReads, histories),
-        pool: count_of(Counted::PoolReads, histories),
-        l2: count_of(Counted::DeviceReads, histories),
-        pass: count_of(Counted::Passes, histories),
-        set: count_of(Counted::Places, histories),
-    }
-}
-
-/// How many events of all shards are counted.
-fn count_of(counted: Counted, histories: &[History]) -> u128
-    ensures { result ≡ count_all (test_of counted) histories.now }
-{
-    let mut count = 0;
+    let mut counts = NONE;
     for history in histories {
-        count += count_in(counted, history.as_slice()) as u128;
+        let counted = events_counted(history.as_slice());
+        counts = sum_of(counts, counted);
     }
-    count
+    counts
 }
 
-/// How many events of one shard are counted.
-fn count_in(counted: Counted, events: &[Event]) -> usize
-    ensures count { result ≡ count_by (test_of counted) events.now }
-    ensures bound { result ≤ length events.now }
+/// The counts of two lists of events together.
+fn sum_of(some: Counts, others: Counts) -> Counts
+    requires { AreFew (with_counts some others) }
+    ensures { result ≡ with_counts some others }
 {
-    events
-        .iter()
-        .filter(|event| is_counted(counted, event))
-        .count()
-}
-
-/// Whether the event is counted.
-fn is_counted(counted: Counted, event: &Event) -> bool
-    ensures { result ≡ test_of counted event.now }
-{
-    match counted {
-        Counted::Hits => matches!(event, Event::Hit { .. }),
-        Counted::Misses => matches!(event, Event::Miss { .. }),
-        Counted::PastReads => matches!(event, Event::Past { .. }),
-        Counted::PoolReads => is_pool_read(event),
-        Counted::DeviceReads => matches!(
-            event,
-            Event::Arrive {
-                from: Origin::L2,
-                ..
-            }
-        ),
-        Counted::Passes => matches!(event, Event::Pass { .. }),
-        Counted::Places => matches!(event, Event::Set { .. }),
+    Counts {
+        hit: some.hit + others.hit,
+        miss: some.miss + others.miss,
+        past: some.past + others.past,
+        pool: some.pool + others.pool,
+        l2: some.l2 + others.l2,
+        pass: some.pass + others.pass,
+        set: some.set + others.set,
     }
 }
 
-/// Whether the pool was read: it gave bytes to the cache, or failed, or was read past the cache.
-fn is_pool_read(event: &Event) -> bool
-    ensures { result ≡ is_pool_read event.now }
+/// Counts the events of one shard.
+fn events_counted(events: &[Event]) -> Counts
+    ensures counts { result ≡ counts_of_shard events.now }
+    ensures bound { AreAtMost (length events.now) result }
+{
+    let mut counts = NONE;
+    for event in events {
+        count(&mut counts, event);
+    }
+    counts
+}
+
+/// Counts one event more.
+fn count(counts: &mut Counts, event: &Event)
+    requires { AreFew (with_event counts.old event.now) }
+    ensures { counts.new ≡ with_event counts.old event.now }
 {
     match event {
-        Event::Arrive { from, .. } => *from == Origin::Pool,
-        Event::Fail { at, .. } => *at == FailedAt::Pool,
-        Event::Past { .. } => true,
-        Event::Pass { .. } | Event::Hit { .. } | Event::Miss { .. } | Event::Drop { .. } => false,
-        Event::Hand { .. } | Event::Insert { .. } | Event::Release { .. } => false,
-        Event::Pick { .. } | Event::FeedEnd { .. } | Event::Set { .. } => false,
-        Event::Leave { .. } | Event::Clear { .. } | Event::Restore { .. } => false,
-        Event::Resize { .. } => false,
+        Event::Hit { .. } => counts.hit += 1,
+        Event::Miss { .. } => counts.miss += 1,
+        // A read past the cache is one of the pool too.
+        Event::Past { .. } => {
+            counts.past += 1;
+            counts.pool += 1;
+        }
+        Event::Arrive { from, .. } => match from {
+            Origin::Pool => counts.pool += 1,
+            Origin::L2 => counts.l2 += 1,
+        },
+        Event::Fail { at, .. } => match at {
+            FailedAt::Pool => counts.pool += 1,
+            FailedAt::Unread => {}
+        },
+        Event::Pass { .. } => counts.pass += 1,
+        Event::Set { .. } => counts.set += 1,
+        Event::Drop { .. } | Event::Hand { .. } | Event::Insert { .. } => {}
+        Event::Release { .. } | Event::Pick { .. } | Event::FeedEnd { .. } => {}
+        Event::Leave { .. } | Event::Clear { .. } => {}
+        Event::Restore { .. } | Event::Resize { .. } => {}
     }
 }

@@ -22,18 +22,6 @@ pub struct Counts {
     pub set: u128,
 }
 
-/// Which events one of the counts counts.
-#[derive(Clone, Copy)]
-pub(crate) enum Counted {
-    Hits,
-    Misses,
-    PastReads,
-    PoolReads,
-    DeviceReads,
-    Passes,
-    Places,
-}
-
 impl fmt::Display for Counts {
     ghost use Rattle.trace_text.specs.EndText.{count_words};
 

@@ -79,10 +79,12 @@ impl Draft {
         let mut fields = Parts::new(line, b' ');
         let first = fields.next().unwrap_or(b"");
         let word = begun(self.config, first)?;
-        if !has_shape(word, line) {
+        let said = line_after(word, self.seen(), &mut fields);
+        // A line that says something has the shape of its word, so only one at fault is looked at once more.
+        if said.is_err() && !has_shape(word, line) {
             return Err(Kind::Shape);
         }
-        line_after(word, self.seen(), &mut fields)
+        said
     }
 
     /// Adds what the line says. Of an `Err` no line follows.

@@ -1,15 +1,14 @@
 //! The fields of a line, taken one after another as numbers in their ranges.
-ghost use Rattle.std.specs.Prelude.{◌<◌, ◌+◌, ◌*◌, ◌^◌, ◌↔◌, IsTrue};
+ghost use Rattle.std.specs.Prelude.{◌≡◌, ◌≢◌, ◌<◌, ◌+◌, ◌*◌, ◌^◌, ◌↔◌, [], IsTrue, OnErr, OnOk};
 ghost use Rattle.std.specs.Char.{digit_value};
 ghost use Rattle.std.specs.Option.{SomeIff};
 ghost use Rattle.std.specs.Str.Parse.{AllDigits, digits_value};
-ghost use Rattle.trace_text.specs.Reading.{BeginsAsNumber, IsDigestRead, IsNumberRead, IsSpelledBy, IsWordRead, TakesBelow, TakesDigest, TakesNumber};
+ghost use Rattle.trace_text.specs.Reading.{BeginsAsNumber, IsByteRead, IsDigestRead, IsHexRead, IsNumberRead, IsWordRead, TakesBelow, TakesDigest, TakesNumber};
 
 use crate::fault::Kind;
 use crate::parts::Parts;
 use crate::words::Word;
 use blk_ptr::Digest;
-use hex::FromHex;
 
 /// The word that a field spells.
 pub(crate) fn word_of(field: &[u8]) -> Option<Word>
@@ -26,7 +25,7 @@ pub(crate) fn word_of(field: &[u8]) -> Option<Word>
 }
 
 /// Whether the field begins as a number may: with no plus sign, and with no zero before another digit.
-fn begins_as_number(field: &[u8]) -> bool
+pub(crate) fn begins_as_number(field: &[u8]) -> bool
     ensures { IsTrue result ↔ BeginsAsNumber field.now }
 {
     match field.len() {
@@ -37,7 +36,7 @@ fn begins_as_number(field: &[u8]) -> bool
 }
 
 /// The number that is written by one digit more, where the byte is a digit and the number is below 2^64.
-fn with_digit(value: u64, byte: u8) -> Option<u64>
+pub(crate) fn with_digit(value: u64, byte: u8) -> Option<u64>
     ensures { SomeIff result ((digit_value byte < 10) × (value * 10 + digit_value byte < 2 ^ 64)) (value * 10 + digit_value byte) }
 {
     let digit = (byte as char).to_digit(10)?;
@@ -76,36 +75,56 @@ pub fn number(field: &[u8], low: u64, high: u64) -> Option<u64>
     }
 }
 
-/// The digest of these bytes, where its lower-case hex digits are the field.
-fn digest_spelled(bytes: [u8; 32], field: &[u8]) -> Option<Digest>
-    ensures { IsSpelledBy bytes field.now result }
+/// The value of a lower-case hex digit.
+fn hex_value(digit: u8) -> Option<u8>
+    ensures { IsHexRead digit result }
 {
-    let mut spelling = [0u8; 64];
-    let written = hex::encode_to_slice(bytes.as_slice(), &mut spelling);
-    if written.is_ok() && spelling.as_slice() == field {
-        Some(Digest(bytes))
-    } else {
-        None
+    match digit {
+        b'0'..=b'9' => Some(digit - b'0'),
+        b'a'..=b'f' => Some(digit - b'a' + 10),
+        _ => None,
     }
 }
 
-/// The digest that a field spells by 64 lower-case hex digits.
+/// The byte that two lower-case hex digits spell.
+fn byte_spelled(high: u8, low: u8) -> Option<u8>
+    ensures { IsByteRead high low result }
+{
+    let high = hex_value(high)?;
+    let low = hex_value(low)?;
+    Some(high * 16 + low)
+}
+
+/// The digest that a field spells by 64 lower-case hex digits. `from_hex` takes upper case too, so what it gives would be spelled once
+/// more to be compared.
 fn digest(field: &[u8]) -> Option<Digest>
     ensures { IsDigestRead field.now result }
 {
-    // `from_hex` takes upper case too, and only the lower-case digits are the digest's own spelling.
-    match <[u8; 32] as FromHex>::from_hex(field) {
-        Ok(bytes) => digest_spelled(bytes, field),
-        Err(_) => None,
+    if field.len() != 64 {
+        return None;
     }
+    let mut bytes = [0u8; 32];
+    for place in 0..32 {
+        let Some(byte) = byte_spelled(field[2 * place], field[2 * place + 1]) else {
+            return None;
+        };
+        bytes[place] = byte;
+    }
+    Some(Digest(bytes))
 }
 
 /// Takes the next field, where it is a number from `low` to `high`.
 pub(crate) fn next_number(fields: &mut Parts<'_>, low: u64, high: u64) -> Result<u64, Kind>
     ensures { TakesNumber low high fields.old fields.new result }
 {
-    let field = fields.next().ok_or(Kind::Number)?;
-    number(field, low, high).ok_or(Kind::Number)
+    let Some(value) = fields.next_number() else {
+        return Err(Kind::Number);
+    };
+    if low <= value && value <= high {
+        Ok(value)
+    } else {
+        Err(Kind::Number)
+    }
 }
 
 /// Takes the next field, where it is a digest.
@@ -125,5 +144,16 @@ pub(crate) fn next_below(fields: &mut Parts<'_>, limit: u32) -> Result<u32, Kind
         Ok(value as u32)
     } else {
         Err(Kind::Number)
+    }
+}
+
+/// Sees that no field is left.
+pub(crate) fn no_more(fields: &mut Parts<'_>) -> Result<(), Kind>
+    ensures ok { OnOk result (fields.old ≡ []) }
+    ensures err { OnErr result (fields.old ≢ []) }
+{
+    match fields.next() {
+        Some(_left) => Err(Kind::Shape),
+        None => Ok(()),
     }
 }

@@ -1,12 +1,13 @@
-//! The form of each line of a trace: its first word, and what its fields say.
-ghost use Rattle.std.specs.Prelude.{◌≡◌, ◌<◌, ◌≤◌, MatchResult, length};
-ghost use Rattle.trace_text.specs.Grammar.{field_count};
+//! The form of each line of a trace: its first word, and what its fields say. A line is split once, as its fields are read: so one that
+//! has too few fields or too many is found out on the way, and then its fault is the shape, whatever was told of a field.
+ghost use Rattle.std.specs.Prelude.{◌≡◌, ◌<◌, ◌≤◌, ◌∷◌, IfOk, MatchResult, length};
+ghost use Rattle.trace_text.specs.Grammar.{IsInOrder, Spell, field_count, text_of};
 ghost use Rattle.trace_text.specs.Reading.{IsFormRead};
 ghost use Rattle.trace_text.specs.declared.words.Word.TheVariants as words;
 
 use crate::bounds::DEFAULT_BOUNDS;
 use crate::fault::Kind;
-use crate::fields::{next_below, next_digest, next_number};
+use crate::fields::{next_below, next_digest, next_number, no_more};
 use crate::op::Op;
 use crate::parts::Parts;
 use crate::words::{Line, Seen};
@@ -22,8 +23,8 @@ const LARGEST_SIZE: u64 = 1 << 32;
 
 /// The sizes of the cache: callers, shards, buckets, cells, `c`, MINTIME and the bytes of dbufs.
 pub(crate) fn sizes(seen: Seen, fields: &mut Parts<'_>) -> Result<Line, Kind>
-    requires { length fields.old ≡ field_count words.Arc }
-    ensures { IsFormRead seen words.Arc fields.old result }
+    ensures ok { IfOk result (λ line. Spell seen.callers (text_of words.Arc ∷ fields.old) line × IsInOrder seen.blocks seen.operations line) }
+    ensures err { length fields.old ≡ field_count words.Arc → IsFormRead seen words.Arc fields.old result }
 {
     let callers = next_number(fields, 1, 16)? as u32;
     let shards = next_number(fields, 1, 16)?;
@@ -32,6 +33,7 @@ pub(crate) fn sizes(seen: Seen, fields: &mut Parts<'_>) -> Result<Line, Kind>
     let c = next_number(fields, 4096, LARGEST_SIZE)?;
     let mintime = next_number(fields, 0, LARGEST_SIZE)?;
     let dbuf_bytes = next_number(fields, 0, LARGEST_SIZE)?;
+    no_more(fields)?;
     if shards * c > LARGEST_SIZE {
         return Err(Kind::Number);
     }
@@ -49,13 +51,14 @@ pub(crate) fn sizes(seen: Seen, fields: &mut Parts<'_>) -> Result<Line, Kind>
 
 /// A block pointer: offset, size, birth and digest.
 pub(crate) fn declared(seen: Seen, fields: &mut Parts<'_>) -> Result<Line, Kind>
-    requires { length fields.old ≡ field_count words.Block }
-    ensures { IsFormRead seen words.Block fields.old result }
+    ensures ok { IfOk result (λ line. Spell seen.callers (text_of words.Block ∷ fields.old) line × IsInOrder seen.blocks seen.operations line) }
+    ensures err { length fields.old ≡ field_count words.Block → IsFormRead seen words.Block fields.old result }
 {
     let offset = next_number(fields, 0, LARGEST_PLAIN)?;
     let size = next_number(fields, 0, LARGEST_SIZE)?;
     let birth = next_number(fields, 0, LARGEST_PLAIN)?;
     let digest = next_digest(fields)?;
+    no_more(fields)?;
     if seen.operations != 0 {
         return Err(Kind::Order);
     }
@@ -69,14 +72,15 @@ pub(crate) fn declared(seen: Seen, fields: &mut Parts<'_>) -> Result<Line, Kind>
 
 /// A read: caller, tick, block, and the window's start and length.
 pub(crate) fn read(seen: Seen, fields: &mut Parts<'_>) -> Result<Line, Kind>
-    requires { length fields.old ≡ field_count words.Read }
-    ensures { IsFormRead seen words.Read fields.old result }
+    ensures ok { IfOk result (λ line. Spell seen.callers (text_of words.Read ∷ fields.old) line × IsInOrder seen.blocks seen.operations line) }
+    ensures err { length fields.old ≡ field_count words.Read → IsFormRead seen words.Read fields.old result }
 {
     let n = next_below(fields, seen.callers)?;
     let t = next_number(fields, 0, LARGEST_PLAIN)?;
     let named = next_number(fields, 0, LARGEST_PLAIN)?;
     let at = next_number(fields, 0, u64::from(u32::MAX))? as u32;
     let len = next_number(fields, 0, 64)? as u32;
+    no_more(fields)?;
     let x = declared_block(seen, named)?;
     let w = Window { at, len };
     Ok(Line::Operation(Op::Read { n, t, x, w }))
@@ -84,23 +88,25 @@ pub(crate) fn read(seen: Seen, fields: &mut Parts<'_>) -> Result<Line, Kind>
 
 /// A read that keeps the block: caller, tick and block.
 pub(crate) fn held(seen: Seen, fields: &mut Parts<'_>) -> Result<Line, Kind>
-    requires { length fields.old ≡ field_count words.Hold }
-    ensures { IsFormRead seen words.Hold fields.old result }
+    ensures ok { IfOk result (λ line. Spell seen.callers (text_of words.Hold ∷ fields.old) line × IsInOrder seen.blocks seen.operations line) }
+    ensures err { length fields.old ≡ field_count words.Hold → IsFormRead seen words.Hold fields.old result }
 {
     let n = next_below(fields, seen.callers)?;
     let t = next_number(fields, 0, LARGEST_PLAIN)?;
     let named = next_number(fields, 0, LARGEST_PLAIN)?;
+    no_more(fields)?;
     let x = declared_block(seen, named)?;
     Ok(Line::Operation(Op::Hold { n, t, x }))
 }
 
 /// The end of such a read: caller and block.
 pub(crate) fn dropped(seen: Seen, fields: &mut Parts<'_>) -> Result<Line, Kind>
-    requires { length fields.old ≡ field_count words.Drop }
-    ensures { IsFormRead seen words.Drop fields.old result }
+    ensures ok { IfOk result (λ line. Spell seen.callers (text_of words.Drop ∷ fields.old) line × IsInOrder seen.blocks seen.operations line) }
+    ensures err { length fields.old ≡ field_count words.Drop → IsFormRead seen words.Drop fields.old result }
 {
     let n = next_below(fields, seen.callers)?;
     let named = next_number(fields, 0, LARGEST_PLAIN)?;
+    no_more(fields)?;
     let x = declared_block(seen, named)?;
     Ok(Line::Operation(Op::Drop { n, x }))
 }

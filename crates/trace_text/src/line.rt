@@ -1,6 +1,6 @@
 //! Which lines of a text are passed over, and what the others are.
-ghost use Rattle.std.specs.Prelude.{◌≡◌, ◌↔◌, IsTrue, length};
-ghost use Rattle.trace_text.specs.Grammar.{HasShape, fields_of, field_count};
+ghost use Rattle.std.specs.Prelude.{◌≡◌, ◌↔◌, ◌∷◌, IfOk, IsTrue, length};
+ghost use Rattle.trace_text.specs.Grammar.{HasShape, IsInOrder, Spell, fields_of, field_count, text_of};
 ghost use Rattle.trace_text.specs.Reading.{IsFormRead};
 
 use crate::fault::Kind;
@@ -39,10 +39,10 @@ pub(crate) fn has_shape(word: Word, line: &[u8]) -> bool
     wanted == 0
 }
 
-/// What the fields after a word say.
+/// What the fields after a word say. What is told of fields that are too many or too few isn't their fault: that is the shape.
 pub(crate) fn line_after(word: Word, seen: Seen, fields: &mut Parts<'_>) -> Result<Line, Kind>
-    requires { length fields.old ≡ field_count word }
-    ensures { IsFormRead seen word fields.old result }
+    ensures ok { IfOk result (λ line. Spell seen.callers (text_of word ∷ fields.old) line × IsInOrder seen.blocks seen.operations line) }
+    ensures err { length fields.old ≡ field_count word → IsFormRead seen word fields.old result }
 {
     match word {
         Word::Arc => sizes(seen, fields),

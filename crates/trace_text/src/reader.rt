@@ -15,7 +15,7 @@ pub const LONGEST_TEXT: usize = 67_108_864;
 
 /// Reads a trace, which for now has one caller and one shard. Its text and its faults are those of `specs/Grammar.antt`:
 /// an `Ok` is the one trace that the text is, and a `Bad` names the first line at fault and what is wrong with it.
-/// Each line is looked at once for its shape and once for its fields, and none is copied.
+/// Each line is split once, as its fields are read, and none is copied. Only one at fault is split once more, for its shape.
 pub fn read_trace(alloc: Global, bytes: &[u8]) -> Result<Trace, TraceFault>
     ensures read { IfOk result (IsTraceText bytes.now) }
     ensures formed { IfOk result IsFormed }
