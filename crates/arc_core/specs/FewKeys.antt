@@ -1,5 +1,5 @@
 -- A few keys beside those that are found by their hashes. No public clause cites this module.
-use Rattle.std.specs.Prelude.{ℕ, ◌-◌, ◌≤◌, List, [], ◌∷◌, vec_len}
+use Rattle.std.specs.Prelude.{◌-◌, ◌≤◌, List, [], ◌∷◌, vec_len}
 use Rattle.blk_ptr.specs.declared.key.Key.{Key}
 use Rattle.arc_lists.specs.ByKey.{with_item}
 use Rattle.arc_core.specs.declared.keys.Keys.TheInside.{Inside}

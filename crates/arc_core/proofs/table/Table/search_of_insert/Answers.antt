@@ -1,4 +1,4 @@
-use Rattle.std.proofs.Common.{ℕ, refl, sym, subst}
+use Rattle.std.proofs.Common.{ℕ, refl, subst}
 use Rattle.arc_lists.proofs.Standing.{and_left, and_right}
 use Rattle.arc_core.specs.PlainShard.{is_cell}
 use Rattle.arc_core.specs.Search.{Stands}
