@@ -1,5 +1,5 @@
 -- The lines of each word, from their fields.
-use Rattle.std.proofs.Common.{◌≡◌, ℕ, ◌≤◌, ◌^◌, List, [], ◌∷◌, length, Result, Err, refl, ap, ◌∙◌, sym, arith}
+use Rattle.std.proofs.Common.{◌≡◌, ℕ, ◌≤◌, ◌^◌, List, [], ◌∷◌, Result, Err, ap, ◌∙◌, sym, arith}
 use Rattle.std.specs.Prelude.{decimal}
 use Rattle.std.proofs.lemmas.Fmt.{decimal_injective}
 use Rattle.hex.specs.Hex.{encode_lower}
@@ -68,11 +68,6 @@ number-fault seen word fields r e kind is same number none = rw (is, same, numbe
 pub order-fault : (seen : Seen) (word : Word) (fields : List (List ℕ)) (r : Result Line Kind) (e kind : Kind) → r ≡ Err e → e ≡ kind → kind ≡ kinds.Order
     → (line : Line) → Spell seen.callers (text_of word ∷ fields) line → (IsInOrder seen.blocks seen.operations line → ⊥) → IsFormRead seen word fields r
 order-fault seen word fields r e kind is same order line spelled misplaced = rw (is, same, order) (line, spelled, misplaced)
-
--- no field is left
-no-fields : (fields : List (List ℕ)) → length fields ≡ 0 → fields ≡ []
-no-fields [] h = refl
-no-fields (field ∷ fields) h = absurd (omega arith)
 
 -- the line of fields that were taken one after the other
 pub read-spelled : (callers : ℕ) (f0 f1 f2 f3 f4 f5 : List (List ℕ)) (n t x a l : ℕ) (w : Window) → w.at ≡ a → w.len ≡ l → f5 ≡ []
