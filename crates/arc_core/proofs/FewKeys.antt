@@ -64,3 +64,8 @@ absent-more k few more off = right (stands_on k few) (stands_on k more) (sym (st
 pub tested : (k : Key) (few : List Key) → list_any (λ j. key_eq j k) few ≡ stands_on k few
 tested k [] = refl
 tested k (j ∷ few) = ap (λ b. key_eq j k || b) (tested k few)
+
+-- no keys beside none
+pub no-keys : (xs : List Key) → length xs ≡ 0 → xs ≡ []
+no-keys [] none = refl
+no-keys (x ∷ xs) none = absurd (omega (arith, none))

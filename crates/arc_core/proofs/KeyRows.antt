@@ -148,3 +148,7 @@ listed-comes old new k order order' listed apart gains is = record {
     | inr before ↦ or_true_left (stands_on j order) (key_eq k j) (listed.each j (has.0, before))
   ];
 }
+
+pub no-rows : (rows : List (Row Name (Unit {0}))) → length rows ≡ 0 → rows ≡ []
+no-rows [] none = refl
+no-rows (r ∷ rows) none = absurd (omega (arith, none))

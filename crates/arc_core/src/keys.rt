@@ -1,5 +1,5 @@
 //! Keys that are found as fast where there are many as where there are few, and forgotten all at once in as much time as there are.
-ghost use Rattle.std.specs.Prelude.{◌≡◌, ℕ, ◌+◌, ◌-◌, ◌<◌, ◌≤◌, false, [], length, OnOk};
+ghost use Rattle.std.specs.Prelude.{◌≡◌, ℕ, ◌+◌, ◌-◌, ◌<◌, ◌≤◌, false, [], length, IsTrue, OnOk};
 ghost use Rattle.arc_lists.specs.ByKey.{with_item};
 ghost use Rattle.arc_lists.specs.Sequences.{stands_on};
 ghost use Rattle.std.specs.List.{list_any};
@@ -74,6 +74,13 @@ impl Keys {
         is_among(&self.few, key) || self.more.has(key)
     }
 
+    // Whether there is none.
+    fn is_empty(&self) -> bool
+        ensures { IsTrue result → self.now.items ≡ [] }
+    {
+        self.few.is_empty() && self.more.is_empty()
+    }
+
     /// Adds a key that isn't there.
     pub fn add(&mut self, key: Key)
         requires room { 0 < self.old.spare }
@@ -93,6 +100,9 @@ impl Keys {
         ensures items { self.new.items ≡ [] }
         ensures spare { self.new.spare ≡ self.old.spare + length self.old.items }
     {
+        if self.is_empty() {
+            return;
+        }
         self.few.clear();
         self.more.clear();
     }

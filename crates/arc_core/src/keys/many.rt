@@ -1,5 +1,5 @@
 //! Keys that are found by their hashes, and forgotten all at once in as much time as there are.
-ghost use Rattle.std.specs.Prelude.{◌≡◌, ℕ, ◌+◌, ◌-◌, ◌<◌, ◌≤◌, false, [], ◌++◌, ◌∷◌, length, vec_len, vec_capacity, OnOk, OnErr};
+ghost use Rattle.std.specs.Prelude.{◌≡◌, ℕ, ◌+◌, ◌-◌, ◌<◌, ◌≤◌, false, [], ◌++◌, ◌∷◌, length, vec_len, vec_capacity, IsTrue, OnOk, OnErr};
 ghost use Rattle.arc_lists.specs.ByKey.{with_item};
 ghost use Rattle.arc_lists.specs.Sequences.{stands_on};
 ghost use Rattle.arc_core.specs.Keys.{empty_keys};
@@ -93,6 +93,13 @@ impl ManyKeys {
         ensures { result ≡ stands_on key self.now.items }
     {
         !self.order.is_empty() && self.rows.get(&Name(key)).is_some()
+    }
+
+    /// Whether there is none.
+    pub fn is_empty(&self) -> bool
+        ensures { IsTrue result → self.now.items ≡ [] }
+    {
+        self.order.is_empty()
     }
 
     /// Adds a key that isn't there.
