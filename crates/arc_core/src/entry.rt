@@ -15,16 +15,16 @@ pub struct Entry {
     pub key: Key,
     /// Where it stands.
     pub state: State,
-    /// How many holds each number has.
-    pub holds: Holds,
     /// Its bytes are being read.
     pub reading: bool,
+    /// The SHA-256 of its bytes, also after they were evicted.
+    pub digest: Option<Digest>,
     /// The tick of the last access that counted.
     pub last: u64,
     /// The byte at which its block begins on the cache device, where it is there.
     pub place: Option<u64>,
-    /// The SHA-256 of its bytes, also after they were evicted.
-    pub digest: Option<Digest>,
+    /// How many holds each number has. It is the longest field, and stands behind those that every access reads.
+    pub holds: Holds,
 }
 
 // Whether two kept digests are one.

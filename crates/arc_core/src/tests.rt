@@ -101,8 +101,8 @@ fn entries_are_shown(rt: HostRuntime) -> Result<(), Fail> {
     let (a, b) = (block(512, 0), block(512, 1));
     let made = (fetch(&mut shard, a, 1), make(&mut shard, miss(b, 2)));
     let reader = shard.entry(b).and_then(|e| e.reader);
-    let shown = (made, reader, shard.resident(a), shard.resident(b));
-    assert_eq!(rt; shown, ((true, true), Some(0), Some(DIGEST), None));
+    let cached = (shard.is_resident(a, DIGEST), shard.is_resident(b, DIGEST));
+    assert_eq!(rt; (made, reader, cached), ((true, true), Some(0), (true, false)));
     Ok(())
 }
 

@@ -12,12 +12,12 @@ use slab::Slab;
 /// The link behind the last slot of a chain. No slot stands there: a place is below the capacity of a slab.
 pub const NO_PLACE: usize = usize::MAX;
 
-/// A row, and the place of the slot behind it on its chain.
+/// A row, and the place of the slot behind it on its chain. A search reads that place and the key, so they stand side by side.
 #[derive(Debug, Drop)]
 pub struct Slot<K, V> {
+    pub next: usize,
     pub key: K,
     pub value: V,
-    pub next: usize,
 }
 
 /// The chain of a key, of so many.

@@ -116,7 +116,7 @@ impl<K: Hashed + Drop, V> Table<K, V> {
     {
         let chain = chain_of(&key, self.heads.len());
         let next = self.heads[chain];
-        let at = self.slots.insert_reserved(Slot { key, value, next });
+        let at = self.slots.insert_reserved(Slot { next, key, value });
         // A place is below the capacity, a `usize`, so it is never `NO_PLACE`.
         let _capacity = self.slots.capacity();
         self.heads[chain] = at;
@@ -135,9 +135,9 @@ impl<K: Hashed + Drop, V> Table<K, V> {
         let at = find(&self.slots, self.heads[chain], key).unwrap();
         let before = place_in_front(&self.slots, self.heads[chain], at);
         let Slot {
+            next,
             key: _,
             value,
-            next,
         } = self.slots.remove(at);
         if before == NO_PLACE {
             self.heads[chain] = next;

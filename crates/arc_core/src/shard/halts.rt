@@ -46,11 +46,14 @@ impl Halts {
         }
     }
 
-    /// Forgets both: they begin anew.
+    /// Forgets both: they begin anew. Mostly there is neither, and then nothing is written, so that a shard that goes from one caller to the
+    /// next doesn't take these lines of memory along.
     pub fn forget(&mut self)
         ensures { AreForgotten self.new }
     {
-        self.keep_walk(None);
+        if self.sought.event.is_some() || self.walk.is_some() {
+            self.keep_walk(None);
+        }
     }
 
     /// Forgets the search. The walk stands here.
