@@ -140,6 +140,12 @@ cached ptr s hs here head =
       },
     )
 
+-- the header of an MFU entry says after a hit what it said before
+mfu_header : (n mintime t : ℕ) (e : Entry) (h : Header) → Says e h → h.state ≡ Mfu → record h { state = (hit_entry n mintime t e).state; place = (hit_entry n mintime t e).place } ≡ h
+mfu_header n mintime t e h says mfu =
+    subst (λ (s : State). record h { state = (access s mintime t e).state; place = (access s mintime t e).place } ≡ h) (sym mfu ∙ says.state)
+    (λ z. record h { state = sym says.state z; place = sym says.place z })
+
 pub hit_legal : (n t : ℕ) (k : Key) (s : PlainShard) (e : Entry) → n < numbers → entry_of k s ≡ Some e → is_resident e ≡ true → IsTrue (legal s (Hit n k t))
 hit_legal n t k s e number there resident = λ z. below n numbers number z && passes_at is_resident k s e there resident z
   where
@@ -178,6 +184,11 @@ module _ {C : Type 0} (m : Meanings C) (g : Config) (ptr : Ptr) (b : Both) (q : 
 
     pub entry_now : entry_of ptr.key l.now ≡ Some (hit_entry q.number b.shard.now.mintime t found.entry)
     entry_now = ap (entry_of ptr.key) now ∙ entry_hit q.number t ptr.key b.shard.now found.entry (taken_sound m g ptr.key b q taken same valid) few found.there found.resident
+
+    pub mfu_says : (h : Header) → header_at ptr.key b.hand.own.bucket.headers ≡ Some h → h.state ≡ Mfu → followed h (entry_of ptr.key l.now) ≡ Some h
+    mfu_says h had mfu =
+        let is = some_is found.header h (sym found.had ∙ had) in
+        ap (followed h) entry_now ∙ ap Some (mfu_header q.number b.shard.now.mintime t found.entry h (subst (λ (x : Header). Says found.entry x) is found.says) mfu)
 
     pub hit_made : (given : Chain) → l.history ≡ b.shard.history ++ Hit q.number ptr.key t ∷ [] → l.opening ≡ b.shard.opening
         → Follows ptr.key l.now b.hand.own.bucket.headers given.headers

@@ -17,7 +17,7 @@ ghost use Rattle.arc_table.specs.Trying.{AnswersHit, MayAnswerHolder};
 use crate::arcs::{Arcs, Party};
 use crate::both::Both;
 use crate::front::Front;
-use crate::headers::{block_at, follow_at};
+use crate::headers::{block_at, follow_hit};
 use crate::hold::Hold;
 use crate::spare::is_cached;
 use arc_core::{EntryView, Event, Keeps, Shard};
@@ -93,12 +93,15 @@ impl<C: Keeps> Arcs<C> {
         };
         let shard: &Shard = &both.shard;
         let front = self.front_of(ptr.key, shard);
-        let found = shard.entry(ptr.key);
-        match standing_of(found, *ptr) {
-            Standing::Here => match self.hit_taken(party, both, *ptr, tick) {
+        if shard.is_resident(ptr.key, ptr.digest) {
+            return match self.hit_taken(party, both, *ptr, tick) {
                 Ok(hold) => TryHit::Held(hold),
                 Err(NoMemory) => TryHit::NoMemory,
-            },
+            };
+        }
+        let found = shard.entry(ptr.key);
+        match standing_of(found, *ptr) {
+            Standing::Here => unreachable!(),
             Standing::Missing => {
                 self.give_back(party, ptr.key, both);
                 TryHit::NotHere(front)
@@ -154,7 +157,7 @@ impl<C: Keeps> Arcs<C> {
         };
         let owner = party.number();
         shard.hit(owner, ptr.key, tick);
-        follow_at(&mut both.hand.own.bucket, shard, ptr.key, at);
+        follow_hit(&mut both.hand.own.bucket, shard, ptr.key, at);
         self.give_both(party, ptr.key, both);
         let Ptr { key, digest: _ } = ptr;
         Ok(Hold { key, owner, block })

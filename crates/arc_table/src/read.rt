@@ -134,16 +134,19 @@ impl<C: Keeps> Arcs<C> {
         ensures cache { KeepsDevice D.CacheDev cache.old cache.new }
     {
         let both = self.take_both(rt, party, ptr.key);
+        if both.shard.is_resident(ptr.key, ptr.digest) {
+            return match self.hit_taken(party, both, ptr, tick) {
+                Ok(hold) => Round::Answered(Ok(Read::Held(hold, Served::Hit))),
+                Err(NoMemory) => Round::Answered(Err(ReadFault::NoMemory)),
+            };
+        }
         let found = both.shard.entry(ptr.key);
         match standing_of(found, ptr) {
+            Standing::Here => unreachable!(),
             Standing::Reading { owner: _ } => {
                 self.give_back(party, ptr.key, both);
                 Round::Reading
             }
-            Standing::Here => match self.hit_taken(party, both, ptr, tick) {
-                Ok(hold) => Round::Answered(Ok(Read::Held(hold, Served::Hit))),
-                Err(NoMemory) => Round::Answered(Err(ReadFault::NoMemory)),
-            },
             Standing::Other { kept } => match self.past_taken(party, both, ptr.key, kept) {
                 Ok(bytes) => Round::Answered(read_past(self.alloc, pool, &ptr, bytes, kept)),
                 Err(NoMemory) => Round::Answered(Err(ReadFault::NoMemory)),

@@ -11,7 +11,7 @@ use Rattle.arc_table.specs.Both.{Makes}
 use Rattle.arc_table.specs.Holding.{IsListed}
 use Rattle.arc_table.specs.Items.{meanings}
 use Rattle.arc_table.specs.Making.{IsTaken}
-use Rattle.arc_table.proofs.HitEvents.{block_of_it, found, hit_legal, hit_listed, hit_made, some_there}
+use Rattle.arc_table.proofs.HitEvents.{block_of_it, found, hit_legal, hit_listed, hit_made, mfu_says, some_there}
 use Rattle.arc_table.proofs.OneEvent.{makes_these, taken_few}
 use Rattle.arc_table.proofs.Lent.{lent, lent_taken}
 use Rattle.arc_table.specs.Standing.{bytes_of, is_cached_with}
@@ -55,6 +55,16 @@ hit-requires-clause-legal g c =
     subst (λ (x : ℕ × PlainShard). IsTrue (legal x.1 (Hit x.0 c.args.ptr.key c.args.tick))) (λ z. (sym c.number-owner.ensures z, (sym c.reserve.ensures.log z).now))
     (hit_legal c.args.party.now.number c.args.tick c.args.ptr.key b.shard.now f.entry (taken_few m c.args.self.now.config c.args.ptr.key b c.args.party.now taken c.requires.party.config valid) f.there f.resident)
 
+pub follow_hit-requires-clause-mfu : goal.follow_hit-requires-clause-mfu
+follow_hit-requires-clause-mfu g c h at mfu =
+    let m = meanings g.C.Keeps.holds g.C.Keeps.entries g.C.Keeps.opening g.C.Keeps.claims g.C.Keeps.sound in
+    let same = c.deref_mut-shard.ensures.value in
+    let b = lent c.args.both c.deref_mut-shard.result.now in
+    let taken = lent_taken m c.args.self.now.config c.args.ptr.key c.args.both c.args.party.now c.deref_mut-shard.result.now same c.requires.taken in
+    let here = subst (λ (l : ShardLog). is_cached_with c.args.ptr l.now) (sym same) c.requires.here in
+    mfu_says m c.args.self.now.config c.args.ptr b c.args.party.now taken c.requires.party.config taken.kind.valid here c.args.tick c.hit.new.self
+    (c.hit.ensures.makes.now ∙ (λ z. after (c.reserve.ensures.log z).now (Hit (c.number-owner.ensures z) c.args.ptr.key c.args.tick))) h (c.in-Some.ensures.found.1 ∙ at) mfu
+
 pub give_both-requires-clause-made : goal.give_both-requires-clause-made
 give_both-requires-clause-made g c =
     let m = meanings g.C.Keeps.holds g.C.Keeps.entries g.C.Keeps.opening g.C.Keeps.claims g.C.Keeps.sound in
@@ -63,9 +73,9 @@ give_both-requires-clause-made g c =
     let taken = lent_taken m c.args.self.now.config c.args.ptr.key c.args.both c.args.party.now c.deref_mut-shard.result.now same c.requires.taken in
     let here = subst (λ (l : ShardLog). is_cached_with c.args.ptr l.now) (sym same) c.requires.here in
     hit_made m c.args.self.now.config c.args.ptr b c.args.party.now taken c.requires.party.config taken.kind.valid here c.args.tick c.hit.new.self
-    (c.hit.ensures.makes.now ∙ (λ z. after (c.reserve.ensures.log z).now (Hit (c.number-owner.ensures z) c.args.ptr.key c.args.tick))) c.follow_at.new.bucket
+    (c.hit.ensures.makes.now ∙ (λ z. after (c.reserve.ensures.log z).now (Hit (c.number-owner.ensures z) c.args.ptr.key c.args.tick))) c.follow_hit.new.bucket
     (c.hit.ensures.makes.history ∙ (λ z. (c.reserve.ensures.log z).history ++ Hit (c.number-owner.ensures z) c.args.ptr.key c.args.tick ∷ []))
-    (c.hit.ensures.makes.opening ∙ ap (λ (l : ShardLog). l.opening) c.reserve.ensures.log) c.follow_at.ensures
+    (c.hit.ensures.makes.opening ∙ ap (λ (l : ShardLog). l.opening) c.reserve.ensures.log) c.follow_hit.ensures
 
 pub returns-clause-ok : goal.returns-clause-ok
 returns-clause-ok g c =

@@ -1,6 +1,8 @@
-use Rattle.std.proofs.Common.{[], refl, ap, ◌∙◌}
+use Rattle.std.proofs.Common.{[], refl, sym, ap, ◌∙◌}
+use Rattle.std.proofs.lemmas.Bool.{false≢true}
+use Rattle.std.specs.Prelude.{◌&&◌}
 use Rattle.std.specs.Option.{option_map}
-use Rattle.arc_core.specs.PlainShard.{entry_of}
+use Rattle.arc_core.specs.PlainShard.{entry_is, entry_of, is_resident, keeps_digest}
 use Rattle.arc_core.specs.View.{view_of}
 use Rattle.arc_table.specs.Items.{meanings}
 use Rattle.arc_table.specs.Reading.{outside}
@@ -46,7 +48,7 @@ returns-in-Reading-clause-answer g c =
     let m = meanings g.C.Keeps.holds g.C.Keeps.entries g.C.Keeps.opening g.C.Keeps.claims g.C.Keeps.sound in
     let b = c.take_both-both in
     let log = sound_log m c.args.self.now.config c.args.ptr.key b.result.hand.own.bucket b.result.shard c.args.party.now b.new.party b.ensures.takes c.requires.party.config b.ensures.kind.valid in
-    let shown = c.entry-found.ensures ∙ ap (λ (l : ShardLog). option_map view_of (entry_of c.args.ptr.key l.now)) c.deref.ensures in
+    let shown = c.entry-found.ensures ∙ ap (λ (l : ShardLog). option_map view_of (entry_of c.args.ptr.key l.now)) c.deref-2.ensures in
     let stood = c.in-Reading.ensures b.result.shard.now log.replayed.sound shown in (
       record {
         does = does_these m c.args.self.now.config c.args.ptr.key b.result.hand.own.bucket b.result.shard c.args.party.now b.new.party c.give_back.new.party b.ensures.takes [] c.give_back.ensures;
@@ -68,15 +70,26 @@ returns-in-Reading-clause-held g c =
     let b = c.take_both-both in
     (none_stays m c.args.self.now.config c.args.ptr.key b.result.hand.own.bucket b.result.shard c.args.party.now b.new.party c.give_back.new.party b.ensures.takes b.ensures.kind.valid c.requires.party.config c.give_back.ensures).held
 
+pub unreachable-requires : goal.unreachable-requires
+unreachable-requires g c =
+    let m = meanings g.C.Keeps.holds g.C.Keeps.entries g.C.Keeps.opening g.C.Keeps.claims g.C.Keeps.sound in
+    let b = c.take_both-both in
+    let log = sound_log m c.args.self.now.config c.args.ptr.key b.result.hand.own.bucket b.result.shard c.args.party.now b.new.party b.ensures.takes c.requires.party.config b.ensures.kind.valid in
+    let shown = c.entry-found.ensures ∙ ap (λ (l : ShardLog). option_map view_of (entry_of c.args.ptr.key l.now)) c.deref-2.ensures in
+    let stood = c.in-Here.ensures b.result.shard.now log.replayed.sound shown in
+    absurd (false≢true (sym c.if-is_resident.false ∙ (c.is_resident.ensures ∙ ap (λ (l : ShardLog). entry_is (λ e. is_resident e && keeps_digest c.args.ptr.digest e) c.args.ptr.key l.now) c.deref.ensures) ∙ stood))
+
+pub hit_taken-requires-clause-here : goal.hit_taken-requires-clause-here
+hit_taken-requires-clause-here g c =
+    sym (c.is_resident.ensures ∙ ap (λ (l : ShardLog). entry_is (λ e. is_resident e && keeps_digest c.args.ptr.digest e) c.args.ptr.key l.now) c.deref.ensures) ∙ c.if-is_resident.true
+
 pub returns-in-Ok-clause-answer : goal.returns-in-Ok-clause-answer
 returns-in-Ok-clause-answer g c =
     let m = meanings g.C.Keeps.holds g.C.Keeps.entries g.C.Keeps.opening g.C.Keeps.claims g.C.Keeps.sound in
     let b = c.take_both-both in
-    let log = sound_log m c.args.self.now.config c.args.ptr.key b.result.hand.own.bucket b.result.shard c.args.party.now b.new.party b.ensures.takes c.requires.party.config b.ensures.kind.valid in
-    let shown = c.entry-found.ensures ∙ ap (λ (l : ShardLog). option_map view_of (entry_of c.args.ptr.key l.now)) c.deref.ensures in
-    let stood = c.in-Here.ensures b.result.shard.now log.replayed.sound shown in
+    let here = sym (c.is_resident.ensures ∙ ap (λ (l : ShardLog). entry_is (λ e. is_resident e && keeps_digest c.args.ptr.digest e) c.args.ptr.key l.now) c.deref.ensures) ∙ c.if-is_resident.true in
     round_hit m g.P.Pool g.D.CacheDev c.args.self.now.config c.args.ptr c.args.tick b.result.hand.own.bucket b.result.shard c.args.party.now b.new.party c.hit_taken.new.party b.ensures.takes
-    (outside c.args.pool.now c.args.cache.now) c.in-Ok.hold stood c.in-Ok.ensures.ok c.in-Ok.ensures.hold
+    (outside c.args.pool.now c.args.cache.now) c.in-Ok.hold here c.in-Ok.ensures.ok c.in-Ok.ensures.hold
 
 pub returns-in-Err-clause-answer : goal.returns-in-Err-clause-answer
 returns-in-Err-clause-answer g c =
@@ -90,7 +103,7 @@ returns-in-Ok-past_taken-clause-answer g c =
     let m = meanings g.C.Keeps.holds g.C.Keeps.entries g.C.Keeps.opening g.C.Keeps.claims g.C.Keeps.sound in
     let b = c.take_both-both in
     let log = sound_log m c.args.self.now.config c.args.ptr.key b.result.hand.own.bucket b.result.shard c.args.party.now b.new.party b.ensures.takes c.requires.party.config b.ensures.kind.valid in
-    let shown = c.entry-found.ensures ∙ ap (λ (l : ShardLog). option_map view_of (entry_of c.args.ptr.key l.now)) c.deref.ensures in
+    let shown = c.entry-found.ensures ∙ ap (λ (l : ShardLog). option_map view_of (entry_of c.args.ptr.key l.now)) c.deref-2.ensures in
     let stood = c.in-Other.ensures b.result.shard.now log.replayed.sound shown in
     round_past m g.P.Pool g.D.CacheDev c.args.self.now.config c.args.ptr c.args.tick b.result.hand.own.bucket b.result.shard c.args.party.now b.new.party c.past_taken.new.party b.ensures.takes
     (outside c.args.pool.now c.args.cache.now) (outside c.read_past.new.pool c.args.cache.now) c.in-Other.kept c.read_past.result stood c.in-Ok-past_taken.ensures.ok refl c.read_past.ensures
@@ -107,11 +120,11 @@ returns-in-Ok-miss_taken-clause-answer g c =
     let m = meanings g.C.Keeps.holds g.C.Keeps.entries g.C.Keeps.opening g.C.Keeps.claims g.C.Keeps.sound in
     let b = c.take_both-both in
     let log = sound_log m c.args.self.now.config c.args.ptr.key b.result.hand.own.bucket b.result.shard c.args.party.now b.new.party b.ensures.takes c.requires.party.config b.ensures.kind.valid in
-    let shown = c.entry-found.ensures ∙ ap (λ (l : ShardLog). option_map view_of (entry_of c.args.ptr.key l.now)) c.deref.ensures in
+    let shown = c.entry-found.ensures ∙ ap (λ (l : ShardLog). option_map view_of (entry_of c.args.ptr.key l.now)) c.deref-2.ensures in
     let stood = c.in-Missing.ensures b.result.shard.now log.replayed.sound shown in
     round_missed m g.P.Pool g.D.CacheDev c.args.self.now.config c.args.ptr c.args.tick b.result.hand.own.bucket b.result.shard c.args.party.now b.new.party c.miss_taken.new.party b.ensures.takes
     (outside c.args.pool.now c.args.cache.now) (outside c.end_miss.new.pool c.end_miss.new.cache) c.entry-found.result c.end_miss.new.party c.end_miss.result stood c.in-Ok-miss_taken.ensures.ok
-    (c.entry-found.ensures ∙ ap (λ (l : ShardLog). option_map view_of (entry_of c.args.ptr.key l.now)) c.deref.ensures) c.end_miss.ensures.answer
+    shown c.end_miss.ensures.answer
 
 pub returns-in-Err-miss_taken-clause-answer : goal.returns-in-Err-miss_taken-clause-answer
 returns-in-Err-miss_taken-clause-answer g c =
@@ -197,17 +210,8 @@ miss_taken-requires-clause-missing g c =
     let m = meanings g.C.Keeps.holds g.C.Keeps.entries g.C.Keeps.opening g.C.Keeps.claims g.C.Keeps.sound in
     let b = c.take_both-both in
     let log = sound_log m c.args.self.now.config c.args.ptr.key b.result.hand.own.bucket b.result.shard c.args.party.now b.new.party b.ensures.takes c.requires.party.config b.ensures.kind.valid in
-    let shown = c.entry-found.ensures ∙ ap (λ (l : ShardLog). option_map view_of (entry_of c.args.ptr.key l.now)) c.deref.ensures in
+    let shown = c.entry-found.ensures ∙ ap (λ (l : ShardLog). option_map view_of (entry_of c.args.ptr.key l.now)) c.deref-2.ensures in
     let stood = c.in-Missing.ensures b.result.shard.now log.replayed.sound shown in
-    stood
-
-pub hit_taken-requires-clause-here : goal.hit_taken-requires-clause-here
-hit_taken-requires-clause-here g c =
-    let m = meanings g.C.Keeps.holds g.C.Keeps.entries g.C.Keeps.opening g.C.Keeps.claims g.C.Keeps.sound in
-    let b = c.take_both-both in
-    let log = sound_log m c.args.self.now.config c.args.ptr.key b.result.hand.own.bucket b.result.shard c.args.party.now b.new.party b.ensures.takes c.requires.party.config b.ensures.kind.valid in
-    let shown = c.entry-found.ensures ∙ ap (λ (l : ShardLog). option_map view_of (entry_of c.args.ptr.key l.now)) c.deref.ensures in
-    let stood = c.in-Here.ensures b.result.shard.now log.replayed.sound shown in
     stood
 
 pub past_taken-requires-clause-kept : goal.past_taken-requires-clause-kept
@@ -215,9 +219,9 @@ past_taken-requires-clause-kept g c =
     let m = meanings g.C.Keeps.holds g.C.Keeps.entries g.C.Keeps.opening g.C.Keeps.claims g.C.Keeps.sound in
     let b = c.take_both-both in
     let log = sound_log m c.args.self.now.config c.args.ptr.key b.result.hand.own.bucket b.result.shard c.args.party.now b.new.party b.ensures.takes c.requires.party.config b.ensures.kind.valid in
-    let shown = c.entry-found.ensures ∙ ap (λ (l : ShardLog). option_map view_of (entry_of c.args.ptr.key l.now)) c.deref.ensures in
+    let shown = c.entry-found.ensures ∙ ap (λ (l : ShardLog). option_map view_of (entry_of c.args.ptr.key l.now)) c.deref-2.ensures in
     let stood = c.in-Other.ensures b.result.shard.now log.replayed.sound shown in
     stood.1
 
 pub miss_taken-requires-clause-found : goal.miss_taken-requires-clause-found
-miss_taken-requires-clause-found g c = c.entry-found.ensures ∙ ap (λ (l : ShardLog). option_map view_of (entry_of c.args.ptr.key l.now)) c.deref.ensures
+miss_taken-requires-clause-found g c = c.entry-found.ensures ∙ ap (λ (l : ShardLog). option_map view_of (entry_of c.args.ptr.key l.now)) c.deref-2.ensures

@@ -1,4 +1,5 @@
-use Rattle.std.proofs.Common.{◌∙◌, ap, length}
+use Rattle.std.proofs.Common.{◌∙◌, ap, length, sym}
+use Rattle.std.proofs.lemmas.Bool.{false≢true}
 use Rattle.std.specs.Option.{option_map}
 use Rattle.std.specs.Prelude.{IsTrue, ◌&&◌}
 use Rattle.arc_core.specs.PlainShard.{entry_is, entry_of, is_resident, keeps_digest}
@@ -87,10 +88,14 @@ returns-in-Reading-clause-holder g c n listed =
 
 pub hit_taken-requires-clause-here : goal.hit_taken-requires-clause-here
 hit_taken-requires-clause-here g c =
+    sym (c.is_resident.ensures ∙ ap (λ (l : ShardLog). entry_is (λ e. is_resident e && keeps_digest c.args.ptr.now.digest e) c.args.ptr.now.key l.now) c.deref-shard.ensures) ∙ c.if-is_resident.true
+
+pub unreachable-requires : goal.unreachable-requires
+unreachable-requires g c =
     let m = meanings g.C.Keeps.holds g.C.Keeps.entries g.C.Keeps.opening g.C.Keeps.claims g.C.Keeps.sound in
     let b = c.in-Taken.both in
     let e = c.in-Taken.ensures in
     let log = sound_log m c.args.self.now.config c.args.ptr.now.key b.hand.own.bucket b.shard c.args.party.now c.try_both.new.party e.takes c.requires.party.config e.kind.valid in
     let shown = c.entry-found.ensures ∙ ap (λ (l : ShardLog). option_map view_of (entry_of c.args.ptr.now.key l.now)) c.deref-shard.ensures in
     let stood = c.in-Here.ensures b.shard.now log.replayed.sound shown in
-    stood
+    absurd (false≢true (sym c.if-is_resident.false ∙ (c.is_resident.ensures ∙ ap (λ (l : ShardLog). entry_is (λ e. is_resident e && keeps_digest c.args.ptr.now.digest e) c.args.ptr.now.key l.now) c.deref-shard.ensures) ∙ stood))
