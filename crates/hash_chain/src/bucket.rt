@@ -18,9 +18,9 @@ const LANES: usize = 16;
 /// a time, and reads a key only where the tag is the one that it looks for.
 #[derive(Debug, Drop)]
 pub struct Bucket {
-    tags: Vec<u8>,
-    keys: Vec<Key>,
     headers: Vec<Header>,
+    keys: Vec<Key>,
+    tags: Vec<u8>,
     spare: usize,
 }
 
@@ -121,9 +121,9 @@ impl Bucket {
         ensures { result ≡ record { headers = []; spare = 0 } }
     {
         Bucket {
-            tags: Vec::new(alloc),
-            keys: Vec::new(alloc),
             headers: Vec::new(alloc),
+            keys: Vec::new(alloc),
+            tags: Vec::new(alloc),
             spare: 0,
         }
     }
