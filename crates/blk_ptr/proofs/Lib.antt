@@ -1,2 +1,3 @@
 mod HexDigits
 pub mod Keys
+mod Powers

@@ -1,5 +1,5 @@
 //! Where a key stands in a cache of several shards.
-ghost use Rattle.std.specs.Prelude.{◌≡◌, ℕ, ◌<◌};
+ghost use Rattle.std.specs.Prelude.{◌≡◌, ℕ, ◌<◌, ◌/◌, ◌%◌};
 ghost use Rattle.blk_ptr.specs.Hash.{hash_of_key, shard_of, bucket_of};
 
 use crate::key::{Key, SECTOR};
@@ -18,13 +18,37 @@ pub fn hash_of(key: Key) -> u64
     spread ^ (spread >> 32)
 }
 
+// A hash divided by `n`. Where `n` is a power of two it is shifted, since a division of 64 bits takes many times as long.
+fn quotient(hash: u64, n: u32) -> u64
+    requires { 0 < n }
+    ensures { result ≡ hash / n }
+{
+    if n.is_power_of_two() {
+        hash >> n.trailing_zeros()
+    } else {
+        hash / u64::from(n)
+    }
+}
+
+// What that division leaves: the low bits of the hash where `n` is a power of two.
+fn remainder(hash: u64, n: u32) -> u32
+    requires { 0 < n }
+    ensures { result ≡ hash % n }
+{
+    if n.is_power_of_two() {
+        (hash & u64::from(n - 1)) as u32
+    } else {
+        (hash % u64::from(n)) as u32
+    }
+}
+
 impl Key {
     /// The shard in which this key stands, of so many: from 0 on.
     pub fn shard(self, shards: u32) -> u32
         requires { 0 < shards }
         ensures { result ≡ shard_of shards self }
     {
-        (hash_of(self) % u64::from(shards)) as u32
+        remainder(hash_of(self), shards)
     }
 
     /// The bucket in which this key stands in its shard, of so many shards with so many buckets each: from 0 on.
@@ -33,6 +57,6 @@ impl Key {
         requires some_buckets { 0 < buckets }
         ensures { result ≡ bucket_of shards buckets self }
     {
-        (hash_of(self) / u64::from(shards) % u64::from(buckets)) as u32
+        remainder(quotient(hash_of(self), shards), buckets)
     }
 }

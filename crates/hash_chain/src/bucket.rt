@@ -134,6 +134,10 @@ impl Bucket {
         ensures key { IfSome result (λ i. IfSome (slice_get self.now.headers i) (λ h. h.key ≡ key)) }
         ensures absent { IfNone result (header_at key self.now.headers ≡ None) }
     {
+        // A bucket mostly has one header. The caller reads that one next, so neither its tag nor the copy of its key is read.
+        if let [only] = self.headers.as_slice() {
+            return (only.key == key).then_some(0);
+        }
         place_of(&self.tags, &self.keys, key)
     }
 

@@ -7,6 +7,8 @@ use std::sync::Arc;
 pub struct Header {
     /// The key.
     pub key: Key,
+    /// The bytes, where they are cached.
+    pub block: Option<Arc<Block>>,
     /// Where the entry stands.
     pub state: State,
     /// Whether some party is reading the bytes just now.
@@ -15,6 +17,4 @@ pub struct Header {
     pub place: Option<u64>,
     /// The SHA-256 of the bytes, where it is known. A ghost has one too.
     pub digest: Option<Digest>,
-    /// The bytes, where they are cached.
-    pub block: Option<Arc<Block>>,
 }
