@@ -102,7 +102,10 @@ fn entries_are_shown(rt: HostRuntime) -> Result<(), Fail> {
     let made = (fetch(&mut shard, a, 1), make(&mut shard, miss(b, 2)));
     let reader = shard.entry(b).and_then(|e| e.reader);
     let cached = (shard.is_resident(a, DIGEST), shard.is_resident(b, DIGEST));
-    assert_eq!(rt; (made, reader, cached), ((true, true), Some(0), (true, false)));
+    assert_eq!(rt;
+        (made, reader, cached),
+        ((true, true), Some(0), (true, false))
+    );
     Ok(())
 }
 
