@@ -26,6 +26,7 @@ pub mod HoldEvents
 pub mod Taking
 pub mod Lent
 pub mod Standings
+pub mod ReadyBlocks
 pub mod HitEvents
 pub mod FollowEvents
 pub mod FeedEvents

@@ -16,11 +16,12 @@ use Rattle.turn_table.specs.Places.{Place, gave_back, saw, took}
 use Rattle.arc_table.specs.declared.about.About.{About}
 use Rattle.arc_table.specs.declared.both.Both.{Both}
 use Rattle.arc_table.specs.declared.front.Front.{Front}
+use Rattle.arc_table.specs.declared.hand.Taken.{Taken}
 use Rattle.arc_table.specs.declared.item.Item.{Item}
 use Rattle.arc_table.specs.declared.item.Item.TheVariants as item
 use Rattle.arc_table.specs.declared.view.Known.{Known}
 use Rattle.arc_table.specs.declared.view.Line.TheVariants as line
-use Rattle.arc_table.specs.Both.{Makes, TakesBoth}
+use Rattle.arc_table.specs.Both.{Makes, Takes, TakesBoth}
 use Rattle.arc_table.specs.Cache.{Cache, IsPartyOf}
 use Rattle.arc_table.specs.Fronts.{front_of}
 use Rattle.arc_table.specs.Geometry.{IsCell, IsShard, bucket_turn, shard_turn}
@@ -35,7 +36,7 @@ use Rattle.arc_table.specs.Telling.{Tells}
 use Rattle.arc_table.specs.Trying.{FindsBusy, at_shard}
 use Rattle.arc_table.specs.Views.{after_lost, after_same, after_won}
 use Rattle.arc_table.proofs.Ranges.{bucket_range, shard_range}
-use Rattle.arc_table.proofs.Reached.{bucket_as_taken, bucket_below, bucket_stays, had_seen, reached, sound_log}
+use Rattle.arc_table.proofs.Reached.{bucket_as_taken, bucket_below, bucket_stays, had_seen, reached, sound_log, took_is}
 
 -- who holds cells alone has neither
 pub no_bucket : (g : Config) (k : Key) (held : List ℕ) → IsConfig g → ((i : ℕ) → IsAmong i held → IsCell g i) → ¬ IsAmong (bucket_turn g k) held
@@ -46,7 +47,27 @@ no_shard g k held valid cells (inl e) = bucket_below g k valid e
 no_shard g k held valid cells (inr among) = let a = cells (shard_turn g k) among in let b = (shard_range g k valid).0 in omega arith
 
 module _ {C : Type 0} (m : Meanings C) where
-  -- a party of the cache is still one
+  -- a party of the cache is still one that has taken a turn
+  pub took_party : (cache : Cache) (i : ℕ) (v : Item C) (p q : Place (Known C)) → Takes m i v p q → IsPartyOf cache p → IsPartyOf cache q
+  took_party cache i v p q t of = let r = took_is m i v p q t in record {
+    row = (r.table ∙ of.row.0, r.parties ∙ of.row.1);
+    config = ap (λ (a : About). a.config) r.about ∙ of.config;
+  }
+
+  -- who has taken the bucket of a key, and had cells alone, hasn't its shard
+  pub no_shard_yet : (g : Config) (k : Key) (v : Item C) (p q : Place (Known C)) → IsConfig g → Takes m (bucket_turn g k) v p q → ((i : ℕ) → IsAmong i p.held → IsCell g i) → ¬ IsAmong (shard_turn g k) q.held
+  no_shard_yet g k v p q valid t cells among = no_shard g k p.held valid cells (subst (IsAmong (shard_turn g k)) (took_is m (bucket_turn g k) v p q t).held among)
+
+  -- the bucket was taken, and then the shard
+  pub both_taken : (g : Config) (k : Key) (own : Taken) (b : Both) (p q r : Place (Known C)) → b.hand.own ≡ own → Takes m (bucket_turn g k) (item.Bucket own.bucket) p q → Takes m (shard_turn g k) (item.Shard b.shard) q r
+      → TakesBoth m g k b.hand.own.bucket b.shard p r
+  both_taken g k own b p q r is bucket shard = record {
+    between = q;
+    bucket = subst (λ (x : Taken). Takes m (bucket_turn g k) (item.Bucket x.bucket) p q) (sym is) bucket;
+    shard = shard;
+  }
+
+  -- and one that has taken both
   pub still_party : (cache : Cache) (k : Key) (chain : Chain) (before : ShardLog) (p q : Place (Known C)) → TakesBoth m cache.config k chain before p q → IsPartyOf cache p → IsPartyOf cache q
   still_party cache k chain before p q t of = let r = reached m cache.config k chain before p q t in record {
     row = (r.table ∙ of.row.0, r.parties ∙ of.row.1);

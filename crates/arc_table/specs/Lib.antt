@@ -36,6 +36,7 @@ pub mod Both
 pub mod Telling
 pub mod Making
 pub mod Standing
+pub mod Ready
 pub mod Trying
 pub mod Handing
 pub mod Feeding

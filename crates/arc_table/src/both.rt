@@ -1,25 +1,30 @@
 //! The bucket and the shard of a key, taken one after the other, and given back with the events made in between.
-ghost use Rattle.std.specs.Prelude.{◌≡◌, ◌<◌, ◌≢◌, [], ◌∷◌};
+ghost use Rattle.std.specs.Prelude.{◌≡◌, ◌<◌, ◌≢◌, [], ◌∷◌, IfNone, IfSome};
 ghost use Rattle.arc_core.specs.Config.{IsConfig};
-ghost use Rattle.arc_table.specs.Both.{Makes, TakesBoth};
+ghost use Rattle.arc_table.specs.declared.item.Item.TheVariants as item;
+ghost use Rattle.arc_table.specs.Both.{Makes, Takes, TakesBoth};
 ghost use Rattle.arc_table.specs.Cache.{IsPartyOf};
 ghost use Rattle.arc_table.specs.Geometry.{bucket_turn, shard_turn};
 ghost use Rattle.arc_table.specs.InHand.{made_since};
 ghost use Rattle.arc_table.specs.Items.{meanings};
 ghost use Rattle.arc_table.specs.Looking.{HasNoLook};
 ghost use Rattle.arc_table.specs.Making.{IsMade, IsOf, IsTaken};
+ghost use Rattle.arc_table.specs.Ready.{IsReady};
+ghost use Rattle.arc_table.specs.Standing.{is_cached_with};
 ghost use Rattle.arc_table.specs.Trying.{FindsBusy};
+ghost use Rattle.turn_table.specs.Board.{IsAmong};
 ghost use Rattle.turn_table.specs.Places.{IsOther};
 ghost use Rattle.turn_table.specs.Taken.{IfBusy, IfTaken};
 
 use crate::arcs::{Arcs, Party};
 use crate::gives;
 use crate::hand::{Hand, Taken};
+use crate::headers::{Ready, find_ready};
 use crate::heap_shard::HeapShard;
 use crate::item::Item;
 use crate::looks::bucket_turn_of;
 use arc_core::{Config, Keeps};
-use blk_ptr::Key;
+use blk_ptr::{Key, Ptr};
 use std::snapshot::Snapshot;
 use std::sync::Wait;
 use turn_table::Take;
@@ -50,12 +55,60 @@ impl<C: Keeps> Arcs<C> {
         ensures new { result.hand.before.value ≡ result.shard }
         ensures takes { TakesBoth (meanings C.holds C.entries C.opening C.claims C.sound) self.now.config key result.hand.own.bucket result.shard party.old party.new }
     {
-        let own = bucket_turn_of(&self.config, key);
+        let own = self.take_bucket(rt, party, key);
+        self.take_shard(rt, party, key, own)
+    }
+
+    // The same for a pointer's key, and where the bytes are cached with the pointer's digest, their header with one owner more of the block. That is seen in the bucket,
+    // before the shard is taken, so that the shard isn't kept meanwhile.
+    pub(crate) fn take_ready(
+        &self,
+        rt: &impl Wait,
+        party: &mut Party<C>,
+        ptr: &Ptr,
+    ) -> (Both, Option<Ready>)
+        requires party { IsPartyOf self.now party.old }
+        requires look { HasNoLook self.now party.old }
+        ensures party { IsPartyOf self.now party.new }
+        ensures kind { IsOf self.now.config ptr.now.key result.0 }
+        ensures new { result.0.hand.before.value ≡ result.0.shard }
+        ensures takes { TakesBoth (meanings C.holds C.entries C.opening C.claims C.sound) self.now.config ptr.now.key result.0.hand.own.bucket result.0.shard party.old party.new }
+        ensures ready { IfSome result.1 (λ ready. IsReady ptr.now ready result.0.hand.own.bucket.headers) }
+        ensures here { IfSome result.1 (λ ready. is_cached_with ptr.now result.0.shard.now) }
+        ensures elsewhere { IfNone result.1 (is_cached_with ptr.now result.0.shard.now → ⊥) }
+    {
+        let own = self.take_bucket(rt, party, ptr.key);
+        let ready = find_ready(&own.bucket, ptr);
+        (self.take_shard(rt, party, ptr.key, own), ready)
+    }
+
+    // Takes the bucket of a key, and waits while another party has it.
+    fn take_bucket(&self, rt: &impl Wait, party: &mut Party<C>, key: Key) -> Taken
+        requires party { IsPartyOf self.now party.old }
+        requires look { HasNoLook self.now party.old }
+        ensures valid { IsConfig self.now.config }
+        ensures turn { result.turn ≡ bucket_turn self.now.config key }
+        ensures takes { Takes (meanings C.holds C.entries C.opening C.claims C.sound) (bucket_turn self.now.config key) (item.Bucket result.bucket) party.old party.new }
+    {
+        let turn = bucket_turn_of(&self.config, key);
+        let bucket = self.turns.take(rt, party, turn).into_bucket();
+        Taken { turn, bucket }
+    }
+
+    // Takes the shard of a key whose bucket the party has taken before, and waits while another party has it.
+    fn take_shard(&self, rt: &impl Wait, party: &mut Party<C>, key: Key, own: Taken) -> Both
+        requires party { IsPartyOf self.now party.old }
+        requires free { ¬ IsAmong (shard_turn self.now.config key) party.old.held }
+        requires own { own.turn ≡ bucket_turn self.now.config key }
+        ensures kind { IsOf self.now.config key result }
+        ensures own { result.hand.own ≡ own }
+        ensures new { result.hand.before.value ≡ result.shard }
+        ensures takes { Takes (meanings C.holds C.entries C.opening C.claims C.sound) (shard_turn self.now.config key) (item.Shard result.shard) party.old party.new }
+    {
         let turn = shard_turn_of(&self.config, key);
-        let bucket = self.turns.take(rt, party, own).into_bucket();
         let shard = self.turns.take(rt, party, turn).into_shard();
         let hand = Hand {
-            own: Taken { turn: own, bucket },
+            own,
             victims: Vec::new(self.alloc),
             before: Snapshot::of(&shard),
         };

@@ -1,14 +1,16 @@
 //! The header of a key in its bucket, read and brought up to its entry.
-ghost use Rattle.std.specs.Prelude.{◌≡◌, ◌<◌, IfOk, IfSome, IsSome, Some, length, slice_get};
+ghost use Rattle.std.specs.Prelude.{◌≡◌, ◌<◌, IfOk, IfSome, IsSome, Some, is_some, length, slice_get};
 ghost use Rattle.blk_ptr.specs.declared.state.State.TheVariants as state;
 ghost use Rattle.arc_core.specs.PlainShard.{entry_of};
 ghost use Rattle.hash_chain.specs.Chain.{header_at};
 ghost use Rattle.hash_chain.specs.declared.header.Header.{Header};
+ghost use Rattle.arc_table.specs.Ready.{IsReady, has_block, keeps_block};
 ghost use Rattle.arc_table.specs.Standing.{Follows, bytes_at, bytes_of, followed};
 
 use crate::heap_bucket::HeapBucket;
 use arc_core::Shard;
-use blk_ptr::{Block, Key, NoMemory, State};
+use blk_ptr::{Block, Digest, Key, NoMemory, Ptr, State};
+use hash_chain::Header;
 use std::sync::Arc;
 
 // One owner more of the block that the header at `at` has.
@@ -21,6 +23,38 @@ pub(crate) fn block_at(bucket: &HeapBucket, at: usize) -> Result<Arc<Block>, NoM
         unreachable!()
     };
     Ok(Arc::try_clone(block)?)
+}
+
+/// A header that has a block which a read asks for: where it stands, and one owner more of the block, or that memory was refused for it.
+#[derive(Drop)]
+pub(crate) struct Ready {
+    pub(crate) at: usize,
+    pub(crate) block: Result<Arc<Block>, NoMemory>,
+}
+
+// Whether a header has a block, of this digest.
+fn keeps_block(header: &Header, digest: Digest) -> bool
+    ensures { result ≡ keeps_block digest header.now }
+{
+    match header.digest {
+        Some(kept) => header.block.is_some() && kept == digest,
+        None => false,
+    }
+}
+
+// The header that has a block of the pointer.
+pub(crate) fn find_ready(bucket: &HeapBucket, ptr: &Ptr) -> Option<Ready>
+    ensures ready { IfSome result (λ ready. IsReady ptr.now ready bucket.now.headers) }
+    ensures there { is_some result ≡ has_block ptr.now bucket.now.headers }
+{
+    let at = bucket.find(ptr.key)?;
+    if !keeps_block(bucket.at(at), ptr.digest) {
+        return None;
+    }
+    Some(Ready {
+        at,
+        block: block_at(bucket, at),
+    })
 }
 
 // One owner more of the block that the key's header has.

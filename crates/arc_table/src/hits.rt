@@ -11,13 +11,14 @@ ghost use Rattle.arc_table.specs.Holding.{IsHeld, IsHoldOf, IsListed};
 ghost use Rattle.arc_table.specs.Items.{meanings};
 ghost use Rattle.arc_table.specs.Looking.{HasNoLook};
 ghost use Rattle.arc_table.specs.Making.{IsTaken};
+ghost use Rattle.arc_table.specs.Ready.{IsReady};
 ghost use Rattle.arc_table.specs.Standing.{StandsSo, is_cached_with};
 ghost use Rattle.arc_table.specs.Trying.{AnswersHit, MayAnswerHolder};
 
 use crate::arcs::{Arcs, Party};
 use crate::both::Both;
 use crate::front::Front;
-use crate::headers::{block_at, follow_hit};
+use crate::headers::{Ready, find_ready, follow_hit};
 use crate::hold::Hold;
 use crate::spare::is_cached;
 use arc_core::{EntryView, Event, Keeps, Shard};
@@ -93,8 +94,8 @@ impl<C: Keeps> Arcs<C> {
         };
         let shard: &Shard = &both.shard;
         let front = self.front_of(ptr.key, shard);
-        if shard.is_resident(ptr.key, ptr.digest) {
-            return match self.hit_taken(party, both, *ptr, tick) {
+        if let Some(ready) = find_ready(&both.hand.own.bucket, ptr) {
+            return match self.hit_taken(party, both, *ptr, tick, ready) {
                 Ok(hold) => TryHit::Held(hold),
                 Err(NoMemory) => TryHit::NoMemory,
             };
@@ -128,25 +129,25 @@ impl<C: Keeps> Arcs<C> {
         }
     }
 
-    // Takes a hold on the entry whose bucket and shard the party has just taken, and gives both back. After want of memory there is no event.
+    // Takes a hold on the entry whose bucket and shard the party has just taken, and whose header is ready, and gives both back. After want of memory there is no event.
     pub(crate) fn hit_taken(
         &self,
         party: &mut Party<C>,
         mut both: Both,
         ptr: Ptr,
         tick: u64,
+        ready: Ready,
     ) -> Result<Hold, NoMemory>
         requires party { IsPartyOf self.now party.old }
         requires taken { IsTaken (meanings C.holds C.entries C.opening C.claims C.sound) self.now.config ptr.key both party.old }
         requires here { is_cached_with ptr both.shard.now }
+        requires ready { IsReady ptr ready both.hand.own.bucket.headers }
         ensures ok { IfOk result (λ hold. Makes (meanings C.holds C.entries C.opening C.claims C.sound) self.now.config ptr.key both.shard (Event.Hit party.old.number ptr.key tick ∷ []) party.old party.new) }
         ensures hold { IfOk result (λ hold. IsHoldOf ptr party.old.number hold × IsHeld self.now.config party.new hold) }
         ensures err { OnErr result (Makes (meanings C.holds C.entries C.opening C.claims C.sound) self.now.config ptr.key both.shard [] party.old party.new) }
     {
-        let Some(at) = both.hand.own.bucket.find(ptr.key) else {
-            unreachable!()
-        };
-        let Ok(block) = block_at(&both.hand.own.bucket, at) else {
+        let Ready { at, block } = ready;
+        let Ok(block) = block else {
             self.give_back(party, ptr.key, both);
             return Err(NoMemory);
         };

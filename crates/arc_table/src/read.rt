@@ -133,9 +133,9 @@ impl<C: Keeps> Arcs<C> {
         ensures pool { KeepsPool P.Pool pool.old pool.new }
         ensures cache { KeepsDevice D.CacheDev cache.old cache.new }
     {
-        let both = self.take_both(rt, party, ptr.key);
-        if both.shard.is_resident(ptr.key, ptr.digest) {
-            return match self.hit_taken(party, both, ptr, tick) {
+        let (both, ready) = self.take_ready(rt, party, &ptr);
+        if let Some(ready) = ready {
+            return match self.hit_taken(party, both, ptr, tick, ready) {
                 Ok(hold) => Round::Answered(Ok(Read::Held(hold, Served::Hit))),
                 Err(NoMemory) => Round::Answered(Err(ReadFault::NoMemory)),
             };

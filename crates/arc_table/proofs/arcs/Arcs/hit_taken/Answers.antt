@@ -1,7 +1,5 @@
-use Rattle.std.proofs.Common.{ℕ, Option, [], ◌∷◌, ◌++◌, refl, sym, ap, ◌∙◌, subst}
-use Rattle.std.specs.Prelude.{IsSome, IsTrue}
-use Rattle.std.proofs.lemmas.Option.{none-some}
-use Rattle.hash_chain.specs.declared.header.Header.{Header}
+use Rattle.std.proofs.Common.{◌≡◌, ℕ, Some, [], ◌∷◌, ◌++◌, refl, sym, ap, ◌∙◌, subst}
+use Rattle.std.specs.Prelude.{IfOk, IsTrue, slice_get}
 use Rattle.blk_ptr.specs.declared.ptr.Ptr.{Ptr}
 use Rattle.arc_core.specs.declared.event.Event.TheVariants.{Hit}
 use Rattle.arc_core.specs.PlainShard.{PlainShard}
@@ -11,23 +9,11 @@ use Rattle.arc_table.specs.Both.{Makes}
 use Rattle.arc_table.specs.Holding.{IsListed}
 use Rattle.arc_table.specs.Items.{meanings}
 use Rattle.arc_table.specs.Making.{IsTaken}
-use Rattle.arc_table.proofs.HitEvents.{block_of_it, found, hit_legal, hit_listed, hit_made, mfu_says, some_there}
+use Rattle.arc_table.proofs.HitEvents.{block_of_it, found, hit_legal, hit_listed, hit_made, mfu_says}
 use Rattle.arc_table.proofs.OneEvent.{makes_these, taken_few}
 use Rattle.arc_table.proofs.Lent.{lent, lent_taken}
 use Rattle.arc_table.specs.Standing.{bytes_of, is_cached_with}
 use Rattle.arc_table.proofs.arcs.Arcs.hit_taken.Goals as goal
-
-pub unreachable-requires : goal.unreachable-requires
-unreachable-requires g c =
-    let m = meanings g.C.Keeps.holds g.C.Keeps.entries g.C.Keeps.opening g.C.Keeps.claims g.C.Keeps.sound in
-    let f = found m c.args.self.now.config c.args.ptr c.args.both c.args.party.now c.requires.taken c.requires.party.config c.requires.taken.kind.valid c.requires.here in
-    none-some f.header (sym c.in_default.ensures.absent ∙ f.had)
-
-pub block_at-requires-clause-block : goal.block_at-requires-clause-block
-block_at-requires-clause-block g c =
-    let m = meanings g.C.Keeps.holds g.C.Keeps.entries g.C.Keeps.opening g.C.Keeps.claims g.C.Keeps.sound in
-    subst (λ (o : Option Header). IsSome (bytes_of o)) c.in-Some.ensures.found.1
-    (some_there (found m c.args.self.now.config c.args.ptr c.args.both c.args.party.now c.requires.taken c.requires.party.config c.requires.taken.kind.valid c.requires.here).kept)
 
 pub give_back-requires-in_default-reserve-clause-taken : goal.give_back-requires-in_default-reserve-clause-taken
 give_back-requires-in_default-reserve-clause-taken g c =
@@ -63,7 +49,7 @@ follow_hit-requires-clause-mfu g c h at mfu =
     let taken = lent_taken m c.args.self.now.config c.args.ptr.key c.args.both c.args.party.now c.deref_mut-shard.result.now same c.requires.taken in
     let here = subst (λ (l : ShardLog). is_cached_with c.args.ptr l.now) (sym same) c.requires.here in
     mfu_says m c.args.self.now.config c.args.ptr b c.args.party.now taken c.requires.party.config taken.kind.valid here c.args.tick c.hit.new.self
-    (c.hit.ensures.makes.now ∙ (λ z. after (c.reserve.ensures.log z).now (Hit (c.number-owner.ensures z) c.args.ptr.key c.args.tick))) h (c.in-Some.ensures.found.1 ∙ at) mfu
+    (c.hit.ensures.makes.now ∙ (λ z. after (c.reserve.ensures.log z).now (Hit (c.number-owner.ensures z) c.args.ptr.key c.args.tick))) h (c.requires.ready.found ∙ at) mfu
 
 pub give_both-requires-clause-made : goal.give_both-requires-clause-made
 give_both-requires-clause-made g c =
@@ -95,7 +81,7 @@ returns-clause-hold g c =
     let q = c.args.party.now in
     let config = c.args.self.now.config in
     let valid = c.requires.taken.kind.valid in
-    let of = block_of_it m config ptr c.args.both q c.requires.taken c.requires.party.config valid c.requires.here c.in-Ok.block.value (ap bytes_of c.in-Some.ensures.found.1 ∙ c.in-Ok.ensures) in (
+    let of = block_of_it m config ptr c.args.both q c.requires.taken c.requires.party.config valid c.requires.here c.in-Ok.block.value (ap bytes_of c.requires.ready.found ∙ subst (λ r. IfOk r (λ block. bytes_of (slice_get c.args.both.hand.own.bucket.headers c.args.ready.at) ≡ Some block.value)) c.in-Ok.is c.requires.ready.block) in (
       record { key = refl; owner_is = c.number-owner.ensures; block = of },
       subst (λ (x : ℕ × Ptr). IsListed config c.give_both.new.party x.0 x.1) (λ z. (sym c.number-owner.ensures z, record { key = ptr.key; digest = sym of.digest z }))
           (hit_listed m config ptr c.args.both q c.requires.taken c.requires.party.config valid c.requires.here c.args.tick c.give_both.new.party (returns-clause-ok g c)),

@@ -1,4 +1,4 @@
-use Rattle.std.proofs.Common.{◌∙◌, ap, length, sym}
+use Rattle.std.proofs.Common.{◌∙◌, ap, length, refl, sym}
 use Rattle.std.proofs.lemmas.Bool.{false≢true}
 use Rattle.std.specs.Option.{option_map}
 use Rattle.std.specs.Prelude.{IsTrue, ◌&&◌}
@@ -10,7 +10,8 @@ use Rattle.arc_table.specs.declared.hits.Standing.TheVariants as standing
 use Rattle.arc_table.proofs.Holders.{held_still}
 use Rattle.arc_table.proofs.Taking.{tells}
 use Rattle.arc_core.specs.ShardLog.{ShardLog}
-use Rattle.arc_table.proofs.Reached.{sound_log}
+use Rattle.arc_table.proofs.ReadyBlocks.{block_cached}
+use Rattle.arc_table.proofs.Reached.{heads, sound_log}
 use Rattle.arc_table.proofs.arcs.Arcs.try_hit.Goals as goal
 
 pub returns-in-Missing-clause-answer : goal.returns-in-Missing-clause-answer
@@ -88,7 +89,12 @@ returns-in-Reading-clause-holder g c n listed =
 
 pub hit_taken-requires-clause-here : goal.hit_taken-requires-clause-here
 hit_taken-requires-clause-here g c =
-    sym (c.is_resident.ensures ∙ ap (λ (l : ShardLog). entry_is (λ e. is_resident e && keeps_digest c.args.ptr.now.digest e) c.args.ptr.now.key l.now) c.deref-shard.ensures) ∙ c.if-is_resident.true
+    let m = meanings g.C.Keeps.holds g.C.Keeps.entries g.C.Keeps.opening g.C.Keeps.claims g.C.Keeps.sound in
+    let b = c.in-Taken.both in
+    let e = c.in-Taken.ensures in
+    let k = c.args.ptr.now.key in
+    let same = block_cached c.args.ptr.now b.shard.now b.hand.own.bucket.headers (heads m c.args.self.now.config k b.hand.own.bucket b.shard c.args.party.now c.try_both.new.party e.takes c.requires.party.config e.kind.valid k refl) in
+    sym same ∙ sym c.in-Some.ensures.there
 
 pub unreachable-requires : goal.unreachable-requires
 unreachable-requires g c =
@@ -98,4 +104,6 @@ unreachable-requires g c =
     let log = sound_log m c.args.self.now.config c.args.ptr.now.key b.hand.own.bucket b.shard c.args.party.now c.try_both.new.party e.takes c.requires.party.config e.kind.valid in
     let shown = c.entry-found.ensures ∙ ap (λ (l : ShardLog). option_map view_of (entry_of c.args.ptr.now.key l.now)) c.deref-shard.ensures in
     let stood = c.in-Here.ensures b.shard.now log.replayed.sound shown in
-    absurd (false≢true (sym c.if-is_resident.false ∙ (c.is_resident.ensures ∙ ap (λ (l : ShardLog). entry_is (λ e. is_resident e && keeps_digest c.args.ptr.now.digest e) c.args.ptr.now.key l.now) c.deref-shard.ensures) ∙ stood))
+    let k = c.args.ptr.now.key in
+    let same = block_cached c.args.ptr.now b.shard.now b.hand.own.bucket.headers (heads m c.args.self.now.config k b.hand.own.bucket b.shard c.args.party.now c.try_both.new.party e.takes c.requires.party.config e.kind.valid k refl) in
+    absurd (false≢true (c.in_default.ensures.there ∙ (same ∙ stood)))
