@@ -74,13 +74,14 @@ impl Model for Shard {
 }
 
 // Appends an event for which there is room.
+#[inline]
 fn append(history: &mut Vec<Event>, event: Event)
     requires { vec_len history.old < vec_capacity history.old }
     ensures items { history.new.items ≡ history.old.items ++ event ∷ [] }
     ensures len { vec_len history.new ≡ vec_len history.old + 1 }
     ensures capacity { vec_capacity history.old ≤ vec_capacity history.new }
 {
-    let _ = history.push(event);
+    history.push_reserved(event);
 }
 
 // Who holds an entry that is being read, and how many holds there are.
@@ -124,7 +125,24 @@ impl Shard {
     /// Makes room for `events` more events, and for `entries` more entries. Events that are owed, since something is held, being
     /// read or picked that is to end, have room already and don't count. After want of memory the shard is as before. A history that would have more than
     /// 2^32 - 1 events with those that are owed is want of memory too.
+    #[inline]
     pub fn reserve(&mut self, events: usize, entries: usize) -> Result<(), NoMemory>
+        ensures log { self.new ≡ record self.old { event_room = self.new.event_room; entry_room = self.new.entry_room } }
+        ensures events { OnOk result (events ≤ self.new.event_room) }
+        ensures entries { OnOk result (entries ≤ self.new.entry_room) }
+        ensures kept_events { self.old.event_room ≤ self.new.event_room }
+        ensures kept_entries { self.old.entry_room ≤ self.new.entry_room }
+        ensures err { OnErr result (self.new ≡ self.old) }
+    {
+        // Most calls ask for what there is already.
+        if events <= self.spare_events && self.table.has_room(entries, events) {
+            return Ok(());
+        }
+        self.reserve_more(events, entries)
+    }
+
+    // Makes the room that `reserve` asks for.
+    fn reserve_more(&mut self, events: usize, entries: usize) -> Result<(), NoMemory>
         ensures log { self.new ≡ record self.old { event_room = self.new.event_room; entry_room = self.new.entry_room } }
         ensures events { OnOk result (events ≤ self.new.event_room) }
         ensures entries { OnOk result (entries ≤ self.new.entry_room) }
