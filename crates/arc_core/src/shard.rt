@@ -1,8 +1,8 @@
 //! One shard with the history that leads to it. Each event is a call; here are those of reads, and more stand in `shard/`.
-ghost use Rattle.std.specs.Prelude.{◌≡◌, ℕ, ◌+◌, ◌≤◌, ◌++◌, ◌∷◌, [], IsTrue, ◌&&◌, OnOk, OnErr, vec_len, vec_capacity, option_map, ◌<◌};
+ghost use Rattle.std.specs.Prelude.{◌≡◌, ℕ, ◌+◌, ◌≤◌, ◌++◌, ◌∷◌, [], IsTrue, OnOk, OnErr, vec_len, vec_capacity, option_map, ◌<◌};
 ghost use Rattle.arc_lists.specs.Adapting.{IsCapacity};
 ghost use Rattle.arc_core.specs.declared.event.Event.{Event};
-ghost use Rattle.arc_core.specs.PlainShard.{entry_is, entry_of, is_resident, keeps_digest, size_in};
+ghost use Rattle.arc_core.specs.PlainShard.{entry_of, size_in};
 ghost use Rattle.arc_core.specs.ShardLog.{HasRoom, IsReplayed, Makes, opening_log};
 ghost use Rattle.arc_core.specs.Step.{legal};
 ghost use Rattle.arc_core.specs.View.{view_of};
@@ -282,16 +282,6 @@ impl Shard {
         ensures { result ≡ option_map view_of (entry_of key self.now.now) }
     {
         self.table.find(key).map(view_of)
-    }
-
-    /// Whether a key's bytes are cached with this digest, and nobody reads them just now.
-    pub fn is_resident(&self, key: Key, digest: Digest) -> bool
-        ensures { result ≡ entry_is (λ e. is_resident e && keeps_digest digest e) key self.now.now }
-    {
-        match self.table.find(key) {
-            Some(entry) => entry.is_resident() && entry.keeps(digest),
-            None => false,
-        }
     }
 
     /// The size of a state in bytes, held entries included.
