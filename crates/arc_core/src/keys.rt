@@ -75,6 +75,7 @@ impl Keys {
     }
 
     // Whether there is none.
+    #[inline]
     fn is_empty(&self) -> bool
         ensures { IsTrue result → self.now.items ≡ [] }
     {
@@ -95,7 +96,8 @@ impl Keys {
         }
     }
 
-    /// Forgets them all.
+    /// Forgets them all. Most often there is none.
+    #[inline]
     pub fn clear(&mut self)
         ensures items { self.new.items ≡ [] }
         ensures spare { self.new.spare ≡ self.old.spare + length self.old.items }
@@ -103,6 +105,14 @@ impl Keys {
         if self.is_empty() {
             return;
         }
+        self.clear_all();
+    }
+
+    // Forgets them all, of which there are some.
+    fn clear_all(&mut self)
+        ensures items { self.new.items ≡ [] }
+        ensures spare { self.new.spare ≡ self.old.spare + length self.old.items }
+    {
         self.few.clear();
         self.more.clear();
     }

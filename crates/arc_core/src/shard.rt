@@ -1,8 +1,8 @@
 //! One shard with the history that leads to it. Each event is a call; here are those of reads, and more stand in `shard/`.
-ghost use Rattle.std.specs.Prelude.{◌≡◌, ℕ, ◌+◌, ◌≤◌, ◌++◌, ◌∷◌, [], IsTrue, ◌&&◌, OnOk, OnErr, vec_len, vec_capacity, option_map, ◌<◌};
+ghost use Rattle.std.specs.Prelude.{◌≡◌, ℕ, ◌+◌, ◌≤◌, ◌++◌, ◌∷◌, [], IsTrue, OnOk, OnErr, vec_len, vec_capacity, option_map, ◌<◌};
 ghost use Rattle.arc_lists.specs.Adapting.{IsCapacity};
 ghost use Rattle.arc_core.specs.declared.event.Event.{Event};
-ghost use Rattle.arc_core.specs.PlainShard.{entry_is, entry_of, is_resident, keeps_digest, size_in};
+ghost use Rattle.arc_core.specs.PlainShard.{entry_of, size_in};
 ghost use Rattle.arc_core.specs.ShardLog.{HasRoom, IsReplayed, Makes, opening_log};
 ghost use Rattle.arc_core.specs.Step.{legal};
 ghost use Rattle.arc_core.specs.View.{view_of};
@@ -74,13 +74,14 @@ impl Model for Shard {
 }
 
 // Appends an event for which there is room.
+#[inline]
 fn append(history: &mut Vec<Event>, event: Event)
     requires { vec_len history.old < vec_capacity history.old }
     ensures items { history.new.items ≡ history.old.items ++ event ∷ [] }
     ensures len { vec_len history.new ≡ vec_len history.old + 1 }
     ensures capacity { vec_capacity history.old ≤ vec_capacity history.new }
 {
-    let _ = history.push(event);
+    history.push_reserved(event);
 }
 
 // Who holds an entry that is being read, and how many holds there are.
@@ -124,7 +125,24 @@ impl Shard {
     /// Makes room for `events` more events, and for `entries` more entries. Events that are owed, since something is held, being
     /// read or picked that is to end, have room already and don't count. After want of memory the shard is as before. A history that would have more than
     /// 2^32 - 1 events with those that are owed is want of memory too.
+    #[inline]
     pub fn reserve(&mut self, events: usize, entries: usize) -> Result<(), NoMemory>
+        ensures log { self.new ≡ record self.old { event_room = self.new.event_room; entry_room = self.new.entry_room } }
+        ensures events { OnOk result (events ≤ self.new.event_room) }
+        ensures entries { OnOk result (entries ≤ self.new.entry_room) }
+        ensures kept_events { self.old.event_room ≤ self.new.event_room }
+        ensures kept_entries { self.old.entry_room ≤ self.new.entry_room }
+        ensures err { OnErr result (self.new ≡ self.old) }
+    {
+        // Most calls ask for what there is already.
+        if events <= self.spare_events && self.table.has_room(entries, events) {
+            return Ok(());
+        }
+        self.reserve_more(events, entries)
+    }
+
+    // Makes the room that `reserve` asks for.
+    fn reserve_more(&mut self, events: usize, entries: usize) -> Result<(), NoMemory>
         ensures log { self.new ≡ record self.old { event_room = self.new.event_room; entry_room = self.new.entry_room } }
         ensures events { OnOk result (events ≤ self.new.event_room) }
         ensures entries { OnOk result (entries ≤ self.new.entry_room) }
@@ -264,16 +282,6 @@ impl Shard {
         ensures { result ≡ option_map view_of (entry_of key self.now.now) }
     {
         self.table.find(key).map(view_of)
-    }
-
-    /// Whether a key's bytes are cached with this digest, and nobody reads them just now.
-    pub fn is_resident(&self, key: Key, digest: Digest) -> bool
-        ensures { result ≡ entry_is (λ e. is_resident e && keeps_digest digest e) key self.now.now }
-    {
-        match self.table.find(key) {
-            Some(entry) => entry.is_resident() && entry.keeps(digest),
-            None => false,
-        }
     }
 
     /// The size of a state in bytes, held entries included.

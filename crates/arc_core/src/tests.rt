@@ -101,11 +101,8 @@ fn entries_are_shown(rt: HostRuntime) -> Result<(), Fail> {
     let (a, b) = (block(512, 0), block(512, 1));
     let made = (fetch(&mut shard, a, 1), make(&mut shard, miss(b, 2)));
     let reader = shard.entry(b).and_then(|e| e.reader);
-    let cached = (shard.is_resident(a, DIGEST), shard.is_resident(b, DIGEST));
-    assert_eq!(rt;
-        (made, reader, cached),
-        ((true, true), Some(0), (true, false))
-    );
+    let kept = shard.entry(a).and_then(|e| e.digest);
+    assert_eq!(rt; (made, reader, kept), ((true, true), Some(0), Some(DIGEST)));
     Ok(())
 }
 

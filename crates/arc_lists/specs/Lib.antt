@@ -2,6 +2,7 @@ pub mod Adapting
 pub mod ByKey
 pub mod Kept
 pub mod LastKeys
+pub mod Lends
 pub mod PlainLists
 pub mod Posts
 pub mod Queues

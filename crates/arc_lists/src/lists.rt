@@ -155,17 +155,18 @@ impl Lists {
         self.queues.leave(before.state, before.at);
     }
 
-    // Gives an unheld key a state. It leaves its sequence before it comes to the next one, since there may be no room for one more.
+    // Gives an unheld key a state, by one search for it. It leaves its sequence before it comes to the next one, since there may be no room for one more.
     fn change_to_unheld(&mut self, key: Key, s: State)
         requires there { IsSome (item_at member_key key self.old.members) }
         requires size { IsBlockSize key.size }
         ensures { self.new ≡ put key s true (take_out key self.old) }
     {
-        let before = self.members.find(key);
+        let standing = self.members.find_mut(key);
+        let before = *standing;
         self.sizes.transfer(before.state, s, key.size);
         self.queues.leave(before.state, before.at);
         let at = self.queues.put_at_head(s, key);
-        let _ = self.members.set(key, Standing { state: s, at });
+        *standing = Standing { state: s, at };
     }
 
     /// Puts a key that stands on no sequence at the head of its state's sequence.

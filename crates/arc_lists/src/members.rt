@@ -1,5 +1,6 @@
 //! Who is there: each key with its state and the place of its node, found by its hash.
 ghost use Rattle.std.specs.Prelude.{◌≡◌, ◌+◌, ◌-◌, ◌<◌, ◌^◌, false, length, max, IsSome, OnOk, OnErr, Some};
+ghost use Rattle.std.specs.Borrow.{sem};
 ghost use Rattle.arc_lists.specs.ByKey.{has_key, item_at, with_change, with_item, without};
 ghost use Rattle.arc_lists.specs.Posts.{no_posts, post, post_key};
 
@@ -29,6 +30,8 @@ impl Model for Members {
 }
 
 impl Members {
+    ghost use Rattle.arc_lists.specs.Lends.{lends_standing};
+
     pub fn new(alloc: Global) -> Members
         ensures { result ≡ no_posts }
     {
@@ -69,6 +72,18 @@ impl Members {
         ensures { item_at post_key key self.now.posts ≡ Some (post key result) }
     {
         *self.rows.get(&Name(key)).unwrap()
+    }
+
+    /// The standing of a key that is there, to write.
+    pub fn find_mut(&mut self, key: Key) -> &mut Standing
+        requires { IsSome (item_at post_key key self.old.posts) }
+        ensures* writes_back { sem 𝓛 (lends_standing self.entry key result) }
+        ensures standing { item_at post_key key self.old.posts ≡ Some (post key result.now) }
+    {
+        match self.rows.get_mut(&Name(key)) {
+            Some(standing) => standing,
+            None => unreachable!(),
+        }
     }
 
     /// Adds a key that is not there.

@@ -12,21 +12,21 @@ use Rattle.hash_chain.specs.declared.header.Header.{Header}
 use Rattle.hash_chain.specs.Chain.{header_at, IsWith}
 use Rattle.hash_chain.specs.Kept.{is_key, keys_of, AreOnce}
 
-cases : (b : Bool) → (b ≡ true) ⊎ (b ≡ false)
+pub cases : (b : Bool) → (b ≡ true) ⊎ (b ≡ false)
 cases true = inl refl
 cases false = inr refl
 
-some_none : {A : Type 0} (a : A) → ◌≡◌ {A = Option A} (Some a) None → ⊥
+pub some_none : {A : Type 0} (a : A) → ◌≡◌ {A = Option A} (Some a) None → ⊥
 some_none a e = cc
 
-true_false : true ≡ false → ⊥
+pub true_false : true ≡ false → ⊥
 true_false e = cc
 
 -- the first header of a list has the key, or another one has what the key has
-here : (k : Key) (h : Header) (hs : List Header) → key_eq h.key k ≡ true → header_at k (h ∷ hs) ≡ Some h
+pub here : (k : Key) (h : Header) (hs : List Header) → key_eq h.key k ≡ true → header_at k (h ∷ hs) ≡ Some h
 here k h hs e = subst (λ b. (if b then Some h else header_at k hs) ≡ Some h) (sym e) refl
 
-there : (k : Key) (h : Header) (hs : List Header) → key_eq h.key k ≡ false → header_at k (h ∷ hs) ≡ header_at k hs
+pub there : (k : Key) (h : Header) (hs : List Header) → key_eq h.key k ≡ false → header_at k (h ∷ hs) ≡ header_at k hs
 there k h hs e = subst (λ b. (if b then Some h else header_at k hs) ≡ header_at k hs) (sym e) refl
 
 -- a key that has nothing is not the first header's
@@ -351,19 +351,3 @@ pub set_same : (hs : List Header) (i : ℕ) (h : Header) → slice_get hs i ≡ 
 set_same [] i h at = refl
 set_same (g ∷ gs) zero h at = let same : g ≡ h = cc in ap (λ (z : Header). z ∷ gs) (sym same)
 set_same (g ∷ gs) (suc i) h at = ap (λ l. g ∷ l) (set_same gs i h at)
-
--- and its key has what it had
-pub with_same : (hs : List Header) (i : ℕ) (h : Header) → AreOnce hs → slice_get hs i ≡ Some h → IsWith h.key (Some h) hs hs
-with_same hs i h once at j = ⊎_elim
-    (λ t. subst (λ (k : Key). header_at k hs ≡ Some h) (key_eq-is h.key j t) (found hs i h once at) ∙ sym (subst (λ b. (if b then Some h else header_at j hs) ≡ Some h) (sym t) refl))
-    (λ f. sym (subst (λ b. (if b then Some h else header_at j hs) ≡ header_at j hs) (sym f) refl))
-    (cases (key_eq h.key j))
-
--- the header at i is g from then on, which says the same but for its state and its place
-pub changed_to : (hs : List Header) (i : ℕ) (h g : Header) → AreOnce hs → slice_get hs i ≡ Some h → g.key ≡ h.key → Changed hs (set hs i g) g
-changed_to hs i h g once at same = changed hs i g once (below hs i h at) (subst (λ (o : Option Header). IfSome o (λ z. z.key ≡ g.key)) (sym at) (sym same))
-  where
-    below : (hs : List Header) (i : ℕ) (h : Header) → slice_get hs i ≡ Some h → i < length hs
-    below [] i h at = absurd (some_none h (sym at))
-    below (g ∷ gs) zero h at = omega arith
-    below (g ∷ gs) (suc i) h at = let less = below gs i h at in omega arith

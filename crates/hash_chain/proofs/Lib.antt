@@ -1,2 +1,3 @@
+pub mod First
 pub mod Headers
 pub mod Tags

@@ -1,10 +1,15 @@
 -- What is always true of a bucket.
-use Rattle.std.specs.Prelude.{◌≡◌, ℕ, ◌/◌, ◌^◌, Bool, List, [], ◌∷◌, map, None}
+use Rattle.std.specs.Prelude.{◌≡◌, ℕ, ◌/◌, ◌^◌, Bool, List, [], ◌∷◌, map, Option, Some, None}
 use Rattle.blk_ptr.specs.declared.key.Key.{Key}
 use Rattle.blk_ptr.specs.Order.{key_eq}
 use Rattle.blk_ptr.specs.Hash.{hash_of_key}
 use Rattle.hash_chain.specs.declared.header.Header.{Header}
 use Rattle.hash_chain.specs.Chain.{header_at}
+
+-- the headers of a bucket: the first, if there is one, and the others
+abbrev pub all_of : Option Header → List Header → List Header
+all_of None hs = hs
+all_of (Some h) hs = h ∷ hs
 
 -- whether j is the key k
 abbrev pub is_key : Key → Key → Bool

@@ -9,33 +9,39 @@ use crate::header::Header;
 use blk_ptr::{Key, NoMemory, State, hash_of};
 use std::alloc::Global;
 use std::marker::Model;
+use std::mem;
 use std::simd::prelude::*;
 
 // How many tags are compared at a time.
 const LANES: usize = 16;
 
-/// The headers of the keys that fall into one bucket. Contracts see a finite map by key. Beside each key lies a byte of its hash, its tag: a search goes over the tags, many at
-/// a time, and reads a key only where the tag is the one that it looks for.
+/// The headers of the keys that fall into one bucket. Contracts see a finite map by key. A bucket mostly has one header or two. So the first lies in the bucket itself, and a
+/// search for its key reads none of the vectors. The others lie in `more`, and their keys and tags beside them in the same order. A tag is a byte of the key's hash: a search
+/// goes over the tags, many at a time, and reads a key only where the tag is the one that it looks for.
 #[derive(Debug, Drop)]
 pub struct Bucket {
-    headers: Vec<Header>,
+    first: Option<Header>,
+    more: Vec<Header>,
     keys: Vec<Key>,
     tags: Vec<u8>,
     spare: usize,
 }
 
 impl Model for Bucket {
-    ghost use Rattle.std.specs.Prelude.{◌≡◌, ◌+◌, ◌≤◌, map, vec_len, vec_capacity};
+    ghost use Rattle.std.specs.Prelude.{◌≡◌, ◌+◌, ◌≤◌, [], map, length, option_to_list, vec_len, vec_capacity, IfNone};
     ghost use Rattle.hash_chain.specs.Chain.{Chain};
-    ghost use Rattle.hash_chain.specs.Kept.{keys_of, tag_of_key, AreOnce};
+    ghost use Rattle.hash_chain.specs.Kept.{all_of, keys_of, tag_of_key, AreOnce};
 
     ghost Value = { Chain };
 
-    ghost view = { λ b. record { headers = b.headers.items; spare = b.spare } };
+    ghost view = { λ b. record { headers = all_of b.first b.more.items; spare = b.spare } };
 
-    ghost invariant = { λ b. (b.keys.items ≡ keys_of b.headers.items) × AreOnce b.headers.items
-        × (vec_len b.keys + b.spare ≤ vec_capacity b.keys) × (vec_len b.headers + b.spare ≤ vec_capacity b.headers)
-        × (b.tags.items ≡ map tag_of_key b.keys.items) × (vec_len b.tags + b.spare ≤ vec_capacity b.tags) };
+    // With a first there is room in each vector for `spare` more. Without one there may be room for one less, since the next header becomes the first.
+    ghost invariant = { λ b. (b.keys.items ≡ keys_of b.more.items) × AreOnce (all_of b.first b.more.items)
+        × (b.tags.items ≡ map tag_of_key b.keys.items) × IfNone b.first (b.more.items ≡ [])
+        × (length (option_to_list b.first) + vec_len b.more + b.spare ≤ vec_capacity b.more + 1)
+        × (length (option_to_list b.first) + vec_len b.keys + b.spare ≤ vec_capacity b.keys + 1)
+        × (length (option_to_list b.first) + vec_len b.tags + b.spare ≤ vec_capacity b.tags + 1) };
 }
 
 // The tag of a key: the highest byte of its hash, since buckets are chosen by the lower ones.
@@ -115,13 +121,22 @@ fn says(header: &Header, state: State, place: Option<u64>) -> bool
     header.state == state && header.place == place
 }
 
+// Writes this state and this place into a header.
+fn restate(header: &mut Header, state: State, place: Option<u64>)
+    ensures { header.new ≡ record header.old { state = state; place = place } }
+{
+    header.state = state;
+    header.place = place;
+}
+
 impl Bucket {
     /// An empty bucket.
     pub fn new(alloc: Global) -> Bucket
         ensures { result ≡ record { headers = []; spare = 0 } }
     {
         Bucket {
-            headers: Vec::new(alloc),
+            first: None,
+            more: Vec::new(alloc),
             keys: Vec::new(alloc),
             tags: Vec::new(alloc),
             spare: 0,
@@ -134,11 +149,17 @@ impl Bucket {
         ensures key { IfSome result (λ i. IfSome (slice_get self.now.headers i) (λ h. h.key ≡ key)) }
         ensures absent { IfNone result (header_at key self.now.headers ≡ None) }
     {
-        // A bucket mostly has one header. The caller reads that one next, so neither its tag nor the copy of its key is read.
-        if let [only] = self.headers.as_slice() {
-            return (only.key == key).then_some(0);
+        // The first header's own key is compared, since the caller reads that header next.
+        let first = self.first.as_ref()?;
+        if first.key == key {
+            return Some(0);
         }
-        place_of(&self.tags, &self.keys, key)
+        // Where there are no others the key isn't hashed.
+        if self.more.is_empty() {
+            return None;
+        }
+        let place = place_of(&self.tags, &self.keys, key)?;
+        Some(place + 1)
     }
 
     /// The header at `i`.
@@ -147,7 +168,10 @@ impl Bucket {
         ensures place { slice_get self.now.headers i ≡ Some result.now }
         ensures map { header_at result.now.key self.now.headers ≡ Some result.now }
     {
-        &self.headers[i]
+        if i > 0 {
+            return &self.more[i - 1];
+        }
+        self.first.as_ref().unwrap()
     }
 
     /// Makes room for `n` more headers. After want of memory the bucket is as before.
@@ -161,7 +185,7 @@ impl Bucket {
         }
         self.tags.reserve(n)?;
         self.keys.reserve(n)?;
-        self.headers.reserve(n)?;
+        self.more.reserve(n)?;
         self.spare = n;
         Ok(())
     }
@@ -173,23 +197,33 @@ impl Bucket {
         ensures headers { self.new ≡ record { headers = self.old.headers ++ header ∷ []; spare = self.old.spare - 1 } }
         ensures map { IsWith header.key (Some header) self.old.headers self.new.headers }
     {
+        self.spare -= 1;
+        if self.first.is_none() {
+            self.first = Some(header);
+            return;
+        }
         self.tags.push_reserved(tag_of(header.key));
         self.keys.push_reserved(header.key);
-        self.headers.push_reserved(header);
-        self.spare -= 1;
+        self.more.push_reserved(header);
     }
 
-    /// Takes the header at `i` out (`buf_hash_remove` of OpenZFS's `arc.c`). The last one takes its place.
+    /// Takes the header at `i` out (`buf_hash_remove` of OpenZFS's `arc.c`). The last of the headers takes its place.
     pub fn remove(&mut self, i: usize) -> Header
         requires { i < length self.old.headers }
         ensures value { slice_get self.old.headers i ≡ Some result }
         ensures map { IsWith result.key None self.old.headers self.new.headers }
         ensures spare { self.new.spare ≡ self.old.spare + 1 }
     {
-        self.tags.swap_remove(i);
-        self.keys.swap_remove(i);
         self.spare += 1;
-        self.headers.swap_remove(i)
+        if i == 0 {
+            self.tags.pop();
+            self.keys.pop();
+            let last = self.more.pop();
+            return mem::replace(&mut self.first, last).unwrap();
+        }
+        self.tags.swap_remove(i - 1);
+        self.keys.swap_remove(i - 1);
+        self.more.swap_remove(i - 1)
     }
 
     /// Puts another header of the same key at `i`.
@@ -199,7 +233,11 @@ impl Bucket {
         ensures headers { self.new ≡ record self.old { headers = slice_set self.old.headers i header } }
         ensures map { IsWith header.key (Some header) self.old.headers self.new.headers }
     {
-        self.headers[i] = header;
+        if i == 0 {
+            self.first = Some(header);
+            return;
+        }
+        self.more[i - 1] = header;
     }
 
     /// The header at `i` says this state and this place from now on (`arc_change_state` of OpenZFS's `arc.c`). Nothing is written where it says so already.
@@ -211,8 +249,10 @@ impl Bucket {
         if says(self.at(i), state, place) {
             return;
         }
-        let header = &mut self.headers[i];
-        header.state = state;
-        header.place = place;
+        if i > 0 {
+            restate(&mut self.more[i - 1], state, place);
+        } else if let Some(first) = &mut self.first {
+            restate(first, state, place);
+        }
     }
 }

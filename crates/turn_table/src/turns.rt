@@ -132,10 +132,24 @@ impl<V, R: TurnRule<V>> Turns<V, R> {
         requires not_held { ¬ IsAmong i party.old.held }
         ensures { (owners : List ℕ) × (w : R.View) × Loses R.holds R.lost i owners party.old (saw party.old w) × WasFree R.holds (saw party.old w) i result × (party.new ≡ took party.old i (R.won party.old.number i result w)) }
     {
+        // A turn that is free is taken here, with no loop to set up.
+        match self.try_take(party, i) {
+            Take::Taken(value) => value,
+            Take::Busy { owner: _ } => self.take_later(rt, party, i),
+        }
+    }
+
+    // The same, where a try was lost just before: it waits first.
+    fn take_later(&self, rt: &impl Wait, party: &mut Party<V, R>, i: u32) -> V
+        requires row { IsPartyOf self.now party.old }
+        requires range { i < self.now.turns }
+        requires not_held { ¬ IsAmong i party.old.held }
+        ensures { (owners : List ℕ) × (w : R.View) × Loses R.holds R.lost i owners party.old (saw party.old w) × WasFree R.holds (saw party.old w) i result × (party.new ≡ took party.old i (R.won party.old.number i result w)) }
+    {
         for _ in rt.forever() {
-            match self.try_take(party, i) {
-                Take::Taken(value) => return value,
-                Take::Busy { owner: _ } => self.wait(i),
+            self.wait(i);
+            if let Take::Taken(value) = self.try_take(party, i) {
+                return value;
             }
         }
         unreachable!()

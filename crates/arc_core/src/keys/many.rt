@@ -96,6 +96,7 @@ impl ManyKeys {
     }
 
     /// Whether there is none.
+    #[inline]
     pub fn is_empty(&self) -> bool
         ensures { IsTrue result → self.now.items ≡ [] }
     {

@@ -1,5 +1,5 @@
 //! The keys that were marked as victims of an event, and those that may be, and the room for more.
-ghost use Rattle.std.specs.Prelude.{◌≡◌, ◌+◌, ◌++◌, ◌∷◌, [], ◌<◌, ◌≤◌, Bool, false, not, find, vec_len, vec_capacity, IsTrue, IsSome, Some, OnOk, OnErr};
+ghost use Rattle.std.specs.Prelude.{◌≡◌, ◌+◌, ◌++◌, ◌∷◌, [], ◌<◌, ◌≤◌, ◌↔◌, Bool, false, not, find, vec_len, vec_capacity, IsTrue, IsSome, Some, OnOk, OnErr};
 ghost use Rattle.blk_ptr.specs.declared.key.Key.{Key};
 ghost use Rattle.blk_ptr.specs.declared.state.State.{State};
 ghost use Rattle.arc_lists.specs.ByKey.{with_item};
@@ -29,6 +29,14 @@ impl Table {
         self.marked.add(key);
     }
 
+    /// Whether there is room for `entries` more entries, and for `marks` more picks and passed keys.
+    #[inline]
+    pub fn has_room(&self, entries: usize, marks: usize) -> bool
+        ensures { IsTrue result ↔ ((entries ≤ self.now.spare) × (marks ≤ self.now.marks)) }
+    {
+        entries <= self.lists.spare() && marks <= self.marks
+    }
+
     /// Makes room for `entries` more entries, and for `marks` more picks and passed keys. Where there is too little, room for a fourth
     /// of the entries is made beside, so that not each event that adds a key makes room anew.
     pub fn reserve_more(&mut self, entries: usize, marks: usize) -> Result<(), NoMemory>
@@ -39,7 +47,7 @@ impl Table {
         ensures kept_marks { self.old.marks ≤ self.new.marks }
         ensures err { OnErr result (self.new ≡ self.old) }
     {
-        if entries <= self.lists.spare() && marks <= self.marks {
+        if self.has_room(entries, marks) {
             return Ok(());
         }
         let more = self.len() / 4;

@@ -1,5 +1,4 @@
 use Rattle.std.proofs.Common.{length, ap, arith}
-use Rattle.arc_core.proofs.FewKeys.{length-beside}
 use Rattle.arc_core.proofs.keys.Keys.clear.Goals as goal
 
 pub returns-then-is_empty-clause-items : goal.returns-then-is_empty-clause-items
@@ -7,8 +6,3 @@ returns-then-is_empty-clause-items c = c.is_empty.ensures c.if-is_empty.true
 
 pub returns-then-is_empty-clause-spare : goal.returns-then-is_empty-clause-spare
 returns-then-is_empty-clause-spare c = omega (arith, ap length (c.is_empty.ensures c.if-is_empty.true))
-
-pub returns-clause-spare : goal.returns-clause-spare
-returns-clause-spare c =
-    let few = c.self.inside.few in
-    rw (← c.self.view_is) (omega (arith, c.clear.ensures.len, c.clear-2.ensures.spare, c.self.invariant.room, few.ok.0, length-beside few.items c.self.inside.more.items))

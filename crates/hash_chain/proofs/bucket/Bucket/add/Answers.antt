@@ -1,28 +1,39 @@
-use Rattle.std.proofs.Common.{◌≡◌, ◌∷◌, [], ◌++◌, List, Some, None, sym, ap, ◌∙◌, subst, arith}
+use Rattle.std.proofs.Common.{◌≡◌, ◌<◌, ◌∷◌, [], ◌++◌, List, Option, Some, None, sym, ap, ◌∙◌, subst, arith}
 use Rattle.hash_chain.specs.declared.header.Header.{Header}
 use Rattle.hash_chain.specs.Chain.{Chain, header_at, IsWith}
-use Rattle.hash_chain.specs.Kept.{keys_of, AreOnce}
+use Rattle.hash_chain.specs.Kept.{all_of, keys_of, AreOnce}
+use Rattle.hash_chain.proofs.First.{append_after, none_not}
 use Rattle.hash_chain.proofs.Headers.{map_add, once_add, keys_append}
 use Rattle.hash_chain.proofs.Tags.{tags_with}
 use Rattle.hash_chain.proofs.bucket.Bucket.add.Goals as goal
 
-pub invariant_of-self : goal.invariant_of-self
-invariant_of-self c =
+pub invariant_of-self-2 : goal.invariant_of-self-2
+invariant_of-self-2 c =
     let i = c.self.invariant in
-    let hs : List Header = c.self.inside.headers.items in
-    let none : header_at c.args.header.key hs ≡ None = subst (λ (b : Chain). header_at c.args.header.key b.headers ≡ None) (sym c.self.view_is) c.requires.absent in (
-      c.push_reserved-2.ensures.items ∙ (ap (λ l. l ++ c.args.header.key ∷ []) i.0 ∙ (sym (keys_append hs (c.args.header ∷ [])) ∙ ap keys_of (sym c.push_reserved-3.ensures.items))),
-      subst AreOnce (sym c.push_reserved-3.ensures.items) (once_add hs c.args.header i.1 none),
+    let o : Option Header = c.self.inside.first in
+    let hs : List Header = c.self.inside.more.items in
+    let h : Header = c.args.header in
+    let absent : header_at h.key (all_of o hs) ≡ None = subst (λ (b : Chain). header_at h.key b.headers ≡ None) (sym c.self.view_is) c.requires.absent in
+    let longer : all_of o c.push_reserved-3.new.self.items ≡ all_of o hs ++ h ∷ [] = ap (all_of o) c.push_reserved-3.ensures.items ∙ append_after o hs h in
+    let room : 0 < c.self.inside.spare = subst (λ (b : Chain). 0 < b.spare) (sym c.self.view_is) c.requires.room in
+    let room_more = i.4 in
+    let room_keys = i.5 in
+    let room_tags = i.6 in (
+      c.push_reserved-2.ensures.items ∙ (ap (λ l. l ++ h.key ∷ []) i.0 ∙ (sym (keys_append hs (h ∷ [])) ∙ ap keys_of (sym c.push_reserved-3.ensures.items))),
+      subst AreOnce (sym longer) (once_add (all_of o hs) h i.1 absent),
+      tags_with _ _ _ _ _ c.push_reserved.ensures.items c.push_reserved-2.ensures.items i.2 c.tag_of.ensures,
+      none_not o _ c.is_none.result c.is_none.ensures c.if-is_none.false,
       omega arith,
       omega arith,
-      tags_with _ _ _ _ _ c.push_reserved.ensures.items c.push_reserved-2.ensures.items i.4 c.tag_of.ensures,
       omega arith,
     )
 
 pub returns-clause-map : goal.returns-clause-map
 returns-clause-map c =
-    let hs : List Header = c.self.inside.headers.items in
-    let none : header_at c.args.header.key hs ≡ None = subst (λ (b : Chain). header_at c.args.header.key b.headers ≡ None) (sym c.self.view_is) c.requires.absent in
-    let now : hs ≡ c.args.self.now.headers = ap (λ (b : Chain). b.headers) c.self.view_is in
-    subst (λ (l : List Header). IsWith c.args.header.key (Some c.args.header) l c.push_reserved-3.new.self.items) now
-    (subst (IsWith c.args.header.key (Some c.args.header) hs) (sym c.push_reserved-3.ensures.items) (map_add hs c.args.header none))
+    let o : Option Header = c.self.inside.first in
+    let hs : List Header = c.self.inside.more.items in
+    let h : Header = c.args.header in
+    let absent : header_at h.key (all_of o hs) ≡ None = subst (λ (b : Chain). header_at h.key b.headers ≡ None) (sym c.self.view_is) c.requires.absent in
+    let longer : all_of o c.push_reserved-3.new.self.items ≡ all_of o hs ++ h ∷ [] = ap (all_of o) c.push_reserved-3.ensures.items ∙ append_after o hs h in
+    subst (λ (b : Chain). IsWith h.key (Some h) b.headers (all_of o c.push_reserved-3.new.self.items)) c.self.view_is
+    (subst (IsWith h.key (Some h) (all_of o hs)) (sym longer) (map_add (all_of o hs) h absent))

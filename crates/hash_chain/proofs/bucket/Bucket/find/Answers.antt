@@ -1,22 +1,35 @@
-use Rattle.std.proofs.Common.{◌≡◌, ◌<◌, length, IfSome, IfNone, None, ap, ◌∙◌, subst}
+use Rattle.std.proofs.Common.{◌≡◌, ℕ, ◌+◌, ◌<◌, ◌∷◌, List, Option, length, IfSome, IfNone, None, sym, ap, ◌∙◌, subst}
 use Rattle.std.specs.Prelude.{slice_get}
 use Rattle.std.specs.List.{position}
+use Rattle.hash_chain.specs.declared.header.Header.{Header}
 use Rattle.hash_chain.specs.Chain.{Chain, header_at}
-use Rattle.hash_chain.specs.Kept.{is_key}
-use Rattle.hash_chain.proofs.Headers.{finds}
+use Rattle.hash_chain.specs.Kept.{all_of, is_key}
+use Rattle.hash_chain.proofs.First.{finds_after}
 use Rattle.hash_chain.proofs.bucket.Bucket.find.Goals as goal
+
+pub returns-in_err-place-clause-absent : goal.returns-in_err-place-clause-absent
+returns-in_err-place-clause-absent c =
+    let f : Header = c.in_ok-first.first.now in
+    let hs : List Header = c.self.inside.more.items in
+    let r = finds_after f hs c.self.inside.keys.items c.args.key c.place_of.result c.self.invariant.0 (c.place_of.ensures ∙ ap (position (is_key c.args.key)) c.deref-2.ensures.value) c.if-eq.ensures in
+    let all : f ∷ hs ≡ c.args.self.now.headers = ap (λ (o : Option Header). all_of o hs) c.in_ok-first.ensures.value ∙ ap (λ (b : Chain). b.headers) c.self.view_is in
+    let absent : header_at c.args.key (f ∷ hs) ≡ None = subst (λ (o : Option ℕ). IfNone o (header_at c.args.key (f ∷ hs) ≡ None)) c.in_err-place.was r.2 in
+    subst (λ (o : Option ℕ). IfNone o (header_at c.args.key c.args.self.now.headers ≡ None)) (sym c.from_residual-in_err-place.ensures) (subst (λ (l : List Header). header_at c.args.key l ≡ None) all absent)
 
 pub returns-clause-found : goal.returns-clause-found
 returns-clause-found c =
-    let f = finds c.self.inside.headers.items c.self.inside.keys.items c.args.key c.place_of.result c.self.invariant.0 (c.place_of.ensures ∙ ap (position (is_key c.args.key)) c.deref-2.ensures.value) in
-    subst (λ (b : Chain). IfSome c.place_of.result (λ i. (i < length b.headers) × (header_at c.args.key b.headers ≡ slice_get b.headers i))) c.self.view_is f.0
+    let f : Header = c.in_ok-first.first.now in
+    let hs : List Header = c.self.inside.more.items in
+    let r = finds_after f hs c.self.inside.keys.items c.args.key c.place_of.result c.self.invariant.0 (c.place_of.ensures ∙ ap (position (is_key c.args.key)) c.deref-2.ensures.value) c.if-eq.ensures in
+    let all : f ∷ hs ≡ c.args.self.now.headers = ap (λ (o : Option Header). all_of o hs) c.in_ok-first.ensures.value ∙ ap (λ (b : Chain). b.headers) c.self.view_is in
+    subst (λ (l : List Header). (c.in_ok-place.place + 1 < length l) × (header_at c.args.key l ≡ slice_get l (c.in_ok-place.place + 1))) all
+    (subst (λ (o : Option ℕ). IfSome o (λ i. (i + 1 < length (f ∷ hs)) × (header_at c.args.key (f ∷ hs) ≡ slice_get (f ∷ hs) (i + 1)))) c.in_ok-place.was r.0)
 
 pub returns-clause-key : goal.returns-clause-key
 returns-clause-key c =
-    let f = finds c.self.inside.headers.items c.self.inside.keys.items c.args.key c.place_of.result c.self.invariant.0 (c.place_of.ensures ∙ ap (position (is_key c.args.key)) c.deref-2.ensures.value) in
-    subst (λ (b : Chain). IfSome c.place_of.result (λ i. IfSome (slice_get b.headers i) (λ h. h.key ≡ c.args.key))) c.self.view_is f.1
-
-pub returns-clause-absent : goal.returns-clause-absent
-returns-clause-absent c =
-    let f = finds c.self.inside.headers.items c.self.inside.keys.items c.args.key c.place_of.result c.self.invariant.0 (c.place_of.ensures ∙ ap (position (is_key c.args.key)) c.deref-2.ensures.value) in
-    subst (λ (b : Chain). IfNone c.place_of.result (header_at c.args.key b.headers ≡ None)) c.self.view_is f.2
+    let f : Header = c.in_ok-first.first.now in
+    let hs : List Header = c.self.inside.more.items in
+    let r = finds_after f hs c.self.inside.keys.items c.args.key c.place_of.result c.self.invariant.0 (c.place_of.ensures ∙ ap (position (is_key c.args.key)) c.deref-2.ensures.value) c.if-eq.ensures in
+    let all : f ∷ hs ≡ c.args.self.now.headers = ap (λ (o : Option Header). all_of o hs) c.in_ok-first.ensures.value ∙ ap (λ (b : Chain). b.headers) c.self.view_is in
+    subst (λ (l : List Header). IfSome (slice_get l (c.in_ok-place.place + 1)) (λ h. h.key ≡ c.args.key)) all
+    (subst (λ (o : Option ℕ). IfSome o (λ i. IfSome (slice_get (f ∷ hs) (i + 1)) (λ h. h.key ≡ c.args.key))) c.in_ok-place.was r.1)
