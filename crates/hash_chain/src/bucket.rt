@@ -15,9 +15,9 @@ use std::simd::prelude::*;
 // How many tags are compared at a time.
 const LANES: usize = 16;
 
-/// The headers of the keys that fall into one bucket. Contracts see a finite map by key. A bucket mostly has one header or two. So the first lies in the bucket itself, and a
-/// search for its key reads none of the vectors. The others lie in `more`, and their keys and tags beside them in the same order. A tag is a byte of the key's hash: a search
-/// goes over the tags, many at a time, and reads a key only where the tag is the one that it looks for.
+/// The headers of the keys that fall into one bucket. Contracts see a finite map by key. A bucket mostly has one header or two. So the first lies in the bucket itself: a search
+/// for its key reads none of the vectors, and they have no memory until room is made for a second header. The others lie in `more`, and their keys and tags beside them in the same
+/// order. A tag is a byte of the key's hash: a search goes over the tags, many at a time, and reads a key only where the tag is the one that it looks for.
 #[derive(Debug, Drop)]
 pub struct Bucket {
     first: Option<Header>,
@@ -183,9 +183,11 @@ impl Bucket {
         if n <= self.spare {
             return Ok(());
         }
-        self.tags.reserve(n)?;
-        self.keys.reserve(n)?;
-        self.more.reserve(n)?;
+        // The next header of a bucket without a first becomes the first, and takes no room in the vectors.
+        let others = n - usize::from(self.first.is_none());
+        self.tags.reserve(others)?;
+        self.keys.reserve(others)?;
+        self.more.reserve(others)?;
         self.spare = n;
         Ok(())
     }
