@@ -1,12 +1,14 @@
 //! Reading a block: from the cache, or through it, or past it.
-ghost use Rattle.std.specs.Prelude.{◌≡◌};
+ghost use Rattle.std.specs.Prelude.{◌≡◌, ℕ};
 ghost use Rattle.blk_ptr.specs.Key.{IsValid};
+ghost use Rattle.turn_table.specs.Places.{Place};
+ghost use Rattle.arc_table.specs.declared.view.Known.{Known};
 ghost use Rattle.arc_table.specs.Arriving.{IsReading};
 ghost use Rattle.arc_table.specs.Cache.{IsPartyOf};
 ghost use Rattle.arc_table.specs.Items.{meanings};
 ghost use Rattle.arc_table.specs.Looking.{HasNoLook};
 ghost use Rattle.arc_table.specs.PoolCalls.{KeepsPool};
-ghost use Rattle.arc_table.specs.Reading.{Answers, AnswersRead, AnswersRound, EndsMiss, GoesToPool, KeepsDevice, failed_at, fault_of, outside, served_as};
+ghost use Rattle.arc_table.specs.Reading.{Answers, AnswersRead, AnswersRound, EndsMiss, GoesToPool, KeepsDevice, Waits, failed_at, fault_of, outside, served_as};
 ghost use Rattle.arc_table.specs.Waiting.{HasAllIdle};
 
 use crate::arcs::{Arcs, Party};
@@ -103,10 +105,39 @@ impl<C: Keeps> Arcs<C> {
         if let Err(fault) = ptr.key.check(pool.len()) {
             return Err(ReadFault::Key(fault));
         }
+        // Where nobody reads the key just now the read ends here, with no loop to set up.
+        match self.read_round(rt, party, *ptr, tick, pool, cache) {
+            Round::Answered(answer) => answer,
+            Round::Reading => self.read_later(rt, party, ptr, tick, pool, cache),
+        }
+    }
+
+    // Goes on with a read whose key was being read just before: it lets another thread run, and begins again.
+    fn read_later<P: Pool, D: CacheDev>(
+        &self,
+        rt: &impl Wait,
+        party: &mut Party<C>,
+        ptr: &Ptr,
+        tick: u64,
+        pool: &mut P,
+        cache: &mut D,
+    ) -> Result<Read, ReadFault>
+        requires party { IsPartyOf self.now party.old }
+        requires look { HasNoLook self.now party.old }
+        requires valid { IsValid (P.size pool.old) ptr.now.key }
+        ensures answer { (times : ℕ) × (r : Place (Known C))
+            × Waits (meanings C.holds C.entries C.opening C.claims C.sound) self.now.config ptr.now.key times party.old r
+            × Answers (meanings C.holds C.entries C.opening C.claims C.sound) P.Pool D.CacheDev self.now.config ptr.now tick
+            (outside pool.old cache.old) (outside pool.new cache.new) r party.new result }
+        ensures party { IsPartyOf self.now party.new }
+        ensures held { party.new.held ≡ party.old.held }
+        ensures pool { KeepsPool P.Pool pool.old pool.new }
+        ensures cache { KeepsDevice D.CacheDev cache.old cache.new }
+    {
         for _ in rt.forever() {
-            match self.read_round(rt, party, *ptr, tick, pool, cache) {
-                Round::Answered(answer) => return answer,
-                Round::Reading => thread::yield_now(),
+            thread::yield_now();
+            if let Round::Answered(answer) = self.read_round(rt, party, *ptr, tick, pool, cache) {
+                return answer;
             }
         }
         unreachable!()

@@ -2,7 +2,7 @@ use Rattle.std.proofs.Common.{◌≡◌, ℕ}
 use Rattle.arc_table.specs.Cache.{IsPartyOf}
 use Rattle.arc_table.specs.Items.{meanings}
 use Rattle.arc_table.specs.Reading.{Waits}
-use Rattle.arc_table.proofs.arcs.Arcs.read.Given as goal
+use Rattle.arc_table.proofs.arcs.Arcs.read_later.Given as goal
 
 abbrev pub invariant-loop : goal.invariant-loop
 invariant-loop g l = record {
