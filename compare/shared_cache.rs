@@ -1,10 +1,11 @@
 //! A plain cache that callers share: each shard behind a `Mutex`, which nobody keeps while the pool is read or a digest is computed.
 //!
-//!     rustc -O shared_cache.rs && ./shared_cache hits|misses|own CALLERS SHARDS BLOCKS READS
+//!     rustc -O shared_cache.rs && ./shared_cache hits|apart|misses|own CALLERS SHARDS BLOCKS READS
 //!
 //! Each caller reads so many drawn blocks of 512 bytes of a pool in memory, and gives each back. It prints the reads of all callers a second. With
-//! `hits` every block was read before; with `misses` the cache has room for a sixteenth of them. With `own` the reads are hits too, and each caller
-//! has a cache of its own, which shows what the machine gives to callers that share nothing.
+//! `hits` every block was read before; with `misses` the cache has room for a sixteenth of them. With `apart` the reads are hits, and each caller
+//! reads only blocks of shards of its own, a fourth of them. With `own` they are hits too, and each caller has a cache of its own, which shows what the
+//! machine gives to callers that share nothing.
 
 mod key;
 #[allow(dead_code)]
@@ -86,10 +87,14 @@ fn draws(seed: u64, blocks: u64) -> impl Iterator<Item = u64> {
     })
 }
 
-fn caller(cache: &Cache, digest: Digest, seed: u64, blocks: u64, reads: usize) -> u64 {
+fn key_of(block: u64) -> Key {
+    Key { offset: block * SIZE, size: SIZE, birth: 1 }
+}
+
+fn caller(cache: &Cache, digest: Digest, seed: u64, blocks: u64, reads: usize, apart: bool) -> u64 {
     let mut sum = 0;
-    for (tick, block) in (1..).zip(draws(seed, blocks).take(reads)) {
-        let key = Key { offset: block * SIZE, size: SIZE, birth: 1 };
+    let keys = draws(seed, blocks).map(key_of).filter(|key| !apart || key.shard_of(16) as u64 % 4 == seed % 4);
+    for (tick, key) in (1..).zip(keys.take(reads)) {
         if let Some(held) = cache.read(key, digest, tick) {
             sum += u64::from(held.bytes[0]) + 1;
             cache.release(held);
@@ -109,7 +114,7 @@ fn perform(words: &[String]) -> Option<()> {
         .collect();
     if kind != "misses" {
         for (cache, block) in caches.iter().flat_map(|cache| (0..blocks).map(move |block| (cache, block))) {
-            cache.release(cache.read(Key { offset: block * SIZE, size: SIZE, birth: 1 }, digest, 0)?);
+            cache.release(cache.read(key_of(block), digest, 0)?);
         }
     }
     let start = Instant::now();
@@ -118,7 +123,8 @@ fn perform(words: &[String]) -> Option<()> {
         let callers: Vec<_> = (0..callers)
             .map(|n| {
                 let cache = &caches[n as usize % caches.len()];
-                scope.spawn(move || caller(cache, digest, n + 1, blocks, reads as usize))
+                let apart = kind == "apart";
+                scope.spawn(move || caller(cache, digest, n + 1, blocks, reads as usize, apart))
             })
             .collect();
         callers.into_iter().map(|it| it.join().unwrap_or(0)).sum()
