@@ -1,16 +1,18 @@
 -- How a row of turns begins: all turns are free, and the first party has every number.
-use Rattle.std.proofs.Common.{◌≡◌, ℕ, zero, suc, ◌+◌, ◌-◌, ◌<◌, ◌≤◌, List, [], ◌∷◌, ◌++◌, map, length, replicate, true, Option, Some, refl, sym, ap, ◌∙◌, subst, arith}
-use mathlib.Core.Option.{some, none, some-injective, some-ne-none}
-use mathlib.Core.Option as maybe
+use Rattle.std.proofs.Common.{◌≡◌, ◌≢◌, ℕ, zero, suc, ◌+◌, ◌-◌, ◌<◌, ◌≤◌, List, [], ◌∷◌, ◌++◌, map, length, get_or, set, replicate, true, Option, Some, None, refl, sym, ap, ◌∙◌, subst, arith}
+use mathlib.Core.Option.{some, some-injective, some-ne-none}
 use lib.ListN.{get_elem?}
 use Rattle.atomic_table.specs.Table.{Splits, opening as table_opening}
 use Rattle.atomic_table.specs.Seated.{TableId}
 use Rattle.atomic_table.proofs.Lists.{set_again}
 use Rattle.turn_table.specs.Board.{Turn, free, taken, Board, numbered, opening}
+use Rattle.turn_table.specs.Homes.{home, room, Laid}
 use Rattle.turn_table.specs.Standings.{kept_from, whole, whole_place, AllApart, AllKept, StandsAt, Sits, TurnsKeep, left_with, leaving}
 use Rattle.turn_table.specs.Places.{newcomer, newcomers, Place, Apart, IsLast, stayed, parted}
 use Rattle.turn_table.specs.declared.standing.Kept.{Kept}
 use Rattle.turn_table.specs.declared.standing.Standing.{Standing}
+use Rattle.turn_table.proofs.Homes.{home_below}
+use Rattle.turn_table.proofs.Rows.{within}
 use Rattle.turn_table.proofs.Seats.{parts}
 
 length_map : {A B : Type 0} (f : A → B) (l : List A) → length (map f l) ≡ length l
@@ -20,6 +22,38 @@ length_map f (x ∷ xs) = ap suc (length_map f xs)
 length_replicate : {A : Type 0} (n : ℕ) (a : A) → length (replicate n a) ≡ n
 length_replicate zero a = refl
 length_replicate (suc n) a = ap suc (length_replicate n a)
+
+zero_at : (n i : ℕ) → i < n → get_elem? {A = ℕ} (replicate n 0) i ≡ some 0
+zero_at zero i below = absurd (omega arith)
+zero_at (suc n) zero below = refl
+zero_at (suc n) (suc i) below = zero_at n i (omega arith)
+
+module _ {A : Type 0} where
+  pub get_any : (l : List A) (i : ℕ) (d e : A) → i < length l → get_or l i d ≡ get_or l i e
+  get_any [] i d e below = absurd (omega arith)
+  get_any (x ∷ xs) zero d e below = refl
+  get_any (x ∷ xs) (suc i) d e below = get_any xs i d e (omega arith)
+
+  pub get_beyond : (l : List A) (i : ℕ) (d : A) → length l ≤ i → get_or l i d ≡ d
+  get_beyond [] i d from = refl
+  get_beyond (x ∷ xs) zero d from = absurd (omega arith)
+  get_beyond (x ∷ xs) (suc i) d from = get_beyond xs i d (omega arith)
+
+  pub get_else : (l : List A) (i k : ℕ) (a d : A) → k ≢ i → get_or (set l i a) k d ≡ get_or l k d
+  get_else [] i k a d far = refl
+  get_else (x ∷ xs) zero zero a d far = absurd (far refl)
+  get_else (x ∷ xs) zero (suc k) a d far = refl
+  get_else (x ∷ xs) (suc i) zero a d far = refl
+  get_else (x ∷ xs) (suc i) (suc k) a d far = get_else xs i k a d (λ e. far (ap suc e))
+
+  pub at_left : (xs ys : List A) (i : ℕ) → i < length xs → get_elem? (xs ++ ys) i ≡ get_elem? xs i
+  at_left [] ys i below = absurd (omega arith)
+  at_left (x ∷ xs) ys zero below = refl
+  at_left (x ∷ xs) ys (suc i) below = at_left xs ys i (omega arith)
+
+  pub at_last : (xs : List A) (a : A) → get_elem? (xs ++ a ∷ []) (length xs) ≡ some a
+  at_last [] a = refl
+  at_last (x ∷ xs) a = at_last xs a
 
 module _ {W : Type 0} (f : ℕ → W) where
   pub numbered_at : (n k j : ℕ) → j < k → get_elem? (numbered f n k) j ≡ some (f (n + j))
@@ -48,14 +82,33 @@ module _ {W : Type 0} (f : ℕ → W) where
   newcomers_last id p n (suc k) = ap (λ l. newcomer id p n (f n) ∷ l) (ap (λ m. newcomers id p f (suc n) k ++ newcomer id p m (f m) ∷ []) (let e : n + suc k ≡ suc n + k = omega arith in e) ∙ newcomers_last id p (suc n) k)
 
 module _ {V : Type 0} where
-  stands_at : (vs : List V) (i : ℕ) (t : Turn V) → get_elem? (map free vs) i ≡ some t → StandsAt (replicate (length vs) 0) (map some (map Some vs)) i t
-  stands_at [] i t e = absurd (some-ne-none t (sym e))
-  stands_at (v ∷ vs) zero t e = subst (StandsAt (0 ∷ replicate (length vs) 0) (some (Some v) ∷ map some (map Some vs)) 0) (some-injective (free v) t e) (refl, refl)
-  stands_at (v ∷ vs) (suc i) t e = later (replicate (length vs) 0) (map some (map Some vs)) 0 (some (Some v)) i t (stands_at vs i t e)
-    where
-      later : (ws : List ℕ) (hs : List (maybe.Option (Option V))) (w : ℕ) (h : maybe.Option (Option V)) (i : ℕ) (t : Turn V) → StandsAt ws hs i t → StandsAt (w ∷ ws) (h ∷ hs) (suc i) t
-      later ws hs w h i (free v) s = s
-      later ws hs w h i (taken n) s = s
+  -- each turn is free with its value
+  free_with : (vs : List V) (i : ℕ) (t : Turn V) → get_elem? (map free vs) i ≡ some t → (v : V) × (get_elem? vs i ≡ some v) × (free v ≡ t)
+  free_with [] i t e = absurd (some-ne-none t (sym e))
+  free_with (v ∷ vs) zero t e = (v, refl, some-injective (free v) t e)
+  free_with (v ∷ vs) (suc i) t e = free_with vs i t e
+
+  home_at : (xs : List (Option V)) (i : ℕ) (x : Option V) → get_elem? xs i ≡ some x → get_elem? (map some xs) i ≡ some (some x)
+  home_at [] i x e = absurd (some-ne-none x (sym e))
+  home_at (y ∷ ys) zero x e = ap some e
+  home_at (y ∷ ys) (suc i) x e = home_at ys i x e
+
+  pub read_home : (vs : List V) (i : ℕ) (v : V) → get_elem? vs i ≡ some v → get_or (map Some vs) i None ≡ Some v
+  read_home [] i v at = absurd (some-ne-none v (sym at))
+  read_home (u ∷ us) zero v at = ap (λ z. Some z) (some-injective u v at)
+  read_home (u ∷ us) (suc i) v at = read_home us i v at
+
+  pub read_past : (vs : List V) (i : ℕ) → length vs ≤ i → get_or (map Some vs) i None ≡ None
+  read_past [] zero from = refl
+  read_past [] (suc i) from = refl
+  read_past (v ∷ vs) zero from = absurd (omega arith)
+  read_past (v ∷ vs) (suc i) from = read_past vs i (omega arith)
+
+  stands_at : (vs : List V) (xs : List (Option V)) → Laid xs vs → (i : ℕ) (t : Turn V) → get_elem? (map free vs) i ≡ some t → StandsAt (replicate (room (length vs)) 0) (map some xs) (home i) t
+  stands_at vs xs laid i t e =
+      let f = free_with vs i t e in
+      subst (StandsAt (replicate (room (length vs)) 0) (map some xs) (home i)) f.2
+      (zero_at (room (length vs)) (home i) (home_below (length vs) i (within vs i f.0 f.1)), home_at xs (home i) (Some f.0) (laid.each i f.0 f.1))
 
   none_taken : (vs : List V) (i n : ℕ) → get_elem? (map free vs) i ≡ some (taken n) → ⊥
   none_taken [] i n e = some-ne-none (taken n) (sym e)
@@ -63,17 +116,20 @@ module _ {V : Type 0} where
   none_taken (v ∷ vs) (suc i) n e = none_taken vs i n e
 
 module _ {V W : Type 0} (holds : Board V W → Type 0) where
-  opens_at : (p : ℕ) (f : ℕ → W) (vs : List V) → 0 < p → holds (opening vs (numbered f 0 p)) → TurnsKeep holds p (table_opening (replicate (length vs) 0) (map Some vs) (whole p f))
-  opens_at p f vs some_party rule = record {
+  opens_at : (p size : ℕ) (f : ℕ → W) (vs : List V) (xs : List (Option V)) → 0 < p → length vs ≡ size → Laid xs vs → holds (opening vs (numbered f 0 p)) → TurnsKeep holds p size (table_opening (replicate (room (length vs)) 0) xs (whole p f))
+  opens_at p size f vs xs some_party sized laid rule = record {
     turns = map free vs;
     views = numbered f 0 p;
     seat = λ _. 0;
     stands = record {
-      words = length_replicate (length vs) 0 ∙ sym (length_map free vs);
-      homes = length_map some (map Some vs) ∙ (length_map Some vs ∙ sym (length_map free vs));
-      each = stands_at vs;
+      words = length_replicate (room (length vs)) 0 ∙ ap room (sym (length_map free vs));
+      homes = length_map some xs ∙ (laid.long ∙ ap room (sym (length_map free vs)));
+      each = stands_at vs xs laid;
+      spare = λ i from below. let same : length (map free vs) ≡ length vs = length_map free vs in
+          home_at xs (home i) None (laid.spare i (omega arith) (subst (λ (n : ℕ). i < room n) same below));
     };
     rule = rule;
+    long = length_map free vs ∙ sized;
     count = numbered_length f 0 p;
     seats = only;
     owners = λ i n e. absurd (none_taken vs i n e);
@@ -95,15 +151,15 @@ module _ {V W : Type 0} (holds : Board V W → Type 0) where
       only zero x e alive = subst (Sits p (map free vs) (numbered f 0 p) (λ _. 0) 0) (some-injective (whole p f) x e) first
       only (suc id) x e alive = absurd (some-ne-none x (sym e))
 
-  pub opens : (p : ℕ) (f : ℕ → W) (vs : List V) (ws : List ℕ) (ss : List (Option V)) → 0 < p → ws ≡ replicate (length vs) 0 → ss ≡ map Some vs → holds (opening vs (numbered f 0 p))
-      → TurnsKeep holds p (table_opening ws ss (whole p f))
-  opens p f vs ws ss some_party words slots rule =
-      subst (λ (z : List ℕ × List (Option V)). TurnsKeep holds p (table_opening z.0 z.1 (whole p f))) (λ k. (sym words k, sym slots k)) (opens_at p f vs some_party rule)
+  pub opens : (p size : ℕ) (f : ℕ → W) (vs : List V) (ws : List ℕ) (xs : List (Option V)) → 0 < p → length vs ≡ size → ws ≡ replicate (room (length vs)) 0 → Laid xs vs → holds (opening vs (numbered f 0 p))
+      → TurnsKeep holds p size (table_opening ws xs (whole p f))
+  opens p size f vs ws xs some_party sized words laid rule =
+      subst (λ (z : List ℕ). TurnsKeep holds p size (table_opening z xs (whole p f))) (sym words) (opens_at p size f vs xs some_party sized laid rule)
 
   -- the party that joined last goes its way, and nothing is learned
-  pub deals : (p id : ℕ) (x : Standing W) (k : Kept W) (ks : List (Kept W)) → x.live ≡ true → x.held ≡ [] → x.joined ≡ k ∷ ks → Splits (TurnsKeep holds p) id x (left_with x) (leaving (λ w. w) x)
-  deals p id x k ks live free_x last =
-      parts holds p (λ w. w) id x k ks live free_x last (λ b h ne _ at. subst (λ (l : List W). holds record { turns = b.turns; views = l }) (sym (set_again b.views k.number k.view at)) h)
+  pub deals : (p size id : ℕ) (x : Standing W) (k : Kept W) (ks : List (Kept W)) → x.live ≡ true → x.held ≡ [] → x.joined ≡ k ∷ ks → Splits (TurnsKeep holds p size) id x (left_with x) (leaving (λ w. w) x)
+  deals p size id x k ks live free_x last =
+      parts holds p size (λ w. w) id x k ks live free_x last (λ b h ne _ at. subst (λ (l : List W). holds record { turns = b.turns; views = l }) (sym (set_again b.views k.number k.view at)) h)
 
 -- the party of the number n parts from the first one
 module _ {W : Type 0} (f : ℕ → W) (id : TableId) (p n : ℕ) (h : n < p) where

@@ -1,16 +1,18 @@
 -- How a row of turns ends: one party has taken in all others, so all turns are free.
-use Rattle.std.proofs.Common.{◌≡◌, ◌⊎◌, ℕ, zero, suc, ◌+◌, ◌<◌, ◌≤◌, List, [], ◌∷◌, ◌++◌, map, length, take, get_or, set, Bool, true, false, Option, Some, None, refl, sym, ap, ◌∙◌, subst, inl, inr, ⊎_elim, arith}
-use mathlib.Core.Option.{some, none, some-injective, some-ne-none}
-use mathlib.Core.Option as maybe
-use mathlib.Core.List.{map-append}
+use Rattle.std.proofs.Common.{◌≡◌, ◌≢◌, ◌⊎◌, ℕ, zero, suc, ◌+◌, ◌<◌, ◌≤◌, List, [], ◌∷◌, ◌++◌, map, length, take, get_or, set, Bool, true, false, Option, Some, None, refl, sym, ap, ◌∙◌, subst, inl, inr, ⊎_elim, arith}
+use mathlib.Core.Option.{some, some-injective, some-ne-none}
+use mathlib.Core.Logic.{dite}
+use native.Mathlib.Decide.{ℕ_discrete}
 use lib.ListN.{get_elem?}
 use Rattle.atomic_table.specs.Table.{Final, Seen}
 use Rattle.turn_table.specs.Board.{Turn, free, taken, Board, opening, IsAmong}
+use Rattle.turn_table.specs.Homes.{home, room, Laid}
 use Rattle.turn_table.specs.Standings.{AllKept, TurnsKeep}
 use Rattle.turn_table.specs.Places.{Place, met, entries, IsIn, HasNumber, SomeHas, AreFree, AllShow, Shows, ShowAll, Row, IsPartyOf}
 use Rattle.turn_table.specs.declared.standing.Kept.{Kept}
 use Rattle.turn_table.specs.declared.standing.Standing.{Standing}
-use Rattle.turn_table.proofs.Rows.{within, same_at}
+use Rattle.turn_table.proofs.Homes.{home_same}
+use Rattle.turn_table.proofs.Rows.{some_at, within, same_at}
 use Rattle.turn_table.proofs.Moves.{kept_show}
 
 -- what is kept while a party takes in others: it, what is left of them, and the two at the start
@@ -64,33 +66,46 @@ module _ {W : Type 0} where
   pub last_free : (id : Row) (p q a : Place W) (ps qs rest : List (Place W)) → ps ≡ rest ++ a ∷ [] → Takes id p q ps qs → IsPartyOf id a × (a.held ≡ [])
   last_free id p q a ps qs rest e t = let f = free_last id rest a (subst (AreFree id) e t.free) in (f.1, f.2)
 
+near_or_far : (i n : ℕ) → (i < n) ⊎ (n ≤ i)
+near_or_far i zero = inr (omega arith)
+near_or_far zero (suc n) = inl (omega arith)
+near_or_far (suc i) (suc n) = ⊎_elim (λ h. inl (omega arith)) (λ h. inr (omega arith)) (near_or_far i n)
+
 pub nothing_left : {A : Type 0} (l : List A) → length l ≡ 0 → l ≡ []
 nothing_left [] e = refl
 nothing_left (x ∷ xs) e = absurd (omega arith)
 
 module _ {V : Type 0} where
-  pub length_some : (vs : List V) → length (map Some vs) ≡ length vs
-  length_some [] = refl
-  length_some (v ∷ vs) = ap suc (length_some vs)
-
-  pub none_of_map : (vs : List V) (i : ℕ) → ◌≡◌ {A = maybe.Option (Option V)} (get_elem? (map Some vs) i) (some None) → ⊥
-  none_of_map [] i e = some-ne-none None (sym e)
-  none_of_map (v ∷ vs) zero e = let f : Some v ≡ None = some-injective (Some v) None e in absurd (cc)
-  none_of_map (v ∷ vs) (suc i) e = none_of_map vs i e
-
-  map_same : (us vs : List V) → ◌≡◌ {A = List (Option V)} (map Some us) (map Some vs) → us ≡ vs
-  map_same [] [] e = refl
-  map_same [] (v ∷ vs) e = absurd (cc)
-  map_same (u ∷ us) [] e = absurd (cc)
-  map_same (u ∷ us) (v ∷ vs) e = let a : u ≡ v = cc in let b : ◌≡◌ {A = List (Option V)} (map Some us) (map Some vs) = cc in let r = map_same us vs b in λ i. a i ∷ r i
-
-  pub one_more : (xs : List (Option V)) (i : ℕ) (v : V) (vs : List V) → get_elem? xs i ≡ some (Some v) → map Some vs ≡ take i xs → map Some (vs ++ v ∷ []) ≡ take (i + 1) xs
-  one_more xs i v vs at e = map-append Some vs (v ∷ []) ∙ (ap (λ l. l ++ Some v ∷ []) e ∙ (grown xs i (Some v) at ∙ ap (λ n. take n xs) (let k : suc i ≡ i + 1 = omega arith in k)))
+  -- the values from the front on, one more
+  pub take_more : (vs : List V) (i : ℕ) (v : V) → get_elem? vs i ≡ some v → take i vs ++ v ∷ [] ≡ take (i + 1) vs
+  take_more vs i v at = grown vs i v at ∙ ap (λ n. take n vs) (let k : suc i ≡ i + 1 = omega arith in k)
     where
-      grown : (xs : List (Option V)) (i : ℕ) (x : Option V) → get_elem? xs i ≡ some x → take i xs ++ x ∷ [] ≡ take (suc i) xs
-      grown [] i x at = absurd (some-ne-none x (sym at))
-      grown (y ∷ ys) zero x at = ap (λ z. z ∷ []) (sym (some-injective y x at))
-      grown (y ∷ ys) (suc i) x at = ap (λ l. y ∷ l) (grown ys i x at)
+      grown : (vs : List V) (i : ℕ) (v : V) → get_elem? vs i ≡ some v → take i vs ++ v ∷ [] ≡ take (suc i) vs
+      grown [] i v at = absurd (some-ne-none v (sym at))
+      grown (u ∷ us) zero v at = ap (λ z. z ∷ []) (sym (some-injective u v at))
+      grown (u ∷ us) (suc i) v at = ap (λ l. u ∷ l) (grown us i v at)
+
+  pub take_whole : (vs : List V) (i : ℕ) → length vs ≤ i → take i vs ≡ vs
+  take_whole [] zero all = refl
+  take_whole [] (suc i) all = refl
+  take_whole (v ∷ vs) zero all = absurd (omega arith)
+  take_whole (v ∷ vs) (suc i) all = ap (λ l. v ∷ l) (take_whole vs i (omega arith))
+
+  -- a slot with a value is that of a turn, and one without lies behind the last turn
+  pub is_value : (xs : List (Option V)) (vs : List V) (i : ℕ) (v : V) → Laid xs vs → i < room (length vs) → get_elem? xs (home i) ≡ some (Some v) → get_elem? vs i ≡ some v
+  is_value xs vs i v laid below at = ⊎_elim
+      (λ (near : i < length vs). let t = some_at vs i near in
+      let same : Some t.0 ≡ Some v = same_at xs (home i) (Some t.0) (Some v) (laid.each i t.0 t.1) at in
+      t.1 ∙ ap some (let e : t.0 ≡ v = cc in e))
+      (λ (far : length vs ≤ i). let none : ◌≡◌ {A = Option V} None (Some v) = same_at xs (home i) None (Some v) (laid.spare i far below) at in absurd (cc))
+      (near_or_far i (length vs))
+
+  pub is_spare : (xs : List (Option V)) (vs : List V) (i : ℕ) → Laid xs vs → get_elem? xs (home i) ≡ some None → length vs ≤ i
+  is_spare xs vs i laid at = ⊎_elim
+      (λ (near : i < length vs). let t = some_at vs i near in
+      let none : Some t.0 ≡ None = same_at xs (home i) (Some t.0) None (laid.each i t.0 t.1) at in absurd (cc))
+      (λ (far : length vs ≤ i). far)
+      (near_or_far i (length vs))
 
   all_frees : (ts : List (Turn V)) → ((i n : ℕ) → get_elem? ts i ≡ some (taken n) → ⊥) → (vs : List V) × (ts ≡ map free vs)
   all_frees [] h = ([], refl)
@@ -102,32 +117,33 @@ module _ {V : Type 0} where
   free_at (u ∷ vs) zero v e = ap (λ z. some (free z)) (some-injective u v e)
   free_at (u ∷ vs) (suc i) v e = free_at vs i v e
 
-  all_some : (xs : List (Option V)) (vs : List V) → length xs ≡ length vs → ((i : ℕ) (v : V) → get_elem? vs i ≡ some v → get_elem? xs i ≡ some (Some v)) → xs ≡ map Some vs
-  all_some [] [] e h = refl
-  all_some [] (v ∷ vs) e h = absurd (omega arith)
-  all_some (x ∷ xs) [] e h = absurd (omega arith)
-  all_some (x ∷ xs) (v ∷ vs) e h = let a : x ≡ Some v = some-injective x (Some v) (h 0 v refl) in let r = all_some xs vs (omega arith) (λ i. h (suc i)) in λ k. a k ∷ r k
+set_false : (fs : List Bool) (k : ℕ) → get_or (set fs k false) k false ≡ false
+set_false [] k = refl
+set_false (b ∷ bs) zero = refl
+set_false (b ∷ bs) (suc k) = set_false bs k
 
-pub gone_more : (fs : List Bool) (i k : ℕ) → ((j : ℕ) → j < i → get_or fs j false ≡ false) → k < i + 1 → get_or (set fs i false) k false ≡ false
-gone_more [] i k h below = refl
-gone_more (b ∷ bs) zero zero h below = refl
-gone_more (b ∷ bs) zero (suc k) h below = absurd (omega arith)
-gone_more (b ∷ bs) (suc i) zero h below = h 0 (omega arith)
-gone_more (b ∷ bs) (suc i) (suc k) h below = gone_more bs i k (λ j near. h (suc j) (omega arith)) (omega arith)
+set_other : (fs : List Bool) (j k : ℕ) → k ≢ j → get_or (set fs j false) k false ≡ get_or fs k false
+set_other [] j k far = refl
+set_other (b ∷ bs) zero zero far = absurd (far refl)
+set_other (b ∷ bs) zero (suc k) far = refl
+set_other (b ∷ bs) (suc j) zero far = refl
+set_other (b ∷ bs) (suc j) (suc k) far = set_other bs j k (λ e. far (ap suc e))
 
-pub there_still : (fs : List Bool) (i k : ℕ) → i + 1 ≤ k → get_or (set fs i false) k false ≡ get_or fs k false
-there_still [] i k h = refl
-there_still (b ∷ bs) zero zero h = absurd (omega arith)
-there_still (b ∷ bs) zero (suc k) h = refl
-there_still (b ∷ bs) (suc i) zero h = absurd (omega arith)
-there_still (b ∷ bs) (suc i) (suc k) h = there_still bs i k (omega arith)
+pub gone_more : (fs : List Bool) (i k : ℕ) → ((j : ℕ) → j < i → get_or fs (home j) false ≡ false) → k < i + 1 → get_or (set fs (home i) false) (home k) false ≡ false
+gone_more fs i k h below = dite (ℕ_discrete k i)
+    (λ e. subst (λ (z : ℕ). get_or (set fs (home i) false) (home z) false ≡ false) (sym e) (set_false fs (home i)))
+    (λ ne. set_other fs (home i) (home k) (λ q. ne (home_same k i q)) ∙ h k (omega arith))
 
-module _ {V W : Type 0} (holds : Board V W → Type 0) (parties : ℕ) where
+pub there_still : (fs : List Bool) (i k : ℕ) → i + 1 ≤ k → get_or (set fs (home i) false) (home k) false ≡ get_or fs (home k) false
+there_still fs i k h = set_other fs (home i) (home k) (λ q. let e : k ≡ i = home_same k i q in absurd (omega arith))
+
+module _ {V W : Type 0} (holds : Board V W → Type 0) (parties size : ℕ) where
   -- what a closed table gives, where one seat has all numbers and holds no turn
   pub record Ended (x : Standing W) (xs : List (Option V)) : Type 0 where
     pub values : List V
     pub views : List W
-    pub are : xs ≡ map Some values
+    pub are : Laid xs values
+    pub long : length values ≡ size
     pub rule : holds (opening values views)
     pub count : length views ≡ parties
     pub own : get_elem? views x.number ≡ some x.own
@@ -137,7 +153,7 @@ module _ {V W : Type 0} (holds : Board V W → Type 0) (parties : ℕ) where
   seat_of views seat id n [] all h = absurd h
   seat_of views seat id n (k ∷ ks) all h = ⊎_elim (λ e. ap seat (sym e) ∙ all.0.0) (λ t. seat_of views seat id n ks all.1 t) h
 
-  pub ended : (id : ℕ) (x : Standing W) (ws : List ℕ) (xs : List (Option V)) → x.live ≡ true → x.held ≡ [] → ((n : ℕ) → n < parties → (x.number ≡ n) ⊎ IsIn n x.joined) → Final (Seen (TurnsKeep holds parties) id x) ws xs → Ended x xs
+  pub ended : (id : ℕ) (x : Standing W) (ws : List ℕ) (xs : List (Option V)) → x.live ≡ true → x.held ≡ [] → ((n : ℕ) → n < parties → (x.number ≡ n) ⊎ IsIn n x.joined) → Final (Seen (TurnsKeep holds parties size) id x) ws xs → Ended x xs
   ended id x ws xs live idle all fin =
       let s = fin.0 in
       let r = fin.1.0 in
@@ -150,11 +166,16 @@ module _ {V W : Type 0} (holds : Board V W → Type 0) (parties : ℕ) where
       let one : h.id ≡ id = sym there.own_at ∙ (ap r.seat h.number ∙ mine) in
       subst (λ (l : List ℕ). IsAmong i l) idle (subst (λ (t : Standing W). IsAmong i t.held) (same_at s.views id h.standing x (subst (λ (t : ℕ). get_elem? s.views t ≡ some h.standing) one h.at) fin.1.1) h.among) in
       let v = all_frees r.turns nobody in
-      let homes : length s.homes ≡ length v.0 = r.stands.homes ∙ (ap length v.1 ∙ long v.0) in
+      let many : length r.turns ≡ length v.0 = ap length v.1 ∙ long v.0 in
       record {
         values = v.0;
         views = r.views;
-        are = all_some xs v.0 (sym fin.3 ∙ homes) (λ i y e. fin.4 i (Some y) (r.stands.each i (free y) (subst (λ (l : List (Turn V)). get_elem? l i ≡ some (free y)) (sym v.1) (free_at v.0 i y e))).1);
+        are = record {
+          long = sym fin.3 ∙ (r.stands.homes ∙ ap room many);
+          each = λ i y e. fin.4 (home i) (Some y) (r.stands.each i (free y) (subst (λ (l : List (Turn V)). get_elem? l i ≡ some (free y)) (sym v.1) (free_at v.0 i y e))).1;
+          spare = λ i from below. fin.4 (home i) None (r.stands.spare i (let a = many in omega arith) (subst (λ (n : ℕ). i < room n) (sym many) below));
+        };
+        long = sym many ∙ r.long;
         rule = subst (λ (l : List (Turn V)). holds record { turns = l; views = r.views }) v.1 r.rule;
         count = r.count;
         own = own.own_is;
@@ -166,5 +187,5 @@ module _ {V W : Type 0} (holds : Board V W → Type 0) (parties : ℕ) where
       long (v ∷ vs) = ap suc (long vs)
 
   -- the same, for the values that were taken out
-  pub ended_as : (x : Standing W) (xs : List (Option V)) (vs : List V) → Ended x xs → xs ≡ map Some vs → (views : List W) × (length views ≡ parties) × (holds (opening vs views)) × (get_elem? views x.number ≡ some x.own) × AllShow views x.joined
-  ended_as x xs vs e is = let same : e.values ≡ vs = map_same e.values vs (sym e.are ∙ is) in (e.views, e.count, subst (λ (l : List V). holds (opening l e.views)) same e.rule, e.own, e.others)
+  pub ended_as : (x : Standing W) (xs : List (Option V)) (vs : List V) → (e : Ended x xs) → e.values ≡ vs → (views : List W) × (length views ≡ parties) × (holds (opening vs views)) × (get_elem? views x.number ≡ some x.own) × AllShow views x.joined
+  ended_as x xs vs e same = (e.views, e.count, subst (λ (l : List V). holds (opening l e.views)) same e.rule, e.own, e.others)

@@ -1,3 +1,4 @@
+pub mod Homes
 pub mod Rows
 pub mod Moves
 pub mod Seats

@@ -1,5 +1,5 @@
 -- Lists: turns as words and slots show them, the parties that one party keeps, and the turns that it holds.
-use Rattle.std.proofs.Common.{◌≡◌, ◌≢◌, ◌==◌, if◌then◌else◌, ℕ, zero, suc, ◌<◌, List, [], ◌∷◌, length, get_or, set, Bool, true, false, Option, None, refl, sym, ap, ◌∙◌, subst, inl, inr, ⊎_elim, eq-eqb, ne_eqb, arith, length-set}
+use Rattle.std.proofs.Common.{◌≡◌, ◌≢◌, ◌==◌, if◌then◌else◌, ℕ, zero, suc, ◌<◌, ◌≤◌, List, [], ◌∷◌, length, get_or, set, Bool, true, false, Option, None, refl, sym, ap, ◌∙◌, subst, inl, inr, ⊎_elim, eq-eqb, ne_eqb, arith, length-set}
 use mathlib.Core.Option.{some, none, some-injective, some-ne-none}
 use mathlib.Core.Option as maybe
 use mathlib.Core.Logic.{dite}
@@ -8,8 +8,10 @@ use lib.ListN.{get_elem?}
 use Rattle.atomic_table.specs.Table.{Act, keeps, takes, gives, chain, Valid, homes_after, carried_after}
 use Rattle.atomic_table.proofs.Lists.{at_set, set_here, set_else}
 use Rattle.turn_table.specs.Board.{Turn, free, taken, IsAmong, without}
+use Rattle.turn_table.specs.Homes.{home, room}
 use Rattle.turn_table.specs.Standings.{StandsAt, AllStand, AllBelow, empties}
 use Rattle.turn_table.specs.Places.{AllOnce, AllHeld}
+use Rattle.turn_table.proofs.Homes.{home_same}
 
 module _ {A : Type 0} where
   pub some_at : (l : List A) (i : ℕ) → i < length l → (a : A) × (get_elem? l i ≡ some a)
@@ -49,14 +51,18 @@ Slots V = List (maybe.Option (Option V))
 
 module _ {V : Type 0} where
   pub stands_set : (ws : List ℕ) (hs : Slots V) (ts : List (Turn V)) (i w : ℕ) (h : maybe.Option (Option V)) (t : Turn V) → AllStand ws hs ts → i < length ts
-      → StandsAt (set ws i w) (set hs i h) i t → AllStand (set ws i w) (set hs i h) (set ts i t)
+      → StandsAt (set ws (home i) w) (set hs (home i) h) (home i) t → AllStand (set ws (home i) w) (set hs (home i) h) (set ts i t)
   stands_set ws hs ts i w h t a near here = record {
-    words = length-set ws i w ∙ (a.words ∙ sym (length-set ts i t));
-    homes = length-set hs i h ∙ (a.homes ∙ sym (length-set ts i t));
+    words = length-set ws (home i) w ∙ (a.words ∙ ap room (sym (length-set ts i t)));
+    homes = length-set hs (home i) h ∙ (a.homes ∙ ap room (sym (length-set ts i t)));
     each = λ j u e. ⊎_elim
-        (λ p. subst (λ (z : ℕ × Turn V). StandsAt (set ws i w) (set hs i h) z.0 z.1) (λ k. (sym p.0 k, p.1 k)) here)
-        (λ p. else_at ws hs i j w h u p.0 (a.each j u p.1))
+        (λ p. subst (λ (z : ℕ × Turn V). StandsAt (set ws (home i) w) (set hs (home i) h) (home z.0) z.1) (λ k. (sym p.0 k, p.1 k)) here)
+        (λ p. else_at ws hs (home i) (home j) w h u (λ q. p.0 (home_same j i q)) (a.each j u p.1))
         (at_set ts i j t u e);
+    spare = λ j from below.
+        let same : length (set ts i t) ≡ length ts = length-set ts i t in
+        let behind : length ts ≤ j = omega arith in
+        set_else hs (home i) (home j) h (λ q. let k : j ≡ i = home_same j i q in absurd (omega arith)) ∙ a.spare j behind (subst (λ (n : ℕ). j < room n) same below);
   }
     where
       else_at : (ws : List ℕ) (hs : Slots V) (i j w : ℕ) (h : maybe.Option (Option V)) (u : Turn V) → j ≢ i → StandsAt ws hs j u → StandsAt (set ws i w) (set hs i h) j u
@@ -105,15 +111,15 @@ module _ {V : Type 0} where
   -- each of these slots is out
   abbrev pub AllOut : Slots V → List ℕ → Type 0
   AllOut hs [] = Unit {0}
-  AllOut hs (k ∷ ks) = (get_elem? hs k ≡ some none) × AllOut hs ks
+  AllOut hs (k ∷ ks) = (get_elem? hs (home k) ≡ some none) × AllOut hs ks
 
-  out_at : (hs : Slots V) (i : ℕ) (is : List ℕ) → AllOut hs is → IsAmong i is → get_elem? hs i ≡ some none
+  out_at : (hs : Slots V) (i : ℕ) (is : List ℕ) → AllOut hs is → IsAmong i is → get_elem? hs (home i) ≡ some none
   out_at hs i [] all h = absurd h
-  out_at hs i (k ∷ ks) all h = ⊎_elim (λ e. subst (λ (z : ℕ). get_elem? hs z ≡ some none) e all.0) (λ t. out_at hs i ks all.1 t) h
+  out_at hs i (k ∷ ks) all h = ⊎_elim (λ e. subst (λ (z : ℕ). get_elem? hs (home z) ≡ some none) e all.0) (λ t. out_at hs i ks all.1 t) h
 
-  out_set : (hs : Slots V) (k : ℕ) (h : maybe.Option (Option V)) (is : List ℕ) → ¬ IsAmong k is → AllOut hs is → AllOut (set hs k h) is
+  out_set : (hs : Slots V) (k : ℕ) (h : maybe.Option (Option V)) (is : List ℕ) → ¬ IsAmong k is → AllOut hs is → AllOut (set hs (home k) h) is
   out_set hs k h [] far all = tt
-  out_set hs k h (j ∷ js) far all = (set_else hs k j h (λ e. far (inl e)) ∙ all.0, out_set hs k h js (λ m. far (inr m)) all.1)
+  out_set hs k h (j ∷ js) far all = (set_else hs (home k) (home j) h (λ e. far (inl (home_same j k e))) ∙ all.0, out_set hs k h js (λ m. far (inr m)) all.1)
 
   pub all_out : (ws : List ℕ) (hs : Slots V) (ts : List (Turn V)) (n : ℕ) (is : List ℕ) → AllStand ws hs ts → AllHeld ts n is → AllOut hs is
   all_out ws hs ts n [] a all = tt
@@ -126,7 +132,7 @@ module _ {V : Type 0} where
 
   abbrev pub front : ℕ → List ℕ → Act (Option V)
   front i [] = keeps
-  front i (k ∷ ks) = front_if (k == i) k i (front i ks)
+  front i (k ∷ ks) = front_if (k == i) (home k) (home i) (front i ks)
 
   -- what is left to do once all but the slot k have been brought into order: the slots H, and those that are out
   abbrev Ends : ℕ → ℕ → Slots V → List (ℕ × Option V) → Slots V → List (ℕ × Option V) → Type 0
@@ -148,18 +154,18 @@ module _ {V : Type 0} where
       )
 
   pub fronted : (i : ℕ) (is : List ℕ) (hs : Slots V) → AllOut hs is → AllOnce is → IsAmong i is
-      → Valid hs (empties is) (front i is) × (homes_after hs (empties is) (front i is) ≡ hs) × (carried_after (empties is) (front i is) ≡ (i, None) ∷ empties (without i is))
+      → Valid hs (empties is) (front i is) × (homes_after hs (empties is) (front i is) ≡ hs) × (carried_after (empties is) (front i is) ≡ (home i, None) ∷ empties (without i is))
   fronted i [] hs all o h = absurd h
   fronted i (k ∷ ks) hs all o h =
-      let P : Bool → Type 0 = λ b. let a : Act (Option V) = front_if b k i (front i ks) in
-      Valid hs (empties (k ∷ ks)) a × (homes_after hs (empties (k ∷ ks)) a ≡ hs) × (carried_after (empties (k ∷ ks)) a ≡ (i, None) ∷ empties (if b then ks else k ∷ without i ks)) in
+      let P : Bool → Type 0 = λ b. let a : Act (Option V) = front_if b (home k) (home i) (front i ks) in
+      Valid hs (empties (k ∷ ks)) a × (homes_after hs (empties (k ∷ ks)) a ≡ hs) × (carried_after (empties (k ∷ ks)) a ≡ (home i, None) ∷ empties (if b then ks else k ∷ without i ks)) in
       dite (ℕ_discrete k i)
-      (λ e. subst P (sym (eq-eqb k i e)) (tt, refl, ap (λ (z : ℕ). (z, None) ∷ empties ks) e))
+      (λ e. subst P (sym (eq-eqb k i e)) (tt, refl, ap (λ (z : ℕ). (home z, None) ∷ empties ks) e))
       (λ n. subst P (sym (ne_eqb k i n))
-      (let hs1 : Slots V = set hs k (some None) in
+      (let hs1 : Slots V = set hs (home k) (some None) in
       let there : IsAmong i ks = ⊎_elim (λ e. absurd (n e)) (λ t. t) h in
       let r = fronted i ks hs1 (out_set hs k (some None) ks o.0 all.1) o.1 there in
       let es : List (ℕ × Option V) = empties (without i ks) in
-      let last : Ends i k hs es (homes_after hs1 (empties ks) (front i ks)) (carried_after (empties ks) (front i ks)) =
-      subst (λ (z : Slots V × List (ℕ × Option V)). Ends i k hs es z.0 z.1) (λ j. (sym r.1 j, sym r.2 j)) (ends i k hs es n all.0 (out_at hs i ks all.1 there)) in
+      let last : Ends (home i) (home k) hs es (homes_after hs1 (empties ks) (front i ks)) (carried_after (empties ks) (front i ks)) =
+      subst (λ (z : Slots V × List (ℕ × Option V)). Ends (home i) (home k) hs es z.0 z.1) (λ j. (sym r.1 j, sym r.2 j)) (ends (home i) (home k) hs es (λ q. n (home_same k i q)) all.0 (out_at hs i ks all.1 there)) in
       ((tt, (r.0, last.0)), last.1, last.2)))

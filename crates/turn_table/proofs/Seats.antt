@@ -82,9 +82,9 @@ module _ {W : Type 0} where
   all_apart_take (suc c) (k ∷ ks) all = let r = all_apart_take c ks all.1 in let a = apart_take k.number c ks all.0 in
       ((a.0, r.0), r.1, λ n h. ((λ e. in_apart n k.number (drop c ks) h a.1 (sym e)), r.2 n h))
 
-module _ {V W : Type 0} (holds : Board V W → Type 0) (parties : ℕ) where
+module _ {V W : Type 0} (holds : Board V W → Type 0) (parties size : ℕ) where
   -- The seat `other`, with the standing y, joins the seat id, with the standing x, which knows u from then on
-  module _ (s : State (Option V) (Standing W)) (r : TurnsKeep holds parties s) (id other : ℕ) (x y : Standing W) (u w : W) (at : get_elem? s.views id ≡ some x) (live : x.live ≡ true) (ne : other ≢ id)
+  module _ (s : State (Option V) (Standing W)) (r : TurnsKeep holds parties size s) (id other : ℕ) (x y : Standing W) (u w : W) (at : get_elem? s.views id ≡ some x) (live : x.live ≡ true) (ne : other ≢ id)
       (at' : get_elem? s.views other ≡ some y) (live' : y.live ≡ true) (free_x : x.held ≡ []) (free_y : y.held ≡ []) (rule : holds record { turns = r.turns; views = set r.views x.number u }) where
     joins_sit : Sits parties r.turns (set r.views x.number u) (reseated r.seat id (entries y.number y.own y.joined)) id (meeting x y u)
     joins_sit =
@@ -134,7 +134,7 @@ module _ {V W : Type 0} (holds : Board V W → Type 0) (parties : ℕ) where
           once = p.once;
         }
 
-    pub joins_kept : TurnsKeep holds parties record { words = s.words; homes = s.homes; views = set (set s.views id (meeting x y u)) other (spent w) }
+    pub joins_kept : TurnsKeep holds parties size record { words = s.words; homes = s.homes; views = set (set s.views id (meeting x y u)) other (spent w) }
     joins_kept =
         let moving : List (Kept W) = entries y.number y.own y.joined in
         let views' : List W = set r.views x.number u in
@@ -146,6 +146,7 @@ module _ {V W : Type 0} (holds : Board V W → Type 0) (parties : ℕ) where
           seat = seat';
           stands = r.stands;
           rule = rule;
+          long = r.long;
           count = length-set r.views x.number u ∙ r.count;
           seats = λ j z e alive. ⊎_elim
               (λ p. absurd (dead w z p.1 alive))
@@ -174,7 +175,7 @@ module _ {V W : Type 0} (holds : Board V W → Type 0) (parties : ℕ) where
 
   -- a party joins another, which learns what it has seen
   pub meets : (learned : W → W → W) → KeepsLearned holds learned → (id other : ℕ) (x y : Standing W) (w : W) → x.live ≡ true → y.live ≡ true → x.held ≡ [] → y.held ≡ []
-      → Joins (TurnsKeep holds parties) id x other y (meeting x y (learned x.own y.own)) (spent w)
+      → Joins (TurnsKeep holds parties size) id x other y (meeting x y (learned x.own y.own)) (spent w)
   meets learned keeps id other x y w live live' free_x free_y s r at ne at2 =
       let at' : get_elem? s.views other ≡ some y = sym (set_else s.views id other (meeting x y (learned x.own y.own)) ne) ∙ at2 in
       let own = r.seats id x at live in
@@ -183,7 +184,7 @@ module _ {V W : Type 0} (holds : Board V W → Type 0) (parties : ℕ) where
       joins_kept s r id other x y (learned x.own y.own) w at live ne at' live' free_x free_y (keeps record { turns = r.turns; views = r.views } x.number y.number x.own y.own r.rule differ own.own_is there.own_is)
 
   -- the same, and it learns nothing
-  pub gathers : (id other : ℕ) (x y : Standing W) (w : W) → x.live ≡ true → y.live ≡ true → x.held ≡ [] → y.held ≡ [] → Joins (TurnsKeep holds parties) id x other y (meeting x y x.own) (spent w)
+  pub gathers : (id other : ℕ) (x y : Standing W) (w : W) → x.live ≡ true → y.live ≡ true → x.held ≡ [] → y.held ≡ [] → Joins (TurnsKeep holds parties size) id x other y (meeting x y x.own) (spent w)
   gathers id other x y w live live' free_x free_y s r at ne at2 =
       let at' : get_elem? s.views other ≡ some y = sym (set_else s.views id other (meeting x y x.own) ne) ∙ at2 in
       let own = r.seats id x at live in
@@ -191,7 +192,7 @@ module _ {V W : Type 0} (holds : Board V W → Type 0) (parties : ℕ) where
       (subst (λ (l : List W). holds record { turns = r.turns; views = l }) (sym (set_again r.views x.number x.own own.own_is)) r.rule)
 
   -- the party that joined the seat id last, of the standing x, parts from it and knows u
-  module _ (s : State (Option V) (Standing W)) (r : TurnsKeep holds parties s) (id : ℕ) (x : Standing W) (k : Kept W) (ks : List (Kept W)) (u : W) (at : get_elem? s.views id ≡ some x) (live : x.live ≡ true)
+  module _ (s : State (Option V) (Standing W)) (r : TurnsKeep holds parties size s) (id : ℕ) (x : Standing W) (k : Kept W) (ks : List (Kept W)) (u : W) (at : get_elem? s.views id ≡ some x) (live : x.live ≡ true)
       (last : x.joined ≡ k ∷ ks) (free_x : x.held ≡ []) (rule : holds record { turns = r.turns; views = set r.views k.number u }) where
     abbrev Goer : Standing W
     Goer = record { live = true; parties = x.parties; number = k.number; own = u; joined = take k.count ks; held = [] }
@@ -271,7 +272,7 @@ module _ {V W : Type 0} (holds : Board V W → Type 0) (parties : ℕ) where
           once = p.once;
         }
 
-    pub parts_ok : TurnsKeep holds parties record { words = s.words; homes = s.homes; views = set s.views id Stayer ++ Goer ∷ [] }
+    pub parts_ok : TurnsKeep holds parties size record { words = s.words; homes = s.homes; views = set s.views id Stayer ++ Goer ∷ [] }
     parts_ok =
         let P : ℕ → Standing W → Type 0 = Sits parties r.turns (set r.views k.number u) seat_after in
         let stays : List (Standing W) = set s.views id Stayer in
@@ -281,6 +282,7 @@ module _ {V W : Type 0} (holds : Board V W → Type 0) (parties : ℕ) where
           seat = seat_after;
           stands = r.stands;
           rule = rule;
+          long = r.long;
           count = length-set r.views k.number u ∙ r.count;
           seats = λ j z e alive. ⊎_elim
               (λ (p : get_elem? stays j ≡ some z). ⊎_elim
@@ -309,13 +311,13 @@ module _ {V W : Type 0} (holds : Board V W → Type 0) (parties : ℕ) where
   -- A party parts, with the view that f makes of what it knew
   pub parts : (f : W → W) (id : ℕ) (x : Standing W) (k : Kept W) (ks : List (Kept W)) → x.live ≡ true → x.held ≡ [] → x.joined ≡ k ∷ ks
       → ((b : Board V W) → holds b → x.number ≢ k.number → get_elem? b.views x.number ≡ some x.own → get_elem? b.views k.number ≡ some k.view → holds record { turns = b.turns; views = set b.views k.number (f k.view) })
-      → Splits (TurnsKeep holds parties) id x (left_with x) (leaving f x)
+      → Splits (TurnsKeep holds parties size) id x (left_with x) (leaving f x)
   parts f id x k ks live free_x last may s r at =
       let own = r.seats id x at live in
       let kept_here = subst (AllKept r.views r.seat id) last own.joined in
       let apart = subst (Apart x.number) last own.own_apart in
       let rule = may record { turns = r.turns; views = r.views } r.rule (λ e. apart.0 (sym e)) own.own_is kept_here.0.1 in
-      let P : List (Kept W) → Type 0 = λ l. TurnsKeep holds parties record {
+      let P : List (Kept W) → Type 0 = λ l. TurnsKeep holds parties size record {
         words = s.words;
         homes = s.homes;
         views = set s.views id record { live = x.live; parties = x.parties; number = x.number; own = x.own; joined = rest_of l; held = x.held } ++ leaves f x l ∷ [];

@@ -1,5 +1,6 @@
 pub mod Board
 pub mod Histories
+pub mod Homes
 pub mod Moments
 pub mod Places
 pub mod Standings

@@ -1,5 +1,5 @@
 -- What the row of turns keeps besides its user's rule: who has which number, and who holds which turn.
-use Rattle.std.specs.Prelude.{◌≡◌, ℕ, zero, suc, ◌-◌, ◌<◌, List, [], ◌∷◌, ◌++◌, map, length, take, true, false, Option, Some, None}
+use Rattle.std.specs.Prelude.{◌≡◌, ℕ, zero, suc, ◌-◌, ◌<◌, ◌≤◌, List, [], ◌∷◌, ◌++◌, map, length, take, true, false, Option, Some, None}
 use mathlib.Core.Option.{some, none}
 use mathlib.Core.Option as maybe
 use lib.ListN.{get_elem?}
@@ -7,14 +7,16 @@ use Rattle.atomic_table.specs.Table.{State, Step, Me, rest}
 use Rattle.atomic_table.specs.Seated.{TableId}
 use Rattle.turn_table.specs.Board.{Turn, free, taken, Board, IsAmong, without}
 use Rattle.turn_table.specs.Places.{Place, kept, Apart, entries, rest_of, AllOnce, AllHeld}
+use Rattle.turn_table.specs.Homes.{home, room}
 use Rattle.turn_table.specs.Moments.{WasFree, WasTaken}
 use Rattle.turn_table.specs.declared.standing.Kept.{Kept}
 use Rattle.turn_table.specs.declared.standing.Standing.{Standing}
 
--- what is always true of a row of turns: a word and a slot for each turn, of which there are some, and some party
-pub record IsRow (id : TableId) (turns parties : ℕ) : Type 0 where
-  pub words : id.words ≡ turns
-  pub slots : id.slots ≡ turns
+-- what is always true of a row of turns: words and slots for as many turns as were counted, of which there are some, and some party
+pub record IsRow (id : TableId) (turns counted parties : ℕ) : Type 0 where
+  pub words : id.words ≡ room turns
+  pub slots : id.slots ≡ room turns
+  pub count : counted ≡ turns
   pub some_turn : 0 < turns
   pub some_party : 0 < parties
 
@@ -90,20 +92,21 @@ AllBelow n [] = Unit {0}
 AllBelow n (k ∷ ks) = (k < n) × AllBelow n ks
 
 module _ {V : Type 0} where
-  -- The word of a turn is 0 while the turn is free, and else one more than the number of its holder. The value is in its slot exactly while the turn is free
+  -- The word at a place is 0 while its turn is free, and else one more than the number of the turn's holder. The value is in the slot there exactly while the turn is free
   abbrev pub StandsAt : List ℕ → List (maybe.Option (Option V)) → ℕ → Turn V → Type 0
   StandsAt ws hs i (free v) = (get_elem? ws i ≡ some 0) × (get_elem? hs i ≡ some (some (Some v)))
   StandsAt ws hs i (taken n) = (get_elem? ws i ≡ some (suc n)) × (get_elem? hs i ≡ some none)
 
-  -- the words and the slots show these turns
+  -- the words and the slots show these turns, and the slots behind the last one are empty
   pub record AllStand (ws : List ℕ) (hs : List (maybe.Option (Option V))) (ts : List (Turn V)) : Type 0 where
-    pub words : length ws ≡ length ts
-    pub homes : length hs ≡ length ts
-    pub each : (i : ℕ) (t : Turn V) → get_elem? ts i ≡ some t → StandsAt ws hs i t
+    pub words : length ws ≡ room (length ts)
+    pub homes : length hs ≡ room (length ts)
+    pub each : (i : ℕ) (t : Turn V) → get_elem? ts i ≡ some t → StandsAt ws hs (home i) t
+    pub spare : (i : ℕ) → length ts ≤ i → i < room (length ts) → get_elem? hs (home i) ≡ some (some None)
 
   -- the slots that are out with a seat, each empty
   abbrev pub empties : List ℕ → List (ℕ × Option V)
-  empties held = map (λ i. (i, None)) held
+  empties held = map (λ i. (home i, None)) held
 
 module _ {V W : Type 0} where
   -- what a seat that is not spent knows is true of the board
@@ -118,12 +121,13 @@ module _ {V W : Type 0} where
     pub once : AllOnce x.held
 
   -- The table stands for a board that meets the user's rule. Each number is one seat's, as its own or by a join, and each taken turn is held by the seat whose own number its word names
-  pub record TurnsKeep (holds : Board V W → Type 0) (parties : ℕ) (s : State (Option V) (Standing W)) : Type 0 where
+  pub record TurnsKeep (holds : Board V W → Type 0) (parties size : ℕ) (s : State (Option V) (Standing W)) : Type 0 where
     pub turns : List (Turn V)
     pub views : List W
     pub seat : ℕ → ℕ
     pub stands : AllStand s.words s.homes turns
     pub rule : holds record { turns = turns; views = views }
+    pub long : length turns ≡ size
     pub count : length views ≡ parties
     pub seats : (id : ℕ) (x : Standing W) → get_elem? s.views id ≡ some x → x.live ≡ true → Sits parties turns views seat id x
     pub owners : (i n : ℕ) → get_elem? turns i ≡ some (taken n) → HasSeat s.views n i
@@ -136,18 +140,18 @@ pub record IsParty {V W : Type 0} (number words : ℕ) (me : Me (Option V) (Stan
   pub out : me.1 ≡ empties me.0.held
   pub below : AllBelow words me.0.held
 
--- What each step tells: of the step, the seat before, the number found and the seat after
+-- What each step tells: of the step, the seat before, the number found and the seat after, where the step is at the home of the turn i
 module _ {V W : Type 0} where
   -- a try took a free turn with its value, or found it with another party
   abbrev pub tried : (Board V W → Type 0) → (ℕ → ℕ → V → W → W) → (ℕ → ℕ → ℕ → W → W) → Step (Option V) → Me (Option V) (Standing W) → ℕ → Me (Option V) (Standing W) → Type 0
-  tried holds won lost p me found after =
-      (found ≡ 0 → (v : V) × ((z : TableId) → WasFree holds (place_of z me.0) p.word v) × (after ≡ (taking me.0 p.word (won me.0.number p.word v me.0.own), (p.word, Some v) ∷ me.1)))
-      × ((m : ℕ) → found ≡ suc m → ((z : TableId) → WasTaken holds (place_of z me.0) p.word m) × (after ≡ (seeing me.0 (lost me.0.number p.word m me.0.own), me.1)))
+  tried holds won lost p me found after = (i : ℕ) → home i ≡ p.word →
+      (found ≡ 0 → (v : V) × ((z : TableId) → WasFree holds (place_of z me.0) i v) × (after ≡ (taking me.0 i (won me.0.number i v me.0.own), (p.word, Some v) ∷ me.1)))
+      × ((m : ℕ) → found ≡ suc m → ((z : TableId) → WasTaken holds (place_of z me.0) i m) × (after ≡ (seeing me.0 (lost me.0.number i m me.0.own), me.1)))
 
-  -- the slot of this word is now the one taken last
+  -- the slot of this turn is now the one taken last
   abbrev pub brought : Step (Option V) → Me (Option V) (Standing W) → ℕ → Me (Option V) (Standing W) → Type 0
-  brought p me found after = after ≡ (me.0, (p.word, None) ∷ empties (without p.word me.0.held))
+  brought p me found after = (i : ℕ) → home i ≡ p.word → after ≡ (me.0, (p.word, None) ∷ empties (without i me.0.held))
 
   -- the turn was given back
   abbrev pub gave : Option W → Step (Option V) → Me (Option V) (Standing W) → ℕ → Me (Option V) (Standing W) → Type 0
-  gave next p me new after = (w : W) → next ≡ Some w → after ≡ (giving me.0 p.word w, rest me.1)
+  gave next p me new after = (w : W) → next ≡ Some w → (i : ℕ) → home i ≡ p.word → after ≡ (giving me.0 i w, rest me.1)

@@ -1,10 +1,12 @@
 //! How a row of turns ends.
-ghost use Rattle.std.specs.Prelude.{◌≡◌, ◌⊎◌, ℕ, ◌<◌, ◌≤◌, List, [], false, map, length, Some, IfOk, vec_len, vec_capacity};
+ghost use Rattle.std.specs.Prelude.{◌≡◌, ◌⊎◌, ℕ, ◌<◌, ◌≤◌, List, [], false, length, IfOk, vec_len, vec_capacity};
 ghost use Rattle.std.specs.Slots.{slots_items, slots_filled, slots_len, IsFull};
 ghost use Rattle.std.specs.List.{slice_index_or};
 ghost use Rattle.turn_table.specs.Board.{opening};
+ghost use Rattle.turn_table.specs.Homes.{Laid};
 ghost use Rattle.turn_table.specs.Places.{IsPartyOf, met, HasNumber, SomeHas, AreFree, Shows, ShowAll};
 
+use crate::home::home;
 use crate::opening::NoMemory;
 use crate::party::Party;
 use crate::plays::Gather;
@@ -39,18 +41,18 @@ impl<V, R: TurnRule<V>> Turns<V, R> {
     }
 }
 
-// The values, from slots that all have one.
+// The values, from slots that have them at the homes of their turns.
 fn take_values<V: Drop>(closed: &mut Closed<Option<V>, Global>, values: &mut Vec<V>)
-    requires full { IsFull closed.old.slots × ((vs : List V) × (slots_items closed.old.slots ≡ map Some vs)) }
-    requires room { (vec_len values.old ≡ 0) × (slots_len closed.old.slots ≤ vec_capacity values.old) }
-    ensures values { slots_items closed.old.slots ≡ map Some values.new.items }
+    requires full { IsFull closed.old.slots }
+    requires laid { (vs : List V) × Laid (slots_items closed.old.slots) vs × (length vs ≤ vec_capacity values.old) }
+    requires empty { values.old.items ≡ [] }
+    ensures values { (vs : List V) → Laid (slots_items closed.old.slots) vs → values.new.items ≡ vs }
     ensures taken { (k : ℕ) → k < slots_len closed.new.slots → slice_index_or (slots_filled closed.new.slots) k false ≡ false }
 {
     for i in 0..closed.slot_count() {
-        let Some(value) = closed.take(i) else {
-            unreachable!()
-        };
-        values.push_reserved(value);
+        if let Some(value) = closed.take(home(i)) {
+            values.push_reserved(value);
+        }
     }
 }
 

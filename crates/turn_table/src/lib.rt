@@ -2,6 +2,7 @@
 #![tactic(auto)]
 
 mod closing;
+mod home;
 mod opening;
 mod party;
 mod plays;

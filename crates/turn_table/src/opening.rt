@@ -1,9 +1,11 @@
 //! How a row of turns begins.
-ghost use Rattle.std.specs.Prelude.{◌≡◌, ℕ, ◌+◌, ◌-◌, ◌^◌, ◌<◌, [], map, Some, IfOk, vec_len};
+ghost use Rattle.std.specs.Prelude.{◌≡◌, ℕ, ◌+◌, ◌-◌, ◌^◌, ◌<◌, [], IfOk, vec_len};
 ghost use Rattle.turn_table.specs.Board.{opening, numbered};
+ghost use Rattle.turn_table.specs.Homes.{Laid};
 ghost use Rattle.turn_table.specs.Places.{newcomers, IsLast, stayed, parted};
 ghost use Rattle.turn_table.specs.Standings.{whole_place};
 
+use crate::home::{home, room};
 use crate::party::Party;
 use crate::plays::{Deal, Setup};
 use crate::rule::TurnRule;
@@ -29,10 +31,24 @@ impl<T: Drop> From<AllocFailed<T>> for NoMemory {
     }
 }
 
+// The slots, with these values at the homes of their turns.
 fn filled<V: Drop>(alloc: Global, values: Vec<V>) -> Result<Vec<Option<V>>, AllocError>
-    ensures { IfOk result (λ v. v.items ≡ map Some values.items) }
+    requires { vec_len values < 2 ^ 32 }
+    ensures { IfOk result (λ v. Laid v.items values.items) }
 {
-    values.into_iter().map(Some).collect(alloc)
+    let places = room(values.len());
+    let mut row: Vec<Option<V>> = values.into_iter().map(Some).collect(alloc)?;
+    let mut slots = Vec::with_capacity(alloc, places)?;
+    for place in 0..places {
+        let turn = home(place);
+        let slot = if turn < row.len() {
+            row[turn].take()
+        } else {
+            None
+        };
+        slots.push_reserved(slot);
+    }
+    Ok(slots)
 }
 
 impl<V: Drop, R: TurnRule<V>> Turns<V, R> {
@@ -69,10 +85,11 @@ impl<V: Drop, R: TurnRule<V>> Turns<V, R> {
         ensures party { IfOk result (λ r. r.1 ≡ whole_place r.0.table parties (R.first about.now) 1 (parties - 1)) }
     {
         let turns = values.len() as u32;
-        let words = Vec::from_elem(alloc, 0u64, values.len())?;
+        let words = Vec::from_elem(alloc, 0u64, room(values.len()))?;
         let slots = filled(alloc, values)?;
         let setup = Setup {
             parties,
+            turns,
             key: Snapshot::of(about),
         };
         let Ok((table, seat)) = Table::new(alloc, words.as_slice(), slots, &setup) else {

@@ -11,12 +11,17 @@ use std::snapshot::Snapshot;
 /// What the table is told once, when it is made.
 pub struct Setup<K> {
     pub parties: u32,
+    pub turns: u32,
     pub key: Snapshot<K>,
 }
 
 impl<K> Drop for Setup<K> {
     fn drop(self) {
-        let Setup { parties: _, key: _ } = self;
+        let Setup {
+            parties: _,
+            turns: _,
+            key: _,
+        } = self;
     }
 }
 
@@ -26,7 +31,7 @@ pub struct Ruled<R> {
 }
 
 impl<V, R: TurnRule<V>> TableRule<Option<V>, Standing<R::View>, Setup<R::Key>> for Ruled<R> {
-    ghost holds = { λ k. TurnsKeep R.holds k.parties };
+    ghost holds = { λ k. TurnsKeep R.holds k.parties k.turns };
 
     ghost first = { λ k. whole k.parties (R.first k.key.value) };
 }

@@ -5,6 +5,7 @@ ghost use Rattle.turn_table.specs.Places.{IsPartyOf, Apart, took, saw, gave_back
 ghost use Rattle.turn_table.specs.Moments.{WasFree, WasTaken, Loses, MayGive};
 ghost use Rattle.turn_table.specs.Taken.{IfTaken, IfBusy};
 
+use crate::home::home;
 use crate::party::Party;
 use crate::plays::{Bring, Give, Meet, Next, Part, Ruled, Setup, Try};
 use crate::rule::{GivenView, TurnRule};
@@ -41,7 +42,7 @@ impl<V, R: TurnRule<V>> Model for Turns<V, R> {
 
     ghost view = { λ t. record { table = t.table.shared.table_id; turns = t.turns; parties = t.table.shared.key.parties } };
 
-    ghost invariant = { λ t. IsRow t.table.shared.table_id t.turns t.table.shared.key.parties };
+    ghost invariant = { λ t. IsRow t.table.shared.table_id t.turns t.table.shared.key.turns t.table.shared.key.parties };
 }
 
 impl<V, R: TurnRule<V>> Turns<V, R> {
@@ -55,14 +56,15 @@ impl<V, R: TurnRule<V>> Turns<V, R> {
         ensures owner { IfBusy result (λ m. (m < self.now.parties) × (m ≢ party.old.number) × Apart m party.old.joined) }
     {
         let mine = u64::from(party.number) + 1;
+        let place = home(i as usize);
         let shared = &self.table.shared;
-        let found = shared.compare_exchange::<Try<R>>(&mut party.seat, i as usize, 0, mine);
+        let found = shared.compare_exchange::<Try<R>>(&mut party.seat, place, 0, mine);
         if found != 0 {
             return Take::Busy {
                 owner: (found - 1) as u32,
             };
         }
-        let Some(value) = shared.exchange(&mut party.seat, i as usize, None) else {
+        let Some(value) = shared.exchange(&mut party.seat, place, None) else {
             unreachable!()
         };
         Take::Taken(value)
@@ -104,11 +106,12 @@ impl<V, R: TurnRule<V>> Turns<V, R> {
         ensures { IfSome N.next (λ w. party.new ≡ gave_back party.old i w) }
     {
         let _ = hand;
+        let place = home(i as usize);
         let shared = &self.table.shared;
-        shared.load::<Bring>(&mut party.seat, i as usize);
-        let empty = shared.exchange(&mut party.seat, i as usize, Some(value));
+        shared.load::<Bring>(&mut party.seat, place);
+        let empty = shared.exchange(&mut party.seat, place, Some(value));
         let None = empty else { unreachable!() };
-        shared.store::<Give<N>>(&mut party.seat, i as usize, 0);
+        shared.store::<Give<N>>(&mut party.seat, place, 0);
     }
 
     // Waits for a while until the turn looks free, and then lets another thread run. It only reads the word, so that it doesn't take the
@@ -116,9 +119,10 @@ impl<V, R: TurnRule<V>> Turns<V, R> {
     fn wait(&self, i: u32)
         requires { i < self.now.turns }
     {
+        let place = home(i as usize);
         for look in 0..LOOKS {
             pause(1 << look);
-            if self.table.shared.peek(i as usize) == 0 {
+            if self.table.shared.peek(place) == 0 {
                 return;
             }
         }
@@ -193,7 +197,7 @@ pub(crate) type RowTable<V, R> = Table<
 
 impl<V: Drop, R: TurnRule<V>> Turns<V, R> {
     pub(crate) fn into_table(self) -> RowTable<V, R>
-        ensures { (result.shared.table_id ≡ self.table) × (result.shared.table_id.slots ≡ self.turns) × (result.shared.key.parties ≡ self.parties) × (0 < self.parties) }
+        ensures { (result.shared.table_id ≡ self.table) × (result.shared.key.turns ≡ self.turns) × (result.shared.key.parties ≡ self.parties) × (0 < self.parties) }
     {
         let Turns {
             table,

@@ -1,6 +1,7 @@
 use Rattle.std.proofs.Common.{rules, ◌≡◌, ◌<◌, ℕ, [], sym, ap, ◌∙◌, subst}
 use Rattle.turn_table.specs.Places.{Row, Place}
 use Rattle.turn_table.specs.Standings.{empties}
+use Rattle.turn_table.proofs.Homes.{some_room}
 use Rattle.turn_table.proofs.Seats.{meets}
 use Rattle.turn_table.proofs.turns.Turns.join.Goals as goal
 
@@ -16,6 +17,6 @@ join_seat-requires g c =
       t,
       u,
       q.out ∙ ap empties free',
-      subst (λ (n : ℕ). 0 < n) (sym row.words) row.some_turn,
-      meets g.R.TurnRule.holds _ g.R.TurnRule.learned g.R.TurnRule.keeps_learned c.party.inside.seat.id c.into_seat.result.id c.party.inside.seat.me.0 c.into_seat.result.me.0 g.R.TurnRule.blank p.live q.live free free',
+      subst (λ (n : ℕ). 0 < n) (sym row.words) (some_room _ row.some_turn),
+      meets g.R.TurnRule.holds _ _ g.R.TurnRule.learned g.R.TurnRule.keeps_learned c.party.inside.seat.id c.into_seat.result.id c.party.inside.seat.me.0 c.into_seat.result.me.0 g.R.TurnRule.blank p.live q.live free free',
     )

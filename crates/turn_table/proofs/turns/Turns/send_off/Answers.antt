@@ -1,6 +1,7 @@
 use Rattle.std.proofs.Common.{rules, ◌≡◌, ◌<◌, ℕ, [], sym, ap, ◌∙◌, subst}
 use Rattle.turn_table.specs.Places.{Place, IsLast}
 use Rattle.turn_table.specs.declared.standing.Standing.{Standing}
+use Rattle.turn_table.proofs.Homes.{some_room}
 use Rattle.turn_table.proofs.Seats.{some_last}
 use Rattle.turn_table.proofs.Beginning.{deals}
 use Rattle.turn_table.proofs.turns.Turns.send_off.Goals as goal
@@ -15,6 +16,6 @@ split_seat-seat-requires g c =
     let last : IsLast c.args.number x.joined = subst (λ (v : Place g.row.R-View.Denot). IsLast c.args.number v.joined) (sym c.party.view_is) c.requires.last in
     let k = some_last c.args.number x.joined last in (
       t,
-      subst (λ (n : ℕ). 0 < n) (sym row.words) row.some_turn,
-      deals g.R.TurnRule.holds _ c.party.inside.seat.id x k.0 k.1 p.live free k.2.0,
+      subst (λ (n : ℕ). 0 < n) (sym row.words) (some_room _ row.some_turn),
+      deals g.R.TurnRule.holds _ _ c.party.inside.seat.id x k.0 k.1 p.live free k.2.0,
     )
