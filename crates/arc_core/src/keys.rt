@@ -97,7 +97,7 @@ impl Keys {
     }
 
     /// Forgets them all. Most often there is none.
-    #[inline]
+    #[inline(always)]
     pub fn clear(&mut self)
         ensures items { self.new.items ≡ [] }
         ensures spare { self.new.spare ≡ self.old.spare + length self.old.items }

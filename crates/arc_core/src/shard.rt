@@ -1,4 +1,5 @@
-//! One shard with the history that leads to it. Each event is a call; here are those of reads, and more stand in `shard/`.
+//! One shard with the history that leads to it. Each event is a call; here are those of reads, and more stand in `shard/`. A hit's
+//! and a drop's are part of the code that calls them, so an event is written once, in the history.
 ghost use Rattle.std.specs.Prelude.{◌≡◌, ℕ, ◌+◌, ◌≤◌, ◌++◌, ◌∷◌, [], IsTrue, OnOk, OnErr, vec_len, vec_capacity, option_map, ◌<◌};
 ghost use Rattle.arc_lists.specs.Adapting.{IsCapacity};
 ghost use Rattle.arc_core.specs.declared.event.Event.{Event};
@@ -125,7 +126,7 @@ impl Shard {
     /// Makes room for `events` more events, and for `entries` more entries. Events that are owed, since something is held, being
     /// read or picked that is to end, have room already and don't count. After want of memory the shard is as before. A history that would have more than
     /// 2^32 - 1 events with those that are owed is want of memory too.
-    #[inline]
+    #[inline(always)]
     pub fn reserve(&mut self, events: usize, entries: usize) -> Result<(), NoMemory>
         ensures log { self.new ≡ record self.old { event_room = self.new.event_room; entry_room = self.new.entry_room } }
         ensures events { OnOk result (events ≤ self.new.event_room) }
@@ -168,6 +169,7 @@ impl Shard {
     }
 
     /// `n` asks for a key at tick `t` whose bytes are cached (`arc_access` and `add_reference` of OpenZFS's `arc.c`).
+    #[inline(always)]
     pub fn hit(&mut self, n: u32, key: Key, t: u64) -> Event
         requires legal { IsTrue (legal self.old.now (Event.Hit n key t)) }
         requires room { HasRoom (Event.Hit n key t) self.old }
@@ -233,6 +235,7 @@ impl Shard {
     }
 
     /// `n` gives one hold back (`remove_reference` of OpenZFS's `arc.c`).
+    #[inline(always)]
     pub fn drop_one(&mut self, n: u32, key: Key) -> Event
         requires { IsTrue (legal self.old.now (Event.Drop n key)) }
         ensures event { result ≡ Event.Drop n key }

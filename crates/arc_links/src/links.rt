@@ -92,6 +92,7 @@ impl<T: Copy> Links<T> {
     }
 
     /// Takes the node at `at` off the list, and answers its element. Every other node keeps its place and its order.
+    #[inline(always)]
     pub fn remove(&mut self, at: usize) -> T
         requires { IsSome (element_at at self.old.nodes) }
         ensures element { element_at at self.old.nodes ≡ Some result }

@@ -132,6 +132,7 @@ impl Lists {
 
     /// Gives a key a state: it leaves the sequence on which it stands, and where it is unheld and the state has a sequence, it stands
     /// at that sequence's head (`arc_change_state` of OpenZFS's `arc.c`).
+    #[inline(always)]
     pub fn change_state(&mut self, key: Key, s: State, unheld: bool)
         requires there { IsSome (item_at member_key key self.old.members) }
         requires size { IsBlockSize key.size }
@@ -145,6 +146,7 @@ impl Lists {
     }
 
     // Gives a held key a state. It stands on no sequence then, so one search for it is enough.
+    #[inline(always)]
     fn change_to_held(&mut self, key: Key, s: State)
         requires there { IsSome (item_at member_key key self.old.members) }
         requires size { IsBlockSize key.size }
@@ -156,6 +158,7 @@ impl Lists {
     }
 
     // Gives an unheld key a state, by one search for it. It leaves its sequence before it comes to the next one, since there may be no room for one more.
+    #[inline(always)]
     fn change_to_unheld(&mut self, key: Key, s: State)
         requires there { IsSome (item_at member_key key self.old.members) }
         requires size { IsBlockSize key.size }

@@ -112,6 +112,7 @@ impl Queues {
     }
 
     /// Takes the node at a place off the sequence of a state, where there is one.
+    #[inline(always)]
     pub fn leave(&mut self, state: State, at: Option<usize>)
         requires { IsOn state at self.old }
         ensures { self.new ≡ left state at self.old }

@@ -1,4 +1,5 @@
-//! The bucket and the shard of a key, taken one after the other, and given back with the events made in between.
+//! The bucket and the shard of a key, taken one after the other, and given back with the events made in between. These and the other
+//! steps of a hit and a drop are part of the code that calls them: they would hand what they have on through memory, which is a fourth of their instructions.
 ghost use Rattle.std.specs.Prelude.{◌≡◌, ◌<◌, ◌≢◌, [], ◌∷◌, IfNone, IfSome};
 ghost use Rattle.arc_core.specs.Config.{IsConfig};
 ghost use Rattle.arc_table.specs.declared.item.Item.TheVariants as item;
@@ -47,6 +48,7 @@ pub(crate) fn shard_turn_of(config: &Config, key: Key) -> u32
 
 impl<C: Keeps> Arcs<C> {
     // Takes the bucket of a key and then its shard, and waits while other parties have them.
+    #[inline(always)]
     pub(crate) fn take_both(&self, rt: &impl Wait, party: &mut Party<C>, key: Key) -> Both
         requires party { IsPartyOf self.now party.old }
         requires look { HasNoLook self.now party.old }
@@ -83,6 +85,7 @@ impl<C: Keeps> Arcs<C> {
     }
 
     // Takes the bucket of a key, and waits while another party has it.
+    #[inline(always)]
     fn take_bucket(&self, rt: &impl Wait, party: &mut Party<C>, key: Key) -> Taken
         requires party { IsPartyOf self.now party.old }
         requires look { HasNoLook self.now party.old }
@@ -96,6 +99,7 @@ impl<C: Keeps> Arcs<C> {
     }
 
     // Takes the shard of a key whose bucket the party has taken before, and waits while another party has it.
+    #[inline(always)]
     fn take_shard(&self, rt: &impl Wait, party: &mut Party<C>, key: Key, own: Taken) -> Both
         requires party { IsPartyOf self.now party.old }
         requires free { ¬ IsAmong (shard_turn self.now.config key) party.old.held }
@@ -158,6 +162,7 @@ impl<C: Keeps> Arcs<C> {
     }
 
     // Gives the shard back, and then the bucket.
+    #[inline(always)]
     pub(crate) fn give_both(&self, party: &mut Party<C>, key: Key, both: Both)
         requires party { IsPartyOf self.now party.old }
         requires made { IsMade (meanings C.holds C.entries C.opening C.claims C.sound) self.now.config key (made_since both.hand.before.value both.shard) both party.old }

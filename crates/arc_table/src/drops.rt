@@ -56,6 +56,7 @@ impl<C: Keeps> Arcs<C> {
     }
 
     // Gives one hold back on the entry whose bucket and shard the party has just taken.
+    #[inline(always)]
     fn drop_taken(&self, party: &mut Party<C>, mut both: Both, hold: &Hold)
         requires party { IsPartyOf self.now party.old }
         requires taken { IsTaken (meanings C.holds C.entries C.opening C.claims C.sound) self.now.config hold.now.key both party.old }

@@ -43,6 +43,7 @@ fn keeps_block(header: &Header, digest: Digest) -> bool
 }
 
 // The header that has a block of the pointer.
+#[inline(always)]
 pub(crate) fn find_ready(bucket: &HeapBucket, ptr: &Ptr) -> Option<Ready>
     ensures ready { IfSome result (λ ready. IsReady ptr.now ready bucket.now.headers) }
     ensures there { is_some result ≡ has_block ptr.now bucket.now.headers }

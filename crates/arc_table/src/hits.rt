@@ -130,6 +130,7 @@ impl<C: Keeps> Arcs<C> {
     }
 
     // Takes a hold on the entry whose bucket and shard the party has just taken, and whose header is ready, and gives both back. After want of memory there is no event.
+    #[inline(always)]
     pub(crate) fn hit_taken(
         &self,
         party: &mut Party<C>,

@@ -1,4 +1,4 @@
-//! The row of turns, and the steps on it.
+//! The row of turns, and the steps on it. A take and a give are part of the code that calls them, so a value goes from hand to hand in registers.
 ghost use Rattle.std.specs.Prelude.{◌≡◌, ◌≢◌, ℕ, ◌<◌, List, [], Some, IfSome};
 ghost use Rattle.turn_table.specs.Board.{IsAmong};
 ghost use Rattle.turn_table.specs.Places.{IsPartyOf, Apart, took, saw, gave_back, met, IsLast, stayed, parted};
@@ -47,6 +47,7 @@ impl<V, R: TurnRule<V>> Model for Turns<V, R> {
 
 impl<V, R: TurnRule<V>> Turns<V, R> {
     /// Takes the turn `i` if it is free.
+    #[inline(always)]
     pub fn try_take(&self, party: &mut Party<V, R>, i: u32) -> Take<V>
         requires row { IsPartyOf self.now party.old }
         requires range { i < self.now.turns }
@@ -82,6 +83,7 @@ impl<V, R: TurnRule<V>> Turns<V, R> {
     }
 
     /// The same, where what the party knows from then on rests on `hand` too, which is what else it has in hand.
+    #[inline(always)]
     pub fn give_with<H, M: GivenView<V, R::View, H>>(
         &self,
         party: &mut Party<V, R>,
@@ -99,6 +101,7 @@ impl<V, R: TurnRule<V>> Turns<V, R> {
     }
 
     // The party knows `N.next` from then on. `hand` is for the proof alone, where the caller picks `N.next`.
+    #[inline(always)]
     fn hand_back<H, N: Next<R::View>>(&self, party: &mut Party<V, R>, i: u32, value: V, hand: &H)
         requires row { IsPartyOf self.now party.old }
         requires held { IsAmong i party.old.held }
@@ -130,6 +133,7 @@ impl<V, R: TurnRule<V>> Turns<V, R> {
     }
 
     /// Takes the turn `i`, and waits while another party has it.
+    #[inline(always)]
     pub fn take(&self, rt: &impl Wait, party: &mut Party<V, R>, i: u32) -> V
         requires row { IsPartyOf self.now party.old }
         requires range { i < self.now.turns }
