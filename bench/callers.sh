@@ -2,7 +2,8 @@
 # Proves, builds and runs callers of the shared cache in a copy of the repository, and prints reads a second beside those of a plain cache
 # with one Mutex a shard. A line is hits, hits of callers that keep to shards of their own (`apart`) or misses, callers and shards; ours, the plain one's, and the ratios: the plain one's to ours, and
 # ours to ours with one caller. Each figure is the best of ROUNDS runs, ours and the plain one's in turn (default 3). Below stand hits of a plain
-# cache with the locks that ours has (`locks`), with the same ratios: what two locks and two look-ups cost by themselves. Then hits of callers
+# cache with the locks that ours has (`locks`), and of one whose shards' sequences are asked by key as well (`lists`), with the same ratios: what
+# two locks and two or three look-ups a call cost by themselves. Then hits of callers
 # that have a plain cache of their own each (`own`), and their ratio to one caller: what the machine gives where nothing is shared. Then the same
 # for the whole program (callers/program.py), which is built if that was not done yet. It needs rustc and python3.
 set -eu
@@ -25,6 +26,7 @@ for _ in $(seq "${ROUNDS:-3}"); do
         echo "apart $callers 16 $("$copy/plain" apart "$callers" 16 4096 200000)" >> "$copy/theirs"
         for shards in 16 1; do
             echo "locks $callers $shards $("$copy/locks" "$callers" "$shards" 4096 200000)" >> "$copy/theirs"
+            echo "lists $callers $shards $("$copy/locks" "$callers" "$shards" 4096 200000 lists)" >> "$copy/theirs"
         done
         echo "own $callers 16 $("$copy/plain" own "$callers" 16 4096 200000)" >> "$copy/theirs"
     done
@@ -36,7 +38,7 @@ def best(path):
     rates = {}
     for line in open(path):
         words = line.split()
-        if len(words) == 4 and words[0] in ('hits', 'apart', 'misses', 'locks', 'own'):
+        if len(words) == 4 and words[0] in ('hits', 'apart', 'misses', 'locks', 'lists', 'own'):
             row = words[0], int(words[1]), int(words[2])
             rates[row] = max(rates.get(row, 0), int(words[3]))
     return rates
@@ -47,9 +49,10 @@ def tell(kind, callers, shards, rate, plain, one):
 ours, theirs = (best(path) for path in sys.argv[1:])
 for (kind, callers, shards), rate in ours.items():
     tell(kind, callers, shards, rate, theirs[kind, callers, shards], ours[kind, 1, shards])
-for shards in 16, 1:
-    for callers in 1, 2, 4:
-        tell('locks', callers, shards, theirs['locks', callers, shards], theirs['hits', callers, shards], theirs['locks', 1, shards])
+for kind in 'locks', 'lists':
+    for shards in 16, 1:
+        for callers in 1, 2, 4:
+            tell(kind, callers, shards, theirs[kind, callers, shards], theirs['hits', callers, shards], theirs[kind, 1, shards])
 for callers in 1, 2, 4:
     rate = theirs['own', callers, 16]
     print(f'{"own":7}{callers:3}{16:4}{"":12}{rate:12,}{"":8}{rate / theirs["own", 1, 16]:8.2f}')

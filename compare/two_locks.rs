@@ -2,7 +2,10 @@
 //! each drop takes the bucket of its key and then the shard, and looks the key up in both. So its time beside that of `shared_cache.rs` is what
 //! this form costs by itself, without any proof.
 //!
-//!     rustc -O two_locks.rs && ./two_locks CALLERS SHARDS BLOCKS READS
+//!     rustc -O two_locks.rs && ./two_locks CALLERS SHARDS BLOCKS READS [lists]
+//!
+//! With `lists` a shard's sequences are a part of their own that is asked by key, as those of the proved one are: one look-up more for each hit
+//! and each drop, of the key's place on its sequence.
 //!
 //! Each caller reads so many drawn blocks of 512 bytes, all of which are cached, and gives each back. It prints the reads of all callers a second.
 
@@ -15,6 +18,7 @@ mod shard;
 use key::Key;
 use sha256::{Digest, sha256};
 use shard::Shard;
+use std::collections::HashMap;
 use std::process::ExitCode;
 use std::sync::{Arc, Mutex, MutexGuard, PoisonError};
 use std::thread;
@@ -29,9 +33,26 @@ struct Header {
     bytes: Arc<[u8]>,
 }
 
+/// A shard, and the places of its keys on their sequences where those are asked by key.
+struct Part {
+    shard: Shard,
+    members: Option<HashMap<Key, usize>>,
+}
+
+impl Part {
+    /// The place of a key on its sequence, which is that of its entry.
+    fn place(&self, key: Key) -> Option<usize> {
+        let place = *self.shard.places.get(&key)?;
+        match &self.members {
+            Some(members) => members.get(&key).copied().filter(|it| *it == place),
+            None => Some(place),
+        }
+    }
+}
+
 struct Cache {
     buckets: Vec<Mutex<Vec<Header>>>,
-    shards: Vec<Mutex<Shard>>,
+    shards: Vec<Mutex<Part>>,
 }
 
 fn lock<T>(it: &Mutex<T>) -> MutexGuard<'_, T> {
@@ -45,25 +66,30 @@ fn key_of(block: u64) -> Key {
 
 impl Cache {
     /// A cache that has all blocks.
-    fn new(shards: usize, blocks: u64) -> Cache {
+    fn new(shards: usize, blocks: u64, lists: bool) -> Cache {
         let cache = Cache {
             buckets: (0..shards * BUCKETS).map(|_| Mutex::default()).collect(),
-            shards: (0..shards).map(|_| Mutex::new(Shard::new(2 * blocks * SIZE, 0))).collect(),
+            shards: (0..shards)
+                .map(|_| Mutex::new(Part { shard: Shard::new(2 * blocks * SIZE, 0), members: lists.then(HashMap::new) }))
+                .collect(),
         };
         let bytes: Arc<[u8]> = vec![0; SIZE as usize].into();
         let digest = sha256(&bytes);
         for key in (0..blocks).map(key_of) {
             let bytes: Arc<[u8]> = bytes.to_vec().into();
-            let mut shard = lock(cache.shard(key));
-            let place = shard.miss(key, 0);
-            shard.arrive(place, digest, bytes.clone());
-            shard.release(place);
+            let mut part = lock(cache.shard(key));
+            let place = part.shard.miss(key, 0);
+            part.shard.arrive(place, digest, bytes.clone());
+            part.shard.release(place);
+            if let Some(members) = &mut part.members {
+                members.insert(key, place);
+            }
             lock(cache.bucket(key)).push(Header { key, digest, bytes });
         }
         cache
     }
 
-    fn shard(&self, key: Key) -> &Mutex<Shard> {
+    fn shard(&self, key: Key) -> &Mutex<Part> {
         &self.shards[key.shard_of(self.shards.len())]
     }
 
@@ -75,17 +101,17 @@ impl Cache {
     fn hit(&self, key: Key, digest: Digest, tick: u64) -> Option<Arc<[u8]>> {
         let bucket = lock(self.bucket(key));
         let bytes = bucket.iter().find(|it| it.key == key && it.digest == digest)?.bytes.clone();
-        let mut shard = lock(self.shard(key));
-        let place = *shard.places.get(&key)?;
-        shard.hit(place, tick);
+        let mut part = lock(self.shard(key));
+        let place = part.place(key)?;
+        part.shard.hit(place, tick);
         Some(bytes)
     }
 
     fn release(&self, key: Key) -> Option<()> {
         let _bucket = lock(self.bucket(key));
-        let mut shard = lock(self.shard(key));
-        let place = *shard.places.get(&key)?;
-        shard.release(place);
+        let mut part = lock(self.shard(key));
+        let place = part.place(key)?;
+        part.shard.release(place);
         Some(())
     }
 }
@@ -105,10 +131,14 @@ fn caller(cache: &Cache, digest: Digest, seed: u64, blocks: u64, reads: u64) -> 
 }
 
 fn perform(words: &[String]) -> Option<()> {
+    let (words, lists) = match words {
+        [words @ .., last] if last == "lists" => (words, true),
+        _ => (words, false),
+    };
     let numbers: Vec<u64> = words.iter().map(|word| word.parse().ok()).collect::<Option<_>>()?;
     let [callers, shards, blocks, reads] = numbers[..] else { return None };
     let digest = sha256(&[0; SIZE as usize]);
-    let cache = Cache::new(shards as usize, blocks);
+    let cache = Cache::new(shards as usize, blocks, lists);
     let start = Instant::now();
     let read: u64 = thread::scope(|scope| {
         let cache = &cache;
