@@ -4,7 +4,8 @@
 # ours to ours with one caller. Each figure is the best of ROUNDS runs, ours and the plain one's in turn (default 3). Below stand hits of a plain
 # cache with the locks that ours has (`locks`), and of one whose shards' sequences are asked by key as well (`lists`), with the same ratios: what
 # two locks and two or three look-ups a call cost by themselves. Then hits of callers
-# that have a plain cache of their own each (`own`), and their ratio to one caller: what the machine gives where nothing is shared. Then the same
+# that have a plain cache of their own each (`own`), and their ratio to one caller: what the machine gives where nothing is shared; and hits that change nothing for
+# other callers but a lock, the key's holds, its place on the shard's list and its events (`moves`), where all else is stood for by WORK multiplications (default 250). Then the same
 # for the whole program (callers/program.py), which is built if that was not done yet. It needs rustc and python3.
 set -eu
 here=$(cd "$(dirname "$0")" && pwd)
@@ -13,6 +14,7 @@ trap 'rm -rf "$copy"' EXIT
 . "$here/callers/copy.sh"
 rustc --edition 2024 -O -A warnings -o "$copy/plain" "$here/../compare/shared_cache.rs"
 rustc --edition 2024 -O -A warnings -o "$copy/locks" "$here/../compare/two_locks.rs"
+rustc --edition 2024 -O -A warnings -o "$copy/moves" "$here/../compare/list_moves.rs"
 for _ in $(seq "${ROUNDS:-3}"); do
     (cd "$copy/crates/callers_bench" && rt run >> "$copy/ours" 2> "$copy/log") || { cat "$copy/log"; exit 1; }
     for kind in hits misses; do
@@ -29,6 +31,7 @@ for _ in $(seq "${ROUNDS:-3}"); do
             echo "lists $callers $shards $("$copy/locks" "$callers" "$shards" 4096 200000 lists)" >> "$copy/theirs"
         done
         echo "own $callers 16 $("$copy/plain" own "$callers" 16 4096 200000)" >> "$copy/theirs"
+        echo "moves $callers 16 $("$copy/moves" "$callers" 16 4096 200000 "${WORK:-250}")" >> "$copy/theirs"
     done
 done
 python3 - "$copy/ours" "$copy/theirs" <<'PY'
@@ -38,7 +41,7 @@ def best(path):
     rates = {}
     for line in open(path):
         words = line.split()
-        if len(words) == 4 and words[0] in ('hits', 'apart', 'misses', 'locks', 'lists', 'own'):
+        if len(words) == 4 and words[0] in ('hits', 'apart', 'misses', 'locks', 'lists', 'own', 'moves'):
             row = words[0], int(words[1]), int(words[2])
             rates[row] = max(rates.get(row, 0), int(words[3]))
     return rates
@@ -53,9 +56,10 @@ for kind in 'locks', 'lists':
     for shards in 16, 1:
         for callers in 1, 2, 4:
             tell(kind, callers, shards, theirs[kind, callers, shards], theirs['hits', callers, shards], theirs[kind, 1, shards])
-for callers in 1, 2, 4:
-    rate = theirs['own', callers, 16]
-    print(f'{"own":7}{callers:3}{16:4}{"":12}{rate:12,}{"":8}{rate / theirs["own", 1, 16]:8.2f}')
+for kind in 'own', 'moves':
+    for callers in 1, 2, 4:
+        rate = theirs[kind, callers, 16]
+        print(f'{kind:7}{callers:3}{16:4}{"":12}{rate:12,}{"":8}{rate / theirs[kind, 1, 16]:8.2f}')
 PY
 tool=$here/../crates/arc_tool/out/arc_tool
 [ -x "$tool" ] || (cd "$here/../crates/arc_tool" && rt run -- --version)
