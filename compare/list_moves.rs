@@ -1,6 +1,6 @@
 //! The least that a hit and its drop change for other callers, and nothing else of a cache: the lock of the key's shard, the holds on the key, its
 //! place on the shard's list, and an event of 80 bytes each. There is no look-up, no bucket and no block. All else that a hit does is stood for by
-//! so many multiplications, which no other caller sees. So how its rate grows with the callers bounds that of any cache with a list a shard.
+//! so many multiplications, which no other caller sees and which wait for no memory. So it shows what these changes alone cost callers together.
 //!
 //!     rustc -O list_moves.rs && ./list_moves CALLERS SHARDS BLOCKS READS WORK
 //!
