@@ -8,7 +8,7 @@ ghost use Rattle.arc_core.specs.PlainShard.{entry_key};
 use crate::entry::Entry;
 use arc_lists::Name;
 use blk_ptr::{Key, NoMemory, State};
-use key_table::Table;
+use key_table::{NO_PLACE, Table};
 use std::alloc::Global;
 use std::marker::Model;
 
@@ -72,7 +72,29 @@ impl Entries {
         ensures some { IfSome result (IsChanged (λ e made. FnOnceReturnsAtMut F.FnOnce change e tt made) key self.old self.new) }
         ensures none { IfNone result (item_at entry_key key self.old.items ≡ None) }
     {
-        match self.rows.get_mut(&Name(key)) {
+        self.change_near(NO_PLACE, key, change)
+    }
+
+    /// Where the row of a key stands just now, for `change_near`. It holds until entries come or go.
+    #[inline(always)]
+    pub fn place(&self, key: Key) -> usize {
+        self.rows.place(&Name(key))
+    }
+
+    /// Changes the entry of a key as `change` does. `near` is where its row stood, and may be any number.
+    #[inline(always)]
+    pub fn change_near<F: FnOnce(&mut Entry)>(
+        &mut self,
+        near: usize,
+        key: Key,
+        change: F,
+    ) -> Option<(State, bool)>
+        requires takes { (e : Entry) → item_at entry_key key self.old.items ≡ Some e → FnOnceTakesAtMut F.FnOnce change e }
+        requires keeps { (e made : Entry) → item_at entry_key key self.old.items ≡ Some e → FnOnceReturnsAtMut F.FnOnce change e tt made → made.key ≡ key }
+        ensures some { IfSome result (IsChanged (λ e made. FnOnceReturnsAtMut F.FnOnce change e tt made) key self.old self.new) }
+        ensures none { IfNone result (item_at entry_key key self.old.items ≡ None) }
+    {
+        match self.rows.get_mut_near(near, &Name(key)) {
             Some(entry) => {
                 change(entry);
                 Some((entry.state, entry.is_unheld()))

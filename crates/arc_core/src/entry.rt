@@ -8,23 +8,24 @@ use blk_ptr::{Digest, Key, State};
 /// The numbers that may hold an entry: callers, the feeder and cells of dbufs are numbered below it.
 pub const NUMBERS: usize = 33;
 
-/// What a shard knows of one key. Fields lie in memory in this order: what a hit reads and writes stands in front.
+/// What a shard knows of one key. Fields lie in memory in this order: what a hit reads and writes stands in front, and the key at the end, since a search has
+/// compared a copy of it that stands before the entry.
 #[derive(Clone, Copy, Debug, PartialEq, Eq)]
 pub struct Entry {
-    /// The key, whose size is what the entry counts in bytes.
-    pub key: Key,
+    /// The tick of the last access that counted.
+    pub last: u64,
     /// Where it stands.
     pub state: State,
     /// Its bytes are being read.
     pub reading: bool,
-    /// The tick of the last access that counted.
-    pub last: u64,
     /// How many holds each number has.
     pub holds: Holds,
     /// The byte at which its block begins on the cache device, where it is there.
     pub place: Option<u64>,
     /// The SHA-256 of its bytes, also after they were evicted.
     pub digest: Option<Digest>,
+    /// The key, whose size is what the entry counts in bytes.
+    pub key: Key,
 }
 
 // Whether two kept digests are one.

@@ -20,6 +20,7 @@ use crate::event::{Event, FailedAt, Origin};
 use crate::table::Table;
 use blk_ptr::{Digest, Key, NoMemory, State};
 use halts::Halts;
+use key_table::NO_PLACE;
 use std::alloc::Global;
 use std::marker::Model;
 
@@ -176,8 +177,25 @@ impl Shard {
         ensures event { result ≡ Event.Hit n key t }
         ensures makes { Makes (Event.Hit n key t) self.old self.new }
     {
+        self.hit_near(NO_PLACE, n, key, t)
+    }
+
+    /// Where the entry of a key stands just now, for `hit_near` and `drop_near`. It holds until entries come or go.
+    #[inline(always)]
+    pub fn place_of(&self, key: Key) -> usize {
+        self.table.place_of(key)
+    }
+
+    /// `n` asks for a key as by `hit`. `near` is where its entry stood, so that there is mostly nothing to search; it may be any number.
+    #[inline(always)]
+    pub fn hit_near(&mut self, near: usize, n: u32, key: Key, t: u64) -> Event
+        requires legal { IsTrue (legal self.old.now (Event.Hit n key t)) }
+        requires room { HasRoom (Event.Hit n key t) self.old }
+        ensures event { result ≡ Event.Hit n key t }
+        ensures makes { Makes (Event.Hit n key t) self.old self.new }
+    {
         let event = Event::Hit { n, key, t };
-        self.table.hit(n, key, t);
+        self.table.hit_near(near, n, key, t);
         self.table.end_scan();
         self.halts.forget();
         append(&mut self.history, event);
@@ -241,8 +259,18 @@ impl Shard {
         ensures event { result ≡ Event.Drop n key }
         ensures makes { Makes (Event.Drop n key) self.old self.new }
     {
+        self.drop_near(NO_PLACE, n, key)
+    }
+
+    /// `n` gives one hold back as by `drop_one`. `near` is where the key's entry stood, and may be any number.
+    #[inline(always)]
+    pub fn drop_near(&mut self, near: usize, n: u32, key: Key) -> Event
+        requires { IsTrue (legal self.old.now (Event.Drop n key)) }
+        ensures event { result ≡ Event.Drop n key }
+        ensures makes { Makes (Event.Drop n key) self.old self.new }
+    {
         let event = Event::Drop { n, key };
-        self.table.give_back(n, key);
+        self.table.give_back_near(near, n, key);
         self.table.end_scan();
         self.halts.forget();
         append(&mut self.history, event);

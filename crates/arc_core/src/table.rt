@@ -23,6 +23,7 @@ use crate::keys::Keys;
 use crate::picks::Picks;
 use arc_lists::Lists;
 use blk_ptr::{Key, NoMemory, State};
+use key_table::NO_PLACE;
 use std::alloc::Global;
 use std::marker::Model;
 
@@ -118,8 +119,27 @@ impl Table {
         ensures tidy { IsTidy self.old.shard }
         ensures placed { (e made : Entry) × (entry_of key self.old.shard ≡ Some e) × FnOnceReturnsAtMut F.FnOnce change e tt made × (self.new ≡ record self.old { shard = placed made self.old.shard }) }
     {
-        if let Some((state, unheld)) = self.entries.change(key, change) {
-            self.lists.change_state(key, state, unheld);
+        self.place_near(NO_PLACE, key, change);
+    }
+
+    /// Where the entry of a key stands just now, for the calls that begin near a place. It holds until entries come or go.
+    #[inline(always)]
+    pub fn place_of(&self, key: Key) -> usize {
+        self.entries.place(key)
+    }
+
+    /// Changes the entry of a key as `place` does. `near` is where it stood, and may be any number.
+    #[inline(always)]
+    pub fn place_near<F: FnOnce(&mut Entry)>(&mut self, near: usize, key: Key, change: F)
+        requires there { IsSome (entry_of key self.old.shard) }
+        requires takes { IsTidy self.old.shard → (e : Entry) → entry_of key self.old.shard ≡ Some e → FnOnceTakesAtMut F.FnOnce change e }
+        requires sound { IsTidy self.old.shard → (e made : Entry) → entry_of key self.old.shard ≡ Some e → FnOnceReturnsAtMut F.FnOnce change e tt made → (made.key ≡ key) × IsSoundEntry made }
+        ensures tidy { IsTidy self.old.shard }
+        ensures placed { (e made : Entry) × (entry_of key self.old.shard ≡ Some e) × FnOnceReturnsAtMut F.FnOnce change e tt made × (self.new ≡ record self.old { shard = placed made self.old.shard }) }
+    {
+        // The entries and the lists get and lose their rows together, so a key's row mostly stands at one place in both.
+        if let Some((state, unheld)) = self.entries.change_near(near, key, change) {
+            self.lists.change_state_near(near, key, state, unheld);
         }
     }
 

@@ -3,6 +3,7 @@ use crate::config::Bounds;
 use crate::event::{Event, FailedAt, Origin, Why};
 use crate::shard::Shard;
 use blk_ptr::{Digest, Key, State};
+use key_table::NO_PLACE;
 use std::test::Fail;
 
 const BOUNDS: Bounds = Bounds {
@@ -103,6 +104,33 @@ fn entries_are_shown(rt: HostRuntime) -> Result<(), Fail> {
     let reader = shard.entry(b).and_then(|e| e.reader);
     let kept = shard.entry(a).and_then(|e| e.digest);
     assert_eq!(rt; (made, reader, kept), ((true, true), Some(0), Some(DIGEST)));
+    Ok(())
+}
+
+// Caller 0 asks for a cached block near a place, and gives it back near it.
+fn use_near(shard: &mut Shard, near: usize, key: Key) -> bool {
+    if shard.reserve(3, 1).is_err() || !shard.legal(&Event::Hit { n: 0, key, t: 9 }) {
+        return false;
+    }
+    shard.hit_near(near, 0, key, 9);
+    if !shard.legal(&Event::Drop { n: 0, key }) {
+        return false;
+    }
+    shard.drop_near(near, 0, key);
+    true
+}
+
+// Of two cached blocks the first is used near its own place, near the other's, and near none.
+#[test]
+fn a_place_is_only_a_hint(rt: HostRuntime) -> Result<(), Fail> {
+    let mut shard = Shard::new(rt.alloc(), 4096, 0, BOUNDS);
+    let made = fetch_quarters(&mut shard, &[0, 1]);
+    let (a, b) = (block(1024, 0), block(1024, 1));
+    let (own, other) = (shard.place_of(a), shard.place_of(b));
+    assert!(rt; own != other && shard.place_of(block(1024, 2)) == NO_PLACE);
+    let used = [own, other, NO_PLACE].map(|near| use_near(&mut shard, near, a));
+    let seen = (made, used, shard.history().len(), ends(&shard));
+    assert_eq!(rt; seen, (2, [true; 3], 12, (2048, [0, 1024, 0, 1024, 0, 0])));
     Ok(())
 }
 

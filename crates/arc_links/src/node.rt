@@ -11,9 +11,9 @@ pub const NO_PLACE: usize = usize::MAX;
 /// An element, and the places of its neighbours.
 #[derive(Clone, Copy, Debug, Drop)]
 pub struct Node<T> {
-    pub element: T,
     pub toward_head: usize,
     pub toward_last: usize,
+    pub element: T,
 }
 
 ghost use Rattle.arc_links.specs.Nodes.{facing_head, facing_last, neighbour_of};

@@ -18,6 +18,7 @@ use crate::queues::{Queues, oldest};
 use crate::sizes::Sizes;
 use crate::target;
 use blk_ptr::{Key, NoMemory, State};
+use key_table::NO_PLACE;
 use std::alloc::Global;
 use std::marker::Model;
 
@@ -138,37 +139,22 @@ impl Lists {
         requires size { IsBlockSize key.size }
         ensures { self.new ≡ put key s unheld (take_out key self.old) }
     {
-        if unheld {
-            self.change_to_unheld(key, s);
-        } else {
-            self.change_to_held(key, s);
-        }
+        self.change_state_near(NO_PLACE, key, s, unheld);
     }
 
-    // Gives a held key a state. It stands on no sequence then, so one search for it is enough.
+    /// Gives a key a state as `change_state` does. `near` is where the key's row stood among the members, and may be any number.
     #[inline(always)]
-    fn change_to_held(&mut self, key: Key, s: State)
+    pub fn change_state_near(&mut self, near: usize, key: Key, s: State, unheld: bool)
         requires there { IsSome (item_at member_key key self.old.members) }
         requires size { IsBlockSize key.size }
-        ensures { self.new ≡ put key s false (take_out key self.old) }
+        ensures { self.new ≡ put key s unheld (take_out key self.old) }
     {
-        let before = self.members.set(key, Standing { state: s, at: None });
-        self.sizes.transfer(before.state, s, key.size);
-        self.queues.leave(before.state, before.at);
-    }
-
-    // Gives an unheld key a state, by one search for it. It leaves its sequence before it comes to the next one, since there may be no room for one more.
-    #[inline(always)]
-    fn change_to_unheld(&mut self, key: Key, s: State)
-        requires there { IsSome (item_at member_key key self.old.members) }
-        requires size { IsBlockSize key.size }
-        ensures { self.new ≡ put key s true (take_out key self.old) }
-    {
-        let standing = self.members.find_mut(key);
+        // One search is enough. The key leaves its sequence before it comes to the next one, since there may be no room for one more.
+        let standing = self.members.find_mut_near(near, key);
         let before = *standing;
         self.sizes.transfer(before.state, s, key.size);
         self.queues.leave(before.state, before.at);
-        let at = self.queues.put_at_head(s, key);
+        let at = self.queues.enter(s, key, unheld);
         *standing = Standing { state: s, at };
     }
 

@@ -74,13 +74,14 @@ impl Members {
         *self.rows.get(&Name(key)).unwrap()
     }
 
-    /// The standing of a key that is there, to write.
-    pub fn find_mut(&mut self, key: Key) -> &mut Standing
+    /// The standing of a key that is there, to write. `near` is where its row stood, and may be any number.
+    #[inline(always)]
+    pub fn find_mut_near(&mut self, near: usize, key: Key) -> &mut Standing
         requires { IsSome (item_at post_key key self.old.posts) }
         ensures* writes_back { sem 𝓛 (lends_standing self.entry key result) }
         ensures standing { item_at post_key key self.old.posts ≡ Some (post key result.now) }
     {
-        match self.rows.get_mut(&Name(key)) {
+        match self.rows.get_mut_near(near, &Name(key)) {
             Some(standing) => standing,
             None => unreachable!(),
         }

@@ -100,6 +100,7 @@ impl Queues {
     }
 
     /// Puts a key at the head of the sequence of a state only where it is unheld.
+    #[inline(always)]
     pub fn enter(&mut self, state: State, key: Key, unheld: bool) -> Option<usize>
         requires { HaveRoom self.old }
         ensures { IsEntered unheld state key result self.old self.new }

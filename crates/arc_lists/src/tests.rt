@@ -1,6 +1,7 @@
 //! The calls with ample memory.
 use crate::Lists;
 use blk_ptr::{Key, State};
+use key_table::NO_PLACE;
 use std::test::Fail;
 
 const A: Key = Key {
@@ -21,5 +22,22 @@ fn a_key_comes_and_goes(rt: HostRuntime) -> Result<(), Fail> {
     lists.take_out(A);
     assert_eq!(rt; lists.size(State::Mru), 0);
     assert_eq!(rt; lists.oldest(State::Mru), None);
+    Ok(())
+}
+
+#[test]
+fn a_state_changes_near_a_place(rt: HostRuntime) -> Result<(), Fail> {
+    let mut lists = Lists::new(rt.alloc(), 8192);
+    lists.reserve(1)?;
+    lists.put(A, State::Mru, true);
+    // The only row stands at 0.
+    lists.change_state_near(0, A, State::Mfu, false);
+    assert_eq!(rt; lists.size(State::Mfu), 512);
+    assert_eq!(rt; lists.oldest(State::Mfu), None);
+    lists.change_state_near(1, A, State::Mru, true);
+    assert_eq!(rt; lists.oldest(State::Mru), Some(A));
+    lists.change_state_near(NO_PLACE, A, State::Mfu, true);
+    assert_eq!(rt; lists.oldest(State::Mru), None);
+    assert_eq!(rt; lists.oldest(State::Mfu), Some(A));
     Ok(())
 }

@@ -32,19 +32,39 @@ module _ {K V : Type 0} (hash : K → ℕ) where
   ]
 
   -- each chain is a short one
+  pub short-of : (s : Slab (Slot K V)) (heads : List ℕ) (b link : ℕ) → IsIndexed hash s heads (length heads) no_place → b < length heads → get_or heads b no_place ≡ link → IsShort s link
+  short-of s heads b link i lt is =
+      let chain : IsChain s link (i.chains b) = subst (λ z. IsChain s z (i.chains b)) is (i.linked b lt) in
+      (i.chains b, chain, chain-short s link (i.chains b) chain (i.once b lt))
+
   pub short : (t : Inside K V) (b link : ℕ) → IsTable hash t → b < length t.heads.items → get_or t.heads.items b no_place ≡ link → IsShort t.slots link
-  short t b link kept lt is =
-      let i = kept.indexed in
-      let chain : IsChain t.slots link (i.chains b) = subst (λ z. IsChain t.slots z (i.chains b)) is (i.linked b lt) in
-      (i.chains b, chain, chain-short t.slots link (i.chains b) chain (i.once b lt))
+  short t b link kept = short-of t.slots t.heads.items b link kept.indexed
 
   -- a key's slot stands on its chain
+  pub slot-listed : (s : Slab (Slot K V)) (heads : List ℕ) (key : K) (p : ℕ) → (i : IsIndexed hash s heads (length heads) no_place) → length s.slots ≤ no_place → IsSlotOf key p s
+      → (chain_of (hash key) (length heads) < length heads) × Stands p (i.chains (chain_of (hash key) (length heads)))
+  slot-listed s heads key p i within has =
+      let n = length heads in
+      let at = i.listed p has.0 (slot_place s p has.0 within has.1) has.1 in
+      subst (λ k. (chain_of (hash k) n < n) × Stands p (i.chains (chain_of (hash k) n))) has.2 at
+
   pub slot-stands : (t : Inside K V) (key : K) (p : ℕ) → (kept : IsTable hash t) → IsSlotOf key p t.slots
       → (chain_of (hash key) (length t.heads.items) < length t.heads.items) × Stands p (kept.indexed.chains (chain_of (hash key) (length t.heads.items)))
-  slot-stands t key p kept has =
-      let n = length t.heads.items in
-      let at = kept.indexed.listed p has.0 (slot_place t.slots p has.0 kept.within has.1) has.1 in
-      subst (λ k. (chain_of (hash k) n < n) × Stands p (kept.indexed.chains (chain_of (hash k) n))) has.2 at
+  slot-stands t key p kept = slot-listed t.slots t.heads.items key p kept.indexed kept.within
+
+  -- where a key's chain has no slot of it, there is none
+  pub no-slot : (s : Slab (Slot K V)) (heads : List ℕ) (key : K) (link : ℕ) → IsIndexed hash s heads (length heads) no_place → length s.slots ≤ no_place
+      → get_or heads (chain_of (hash key) (length heads)) no_place ≡ link
+      → ((ps : List ℕ) → IsChain s link ps → (p : ℕ) → Stands p ps → IsSlotOf key p s → ⊥) → (p : ℕ) → IsSlotOf key p s → ⊥
+  no-slot s heads key link i within is none p has =
+      let b = chain_of (hash key) (length heads) in
+      let at = slot-listed s heads key p i within has in
+      none (i.chains b) (subst (λ z. IsChain s z (i.chains b)) is (i.linked b at.0)) p at.1 has
+
+  -- and without chains there is none
+  pub no-slot-empty : (s : Slab (Slot K V)) (heads : List ℕ) (key : K) → IsIndexed hash s heads (length heads) no_place → length s.slots ≤ no_place → length heads ≡ 0
+      → (p : ℕ) → IsSlotOf key p s → ⊥
+  no-slot-empty s heads key i within empty p has = omega (arith, (slot-listed s heads key p i within has).0, empty)
 
   -- a key that has a row has a slot
   pub has-slot : (t : Inside K V) (key : K) → HasKey key (rows_in t.slots.slots) → (p : ℕ) × IsSlotOf key p t.slots
@@ -52,17 +72,11 @@ module _ {K V : Type 0} (hash : K → ℕ) where
       let held = slot-among t.slots.slots (row key has.0) has.1 in
       (held.0, (held.1, held.2, ap (λ (r : Row K V). r.key) held.3))
 
-  -- where a key's chain has no slot of it, no row is the key's
-  pub none-there : (t : Inside K V) (key : K) (link : ℕ) → IsTable hash t → get_or t.heads.items (chain_of (hash key) (length t.heads.items)) no_place ≡ link
-      → ((ps : List ℕ) → IsChain t.slots link ps → (p : ℕ) → Stands p ps → IsSlotOf key p t.slots → ⊥) → HasKey key (rows_in t.slots.slots) → ⊥
-  none-there t key link kept is none has =
+  -- where no slot has a key, no row is the key's
+  pub none-there : (t : Inside K V) (key : K) → ((p : ℕ) → IsSlotOf key p t.slots → ⊥) → HasKey key (rows_in t.slots.slots) → ⊥
+  none-there t key none has =
       let slot = has-slot t key has in
-      let b = chain_of (hash key) (length t.heads.items) in
-      let at = slot-stands t key slot.0 kept slot.1 in
-      none (kept.indexed.chains b) (subst (λ z. IsChain t.slots z (kept.indexed.chains b)) is (kept.indexed.linked b at.0)) slot.0 at.1 slot.1
-
-  pub none-empty : (t : Inside K V) (key : K) → IsTable hash t → length t.heads.items ≡ 0 → HasKey key (rows_in t.slots.slots) → ⊥
-  none-empty t key kept empty has = omega (arith, (slot-stands t key (has-slot t key has).0 kept (has-slot t key has).1).0, empty)
+      none slot.0 slot.1
 
   pub row_read : (t : Inside K V) (key : K) (p : ℕ) (slot : Slot K V) → IsSlotOf key p t.slots → get t.slots p ≡ Some slot → IsAmong (row key slot.value) (rows_in t.slots.slots)
   row_read t key p slot has read =
@@ -298,7 +312,7 @@ module _ {K V : Type 0} (hash : K → ℕ) where
       let b_is : b ≡ chain_of (hash key) (length t.heads.items) = chain ∙ ap (chain_of (hash key)) count in
       let link_is : get_or t.heads.items (chain_of (hash key) (length t.heads.items)) no_place ≡ link =
       ap (λ z. get_or t.heads.items z no_place) (sym b_is) ∙ get_or_default t.heads.items b no_place link (omega (arith, within, count)) ∙ sym read in
-      absurd (none-there t key link kept link_is none has)
+      absurd (none-there t key (no-slot t.slots t.heads.items key link kept.indexed kept.within link_is none) has)
 
   pub found-stands : (t : Inside K V) (key : K) (b link at : ℕ) → IsTable hash t → Found t key b link at → (ps : List ℕ) → IsChain t.slots link ps → Stands at ps
   found-stands t key b link at kept found ps chain =

@@ -9,7 +9,7 @@ use crate::hashed::Hashed;
 use crate::memory::NoMemory;
 use slab::Slab;
 
-/// The link behind the last slot of a chain. No slot stands there: a place is below the capacity of a slab.
+/// The place of no slot: a place is below the capacity of a slab. It is the link behind the last slot of a chain.
 pub const NO_PLACE: usize = usize::MAX;
 
 /// A row, and the place of the slot behind it on its chain. A search reads that place and the key, so they stand side by side.
@@ -44,6 +44,43 @@ pub fn find<K: Hashed, V>(slots: &Slab<Slot<K, V>>, head: usize, key: &K) -> Opt
         at = slot.next;
     }
     None
+}
+
+/// The place of a key's slot, by its hash.
+#[inline(always)]
+pub fn find_by_hash<K: Hashed, V>(
+    slots: &Slab<Slot<K, V>>,
+    heads: &[usize],
+    key: &K,
+) -> Option<usize>
+    requires indexed { IsIndexed K.hash slots.now heads.now (length heads.now) no_place }
+    requires within { length slots.now.slots ≤ no_place }
+    ensures found { IfSome result (λ p. IsSlotOf key.now p slots.now) }
+    ensures none { IfNone result ((p : ℕ) → IsSlotOf key.now p slots.now → ⊥) }
+{
+    if heads.is_empty() {
+        return None;
+    }
+    find(slots, heads[chain_of(key, heads.len())], key)
+}
+
+/// The place of a key's slot: `near`, if that is the one, or else by its hash.
+#[inline(always)]
+pub fn find_near<K: Hashed, V>(
+    slots: &Slab<Slot<K, V>>,
+    heads: &[usize],
+    near: usize,
+    key: &K,
+) -> Option<usize>
+    requires indexed { IsIndexed K.hash slots.now heads.now (length heads.now) no_place }
+    requires within { length slots.now.slots ≤ no_place }
+    ensures found { IfSome result (λ p. IsSlotOf key.now p slots.now) }
+    ensures none { IfNone result ((p : ℕ) → IsSlotOf key.now p slots.now → ⊥) }
+{
+    match slots.get(near) {
+        Some(slot) if slot.key.is(key) => Some(near),
+        _ => find_by_hash(slots, heads, key),
+    }
 }
 
 /// The place in front of `at` on the chain that begins with `head`, on which it stands. `NO_PLACE` where it is the first.

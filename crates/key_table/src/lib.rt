@@ -6,6 +6,7 @@ mod hashed;
 mod memory;
 mod table;
 
+pub use chain::NO_PLACE;
 pub use hashed::Hashed;
 pub use memory::NoMemory;
 pub use table::Table;

@@ -3,7 +3,9 @@ ghost use Rattle.std.specs.Prelude.{◌≡◌, ◌+◌, ◌-◌, ◌<◌, length
 ghost use Rattle.std.specs.Borrow.{sem};
 ghost use Rattle.key_table.specs.PlainTable.{AreApart, Changes, Gains, HasKey, IsAmong, Loses, no_rows, row};
 
-use crate::chain::{NO_PLACE, Slot, chain_of, find, place_in_front, set_next, widen};
+use crate::chain::{
+    NO_PLACE, Slot, chain_of, find, find_by_hash, find_near, place_in_front, set_next, widen,
+};
 use crate::hashed::Hashed;
 use crate::memory::NoMemory;
 use slab::Slab;
@@ -82,25 +84,34 @@ impl<K: Hashed + Drop, V> Table<K, V> {
         ensures some { IfSome result (λ v. IsAmong (row key.now v.now) self.now.rows) }
         ensures none { IfNone result (HasKey key.now self.now.rows → ⊥) }
     {
-        if self.heads.is_empty() {
-            return None;
-        }
-        let chain = chain_of(key, self.heads.len());
-        let at = find(&self.slots, self.heads[chain], key)?;
+        let at = find_by_hash(&self.slots, &self.heads, key)?;
         Some(&self.slots[at].value)
     }
 
     /// The value of a key, to write.
+    #[inline(always)]
     pub fn get_mut(&mut self, key: &K) -> Option<&mut V>
         ensures* writes_back { sem 𝓛 (lends_value K.row V.row K.Hashed self.entry key.now result) }
         ensures some { IfSome result (λ v. IsAmong (row key.now v.now) self.old.rows) }
         ensures none { IfNone result (HasKey key.now self.old.rows → ⊥) }
     {
-        if self.heads.is_empty() {
-            return None;
-        }
-        let chain = chain_of(key, self.heads.len());
-        match find(&self.slots, self.heads[chain], key) {
+        self.get_mut_near(NO_PLACE, key)
+    }
+
+    /// Where the row of a key stands just now, for `get_mut_near`. `NO_PLACE` where there is none. It holds until rows come or go.
+    #[inline(always)]
+    pub fn place(&self, key: &K) -> usize {
+        find_by_hash(&self.slots, &self.heads, key).unwrap_or(NO_PLACE)
+    }
+
+    /// The value of a key, to write. `near` is where its row stood, so that there is mostly nothing to search; it may be any number.
+    #[inline(always)]
+    pub fn get_mut_near(&mut self, near: usize, key: &K) -> Option<&mut V>
+        ensures* writes_back { sem 𝓛 (lends_value K.row V.row K.Hashed self.entry key.now result) }
+        ensures some { IfSome result (λ v. IsAmong (row key.now v.now) self.old.rows) }
+        ensures none { IfNone result (HasKey key.now self.old.rows → ⊥) }
+    {
+        match find_near(&self.slots, &self.heads, near, key) {
             Some(at) => Some(&mut self.slots[at].value),
             None => None,
         }

@@ -1,5 +1,5 @@
 //! The calls with ample memory, at concrete types.
-use crate::Table;
+use crate::{NO_PLACE, Table};
 use std::test::Fail;
 
 #[test]
@@ -29,5 +29,22 @@ fn a_value_changes_in_its_place(rt: HostRuntime) -> Result<(), Fail> {
     assert!(rt; table.get_mut(&8).is_none());
     assert_eq!(rt; table.get(&7).copied(), Some(71));
     assert_eq!(rt; table.len(), 1);
+    Ok(())
+}
+
+#[test]
+fn a_search_near_a_place_finds_the_same(rt: HostRuntime) -> Result<(), Fail> {
+    let mut table: Table<u64, u32> = Table::new(rt.alloc());
+    assert_eq!(rt; table.place(&7), NO_PLACE);
+    table.reserve(1)?;
+    table.insert(7, 70);
+    let seven = table.place(&7);
+    for near in [seven, 5, NO_PLACE] {
+        if let Some(value) = table.get_mut_near(near, &7) {
+            *value = value.wrapping_add(1);
+        }
+        assert!(rt; table.get_mut_near(near, &9).is_none());
+    }
+    assert_eq!(rt; table.get(&7).copied(), Some(73));
     Ok(())
 }

@@ -17,6 +17,7 @@ use crate::event::{FailedAt, Origin};
 use crate::holds::Holds;
 use arc_lists::Ghost;
 use blk_ptr::{Digest, Key, State};
+use key_table::NO_PLACE;
 
 // The state of an entry whose bytes have arrived.
 fn arrived_state(state: State) -> State
@@ -78,8 +79,19 @@ impl Table {
         requires counts { owed_of self.old.shard + 1 < 2 ^ 32 }
         ensures { self.new ≡ record self.old { shard = effect self.old.shard (Event.Hit n key t) } }
     {
+        self.hit_near(NO_PLACE, n, key, t);
+    }
+
+    /// A hit of `n` at tick `t`. `near` is where the entry stood, and may be any number.
+    #[inline(always)]
+    pub fn hit_near(&mut self, near: usize, n: u32, key: Key, t: u64)
+        requires legal { IsTrue (legal self.old.shard (Event.Hit n key t)) }
+        requires counts { owed_of self.old.shard + 1 < 2 ^ 32 }
+        ensures { self.new ≡ record self.old { shard = effect self.old.shard (Event.Hit n key t) } }
+    {
         let mintime = self.mintime;
-        self.place(
+        self.place_near(
+            near,
             key,
             |entry|
                 requires number { n < numbers }
@@ -108,7 +120,16 @@ impl Table {
         requires { IsTrue (legal self.old.shard (Event.Drop n key)) }
         ensures { self.new ≡ record self.old { shard = effect self.old.shard (Event.Drop n key) } }
     {
-        self.place(key, |entry| entry.one_less(n));
+        self.give_back_near(NO_PLACE, n, key);
+    }
+
+    /// `n` gives one hold back. `near` is where the entry stood, and may be any number.
+    #[inline(always)]
+    pub fn give_back_near(&mut self, near: usize, n: u32, key: Key)
+        requires { IsTrue (legal self.old.shard (Event.Drop n key)) }
+        ensures { self.new ≡ record self.old { shard = effect self.old.shard (Event.Drop n key) } }
+    {
+        self.place_near(near, key, |entry| entry.one_less(n));
     }
 
     /// `n` begins to read a key at tick `t`.

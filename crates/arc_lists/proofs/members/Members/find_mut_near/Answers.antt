@@ -3,14 +3,14 @@ use Rattle.key_table.specs.PlainTable.{HasKey}
 use Rattle.arc_lists.specs.ByKey.{item_at}
 use Rattle.arc_lists.specs.Posts.{post_key}
 use Rattle.arc_lists.proofs.Enrolled.{has-name, name, post-there, turns}
-use Rattle.arc_lists.proofs.members.Members.find_mut.Goals as goal
+use Rattle.arc_lists.proofs.members.Members.find_mut_near.Goals as goal
 
 pub unreachable-requires : goal.unreachable-requires
 unreachable-requires c =
     c.in-None.ensures.none (has-name c.self.inside.rows.rows c.args.key c.self.invariant (subst (λ m. IsSome (item_at post_key c.args.key m.posts)) (sym c.self.view_is) c.requires))
 
 pub invariant_of-self-lent : goal.invariant_of-self-lent
-invariant_of-self-lent c = λ w. (rw c.in-Some.is at (c.get_mut.follows.holds w)).apart
+invariant_of-self-lent c = λ w. (rw c.in-Some.is at (c.get_mut_near.follows.holds w)).apart
 
 pub returns : goal.returns
 returns c =
@@ -20,10 +20,10 @@ returns c =
       (
         refl,
         λ w.
-            let written = rw c.in-Some.is at (c.get_mut.follows.holds w) in
+            let written = rw c.in-Some.is at (c.get_mut_near.follows.holds w) in
             rw (← c.self.view_is, written.spare)
             (ap (λ ps. record { posts = ps; spare = c.self.inside.rows.spare })
-            (turns rows (c.get_mut.follows.lender w).rows c.args.key w c.self.invariant written.apart has written.rows)),
+            (turns rows (c.get_mut_near.follows.lender w).rows c.args.key w c.self.invariant written.apart has written.rows)),
       ),
       record { writes_back = tt; standing = rw (← c.self.view_is) (post-there rows c.args.key c.in-Some.standing.now c.self.invariant there) },
     )

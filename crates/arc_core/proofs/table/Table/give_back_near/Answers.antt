@@ -6,10 +6,10 @@ use Rattle.arc_core.specs.Edits.{placed}
 use Rattle.arc_core.specs.Sound.{IsSoundEntry}
 use Rattle.arc_core.proofs.Evictions.{found}
 use Rattle.arc_core.proofs.Legal.{drop-writes}
-use Rattle.arc_core.proofs.table.Table.give_back.Goals as goal
+use Rattle.arc_core.proofs.table.Table.give_back_near.Goals as goal
 
-pub place-requires-clause-sound : goal.place-requires-clause-sound
-place-requires-clause-sound c tidy e made item gave =
+pub place_near-requires-clause-sound : goal.place_near-requires-clause-sound
+place_near-requires-clause-sound c tidy e made item gave =
     let s = c.args.self.now.shard in
     let is : made ≡ one_less c.args.n e = search rules in
     let writes = drop-writes c.args.n c.args.key s e tidy (sym item) c.requires in
@@ -18,9 +18,9 @@ place-requires-clause-sound c tidy e made item gave =
 pub returns : goal.returns
 returns c =
     let s = c.args.self.now.shard in
-    let e = c.place.ensures.placed.0 in
-    let made = c.place.ensures.placed.1 in
-    let gave = c.place.ensures.placed.3 in
+    let e = c.place_near.ensures.placed.0 in
+    let made = c.place_near.ensures.placed.1 in
+    let gave = c.place_near.ensures.placed.3 in
     let is : made ≡ one_less c.args.n e = search rules in
-    let writes = drop-writes c.args.n c.args.key s e c.place.ensures.tidy (sym c.place.ensures.placed.2) c.requires in
-    c.place.ensures.placed.4 ∙ ap (λ (s : PlainShard). record c.args.self.now { shard = s }) (ap (λ e. placed e s) is ∙ writes.effect)
+    let writes = drop-writes c.args.n c.args.key s e c.place_near.ensures.tidy (sym c.place_near.ensures.placed.2) c.requires in
+    c.place_near.ensures.placed.4 ∙ ap (λ (s : PlainShard). record c.args.self.now { shard = s }) (ap (λ e. placed e s) is ∙ writes.effect)

@@ -12,25 +12,25 @@ use Rattle.arc_core.specs.PlainTable.{PlainTable}
 use Rattle.arc_core.specs.Sound.{IsTidy}
 use Rattle.arc_core.proofs.Tables.{has_key-members, IsTidy-same, members-placed, members-rising}
 use Rattle.arc_core.proofs.Tidy.{IsTidy-placed}
-use Rattle.arc_core.proofs.table.Table.place.Goals as goal
+use Rattle.arc_core.proofs.table.Table.place_near.Goals as goal
 
-pub change-requires-clause-takes : goal.change-requires-clause-takes
-change-requires-clause-takes g c e item =
+pub change_near-requires-clause-takes : goal.change_near-requires-clause-takes
+change_near-requires-clause-takes g c e item =
     c.requires.takes (subst (λ (u : PlainTable). IsTidy u.shard) c.self.view_is c.self.invariant.tidy) e (subst (λ t. entry_of c.args.key t.shard ≡ Some e) c.self.view_is item)
 
-pub change-requires-clause-keeps : goal.change-requires-clause-keeps
-change-requires-clause-keeps g c e made item gave =
+pub change_near-requires-clause-keeps : goal.change_near-requires-clause-keeps
+change_near-requires-clause-keeps g c e made item gave =
     (c.requires.sound (subst (λ (u : PlainTable). IsTidy u.shard) c.self.view_is c.self.invariant.tidy) e made (subst (λ t. entry_of c.args.key t.shard ≡ Some e) c.self.view_is item) gave).0
 
-pub change_state-requires-clause-there : goal.change_state-requires-clause-there
-change_state-requires-clause-there g c =
+pub change_state_near-requires-clause-there : goal.change_state_near-requires-clause-there
+change_state_near-requires-clause-there g c =
     rw c.self.invariant.members (has_key-members c.args.key c.self.inside.entries.items ∙ ap is_some c.in-Some.ensures.some.there)
 
 sized : (key : Key) → is_well_formed key ≡ true → IsBlockSize key.size
 sized key formed = search rules
 
-pub change_state-requires-clause-size : goal.change_state-requires-clause-size
-change_state-requires-clause-size g c =
+pub change_state_near-requires-clause-size : goal.change_state_near-requires-clause-size
+change_state_near-requires-clause-size g c =
     let ch = c.in-Some.ensures.some in
     let ok = c.requires.sound (subst (λ (u : PlainTable). IsTidy u.shard) c.self.view_is c.self.invariant.tidy) ch.before ch.after (subst (λ t. entry_of c.args.key t.shard ≡ Some ch.before) c.self.view_is ch.there) ch.made in
     subst (λ (k : Key). IsBlockSize k.size) ok.0 (sized ch.after.key ok.1.key)
@@ -43,9 +43,9 @@ invariant_of-self g c =
     let es = c.self.inside.entries.items in
     let ok = c.requires.sound (subst (λ (u : PlainTable). IsTidy u.shard) c.self.view_is c.self.invariant.tidy) ch.before made (subst (λ t. entry_of c.args.key t.shard ≡ Some ch.before) c.self.view_is ch.there) ch.made in
     let there : IsSome (entry_of made.key (shard_in c.self.inside)) = subst (λ k. IsSome (entry_of k (shard_in c.self.inside))) (sym ok.0) (ap is_some ch.there) in
-    let items : c.change.new.self.items ≡ with_change entry_key made.key (λ old. made) es = ch.items ∙ ap (λ k. with_change entry_key k (λ old. made) es) (sym ok.0) in
-    let lists : c.change_state.new.self ≡ put made.key made.state (is_unheld made) (take_out made.key c.self.inside.lists) =
-    c.change_state.ensures ∙ ap (λ p. put c.args.key p.0 p.1 (take_out c.args.key c.self.inside.lists)) ch.answer
+    let items : c.change_near.new.self.items ≡ with_change entry_key made.key (λ old. made) es = ch.items ∙ ap (λ k. with_change entry_key k (λ old. made) es) (sym ok.0) in
+    let lists : c.change_state_near.new.self ≡ put made.key made.state (is_unheld made) (take_out made.key c.self.inside.lists) =
+    c.change_state_near.ensures ∙ ap (λ p. put c.args.key p.0 p.1 (take_out c.args.key c.self.inside.lists)) ch.answer
     ∙ ap (λ k. put k made.state (is_unheld made) (take_out k c.self.inside.lists)) (sym ok.0) in
     let spare = ap (λ l. l.spare) lists in
     let count = length-with_change entry_key made.key (λ old. made) es in
@@ -67,9 +67,9 @@ returns-in-Some-clause-placed g c =
     let es = c.self.inside.entries.items in
     let item = subst (λ t. entry_of c.args.key t.shard ≡ Some ch.before) c.self.view_is ch.there in
     let ok = c.requires.sound (subst (λ (u : PlainTable). IsTidy u.shard) c.self.view_is c.self.invariant.tidy) ch.before made item ch.made in
-    let items : c.change.new.self.items ≡ with_change entry_key made.key (λ old. made) es = ch.items ∙ ap (λ k. with_change entry_key k (λ old. made) es) (sym ok.0) in
-    let lists : c.change_state.new.self ≡ put made.key made.state (is_unheld made) (take_out made.key c.self.inside.lists) =
-    c.change_state.ensures ∙ ap (λ p. put c.args.key p.0 p.1 (take_out c.args.key c.self.inside.lists)) ch.answer
+    let items : c.change_near.new.self.items ≡ with_change entry_key made.key (λ old. made) es = ch.items ∙ ap (λ k. with_change entry_key k (λ old. made) es) (sym ok.0) in
+    let lists : c.change_state_near.new.self ≡ put made.key made.state (is_unheld made) (take_out made.key c.self.inside.lists) =
+    c.change_state_near.ensures ∙ ap (λ p. put c.args.key p.0 p.1 (take_out c.args.key c.self.inside.lists)) ch.answer
     ∙ ap (λ k. put k made.state (is_unheld made) (take_out k c.self.inside.lists)) (sym ok.0) in
     let back : (c.self.inside.lists.spare + 1) - 1 ≡ c.self.inside.lists.spare = omega arith in
     (ch.before, made, item, ch.made, rw (← c.self.view_is, items, lists, back) refl)
