@@ -1,6 +1,6 @@
 -- Events that change what the header of their key says: a hit, and a place that is gained or lost.
 use Rattle.std.proofs.Common.{◌≡◌, if◌then◌else◌, ℕ, ◌+◌, ◌<◌, List, [], ◌∷◌, ◌++◌, length, Bool, true, false, Option, Some, None, refl, sym, ap, ◌∙◌, subst, inl, eq-eqb, arith}
-use Rattle.std.specs.Prelude.{IsTrue, ◌&&◌, not, nat_lt, IsSome, MatchOption}
+use Rattle.std.specs.Prelude.{IsTrue, ◌&&◌, not, nat_lt, IfSome, IsSome, MatchOption}
 use Rattle.std.specs.Option.{option_and_then, option_map, option_map_or}
 use Rattle.std.proofs.lemmas.Bool.Decides.{nat_tests}
 use Rattle.std.proofs.lemmas.Option.{none-some}
@@ -26,7 +26,9 @@ use Rattle.arc_core.specs.Sound.{IsSound}
 use Rattle.arc_core.specs.Step.{after, hit_entry, legal}
 use Rattle.arc_core.proofs.Accesses.{accessed-keeps}
 use Rattle.arc_core.proofs.Others.{own-entry}
-use Rattle.hash_chain.specs.Chain.{Chain, header_at}
+use Rattle.hash_chain.specs.Alike.{AreAlike}
+use Rattle.hash_chain.specs.Chain.{Chain, IsAlikeTo, header_at}
+use Rattle.hash_chain.proofs.Alike.{alike_is_of}
 use Rattle.hash_chain.specs.declared.header.Header.{Header}
 use Rattle.turn_table.specs.Places.{Place}
 use Rattle.arc_table.specs.declared.both.Both.{Both}
@@ -39,7 +41,7 @@ use Rattle.arc_table.specs.Holding.{IsListed, own}
 use Rattle.arc_table.specs.InHand.{made_since}
 use Rattle.arc_table.specs.Items.{Meanings}
 use Rattle.arc_table.specs.Making.{IsMade, IsTaken}
-use Rattle.arc_table.specs.Standing.{Follows, bytes_at, followed, is_cached_with}
+use Rattle.arc_table.specs.Standing.{Follows, bytes_at, bytes_of, followed, is_cached_with}
 use Rattle.arc_table.proofs.OneEvent.{one_made, taken_few, taken_head, taken_number, taken_sound}
 use Rattle.arc_table.proofs.Standings.{both_true}
 
@@ -140,6 +142,15 @@ cached ptr s hs here head =
       },
     )
 
+-- bytes that are alike to the block of a header, if there is one, are alike to its bytes
+alike_bytes : (bytes : List ℕ) (o : Option Header) → IsAlikeTo o bytes → IfSome (bytes_of o) (AreAlike bytes)
+alike_bytes bytes None alike = tt
+alike_bytes bytes (Some h) alike = by_block h.block (λ block. block.value) alike
+  where
+    by_block : {A : Type 0} (o : Option A) (value : A → List ℕ) → IfSome o (λ block. AreAlike bytes (value block)) → IfSome (option_map value o) (AreAlike bytes)
+    by_block None value alike = tt
+    by_block (Some block) value alike = alike
+
 -- the header of an MFU entry says after a hit what it said before
 mfu_header : (n mintime t : ℕ) (e : Entry) (h : Header) → Says e h → h.state ≡ Mfu → record h { state = (hit_entry n mintime t e).state; place = (hit_entry n mintime t e).place } ≡ h
 mfu_header n mintime t e h says mfu =
@@ -204,9 +215,10 @@ module _ {C : Type 0} (m : Meanings C) (g : Config) (ptr : Ptr) (b : Both) (q : 
         (follow_head e e' found.header f.header (entry_of ptr.key l.now) found.says (some_is found.header f.header (sym found.had ∙ f.had)) entry_now kept.key kept.reading kept.digest
         (hit_resident q.number b.shard.now.mintime t e found.resident ∙ sym found.resident))
 
-  -- a block that the header has is of the pointer
-  pub block_of_it : (bytes : List ℕ) → bytes_at ptr.key b.hand.own.bucket.headers ≡ Some bytes → IsOf bytes ptr
-  block_of_it bytes e = subst (λ (x : List ℕ). IsOf x ptr) (some_is found.bytes bytes (sym found.kept ∙ e)) found.of
+  -- a block alike to the one that the header has is of the pointer
+  pub block_of_it : (bytes : List ℕ) → IsAlikeTo (header_at ptr.key b.hand.own.bucket.headers) bytes → IsOf bytes ptr
+  block_of_it bytes alike =
+      alike_is_of bytes found.bytes ptr (subst (λ (o : Option (List ℕ)). IfSome o (AreAlike bytes)) found.kept (alike_bytes bytes (header_at ptr.key b.hand.own.bucket.headers) alike)) found.of
 
   -- the hold is listed then
   pub hit_listed : (t : ℕ) (r : Place (Known C)) → Makes m g ptr.key b.shard (Hit q.number ptr.key t ∷ []) q r → IsListed g r q.number ptr

@@ -1,12 +1,14 @@
 -- The events of holds: each is legal where the party lists the hold, is the party's own to make, and is one of which no header says anything.
 use Rattle.std.proofs.Common.{◌≡◌, ◌==◌, if◌then◌else◌, ℕ, ◌<◌, ◌≤◌, List, [], ◌∷◌, Bool, true, false, Option, Some, None, refl, sym, ap, ◌∙◌, subst, inl, inr, eq-eqb, arith}
-use Rattle.std.specs.Prelude.{IsTrue, ◌&&◌, not, nat_le, nat_lt}
+use Rattle.std.specs.Prelude.{IsTrue, ◌&&◌, length, not, nat_le, nat_lt, IfSome, MatchOption}
 use Rattle.std.specs.Option.{option_and_then, option_map, option_map_or}
 use Rattle.std.proofs.lemmas.Bool.Decides.{nat_tests}
 use lib.ListN.{get_elem?}
 use Rattle.blk_ptr.specs.declared.digest.Digest.{Digest}
 use Rattle.blk_ptr.specs.declared.key.Key.{Key}
 use Rattle.blk_ptr.specs.declared.ptr.Ptr.{Ptr}
+use Rattle.blk_ptr.specs.Ptr.{sha256_of}
+use Rattle.arc_lists.proofs.Tables.{item_at-key}
 use Rattle.arc_core.specs.declared.config.Config.{Config}
 use Rattle.arc_core.specs.Config.{IsConfig}
 use Rattle.arc_core.specs.declared.entry.Entry.{Entry}
@@ -14,12 +16,14 @@ use Rattle.arc_core.specs.declared.event.Event.{Event}
 use Rattle.arc_core.specs.declared.event.Event.TheVariants.{Drop, Hand, Release}
 use Rattle.arc_core.specs.Changes.{one_less}
 use Rattle.arc_core.specs.Changing.{handed}
-use Rattle.arc_core.specs.PlainShard.{PlainShard, entry_is, entry_of, held_by, holds_of, is_at_rest, is_cell, numbers}
+use Rattle.arc_core.specs.PlainShard.{PlainShard, entry_is, entry_key, entry_of, held_by, holds_of, is_at_rest, is_cell, is_resident, numbers}
 use Rattle.arc_core.specs.ShardLog.{ShardLog}
 use Rattle.arc_core.specs.Sound.{IsSound}
 use Rattle.arc_core.specs.Step.{after, agree, holds, legal}
 use Rattle.arc_core.proofs.Others.{own-entry}
-use Rattle.hash_chain.specs.Chain.{Chain}
+use Rattle.hash_chain.specs.Alike.{AreAlike}
+use Rattle.hash_chain.specs.Chain.{Chain, IsAlikeTo, header_at}
+use Rattle.hash_chain.specs.declared.header.Header.{Header}
 use Rattle.turn_table.specs.Board.{IsAmong}
 use Rattle.turn_table.specs.Places.{Place}
 use Rattle.arc_table.specs.declared.about.About.{About}
@@ -28,9 +32,11 @@ use Rattle.arc_table.specs.Booking.{digest_at, with_hold, without_hold}
 use Rattle.arc_table.specs.Both.{Makes, TakesBoth}
 use Rattle.arc_table.specs.Fronts.{list_at}
 use Rattle.arc_table.specs.Geometry.{IsCell, cell_number}
+use Rattle.arc_table.specs.Headed.{IsHead}
 use Rattle.arc_table.specs.Holding.{IsListed, own, cell}
 use Rattle.arc_table.specs.Items.{Meanings}
 use Rattle.arc_table.specs.ShardGiving.{ActsFor, SameHead, holds_through, listed_after}
+use Rattle.arc_table.proofs.OneEvent.{some_is}
 use Rattle.arc_table.proofs.Reached.{IsHolding, cell_recorded, held_again, reached}
 use Rattle.arc_table.proofs.ShardGives.{listed_at}
 
@@ -132,3 +138,23 @@ handed_listed {C} m g x chain before p q r n i t same valid among in_range h mad
     ∙ (ap (λ (b : Bool). if b then with_hold x.key (digest_at x.key before.now) left else left) (eq-eqb to to refl)
     ∙ ap (λ (o : Option Digest). with_hold x.key o left) (ap (option_and_then (λ (y : Entry). y.digest)) h.there ∙ h.digest)) in
     cell i refl in_range (subst (IsAmong i) (sym (held_after m g x.key chain before p q t same valid (Hand n x.key to ∷ []) r made)) among) (0, ap (λ (l : List Ptr). get_elem? l 0) list)
+
+-- ---- the block of a hold
+
+-- it is alike to the one that the key's header has
+pub held_alike : (n : ℕ) (x : Ptr) (s : PlainShard) (hs : List Header) (bytes : List ℕ) → IsHolding n x s → IsHead (entry_of x.key s) (header_at x.key hs)
+    → length bytes ≡ x.key.size → sha256_of bytes ≡ x.digest → IsAlikeTo (header_at x.key hs) bytes
+held_alike n x s hs bytes h head size digest = by_header (header_at x.key hs) (subst (λ (o : Option Entry). IsHead o (header_at x.key hs)) h.there head)
+  where
+    by_block : {A : Type 0} (o : Option A) (value : A → List ℕ)
+        → MatchOption o (is_resident h.entry ≡ false) (λ block. (is_resident h.entry ≡ true) × (h.entry.digest ≡ Some (sha256_of (value block))) × (length (value block) ≡ h.entry.key.size))
+        → IfSome o (λ block. AreAlike bytes (value block))
+    by_block None value has = tt
+    by_block (Some block) value has = record {
+      size = size ∙ sym (has.2 ∙ ap (λ (k : Key). k.size) (item_at-key entry_key x.key s.entries h.entry h.there));
+      digest = digest ∙ some_is x.digest (sha256_of (value block)) (sym h.digest ∙ has.1);
+    }
+
+    by_header : (o : Option Header) → IsHead (Some h.entry) o → IsAlikeTo o bytes
+    by_header None head = tt
+    by_header (Some header) head = by_block header.block (λ block. block.value) head.block

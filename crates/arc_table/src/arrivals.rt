@@ -22,7 +22,7 @@ use crate::headers::follow;
 use crate::hold::Hold;
 use arc_core::{Event, FailedAt, Keeps, Origin};
 use blk_ptr::{Block, Digest, Key, Ptr, State};
-use hash_chain::Header;
+use hash_chain::{Header, Kept};
 use std::sync::{Arc, Wait};
 
 // Whether bytes from there may arrive: those of the cache device only while the entry has a place there.
@@ -55,7 +55,7 @@ fn arrived_header(header: &Header, digest: Digest, block: Arc<Block>) -> Header
         reading: false,
         place: header.place,
         digest: Some(digest),
-        block: Some(block),
+        block: Some(Kept::new(block)),
     }
 }
 

@@ -57,11 +57,12 @@ impl<C: Keeps> Arcs<C> {
         ensures new { result.hand.before.value ≡ result.shard }
         ensures takes { TakesBoth (meanings C.holds C.entries C.opening C.claims C.sound) self.now.config key result.hand.own.bucket result.shard party.old party.new }
     {
+        let turn = shard_turn_of(&self.config, key);
         let own = self.take_bucket(rt, party, key);
-        self.take_shard(rt, party, key, own)
+        self.take_shard(rt, party, key, own, turn)
     }
 
-    // The same for a pointer's key, and where the bytes are cached with the pointer's digest, their header with one owner more of the block. That is seen in the bucket,
+    // The same for a pointer's key, and where the bytes are cached with the pointer's digest, their header with an owner of such a block. That is seen in the bucket,
     // before the shard is taken, so that the shard isn't kept meanwhile.
     pub(crate) fn take_ready(
         &self,
@@ -79,9 +80,10 @@ impl<C: Keeps> Arcs<C> {
         ensures here { IfSome result.1 (λ ready. is_cached_with ptr.now result.0.shard.now) }
         ensures elsewhere { IfNone result.1 (is_cached_with ptr.now result.0.shard.now → ⊥) }
     {
-        let own = self.take_bucket(rt, party, ptr.key);
-        let ready = find_ready(&own.bucket, ptr);
-        (self.take_shard(rt, party, ptr.key, own), ready)
+        let turn = shard_turn_of(&self.config, ptr.key);
+        let mut own = self.take_bucket(rt, party, ptr.key);
+        let ready = find_ready(&mut own.bucket, ptr);
+        (self.take_shard(rt, party, ptr.key, own, turn), ready)
     }
 
     // Takes the bucket of a key, and waits while another party has it.
@@ -98,10 +100,19 @@ impl<C: Keeps> Arcs<C> {
         Taken { turn, bucket }
     }
 
-    // Takes the shard of a key whose bucket the party has taken before, and waits while another party has it.
+    // Takes the shard of a key whose bucket the party has taken before, and waits while another party has it. The shard's turn comes from the caller, who finds it
+    // together with the bucket's: the key is hashed once for both.
     #[inline(always)]
-    fn take_shard(&self, rt: &impl Wait, party: &mut Party<C>, key: Key, own: Taken) -> Both
+    fn take_shard(
+        &self,
+        rt: &impl Wait,
+        party: &mut Party<C>,
+        key: Key,
+        own: Taken,
+        turn: u32,
+    ) -> Both
         requires party { IsPartyOf self.now party.old }
+        requires turn { turn ≡ shard_turn self.now.config key }
         requires free { ¬ IsAmong (shard_turn self.now.config key) party.old.held }
         requires own { own.turn ≡ bucket_turn self.now.config key }
         ensures kind { IsOf self.now.config key result }
@@ -109,7 +120,7 @@ impl<C: Keeps> Arcs<C> {
         ensures new { result.hand.before.value ≡ result.shard }
         ensures takes { Takes (meanings C.holds C.entries C.opening C.claims C.sound) (shard_turn self.now.config key) (item.Shard result.shard) party.old party.new }
     {
-        let turn = shard_turn_of(&self.config, key);
+        let _ = key;
         let shard = self.turns.take(rt, party, turn).into_shard();
         let hand = Hand {
             own,

@@ -12,6 +12,7 @@ ghost use Rattle.arc_table.specs.Trying.{AnswersDrop};
 
 use crate::arcs::{Arcs, Party};
 use crate::both::Both;
+use crate::headers::give_block;
 use crate::hold::Hold;
 use arc_core::{Event, Keeps};
 use std::sync::Wait;
@@ -36,7 +37,7 @@ impl<C: Keeps> Arcs<C> {
         ensures { Does (meanings C.holds C.entries C.opening C.claims C.sound) self.now.config hold.key (Event.Drop hold.owner hold.key ∷ []) party.old party.new }
     {
         let both = self.take_both(rt, party, hold.key);
-        self.drop_taken(party, both, &hold);
+        self.drop_taken(party, both, hold);
     }
 
     /// Gives a hold back, on the condition of `drop_hold`, where no other party has the bucket or the shard of its key.
@@ -49,7 +50,7 @@ impl<C: Keeps> Arcs<C> {
         match self.try_both(party, hold.key) {
             Take::Busy { owner } => TryDrop::Busy { owner, hold },
             Take::Taken(both) => {
-                self.drop_taken(party, both, &hold);
+                self.drop_taken(party, both, hold);
                 TryDrop::Done
             }
         }
@@ -57,13 +58,15 @@ impl<C: Keeps> Arcs<C> {
 
     // Gives one hold back on the entry whose bucket and shard the party has just taken.
     #[inline(always)]
-    fn drop_taken(&self, party: &mut Party<C>, mut both: Both, hold: &Hold)
+    fn drop_taken(&self, party: &mut Party<C>, mut both: Both, hold: Hold)
         requires party { IsPartyOf self.now party.old }
-        requires taken { IsTaken (meanings C.holds C.entries C.opening C.claims C.sound) self.now.config hold.now.key both party.old }
-        requires hold { IsHeld self.now.config party.old hold.now }
-        ensures { Makes (meanings C.holds C.entries C.opening C.claims C.sound) self.now.config hold.now.key both.shard (Event.Drop hold.now.owner hold.now.key ∷ []) party.old party.new }
+        requires taken { IsTaken (meanings C.holds C.entries C.opening C.claims C.sound) self.now.config hold.key both party.old }
+        requires hold { IsHeld self.now.config party.old hold }
+        ensures { Makes (meanings C.holds C.entries C.opening C.claims C.sound) self.now.config hold.key both.shard (Event.Drop hold.owner hold.key ∷ []) party.old party.new }
     {
-        both.shard.drop_one(hold.owner, hold.key);
-        self.give_both(party, hold.key, both);
+        let Hold { key, owner, block } = hold;
+        let near = give_block(&mut both.hand.own.bucket, &both.shard, key, block);
+        both.shard.drop_near(near, owner, key);
+        self.give_both(party, key, both);
     }
 }

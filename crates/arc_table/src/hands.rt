@@ -36,7 +36,7 @@ impl<C: Keeps> Arcs<C> {
         &self,
         rt: &impl Wait,
         party: &mut Party<C>,
-        hold: Hold,
+        mut hold: Hold,
         to: u32,
     ) -> Result<Hold, Hold>
         requires party { IsPartyOf self.now party.old }
@@ -54,11 +54,8 @@ impl<C: Keeps> Arcs<C> {
         };
         shard.hand(hold.owner, hold.key, to);
         self.give_both(party, hold.key, both);
-        Ok(Hold {
-            key: hold.key,
-            owner: to,
-            block: hold.block,
-        })
+        hold.owner = to;
+        Ok(hold)
     }
 
     /// Gives up a hold of the party's own, or of a cell in its hands, and keeps a private copy of its bytes. Where it was

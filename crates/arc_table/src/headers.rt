@@ -2,7 +2,7 @@
 ghost use Rattle.std.specs.Prelude.{◌≡◌, ◌<◌, IfOk, IfSome, IsSome, Some, is_some, length, slice_get};
 ghost use Rattle.blk_ptr.specs.declared.state.State.TheVariants as state;
 ghost use Rattle.arc_core.specs.PlainShard.{entry_of};
-ghost use Rattle.hash_chain.specs.Chain.{header_at};
+ghost use Rattle.hash_chain.specs.Chain.{IsAlikeTo, header_at};
 ghost use Rattle.hash_chain.specs.declared.header.Header.{Header};
 ghost use Rattle.arc_table.specs.Ready.{IsReady, has_block, keeps_block};
 ghost use Rattle.arc_table.specs.Standing.{Follows, bytes_at, bytes_of, followed};
@@ -19,17 +19,17 @@ pub(crate) fn block_at(bucket: &HeapBucket, at: usize) -> Result<Arc<Block>, NoM
     requires block { IsSome (bytes_of (slice_get bucket.now.headers at)) }
     ensures { IfOk result (λ block. bytes_of (slice_get bucket.now.headers at) ≡ Some block.value) }
 {
-    let Some(block) = &bucket.at(at).block else {
+    let Some(kept) = &bucket.at(at).block else {
         unreachable!()
     };
-    Ok(Arc::try_clone(block)?)
+    kept.share()
 }
 
-/// A header that has a block which a read asks for: where it stands, and one owner more of the block, or that memory was refused for it.
+/// A header that has a block which a read asks for: where it stands, and an owner of such a block with the place at which the key's entry stood last, or that memory was refused.
 #[derive(Drop)]
 pub(crate) struct Ready {
     pub(crate) at: usize,
-    pub(crate) block: Result<Arc<Block>, NoMemory>,
+    pub(crate) block: Result<(Arc<Block>, usize), NoMemory>,
 }
 
 // Whether a header has a block, of this digest.
@@ -44,9 +44,10 @@ fn keeps_block(header: &Header, digest: Digest) -> bool
 
 // The header that has a block of the pointer.
 #[inline(always)]
-pub(crate) fn find_ready(bucket: &HeapBucket, ptr: &Ptr) -> Option<Ready>
-    ensures ready { IfSome result (λ ready. IsReady ptr.now ready bucket.now.headers) }
-    ensures there { is_some result ≡ has_block ptr.now bucket.now.headers }
+pub(crate) fn find_ready(bucket: &mut HeapBucket, ptr: &Ptr) -> Option<Ready>
+    ensures bucket { bucket.new ≡ bucket.old }
+    ensures ready { IfSome result (λ ready. IsReady ptr.now ready bucket.old.headers) }
+    ensures there { is_some result ≡ has_block ptr.now bucket.old.headers }
 {
     let at = bucket.find(ptr.key)?;
     if !keeps_block(bucket.at(at), ptr.digest) {
@@ -54,8 +55,35 @@ pub(crate) fn find_ready(bucket: &HeapBucket, ptr: &Ptr) -> Option<Ready>
     }
     Some(Ready {
         at,
-        block: block_at(bucket, at),
+        block: bucket.take_block(at),
     })
+}
+
+// Where the entry of a header's key stood last, and where that isn't known, where it stands.
+fn near_of(header: &Header, shard: &Shard, key: Key) -> usize {
+    match &header.block {
+        Some(kept) if kept.near() < usize::MAX => kept.near(),
+        _ => shard.place_of(key),
+    }
+}
+
+// Gives the block of a hold back to the key's header, and answers where the key's entry may stand.
+#[inline(always)]
+pub(crate) fn give_block(
+    bucket: &mut HeapBucket,
+    shard: &Shard,
+    key: Key,
+    block: Arc<Block>,
+) -> usize
+    requires { IsAlikeTo (header_at key bucket.old.headers) block.value }
+    ensures { bucket.new ≡ bucket.old }
+{
+    let Some(at) = bucket.find(key) else {
+        return usize::MAX;
+    };
+    let near = near_of(bucket.at(at), shard, key);
+    bucket.give_block(at, block, near);
+    near
 }
 
 // One owner more of the block that the key's header has.

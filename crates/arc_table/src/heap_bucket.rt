@@ -1,12 +1,13 @@
 //! A bucket on the heap.
-ghost use Rattle.std.specs.Prelude.{◌≡◌, ◌+◌, ◌-◌, ◌<◌, [], ◌∷◌, ◌++◌, length, max, slice_get, slice_set, Some, None, IfSome, IfNone, IfOk, OnOk, OnErr};
+ghost use Rattle.std.specs.Prelude.{◌≡◌, ◌+◌, ◌-◌, ◌<◌, [], ◌∷◌, ◌++◌, length, max, slice_get, slice_set, Some, None, IfSome, IfNone, IfOk, IsSome, OnOk, OnErr};
 ghost use Rattle.hash_chain.specs.declared.header.Header.{Header};
-ghost use Rattle.hash_chain.specs.Chain.{header_at, IsWith};
+ghost use Rattle.hash_chain.specs.Chain.{IsAlikeTo, header_at, IsWith};
 
-use blk_ptr::{Key, NoMemory, State};
+use blk_ptr::{Block, Key, NoMemory, State};
 use hash_chain::{Bucket, Header};
 use std::alloc::Global;
 use std::marker::Model;
+use std::sync::Arc;
 
 /// A bucket on the heap, so that taking and giving its turn moves a pointer and not the bucket. Contracts see the bucket.
 #[derive(Drop)]
@@ -87,6 +88,25 @@ impl HeapBucket {
         ensures map { IsWith header.key (Some header) self.old.headers self.new.headers }
     {
         self.bucket.change(i, header);
+    }
+
+    // An owner of a block alike to the one that the header at `i` has, and where the key's entry stood last.
+    pub(crate) fn take_block(&mut self, i: usize) -> Result<(Arc<Block>, usize), NoMemory>
+        requires range { i < length self.old.headers }
+        requires block { IfSome (slice_get self.old.headers i) (λ h. IsSome h.block) }
+        ensures bucket { self.new ≡ self.old }
+        ensures alike { IfOk result (λ found. IsAlikeTo (slice_get self.old.headers i) found.0.value) }
+    {
+        self.bucket.take_block(i)
+    }
+
+    // Keeps a block for the next reader of the header at `i`, with where the key's entry stands.
+    pub(crate) fn give_block(&mut self, i: usize, block: Arc<Block>, near: usize)
+        requires range { i < length self.old.headers }
+        requires alike { IsAlikeTo (slice_get self.old.headers i) block.value }
+        ensures { self.new ≡ self.old }
+    {
+        self.bucket.give_block(i, block, near);
     }
 
     // The header at `i` says this state and this place from now on.

@@ -88,18 +88,18 @@ impl<C: Keeps> Arcs<C> {
         ensures answer { AnswersHit (meanings C.holds C.entries C.opening C.claims C.sound) self.now.config ptr.now tick party.old party.new result }
         ensures holder { (n : ℕ) → IsListed self.now.config party.old n ptr.now → MayAnswerHolder result }
     {
-        let both = match self.try_both(party, ptr.key) {
+        let mut both = match self.try_both(party, ptr.key) {
             Take::Busy { owner } => return TryHit::Busy { owner },
             Take::Taken(both) => both,
         };
-        let shard: &Shard = &both.shard;
-        let front = self.front_of(ptr.key, shard);
-        if let Some(ready) = find_ready(&both.hand.own.bucket, ptr) {
+        if let Some(ready) = find_ready(&mut both.hand.own.bucket, ptr) {
             return match self.hit_taken(party, both, *ptr, tick, ready) {
                 Ok(hold) => TryHit::Held(hold),
                 Err(NoMemory) => TryHit::NoMemory,
             };
         }
+        let shard: &Shard = &both.shard;
+        let front = self.front_of(ptr.key, shard);
         let found = shard.entry(ptr.key);
         match standing_of(found, *ptr) {
             Standing::Here => unreachable!(),
@@ -148,7 +148,7 @@ impl<C: Keeps> Arcs<C> {
         ensures err { OnErr result (Makes (meanings C.holds C.entries C.opening C.claims C.sound) self.now.config ptr.key both.shard [] party.old party.new) }
     {
         let Ready { at, block } = ready;
-        let Ok(block) = block else {
+        let Ok((block, near)) = block else {
             self.give_back(party, ptr.key, both);
             return Err(NoMemory);
         };
@@ -158,7 +158,7 @@ impl<C: Keeps> Arcs<C> {
             return Err(NoMemory);
         };
         let owner = party.number();
-        shard.hit(owner, ptr.key, tick);
+        shard.hit_near(near, owner, ptr.key, tick);
         follow_hit(&mut both.hand.own.bucket, shard, ptr.key, at);
         self.give_both(party, ptr.key, both);
         let Ptr { key, digest: _ } = ptr;

@@ -1,5 +1,5 @@
 //! A hold on an entry of the cache.
-ghost use Rattle.std.specs.Prelude.{◌≡◌};
+ghost use Rattle.std.specs.Prelude.{◌≡◌, length};
 
 use blk_ptr::{Block, Key};
 use std::sync::Arc;
@@ -12,6 +12,8 @@ pub struct Hold {
     pub(crate) key: Key,
     pub(crate) owner: u32,
     pub(crate) block: Arc<Block>,
+    // The block has the key's size.
+    pub ghost sized: { length block.value ≡ key.size },
 }
 
 impl Hold {

@@ -24,7 +24,7 @@ use crate::hold::Hold;
 use crate::misses::put_header;
 use arc_core::{Event, Keeps, Shard};
 use blk_ptr::{Block, Key, NoMemory, State};
-use hash_chain::Header;
+use hash_chain::{Header, Kept};
 use std::sync::{Arc, Wait};
 
 /// What `insert` gave.
@@ -61,7 +61,7 @@ fn written_header(shard: &Shard, key: Key, block: Arc<Block>) -> Header
         reading: false,
         place: entry.place,
         digest: entry.digest,
-        block: Some(block),
+        block: Some(Kept::new(block)),
     }
 }
 

@@ -1,3 +1,4 @@
+pub mod Alike
 pub mod First
 pub mod Headers
 pub mod Tags

@@ -1,16 +1,18 @@
 //! A bucket of headers, one a key.
-ghost use Rattle.std.specs.Prelude.{◌≡◌, ◌≢◌, ℕ, ◌+◌, ◌-◌, ◌<◌, ◌≤◌, [], ◌∷◌, ◌++◌, length, map, max, slice_get, slice_index, slice_set, Some, None, IfSome, IfNone, OnOk, OnErr, IsTrue};
+ghost use Rattle.std.specs.Prelude.{◌≡◌, ◌≢◌, ℕ, ◌+◌, ◌-◌, ◌<◌, ◌≤◌, [], ◌∷◌, ◌++◌, length, map, max, slice_get, slice_index, slice_set, Some, None, IfSome, IfNone, IfOk, OnOk, OnErr, IsSome, IsTrue};
 ghost use Rattle.std.specs.List.{position};
 ghost use Rattle.hash_chain.specs.declared.header.Header.{Header};
-ghost use Rattle.hash_chain.specs.Chain.{header_at, IsWith};
+ghost use Rattle.hash_chain.specs.Alike.{AreAlike};
+ghost use Rattle.hash_chain.specs.Chain.{header_at, IsAlikeTo, IsWith};
 ghost use Rattle.hash_chain.specs.Kept.{is_key, tag_of_key};
 
 use crate::header::Header;
-use blk_ptr::{Key, NoMemory, State, hash_of};
+use blk_ptr::{Block, Key, NoMemory, State, hash_of};
 use std::alloc::Global;
 use std::marker::Model;
 use std::mem;
 use std::simd::prelude::*;
+use std::sync::Arc;
 
 // How many tags are compared at a time.
 const LANES: usize = 16;
@@ -127,6 +129,32 @@ fn restate(header: &mut Header, state: State, place: Option<u64>)
 {
     header.state = state;
     header.place = place;
+}
+
+// Takes an owner out of a header that has a block, with the hint where its entry stood.
+#[inline]
+fn take_from(header: &mut Header) -> Result<(Arc<Block>, usize), NoMemory>
+    requires { IsSome header.old.block }
+    ensures same { header.new ≡ header.old }
+    ensures block { IfOk result (λ taken. IfSome header.old.block (λ b. AreAlike taken.0.value b.value)) }
+{
+    let Some(kept) = &mut header.block else {
+        unreachable!()
+    };
+    let near = kept.near();
+    Ok((kept.take()?, near))
+}
+
+// Gives an owner back to a header, with a hint where its entry stands. Where the header has no block, the owner goes.
+#[inline]
+fn give_to(header: &mut Header, block: Arc<Block>, near: usize)
+    requires { IfSome header.old.block (λ b. AreAlike block.value b.value) }
+    ensures { header.new ≡ header.old }
+{
+    if let Some(kept) = &mut header.block {
+        kept.give(block);
+        kept.set_near(near);
+    }
 }
 
 impl Bucket {
@@ -255,6 +283,38 @@ impl Bucket {
             restate(&mut self.more[i - 1], state, place);
         } else if let Some(first) = &mut self.first {
             restate(first, state, place);
+        }
+    }
+
+    /// An owner of the block that the header at `i` keeps, or of a block alike to it, and near which place its entry stood when that was last said. Where the header has a spare owner, no
+    /// count is changed.
+    #[inline]
+    pub fn take_block(&mut self, i: usize) -> Result<(Arc<Block>, usize), NoMemory>
+        requires range { i < length self.old.headers }
+        requires block { IfSome (slice_get self.old.headers i) (λ h. IsSome h.block) }
+        ensures same { self.new ≡ self.old }
+        ensures block { IfOk result (λ taken. IsAlikeTo (slice_get self.old.headers i) taken.0.value) }
+    {
+        if i > 0 {
+            return take_from(&mut self.more[i - 1]);
+        }
+        let Some(first) = &mut self.first else {
+            unreachable!()
+        };
+        take_from(first)
+    }
+
+    /// Gives an owner back to the header at `i`, which keeps it for the next reader if it has a block and no spare owner, and says near which place its entry stands.
+    #[inline]
+    pub fn give_block(&mut self, i: usize, block: Arc<Block>, near: usize)
+        requires range { i < length self.old.headers }
+        requires block { IsAlikeTo (slice_get self.old.headers i) block.value }
+        ensures { self.new ≡ self.old }
+    {
+        if i > 0 {
+            give_to(&mut self.more[i - 1], block, near);
+        } else if let Some(first) = &mut self.first {
+            give_to(first, block, near);
         }
     }
 }

@@ -3,9 +3,11 @@
 
 mod bucket;
 mod header;
+mod kept;
 
 pub use bucket::Bucket;
 pub use header::Header;
+pub use kept::Kept;
 
 #[cfg(test)]
 mod tests;

@@ -1,7 +1,7 @@
 // Each call once, with ample memory.
 ghost use Rattle.std.specs.Prelude.{◌≡◌};
 
-use crate::{Bucket, Header};
+use crate::{Bucket, Header, Kept};
 use blk_ptr::{Block, Key, NoMemory, State};
 use std::sync::Arc;
 use std::test::Fail;
@@ -16,7 +16,7 @@ fn key(offset: u64) -> Key
     }
 }
 
-fn header(offset: u64, block: Option<Arc<Block>>) -> Header
+fn header(offset: u64, block: Option<Kept>) -> Header
     ensures { result.key ≡ record { offset = offset; size = 512; birth = 1 } }
 {
     Header {
@@ -60,6 +60,17 @@ fn move_to(bucket: &mut Bucket, key: Key, state: State) {
     }
 }
 
+// Takes the block that the key's header keeps and gives it back, at an entry that stands near `near`. Answers near which place it stood before.
+fn lend(bucket: &mut Bucket, key: Key, near: usize) -> Option<usize> {
+    let at = bucket.find(key)?;
+    if bucket.at(at).block.is_none() {
+        return None;
+    }
+    let (block, before) = bucket.take_block(at).ok()?;
+    bucket.give_block(at, block, near);
+    Some(before)
+}
+
 // The header that the key has.
 fn header_of(bucket: &Bucket, offset: u64) -> Option<&Header> {
     let at = bucket.find(key(offset))?;
@@ -78,7 +89,7 @@ fn headers_are_found_by_their_keys(rt: HostRuntime) -> Result<(), Fail> {
     let first = bucket.find(key(0)).ok_or("the first key")?;
     let gone = bucket.remove(first);
     assert!(rt; gone.key == key(0) && bucket.find(key(0)).is_none());
-    replace(&mut bucket, header(1024, Some(block)));
+    replace(&mut bucket, header(1024, Some(Kept::new(block))));
     assert!(rt; header_of(&bucket, 1024).is_some_and(|h| h.block.is_some()));
     assert!(rt; header_of(&bucket, 512).is_some_and(|h| h.block.is_none()));
     move_to(&mut bucket, key(1024), State::Mfu);
@@ -101,5 +112,24 @@ fn one_of_many_headers_is_found(rt: HostRuntime) -> Result<(), Fail> {
     let gone = bucket.remove(place);
     assert!(rt; gone.key == key(10_240) && bucket.find(key(10_240)).is_none());
     assert!(rt; header_of(&bucket, 25_088).is_some_and(|h| h.key == key(25_088)));
+    Ok(())
+}
+
+#[test]
+fn a_block_given_back_is_taken_again(rt: HostRuntime) -> Result<(), Fail> {
+    let mut bucket = Bucket::new(rt.alloc());
+    let bytes = vec![in rt.alloc(); 0u8; 512]?;
+    let block = Arc::new(rt.alloc(), Block::seal(bytes))?;
+    let kept = Kept::new(Arc::try_clone(&block)?);
+    put(&mut bucket, header(0, None)).ok().ok_or("memory")?;
+    put(&mut bucket, header(512, Some(kept)))
+        .ok()
+        .ok_or("memory")?;
+    assert!(rt; lend(&mut bucket, key(0), 3).is_none());
+    assert!(rt; lend(&mut bucket, key(512), 3) == Some(usize::MAX));
+    // The test itself has one owner, and the header the block and the spare.
+    assert!(rt; Arc::strong_count(&block) == 3);
+    assert!(rt; lend(&mut bucket, key(512), 5) == Some(3));
+    assert!(rt; Arc::strong_count(&block) == 3);
     Ok(())
 }

@@ -1,4 +1,5 @@
-use Rattle.std.proofs.Common.{◌≡◌, ℕ, [], ◌∷◌, ◌++◌, refl, sym, ap, ◌∙◌, subst, inr}
+use Rattle.std.proofs.Math.Nat.{ℕ_set}
+use Rattle.std.proofs.Common.{◌≡◌, ℕ, length, [], ◌∷◌, ◌++◌, refl, sym, ap, ◌∙◌, subst, inr}
 use Rattle.std.specs.Prelude.{IsTrue, true}
 use Rattle.arc_core.specs.declared.event.Event.TheVariants.{Hand}
 use Rattle.arc_core.specs.PlainShard.{PlainShard, is_cell}
@@ -70,7 +71,7 @@ returns g c =
     (c.hand.ensures.makes.history ∙ ap (λ (l : ShardLog). l.history ++ Hand h.owner h.key c.args.to ∷ []) c.reserve.ensures.log) c.give_both.ensures in
     let i = c.requires.cell.0 in (
       record { chain = b.result.hand.own.bucket; before = s; reached = q; takes = takes; makes = makes },
-      refl,
+      (λ z. record { key = h.key; owner = c.args.to; block = h.block; sized = ℕ_set (length h.block.value) h.key.size c.result-1.given.0 h.sized z }),
       subst (λ (n : ℕ). IsListed config c.give_both.new.party n (ptr_of h)) (sym c.requires.cell.1)
           (handed_listed m config (ptr_of h) b.result.hand.own.bucket s c.args.party.now q c.give_both.new.party h.owner i takes c.requires.party.config b.ensures.kind.valid c.requires.cell.3 c.requires.cell.2 holding
           (subst (λ (n : ℕ). Makes m config h.key s (Hand h.owner h.key n ∷ []) q c.give_both.new.party) c.requires.cell.1 makes)),

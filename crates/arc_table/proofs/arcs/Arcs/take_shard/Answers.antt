@@ -17,14 +17,14 @@ into_shard-shard-requires g c =
     let same = ap (λ (x : Cache). x.config) c.self.view_is in
     let t = c.take.ensures in
     let p = c.args.party.now in
-    let config = ap (λ (x : About). x.config) (loses_about m c.shard_turn_of-turn.result t.0 p (saw p t.1) t.2) ∙ c.requires.party.config in
-    shard_there m (saw p t.1) c.shard_turn_of-turn.result c.take.result t.3
-    (subst (λ (x : Config). IsShard x c.shard_turn_of-turn.result) (same ∙ sym config) (subst (IsShard c.self.inside.config) (sym c.shard_turn_of-turn.ensures) (shard_range c.self.inside.config c.args.key c.self.invariant.valid)))
+    let config = ap (λ (x : About). x.config) (loses_about m c.args.turn t.0 p (saw p t.1) t.2) ∙ c.requires.party.config in
+    shard_there m (saw p t.1) c.args.turn c.take.result t.3
+    (subst (λ (x : Config). IsShard x c.args.turn) (same ∙ sym config) (subst (IsShard c.self.inside.config) (sym (c.requires.turn ∙ sym (ap (λ (x : Config). shard_turn x c.args.key) same))) (shard_range c.self.inside.config c.args.key c.self.invariant.valid)))
 
 pub returns-clause-takes : goal.returns-clause-takes
 returns-clause-takes g c =
     let m = meanings g.C.Keeps.holds g.C.Keeps.entries g.C.Keeps.opening g.C.Keeps.claims g.C.Keeps.sound in
     let same = ap (λ (x : Cache). x.config) c.self.view_is in
     let t = c.take.ensures in
-    let shard : c.shard_turn_of-turn.result ≡ shard_turn c.args.self.now.config c.args.key = c.shard_turn_of-turn.ensures ∙ ap (λ (x : Config). shard_turn x c.args.key) same in
+    let shard : c.args.turn ≡ shard_turn c.args.self.now.config c.args.key = c.requires.turn in
     subst (λ (x : ℕ × Item g.row.C.Denot). Takes m x.0 x.1 c.args.party.now c.take.new.party) (λ z. (shard z, c.into_shard-shard.ensures z)) record { owners = t.0; knew = t.1; lost = t.2; free = t.3; took = t.4 }
