@@ -138,13 +138,13 @@ arrived_resident k d s e sound there reading = and_true _ _ (arrived_cached e e.
 
 -- a header that has the block says what the entry does once its bytes have arrived
 pub arrived_says : (k : Key) (d : Digest) (e x : Entry) (o : Header) → x ≡ arrived d e → e.key ≡ k → is_resident (arrived d e) ≡ true
-    → (o.state ≡ x.state) × (o.reading ≡ false) × (o.place ≡ x.place) × (o.digest ≡ x.digest) × MatchOption o.block ⊥ (λ c. (sha256_of c.value ≡ d) × (length c.value ≡ k.size)) → Says x o
+    → (o.state ≡ x.state) × (o.reading ≡ false) × (o.place ≡ x.place) × (o.digest ≡ x.digest) × MatchOption o.block ⊥ (λ c. (sha256_of c.block.value ≡ d) × (length c.block.value ≡ k.size)) → Says x o
 arrived_says k d e x o is key resident h = record {
   state = h.0;
   reading = h.1 ∙ ap (λ (z : Entry). z.reading) (sym is);
   place = h.2;
   digest = h.3;
-  block = (elim o.block as (λ c. MatchOption c ⊥ (λ b. (sha256_of b.value ≡ d) × (length b.value ≡ k.size)) → MatchOption c (is_resident x ≡ false) (λ b. (is_resident x ≡ true) × (x.digest ≡ Some (sha256_of b.value)) × (length b.value ≡ x.key.size))) [
+  block = (elim o.block as (λ c. MatchOption c ⊥ (λ b. (sha256_of b.block.value ≡ d) × (length b.block.value ≡ k.size)) → MatchOption c (is_resident x ≡ false) (λ b. (is_resident x ≡ true) × (x.digest ≡ Some (sha256_of b.block.value)) × (length b.block.value ≡ x.key.size))) [
     | None ↦ λ f. absurd f
     | Some c ↦ λ f. (
       ap is_resident is ∙ resident,
@@ -189,7 +189,7 @@ module _ {C : Type 0} (m : Meanings C) (g : Config) (k : Key) (b : Both) (q : Pl
 
     -- the bytes arrive, and the key has this header
     pub arrive_made : (given : Chain) (o : Header) → l.history ≡ b.shard.history ++ Arrive q.number k d from ∷ [] → l.opening ≡ b.shard.opening → IsWith k (Some o) b.hand.own.bucket.headers given.headers
-        → (x : Entry) → entry_of k l.now ≡ Some x → (o.state ≡ x.state) × (o.reading ≡ false) × (o.place ≡ x.place) × (o.digest ≡ x.digest) × MatchOption o.block ⊥ (λ c. (sha256_of c.value ≡ d) × (length c.value ≡ k.size))
+        → (x : Entry) → entry_of k l.now ≡ Some x → (o.state ≡ x.state) × (o.reading ≡ false) × (o.place ≡ x.place) × (o.digest ≡ x.digest) × MatchOption o.block ⊥ (λ c. (sha256_of c.block.value ≡ d) × (length c.block.value ≡ k.size))
         → IsMade m g k (made_since b.hand.before.value l) record { hand = record b.hand { own = record b.hand.own { bucket = given } }; turn = b.turn; shard = l } q
     arrive_made given o history opening with x there is =
         let e = taken_read.entry in

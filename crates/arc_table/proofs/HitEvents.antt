@@ -27,7 +27,7 @@ use Rattle.arc_core.specs.Step.{after, hit_entry, legal}
 use Rattle.arc_core.proofs.Accesses.{accessed-keeps}
 use Rattle.arc_core.proofs.Others.{own-entry}
 use Rattle.hash_chain.specs.Alike.{AreAlike}
-use Rattle.hash_chain.specs.Chain.{Chain, IsAlikeTo, header_at}
+use Rattle.hash_chain.specs.Chain.{Chain, IsAlikeTo, IsWith, header_at, lent}
 use Rattle.hash_chain.proofs.Alike.{alike_is_of}
 use Rattle.hash_chain.specs.declared.header.Header.{Header}
 use Rattle.turn_table.specs.Places.{Place}
@@ -42,6 +42,7 @@ use Rattle.arc_table.specs.InHand.{made_since}
 use Rattle.arc_table.specs.Items.{Meanings}
 use Rattle.arc_table.specs.Making.{IsMade, IsTaken}
 use Rattle.arc_table.specs.Standing.{Follows, bytes_at, bytes_of, followed, is_cached_with}
+use Rattle.arc_table.proofs.KeptHeads.{own_with, says_lent, with_again}
 use Rattle.arc_table.proofs.OneEvent.{one_made, taken_few, taken_head, taken_number, taken_sound}
 use Rattle.arc_table.proofs.Standings.{both_true}
 
@@ -74,7 +75,7 @@ says_changed e e' h says key reading digest resident = record {
   reading = says.reading ∙ sym reading;
   place = refl;
   digest = says.digest ∙ sym digest;
-  block = let P : Bool × Option Digest × Key → Type 0 = λ x. MatchOption h.block (x.0 ≡ false) (λ block. (x.0 ≡ true) × (x.1 ≡ Some (sha256_of block.value)) × (length block.value ≡ x.2.size)) in
+  block = let P : Bool × Option Digest × Key → Type 0 = λ x. MatchOption h.block (x.0 ≡ false) (λ kept. (x.0 ≡ true) × (x.1 ≡ Some (sha256_of kept.block.value)) × (length kept.block.value ≡ x.2.size)) in
       subst P (λ z. (sym resident z, sym digest z, sym key z)) says.block;
 }
 
@@ -116,7 +117,7 @@ cached ptr s hs here head =
     let two = both_true (is_resident p.entry) (keeps_digest ptr.digest p.entry) p.passes in
     let d = kept_is p.entry.digest ptr.digest two.1 in
     let h = head_there (entry_of ptr.key s) (header_at ptr.key hs) p.entry head p.there in
-    let b = block_there p.entry h.0.block (λ x. x.value) two.0 d (item_at-key entry_key ptr.key s.entries p.entry p.there) h.2.block in record {
+    let b = block_there p.entry h.0.block (λ kept. kept.block.value) two.0 d (item_at-key entry_key ptr.key s.entries p.entry p.there) h.2.block in record {
       entry = p.entry;
       there = p.there;
       resident = two.0;
@@ -125,7 +126,7 @@ cached ptr s hs here head =
       had = h.1;
       says = h.2;
       bytes = b.0;
-      kept = ap (λ (o : Option Header). option_map (λ x. x.value) (option_and_then (λ (y : Header). y.block) o)) h.1 ∙ b.1;
+      kept = ap (λ (o : Option Header). option_map (λ kept. kept.block.value) (option_and_then (λ (y : Header). y.block) o)) h.1 ∙ b.1;
       of = b.2;
     }
   where
@@ -145,7 +146,7 @@ cached ptr s hs here head =
 -- bytes that are alike to the block of a header, if there is one, are alike to its bytes
 alike_bytes : (bytes : List ℕ) (o : Option Header) → IsAlikeTo o bytes → IfSome (bytes_of o) (AreAlike bytes)
 alike_bytes bytes None alike = tt
-alike_bytes bytes (Some h) alike = by_block h.block (λ block. block.value) alike
+alike_bytes bytes (Some h) alike = by_block h.block (λ kept. kept.block.value) alike
   where
     by_block : {A : Type 0} (o : Option A) (value : A → List ℕ) → IfSome o (λ block. AreAlike bytes (value block)) → IfSome (option_map value o) (AreAlike bytes)
     by_block None value alike = tt
@@ -196,23 +197,25 @@ module _ {C : Type 0} (m : Meanings C) (g : Config) (ptr : Ptr) (b : Both) (q : 
     pub entry_now : entry_of ptr.key l.now ≡ Some (hit_entry q.number b.shard.now.mintime t found.entry)
     entry_now = ap (entry_of ptr.key) now ∙ entry_hit q.number t ptr.key b.shard.now found.entry (taken_sound m g ptr.key b q taken same valid) few found.there found.resident
 
-    pub mfu_says : (h : Header) → header_at ptr.key b.hand.own.bucket.headers ≡ Some h → h.state ≡ Mfu → followed h (entry_of ptr.key l.now) ≡ Some h
-    mfu_says h had mfu =
-        let is = some_is found.header h (sym found.had ∙ had) in
-        ap (followed h) entry_now ∙ ap Some (mfu_header q.number b.shard.now.mintime t found.entry h (subst (λ (x : Header). Says found.entry x) is found.says) mfu)
+    -- the header has lent its spare owner
+    pub mfu_says : (h : Header) → h ≡ lent found.header → h.state ≡ Mfu → followed h (entry_of ptr.key l.now) ≡ Some h
+    mfu_says h is mfu = ap (followed h) entry_now ∙ ap Some (mfu_header q.number b.shard.now.mintime t found.entry h (subst (Says found.entry) (sym is) (says_lent found.entry found.header found.says)) mfu)
 
-    pub hit_made : (given : Chain) → l.history ≡ b.shard.history ++ Hit q.number ptr.key t ∷ [] → l.opening ≡ b.shard.opening
-        → Follows ptr.key l.now b.hand.own.bucket.headers given.headers
+    pub hit_made : (between given : Chain) → l.history ≡ b.shard.history ++ Hit q.number ptr.key t ∷ [] → l.opening ≡ b.shard.opening
+        → IsWith ptr.key (Some (lent found.header)) b.hand.own.bucket.headers between.headers → Follows ptr.key l.now between.headers given.headers
         → IsMade m g ptr.key (made_since b.hand.before.value l) record { hand = record b.hand { own = record b.hand.own { bucket = given } }; turn = b.turn; shard = l } q
-    hit_made given history opening f =
+    hit_made between given history opening with f =
         let e = found.entry in
         let e' = hit_entry q.number b.shard.now.mintime t e in
         let kept = accessed-keeps e.state b.shard.now.mintime t e in
+        let o = followed f.header (entry_of ptr.key l.now) in
+        let had : lent found.header ≡ f.header = some_is (lent found.header) f.header (sym (own_with ptr.key (Some (lent found.header)) b.hand.own.bucket.headers between.headers with) ∙ f.had) in
         one_made m g ptr.key b q taken same valid (Hit q.number ptr.key t) record { hand = record b.hand { own = record b.hand.own { bucket = given } }; turn = b.turn; shard = l }
-        (followed f.header (entry_of ptr.key l.now)) refl refl (refl, refl) refl refl
+        o refl refl (refl, refl) refl refl
         (hit_legal q.number t ptr.key b.shard.now e few found.there found.resident) now history opening
-        record { acts = inl refl; fit = tt; feeder = λ x. absurd (cc); own = λ k x. ap (shard_turn g) (some_is ptr.key k x) } f.with
-        (follow_head e e' found.header f.header (entry_of ptr.key l.now) found.says (some_is found.header f.header (sym found.had ∙ f.had)) entry_now kept.key kept.reading kept.digest
+        record { acts = inl refl; fit = tt; feeder = λ x. absurd (cc); own = λ k x. ap (shard_turn g) (some_is ptr.key k x) }
+        (with_again ptr.key (Some (lent found.header)) o b.hand.own.bucket.headers between.headers given.headers with f.with)
+        (follow_head e e' (lent found.header) f.header (entry_of ptr.key l.now) (says_lent e found.header found.says) had entry_now kept.key kept.reading kept.digest
         (hit_resident q.number b.shard.now.mintime t e found.resident ∙ sym found.resident))
 
   -- a block alike to the one that the header has is of the pointer

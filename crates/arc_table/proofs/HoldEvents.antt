@@ -157,4 +157,4 @@ held_alike n x s hs bytes h head size digest = by_header (header_at x.key hs) (s
 
     by_header : (o : Option Header) → IsHead (Some h.entry) o → IsAlikeTo o bytes
     by_header None head = tt
-    by_header (Some header) head = by_block header.block (λ block. block.value) head.block
+    by_header (Some header) head = by_block header.block (λ kept. kept.block.value) head.block

@@ -45,7 +45,7 @@ there_some {o} {x} e = subst (λ (z : Option Entry). IsSome z) (sym e) refl
 pub insert_made : {C : Type 0} (m : Meanings C) (g : Config) (k : Key) (b : Both) (q q' : Place (Known C)) (n tick : ℕ) (d : Digest) (s s' : Scan) (h : HasScanned m g b (Insert n k d tick) q q' s) → b.turn ≡ shard_turn g k → b.hand.own.turn ≡ bucket_turn g k
     → IsCellInHand g q n → makes_one (Insert n k d tick) s.both.shard s'.both.shard → s'.both.turn ≡ s.both.turn → s'.both.hand.own.turn ≡ s.both.hand.own.turn → s'.both.hand.victims ≡ s.both.hand.victims
     → s'.both.hand.before ≡ s.both.hand.before → s'.marked ≡ s.marked → (x : Entry) → entry_of k s'.both.shard.now ≡ Some x → (o : Header)
-    → (o.state ≡ x.state) × (o.reading ≡ false) × (o.place ≡ x.place) × (o.digest ≡ x.digest) × MatchOption o.block ⊥ (λ c. (sha256_of c.value ≡ d) × (length c.value ≡ k.size))
+    → (o.state ≡ x.state) × (o.reading ≡ false) × (o.place ≡ x.place) × (o.digest ≡ x.digest) × MatchOption o.block ⊥ (λ c. (sha256_of c.block.value ≡ d) × (length c.block.value ≡ k.size))
     → IsWith k (Some o) s.both.hand.own.bucket.headers s'.both.hand.own.bucket.headers → HasMade m g (Insert n k d tick) h.passes q q' s.both.shard s.both.hand.own.bucket s'
 insert_made {C} m g k b q q' n tick d s s' h kind own cell makes turn first victims before marked x there o is with =
     let e : Event = Insert n k d tick in
@@ -62,13 +62,13 @@ insert_made {C} m g k b q q' n tick d s s' h kind own cell makes turn first vict
     one_entry x y r = cc
 
     says : (o : Header) (y : Entry) → y ≡ written_entry n k d tick → o.state ≡ y.state → o.reading ≡ false → o.place ≡ y.place → o.digest ≡ y.digest
-        → MatchOption o.block ⊥ (λ c. (sha256_of c.value ≡ d) × (length c.value ≡ k.size)) → Says y o
+        → MatchOption o.block ⊥ (λ c. (sha256_of c.block.value ≡ d) × (length c.block.value ≡ k.size)) → Says y o
     says o y is state reading place digest block = record {
       state = state;
       reading = reading ∙ ap (λ (z : Entry). z.reading) (sym is);
       place = place;
       digest = digest;
-      block = (elim o.block as (λ c. MatchOption c ⊥ (λ b. (sha256_of b.value ≡ d) × (length b.value ≡ k.size)) → MatchOption c (is_resident y ≡ false) (λ b. (is_resident y ≡ true) × (y.digest ≡ Some (sha256_of b.value)) × (length b.value ≡ y.key.size))) [
+      block = (elim o.block as (λ c. MatchOption c ⊥ (λ b. (sha256_of b.block.value ≡ d) × (length b.block.value ≡ k.size)) → MatchOption c (is_resident y ≡ false) (λ b. (is_resident y ≡ true) × (y.digest ≡ Some (sha256_of b.block.value)) × (length b.block.value ≡ y.key.size))) [
         | None ↦ λ h. absurd h
         | Some c ↦ λ h. (ap is_resident is, ap (λ (z : Entry). z.digest) is ∙ ap (λ (z : Digest). let v : Option Digest = Some z in v) (sym h.0), h.1 ∙ ap (λ (z : Entry). z.key.size) (sym is))
       ]) block;

@@ -14,10 +14,6 @@ use Rattle.arc_table.specs.Both.{TakesBoth}
 use Rattle.arc_table.specs.Items.{Meanings}
 use Rattle.arc_table.specs.Making.{IsTaken}
 
--- the same in hand, with this bucket
-abbrev pub with_bucket : Both → Chain → Both
-with_bucket b chain = record { hand = record b.hand { own = record b.hand.own { bucket = chain } }; turn = b.turn; shard = b.shard }
-
 -- the same in hand, with this shard
 abbrev pub lent : Both → ShardLog → Both
 lent b l = record { hand = b.hand; turn = b.turn; shard = l }
@@ -42,6 +38,3 @@ module _ {C : Type 0} (m : Meanings C) where
     from = taken.from;
     takes = lent_takes g k b.hand.own.bucket b.shard l taken.from q same taken.takes;
   }
-
-  pub lent_bucket : (g : Config) (k : Key) (b : Both) (q : Place (Known C)) (chain : Chain) → chain ≡ b.hand.own.bucket → IsTaken m g k b q → IsTaken m g k (with_bucket b chain) q
-  lent_bucket g k b q chain same taken = subst (λ (x : Chain). IsTaken m g k (with_bucket b x) q) (sym same) taken

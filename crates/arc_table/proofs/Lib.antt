@@ -27,6 +27,7 @@ pub mod Taking
 pub mod Lent
 pub mod Standings
 pub mod ReadyBlocks
+pub mod KeptHeads
 pub mod HitEvents
 pub mod FollowEvents
 pub mod FeedEvents

@@ -19,7 +19,7 @@ pub block_cached : (ptr : Ptr) (s : PlainShard) (hs : List Header) → IsHead (e
 block_cached ptr s hs head = by_head (entry_of ptr.key s) (header_at ptr.key hs) head
   where
     has_one : (e : Entry) (h : Header) → HasBlock e h → is_some h.block ≡ is_resident e
-    has_one e h has = by_block h.block (λ block. e.digest ≡ Some (sha256_of block.value)) (λ block. length block.value ≡ e.key.size) has
+    has_one e h has = by_block h.block (λ kept. e.digest ≡ Some (sha256_of kept.block.value)) (λ kept. length kept.block.value ≡ e.key.size) has
       where
         by_block : {A : Type 0} (o : Option A) (kept sized : A → Type 0) → MatchOption o (is_resident e ≡ false) (λ block. (is_resident e ≡ true) × kept block × sized block) → is_some o ≡ is_resident e
         by_block None kept sized none = sym none

@@ -114,7 +114,7 @@ alike_resident e e' a = λ k. is_resident record e' { state = a.state k; reading
 
 alike_block : (e e' : Entry) (h : Header) → AreAlike e e' → HasBlock e h → HasBlock e' h
 alike_block e e' h a has =
-    let P : Bool × Option Digest × Key → Type 0 = λ x. MatchOption h.block (x.0 ≡ false) (λ block. (x.0 ≡ true) × (x.1 ≡ Some (sha256_of block.value)) × (length block.value ≡ x.2.size)) in
+    let P : Bool × Option Digest × Key → Type 0 = λ x. MatchOption h.block (x.0 ≡ false) (λ kept. (x.0 ≡ true) × (x.1 ≡ Some (sha256_of kept.block.value)) × (length kept.block.value ≡ x.2.size)) in
     subst P (λ k. (sym (alike_resident e e' a) k, sym a.digest k, sym a.key k)) has
 
 pub head_alike : (o o' : Option Entry) (h : Option Header) → SameHead o o' → IsHead o h → IsHead o' h

@@ -14,7 +14,7 @@ use Rattle.arc_table.specs.Scene.{Scene}
 abbrev pub HasBlock : Entry → Header → Type 0
 HasBlock e h = MatchOption h.block
     (is_resident e ≡ false)
-    (λ block. (is_resident e ≡ true) × (e.digest ≡ Some (sha256_of block.value)) × (length block.value ≡ e.key.size))
+    (λ kept. (is_resident e ≡ true) × (e.digest ≡ Some (sha256_of kept.block.value)) × (length kept.block.value ≡ e.key.size))
 
 -- a header says what its entry does
 pub record Says (e : Entry) (h : Header) : Type 0 where

@@ -24,11 +24,11 @@ StandsSo ptr s (standing.Here) = is_cached_with ptr s
 
 -- the bytes that a header has, if there is one
 abbrev pub bytes_of : Option Header → Option (List ℕ)
-bytes_of o = option_map (λ block. block.value) (option_and_then (λ h. h.block) o)
+bytes_of o = option_map (λ kept. kept.block.value) (option_and_then (λ h. h.block) o)
 
 -- the bytes that the key's header has
 abbrev pub bytes_at : Key → List Header → Option (List ℕ)
-bytes_at k hs = option_map (λ block. block.value) (option_and_then (λ h. h.block) (header_at k hs))
+bytes_at k hs = option_map (λ kept. kept.block.value) (option_and_then (λ h. h.block) (header_at k hs))
 
 -- the header brought up to its entry: it says the entry's state and place, and goes where the entry is gone
 abbrev pub followed : Header → Option Entry → Option Header

@@ -7,6 +7,7 @@ ghost use Rattle.arc_core.specs.PlainShard.{entry_is};
 ghost use Rattle.arc_core.specs.Rules.{arrived_state};
 ghost use Rattle.arc_core.specs.Step.{may_come_from};
 ghost use Rattle.hash_chain.specs.Chain.{header_at};
+ghost use Rattle.hash_chain.specs.Keeping.{kept};
 ghost use Rattle.arc_table.specs.Arriving.{FindsCleared, IsReading};
 ghost use Rattle.arc_table.specs.Both.{Does, Makes};
 ghost use Rattle.arc_table.specs.Cache.{IsPartyOf};
@@ -47,7 +48,7 @@ fn arrived_state(state: State) -> State
 
 // What a header says of an entry whose bytes have arrived, where it said this while they were being read.
 fn arrived_header(header: &Header, digest: Digest, block: Arc<Block>) -> Header
-    ensures { result ≡ record { key = header.now.key; state = arrived_state header.now.state; reading = false; place = header.now.place; digest = Some digest; block = Some block } }
+    ensures { result ≡ record { key = header.now.key; state = arrived_state header.now.state; reading = false; place = header.now.place; digest = Some digest; block = Some (kept block) } }
 {
     Header {
         key: header.key,

@@ -20,7 +20,7 @@ ghost use Rattle.turn_table.specs.Taken.{IfBusy, IfTaken};
 use crate::arcs::{Arcs, Party};
 use crate::gives;
 use crate::hand::{Hand, Taken};
-use crate::headers::{Ready, find_ready};
+use crate::headers::find_ready;
 use crate::heap_shard::HeapShard;
 use crate::item::Item;
 use crate::looks::bucket_turn_of;
@@ -62,27 +62,27 @@ impl<C: Keeps> Arcs<C> {
         self.take_shard(rt, party, key, own, turn)
     }
 
-    // The same for a pointer's key, and where the bytes are cached with the pointer's digest, their header with an owner of such a block. That is seen in the bucket,
-    // before the shard is taken, so that the shard isn't kept meanwhile.
+    // The same for a pointer's key, and where the bytes are cached with the pointer's digest, where their header stands. That is seen in the bucket, before the shard is
+    // taken, so that the shard isn't kept meanwhile.
     pub(crate) fn take_ready(
         &self,
         rt: &impl Wait,
         party: &mut Party<C>,
         ptr: &Ptr,
-    ) -> (Both, Option<Ready>)
+    ) -> (Both, Option<usize>)
         requires party { IsPartyOf self.now party.old }
         requires look { HasNoLook self.now party.old }
         ensures party { IsPartyOf self.now party.new }
         ensures kind { IsOf self.now.config ptr.now.key result.0 }
         ensures new { result.0.hand.before.value ≡ result.0.shard }
         ensures takes { TakesBoth (meanings C.holds C.entries C.opening C.claims C.sound) self.now.config ptr.now.key result.0.hand.own.bucket result.0.shard party.old party.new }
-        ensures ready { IfSome result.1 (λ ready. IsReady ptr.now ready result.0.hand.own.bucket.headers) }
-        ensures here { IfSome result.1 (λ ready. is_cached_with ptr.now result.0.shard.now) }
+        ensures ready { IfSome result.1 (λ at. IsReady ptr.now at result.0.hand.own.bucket.headers) }
+        ensures here { IfSome result.1 (λ at. is_cached_with ptr.now result.0.shard.now) }
         ensures elsewhere { IfNone result.1 (is_cached_with ptr.now result.0.shard.now → ⊥) }
     {
         let turn = shard_turn_of(&self.config, ptr.key);
-        let mut own = self.take_bucket(rt, party, ptr.key);
-        let ready = find_ready(&mut own.bucket, ptr);
+        let own = self.take_bucket(rt, party, ptr.key);
+        let ready = find_ready(&own.bucket, ptr);
         (self.take_shard(rt, party, ptr.key, own, turn), ready)
     }
 

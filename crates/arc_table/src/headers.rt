@@ -1,10 +1,10 @@
 //! The header of a key in its bucket, read and brought up to its entry.
-ghost use Rattle.std.specs.Prelude.{◌≡◌, ◌<◌, IfOk, IfSome, IsSome, Some, is_some, length, slice_get};
+ghost use Rattle.std.specs.Prelude.{◌≡◌, ◌-◌, ◌<◌, ◌^◌, IfOk, IfSome, IsSome, Some, is_some, length, slice_get};
 ghost use Rattle.blk_ptr.specs.declared.state.State.TheVariants as state;
 ghost use Rattle.arc_core.specs.PlainShard.{entry_of};
-ghost use Rattle.hash_chain.specs.Chain.{IsAlikeTo, header_at};
+ghost use Rattle.hash_chain.specs.Chain.{IsAlikeTo, IsWith, given, header_at};
 ghost use Rattle.hash_chain.specs.declared.header.Header.{Header};
-ghost use Rattle.arc_table.specs.Ready.{IsReady, has_block, keeps_block};
+ghost use Rattle.arc_table.specs.Ready.{IsReady, has_block, keeps_block, said_near};
 ghost use Rattle.arc_table.specs.Standing.{Follows, bytes_at, bytes_of, followed};
 
 use crate::heap_bucket::HeapBucket;
@@ -25,13 +25,6 @@ pub(crate) fn block_at(bucket: &HeapBucket, at: usize) -> Result<Arc<Block>, NoM
     kept.share()
 }
 
-/// A header that has a block which a read asks for: where it stands, and an owner of such a block with the place at which the key's entry stood last, or that memory was refused.
-#[derive(Drop)]
-pub(crate) struct Ready {
-    pub(crate) at: usize,
-    pub(crate) block: Result<(Arc<Block>, usize), NoMemory>,
-}
-
 // Whether a header has a block, of this digest.
 fn keeps_block(header: &Header, digest: Digest) -> bool
     ensures { result ≡ keeps_block digest header.now }
@@ -42,32 +35,42 @@ fn keeps_block(header: &Header, digest: Digest) -> bool
     }
 }
 
-// The header that has a block of the pointer.
+// Where the header stands that has a block of the pointer.
 #[inline(always)]
-pub(crate) fn find_ready(bucket: &mut HeapBucket, ptr: &Ptr) -> Option<Ready>
-    ensures bucket { bucket.new ≡ bucket.old }
-    ensures ready { IfSome result (λ ready. IsReady ptr.now ready bucket.old.headers) }
-    ensures there { is_some result ≡ has_block ptr.now bucket.old.headers }
+pub(crate) fn find_ready(bucket: &HeapBucket, ptr: &Ptr) -> Option<usize>
+    ensures ready { IfSome result (λ at. IsReady ptr.now at bucket.now.headers) }
+    ensures there { is_some result ≡ has_block ptr.now bucket.now.headers }
 {
     let at = bucket.find(ptr.key)?;
     if !keeps_block(bucket.at(at), ptr.digest) {
         return None;
     }
-    Some(Ready {
-        at,
-        block: bucket.take_block(at),
-    })
+    Some(at)
 }
 
-// Where the entry of a header's key stood last, and where that isn't known, where it stands.
-fn near_of(header: &Header, shard: &Shard, key: Key) -> usize {
+// Near which place of its shard the entry of a header's key stood when that was last said, or `usize::MAX`.
+#[inline]
+pub(crate) fn near_of(header: &Header) -> usize
+    ensures { result ≡ said_near header.now }
+{
     match &header.block {
-        Some(kept) if kept.near() < usize::MAX => kept.near(),
-        _ => shard.place_of(key),
+        Some(kept) => kept.near(),
+        None => usize::MAX,
     }
 }
 
-// Gives the block of a hold back to the key's header, and answers where the key's entry may stand.
+// The same, where it was said, and else where the entry stands.
+fn place_near(header: &Header, shard: &Shard, key: Key) -> usize
+    ensures { said_near header.now < 2 ^ 64 - 1 → result ≡ said_near header.now }
+{
+    let near = near_of(header);
+    if near < usize::MAX {
+        return near;
+    }
+    shard.place_of(key)
+}
+
+// Gives the block of a hold back to the key's header, and answers near which place the key's entry stands.
 #[inline(always)]
 pub(crate) fn give_block(
     bucket: &mut HeapBucket,
@@ -76,12 +79,13 @@ pub(crate) fn give_block(
     block: Arc<Block>,
 ) -> usize
     requires { IsAlikeTo (header_at key bucket.old.headers) block.value }
-    ensures { bucket.new ≡ bucket.old }
+    ensures given { (h : Header) → header_at key bucket.old.headers ≡ Some h → IsWith key (Some (given block result h)) bucket.old.headers bucket.new.headers }
+    ensures near { (h : Header) → header_at key bucket.old.headers ≡ Some h → said_near h < 2 ^ 64 - 1 → result ≡ said_near h }
 {
     let Some(at) = bucket.find(key) else {
         return usize::MAX;
     };
-    let near = near_of(bucket.at(at), shard, key);
+    let near = place_near(bucket.at(at), shard, key);
     bucket.give_block(at, block, near);
     near
 }

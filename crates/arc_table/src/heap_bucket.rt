@@ -1,7 +1,7 @@
 //! A bucket on the heap.
 ghost use Rattle.std.specs.Prelude.{◌≡◌, ◌+◌, ◌-◌, ◌<◌, [], ◌∷◌, ◌++◌, length, max, slice_get, slice_set, Some, None, IfSome, IfNone, IfOk, IsSome, OnOk, OnErr};
 ghost use Rattle.hash_chain.specs.declared.header.Header.{Header};
-ghost use Rattle.hash_chain.specs.Chain.{IsAlikeTo, header_at, IsWith};
+ghost use Rattle.hash_chain.specs.Chain.{IsAlikeTo, IsWith, bytes_lent, given, header_at, lent};
 
 use blk_ptr::{Block, Key, NoMemory, State};
 use hash_chain::{Bucket, Header};
@@ -90,23 +90,27 @@ impl HeapBucket {
         self.bucket.change(i, header);
     }
 
-    // An owner of a block alike to the one that the header at `i` has, and where the key's entry stood last.
-    pub(crate) fn take_block(&mut self, i: usize) -> Result<(Arc<Block>, usize), NoMemory>
+    // An owner of the block that the header at `i` keeps, or of a block alike to it: the spare one, if there is one.
+    pub(crate) fn take_block(&mut self, i: usize) -> Result<Arc<Block>, NoMemory>
         requires range { i < length self.old.headers }
         requires block { IfSome (slice_get self.old.headers i) (λ h. IsSome h.block) }
-        ensures bucket { self.new ≡ self.old }
-        ensures alike { IfOk result (λ found. IsAlikeTo (slice_get self.old.headers i) found.0.value) }
+        ensures ok { OnOk result ((h : Header) → slice_get self.old.headers i ≡ Some h → self.new ≡ record self.old { headers = slice_set self.old.headers i (lent h) }) }
+        ensures map { OnOk result ((h : Header) → slice_get self.old.headers i ≡ Some h → IsWith h.key (Some (lent h)) self.old.headers self.new.headers) }
+        ensures err { OnErr result (self.new ≡ self.old) }
+        ensures owner { IfOk result (λ owner. (h : Header) → slice_get self.old.headers i ≡ Some h → bytes_lent h ≡ Some owner.value) }
+        ensures alike { IfOk result (λ owner. IsAlikeTo (slice_get self.old.headers i) owner.value) }
     {
         self.bucket.take_block(i)
     }
 
-    // Keeps a block for the next reader of the header at `i`, with where the key's entry stands.
-    pub(crate) fn give_block(&mut self, i: usize, block: Arc<Block>, near: usize)
+    // Gives an owner back to the header at `i`, and says near which place of its shard the key's entry stands.
+    pub(crate) fn give_block(&mut self, i: usize, owner: Arc<Block>, near: usize)
         requires range { i < length self.old.headers }
-        requires alike { IsAlikeTo (slice_get self.old.headers i) block.value }
-        ensures { self.new ≡ self.old }
+        requires alike { IsAlikeTo (slice_get self.old.headers i) owner.value }
+        ensures headers { (h : Header) → slice_get self.old.headers i ≡ Some h → self.new ≡ record self.old { headers = slice_set self.old.headers i (given owner near h) } }
+        ensures map { (h : Header) → slice_get self.old.headers i ≡ Some h → IsWith h.key (Some (given owner near h)) self.old.headers self.new.headers }
     {
-        self.bucket.give_block(i, block, near);
+        self.bucket.give_block(i, owner, near);
     }
 
     // The header at `i` says this state and this place from now on.

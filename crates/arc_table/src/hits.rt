@@ -18,7 +18,7 @@ ghost use Rattle.arc_table.specs.Trying.{AnswersHit, MayAnswerHolder};
 use crate::arcs::{Arcs, Party};
 use crate::both::Both;
 use crate::front::Front;
-use crate::headers::{Ready, find_ready, follow_hit};
+use crate::headers::{find_ready, follow_hit, near_of};
 use crate::hold::Hold;
 use crate::spare::is_cached;
 use arc_core::{EntryView, Event, Keeps, Shard};
@@ -88,12 +88,12 @@ impl<C: Keeps> Arcs<C> {
         ensures answer { AnswersHit (meanings C.holds C.entries C.opening C.claims C.sound) self.now.config ptr.now tick party.old party.new result }
         ensures holder { (n : ℕ) → IsListed self.now.config party.old n ptr.now → MayAnswerHolder result }
     {
-        let mut both = match self.try_both(party, ptr.key) {
+        let both = match self.try_both(party, ptr.key) {
             Take::Busy { owner } => return TryHit::Busy { owner },
             Take::Taken(both) => both,
         };
-        if let Some(ready) = find_ready(&mut both.hand.own.bucket, ptr) {
-            return match self.hit_taken(party, both, *ptr, tick, ready) {
+        if let Some(at) = find_ready(&both.hand.own.bucket, ptr) {
+            return match self.hit_taken(party, both, *ptr, tick, at) {
                 Ok(hold) => TryHit::Held(hold),
                 Err(NoMemory) => TryHit::NoMemory,
             };
@@ -129,7 +129,7 @@ impl<C: Keeps> Arcs<C> {
         }
     }
 
-    // Takes a hold on the entry whose bucket and shard the party has just taken, and whose header is ready, and gives both back. After want of memory there is no event.
+    // Takes a hold on the entry whose bucket and shard the party has just taken, and whose header stands at `at` and has a block, and gives both back. After want of memory there is no event.
     #[inline(always)]
     pub(crate) fn hit_taken(
         &self,
@@ -137,24 +137,24 @@ impl<C: Keeps> Arcs<C> {
         mut both: Both,
         ptr: Ptr,
         tick: u64,
-        ready: Ready,
+        at: usize,
     ) -> Result<Hold, NoMemory>
         requires party { IsPartyOf self.now party.old }
         requires taken { IsTaken (meanings C.holds C.entries C.opening C.claims C.sound) self.now.config ptr.key both party.old }
         requires here { is_cached_with ptr both.shard.now }
-        requires ready { IsReady ptr ready both.hand.own.bucket.headers }
+        requires ready { IsReady ptr at both.hand.own.bucket.headers }
         ensures ok { IfOk result (λ hold. Makes (meanings C.holds C.entries C.opening C.claims C.sound) self.now.config ptr.key both.shard (Event.Hit party.old.number ptr.key tick ∷ []) party.old party.new) }
         ensures hold { IfOk result (λ hold. IsHoldOf ptr party.old.number hold × IsHeld self.now.config party.new hold) }
         ensures err { OnErr result (Makes (meanings C.holds C.entries C.opening C.claims C.sound) self.now.config ptr.key both.shard [] party.old party.new) }
     {
-        let Ready { at, block } = ready;
-        let Ok((block, near)) = block else {
-            self.give_back(party, ptr.key, both);
-            return Err(NoMemory);
-        };
         let shard = &mut *both.shard;
         let Ok(()) = shard.reserve(2, 0) else {
             self.give_back(party, ptr.key, both);
+            return Err(NoMemory);
+        };
+        let near = near_of(both.hand.own.bucket.at(at));
+        let Ok(block) = both.hand.own.bucket.take_block(at) else {
+            self.give_both(party, ptr.key, both);
             return Err(NoMemory);
         };
         let owner = party.number();

@@ -7,6 +7,7 @@ ghost use Rattle.arc_core.specs.declared.event.Event.{Event};
 ghost use Rattle.arc_core.specs.PlainShard.{entry_of};
 ghost use Rattle.arc_core.specs.Step.{is_new_here};
 ghost use Rattle.turn_table.specs.Board.{IsAmong};
+ghost use Rattle.hash_chain.specs.Keeping.{kept};
 ghost use Rattle.arc_table.specs.Both.{Does, Makes};
 ghost use Rattle.arc_table.specs.Cache.{IsPartyOf};
 ghost use Rattle.arc_table.specs.Ending.{MakesRoomy};
@@ -50,7 +51,7 @@ fn is_new_here(shard: &Shard, key: Key) -> bool
 fn written_header(shard: &Shard, key: Key, block: Arc<Block>) -> Header
     requires { IsSome (entry_of key shard.now.now) }
     ensures { (e : Entry) × (entry_of key shard.now.now ≡ Some e)
-        × (result ≡ record { key = key; state = e.state; reading = false; place = e.place; digest = e.digest; block = Some block }) }
+        × (result ≡ record { key = key; state = e.state; reading = false; place = e.place; digest = e.digest; block = Some (kept block) }) }
 {
     let Some(entry) = shard.entry(key) else {
         unreachable!()

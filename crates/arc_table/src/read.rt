@@ -165,8 +165,8 @@ impl<C: Keeps> Arcs<C> {
         ensures cache { KeepsDevice D.CacheDev cache.old cache.new }
     {
         let (both, ready) = self.take_ready(rt, party, &ptr);
-        if let Some(ready) = ready {
-            return match self.hit_taken(party, both, ptr, tick, ready) {
+        if let Some(at) = ready {
+            return match self.hit_taken(party, both, ptr, tick, at) {
                 Ok(hold) => Round::Answered(Ok(Read::Held(hold, Served::Hit))),
                 Err(NoMemory) => Round::Answered(Err(ReadFault::NoMemory)),
             };

@@ -7,9 +7,9 @@ use Rattle.blk_ptr.specs.declared.key.Key.{Key}
 use Rattle.blk_ptr.specs.Order.{key_eq}
 use Rattle.blk_ptr.proofs.Keys.{key_eq-is}
 use Rattle.hash_chain.specs.declared.header.Header.{Header}
-use Rattle.hash_chain.specs.Chain.{header_at, IsWith}
+use Rattle.hash_chain.specs.Chain.{Chain, header_at, IsWith}
 use Rattle.hash_chain.specs.Kept.{all_of, is_key, keys_of, tag_of_key, AreOnce}
-use Rattle.hash_chain.proofs.Headers.{cases, some_none, true_false, here, there, found, changed, left_of, finds, get_value, map_add, without_last}
+use Rattle.hash_chain.proofs.Headers.{cases, some_none, true_false, here, there, found, changed, left_of, finds, get_value, map_add, some_is, without_last}
 
 -- a place of the whole list is one of the others, one further
 get_cons : (f : Header) (hs : List Header) (i : ℕ) → 0 < i → slice_get (f ∷ hs) i ≡ slice_get hs (i - 1)
@@ -157,3 +157,23 @@ finds_after f hs ks k (Some i) is e other =
     let next : slice_get hs i ≡ slice_get (f ∷ hs) (i + 1) = let one : i ≡ i + 1 - 1 = omega arith in ap (slice_get hs) one ∙ sym (get_cons f hs (i + 1) (omega arith)) in
     ((omega (arith, r.0.0), there k f hs (sym other) ∙ (r.0.1 ∙ next)), subst (λ (o : Option Header). IfSome o (λ h. h.key ≡ k)) next r.1, tt)
 finds_after f hs ks k None is e other = let r = finds hs ks k None is e in (tt, tt, there k f hs (sym other) ∙ r.2)
+
+-- The header m at a place that is not the first becomes n, of the same key: what the bucket is then
+module _ (o : Option Header) (hs : List Header) (i : ℕ) (m n : Header) (once : AreOnce (all_of o hs)) (none : IfNone o (hs ≡ [])) (after : 0 < i) (below : i < length (all_of o hs)) (is : m ≡ get_or hs (i - 1) m) (same : n.key ≡ m.key) where
+  pub became : ChangedAfter o hs (set hs (i - 1) n) n
+  became = changed_after o hs i n once none after below (keeps_key (slice_get (all_of o hs) i) m n (at_after o hs i m none after below is) same)
+
+  module _ (spare : ℕ) (to : Header → Header) (made : n ≡ to m) (b : Chain) (view : record { headers = all_of o hs; spare = spare } ≡ b) (h : Header) (at : slice_get b.headers i ≡ Some h) where
+    at_it : m ≡ h
+    at_it = some_is m h (sym (at_after o hs i m none after below is) ∙ subst (λ (c : Chain). slice_get c.headers i ≡ Some h) (sym view) at)
+
+    it : n ≡ to h
+    it = made ∙ ap to at_it
+
+    pub became_headers : record { headers = all_of o (set hs (i - 1) n); spare = spare } ≡ record b { headers = set b.headers i (to h) }
+    became_headers = subst (λ (c : Chain). ◌≡◌ {A = Chain} (record { headers = all_of o (set hs (i - 1) n); spare = spare }) (record c { headers = set c.headers i (to h) })) view
+        (ap (λ (l : List Header). record { headers = l; spare = spare }) (sym (set_after o hs i n none after below) ∙ ap (set (all_of o hs) i) it))
+
+    pub became_map : IsWith h.key (Some (to h)) b.headers (all_of o (set hs (i - 1) n))
+    became_map = subst (λ (c : Chain). IsWith h.key (Some (to h)) c.headers (all_of o (set hs (i - 1) n))) view
+        (subst (λ (z : Key × Header). IsWith z.0 (Some z.1) (all_of o hs) (all_of o (set hs (i - 1) n))) (λ z. ((same ∙ ap (λ (x : Header). x.key) at_it) z, it z)) became.map)

@@ -3,7 +3,7 @@ ghost use Rattle.std.specs.Prelude.{◌≡◌, ◌≢◌, ℕ, ◌+◌, ◌-◌,
 ghost use Rattle.std.specs.List.{position};
 ghost use Rattle.hash_chain.specs.declared.header.Header.{Header};
 ghost use Rattle.hash_chain.specs.Alike.{AreAlike};
-ghost use Rattle.hash_chain.specs.Chain.{header_at, IsAlikeTo, IsWith};
+ghost use Rattle.hash_chain.specs.Chain.{header_at, bytes_lent, given, lent, IsAlikeTo, IsWith};
 ghost use Rattle.hash_chain.specs.Kept.{is_key, tag_of_key};
 
 use crate::header::Header;
@@ -131,29 +131,29 @@ fn restate(header: &mut Header, state: State, place: Option<u64>)
     header.place = place;
 }
 
-// Takes an owner out of a header that has a block, with the hint where its entry stood.
+// Takes an owner out of a header that has a block.
 #[inline]
-fn take_from(header: &mut Header) -> Result<(Arc<Block>, usize), NoMemory>
+fn take_from(header: &mut Header) -> Result<Arc<Block>, NoMemory>
     requires { IsSome header.old.block }
-    ensures same { header.new ≡ header.old }
-    ensures block { IfOk result (λ taken. IfSome header.old.block (λ b. AreAlike taken.0.value b.value)) }
+    ensures ok { OnOk result (header.new ≡ lent header.old) }
+    ensures err { OnErr result (header.new ≡ header.old) }
+    ensures owner { IfOk result (λ owner. bytes_lent header.old ≡ Some owner.value) }
+    ensures alike { IfOk result (λ owner. IfSome header.old.block (λ kept. AreAlike owner.value kept.block.value)) }
 {
     let Some(kept) = &mut header.block else {
         unreachable!()
     };
-    let near = kept.near();
-    Ok((kept.take()?, near))
+    kept.take()
 }
 
-// Gives an owner back to a header, with a hint where its entry stands. Where the header has no block, the owner goes.
+// Gives an owner back to a header, with near which place its entry stands. Where the header has no block, the owner goes.
 #[inline]
-fn give_to(header: &mut Header, block: Arc<Block>, near: usize)
-    requires { IfSome header.old.block (λ b. AreAlike block.value b.value) }
-    ensures { header.new ≡ header.old }
+fn give_to(header: &mut Header, owner: Arc<Block>, near: usize)
+    requires { IfSome header.old.block (λ kept. AreAlike owner.value kept.block.value) }
+    ensures { header.new ≡ given owner near header.old }
 {
     if let Some(kept) = &mut header.block {
-        kept.give(block);
-        kept.set_near(near);
+        kept.give(owner, near);
     }
 }
 
@@ -286,14 +286,16 @@ impl Bucket {
         }
     }
 
-    /// An owner of the block that the header at `i` keeps, or of a block alike to it, and near which place its entry stood when that was last said. Where the header has a spare owner, no
-    /// count is changed.
+    /// An owner of the block that the header at `i` keeps, or of a block alike to it: the spare one, if there is one, and then no count is changed. Err is where the count is full.
     #[inline]
-    pub fn take_block(&mut self, i: usize) -> Result<(Arc<Block>, usize), NoMemory>
+    pub fn take_block(&mut self, i: usize) -> Result<Arc<Block>, NoMemory>
         requires range { i < length self.old.headers }
         requires block { IfSome (slice_get self.old.headers i) (λ h. IsSome h.block) }
-        ensures same { self.new ≡ self.old }
-        ensures block { IfOk result (λ taken. IsAlikeTo (slice_get self.old.headers i) taken.0.value) }
+        ensures ok { OnOk result ((h : Header) → slice_get self.old.headers i ≡ Some h → self.new ≡ record self.old { headers = slice_set self.old.headers i (lent h) }) }
+        ensures map { OnOk result ((h : Header) → slice_get self.old.headers i ≡ Some h → IsWith h.key (Some (lent h)) self.old.headers self.new.headers) }
+        ensures err { OnErr result (self.new ≡ self.old) }
+        ensures owner { IfOk result (λ owner. (h : Header) → slice_get self.old.headers i ≡ Some h → bytes_lent h ≡ Some owner.value) }
+        ensures alike { IfOk result (λ owner. IsAlikeTo (slice_get self.old.headers i) owner.value) }
     {
         if i > 0 {
             return take_from(&mut self.more[i - 1]);
@@ -304,17 +306,18 @@ impl Bucket {
         take_from(first)
     }
 
-    /// Gives an owner back to the header at `i`, which keeps it for the next reader if it has a block and no spare owner, and says near which place its entry stands.
+    /// Gives an owner back to the header at `i`, which keeps it for the next reader if it has a block and no spare owner, and says near which place of its shard the key's entry stands.
     #[inline]
-    pub fn give_block(&mut self, i: usize, block: Arc<Block>, near: usize)
+    pub fn give_block(&mut self, i: usize, owner: Arc<Block>, near: usize)
         requires range { i < length self.old.headers }
-        requires block { IsAlikeTo (slice_get self.old.headers i) block.value }
-        ensures { self.new ≡ self.old }
+        requires alike { IsAlikeTo (slice_get self.old.headers i) owner.value }
+        ensures headers { (h : Header) → slice_get self.old.headers i ≡ Some h → self.new ≡ record self.old { headers = slice_set self.old.headers i (given owner near h) } }
+        ensures map { (h : Header) → slice_get self.old.headers i ≡ Some h → IsWith h.key (Some (given owner near h)) self.old.headers self.new.headers }
     {
         if i > 0 {
-            give_to(&mut self.more[i - 1], block, near);
+            give_to(&mut self.more[i - 1], owner, near);
         } else if let Some(first) = &mut self.first {
-            give_to(first, block, near);
+            give_to(first, owner, near);
         }
     }
 }

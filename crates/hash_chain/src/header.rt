@@ -7,7 +7,7 @@ use blk_ptr::{Digest, Key, State};
 pub struct Header {
     /// The key.
     pub key: Key,
-    /// The bytes, where they are cached, and what was given back of them. Contracts see the block.
+    /// The bytes, where they are cached, with what the last reader gave back.
     pub block: Option<Kept>,
     /// Where the entry stands.
     pub state: State,

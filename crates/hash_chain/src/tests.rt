@@ -63,11 +63,9 @@ fn move_to(bucket: &mut Bucket, key: Key, state: State) {
 // Takes the block that the key's header keeps and gives it back, at an entry that stands near `near`. Answers near which place it stood before.
 fn lend(bucket: &mut Bucket, key: Key, near: usize) -> Option<usize> {
     let at = bucket.find(key)?;
-    if bucket.at(at).block.is_none() {
-        return None;
-    }
-    let (block, before) = bucket.take_block(at).ok()?;
-    bucket.give_block(at, block, near);
+    let before = bucket.at(at).block.as_ref()?.near();
+    let owner = bucket.take_block(at).ok()?;
+    bucket.give_block(at, owner, near);
     Some(before)
 }
 

@@ -58,8 +58,8 @@ give_both-requires-clause-made g c =
     let with : IsWith k (Some o) b.hand.own.bucket.headers c.change.new.self.headers = subst (λ (y : Key). IsWith y (Some o) b.hand.own.bucket.headers c.change.new.self.headers) key c.change.ensures.map in
     let of = c.requires.of in
     let shared = c.requires.shared in
-    let block : MatchOption o.block ⊥ (λ d. (sha256_of d.value ≡ ptr.digest) × (length d.value ≡ k.size)) =
-    subst (λ (y : Header). MatchOption y.block ⊥ (λ d. (sha256_of d.value ≡ ptr.digest) × (length d.value ≡ k.size))) (sym is) (ap sha256_of shared ∙ of.digest, ap length shared ∙ of.size) in
+    let block : MatchOption o.block ⊥ (λ d. (sha256_of d.block.value ≡ ptr.digest) × (length d.block.value ≡ k.size)) =
+    subst (λ (y : Header). MatchOption y.block ⊥ (λ d. (sha256_of d.block.value ≡ ptr.digest) × (length d.block.value ≡ k.size))) (sym is) (ap sha256_of shared ∙ of.digest, ap length shared ∙ of.size) in
     arrive_made m config k b c.args.party.now taken c.requires.party.config valid c.requires.reading ptr.digest from comes c.arrive.new.self now c.change.new.self o history made.opening
     with (arrived ptr.digest e.entry) there
     (ap (λ (y : Header). y.state) is ∙ ap arrived_state says.state, ap (λ (y : Header). y.reading) is, ap (λ (y : Header). y.place) is ∙ says.place, ap (λ (y : Header). y.digest) is, block)

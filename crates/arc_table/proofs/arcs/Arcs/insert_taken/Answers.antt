@@ -79,8 +79,8 @@ end_scan-requires-clause-made g c =
     let key : o.key ≡ c.args.key = ap (λ (y : Header). y.key) x.2 in
     let with : IsWith c.args.key (Some o) s.both.hand.own.bucket.headers c.put_header.new.bucket.headers = subst (λ (y : Key). IsWith y (Some o) s.both.hand.own.bucket.headers c.put_header.new.bucket.headers) key c.put_header.ensures in
     let digest_is : sha256_of c.args.block.value ≡ c.digest-digest.result = ap sha256_of (sym c.deref.ensures) ∙ sym c.digest-digest.ensures in
-    let block : MatchOption o.block ⊥ (λ b. (sha256_of b.value ≡ c.digest-digest.result) × (length b.value ≡ c.args.key.size)) =
-    subst (λ (y : Header). MatchOption y.block ⊥ (λ b. (sha256_of b.value ≡ c.digest-digest.result) × (length b.value ≡ c.args.key.size))) (sym x.2) (digest_is, c.requires.size) in (
+    let block : MatchOption o.block ⊥ (λ b. (sha256_of b.block.value ≡ c.digest-digest.result) × (length b.block.value ≡ c.args.key.size)) =
+    subst (λ (y : Header). MatchOption y.block ⊥ (λ b. (sha256_of b.block.value ≡ c.digest-digest.result) × (length b.block.value ≡ c.args.key.size))) (sym x.2) (digest_is, c.requires.size) in (
       Insert c.args.n c.args.key c.digest-digest.result c.args.tick,
       h.passes,
       c.args.party.now,

@@ -1,6 +1,6 @@
-use Rattle.std.proofs.Common.{refl, ap, ◌∙◌, subst}
+use Rattle.std.proofs.Common.{refl, subst}
 use Rattle.arc_core.specs.PlainShard.{entry_of}
-use Rattle.hash_chain.specs.Chain.{Chain, header_at}
+use Rattle.hash_chain.specs.Chain.{header_at}
 use Rattle.arc_table.specs.declared.hand.Taken.{Taken}
 use Rattle.arc_table.specs.declared.item.Item.TheVariants as item
 use Rattle.arc_table.specs.Geometry.{bucket_turn}
@@ -29,7 +29,7 @@ returns-clause-takes g c =
     let m = meanings g.C.Keeps.holds g.C.Keeps.entries g.C.Keeps.opening g.C.Keeps.claims g.C.Keeps.sound in
     let b = c.take_bucket-own in
     let s = c.take_shard in
-    let own = s.ensures.own ∙ ap (λ (x : Chain). record { turn = b.result.turn; bucket = x }) c.find_ready-ready.ensures.bucket in
+    let own = s.ensures.own in
     both_taken m c.args.self.now.config c.args.ptr.now.key b.result s.result c.args.party.now b.new.party s.new.party own b.ensures.takes s.ensures.takes
 
 pub returns-clause-party : goal.returns-clause-party
@@ -44,7 +44,7 @@ returns-clause-here g c =
     let ptr = c.args.ptr.now in
     let b = c.take_bucket-own in
     let s = c.take_shard in
-    let own = s.ensures.own ∙ ap (λ (x : Chain). record { turn = b.result.turn; bucket = x }) c.find_ready-ready.ensures.bucket in
+    let own = s.ensures.own in
     let head = heads m c.args.self.now.config ptr.key s.result.hand.own.bucket s.result.shard c.args.party.now s.new.party (returns-clause-takes g c) c.requires.party.config b.ensures.valid ptr.key refl in
     found_cached ptr s.result.shard.now b.result.bucket.headers c.find_ready-ready.result
     (subst (λ (x : Taken). IsHead (entry_of ptr.key s.result.shard.now) (header_at ptr.key x.bucket.headers)) own head) c.find_ready-ready.ensures.there
@@ -55,7 +55,7 @@ returns-clause-elsewhere g c =
     let ptr = c.args.ptr.now in
     let b = c.take_bucket-own in
     let s = c.take_shard in
-    let own = s.ensures.own ∙ ap (λ (x : Chain). record { turn = b.result.turn; bucket = x }) c.find_ready-ready.ensures.bucket in
+    let own = s.ensures.own in
     let head = heads m c.args.self.now.config ptr.key s.result.hand.own.bucket s.result.shard c.args.party.now s.new.party (returns-clause-takes g c) c.requires.party.config b.ensures.valid ptr.key refl in
     not_found ptr s.result.shard.now b.result.bucket.headers c.find_ready-ready.result
     (subst (λ (x : Taken). IsHead (entry_of ptr.key s.result.shard.now) (header_at ptr.key x.bucket.headers)) own head) c.find_ready-ready.ensures.there
