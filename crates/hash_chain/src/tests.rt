@@ -64,7 +64,9 @@ fn move_to(bucket: &mut Bucket, key: Key, state: State) {
 fn lend(bucket: &mut Bucket, key: Key, near: usize) -> Option<usize> {
     let at = bucket.find(key)?;
     let before = bucket.at(at).block.as_ref()?.near();
-    let owner = bucket.take_block(at).ok()?;
+    let Ok(owner) = bucket.take_block(at) else {
+        return None;
+    };
     bucket.give_block(at, owner, near);
     Some(before)
 }
