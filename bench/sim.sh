@@ -1,6 +1,7 @@
 #!/usr/bin/env bash
 # Runs the program and a plain simulation of the same rules (../compare/arc_sim.rs) on the same traces over a pool file of zero bytes, and
-# prints the processor time and the peak memory of each, their ratios, and whether the two reports are the same, byte for byte.
+# prints the processor time and the peak memory of each, the least of five runs in turn, their ratios, and whether the two reports are the same,
+# byte for byte.
 # Five traces: 200,000 and 1,000,000 reads drawn over 4,096 and 16,384 blocks, as the word gen draws them; and one of 60 MB, with 100,000
 # blocks, 1,000,000 reads and comments. It needs rustc and python3, and builds the program if that was not done yet.
 set -eu
@@ -15,6 +16,7 @@ import hashlib, os, sys
 
 tool, plain, work = sys.argv[1:]
 ZEROS = hashlib.sha256(bytes(512)).hexdigest()
+ROUNDS = 5
 
 
 def draws(blocks, ops):
@@ -69,8 +71,9 @@ for name, write in cases:
     with open(trace, 'w') as out:
         write(out)
     run(plain, pool, trace, f'{work}/plain')  # so that the files are in memory for both
-    theirs = min(run(plain, pool, trace, f'{work}/plain') for _ in range(3))
-    ours = run(tool, pool, trace, f"{work}/ours")
+    # In turn, since how fast a shared machine is changes within a minute; the least counts.
+    turns = [(run(tool, pool, trace, f'{work}/ours'), run(plain, pool, trace, f'{work}/plain')) for _ in range(ROUNDS)]
+    ours, theirs = (min(runs) for runs in zip(*turns))
     if not same(f'{work}/ours', f'{work}/plain'):
         differing.append(name)
     print(f'{name:32}{ours[0]:9.2f} s {ours[1] / 1024:5.0f} MB{theirs[0]:9.2f} s {theirs[1] / 1024:5.0f} MB'
