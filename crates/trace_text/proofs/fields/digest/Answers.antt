@@ -1,5 +1,4 @@
-use Rattle.std.proofs.Common.{ap, arith, get_or, length, sym, ◌∙◌, ◌+◌, ◌*◌}
-use Rattle.std.proofs.lemmas.Grind.{common_steps}
+use Rattle.std.proofs.Common.{ap, arith, get_or, length, ◌∙◌, ◌+◌, ◌*◌}
 use Rattle.hex.specs.Hex.{lower_digits}
 use Rattle.hex.proofs.HexLemmas.{length-encode_with}
 use Rattle.trace_text.proofs.HexFieldLemmas.{IsBytes-each, digits-at, encoded-by}
