@@ -50,3 +50,12 @@ pub mod CapacityEvents
 pub mod Holders
 pub mod Placed
 pub mod Readers
+pub mod Tells
+pub mod ReadMoments
+pub mod SeenLemmas
+pub mod OwnLemmas
+pub mod ToldLemmas
+pub mod MadeLemmas
+pub mod RoomyLemmas
+pub mod MoveLemmas
+pub mod ScanAlone

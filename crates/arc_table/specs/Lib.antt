@@ -45,3 +45,5 @@ pub mod Reading
 pub mod Picking
 pub mod Resizing
 pub mod Lending
+pub mod Seen
+pub mod Told

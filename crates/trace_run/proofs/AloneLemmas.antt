@@ -36,7 +36,8 @@ use Rattle.trace_run.specs.Acts.{acts_of_all, acts_of_caller, acts_of_callers, a
 use Rattle.trace_run.specs.Alone.{RanAlone, ends_in, histories_of}
 use Rattle.trace_run.specs.CallerLines.{At, DidLines, at}
 use Rattle.trace_run.specs.Effects.{calls_of_all}
-use Rattle.trace_run.specs.Ends.{end_of, ends_of, opening_of}
+use Rattle.trace_run.specs.Ends.{end_of, ends_of}
+use Rattle.arc_table.specs.Telling.{opening_of}
 use Rattle.trace_run.specs.Explaining.{Explain}
 use Rattle.trace_run.specs.KeptBlocks.{DroppedAlone, GivesAll, Stands, holds_in, read_of}
 use Rattle.trace_run.specs.Lines.{caller_of, is_in_shard, is_of_caller, replies_where, shard_of_line}
@@ -45,9 +46,9 @@ use Rattle.trace_run.specs.Opened.{HasJoined}
 use Rattle.trace_run.specs.OverShards.{AllLinesOver, AreNamed, events_over, kept_in_shard}
 use Rattle.trace_run.specs.PlainRun.{shards_after}
 use Rattle.trace_run.specs.Reads.{IsAlone, now_of}
-use Rattle.trace_run.specs.Seen.{HasAll, seen_of}
+use Rattle.arc_table.specs.Seen.{HasAll, seen_of}
 use Rattle.trace_run.specs.Tally.{AreAnswered, IsOfCaller}
-use Rattle.trace_run.specs.Told.{IsTold}
+use Rattle.arc_table.specs.Told.{IsTold}
 use Rattle.trace_run.proofs.CallerActLemmas.{callers-none}
 use Rattle.trace_run.proofs.GiveLemmas.{all-alone, all-number, all-told}
 use Rattle.trace_run.proofs.GroupCounts.{caller-reads, reads_by}
@@ -57,7 +58,7 @@ use Rattle.trace_run.proofs.LinesLemmas.{lines-all, lines-answered, lines-calls,
 use Rattle.trace_run.proofs.NamedLemmas.{history-over, named-drops}
 use Rattle.trace_run.proofs.OpenLemmas.{joined-all, new-seen}
 use Rattle.trace_run.proofs.OverShardLemmas.{events-here, kept-else, kept-here, other-shard, same-shard}
-use Rattle.trace_run.proofs.OwnLemmas.{no-own-moments}
+use Rattle.arc_table.proofs.OwnLemmas.{no-own-moments}
 use Rattle.trace_run.proofs.ReportLemmas.{all-own, of-caller, one-acts, one-caller, possible-at}
 use Rattle.trace_run.proofs.RestAlone.{all-there, alone-history, alone-legal, alone-now, alone-rests, alone-told}
 use Rattle.trace_run.proofs.TellLemmas.{IsMine, all-map, filter-all, mine-events, no-passes}

@@ -24,11 +24,11 @@ use Rattle.arc_table.specs.Items.{Meanings}
 use Rattle.arc_table.specs.Logged.{IsSoundItem, IsSoundLog}
 use Rattle.arc_table.specs.Rule.{Pact}
 use Rattle.arc_table.proofs.HandHeads.{config_then, shard_then}
-use Rattle.trace_run.specs.Ends.{opening_of}
-use Rattle.trace_run.specs.Seen.{Finds, HasAll, HasSeenItsOwn, seen_of, turn_of}
-use Rattle.trace_run.specs.Told.{IsTold}
-use Rattle.trace_run.proofs.OwnLemmas.{no-own-moments, own-append}
-use Rattle.trace_run.proofs.SeenLemmas.{finds-then, get-behind}
+use Rattle.arc_table.specs.Telling.{opening_of}
+use Rattle.arc_table.specs.Seen.{Finds, HasAll, HasSeenItsOwn, seen_of, turn_of}
+use Rattle.arc_table.specs.Told.{IsTold}
+use Rattle.arc_table.proofs.OwnLemmas.{no-own-moments, own-append}
+use Rattle.arc_table.proofs.SeenLemmas.{finds-then, get-behind}
 
 pub get-map : {A B : Type 0} (f : A → B) (l : List A) (i : ℕ) (a : A) → get_elem? l i ≡ some a → get_elem? (map f l) i ≡ some (f a)
 get-map f [] i a at = absurd (some-ne-none a (sym at))

@@ -20,12 +20,12 @@ use Rattle.arc_table.specs.Geometry.{parties_of}
 use Rattle.arc_table.specs.Items.{Meanings, lines_in}
 use Rattle.arc_table.specs.Rule.{Pact}
 use Rattle.arc_table.specs.TableLaws.{get_front, same_at, within}
-use Rattle.trace_run.specs.Ends.{opening_of}
-use Rattle.trace_run.specs.Seen.{HasSeenItsOwn, pass_owner, turn_of}
+use Rattle.arc_table.specs.Telling.{opening_of}
+use Rattle.arc_table.specs.Seen.{HasSeenItsOwn, pass_owner, turn_of}
 use Rattle.trace_run.proofs.CloseLemmas.{closed-starts, get-map, last, value-at}
-use Rattle.trace_run.proofs.OwnLemmas.{no-own-moments}
+use Rattle.arc_table.proofs.OwnLemmas.{no-own-moments}
 use Rattle.trace_run.proofs.PlacedLemmas.{placed-of}
-use Rattle.trace_run.proofs.SeenLemmas.{events-at, line-owner, line-seen}
+use Rattle.arc_table.proofs.SeenLemmas.{events-at, line-owner, line-seen}
 
 -- what is so of a party at the end
 pub record IsLast {C : Type 0} (g : Config) (p : Place (Known C)) : Type 0 where

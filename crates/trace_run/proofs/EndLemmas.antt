@@ -29,13 +29,14 @@ use Rattle.trace_text.specs.declared.ends.ShardEnd.{ShardEnd}
 use Rattle.trace_text.specs.declared.op.Op.{Op}
 use Rattle.trace_text.specs.declared.reply.Reply.{Reply}
 use Rattle.trace_run.specs.Acts.{acts_of_caller, acts_of_callers}
-use Rattle.trace_run.specs.Ends.{end_of, ends_of, opening_of}
+use Rattle.trace_run.specs.Ends.{end_of, ends_of}
+use Rattle.arc_table.specs.Telling.{opening_of}
 use Rattle.trace_run.specs.Explaining.{Explain}
 use Rattle.trace_run.specs.KeptBlocks.{IsIdle, Stands, is_ptr, times}
 use Rattle.trace_run.specs.Lines.{is_of_caller, replies_where}
-use Rattle.trace_run.specs.Seen.{HasSeenItsOwn, seen_of}
+use Rattle.arc_table.specs.Seen.{HasSeenItsOwn, seen_of}
 use Rattle.trace_run.specs.Together.{over_callers, reads_of_caller}
-use Rattle.trace_run.specs.Told.{IsTold}
+use Rattle.arc_table.specs.Told.{IsTold}
 use Rattle.trace_run.proofs.CallerActLemmas.{callers-none, callers-own, own-lines}
 use Rattle.trace_run.proofs.CloseLemmas.{closed-legal, closed-now, closed-sound, closed-told}
 use Rattle.trace_run.proofs.EachLemmas.{AreLast, IsLast, closed-others, closed-placed, each-own}

@@ -24,7 +24,7 @@ use Rattle.arc_core.specs.declared.served.Served.TheVariants as served
 use Rattle.trace_text.specs.Generator.{IsGenerated, empty_window, generated_block, generated_read, generated_sizes, zero_digest}
 use Rattle.vdev_io.specs.declared.pool.Pool.{Ghosts}
 use Rattle.trace_run.specs.Answers.{Answers, AnswersAll, AnswersRead, is_pool_fault, is_refusal, window_of}
-use Rattle.trace_run.specs.Ends.{opening_of}
+use Rattle.arc_table.specs.Telling.{opening_of}
 use Rattle.trace_run.specs.Outcome.{generated}
 use Rattle.trace_run.specs.PlainReport.{ArePlainReplies, IsPlainReply, IsPlainReport, ShowsCollision}
 use Rattle.trace_run.specs.PlainRun.{report_of, report_with}

@@ -34,7 +34,7 @@ use Rattle.trace_run.specs.declared.kept_blocks.KeptBlock.{KeptBlock}
 use Rattle.trace_run.specs.KeptBlocks.{AllIdle, IsOwnedBy, Stands, listed_all, listed_for, times}
 use Rattle.trace_run.specs.KeptReads.{kept_read}
 use Rattle.trace_run.specs.Reads.{DidAnswer, DidFail, DidRead, IsGot}
-use Rattle.trace_run.specs.Seen.{AddsAll, HasSeenItsOwn}
+use Rattle.arc_table.specs.Seen.{AddsAll, HasSeenItsOwn}
 use Rattle.trace_run.proofs.KeptBlockLemmas.{times-append, times-middle}
 use Rattle.trace_run.proofs.ReadLemmas.{AddsFailed, AddsRead, AddsServed, read-adds, read-seen}
 use Rattle.trace_run.proofs.ReadStands.{Lists, ListsAnswer, read-lists}

@@ -19,8 +19,8 @@ use Rattle.trace_run.specs.Access.{events_of_drop}
 use Rattle.trace_run.specs.Acts.{acts_of_drop, acts_of_drops}
 use Rattle.trace_run.specs.KeptBlocks.{DroppedAlone, Drops, GivesAll, GivesBack, Stands, held_key, holds_in, read_of}
 use Rattle.trace_run.specs.OneCaller.{events_of_drops}
-use Rattle.trace_run.specs.Seen.{HasAll, seen_of}
-use Rattle.trace_run.specs.Told.{IsTold}
+use Rattle.arc_table.specs.Seen.{HasAll, seen_of}
+use Rattle.arc_table.specs.Told.{IsTold}
 use Rattle.trace_run.proofs.KeptBlockLemmas.{given-drops, given-stands}
 
 module _ {C : Type 0} (g : Config) (p q : Place (Known C)) where

@@ -32,7 +32,7 @@ use Rattle.trace_run.specs.KeptReads.{KeptRead}
 use Rattle.trace_run.specs.Acts.{acts_of, acts_of_all, acts_of_caller, acts_of_drop, acts_of_dropping, acts_of_drops, acts_of_hold, acts_of_read}
 use Rattle.trace_run.specs.Answers.{AnswersDrop}
 use Rattle.trace_run.specs.Effects.{Answered, Effect, GivenBack, NoEffect, PoolRefused, calls_from, calls_of, calls_of_all, effect_of}
-use Rattle.trace_run.specs.Ends.{opening_of}
+use Rattle.arc_table.specs.Telling.{opening_of}
 use Rattle.trace_run.specs.Lines.{is_of_caller}
 use Rattle.trace_run.specs.OneCaller.{kept_after, kept_after_all, oldest_key}
 use Rattle.trace_run.specs.Tally.{AnswersNow, AreAnswered, kept_of_block}

@@ -27,7 +27,7 @@ use Rattle.trace_run.specs.KeptBlocks.{Stands, read_of}
 use Rattle.trace_run.specs.Lines.{is_of_caller}
 use Rattle.trace_run.specs.OneCaller.{kept_after, kept_after_all}
 use Rattle.trace_run.specs.Tally.{AreAnswered}
-use Rattle.trace_run.specs.Told.{IsTold}
+use Rattle.arc_table.specs.Told.{IsTold}
 use Rattle.trace_run.specs.Together.{over_callers}
 use Rattle.trace_run.proofs.AbsorbLemmas.{absorbed-leaves, absorbed-most, absorbed-reads, few-counts, over-sum, sum-few}
 use Rattle.trace_run.proofs.LinesLemmas.{lines-calls, lines-kept, lines-told}

@@ -22,7 +22,7 @@ use Rattle.arc_core.specs.Step.{after, legal}
 use Rattle.arc_core.proofs.Counting.{counting}
 use Rattle.arc_core.proofs.Others.{frame-kept}
 use Rattle.arc_core.proofs.Soundness.{IsSound-after}
-use Rattle.trace_run.specs.Seen.{pass_owner}
+use Rattle.arc_table.specs.Seen.{pass_owner}
 use Rattle.trace_run.proofs.TellLemmas.{IsReadAct, all-append, caller-number, is_of_reads}
 
 -- an event of a caller's reads; or a pass of a caller or the feeder that names another

@@ -38,15 +38,15 @@ use Rattle.arc_table.proofs.Afterwards.{does_ledger, does_stays, stays_party}
 use Rattle.arc_table.proofs.Reached.{reached, rests}
 use Rattle.trace_run.specs.declared.kept_blocks.KeptBlock.{KeptBlock}
 use Rattle.trace_run.specs.KeptBlocks.{Adds, AllIdle, Drops, GivesBack, IsOwnedBy, Stands, held_key, is_ptr, listed_all, listed_for, times}
-use Rattle.trace_run.specs.Seen.{AddsAll, AddsOwn, Made}
+use Rattle.arc_table.specs.Seen.{AddsAll, AddsOwn, Made}
 use Rattle.trace_run.specs.Access.{events_of_drop}
 use Rattle.trace_run.specs.Acts.{acts_of_drop}
 use Rattle.trace_run.proofs.CacheLemmas.{digest_eq-is}
-use Rattle.trace_run.proofs.MadeLemmas.{does-made}
-use Rattle.trace_run.proofs.OwnLemmas.{made-all, made-alone, made-own, made-sees}
-use Rattle.trace_run.proofs.ReadMoments.{own-single}
+use Rattle.arc_table.proofs.MadeLemmas.{does-made}
+use Rattle.arc_table.proofs.OwnLemmas.{made-all, made-alone, made-own, made-sees}
+use Rattle.arc_table.proofs.ReadMoments.{own-single}
 use Rattle.trace_run.proofs.TellLemmas.{digest_eq-same}
-use Rattle.trace_run.proofs.ToldLemmas.{told-more}
+use Rattle.arc_table.proofs.ToldLemmas.{told-more}
 
 -- ---- pointers counted
 

@@ -47,14 +47,14 @@ use Rattle.trace_run.specs.Lines.{shard_of_line}
 use Rattle.trace_run.specs.OneCaller.{NamesSource, events_of_dropping, events_of_hold, events_of_read, is_of_block, kept_after, kept_after_drop, kept_after_hold, key_held_by, oldest_key, without_oldest}
 use Rattle.trace_run.specs.OverShards.{AreNamed, IsNamed}
 use Rattle.trace_run.specs.Reads.{CameFromPool, DidAct, DidActs, DidAnswer, DidRead, IsAlone, IsRefused, access_now, now_of}
-use Rattle.trace_run.specs.Seen.{AddsAll, HasSeenItsOwn, seen_of}
+use Rattle.arc_table.specs.Seen.{AddsAll, HasSeenItsOwn, seen_of}
 use Rattle.trace_run.specs.Tally.{kept_of_block}
-use Rattle.trace_run.specs.Told.{IsTold}
+use Rattle.arc_table.specs.Told.{IsTold}
 use Rattle.trace_run.proofs.GetLemmas.{all-last}
-use Rattle.trace_run.proofs.MoveLemmas.{Moves, one-moves}
-use Rattle.trace_run.proofs.ReadMoments.{moment}
+use Rattle.arc_table.proofs.MoveLemmas.{Moves, one-moves}
+use Rattle.arc_table.proofs.ReadMoments.{moment}
 use Rattle.trace_run.proofs.RunLemmas.{told-all}
-use Rattle.trace_run.proofs.ToldLemmas.{adds-all-then, adds-own-then, told-more}
+use Rattle.arc_table.proofs.ToldLemmas.{adds-all-then, adds-own-then, told-more}
 
 module _ {C : Type 0} (g : Config) (device : ℕ) (p q : Place (Known C)) where
   -- nothing was done

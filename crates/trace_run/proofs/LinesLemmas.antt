@@ -22,15 +22,15 @@ use Rattle.trace_run.specs.Acts.{acts_of, acts_of_all}
 use Rattle.trace_run.specs.Answers.{AnswersAll}
 use Rattle.trace_run.specs.CallerLines.{At, DidLine, DidLines}
 use Rattle.trace_run.specs.Effects.{calls_of, calls_of_all, effect_of}
-use Rattle.trace_run.specs.Ends.{opening_of}
+use Rattle.arc_table.specs.Telling.{opening_of}
 use Rattle.trace_run.specs.Lines.{caller_of, is_of_caller, shard_of_line}
 use Rattle.trace_run.specs.OneCaller.{IsFoundAs, events_of, kept_after, kept_after_all}
 use Rattle.trace_run.specs.OverShards.{AllLinesOver, AreNamed, events_over}
 use Rattle.trace_run.specs.PlainRun.{shards_after}
 use Rattle.trace_run.specs.Reads.{IsAlone, now_of}
-use Rattle.trace_run.specs.Seen.{HasAll, seen_of}
+use Rattle.arc_table.specs.Seen.{HasAll, seen_of}
 use Rattle.trace_run.specs.Tally.{AnswersNow, IsTally, kept_of_block}
-use Rattle.trace_run.specs.Told.{IsTold}
+use Rattle.arc_table.specs.Told.{IsTold}
 use Rattle.trace_run.proofs.AnswerLemmas.{EachAnswers, more_answers, more_tally, take_one, to_answer}
 use Rattle.trace_run.proofs.LineLemmas.{named-after}
 use Rattle.trace_run.proofs.RunLemmas.{calls-then}

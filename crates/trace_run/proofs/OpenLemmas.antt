@@ -27,11 +27,11 @@ use Rattle.arc_table.specs.Items.{Meanings}
 use Rattle.arc_table.specs.Opening.{AreFreshCells, IsFreshCell}
 use Rattle.arc_table.specs.TableLaws.{there}
 use Rattle.arc_table.specs.Views.{after_learned, newcomer as known}
-use Rattle.trace_run.specs.Ends.{opening_of}
+use Rattle.arc_table.specs.Telling.{opening_of}
 use Rattle.trace_run.specs.KeptBlocks.{AllIdle, Stands}
 use Rattle.trace_run.specs.Opened.{AreOpened, HasJoined, IsNew, IsOpened}
-use Rattle.trace_run.specs.Seen.{AllSeen, AreSeen, HasAll, HasSeenItsOwn, events_in, seen_of, turn_of}
-use Rattle.trace_run.specs.Told.{IsTold}
+use Rattle.arc_table.specs.Seen.{AllSeen, AreSeen, HasAll, HasSeenItsOwn, events_in, seen_of, turn_of}
+use Rattle.arc_table.specs.Told.{IsTold}
 
 -- ---- a party at the start
 

@@ -15,7 +15,8 @@ use Rattle.trace_text.specs.declared.trace.Trace.{Trace}
 use Rattle.trace_run.specs.KeptReads.{KeptRead}
 use Rattle.trace_run.specs.Answers.{is_refusal}
 use Rattle.trace_run.specs.Effects.{Effect, effect_of}
-use Rattle.trace_run.specs.Ends.{ends_of, opening_of}
+use Rattle.trace_run.specs.Ends.{ends_of}
+use Rattle.arc_table.specs.Telling.{opening_of}
 use Rattle.trace_run.specs.Lines.{is_in_shard, replies_where}
 use Rattle.trace_run.specs.OneCaller.{events_of, events_of_all, events_of_drops, events_of_dropping, events_of_hold, events_of_read, kept_after, kept_after_all, kept_after_drop, kept_after_hold, one_caller_histories, one_caller_history}
 use Rattle.trace_run.specs.PlainReport.{ArePlainReplies, IsPlainReply, IsPlainReport}

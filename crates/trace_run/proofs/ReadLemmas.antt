@@ -38,13 +38,13 @@ use Rattle.arc_table.specs.Standing.{is_cached_with}
 use Rattle.arc_table.proofs.Reached.{reached}
 use Rattle.trace_run.specs.Access as access
 use Rattle.trace_run.specs.Access.{Access, AsksPool, access_of, events_of_answered, events_of_refused, source_of}
-use Rattle.trace_run.specs.Ends.{opening_of}
+use Rattle.arc_table.specs.Telling.{opening_of}
 use Rattle.trace_run.specs.Reads.{IsAlone, access_now, now_of}
-use Rattle.trace_run.specs.Seen.{HasSeenItsOwn, seen_of}
+use Rattle.arc_table.specs.Seen.{HasSeenItsOwn, seen_of}
 use Rattle.trace_run.proofs.AccessLemmas.{access-cached, access-missed, access-other}
-use Rattle.trace_run.proofs.MoveLemmas.{Moves, does-moves, does-now, moves-none, moves-then, one-moves, roomy-moves, roomy-now}
-use Rattle.trace_run.proofs.ScanAlone.{scan-alone}
-use Rattle.trace_run.proofs.ReadMoments.{moment, own-behind, own-none, own-one, own-single}
+use Rattle.arc_table.proofs.MoveLemmas.{Moves, does-moves, does-now, moves-none, moves-then, one-moves, roomy-moves, roomy-now}
+use Rattle.arc_table.proofs.ScanAlone.{scan-alone}
+use Rattle.arc_table.proofs.ReadMoments.{moment, own-behind, own-none, own-one, own-single}
 
 -- bytes that are cached with a digest are kept with it
 cached-keeps : (ptr : Ptr) (s : PlainShard) → is_cached_with ptr s → IsTrue (entry_is (keeps_digest ptr.digest) ptr.key s)

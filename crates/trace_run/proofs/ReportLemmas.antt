@@ -16,7 +16,8 @@ use Rattle.trace_text.specs.declared.report.Report.{Report}
 use Rattle.trace_text.specs.declared.trace.Trace.{Trace}
 use Rattle.trace_text.specs.Grammar.{IsPossible}
 use Rattle.trace_run.specs.Acts.{acts_of_caller, acts_of_callers}
-use Rattle.trace_run.specs.Ends.{ends_of, opening_of}
+use Rattle.trace_run.specs.Ends.{ends_of}
+use Rattle.arc_table.specs.Telling.{opening_of}
 use Rattle.trace_run.specs.Lines.{caller_of, is_of_caller, replies_where}
 use Rattle.trace_run.specs.OneCaller.{one_caller_histories}
 use Rattle.trace_run.specs.PlainRun.{report_with, status_of}

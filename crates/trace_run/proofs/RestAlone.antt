@@ -20,10 +20,10 @@ use Rattle.arc_table.specs.Items.{Meanings}
 use Rattle.arc_table.specs.Logged.{IsSoundLog}
 use Rattle.arc_table.specs.Rule.{Pact}
 use Rattle.arc_table.proofs.HandHeads.{config_then}
-use Rattle.trace_run.specs.Ends.{opening_of}
+use Rattle.arc_table.specs.Telling.{opening_of}
 use Rattle.trace_run.specs.KeptBlocks.{Stands, is_ptr, times}
-use Rattle.trace_run.specs.Seen.{HasAll, seen_of, turn_of}
-use Rattle.trace_run.specs.Told.{IsTold}
+use Rattle.arc_table.specs.Seen.{HasAll, seen_of, turn_of}
+use Rattle.arc_table.specs.Told.{IsTold}
 use Rattle.trace_run.proofs.CloseLemmas.{closed-alone, closed-legal, closed-now, closed-sound, closed-told, last}
 use Rattle.trace_run.proofs.HistoryLemmas.{IsReadEvent}
 use Rattle.trace_run.proofs.KeptBlockLemmas.{is_ptr-same, times-cons}

@@ -38,9 +38,9 @@ use Rattle.arc_table.specs.Items.{Meanings, shard_in}
 use Rattle.arc_table.specs.Logged.{IsSoundLog}
 use Rattle.arc_table.specs.Scene.{Scene}
 use Rattle.arc_table.specs.OpeningLaws.{opening_sound}
-use Rattle.trace_run.specs.Ends.{opening_of}
+use Rattle.arc_table.specs.Telling.{opening_of}
 use Rattle.trace_run.specs.KeptBlocks.{AllIdle, IsIdle}
-use Rattle.trace_run.specs.Seen.{turn_of}
+use Rattle.arc_table.specs.Seen.{turn_of}
 use Rattle.trace_run.proofs.CloseLemmas.{get-map, value-at}
 use Rattle.trace_run.proofs.DropLemmas.{all-items}
 use Rattle.trace_run.proofs.HistoryLemmas.{IsReadEvent, none-counted, none-picked}

@@ -27,20 +27,6 @@ use Rattle.trace_run.specs.OneCaller.{events_of, events_of_all, events_of_droppi
 use Rattle.trace_run.specs.Effects.{Effect, Answered, GivenBack, PoolRefused, NoEffect, effect_of}
 use Rattle.trace_run.specs.Lines.{caller_of}
 
--- ---- lists of acts and of moments
-
-pub Tell-append : (xs ys : List Act) (ms ns : List Moment) → Tell xs ms → Tell ys ns → Tell (xs ++ ys) (ms ++ ns)
-Tell-append [] ys ms ns first rest = rw first rest
-Tell-append (x ∷ xs) ys ms ns first rest =
-    (first.0, first.1 ++ ns, ap (λ (l : List Moment). l ++ ns) first.2 ∙ append_assoc first.0 first.1 ns, first.3, Tell-append xs ys first.1 ns first.4 rest)
-
-pub Tell-one : (act : Act) (ms : List Moment) → StandsFor act ms → Tell (act ∷ []) ms
-Tell-one act ms stands = (ms, [], sym (append-nil ms), stands, refl)
-
-pub moments-append : (s : PlainShard) (front rest : List Event) → moments s (front ++ rest) ≡ moments s front ++ moments (replay s front) rest
-moments-append s [] rest = refl
-moments-append s (e ∷ es) rest = ap (λ (ms : List Moment). record { before = s; event = e } ∷ ms) (moments-append (after s e) es rest)
-
 -- ---- what an access says of digests
 
 pub digest_eq-same : (d : Digest) → digest_eq d d ≡ true

@@ -18,7 +18,7 @@ use Rattle.trace_run.specs.KeptBlocks.{Stands, read_of}
 use Rattle.trace_run.specs.Lines.{is_of_caller}
 use Rattle.trace_run.specs.OneCaller.{kept_after_all}
 use Rattle.trace_run.specs.Tally.{AreAnswered}
-use Rattle.trace_run.specs.Told.{IsTold}
+use Rattle.arc_table.specs.Told.{IsTold}
 
 -- ---- forks that are taken back
 

@@ -1,15 +1,12 @@
--- How a shard starts, and what it ends with.
+-- What a shard ends with.
 use Rattle.std.specs.Prelude.{[], ◌∷◌, List, map}
 use Rattle.blk_ptr.specs.declared.state.State.TheVariants as state
 use Rattle.arc_core.specs.declared.config.Config.{Config}
 use Rattle.arc_core.specs.declared.event.Event.{Event}
-use Rattle.arc_core.specs.PlainShard.{PlainShard, opening_shard, size_in}
+use Rattle.arc_core.specs.PlainShard.{PlainShard, size_in}
 use Rattle.arc_core.specs.Replay.{replay}
+use Rattle.arc_table.specs.Telling.{opening_of}
 use Rattle.trace_text.specs.declared.ends.ShardEnd.{ShardEnd}
-
--- a shard at its start, by a trace's configuration
-abbrev pub opening_of : Config → PlainShard
-opening_of config = opening_shard config.c config.mintime config.bounds
 
 -- what a shard ends with: its capacity, its target, and the bytes of each state
 abbrev pub end_of : PlainShard → ShardEnd

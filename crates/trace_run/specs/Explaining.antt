@@ -13,7 +13,8 @@ use Rattle.trace_text.specs.declared.report.Report.{Report}
 use Rattle.trace_text.specs.declared.trace.Trace.{Trace}
 use Rattle.trace_run.specs.Acts.{acts_of_callers}
 use Rattle.trace_run.specs.Effects.{calls_of_all}
-use Rattle.trace_run.specs.Ends.{ends_of, opening_of}
+use Rattle.trace_run.specs.Ends.{ends_of}
+use Rattle.arc_table.specs.Telling.{opening_of}
 use Rattle.trace_run.specs.Lines.{is_in_shard, replies_where}
 use Rattle.trace_run.specs.OneCaller.{AreFoundAs, one_caller_histories}
 use Rattle.trace_run.specs.PlainReport.{IsPlainReport}

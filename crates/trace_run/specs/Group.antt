@@ -17,7 +17,7 @@ use Rattle.trace_run.specs.KeptBlocks.{Stands}
 use Rattle.trace_run.specs.Lines.{is_of_caller}
 use Rattle.trace_run.specs.Tally.{AreAnswered}
 use Rattle.trace_run.specs.Together.{over_callers}
-use Rattle.trace_run.specs.Told.{IsTold}
+use Rattle.arc_table.specs.Told.{IsTold}
 
 -- A caller has done its work: its lines were answered, one after another, its fork of the pool was read as they say and in no other way, what it
 -- did is told, and it keeps nothing any more.

@@ -24,10 +24,10 @@ use Rattle.arc_table.specs.Items.{Meanings}
 use Rattle.trace_run.specs.declared.kept_blocks.KeptBlock.{KeptBlock}
 use Rattle.trace_run.specs.KeptReads.{KeptRead, kept_read}
 use Rattle.trace_run.specs.OneCaller.{events_of_drops}
-use Rattle.trace_run.specs.Seen.{AddsAll, HasAll, HasSeenItsOwn, seen_of}
+use Rattle.arc_table.specs.Seen.{AddsAll, HasAll, HasSeenItsOwn, seen_of}
 use Rattle.trace_run.specs.Access.{events_of_drop}
 use Rattle.trace_run.specs.Acts.{acts_of_drop}
-use Rattle.trace_run.specs.Told.{IsTold}
+use Rattle.arc_table.specs.Told.{IsTold}
 
 -- the key of the entry that is held for a kept block: a loose one holds none
 abbrev pub held_key : Kept → Option Key

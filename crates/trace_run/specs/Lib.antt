@@ -24,11 +24,9 @@ pub mod PlainReport
 pub mod PlainRun
 pub mod Read
 pub mod Reads
-pub mod Seen
 pub mod States
 pub mod Status
 pub mod Stream
 pub mod Tally
 pub mod Together
-pub mod Told
 pub mod Words

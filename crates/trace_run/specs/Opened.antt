@@ -10,7 +10,7 @@ use Rattle.arc_table.specs.Geometry.{parties_of}
 use Rattle.arc_table.specs.Items.{Meanings}
 use Rattle.arc_table.specs.Views.{no_ledger}
 use Rattle.trace_run.specs.KeptBlocks.{Stands}
-use Rattle.trace_run.specs.Told.{IsTold}
+use Rattle.arc_table.specs.Told.{IsTold}
 
 -- what a cell of this type means to the cache
 abbrev pub meanings_of : {C : Type 0} → Ghosts C → Meanings C

@@ -27,7 +27,8 @@ use Rattle.trace_run.specs.KeptReads.{KeptRead}
 use Rattle.trace_run.specs.Access.{Access, access_of, source_of}
 use Rattle.trace_run.specs.Answers.{is_refusal, window_of}
 use Rattle.trace_run.specs.Effects.{calls_of, effect_of}
-use Rattle.trace_run.specs.Ends.{ends_of, opening_of}
+use Rattle.trace_run.specs.Ends.{ends_of}
+use Rattle.arc_table.specs.Telling.{opening_of}
 use Rattle.trace_run.specs.Lines.{shard_of_line}
 use Rattle.trace_run.specs.OneCaller.{events_of, kept_after, oldest_kept, one_caller_histories}
 use Rattle.arc_table.specs.PoolCalls.{PoolCall, Gave, Failed}

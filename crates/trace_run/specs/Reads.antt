@@ -24,13 +24,13 @@ use Rattle.trace_run.specs.declared.get.Got.{Got}
 use Rattle.trace_run.specs.declared.kept_blocks.KeptBlock.{KeptBlock}
 use Rattle.trace_run.specs.Access.{Access, AsksPool, access_of, events_of_answered, events_of_refused, source_of}
 use Rattle.trace_run.specs.Effects.{Effect, Answered, GivenBack, PoolRefused, NoEffect, calls_from}
-use Rattle.trace_run.specs.Ends.{opening_of}
+use Rattle.arc_table.specs.Telling.{opening_of}
 use Rattle.trace_run.specs.KeptBlocks.{read_of}
 use Rattle.trace_run.specs.OneCaller.{key_held_by}
 use Rattle.trace_run.specs.KeptReads.{kept_read}
 use Rattle.trace_run.specs.Read.{IsMismatch, IsReadOf}
-use Rattle.trace_run.specs.Seen.{AddsAll, AddsOwn, HasAll, seen_of}
-use Rattle.trace_run.specs.Told.{IsTold}
+use Rattle.arc_table.specs.Seen.{AddsAll, AddsOwn, HasAll, seen_of}
+use Rattle.arc_table.specs.Told.{IsTold}
 
 module _ {C : Type 0} where
   -- what a party that has every number finds of a shard: the replay of what it has seen

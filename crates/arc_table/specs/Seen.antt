@@ -16,7 +16,7 @@ use Rattle.arc_table.specs.declared.view.Line.TheVariants as line
 use Rattle.arc_table.specs.declared.view.Mine.{Mine}
 use Rattle.arc_table.specs.Fronts.{StartsWith, front_of}
 use Rattle.arc_table.specs.Geometry.{parties_of}
-use Rattle.trace_run.specs.Ends.{opening_of}
+use Rattle.arc_table.specs.Telling.{opening_of}
 
 -- the events among lines of histories
 abbrev pub events_in : List Line → List Event

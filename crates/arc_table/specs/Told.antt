@@ -5,8 +5,8 @@ use Rattle.arc_core.specs.declared.config.Config.{Config}
 use Rattle.arc_core.specs.Operations.{Act, Tell, acts_in, moments, own_moments}
 use Rattle.turn_table.specs.Places.{Place}
 use Rattle.arc_table.specs.declared.view.Known.{Known}
-use Rattle.trace_run.specs.Ends.{opening_of}
-use Rattle.trace_run.specs.Seen.{seen_of}
+use Rattle.arc_table.specs.Telling.{opening_of}
+use Rattle.arc_table.specs.Seen.{seen_of}
 
 module _ {C : Type 0} where
   -- In each shard, the events of the party's own number are those of these acts, one after another, each once.

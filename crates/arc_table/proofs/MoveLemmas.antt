@@ -14,13 +14,13 @@ use Rattle.arc_table.specs.Both.{Does}
 use Rattle.arc_table.specs.Ending.{DoesRoomy}
 use Rattle.arc_table.specs.Geometry.{parties_of}
 use Rattle.arc_table.specs.Items.{Meanings}
-use Rattle.trace_run.specs.Ends.{opening_of}
-use Rattle.trace_run.specs.Seen.{AddsAll, AddsOwn, AreOwn, HasAll, HasSeenItsOwn, Made, seen_of}
-use Rattle.trace_run.proofs.MadeLemmas.{does-made}
-use Rattle.trace_run.proofs.OwnLemmas.{made-all, made-alone, made-now, made-own, made-sees}
-use Rattle.trace_run.proofs.ReadMoments.{moment, own-one, own-single}
-use Rattle.trace_run.proofs.RoomyLemmas.{roomy-made}
-use Rattle.trace_run.proofs.ToldLemmas.{adds-all-then, adds-own-then}
+use Rattle.arc_table.specs.Telling.{opening_of}
+use Rattle.arc_table.specs.Seen.{AddsAll, AddsOwn, AreOwn, HasAll, HasSeenItsOwn, Made, seen_of}
+use Rattle.arc_table.proofs.MadeLemmas.{does-made}
+use Rattle.arc_table.proofs.OwnLemmas.{made-all, made-alone, made-now, made-own, made-sees}
+use Rattle.arc_table.proofs.ReadMoments.{moment, own-one, own-single}
+use Rattle.arc_table.proofs.RoomyLemmas.{roomy-made}
+use Rattle.arc_table.proofs.ToldLemmas.{adds-all-then, adds-own-then}
 
 -- In this shard the party p made these moments, of these events: it is q.
 pub record Moves {C : Type 0} (g : Config) (shard : ℕ) (ms : List Moment) (es : List Event) (p q : Place (Known C)) : Type 0 where

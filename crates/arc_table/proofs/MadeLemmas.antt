@@ -19,8 +19,8 @@ use Rattle.arc_table.specs.TableLaws.{front_else, within}
 use Rattle.arc_table.proofs.Afterwards.{does_mine, does_seen, does_stays}
 use Rattle.arc_table.proofs.PassMines.{mines_of_are}
 use Rattle.arc_table.proofs.Reached.{reached, sound_log}
-use Rattle.trace_run.specs.Seen.{AreOwn, HasSeenItsOwn, Made, turn_of}
-use Rattle.trace_run.proofs.SeenLemmas.{finds, shard-is-above}
+use Rattle.arc_table.specs.Seen.{AreOwn, HasSeenItsOwn, Made, turn_of}
+use Rattle.arc_table.proofs.SeenLemmas.{finds, shard-is-above}
 
 module _ {C : Type 0} (m : Meanings C) (g : Config) (valid : IsConfig g) (k : Key) (es : List Event) (p q : Place (Known C)) (config : p.own.about.config ≡ g)
     (own : HasSeenItsOwn g p) (mine : AreOwn (parties_of g) p.number es) (d : Does m g k es p q) where

@@ -22,10 +22,10 @@ use Rattle.arc_table.specs.declared.view.Mine.{Mine}
 use Rattle.arc_table.specs.Fronts.{StartsWith, front_of}
 use Rattle.arc_table.specs.Geometry.{parties_of}
 use Rattle.arc_table.specs.TableLaws.{get_front, starts_more, starts_whole, there}
-use Rattle.trace_run.specs.Ends.{opening_of}
-use Rattle.trace_run.specs.Seen.{AddsAll, AddsOwn, AllSeen, HasAll, HasSeenItsOwn, IsSeen, Made, events_in, seen_of, turn_of}
-use Rattle.trace_run.proofs.SeenLemmas.{events-at, events-map, get-behind}
-use Rattle.trace_run.proofs.TellLemmas.{moments-append}
+use Rattle.arc_table.specs.Telling.{opening_of}
+use Rattle.arc_table.specs.Seen.{AddsAll, AddsOwn, AllSeen, HasAll, HasSeenItsOwn, IsSeen, Made, events_in, seen_of, turn_of}
+use Rattle.arc_table.proofs.SeenLemmas.{events-at, events-map, get-behind}
+use Rattle.arc_table.proofs.Tells.{moments-append}
 
 -- ---- moments that are not one's own
 

@@ -11,7 +11,7 @@ use Rattle.arc_table.specs.Ending.{DoesRoomy}
 use Rattle.arc_table.specs.Items.{Meanings}
 use Rattle.arc_table.specs.Scanning.{AreOfOthers, ArePasses}
 use Rattle.arc_table.proofs.Reached.{reached}
-use Rattle.trace_run.specs.Seen.{HasAll}
+use Rattle.arc_table.specs.Seen.{HasAll}
 
 module _ {C : Type 0} where
   never-in : (n : ℕ) (ks : List (Kept (Known C))) → Apart n ks → ¬ IsIn n ks

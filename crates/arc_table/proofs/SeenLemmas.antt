@@ -31,7 +31,7 @@ use Rattle.arc_table.specs.TableLaws.{front_else, within}
 use Rattle.arc_table.proofs.HandHeads.{config_then, shard_then}
 use Rattle.arc_table.proofs.Ranges.{bucket_range}
 use Rattle.arc_table.proofs.Reached.{SameButNotes, Took, loses_same, took_is}
-use Rattle.trace_run.specs.Seen.{AllSeen, AreSeen, Finds, HasAll, HasSeenItsOwn, IsSeen, events_in, turn_of}
+use Rattle.arc_table.specs.Seen.{AllSeen, AreSeen, Finds, HasAll, HasSeenItsOwn, IsSeen, events_in, turn_of}
 
 -- ---- lines and events
 

@@ -25,9 +25,9 @@ use Rattle.arc_table.specs.TableLaws.{front_else, front_here, within}
 use Rattle.arc_table.specs.Views.{after_same}
 use Rattle.arc_table.proofs.PassMines.{mines_of_are}
 use Rattle.arc_table.proofs.Reached.{reached, sound_log}
-use Rattle.trace_run.specs.Seen.{HasSeenItsOwn, Made, pass_owner, turn_of}
-use Rattle.trace_run.proofs.ReadMoments.{own-scan}
-use Rattle.trace_run.proofs.SeenLemmas.{finds, parties-then, shard-is-above}
+use Rattle.arc_table.specs.Seen.{HasSeenItsOwn, Made, pass_owner, turn_of}
+use Rattle.arc_table.proofs.ReadMoments.{own-scan}
+use Rattle.arc_table.proofs.SeenLemmas.{finds, parties-then, shard-is-above}
 
 -- a party that is the same to all others, has seen as much and has made as much
 record SameSeen {C : Type 0} (p q : Place (Known C)) : Type 0 where

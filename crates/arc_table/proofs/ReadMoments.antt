@@ -12,7 +12,7 @@ use Rattle.arc_core.specs.PlainShard.{PlainShard}
 use Rattle.arc_core.specs.Replay.{replay}
 use Rattle.arc_core.specs.Step.{after}
 use Rattle.arc_table.specs.Scanning.{ArePasses}
-use Rattle.trace_run.specs.Seen.{AreOwn, pass_owner}
+use Rattle.arc_table.specs.Seen.{AreOwn, pass_owner}
 
 abbrev pub moment : PlainShard → Event → Moment
 moment s e = record { before = s; event = e }

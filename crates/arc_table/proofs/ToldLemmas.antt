@@ -10,10 +10,10 @@ use Rattle.arc_core.specs.declared.event.Event.{Event}
 use Rattle.arc_core.specs.Operations.{Act, Moment, StandsFor, Tell, act_key, actor_of, acts_in, moments, own_moments}
 use Rattle.turn_table.specs.Places.{Place}
 use Rattle.arc_table.specs.declared.view.Known.{Known}
-use Rattle.trace_run.specs.Ends.{opening_of}
-use Rattle.trace_run.specs.Seen.{AddsAll, AddsOwn, seen_of}
-use Rattle.trace_run.specs.Told.{IsTold}
-use Rattle.trace_run.proofs.TellLemmas.{Tell-append, Tell-one}
+use Rattle.arc_table.specs.Telling.{opening_of}
+use Rattle.arc_table.specs.Seen.{AddsAll, AddsOwn, seen_of}
+use Rattle.arc_table.specs.Told.{IsTold}
+use Rattle.arc_table.proofs.Tells.{Tell-append, Tell-one}
 
 -- ---- one act more
 
