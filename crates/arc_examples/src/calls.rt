@@ -49,7 +49,7 @@ fn get<R: Wait>(
     requires { IsReady arcs.now party.old }
     ensures { Gets arcs.now ptr.now.key party.old party.new result }
 {
-    match arcs.read(rt, party, ptr, tick, pool, &mut NoCache) {
+    match arcs.read(rt, party, ptr, tick, pool, &mut NoCache::new()) {
         Ok(Read::Held(hold, _)) => Some(hold),
         Ok(Read::Past { block: _, kept: _ }) => None,
         Err(_) => None,

@@ -20,7 +20,7 @@ use Rattle.arc_table.specs.declared.view.Known.{Known}
 use Rattle.arc_table.specs.Both.{Does}
 use Rattle.arc_table.specs.Fetching.{CameFromPool, CountsPool, CountsPoolFault, FailsPool, HasFetched, ReadsPool, WasPoolRead, WasUnread, origin_of}
 use Rattle.arc_table.specs.Items.{Meanings}
-use Rattle.arc_table.specs.PoolCalls.{KeepsPool}
+use Rattle.vdev_io.specs.Calls.{KeepsPool}
 use Rattle.arc_table.specs.Reading.{EndsMiss, GivesBlock, GoesToPool, IsHeldOf, Outside, failed_at, fault_of, from_device, from_none, from_pool, read, served_as, unread, unserved}
 
 -- ---- what a fetch did to the pool

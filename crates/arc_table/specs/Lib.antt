@@ -40,7 +40,6 @@ pub mod Ready
 pub mod Trying
 pub mod Handing
 pub mod Feeding
-pub mod PoolCalls
 pub mod Reading
 pub mod Picking
 pub mod Resizing

@@ -40,7 +40,7 @@ use Rattle.arc_table.specs.Ending.{DoesRoomy}
 use Rattle.arc_table.specs.Fetching.{CameFromCache, IsFound, ReadsPool}
 use Rattle.arc_table.specs.Holding.{IsHeld, IsHoldOf}
 use Rattle.arc_table.specs.Items.{Meanings}
-use Rattle.arc_table.specs.PoolCalls.{Failed, Gave, MakesCall}
+use Rattle.vdev_io.specs.Calls.{Failed, Gave, MakesCall}
 use Rattle.arc_table.specs.Standing.{is_cached_with}
 
 -- ---- words

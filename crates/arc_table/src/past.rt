@@ -7,7 +7,7 @@ ghost use Rattle.arc_table.specs.Both.{Makes};
 ghost use Rattle.arc_table.specs.Cache.{IsPartyOf};
 ghost use Rattle.arc_table.specs.Items.{meanings};
 ghost use Rattle.arc_table.specs.Making.{IsTaken};
-ghost use Rattle.arc_table.specs.PoolCalls.{MakesCall, PoolCall};
+ghost use Rattle.vdev_io.specs.Calls.{MakesCall, Call};
 ghost use Rattle.arc_table.specs.Reading.{EndsPast};
 ghost use Rattle.arc_table.specs.Standing.{is_cached_with};
 
@@ -58,8 +58,8 @@ fn read_into<P: Pool>(pool: &mut P, key: Key, mut bytes: Vec<u8>) -> Result<Vec<
     requires room { vec_len bytes ≡ key.size }
     ensures size { IfOk result (λ bytes. vec_len bytes ≡ key.size) }
     ensures bytes { IfOk result (λ bytes. IfSome (P.told pool.old) (λ image. bytes.items ≡ range_of image key)) }
-    ensures ok { OnOk result (MakesCall P.Pool PoolCall.Gave pool.old pool.new) }
-    ensures err { OnErr result (MakesCall P.Pool PoolCall.Failed pool.old pool.new) }
+    ensures ok { OnOk result (MakesCall P.Pool Call.Gave pool.old pool.new) }
+    ensures err { OnErr result (MakesCall P.Pool Call.Failed pool.old pool.new) }
 {
     pool.read(key.offset, &mut bytes)?;
     Ok(bytes)

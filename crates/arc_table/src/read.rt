@@ -7,7 +7,7 @@ ghost use Rattle.arc_table.specs.Arriving.{IsReading};
 ghost use Rattle.arc_table.specs.Cache.{IsPartyOf};
 ghost use Rattle.arc_table.specs.Items.{meanings};
 ghost use Rattle.arc_table.specs.Looking.{HasNoLook};
-ghost use Rattle.arc_table.specs.PoolCalls.{KeepsPool};
+ghost use Rattle.vdev_io.specs.Calls.{KeepsPool};
 ghost use Rattle.arc_table.specs.Reading.{Answers, AnswersRead, AnswersRound, EndsMiss, GoesToPool, KeepsDevice, Waits, failed_at, fault_of, outside, served_as};
 ghost use Rattle.arc_table.specs.Waiting.{HasAllIdle};
 

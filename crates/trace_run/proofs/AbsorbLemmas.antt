@@ -5,7 +5,7 @@ use Rattle.std.specs.List.{AllByRecursion}
 use Rattle.std.proofs.lemmas.List.Sums.{count_by-le-length, sum_by-cons}
 use Rattle.vdev_io.specs.declared.pool.Pool.{Ghosts}
 use Rattle.vdev_io.specs.Faults.{last_count}
-use Rattle.arc_table.specs.PoolCalls.{KeepsPool, MakesCalls, PoolCall, is_failed}
+use Rattle.vdev_io.specs.Calls.{KeepsPool, MakesCalls, Call, is_failed}
 use Rattle.trace_run.specs.Callers.{AbsorbsAll}
 use Rattle.trace_run.specs.Group.{IsFork, LeavesPool}
 use Rattle.trace_run.specs.Together.{over_callers}
@@ -73,7 +73,7 @@ module _ {P : Type 0} (pools : Ghosts P) where
   fresh-reads pool (fork ∷ forks) all = omega (arith, sum_by-cons pools.reads fork forks, all.0.reads, fresh-reads pool forks all.1)
 
   -- a fork was read at most as often as there were calls
-  pub few-counts : (calls : List PoolCall) (fork done : P) → pools.reads fork ≡ 0 → pools.faults fork ≡ 0 → MakesCalls pools calls fork done → (most : ℕ) → length calls ≤ most → most ≤ last_count
+  pub few-counts : (calls : List Call) (fork done : P) → pools.reads fork ≡ 0 → pools.faults fork ≡ 0 → MakesCalls pools calls fork done → (most : ℕ) → length calls ≤ most → most ≤ last_count
       → (pools.reads done ≤ most) × (pools.faults done ≤ most)
   few-counts calls fork done reads faults made most few small = (
     omega (arith, reads, few, calls-reads pools calls fork done made (omega (arith, reads, few, small))),

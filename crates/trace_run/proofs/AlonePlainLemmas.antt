@@ -8,7 +8,7 @@ use Rattle.arc_core.specs.declared.config.Config.{Config}
 use Rattle.arc_core.specs.declared.event.Event.{Event}
 use Rattle.arc_core.specs.PlainShard.{PlainShard}
 use Rattle.arc_core.specs.Replay.{replay}
-use Rattle.arc_table.specs.PoolCalls.{PoolCall}
+use Rattle.vdev_io.specs.Calls.{Call}
 use Rattle.trace_text.specs.declared.op.Op.{Op}
 use Rattle.trace_text.specs.declared.reply.Reply.{Reply}
 use Rattle.trace_text.specs.declared.report.Report.{Report}
@@ -77,7 +77,7 @@ module _ (image : List ℕ) (shards : ℕ) (blocks : List Ptr) where
   plain-replies s kept (o ∷ os) (r ∷ rs) same told lines =
       let own = calls_of (effect_of r) in
       let rest = calls_of_all rs in
-      let call : PoolCall = next_call (own ++ rest) in
+      let call : Call = next_call (own ++ rest) in
       let i : ℕ = shard_of_line shards blocks o in
       let p : Reply = reply_to image blocks (s i) kept o call in
       let first : IsPlainReply image blocks o p r = line-plain image blocks (s i) kept o r call lines.0 (told i) (next-is own rest) in

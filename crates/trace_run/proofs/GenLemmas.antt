@@ -28,7 +28,7 @@ use Rattle.arc_table.specs.Telling.{opening_of}
 use Rattle.trace_run.specs.Outcome.{generated}
 use Rattle.trace_run.specs.PlainReport.{ArePlainReplies, IsPlainReply, IsPlainReport, ShowsCollision}
 use Rattle.trace_run.specs.PlainRun.{report_of, report_with}
-use Rattle.arc_table.specs.PoolCalls.{Failed, Gave, MakesCalls, PoolCall}
+use Rattle.vdev_io.specs.Calls.{Failed, Gave, MakesCalls, Call}
 use Rattle.trace_run.proofs.PlainLemmas.{AllGive, plain-gives}
 
 -- ---- lists by their places
@@ -152,7 +152,7 @@ none-refused seed blocks count trace replies made answers none =
 
 -- ---- no read of its pool fails
 
-pub never-failed : {P : Type 0} (pool : Ghosts P) → ((p : P) → pool.faults p ≡ 0) → (calls : List PoolCall) (a b : P) → MakesCalls pool calls a b → AllGive calls
+pub never-failed : {P : Type 0} (pool : Ghosts P) → ((p : P) → pool.faults p ≡ 0) → (calls : List Call) (a b : P) → MakesCalls pool calls a b → AllGive calls
 never-failed pool none [] a b made = tt
 never-failed pool none (Gave ∷ calls) a b made = (refl, never-failed pool none calls made.0 b made.2)
 never-failed pool none (Failed ∷ calls) a b made =
@@ -196,7 +196,7 @@ made-trace seed blocks ops trace made =
     ∙ ap (λ (bs : List Ptr). record first { blocks = bs }) made.blocks
     ∙ ap (λ (os : List Op). record (generated seed blocks ops) { ops = os }) made.ops
 
-pub made-report : (seed blocks ops : ℕ) (trace : Trace) (image : List ℕ) (calls : List PoolCall) → trace ≡ generated seed blocks ops → AllGive calls
+pub made-report : (seed blocks ops : ℕ) (trace : Trace) (image : List ℕ) (calls : List Call) → trace ≡ generated seed blocks ops → AllGive calls
     → report_of trace image calls ≡ report_of (generated seed blocks ops) image []
 made-report seed blocks ops trace image calls is give =
     ap (λ (l : List Reply). report_with trace l) (plain-gives image trace.config.shards trace.blocks (λ shard. opening_of trace.config) [] trace.ops calls give)

@@ -26,7 +26,7 @@ use Rattle.arc_table.specs.declared.view.Known.{Known}
 use Rattle.arc_table.specs.Cache.{Cache}
 use Rattle.arc_table.specs.Holding.{IsHoldOf, ptr_of}
 use Rattle.arc_table.specs.Items.{Meanings}
-use Rattle.arc_table.specs.PoolCalls.{Failed, MakesCall}
+use Rattle.vdev_io.specs.Calls.{Failed, MakesCall}
 use Rattle.arc_table.specs.Reading.{Answers, AnswersRead, EndsAtPool, EndsMiss, EndsPast, GivesBlock, GivesOthers, GoesToPool, Outside, answered, from_device, from_none, from_pool, hit, missed, no_memory, past, read, refused, unread}
 use Rattle.arc_table.proofs.AfterRead.{read_stays}
 use Rattle.arc_table.proofs.Afterwards.{Stays, stays_party}

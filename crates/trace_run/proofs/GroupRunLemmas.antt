@@ -23,7 +23,7 @@ use Rattle.arc_table.specs.Cache.{Cache}
 use Rattle.arc_table.specs.Ended.{AreAtRest, Ended, Ends}
 use Rattle.arc_table.specs.Geometry.{parties_of}
 use Rattle.arc_table.specs.Items.{Meanings}
-use Rattle.arc_table.specs.PoolCalls.{KeepsPool, MakesCalls}
+use Rattle.vdev_io.specs.Calls.{KeepsPool, MakesCalls}
 use Rattle.arc_table.specs.TableLaws.{get_last, get_more, same_at, there, within}
 use Rattle.trace_text.specs.declared.ends.ShardEnd.{ShardEnd}
 use Rattle.trace_text.specs.declared.op.Op.{Op}

@@ -27,7 +27,7 @@ use Rattle.turn_table.specs.Places.{Place}
 use Rattle.arc_table.specs.declared.view.Known.{Known}
 use Rattle.arc_table.specs.Both.{Does}
 use Rattle.arc_table.specs.Items.{Meanings}
-use Rattle.arc_table.specs.PoolCalls.{KeepsPool, MakesCalls, PoolCall}
+use Rattle.vdev_io.specs.Calls.{KeepsPool, MakesCalls, Call}
 use Rattle.trace_text.specs.declared.op.Op.{Op}
 use Rattle.trace_text.specs.declared.op.Op.TheVariants as ops
 use Rattle.trace_text.specs.declared.reply.Refusal.{Refusal}
@@ -292,6 +292,6 @@ module _ {C P : Type 0} (g : Config) (pools : Ghosts P) (device : ℕ) (blocks :
         did = drop-acts p.number x (kept_of_block x kept) 0 kept reply named answer drops none;
         found = λ alone. tt;
         range = λ came. told-all (pools.told a) (λ image. Unit {0}) (λ image. tt);
-        calls = subst (λ (cs : List PoolCall). MakesCalls pools cs a a) (sym calls) refl;
+        calls = subst (λ (cs : List Call). MakesCalls pools cs a a) (sym calls) refl;
         keeps = record { size = refl; told = refl; faults = omega arith };
       })

@@ -14,7 +14,7 @@ use Rattle.arc_core.specs.Replay.{replay}
 use Rattle.arc_core.proofs.Stepping.{replay-append}
 use Rattle.turn_table.specs.Places.{Place}
 use Rattle.arc_table.specs.declared.view.Known.{Known}
-use Rattle.arc_table.specs.PoolCalls.{MakesCalls}
+use Rattle.vdev_io.specs.Calls.{MakesCalls}
 use Rattle.trace_text.specs.declared.op.Op.{Op}
 use Rattle.trace_text.specs.declared.reply.Reply.{Reply}
 use Rattle.trace_run.specs.KeptReads.{KeptRead}

@@ -29,7 +29,7 @@ use Rattle.trace_run.specs.Lines.{shard_of_line}
 use Rattle.trace_run.specs.OneCaller.{IsFoundAs, NamesSource, events_of, kept_after, oldest_kept}
 use Rattle.trace_run.specs.PlainLines.{IsNext, IsPlainLine}
 use Rattle.trace_run.specs.PlainRun.{key_fault, next_call, refused_access, replies_to, reply_to, reply_to_drop, reply_to_hold, reply_to_read, shards_after}
-use Rattle.arc_table.specs.PoolCalls.{Failed, Gave, PoolCall}
+use Rattle.vdev_io.specs.Calls.{Failed, Gave, Call}
 use Rattle.trace_run.specs.Tally.{AnswersNow, kept_of_block}
 use Rattle.trace_run.proofs.CacheLemmas.{digest_eq-is}
 use Rattle.trace_run.proofs.DropLemmas.{absent-counted, found-counted}
@@ -78,12 +78,12 @@ first-key len key fault.BirthZero fails =
 of-test : (bytes : List ℕ) (ptr : Ptr) → IsOf bytes ptr → digest_eq (sha256_of bytes) ptr.digest ≡ true
 of-test bytes ptr one = (bytes_eq-Decides (sha256_of bytes).0 ptr.digest.0).1 (ap (λ (d : Digest). d.0) one.digest)
 
-accepted : (image : List ℕ) (ptr : Ptr) (a : Access) (call : PoolCall) → IsOf (range_of image ptr.key) ptr → IsNext (calls_from (source_of a)) call → refused_access image ptr a call ≡ None
+accepted : (image : List ℕ) (ptr : Ptr) (a : Access) (call : Call) → IsOf (range_of image ptr.key) ptr → IsNext (calls_from (source_of a)) call → refused_access image ptr a call ≡ None
 accepted image ptr access.Hit call one next = refl
 accepted image ptr (access.Past kept) call one next = rw (sym next, of-test (range_of image ptr.key) ptr one) refl
 accepted image ptr access.Miss call one next = rw (sym next, of-test (range_of image ptr.key) ptr one) refl
 
-failed : (image : List ℕ) (ptr : Ptr) (a : Access) (call : PoolCall) → AsksPool a → Failed ≡ call → refused_access image ptr a call ≡ Some refusal.PoolFault
+failed : (image : List ℕ) (ptr : Ptr) (a : Access) (call : Call) → AsksPool a → Failed ≡ call → refused_access image ptr a call ≡ Some refusal.PoolFault
 failed image ptr access.Hit call asks next = absurd asks
 failed image ptr (access.Past kept) call asks next = rw (sym next) refl
 failed image ptr access.Miss call asks next = rw (sym next) refl
@@ -94,7 +94,7 @@ differs-test image ptr found is other = elim (cases_true (digest_eq (sha256_of (
   | inr differs ↦ differs
 ]
 
-mismatched : (image : List ℕ) (ptr : Ptr) (a : Access) (call : PoolCall) (found : Digest) → AsksPool a → Gave ≡ call → found ≡ sha256_of (range_of image ptr.key) → found ≢ ptr.digest
+mismatched : (image : List ℕ) (ptr : Ptr) (a : Access) (call : Call) (found : Digest) → AsksPool a → Gave ≡ call → found ≡ sha256_of (range_of image ptr.key) → found ≢ ptr.digest
     → refused_access image ptr a call ≡ Some (refusal.Mismatch found)
 mismatched image ptr access.Hit call found asks next is other = absurd asks
 mismatched image ptr (access.Past kept) call found asks next is other = rw (sym next, differs-test image ptr found is other, is) refl
@@ -102,7 +102,7 @@ mismatched image ptr access.Miss call found asks next is other = rw (sym next, d
 
 -- ---- one reply
 
-plain-read : (image : List ℕ) (s : PlainShard) (ptr : Ptr) (window : Window) (reply : Reply) (call : PoolCall) → AnswersRead (length image) (Some image) ptr window reply
+plain-read : (image : List ℕ) (s : PlainShard) (ptr : Ptr) (window : Window) (reply : Reply) (call : Call) → AnswersRead (length image) (Some image) ptr window reply
     → NamesSource (access_of s ptr) (effect_of reply) → ReadsImage image ptr window reply → IsNext (calls_of (effect_of reply)) call → reply ≡ reply_to_read image s ptr window call
 plain-read image s ptr window (Read served digest shown) call answer named read next =
     let inside = least-test ptr.key.size (window.at + window.len) answer.0 in
@@ -124,7 +124,7 @@ plain-read image s ptr window (Refused (refusal.Range end size)) call answer nam
     rw (less-test ptr.key.size (window.at + window.len) past, answer.0, answer.1) refl
 plain-read image s ptr window (Refused (refusal.NoHold block)) call answer named read next = absurd answer
 
-plain-hold : (image : List ℕ) (s : PlainShard) (ptr : Ptr) (reply : Reply) (call : PoolCall) → AnswersHold (length image) (Some image) ptr reply
+plain-hold : (image : List ℕ) (s : PlainShard) (ptr : Ptr) (reply : Reply) (call : Call) → AnswersHold (length image) (Some image) ptr reply
     → NamesSource (access_of s ptr) (effect_of reply) → KeepsImage image ptr reply → IsNext (calls_of (effect_of reply)) call → reply ≡ reply_to_hold image s ptr call
 plain-hold image s ptr (Read served digest shown) call answer named read next = absurd answer
 plain-hold image s ptr (Kept served) call answer named read next =
@@ -166,7 +166,7 @@ plain-line image blocks s kept (ops.Drop n x) reply answer found read = λ call 
 
 -- ---- all replies
 
-pub next-is : (calls rest : List PoolCall) → IsNext calls (next_call (calls ++ rest))
+pub next-is : (calls rest : List Call) → IsNext calls (next_call (calls ++ rest))
 next-is [] rest = tt
 next-is (call ∷ calls) rest = refl
 
@@ -175,25 +175,25 @@ drop-front [] ys = refl
 drop-front (x ∷ xs) ys = drop-front xs ys
 
 -- calls that all give bytes are as none
-abbrev pub AllGive : List PoolCall → Type 0
+abbrev pub AllGive : List Call → Type 0
 AllGive [] = Unit {0}
 AllGive (call ∷ calls) = (call ≡ Gave) × AllGive calls
 
-next-gives : (calls : List PoolCall) → AllGive calls → next_call calls ≡ Gave
+next-gives : (calls : List Call) → AllGive calls → next_call calls ≡ Gave
 next-gives [] all = refl
 next-gives (call ∷ calls) all = all.0
 
-drop-gives : (n : ℕ) (calls : List PoolCall) → AllGive calls → AllGive (drop n calls)
+drop-gives : (n : ℕ) (calls : List Call) → AllGive calls → AllGive (drop n calls)
 drop-gives zero calls all = all
 drop-gives (suc n) [] all = tt
 drop-gives (suc n) (call ∷ calls) all = drop-gives n calls all.1
 
-pub plain-gives : (image : List ℕ) (shards : ℕ) (blocks : List Ptr) (s : ℕ → PlainShard) (kept : List KeptRead) (os : List Op) (calls : List PoolCall) → AllGive calls
+pub plain-gives : (image : List ℕ) (shards : ℕ) (blocks : List Ptr) (s : ℕ → PlainShard) (kept : List KeptRead) (os : List Op) (calls : List Call) → AllGive calls
     → replies_to image shards blocks s kept os calls ≡ replies_to image shards blocks s kept os []
 plain-gives image shards blocks s kept [] calls all = refl
 plain-gives image shards blocks s kept (o ∷ os) calls all =
     let shard = shard_of_line shards blocks o in
-    let next : PoolCall → List PoolCall → List Reply = λ call cs.
+    let next : Call → List Call → List Reply = λ call cs.
     let reply = reply_to image blocks (s shard) kept o call in
     reply ∷ replies_to image shards blocks (shards_after s shard (events_of blocks (s shard) kept o reply)) (kept_after blocks o reply kept) os (drop (length (calls_of (effect_of reply))) cs) in
     let reply = reply_to image blocks (s shard) kept o Gave in
@@ -203,4 +203,4 @@ plain-gives image shards blocks s kept (o ∷ os) calls all =
     let gone : replies_to image shards blocks after left os (drop count calls) ≡ replies_to image shards blocks after left os (drop count []) =
     plain-gives image shards blocks after left os (drop count calls) (drop-gives count calls all)
     ∙ sym (plain-gives image shards blocks after left os (drop count []) (drop-gives count [] tt)) in
-    ap (λ (call : PoolCall). next call calls) (next-gives calls all) ∙ ap (λ (l : List Reply). reply ∷ l) gone
+    ap (λ (call : Call). next call calls) (next-gives calls all) ∙ ap (λ (l : List Reply). reply ∷ l) gone

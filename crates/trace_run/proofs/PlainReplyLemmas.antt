@@ -19,7 +19,7 @@ use Rattle.trace_text.specs.declared.reply.Reply.TheVariants.{Read, Kept, Droppe
 use Rattle.trace_text.specs.declared.reply.Refusal.{Refusal}
 use Rattle.trace_text.specs.declared.reply.Refusal.TheVariants as refusal
 use Rattle.dbuf_state.specs.declared.window.Window.{Window}
-use Rattle.arc_table.specs.PoolCalls.{PoolCall}
+use Rattle.vdev_io.specs.Calls.{Call}
 use Rattle.trace_run.specs.Access as access
 use Rattle.trace_run.specs.KeptReads.{KeptRead}
 use Rattle.trace_run.specs.Access.{Access, access_of, events_of_answered, events_of_drop, events_of_refused, held_key, source_of}
@@ -153,7 +153,7 @@ module _ (image : List ℕ) where
   shows ptr window access.Miss from digest shown answer named resident range = inl (range (subst IsFromPool (sym named) tt))
 
   -- a cached block that is accepted is answered by the plain run with the told bytes
-  plain-hit : (s : PlainShard) (ptr : Ptr) (window : Window) (call : PoolCall) → window.at + window.len ≤ ptr.key.size → IsValid (length image) ptr.key → source_of (access_of s ptr) ≡ served.Hit
+  plain-hit : (s : PlainShard) (ptr : Ptr) (window : Window) (call : Call) → window.at + window.len ≤ ptr.key.size → IsValid (length image) ptr.key → source_of (access_of s ptr) ≡ served.Hit
       → reply_to_read image s ptr window call ≡ Read served.Hit ptr.digest (window_of window (range_of image ptr.key))
   plain-hit s ptr window call inside valid hit = rw (least-test ptr.key.size (window.at + window.len) inside, valid-key (length image) ptr.key valid) (go (access_of s ptr) hit)
     where
@@ -163,7 +163,7 @@ module _ (image : List ℕ) where
       go (access.Past other) is = let no : served.Past ≡ served.Hit = is in cc
       go access.Miss is = let no : served.Pool ≡ served.Hit = is in cc
 
-  plain-or-collides : (s : PlainShard) (ptr : Ptr) (window : Window) (reply : Reply) (call : PoolCall) → AnswersRead (length image) (Some image) ptr window reply
+  plain-or-collides : (s : PlainShard) (ptr : Ptr) (window : Window) (reply : Reply) (call : Call) → AnswersRead (length image) (Some image) ptr window reply
       → NamesSource (access_of s ptr) (effect_of reply) → AreTold image s.entries → (CameFromPool (effect_of reply) → ReadsImage image ptr window reply)
       → ReadsImage image ptr window reply ⊎ ShowsCollision image ptr window (reply_to_read image s ptr window call) reply
   plain-or-collides s ptr window (Read from digest shown) call answer named told range =
@@ -197,7 +197,7 @@ module _ (image : List ℕ) where
   keeps-told s ptr Dropped answer named told range = absurd answer
   keeps-told s ptr (Refused r) answer named told range = tt
 
-  pub line-plain : (blocks : List Ptr) (s : PlainShard) (kept : List KeptRead) (op : Op) (reply : Reply) (call : PoolCall) → IsPlainlyServed image blocks s kept op reply → AreTold image s.entries
+  pub line-plain : (blocks : List Ptr) (s : PlainShard) (kept : List KeptRead) (op : Op) (reply : Reply) (call : Call) → IsPlainlyServed image blocks s kept op reply → AreTold image s.entries
       → IsNext (calls_of (effect_of reply)) call → IsPlainReply image blocks op (reply_to image blocks s kept op call) reply
   line-plain blocks s kept (ops.Read n t x window) reply call is told next =
       let at = is.answer.1 in

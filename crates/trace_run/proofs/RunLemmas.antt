@@ -10,7 +10,7 @@ use Rattle.arc_core.specs.Operations.{pool_reads}
 use Rattle.trace_text.specs.declared.reply.Reply.{Reply}
 use Rattle.trace_run.specs.Answers.{is_pool_fault, tells_fault}
 use Rattle.trace_run.specs.Effects.{Effect, Answered, GivenBack, PoolRefused, NoEffect, calls_of, calls_of_all, effect_of}
-use Rattle.arc_table.specs.PoolCalls.{CountsCall, Failed, Gave, KeepsPool, MakesCalls, PoolCall, is_failed}
+use Rattle.vdev_io.specs.Calls.{CountsCall, Failed, Gave, KeepsPool, MakesCalls, Call, is_failed}
 
 -- ---- one read of the pool stands behind each event that stands for one
 
@@ -19,7 +19,7 @@ pool_reads-append front rest = sum_by-append _ front rest
 
 -- ---- the reads of the pool, one after another
 
-pub calls-then : {P : Type 0} (pool : Ghosts P) (cs ds : List PoolCall) (a b c : P) → MakesCalls pool cs a b → MakesCalls pool ds b c → MakesCalls pool (cs ++ ds) a c
+pub calls-then : {P : Type 0} (pool : Ghosts P) (cs ds : List Call) (a b c : P) → MakesCalls pool cs a b → MakesCalls pool ds b c → MakesCalls pool (cs ++ ds) a c
 calls-then {P} pool [] ds a b c first second = subst (λ (p : P). MakesCalls pool ds p c) first second
 calls-then pool (call ∷ cs) ds a b c first second = (first.0, first.1, calls-then pool cs ds first.0 b c first.2 second)
 
@@ -41,14 +41,14 @@ calls-few [] = omega arith
 calls-few (reply ∷ rest) = omega (arith, length-append (calls_of (effect_of reply)) (calls_of_all rest), calls-few-one (effect_of reply), calls-few rest)
 
 -- the count of reads rises by their number
-pub calls-reads : {P : Type 0} (pool : Ghosts P) (cs : List PoolCall) (a b : P) → MakesCalls pool cs a b → pool.reads a + length cs ≤ last_count → pool.reads b ≡ pool.reads a + length cs
+pub calls-reads : {P : Type 0} (pool : Ghosts P) (cs : List Call) (a b : P) → MakesCalls pool cs a b → pool.reads a + length cs ≤ last_count → pool.reads b ≡ pool.reads a + length cs
 calls-reads {P} pool [] a b made room = omega (arith, ap (λ (p : P). pool.reads p) made)
 calls-reads pool (call ∷ cs) a b made room =
     let one : pool.reads made.0 ≡ pool.reads a + 1 = made.1.reads.more (omega (arith, room)) in
     omega (arith, one, calls-reads pool cs made.0 b made.2 (omega (arith, one, room)))
 
 -- and the count of faults by the number of those that failed
-faults-one : (call : PoolCall) (before now : ℕ) → before < last_count → CountsCall call before now → now ≡ before + cond (is_failed call) 1 0
+faults-one : (call : Call) (before now : ℕ) → before < last_count → CountsCall call before now → now ≡ before + cond (is_failed call) 1 0
 faults-one Gave before now low counts = omega (arith, counts)
 faults-one Failed before now low counts = omega (arith, counts.more low)
 
@@ -56,7 +56,7 @@ cond-few : (b : Bool) → cond b 1 0 ≤ 1
 cond-few true = omega arith
 cond-few false = omega arith
 
-pub calls-faults : {P : Type 0} (pool : Ghosts P) (cs : List PoolCall) (a b : P) → MakesCalls pool cs a b → pool.faults a + length cs ≤ last_count
+pub calls-faults : {P : Type 0} (pool : Ghosts P) (cs : List Call) (a b : P) → MakesCalls pool cs a b → pool.faults a + length cs ≤ last_count
     → pool.faults b ≡ pool.faults a + count_by is_failed cs
 calls-faults {P} pool [] a b made room = omega (arith, ap (λ (p : P). pool.faults p) made)
 calls-faults pool (call ∷ cs) a b made room =

@@ -4,7 +4,7 @@ use Rattle.std.specs.List.{AllByRecursion, range_with_len}
 use Rattle.arc_core.specs.declared.event.Event.{Event}
 use Rattle.arc_core.specs.Operations.{pool_reads}
 use Rattle.arc_table.specs.Ended.{Ended}
-use Rattle.arc_table.specs.PoolCalls.{MakesCalls}
+use Rattle.vdev_io.specs.Calls.{MakesCalls}
 use Rattle.trace_text.specs.declared.ends.ShardEnd.{ShardEnd}
 use Rattle.trace_text.specs.declared.reply.Reply.{Reply}
 use Rattle.trace_text.specs.declared.trace.Trace.{Trace}

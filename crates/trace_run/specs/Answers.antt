@@ -10,7 +10,7 @@ use Rattle.trace_text.specs.declared.reply.Refusal.{Refusal}
 use Rattle.trace_text.specs.declared.reply.Refusal.TheVariants.{PoolFault, Mismatch, Key, NoMemory, Range, NoHold}
 use Rattle.dbuf_state.specs.declared.window.Window.{Window}
 use Rattle.trace_run.specs.Effects.{Effect, Answered, GivenBack, PoolRefused, NoEffect, effect_of}
-use Rattle.arc_table.specs.PoolCalls.{is_failed}
+use Rattle.vdev_io.specs.Calls.{is_failed}
 use Rattle.trace_run.specs.Read.{IsReadOf, IsMismatch}
 
 -- the bytes of a block that a window shows

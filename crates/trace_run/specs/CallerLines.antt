@@ -2,7 +2,7 @@
 use Rattle.std.specs.Prelude.{◌≡◌, ℕ, List, [], ◌∷◌, IfSome}
 use Rattle.blk_ptr.specs.declared.ptr.Ptr.{Ptr}
 use Rattle.arc_core.specs.declared.config.Config.{Config}
-use Rattle.arc_table.specs.PoolCalls.{KeepsPool, MakesCalls}
+use Rattle.vdev_io.specs.Calls.{KeepsPool, MakesCalls}
 use Rattle.arc_table.specs.declared.view.Known.{Known}
 use Rattle.turn_table.specs.Places.{Place}
 use Rattle.trace_text.specs.declared.op.Op.{Op}

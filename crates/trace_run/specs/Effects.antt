@@ -6,7 +6,7 @@ use Rattle.trace_text.specs.declared.reply.Refusal.{Refusal}
 use Rattle.trace_text.specs.declared.reply.Refusal.TheVariants as refusals
 use Rattle.trace_text.specs.declared.reply.Reply.{Reply}
 use Rattle.trace_text.specs.declared.reply.Reply.TheVariants as replies
-use Rattle.arc_table.specs.PoolCalls.{PoolCall, Gave, Failed}
+use Rattle.vdev_io.specs.Calls.{Call, Gave, Failed}
 
 pub data Effect : Type 0 where
   -- the read was answered, and its bytes came from here
@@ -14,7 +14,7 @@ pub data Effect : Type 0 where
   -- a kept read was given back
   GivenBack : Effect
   -- the pool was asked for the bytes, and failed or gave other ones
-  PoolRefused : PoolCall → Effect
+  PoolRefused : Call → Effect
   -- nothing was done
   NoEffect : Effect
 
@@ -33,20 +33,20 @@ effect_of replies.Dropped = GivenBack
 effect_of (replies.Refused refusal) = effect_of_refusal refusal
 
 -- the reads of the pool for bytes that came from here
-abbrev pub calls_from : Served → List PoolCall
+abbrev pub calls_from : Served → List Call
 calls_from served.Hit = []
 calls_from served.Pool = Gave ∷ []
 calls_from served.L2 = []
 calls_from served.Past = Gave ∷ []
 
 -- the reads of the pool that were made
-abbrev pub calls_of : Effect → List PoolCall
+abbrev pub calls_of : Effect → List Call
 calls_of (Answered from) = calls_from from
 calls_of GivenBack = []
 calls_of (PoolRefused call) = call ∷ []
 calls_of NoEffect = []
 
 -- the reads of the pool for all replies, in their order
-abbrev pub calls_of_all : List Reply → List PoolCall
+abbrev pub calls_of_all : List Reply → List Call
 calls_of_all [] = []
 calls_of_all (reply ∷ rest) = calls_of (effect_of reply) ++ calls_of_all rest

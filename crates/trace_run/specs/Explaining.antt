@@ -19,7 +19,7 @@ use Rattle.trace_run.specs.Lines.{is_in_shard, replies_where}
 use Rattle.trace_run.specs.OneCaller.{AreFoundAs, one_caller_histories}
 use Rattle.trace_run.specs.PlainReport.{IsPlainReport}
 use Rattle.trace_run.specs.PlainRun.{report_of}
-use Rattle.arc_table.specs.PoolCalls.{MakesCalls, PoolCall}
+use Rattle.vdev_io.specs.Calls.{MakesCalls, Call}
 
 -- The histories explain the replies, for any number of callers and shards.
 pub record Explain (trace : Trace) (replies : List Reply) (shard_ends : List ShardEnd) (histories : List (List Event)) : Type 0 where
@@ -44,7 +44,7 @@ pub record RunsAlone {P : Type 0} (pool : Ghosts P) (before after : P) (trace : 
       (replies_where (is_in_shard trace.config.shards trace.blocks shard) trace.ops report.replies)) (range_with_len 0 trace.config.shards)
   -- the pool was read once for each event that stands for a read of it, in their order, and nothing else was done with it; exactly the
   -- reads that failed are answered as faults of the pool
-  pub calls : List PoolCall
+  pub calls : List Call
   pub replied : calls ≡ calls_of_all report.replies
   pub counted : length calls ≡ sum_by pool_reads report.histories
   pub made : MakesCalls pool calls before after

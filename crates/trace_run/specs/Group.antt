@@ -4,7 +4,7 @@ use mathlib.Core.Option.{some}
 use lib.ListN.{get_elem?}
 use Rattle.blk_ptr.specs.declared.ptr.Ptr.{Ptr}
 use Rattle.arc_table.specs.Cache.{Cache}
-use Rattle.arc_table.specs.PoolCalls.{MakesCalls}
+use Rattle.vdev_io.specs.Calls.{MakesCalls}
 use Rattle.arc_table.specs.declared.view.Known.{Known}
 use Rattle.turn_table.specs.Places.{Place}
 use Rattle.trace_text.specs.declared.op.Op.{Op}

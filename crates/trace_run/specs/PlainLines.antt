@@ -7,13 +7,13 @@ use Rattle.trace_text.specs.declared.reply.Reply.{Reply}
 use Rattle.trace_run.specs.KeptReads.{KeptRead}
 use Rattle.trace_run.specs.Effects.{calls_of, effect_of}
 use Rattle.trace_run.specs.PlainRun.{reply_to}
-use Rattle.arc_table.specs.PoolCalls.{PoolCall}
+use Rattle.vdev_io.specs.Calls.{Call}
 
 -- the first of these calls, where there is one
-abbrev pub IsNext : List PoolCall → PoolCall → Type 0
+abbrev pub IsNext : List Call → Call → Type 0
 IsNext [] call = Unit {0}
 IsNext (first ∷ calls) call = first ≡ call
 
 -- the reply is that of the plain run, whose first read of the pool is the reply's own, where it has one
 abbrev pub IsPlainLine : (image : List ℕ) → List Ptr → PlainShard → List KeptRead → Op → Reply → Type 0
-IsPlainLine image blocks s kept op reply = (call : PoolCall) → IsNext (calls_of (effect_of reply)) call → reply ≡ reply_to image blocks s kept op call
+IsPlainLine image blocks s kept op reply = (call : Call) → IsNext (calls_of (effect_of reply)) call → reply ≡ reply_to image blocks s kept op call

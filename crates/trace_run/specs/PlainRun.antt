@@ -31,7 +31,7 @@ use Rattle.trace_run.specs.Ends.{ends_of}
 use Rattle.arc_table.specs.Telling.{opening_of}
 use Rattle.trace_run.specs.Lines.{shard_of_line}
 use Rattle.trace_run.specs.OneCaller.{events_of, kept_after, oldest_kept, one_caller_histories}
-use Rattle.arc_table.specs.PoolCalls.{PoolCall, Gave, Failed}
+use Rattle.vdev_io.specs.Calls.{Call, Gave, Failed}
 
 -- ---- the reply to one operation
 
@@ -45,13 +45,13 @@ key_fault pool_len key =
     else None
 
 -- why bytes from the pool are refused, where it answered the read so
-abbrev pub refused_bytes : (image : List ℕ) → Ptr → PoolCall → Option Refusal
+abbrev pub refused_bytes : (image : List ℕ) → Ptr → Call → Option Refusal
 refused_bytes image ptr Failed = Some PoolFault
 refused_bytes image ptr Gave =
     if digest_eq (sha256_of (range_of image ptr.key)) ptr.digest then None else Some (Mismatch (sha256_of (range_of image ptr.key)))
 
 -- why a read with this access is refused, whose key is accepted
-abbrev pub refused_access : (image : List ℕ) → Ptr → Access → PoolCall → Option Refusal
+abbrev pub refused_access : (image : List ℕ) → Ptr → Access → Call → Option Refusal
 refused_access image ptr access.Hit call = None
 refused_access image ptr (access.Past kept) call = refused_bytes image ptr call
 refused_access image ptr access.Miss call = refused_bytes image ptr call
@@ -61,7 +61,7 @@ abbrev pub key_first : Option KeyFault → Option Refusal → Option Refusal
 key_first None later = later
 key_first (Some fault) later = Some (RefusedKey fault)
 
-abbrev pub refused_read : (image : List ℕ) → PlainShard → Ptr → PoolCall → Option Refusal
+abbrev pub refused_read : (image : List ℕ) → PlainShard → Ptr → Call → Option Refusal
 refused_read image s ptr call = key_first (key_fault (length image) ptr.key) (refused_access image ptr (access_of s ptr) call)
 
 -- the reply, where this is why it is refused
@@ -70,13 +70,13 @@ reply_unless None reply = reply
 reply_unless (Some refusal) reply = Refused refusal
 
 -- the reply to a read: its window is looked at before all else
-abbrev pub reply_to_read : (image : List ℕ) → PlainShard → Ptr → Window → PoolCall → Reply
+abbrev pub reply_to_read : (image : List ℕ) → PlainShard → Ptr → Window → Call → Reply
 reply_to_read image s ptr window call =
     if nat_lt ptr.key.size (window.at + window.len) then Refused (Range (window.at + window.len) ptr.key.size)
     else reply_unless (refused_read image s ptr call) (Read (source_of (access_of s ptr)) ptr.digest (window_of window (range_of image ptr.key)))
 
 -- the reply to a read that is to be kept
-abbrev pub reply_to_hold : (image : List ℕ) → PlainShard → Ptr → PoolCall → Reply
+abbrev pub reply_to_hold : (image : List ℕ) → PlainShard → Ptr → Call → Reply
 reply_to_hold image s ptr call = reply_unless (refused_read image s ptr call) (Kept (source_of (access_of s ptr)))
 
 -- the reply to a drop of a read of this block
@@ -84,7 +84,7 @@ abbrev pub reply_to_drop : (block : ℕ) → List KeptRead → Reply
 reply_to_drop block kept = if is_some (oldest_kept block kept) then Dropped else Refused (NoHold block)
 
 -- the reply to an operation, where the pool answers so if it is read; each block of a trace is declared
-abbrev pub reply_to : (image : List ℕ) → List Ptr → PlainShard → List KeptRead → Op → PoolCall → Reply
+abbrev pub reply_to : (image : List ℕ) → List Ptr → PlainShard → List KeptRead → Op → Call → Reply
 reply_to image blocks s kept (ops.Read n t x window) call = option_map_or (λ ptr. reply_to_read image s ptr window call) (slice_get blocks x) Dropped
 reply_to image blocks s kept (ops.Hold n t x) call = option_map_or (λ ptr. reply_to_hold image s ptr call) (slice_get blocks x) Dropped
 reply_to image blocks s kept (ops.Drop n x) call = reply_to_drop x kept
@@ -92,7 +92,7 @@ reply_to image blocks s kept (ops.Drop n x) call = reply_to_drop x kept
 -- ---- the replies to all operations
 
 -- the answer to the pool's next read; where none is said, it gives bytes
-abbrev pub next_call : List PoolCall → PoolCall
+abbrev pub next_call : List Call → Call
 next_call [] = Gave
 next_call (call ∷ calls) = call
 
@@ -100,7 +100,7 @@ next_call (call ∷ calls) = call
 abbrev pub shards_after : (ℕ → PlainShard) → ℕ → List Event → ℕ → PlainShard
 shards_after s shard events i = if i == shard then replay (s i) events else s i
 
-abbrev pub replies_to : (image : List ℕ) → (shards : ℕ) → List Ptr → (ℕ → PlainShard) → List KeptRead → List Op → List PoolCall → List Reply
+abbrev pub replies_to : (image : List ℕ) → (shards : ℕ) → List Ptr → (ℕ → PlainShard) → List KeptRead → List Op → List Call → List Reply
 replies_to image shards blocks s kept [] calls = []
 replies_to image shards blocks s kept (op ∷ ops) calls =
     let shard = shard_of_line shards blocks op in
@@ -125,6 +125,6 @@ report_with trace replies = record {
 }
 
 -- the report of one caller's run over these bytes, where the pool answered its reads so
-abbrev pub report_of : Trace → (image : List ℕ) → List PoolCall → Report
+abbrev pub report_of : Trace → (image : List ℕ) → List Call → Report
 report_of trace image calls =
     report_with trace (replies_to image trace.config.shards trace.blocks (λ shard. opening_of trace.config) [] trace.ops calls)

@@ -13,7 +13,7 @@ use Rattle.arc_core.specs.declared.served.Served.TheVariants as served
 use Rattle.arc_core.specs.Operations.{Act, Fails, Keeps, Moment, StandsFor, act_key}
 use Rattle.arc_core.specs.PlainShard.{PlainShard}
 use Rattle.arc_core.specs.Replay.{replay}
-use Rattle.arc_table.specs.PoolCalls.{Gave, Failed, MakesCalls}
+use Rattle.vdev_io.specs.Calls.{Gave, Failed, MakesCalls}
 use Rattle.dbuf_cells.specs.Kept.{bytes_of}
 use Rattle.turn_table.specs.Places.{Place}
 use Rattle.arc_table.specs.declared.view.Known.{Known}

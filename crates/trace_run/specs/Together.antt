@@ -13,7 +13,7 @@ use Rattle.trace_run.specs.Effects.{calls_of_all}
 use Rattle.trace_run.specs.Ends.{end_of}
 use Rattle.trace_run.specs.Lines.{is_of_caller, replies_where}
 use Rattle.trace_run.specs.PlainRun.{status_of}
-use Rattle.arc_table.specs.PoolCalls.{MakesCalls}
+use Rattle.vdev_io.specs.Calls.{MakesCalls}
 
 -- The report tells what the closed cache had: the history of each shard, and what the shard ends with.
 pub record TellsClosed {C : Type 0} (closed : Ended C) (report : Report) : Type 0 where

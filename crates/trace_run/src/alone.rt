@@ -1,7 +1,7 @@
 //! The run of a trace with one caller over the shared cache.
 ghost use Rattle.std.specs.Prelude.{◌≡◌, IfOk, false};
 ghost use Rattle.arc_table.specs.Geometry.{parties_of};
-ghost use Rattle.arc_table.specs.PoolCalls.{KeepsPool};
+ghost use Rattle.vdev_io.specs.Calls.{KeepsPool};
 ghost use Rattle.trace_text.specs.Grammar.{IsFormed};
 ghost use Rattle.trace_run.specs.Alone.{RanAlone};
 ghost use Rattle.trace_run.specs.Opened.{AreOpened, HasJoined};
@@ -49,7 +49,7 @@ pub(crate) fn run_alone<P: Pool, G: Gate>(
     let mut kept = KeptBlocks::new(alloc);
     let blocks = trace.blocks.as_slice();
     let ops = trace.ops.as_slice();
-    let mut device = NoCache;
+    let mut device = NoCache::new();
     let replies = all_lines(
         alloc,
         rt,

@@ -1,7 +1,7 @@
 //! One read of a caller through the shared cache (arc_read of OpenZFS 2.1's arc.c).
 ghost use Rattle.std.specs.Prelude.{◌≡◌, IfErr, IfOk, List};
 ghost use Rattle.blk_ptr.specs.Key.{IsValid};
-ghost use Rattle.arc_table.specs.PoolCalls.{KeepsPool};
+ghost use Rattle.vdev_io.specs.Calls.{KeepsPool};
 ghost use Rattle.trace_run.specs.KeptBlocks.{Stands};
 ghost use Rattle.trace_run.specs.Reads.{CallsFor, DidRead, IsCauseOf, IsGot, kept_then};
 ghost use Rattle.trace_run.specs.declared.kept_blocks.KeptBlock.{KeptBlock};

@@ -1,7 +1,7 @@
 //! The work of several callers at once, each by its own lines, with its own party and its own fork of the pool.
 ghost use Rattle.std.specs.Prelude.{All, ◌≡◌, ◌<◌, ◌≤◌, ◌^◌, ◌++◌, ◌∷◌, [], IfOk, IsErrOf, List, OnErr, OnOk, length, map, vec_len};
 ghost use Rattle.std.specs.List.{AllByRecursion, AllZip};
-ghost use Rattle.arc_table.specs.PoolCalls.{KeepsPool};
+ghost use Rattle.vdev_io.specs.Calls.{KeepsPool};
 ghost use Rattle.arc_table.specs.declared.view.Known.{Known};
 ghost use Rattle.turn_table.specs.Places.{Place};
 ghost use Rattle.trace_text.specs.declared.reply.Reply.{Reply};
@@ -135,7 +135,7 @@ fn work<C: Keeps, P: Pool, G: Gate>(
         &mut caller.party,
         &mut caller.kept,
         &mut caller.pool,
-        &mut NoCache,
+        &mut NoCache::new(),
         blocks,
         ops,
         gate,

@@ -1,7 +1,7 @@
 //! One caller's lines over the shared cache.
 ghost use Rattle.std.specs.Prelude.{◌≡◌, ◌≢◌, ◌<◌, ◌^◌, [], IfOk, IfSome, List, None, OnErr, filter, length, map};
 ghost use Rattle.blk_ptr.specs.Hash.{shard_of};
-ghost use Rattle.arc_table.specs.PoolCalls.{KeepsPool, MakesCalls};
+ghost use Rattle.vdev_io.specs.Calls.{KeepsPool, MakesCalls};
 ghost use Rattle.trace_run.specs.Acts.{acts_of_hold, acts_of_read};
 ghost use Rattle.trace_run.specs.Answering.{KeepsImage, ReadsImage};
 ghost use Rattle.trace_run.specs.Answers.{AnswersDrop, AnswersHold, AnswersRead, IsInside, window_of};

@@ -1,3 +1,4 @@
+pub mod CallLemmas
 pub mod CrashLaws
 pub mod DiskLemmas
 pub mod JournalLemmas

@@ -35,6 +35,12 @@ abbrev pub CountsFault : {T E : Type 0} → (before now : ℕ) → Result T E �
 CountsFault before now (Ok value) = now ≡ before
 CountsFault before now (Err error) = CountsOne before now
 
+-- one more was counted exactly where the outside failed, and none where memory was refused
+abbrev pub CountsIoFault : {T : Type 0} → (before now : ℕ) → Result T IoFault → Type 0
+CountsIoFault before now (Ok value) = now ≡ before
+CountsIoFault before now (Err NoMemory) = now ≡ before
+CountsIoFault before now (Err Failed) = CountsOne before now
+
 -- the count of faults after an answer: a failure of the outside is counted once, and nothing else is
 abbrev pub count_after : {T : Type 0} → ℕ → Result T IoFault → ℕ
 count_after before (Ok _) = before

@@ -61,11 +61,12 @@ pub record MemoryPool : Type 0 where
   pub reads : ℕ
   pub log : CallLog
 
--- a cache device: its bytes, whether all of them are flushed, whether it tells them, and its calls
+-- a cache device: its bytes, whether all of them are flushed, whether it tells them, how many reads were asked for, and its calls
 pub record MemoryCache : Type 0 where
   pub bytes : List ℕ
   pub flushed : Bool
   pub tells : Bool
+  pub reads : ℕ
   pub log : CallLog
 
 -- the image that it tells

@@ -44,7 +44,8 @@ MayHaveLeft opening calls t c =
     (k : ℕ) × (t ≤ k) × (k ≤ length calls) × IsCrash (after_calls opening (take k calls)) c
 
 -- The disk: the image that it opened with, the calls that changed it, whether it tells what it holds, how many writes and
--- flushes it still takes, and how many bytes, whether it was asked to write more than that, and how many calls failed.
+-- flushes it still takes, and how many bytes, whether it was asked to write more than that, how many calls failed, and how
+-- many reads were asked for. Each write and each flush is one call.
 pub record Disk : Type 0 where
   pub opening : List ℕ
   pub calls : List DiskCall
@@ -53,6 +54,7 @@ pub record Disk : Type 0 where
   pub room : ℕ
   pub full : Bool
   pub faults : ℕ
+  pub reads : ℕ
 
 -- its images
 abbrev pub images : Disk → SectorImages

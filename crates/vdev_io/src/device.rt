@@ -2,7 +2,7 @@
 ghost use Rattle.std.specs.Prelude.{◌≡◌, ℕ, ◌+◌, ◌≤◌, List, Option, None, Some, Bool, false, length, take, drop, IsTrue, IfOk, OnOk, OnErr, IfSome};
 ghost use Rattle.vdev_io.specs.Device.{IsWritten, LeavesOnly, LeavesNoMore, LeavesSame, FollowsBySector, Elapses, ElapsesTo, Stands};
 ghost use Rattle.vdev_io.specs.Untold.{untold};
-ghost use Rattle.vdev_io.specs.Faults.{HasCause, HasIoCause, sum_of_counts};
+ghost use Rattle.vdev_io.specs.Faults.{CountsFault, CountsIoFault, CountsOne, HasCause, HasIoCause, sum_of_counts};
 
 use crate::fault::{Failed, IoFault};
 use std::alloc::Global;
@@ -11,6 +11,9 @@ use std::alloc::Global;
 ///
 /// What it holds is its image. Until a flush, a crash may leave another one. A disk of sectors says more of that: each
 /// sector that a write touches is old or new until a flush, each by itself, and everything else is what a read gives.
+///
+/// It has two counts: of the calls that failed, and of the reads that were asked for. A call counts as one fault where it
+/// fails, and as none where it doesn't.
 pub trait CacheDev: Sized + Send + Drop {
     /// Its length in bytes, which no call changes.
     ghost size: { Self → ℕ };
@@ -33,11 +36,14 @@ pub trait CacheDev: Sized + Send + Drop {
     /// How many calls failed. It never falls.
     ghost faults: { Self → ℕ };
 
+    /// How many reads were asked for. It never falls.
+    ghost reads: { Self → ℕ };
+
     /// The length in bytes.
     fn len(&self) -> u64
         ensures { result ≡ size self.now };
 
-    /// Fills `buf` with the bytes from `offset` on.
+    /// Fills `buf` with the bytes from `offset` on. Whatever it answers, it counts as one read.
     fn read(&mut self, offset: u64, buf: &mut [u8]) -> Result<(), Failed>
         requires inside { offset + length buf.old ≤ size self.old }
         ensures bytes { OnOk result (IfSome (told self.old) (λ image. buf.new ≡ take (length buf.old) (drop offset image))) }
@@ -46,7 +52,9 @@ pub trait CacheDev: Sized + Send + Drop {
         ensures told { told self.new ≡ told self.old }
         ensures crash { LeavesSame (may_leave self.old) (may_leave self.new) }
         ensures time { Stands (moment self.old) (moment self.new) (left_since self.old) (left_since self.new) }
-        ensures cause { HasCause (faults self.old) (faults self.new) result };
+        ensures counted { CountsOne (reads self.old) (reads self.new) }
+        ensures cause { HasCause (faults self.old) (faults self.new) result }
+        ensures fault { CountsFault (faults self.old) (faults self.new) result };
 
     /// Writes `bytes` from `offset` on. After [`Failed`] that range may hold any bytes.
     fn write(&mut self, offset: u64, bytes: &[u8]) -> Result<(), Failed>
@@ -57,7 +65,9 @@ pub trait CacheDev: Sized + Send + Drop {
         ensures crash { IsTrue (has_sectors self.old) → FollowsBySector offset bytes.now (may_leave self.old) (may_leave self.new) }
         ensures time { Elapses (moment self.old) (moment self.new) (left_since self.old) (left_since self.new) }
         ensures since { IsTrue (has_sectors self.old) → ElapsesTo (moment self.old) (left_since self.old) (left_since self.new) (may_leave self.new) }
-        ensures cause { HasCause (faults self.old) (faults self.new) result };
+        ensures reads { reads self.new ≡ reads self.old }
+        ensures cause { HasCause (faults self.old) (faults self.new) result }
+        ensures fault { CountsFault (faults self.old) (faults self.new) result };
 
     /// Makes what was written last: after it a crash leaves what a read gives.
     fn flush(&mut self) -> Result<(), Failed>
@@ -69,21 +79,27 @@ pub trait CacheDev: Sized + Send + Drop {
         ensures crash { LeavesNoMore (may_leave self.old) (may_leave self.new) }
         ensures time { Elapses (moment self.old) (moment self.new) (left_since self.old) (left_since self.new) }
         ensures since { IsTrue (has_sectors self.old) → ElapsesTo (moment self.old) (left_since self.old) (left_since self.new) (may_leave self.new) }
-        ensures cause { HasCause (faults self.old) (faults self.new) result };
+        ensures reads { reads self.new ≡ reads self.old }
+        ensures cause { HasCause (faults self.old) (faults self.new) result }
+        ensures fault { CountsFault (faults self.old) (faults self.new) result };
 
-    /// Another handle on the device for a reader of its own: of the same length, and without a fault. It tells nothing.
+    /// Another handle on the device for a reader of its own: of the same length, and both its counts are 0. It tells nothing.
+    /// To make it counts as one fault after [`IoFault::Failed`], and else as none.
     fn fork(&mut self, alloc: Global) -> Result<Self, IoFault>
-        ensures fork { IfOk result (λ fork. (size fork ≡ size self.old) × (told fork ≡ None) × (faults fork ≡ 0)) }
+        ensures fork { IfOk result (λ fork. (size fork ≡ size self.old) × (told fork ≡ None) × (faults fork ≡ 0) × (reads fork ≡ 0)) }
         ensures size { size self.new ≡ size self.old }
         ensures kind { has_sectors self.new ≡ has_sectors self.old }
         ensures told { told self.new ≡ told self.old }
         ensures crash { LeavesSame (may_leave self.old) (may_leave self.new) }
         ensures time { Stands (moment self.old) (moment self.new) (left_since self.old) (left_since self.new) }
-        ensures cause { HasIoCause (faults self.old) (faults self.new) result };
+        ensures reads { reads self.new ≡ reads self.old }
+        ensures cause { HasIoCause (faults self.old) (faults self.new) result }
+        ensures fault { CountsIoFault (faults self.old) (faults self.new) result };
 
-    /// Takes a fork back, and adds its count of faults. It takes no memory.
+    /// Takes a fork back, and adds its counts. It takes no memory.
     fn absorb(&mut self, other: Self)
         ensures faults { faults self.new ≡ sum_of_counts (faults self.old) (faults other) }
+        ensures reads { reads self.new ≡ sum_of_counts (reads self.old) (reads other) }
         ensures size { size self.new ≡ size self.old }
         ensures kind { has_sectors self.new ≡ has_sectors self.old }
         ensures told { told self.new ≡ told self.old }
@@ -110,8 +126,19 @@ pub trait CacheDev: Sized + Send + Drop {
 }
 
 /// No device at all: one of length 0, which never fails.
-#[derive(Clone, Copy, Debug)]
-pub struct NoCache;
+#[derive(Debug, Drop)]
+pub struct NoCache {
+    reads: u64,
+}
+
+impl NoCache {
+    /// No device, which was not read yet.
+    pub fn new() -> NoCache
+        ensures { result.reads ≡ 0 }
+    {
+        NoCache { reads: 0 }
+    }
+}
 
 impl CacheDev for NoCache {
     ghost size = { λ _. 0 };
@@ -128,11 +155,14 @@ impl CacheDev for NoCache {
 
     ghost faults = { λ _. 0 };
 
+    ghost reads = { λ dev. dev.reads };
+
     fn len(&self) -> u64 {
         0
     }
 
     fn read(&mut self, _offset: u64, _buf: &mut [u8]) -> Result<(), Failed> {
+        self.reads = self.reads.saturating_add(1);
         Ok(())
     }
 
@@ -145,10 +175,12 @@ impl CacheDev for NoCache {
     }
 
     fn fork(&mut self, _alloc: Global) -> Result<NoCache, IoFault> {
-        Ok(NoCache)
+        Ok(NoCache::new())
     }
 
-    fn absorb(&mut self, _other: NoCache) {}
+    fn absorb(&mut self, other: NoCache) {
+        self.reads = self.reads.saturating_add(other.reads);
+    }
 
     ghost told_len = { λ dev image e. untold image e };
 

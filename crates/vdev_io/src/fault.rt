@@ -48,7 +48,7 @@ pub(crate) struct FaultCount {
 
 impl FaultCount {
     ghost use Rattle.std.specs.IoError.{error_kind};
-    ghost use Rattle.vdev_io.specs.Faults.{CountsFault, HasCause, HasIoCause, count_after, sum_of_counts};
+    ghost use Rattle.vdev_io.specs.Faults.{CountsFault, CountsIoFault, HasCause, HasIoCause, sum_of_counts};
 
     /// No call failed yet.
     pub(crate) fn new() -> FaultCount
@@ -60,7 +60,6 @@ impl FaultCount {
     /// Hands on what the system answered, and counts its error.
     pub(crate) fn tell<T>(&mut self, answer: io::Result<T>) -> Result<T, Failed>
         ensures answer { MatchResult result (λ value. answer ≡ Ok value) (λ _. IsErr answer) }
-        ensures count { self.new.count ≡ (if is_err answer then sum_of_counts self.old.count 1 else self.old.count) }
         ensures cause { HasCause self.old.count self.new.count result }
         ensures fault { CountsFault self.old.count self.new.count result }
     {
@@ -77,8 +76,8 @@ impl FaultCount {
     pub(crate) fn tell_memory<T>(&mut self, answer: io::Result<T>) -> Result<T, IoFault>
         ensures answer { MatchResult result (λ value. answer ≡ Ok value) (λ _. IsErr answer) }
         ensures refused { IfErr answer (λ error. IsErrOf result IoFault.NoMemory ↔ (error_kind error ≡ ErrorKind.OutOfMemory)) }
-        ensures count { self.new.count ≡ count_after self.old.count result }
         ensures cause { HasIoCause self.old.count self.new.count result }
+        ensures fault { CountsIoFault self.old.count self.new.count result }
     {
         match answer {
             Ok(value) => Ok(value),

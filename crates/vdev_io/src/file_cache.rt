@@ -1,7 +1,7 @@
 //! A cache device over a file or a block device. Nothing is told of its content.
 ghost use Rattle.std.specs.Prelude.{◌≡◌, ◌^◌, ◌≤◌, None, IfOk, IsTrue, OnOk, false, is_err, if◌then◌else◌, string_bytes};
 ghost use Rattle.vdev_io.specs.Device.{Elapses, ElapsesTo, FollowsBySector, LeavesSame, Stands};
-ghost use Rattle.vdev_io.specs.Faults.{HasCause, HasIoCause, count_after, sum_of_counts};
+ghost use Rattle.vdev_io.specs.Faults.{CountsFault, CountsIoFault, CountsOne, HasCause, HasIoCause, sum_of_counts};
 ghost use Rattle.vdev_io.specs.Place.{HasLength, ReadsAt, WritesAt};
 ghost use Rattle.vdev_io.specs.Untold.{GivesAnything, OfLength, TellsNothing, untold};
 
@@ -27,6 +27,7 @@ pub struct FileCache<'a, R: Files> {
     name: String,
     file: R::File,
     len: u64,
+    reads: u64,
     faults: FaultCount,
 }
 
@@ -36,7 +37,7 @@ impl<'a, R: Files> FileCache<'a, R> {
         ensures len { IfOk result (λ cache. cache.len ≤ 2 ^ 32) }
         ensures told { IfOk result (λ cache. (opened : R.File) × HasLength R.File.stream_position R.File.stream_bytes opened cache.len) }
         ensures name { IfOk result (λ cache. string_bytes cache.name ≡ name.now) }
-        ensures count { IfOk result (λ cache. cache.faults.count ≡ 0) }
+        ensures counts { IfOk result (λ cache. (cache.reads ≡ 0) × (cache.faults.count ≡ 0)) }
     {
         if fs::metadata(rt, name)?.is_dir() {
             return Err(OpenFault::File);
@@ -49,6 +50,7 @@ impl<'a, R: Files> FileCache<'a, R> {
             name,
             file,
             len,
+            reads: 0,
             faults: FaultCount::new(),
         })
     }
@@ -72,6 +74,8 @@ where
 
     ghost faults = { λ cache. cache.faults.count };
 
+    ghost reads = { λ cache. cache.reads };
+
     fn len(&self) -> u64 {
         self.len
     }
@@ -79,23 +83,25 @@ where
     fn read(&mut self, offset: u64, buf: &mut [u8]) -> Result<(), Failed>
         ensures bytes { OnOk result (ReadsAt R.File.stream_position R.File.remaining offset self.old.file self.new.file buf.new) }
         ensures kept { (self.new.len ≡ self.old.len) × (self.new.name ≡ self.old.name) }
+        ensures counted { CountsOne self.old.reads self.new.reads }
         ensures told { GivesAnything result }
         ensures crash { LeavesSame (OfLength self.old.len) (OfLength self.new.len) }
         ensures time { Stands 0 0 (λ _. OfLength self.old.len) (λ _. OfLength self.new.len) }
-        ensures count { self.new.faults.count ≡ (if is_err result then sum_of_counts self.old.faults.count 1 else self.old.faults.count) }
         ensures cause { HasCause self.old.faults.count self.new.faults.count result }
+        ensures fault { CountsFault self.old.faults.count self.new.faults.count result }
     {
+        self.reads = self.reads.saturating_add(1);
         self.faults.tell(read_at(&mut self.file, offset, buf))
     }
 
     fn write(&mut self, offset: u64, bytes: &[u8]) -> Result<(), Failed>
         ensures bytes { OnOk result (WritesAt R.File.stream_position R.File.contents offset self.old.file self.new.file bytes.now) }
-        ensures kept { (self.new.len ≡ self.old.len) × (self.new.name ≡ self.old.name) }
+        ensures kept { (self.new.len ≡ self.old.len) × (self.new.name ≡ self.old.name) × (self.new.reads ≡ self.old.reads) }
         ensures crash { IsTrue false → FollowsBySector offset bytes.now (OfLength self.old.len) (OfLength self.new.len) }
         ensures time { Elapses 0 0 (λ _. OfLength self.old.len) (λ _. OfLength self.new.len) }
         ensures since { IsTrue false → ElapsesTo 0 (λ _. OfLength self.old.len) (λ _. OfLength self.new.len) (OfLength self.new.len) }
-        ensures count { self.new.faults.count ≡ (if is_err result then sum_of_counts self.old.faults.count 1 else self.old.faults.count) }
         ensures cause { HasCause self.old.faults.count self.new.faults.count result }
+        ensures fault { CountsFault self.old.faults.count self.new.faults.count result }
     {
         self.faults.tell(write_at(&mut self.file, offset, bytes))
     }
@@ -105,14 +111,14 @@ where
     }
 
     fn fork(&mut self, alloc: Global) -> Result<Self, IoFault>
-        ensures fork { IfOk result (λ fork. (fork.len ≡ self.old.len) × TellsNothing × (fork.faults.count ≡ 0)) }
+        ensures fork { IfOk result (λ fork. (fork.len ≡ self.old.len) × TellsNothing × (fork.faults.count ≡ 0) × (fork.reads ≡ 0)) }
         ensures name { IfOk result (λ fork. string_bytes fork.name ≡ string_bytes self.old.name) }
         ensures file { self.new.file ≡ self.old.file }
-        ensures kept { (self.new.len ≡ self.old.len) × (self.new.name ≡ self.old.name) }
+        ensures kept { (self.new.len ≡ self.old.len) × (self.new.name ≡ self.old.name) × (self.new.reads ≡ self.old.reads) }
         ensures crash { LeavesSame (OfLength self.old.len) (OfLength self.new.len) }
         ensures time { Stands 0 0 (λ _. OfLength self.old.len) (λ _. OfLength self.new.len) }
-        ensures count { self.new.faults.count ≡ count_after self.old.faults.count result }
         ensures cause { HasIoCause self.old.faults.count self.new.faults.count result }
+        ensures fault { CountsIoFault self.old.faults.count self.new.faults.count result }
     {
         let name = String::from_str(alloc, self.name.as_str())?;
         let file = self
@@ -123,11 +129,13 @@ where
             name,
             file,
             len: self.len,
+            reads: 0,
             faults: FaultCount::new(),
         })
     }
 
     fn absorb(&mut self, other: Self) {
+        self.reads = self.reads.saturating_add(other.reads);
         self.faults.absorb(&other.faults);
     }
 

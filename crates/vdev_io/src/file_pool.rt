@@ -1,6 +1,6 @@
 //! A pool over a file or a block device. Nothing is told of its content.
 ghost use Rattle.std.specs.Prelude.{◌≡◌, ◌^◌, ◌≤◌, None, IfOk, OnOk, IfSome, IsErrOf, IsNone, IsSome, is_err, if◌then◌else◌, string_bytes};
-ghost use Rattle.vdev_io.specs.Faults.{CountsFault, HasCause, HasIoCause, CountsOne, count_after, sum_of_counts};
+ghost use Rattle.vdev_io.specs.Faults.{CountsFault, CountsIoFault, CountsOne, HasCause, HasIoCause};
 ghost use Rattle.vdev_io.specs.Place.{HasLength, OnDisk, ReadsAt, WritesAt};
 ghost use Rattle.vdev_io.specs.Untold.{GivesAnything, TellsNothing, untold};
 
@@ -106,7 +106,6 @@ where
         ensures told { GivesAnything result }
         ensures size { self.new.len ≡ self.old.len }
         ensures counted { CountsOne self.old.reads self.new.reads }
-        ensures count { self.new.faults.count ≡ (if is_err result then sum_of_counts self.old.faults.count 1 else self.old.faults.count) }
         ensures cause { HasCause self.old.faults.count self.new.faults.count result }
         ensures fault { CountsFault self.old.faults.count self.new.faults.count result }
     {
@@ -122,9 +121,8 @@ where
         ensures disk { OnDisk (λ old new. new.name ≡ old.name) self.old.disk self.new.disk }
         ensures size { self.new.len ≡ self.old.len }
         ensures reads { self.new.reads ≡ self.old.reads }
-        ensures refused { IsErrOf result IoFault.NoMemory → self.new.faults.count ≡ self.old.faults.count }
-        ensures count { self.new.faults.count ≡ count_after self.old.faults.count result }
         ensures cause { HasIoCause self.old.faults.count self.new.faults.count result }
+        ensures fault { CountsIoFault self.old.faults.count self.new.faults.count result }
     {
         if let Some(disk) = &mut self.disk {
             self.faults.tell(write_at(&mut disk.file, offset, bytes))?;
@@ -138,8 +136,8 @@ where
         ensures disk { self.new.disk ≡ self.old.disk }
         ensures size { self.new.len ≡ self.old.len }
         ensures reads { self.new.reads ≡ self.old.reads }
-        ensures count { self.new.faults.count ≡ count_after self.old.faults.count result }
         ensures cause { HasIoCause self.old.faults.count self.new.faults.count result }
+        ensures fault { CountsIoFault self.old.faults.count self.new.faults.count result }
     {
         let disk = match &self.disk {
             Some(disk) => {

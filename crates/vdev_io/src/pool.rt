@@ -1,7 +1,7 @@
 //! The disk that holds the blocks, as a trait.
-ghost use Rattle.std.specs.Prelude.{◌≡◌, ℕ, ◌+◌, ◌≤◌, List, Option, Some, length, take, drop, OnOk, IfOk, IfSome, IsErrOf};
+ghost use Rattle.std.specs.Prelude.{◌≡◌, ℕ, ◌+◌, ◌≤◌, List, Option, Some, length, take, drop, OnOk, IfOk, IfSome};
 ghost use Rattle.blk_ptr.specs.Size.{largest_block};
-ghost use Rattle.vdev_io.specs.Faults.{HasCause, HasIoCause, CountsFault, CountsOne, sum_of_counts};
+ghost use Rattle.vdev_io.specs.Faults.{HasCause, HasIoCause, CountsFault, CountsIoFault, CountsOne, sum_of_counts};
 ghost use Rattle.vdev_io.specs.Pool.{WritesOrRefuses};
 
 use crate::fault::{Failed, IoFault};
@@ -40,23 +40,24 @@ pub trait Pool: Sized + Send + Drop {
         ensures fault { CountsFault (faults self.old) (faults self.new) result };
 
     /// Writes `bytes` from `offset` on, and changes no other byte. After [`IoFault::NoMemory`] nothing changed, and after
-    /// [`IoFault::Failed`] that range may hold any bytes.
+    /// [`IoFault::Failed`] that range may hold any bytes. It counts as one fault after [`IoFault::Failed`], and else as none.
     fn write(&mut self, offset: u64, bytes: &[u8]) -> Result<(), IoFault>
         requires inside { offset + length bytes.now ≤ size self.old }
         ensures told { WritesOrRefuses offset bytes.now (told self.old) (told self.new) result }
         ensures size { size self.new ≡ size self.old }
         ensures reads { reads self.new ≡ reads self.old }
-        ensures refused { IsErrOf result IoFault.NoMemory → faults self.new ≡ faults self.old }
-        ensures cause { HasIoCause (faults self.old) (faults self.new) result };
+        ensures cause { HasIoCause (faults self.old) (faults self.new) result }
+        ensures fault { CountsIoFault (faults self.old) (faults self.new) result };
 
     /// Another handle on the pool, for a caller of its own: it has the same length and tells the same bytes, and both its
-    /// counts are 0.
+    /// counts are 0. To make it counts as one fault after [`IoFault::Failed`], and else as none.
     fn fork(&mut self, alloc: Global) -> Result<Self, IoFault>
         ensures fork { IfOk result (λ fork. (size fork ≡ size self.old) × (told fork ≡ told self.old) × (faults fork ≡ 0) × (reads fork ≡ 0)) }
         ensures told { told self.new ≡ told self.old }
         ensures size { size self.new ≡ size self.old }
         ensures reads { reads self.new ≡ reads self.old }
-        ensures cause { HasIoCause (faults self.old) (faults self.new) result };
+        ensures cause { HasIoCause (faults self.old) (faults self.new) result }
+        ensures fault { CountsIoFault (faults self.old) (faults self.new) result };
 
     /// Takes a fork back, and adds its counts. It takes no memory.
     fn absorb(&mut self, other: Self)

@@ -2,7 +2,7 @@
 ghost use Rattle.std.specs.Prelude.{◌≡◌, ◌<◌, None, IfOk, is_err, if◌then◌else◌, length};
 ghost use Rattle.std.specs.Io.{ReadsAtMost, WritesAtMost};
 ghost use Rattle.std.specs.Io.KnownBytes.{ReadConsumes, WriteAppends};
-ghost use Rattle.vdev_io.specs.Faults.{HasCause, sum_of_counts};
+ghost use Rattle.vdev_io.specs.Faults.{CountsFault, HasCause};
 
 use crate::fault::{Failed, FaultCount};
 use crate::sink::Sink;
@@ -39,8 +39,8 @@ impl<R: Input> Source for StdSource<'_, R> {
     fn read(&mut self, buf: &mut [u8]) -> Result<usize, Failed>
         ensures bound { ReadsAtMost result buf.new }
         ensures bytes { ReadConsumes (R.Reader.remaining self.old.reader) (R.Reader.remaining self.new.reader) result buf.new }
-        ensures count { self.new.faults.count ≡ (if is_err result then sum_of_counts self.old.faults.count 1 else self.old.faults.count) }
         ensures cause { HasCause self.old.faults.count self.new.faults.count result }
+        ensures fault { CountsFault self.old.faults.count self.new.faults.count result }
     {
         self.faults.tell(read_some(&mut self.reader, buf))
     }

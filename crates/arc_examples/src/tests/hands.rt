@@ -90,7 +90,7 @@ fn get<R: Wait>(
     ensures ready { IsReadyAs arcs.now party.old party.new }
     ensures held { IfSome result (λ r. IsHeld arcs.now.config party.new r.0) }
 {
-    match arcs.read(rt, party, &big(0), tick, pool, &mut NoCache) {
+    match arcs.read(rt, party, &big(0), tick, pool, &mut NoCache::new()) {
         Ok(Read::Held(hold, served)) => Some((hold, served)),
         Ok(Read::Past { block: _, kept: _ }) => None,
         Err(_) => None,

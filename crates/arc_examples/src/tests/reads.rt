@@ -94,8 +94,8 @@ fn two_reads(
 ) -> Result<(Answer, Answer), NoMemory> {
     let Pair { arcs, mut one, .. } = opened(alloc)?;
     let mut pool = pool_of(alloc, 0, fail)?;
-    let first = answer_of(rt, &arcs, &mut one.party, &ptrs.0, &mut pool, &mut NoCache);
-    let second = answer_of(rt, &arcs, &mut one.party, &ptrs.1, &mut pool, &mut NoCache);
+    let first = answer_of(rt, &arcs, &mut one.party, &ptrs.0, &mut pool, &mut NoCache::new());
+    let second = answer_of(rt, &arcs, &mut one.party, &ptrs.1, &mut pool, &mut NoCache::new());
     Ok((first, second))
 }
 
@@ -154,7 +154,7 @@ fn overwritten(rt: &impl Wait, alloc: Global) -> Result<(Answer, Answer), NoMemo
         &mut one.party,
         &ptr_of(0),
         &mut zeros,
-        &mut NoCache,
+        &mut NoCache::new(),
     );
     let second = answer_of(
         rt,
@@ -162,7 +162,7 @@ fn overwritten(rt: &impl Wait, alloc: Global) -> Result<(Answer, Answer), NoMemo
         &mut one.party,
         &ptr_of(1),
         &mut ones,
-        &mut NoCache,
+        &mut NoCache::new(),
     );
     Ok((first, second))
 }

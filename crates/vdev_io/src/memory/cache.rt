@@ -1,7 +1,7 @@
 //! A cache device in memory.
 ghost use Rattle.std.specs.Prelude.{◌≡◌, ◌+◌, ◌≤◌, ◌↔◌, [], true, false, take, drop, length, IsTrue, IfOk, OnOk, OnErr, IsErrOf, is_err};
 ghost use Rattle.vdev_io.specs.Device.{put};
-ghost use Rattle.vdev_io.specs.Faults.{HasCause, HasIoCause, sum_of_counts};
+ghost use Rattle.vdev_io.specs.Faults.{CountsFault, CountsIoFault, CountsOne, HasCause, HasIoCause, sum_of_counts};
 ghost use Rattle.vdev_io.specs.Memory.{MemoryCache, after_call, told_by, MayBeLeft, is_to_fail, new_log};
 ghost use Rattle.vdev_io.specs.MemoryLaws.{told_has_len, told_may_be_left, left_has_len, not_sectors};
 
@@ -17,25 +17,27 @@ pub struct MemCache {
     bytes: Vec<u8>,
     flushed: bool,
     tells: bool,
+    reads: u64,
     calls: Calls,
 }
 
 impl Model for MemCache {
     ghost Value = { MemoryCache };
 
-    ghost view = { λ cache. record { bytes = cache.bytes.items; flushed = cache.flushed; tells = cache.tells; log = cache.calls } };
+    ghost view = { λ cache. record { bytes = cache.bytes.items; flushed = cache.flushed; tells = cache.tells; reads = cache.reads; log = cache.calls } };
 }
 
 impl MemCache {
     /// A device of these bytes, all of them flushed, of which the calls numbered in `fail` are to fail, counted from 0.
     pub fn new(bytes: Vec<u8>, fail: Vec<u64>) -> MemCache
-        ensures { result ≡ record { bytes = bytes.items; flushed = true; tells = true; log = new_log fail.items } }
+        ensures { result ≡ record { bytes = bytes.items; flushed = true; tells = true; reads = 0; log = new_log fail.items } }
     {
         let calls = Calls::new(fail);
         MemCache {
             bytes,
             flushed: true,
             tells: true,
+            reads: 0,
             calls,
         }
     }
@@ -63,6 +65,8 @@ impl CacheDev for MemCache {
 
     ghost faults = { λ cache. cache.log.faults };
 
+    ghost reads = { λ cache. cache.reads };
+
     fn len(&self) -> u64 {
         self.bytes.len() as u64
     }
@@ -71,10 +75,13 @@ impl CacheDev for MemCache {
         requires inside { offset + length buf.old ≤ length self.old.bytes }
         ensures bytes { OnOk result (buf.new ≡ take (length buf.old) (drop offset self.old.bytes)) }
         ensures kept { (self.new.bytes ≡ self.old.bytes) × (self.new.flushed ≡ self.old.flushed) × (self.new.tells ≡ self.old.tells) }
+        ensures counted { CountsOne self.old.reads self.new.reads }
         ensures cause { HasCause self.old.log.faults self.new.log.faults result }
+        ensures fault { CountsFault self.old.log.faults self.new.log.faults result }
         ensures listed { is_err result ≡ is_to_fail self.old.log }
         ensures calls { self.new.log ≡ after_call self.old.log }
     {
+        self.reads = self.reads.saturating_add(1);
         self.calls.begin()?;
         let at = offset as usize;
         buf.copy_from_slice(&self.bytes[at..at + buf.len()]);
@@ -85,9 +92,10 @@ impl CacheDev for MemCache {
         requires inside { offset + length bytes.now ≤ length self.old.bytes }
         ensures written { OnOk result ((self.new.bytes ≡ put offset bytes.now self.old.bytes) × (self.new.flushed ≡ false)) }
         ensures failed { OnErr result ((self.new.bytes ≡ self.old.bytes) × (self.new.flushed ≡ self.old.flushed)) }
-        ensures tells { self.new.tells ≡ self.old.tells }
+        ensures kept { (self.new.tells ≡ self.old.tells) × (self.new.reads ≡ self.old.reads) }
         ensures len { length self.new.bytes ≡ length self.old.bytes }
         ensures cause { HasCause self.old.log.faults self.new.log.faults result }
+        ensures fault { CountsFault self.old.log.faults self.new.log.faults result }
         ensures listed { is_err result ≡ is_to_fail self.old.log }
         ensures calls { self.new.log ≡ after_call self.old.log }
     {
@@ -102,8 +110,9 @@ impl CacheDev for MemCache {
         ensures durable { OnOk result (self.new.flushed ≡ true) }
         ensures failed { OnErr result (self.new.flushed ≡ self.old.flushed) }
         ensures bytes { self.new.bytes ≡ self.old.bytes }
-        ensures tells { self.new.tells ≡ self.old.tells }
+        ensures kept { (self.new.tells ≡ self.old.tells) × (self.new.reads ≡ self.old.reads) }
         ensures cause { HasCause self.old.log.faults self.new.log.faults result }
+        ensures fault { CountsFault self.old.log.faults self.new.log.faults result }
         ensures listed { is_err result ≡ is_to_fail self.old.log }
         ensures calls { self.new.log ≡ after_call self.old.log }
     {
@@ -113,9 +122,10 @@ impl CacheDev for MemCache {
     }
 
     fn fork(&mut self, alloc: Global) -> Result<MemCache, IoFault>
-        ensures fork { IfOk result (λ fork. fork ≡ record { bytes = self.old.bytes; flushed = false; tells = false; log = new_log [] }) }
-        ensures kept { (self.new.bytes ≡ self.old.bytes) × (self.new.flushed ≡ self.old.flushed) × (self.new.tells ≡ self.old.tells) }
+        ensures fork { IfOk result (λ fork. fork ≡ record { bytes = self.old.bytes; flushed = false; tells = false; reads = 0; log = new_log [] }) }
+        ensures kept { (self.new.bytes ≡ self.old.bytes) × (self.new.flushed ≡ self.old.flushed) × (self.new.tells ≡ self.old.tells) × (self.new.reads ≡ self.old.reads) }
         ensures cause { HasIoCause self.old.log.faults self.new.log.faults result }
+        ensures fault { CountsIoFault self.old.log.faults self.new.log.faults result }
         ensures listed { IsErrOf result IoFault.Failed ↔ IsTrue (is_to_fail self.old.log) }
         ensures calls { self.new.log ≡ after_call self.old.log }
     {
@@ -125,14 +135,17 @@ impl CacheDev for MemCache {
             bytes,
             flushed: false,
             tells: false,
+            reads: 0,
             calls: Calls::new(Vec::new(alloc)),
         })
     }
 
     fn absorb(&mut self, other: MemCache)
         ensures faults { self.new.log ≡ record self.old.log { faults = sum_of_counts self.old.log.faults other.log.faults } }
+        ensures reads { self.new.reads ≡ sum_of_counts self.old.reads other.reads }
         ensures kept { (self.new.bytes ≡ self.old.bytes) × (self.new.flushed ≡ self.old.flushed) × (self.new.tells ≡ self.old.tells) }
     {
+        self.reads = self.reads.saturating_add(other.reads);
         self.calls.absorb(other.calls.faults());
     }
 

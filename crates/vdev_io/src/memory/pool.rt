@@ -3,7 +3,7 @@ ghost use Rattle.std.specs.Prelude.{◌≡◌, ◌+◌, ◌≤◌, ◌↔◌, []
 ghost use Rattle.std.specs.Arc.{arc_value};
 ghost use Rattle.blk_ptr.specs.Size.{largest_block};
 ghost use Rattle.vdev_io.specs.Device.{put};
-ghost use Rattle.vdev_io.specs.Faults.{HasCause, HasIoCause, CountsFault, CountsOne, sum_of_counts};
+ghost use Rattle.vdev_io.specs.Faults.{HasCause, HasIoCause, CountsFault, CountsIoFault, CountsOne, sum_of_counts};
 ghost use Rattle.vdev_io.specs.Memory.{MemoryPool, after_call, is_to_fail, new_log, next_fork};
 
 use super::calls::Calls;
@@ -96,8 +96,8 @@ impl Pool for MemPool {
         ensures failed { OnErr result (self.new.bytes ≡ self.old.bytes) }
         ensures len { length self.new.bytes ≡ length self.old.bytes }
         ensures kept { (self.new.reads ≡ self.old.reads) × (self.new.forks ≡ self.old.forks) }
-        ensures refused { IsErrOf result IoFault.NoMemory → self.new.log.faults ≡ self.old.log.faults }
         ensures cause { HasIoCause self.old.log.faults self.new.log.faults result }
+        ensures fault { CountsIoFault self.old.log.faults self.new.log.faults result }
         ensures listed { IsErrOf result IoFault.Failed ↔ IsTrue (is_to_fail self.old.log) }
         ensures calls { self.new.log ≡ after_call self.old.log }
     {
@@ -114,6 +114,7 @@ impl Pool for MemPool {
         ensures failed { OnErr result (self.new.forks ≡ self.old.forks) }
         ensures kept { (self.new.bytes ≡ self.old.bytes) × (self.new.reads ≡ self.old.reads) }
         ensures cause { HasIoCause self.old.log.faults self.new.log.faults result }
+        ensures fault { CountsIoFault self.old.log.faults self.new.log.faults result }
         ensures listed { IsErrOf result IoFault.Failed ↔ IsTrue (is_to_fail self.old.log) }
         ensures calls { self.new.log ≡ after_call self.old.log }
     {

@@ -2,7 +2,7 @@
 ghost use Rattle.std.specs.Prelude.{◌≡◌, ◌+◌, ◌-◌, ◌≤◌, ◌*◌, ◌↔◌, ◌||◌, ◌∷◌, ◌++◌, [], true, false, drop, length, nat_lt, slice_index_or, take, if◌then◌else◌, IfOk, OnOk, OnErr, IfSome, IsErrOf, IsTrue, MatchResult, is_err};
 ghost use Rattle.blk_ptr.specs.Size.{sector};
 ghost use Rattle.vdev_io.specs.Device.{put, IsWritten, LeavesOnly, LeavesNoMore, LeavesSame, FollowsBySector, Elapses, ElapsesTo, Stands};
-ghost use Rattle.vdev_io.specs.Faults.{HasCause, HasIoCause, sum_of_counts};
+ghost use Rattle.vdev_io.specs.Faults.{CountsFault, CountsIoFault, CountsOne, HasCause, HasIoCause, sum_of_counts};
 ghost use Rattle.vdev_io.specs.SectorDisk.{Disk, Flush, HasFlags, IsCrash, IsCrashBy, IsSameBut, IsSameSector, KeepsImages, Write, DiskLeftSince, DiskMayLeave, images, is_stopped, told_image};
 ghost use Rattle.vdev_io.specs.DiskLaws.{told_has_len, told_is_left, counts_now, only_now, since_earlier};
 
@@ -26,12 +26,13 @@ pub struct SectorDisk {
     tells: bool,
     full: bool,
     faults: u64,
+    reads: u64,
 }
 
 impl Model for SectorDisk {
     ghost Value = { Disk };
 
-    ghost view = { λ disk. record { opening = disk.opening.items; calls = disk.journal.calls; tells = disk.tells; left = disk.journal.left; room = disk.journal.room; full = disk.full; faults = disk.faults } };
+    ghost view = { λ disk. record { opening = disk.opening.items; calls = disk.journal.calls; tells = disk.tells; left = disk.journal.left; room = disk.journal.room; full = disk.full; faults = disk.faults; reads = disk.reads } };
 
     ghost invariant = { λ disk. KeepsImages disk.opening.items disk.journal.calls disk.flushed.items disk.now.items };
 }
@@ -45,7 +46,7 @@ impl SectorDisk {
         stop_after: u64,
         room: u64,
     ) -> Result<SectorDisk, NoMemory>
-        ensures { IfOk result (λ disk. disk ≡ record { opening = bytes.items; calls = []; tells = true; left = stop_after; room = room; full = false; faults = 0 }) }
+        ensures { IfOk result (λ disk. disk ≡ record { opening = bytes.items; calls = []; tells = true; left = stop_after; room = room; full = false; faults = 0; reads = 0 }) }
     {
         let journal = Journal::new(alloc, stop_after, room)?;
         let flushed = bytes.to_vec(alloc)?;
@@ -58,6 +59,7 @@ impl SectorDisk {
             tells: true,
             full: false,
             faults: 0,
+            reads: 0,
         })
     }
 
@@ -75,6 +77,7 @@ impl SectorDisk {
             tells: _,
             full: _,
             faults: _,
+            reads: _,
         } = self;
         put_back(&mut now, &flushed, &journal, kept);
         now
@@ -93,6 +96,7 @@ impl SectorDisk {
         ensures stopped { is_err result ≡ is_stopped self.old }
         ensures begun { MatchResult result (λ _. self.new ≡ self.old) (λ _. self.new ≡ record self.old { faults = sum_of_counts self.old.faults 1 }) }
         ensures cause { HasCause self.old.faults self.new.faults result }
+        ensures fault { CountsFault self.old.faults self.new.faults result }
     {
         if self.full || self.journal.left() == 0 {
             self.faults = self.faults.saturating_add(1);
@@ -169,6 +173,8 @@ impl CacheDev for SectorDisk {
 
     ghost faults = { λ disk. disk.faults };
 
+    ghost reads = { λ disk. disk.reads };
+
     fn len(&self) -> u64 {
         self.now.len() as u64
     }
@@ -181,9 +187,14 @@ impl CacheDev for SectorDisk {
         ensures crash { LeavesSame (DiskMayLeave self.old) (DiskMayLeave self.new) }
         ensures time { Stands (length self.old.calls) (length self.new.calls) (DiskLeftSince self.old) (DiskLeftSince self.new) }
         ensures cause { HasCause self.old.faults self.new.faults result }
+        ensures fault { CountsFault self.old.faults self.new.faults result }
         ensures stopped { is_err result ≡ is_stopped self.old }
-        ensures calls { MatchResult result (λ _. self.new ≡ self.old) (λ _. self.new ≡ record self.old { faults = sum_of_counts self.old.faults 1 }) }
+        ensures counted { CountsOne self.old.reads self.new.reads }
+        ensures calls { MatchResult result
+            (λ _. self.new ≡ record self.old { reads = sum_of_counts self.old.reads 1 })
+            (λ _. self.new ≡ record self.old { reads = sum_of_counts self.old.reads 1; faults = sum_of_counts self.old.faults 1 }) }
     {
+        self.reads = self.reads.saturating_add(1);
         self.begin()?;
         let at = offset as usize;
         buf.copy_from_slice(&self.now[at..at + buf.len()]);
@@ -198,6 +209,7 @@ impl CacheDev for SectorDisk {
         ensures time { Elapses (length self.old.calls) (length self.new.calls) (DiskLeftSince self.old) (DiskLeftSince self.new) }
         ensures since { ElapsesTo (length self.old.calls) (DiskLeftSince self.old) (DiskLeftSince self.new) (DiskMayLeave self.new) }
         ensures cause { HasCause self.old.faults self.new.faults result }
+        ensures fault { CountsFault self.old.faults self.new.faults result }
         ensures stopped { is_err result ≡ (is_stopped self.old || nat_lt self.old.room (length bytes.now)) }
         ensures recorded { OnOk result (self.new ≡ record self.old { calls = self.old.calls ++ Write offset bytes.now ∷ []; left = self.old.left - 1; room = self.old.room - length bytes.now }) }
         ensures failed { OnErr result (self.new ≡ record self.old { full = self.new.full; faults = sum_of_counts self.old.faults 1 }) }
@@ -223,6 +235,7 @@ impl CacheDev for SectorDisk {
         ensures time { Elapses (length self.old.calls) (length self.new.calls) (DiskLeftSince self.old) (DiskLeftSince self.new) }
         ensures since { ElapsesTo (length self.old.calls) (DiskLeftSince self.old) (DiskLeftSince self.new) (DiskMayLeave self.new) }
         ensures cause { HasCause self.old.faults self.new.faults result }
+        ensures fault { CountsFault self.old.faults self.new.faults result }
         ensures stopped { is_err result ≡ is_stopped self.old }
         ensures recorded { MatchResult result
             (λ _. self.new ≡ record self.old { calls = self.old.calls ++ Flush ∷ []; left = self.old.left - 1 })
@@ -235,12 +248,13 @@ impl CacheDev for SectorDisk {
     }
 
     fn fork(&mut self, alloc: Global) -> Result<SectorDisk, IoFault>
-        ensures fork { IfOk result (λ fork. fork ≡ record { opening = (images self.old).now; calls = []; tells = false; left = self.old.left; room = self.old.room; full = false; faults = 0 }) }
+        ensures fork { IfOk result (λ fork. fork ≡ record { opening = (images self.old).now; calls = []; tells = false; left = self.old.left; room = self.old.room; full = false; faults = 0; reads = 0 }) }
         ensures told { told_image self.new ≡ told_image self.old }
         ensures size { length (images self.new).now ≡ length (images self.old).now }
         ensures crash { LeavesSame (DiskMayLeave self.old) (DiskMayLeave self.new) }
         ensures time { Stands (length self.old.calls) (length self.new.calls) (DiskLeftSince self.old) (DiskLeftSince self.new) }
         ensures cause { HasIoCause self.old.faults self.new.faults result }
+        ensures fault { CountsIoFault self.old.faults self.new.faults result }
         ensures stopped { IsErrOf result IoFault.Failed ↔ IsTrue (is_stopped self.old) }
         ensures only { OnOk result (self.new ≡ self.old) }
     {
@@ -253,13 +267,14 @@ impl CacheDev for SectorDisk {
     }
 
     fn absorb(&mut self, other: SectorDisk)
-        ensures faults { self.new ≡ record self.old { faults = sum_of_counts self.old.faults other.faults } }
+        ensures faults { self.new ≡ record self.old { faults = sum_of_counts self.old.faults other.faults; reads = sum_of_counts self.old.reads other.reads } }
         ensures told { told_image self.new ≡ told_image self.old }
         ensures size { length (images self.new).now ≡ length (images self.old).now }
         ensures crash { LeavesSame (DiskMayLeave self.old) (DiskMayLeave self.new) }
         ensures time { Stands (length self.old.calls) (length self.new.calls) (DiskLeftSince self.old) (DiskLeftSince self.new) }
     {
         self.faults = self.faults.saturating_add(other.faults);
+        self.reads = self.reads.saturating_add(other.reads);
     }
 
     ghost told_len = { λ disk image told. told_has_len disk image told };

@@ -2,7 +2,7 @@
 ghost use Rattle.std.specs.Prelude.{◌≡◌, ◌≤◌, ◌<◌, ◌||◌, [], take, length, Some, IfOk, is_err};
 ghost use Rattle.std.specs.Io.{WritesAtMost};
 ghost use Rattle.std.specs.Io.KnownBytes.{WriteAppends};
-ghost use Rattle.vdev_io.specs.Faults.{HasCause};
+ghost use Rattle.vdev_io.specs.Faults.{CountsFault, HasCause};
 ghost use Rattle.vdev_io.specs.Memory.{MemorySink, counted, is_to_fail, new_log, takes_none, takes_of};
 
 use super::calls::Calls;
@@ -65,6 +65,7 @@ impl Sink for MemSink {
         ensures most { IfOk result (λ n. n ≡ takes_of self.old (length bytes.now)) }
         ensures kept { (self.new.most ≡ self.old.most) × (self.new.room ≡ self.old.room) }
         ensures cause { HasCause self.old.log.faults self.new.log.faults result }
+        ensures fault { CountsFault self.old.log.faults self.new.log.faults result }
         ensures listed { is_err result ≡ (is_to_fail self.old.log || takes_none self.old (length bytes.now)) }
         ensures calls { self.new.log ≡ counted self.old.log (is_err result) }
     {

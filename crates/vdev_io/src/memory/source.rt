@@ -2,7 +2,7 @@
 ghost use Rattle.std.specs.Prelude.{◌≡◌, ◌≤◌, drop, take, length, min, Some, is_err};
 ghost use Rattle.std.specs.Io.{ReadsAtMost};
 ghost use Rattle.std.specs.Io.KnownBytes.{ReadConsumes};
-ghost use Rattle.vdev_io.specs.Faults.{HasCause};
+ghost use Rattle.vdev_io.specs.Faults.{CountsFault, HasCause};
 ghost use Rattle.vdev_io.specs.Memory.{MemoryStream, after_call, is_to_fail, new_log};
 
 use super::calls::Calls;
@@ -49,6 +49,7 @@ impl Source for MemSource {
         ensures bound { ReadsAtMost result buf.new }
         ensures bytes { ReadConsumes (Some self.old.bytes) (Some self.new.bytes) result buf.new }
         ensures cause { HasCause self.old.log.faults self.new.log.faults result }
+        ensures fault { CountsFault self.old.log.faults self.new.log.faults result }
         ensures listed { is_err result ≡ is_to_fail self.old.log }
         ensures calls { self.new.log ≡ after_call self.old.log }
     {

@@ -75,11 +75,11 @@ fn calls_in_memory_fail_as_listed(rt: HostRuntime) -> Result<(), Fail> {
 
 #[test]
 fn no_device(rt: HostRuntime) {
-    let mut dev = NoCache;
+    let mut dev = NoCache::new();
     assert_eq!(rt; dev.len(), 0);
     assert_eq!(rt; dev.read(0, &mut []), Ok(()));
     assert_eq!(rt; dev.write(0, &[]), Ok(()));
     assert_eq!(rt; dev.flush(), Ok(()));
     assert!(rt; dev.fork(rt.alloc()).is_ok());
-    dev.absorb(NoCache);
+    dev.absorb(NoCache::new());
 }

@@ -1,6 +1,6 @@
 use Rattle.std.proofs.Common.{◌≡◌, length}
 use Rattle.std.specs.List.{AllByRecursion}
-use Rattle.arc_table.specs.PoolCalls.{KeepsPool}
+use Rattle.vdev_io.specs.Calls.{KeepsPool}
 use Rattle.trace_run.specs.Group.{IsFork}
 use Rattle.trace_run.proofs.group.forks.Given as goal
 

@@ -1,6 +1,6 @@
 use Rattle.std.proofs.Common.{◌≡◌, map, take}
 use Rattle.std.specs.Prelude.{filter}
-use Rattle.arc_table.specs.PoolCalls.{KeepsPool}
+use Rattle.vdev_io.specs.Calls.{KeepsPool}
 use Rattle.trace_run.specs.CallerLines.{DidLines, at}
 use Rattle.trace_run.specs.KeptBlocks.{Stands, read_of}
 use Rattle.trace_run.specs.Lines.{is_of_caller}

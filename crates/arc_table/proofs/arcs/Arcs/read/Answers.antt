@@ -8,7 +8,7 @@ use Rattle.turn_table.specs.Board.{IsAmong}
 use Rattle.turn_table.specs.Places.{Place}
 use Rattle.arc_table.specs.declared.view.Known.{Known}
 use Rattle.arc_table.specs.Items.{Meanings, meanings}
-use Rattle.arc_table.specs.PoolCalls.{KeepsPool}
+use Rattle.vdev_io.specs.Calls.{KeepsPool}
 use Rattle.arc_table.specs.Reading.{Answers, FindsReading, KeepsDevice, Outside, Waits, answered, outside, refused}
 use Rattle.arc_table.proofs.Readers.{waits_not}
 use Rattle.arc_table.proofs.arcs.Arcs.read.Goals as goal

@@ -2,7 +2,7 @@ use Rattle.std.proofs.Common.{ℕ, suc, refl, sym, ap, ◌∙◌, subst}
 use Rattle.blk_ptr.specs.Key.{IsValid}
 use Rattle.turn_table.specs.Board.{IsAmong}
 use Rattle.arc_table.specs.Items.{meanings}
-use Rattle.arc_table.specs.PoolCalls.{KeepsPool}
+use Rattle.vdev_io.specs.Calls.{KeepsPool}
 use Rattle.arc_table.specs.Reading.{Answers, KeepsDevice, Outside, outside}
 use Rattle.arc_table.proofs.arcs.Arcs.read_later.Goals as goal
 

@@ -30,6 +30,7 @@ returns-clause-durable c =
       room = c.flush.new.self.room;
       full = c.self.inside.full;
       faults = c.self.inside.faults;
+      reads = c.self.inside.reads;
     } in
     let r : Records c.args.self.now new Flush = record {
       opening = ap (λ (d : Disk). d.opening) e;
@@ -49,6 +50,7 @@ returns-clause-told c =
       room = c.flush.new.self.room;
       full = c.self.inside.full;
       faults = c.self.inside.faults;
+      reads = c.self.inside.reads;
     } in
     let r : Records c.args.self.now new Flush = record {
       opening = ap (λ (d : Disk). d.opening) e;
@@ -68,6 +70,7 @@ returns-clause-size c =
       room = c.flush.new.self.room;
       full = c.self.inside.full;
       faults = c.self.inside.faults;
+      reads = c.self.inside.reads;
     } in
     let r : Records c.args.self.now new Flush = record {
       opening = ap (λ (d : Disk). d.opening) e;
@@ -87,6 +90,7 @@ returns-clause-crash c =
       room = c.flush.new.self.room;
       full = c.self.inside.full;
       faults = c.self.inside.faults;
+      reads = c.self.inside.reads;
     } in
     let r : Records c.args.self.now new Flush = record {
       opening = ap (λ (d : Disk). d.opening) e;

@@ -34,6 +34,7 @@ returns-clause-told c =
       room = c.write.new.self.room;
       full = c.self.inside.full;
       faults = c.self.inside.faults;
+      reads = c.self.inside.reads;
     } in
     let r : Records c.args.self.now new (Write c.args.offset c.args.bytes.now) = record {
       opening = ap (λ (d : Disk). d.opening) e;
@@ -53,6 +54,7 @@ returns-clause-size c =
       room = c.write.new.self.room;
       full = c.self.inside.full;
       faults = c.self.inside.faults;
+      reads = c.self.inside.reads;
     } in
     let r : Records c.args.self.now new (Write c.args.offset c.args.bytes.now) = record {
       opening = ap (λ (d : Disk). d.opening) e;
@@ -72,6 +74,7 @@ returns-clause-crash c =
       room = c.write.new.self.room;
       full = c.self.inside.full;
       faults = c.self.inside.faults;
+      reads = c.self.inside.reads;
     } in
     let r : Records c.args.self.now new (Write c.args.offset c.args.bytes.now) = record {
       opening = ap (λ (d : Disk). d.opening) e;
