@@ -1,11 +1,11 @@
 -- The calls of a device, from the clauses of its trait, and one list of calls behind another.
 use Rattle.std.proofs.Common.{◌≡◌, ℕ, List, [], ◌∷◌, ◌++◌, length, map, Option, None, Some, Result, Ok, Err, refl, sym, ap, subst, ◌∙◌, append_assoc}
-use Rattle.std.specs.Prelude.{IfSome, OnOk}
+use Rattle.std.specs.Prelude.{Bool, IfSome, IsTrue, OnErr, OnOk}
 use Rattle.std.proofs.lemmas.List.{map-append}
 use Rattle.vdev_io.specs.declared.device.CacheDev.{Ghosts as DeviceGhosts}
-use Rattle.vdev_io.specs.Device.{IsWritten, LeavesOnly}
+use Rattle.vdev_io.specs.Device.{FollowsBySector, IsWritten, LeavesNoMore, LeavesOnly, LeavesSame}
 use Rattle.vdev_io.specs.Faults.{CountsFault, CountsOne}
-use Rattle.vdev_io.specs.Calls.{Call, Gave, Failed, answer_of, CountsCall, Asked, Read, Write, Flush, DeviceCall, answered, IsToldAfter, Lasts, MakesDeviceCall, MakesDeviceCalls, MakesAll, MakesUpTo, MakesAsked}
+use Rattle.vdev_io.specs.Calls.{Call, Gave, Failed, answer_of, CountsCall, Asked, Read, Write, Flush, DeviceCall, answered, IsToldAfter, LeavesAfter, MakesDeviceCall, MakesDeviceCalls, MakesAll, MakesUpTo, MakesAsked}
 
 counts_call : {T E : Type 0} (before now : ℕ) (result : Result T E) → CountsFault before now result → CountsCall (answer_of result) before now
 counts_call before now (Ok value) counts = counts
@@ -27,20 +27,21 @@ told_written at bytes (Some old) None result written = written
 told_written at bytes (Some old) (Some new) (Ok value) written = written
 told_written at bytes (Some old) (Some new) (Err error) written = written
 
-lasts_flushed : {T E : Type 0} (told : Option (List ℕ)) (leaves : List ℕ → Type 0) (result : Result T E) → OnOk result (IfSome told (λ image. LeavesOnly image leaves)) → Lasts Flush (answer_of result) told leaves
-lasts_flushed told leaves (Ok value) durable = durable
-lasts_flushed told leaves (Err error) durable = tt
+leaves_flushed : {T E : Type 0} (told : Option (List ℕ)) (sectors : Bool) (old new : List ℕ → Type 0) (result : Result T E) → LeavesNoMore old new → OnOk result (IfSome told (λ image. LeavesOnly image new))
+    → OnErr result (LeavesSame old new) → LeavesAfter Flush (answer_of result) told sectors old new
+leaves_flushed told sectors old new (Ok value) no_more durable failed = (no_more, durable)
+leaves_flushed told sectors old new (Err error) no_more durable failed = failed
 
 module _ {D : Type 0} (device : DeviceGhosts D) where
   pub makes_read : {T E : Type 0} (at n : ℕ) (old new : D) (result : Result T E) → device.size new ≡ device.size old → device.has_sectors new ≡ device.has_sectors old → device.told new ≡ device.told old
-      → CountsOne (device.reads old) (device.reads new) → CountsFault (device.faults old) (device.faults new) result → MakesDeviceCalls device (answered (answer_of result) (Read at n) ∷ []) old new
-  makes_read at n old new result size kind told reads faults = (
+      → LeavesSame (device.may_leave old) (device.may_leave new) → CountsOne (device.reads old) (device.reads new) → CountsFault (device.faults old) (device.faults new) result → MakesDeviceCalls device (answered (answer_of result) (Read at n) ∷ []) old new
+  makes_read at n old new result size kind told crash reads faults = (
     new,
     record {
       size = size;
       kind = kind;
       told = told_still (answer_of result) at n (device.told old) (device.told new) told;
-      lasts = tt;
+      crash = crash;
       reads = reads;
       faults = counts_call (device.faults old) (device.faults new) result faults;
     },
@@ -48,15 +49,15 @@ module _ {D : Type 0} (device : DeviceGhosts D) where
   )
 
   pub makes_write : {T E : Type 0} (at : ℕ) (bytes : List ℕ) (old new : D) (result : Result T E) → device.size new ≡ device.size old → device.has_sectors new ≡ device.has_sectors old
-      → IsWritten at bytes (device.told old) (device.told new) result → device.reads new ≡ device.reads old → CountsFault (device.faults old) (device.faults new) result
+      → IsWritten at bytes (device.told old) (device.told new) result → (IsTrue (device.has_sectors old) → FollowsBySector at bytes (device.may_leave old) (device.may_leave new)) → device.reads new ≡ device.reads old → CountsFault (device.faults old) (device.faults new) result
       → MakesDeviceCalls device (answered (answer_of result) (Write at bytes) ∷ []) old new
-  makes_write at bytes old new result size kind told reads faults = (
+  makes_write at bytes old new result size kind told crash reads faults = (
     new,
     record {
       size = size;
       kind = kind;
       told = told_written at bytes (device.told old) (device.told new) result told;
-      lasts = tt;
+      crash = crash;
       reads = reads;
       faults = counts_call (device.faults old) (device.faults new) result faults;
     },
@@ -64,15 +65,16 @@ module _ {D : Type 0} (device : DeviceGhosts D) where
   )
 
   pub makes_flush : {T E : Type 0} (old new : D) (result : Result T E) → device.size new ≡ device.size old → device.has_sectors new ≡ device.has_sectors old → device.told new ≡ device.told old
-      → OnOk result (IfSome (device.told old) (λ image. LeavesOnly image (device.may_leave new))) → device.reads new ≡ device.reads old → CountsFault (device.faults old) (device.faults new) result
+      → LeavesNoMore (device.may_leave old) (device.may_leave new) → OnOk result (IfSome (device.told old) (λ image. LeavesOnly image (device.may_leave new)))
+      → OnErr result (LeavesSame (device.may_leave old) (device.may_leave new)) → device.reads new ≡ device.reads old → CountsFault (device.faults old) (device.faults new) result
       → MakesDeviceCalls device (answered (answer_of result) Flush ∷ []) old new
-  makes_flush old new result size kind told durable reads faults = (
+  makes_flush old new result size kind told no_more durable failed reads faults = (
     new,
     record {
       size = size;
       kind = kind;
       told = told_flushed (answer_of result) (device.told old) (device.told new) told;
-      lasts = lasts_flushed (device.told old) (device.may_leave new) result durable;
+      crash = leaves_flushed (device.told old) (device.has_sectors old) (device.may_leave old) (device.may_leave new) result no_more durable failed;
       reads = reads;
       faults = counts_call (device.faults old) (device.faults new) result faults;
     },
@@ -106,6 +108,16 @@ module _ {D : Type 0} (device : DeviceGhosts D) where
             (sym (append_assoc (map (answered Gave) first) (map (answered Gave) after.done) last) ∙ ap (λ (calls : List DeviceCall). calls ++ last) (sym (map-append (answered Gave) first after.done)))
             (calls_behind (map (answered Gave) first) (map (answered Gave) after.done ++ last) old mid new before after.calls);
       }
+
+  -- those that come behind the one that failed were not asked for
+  pub up_to_wider : (first then : List Asked) (old new : D) → MakesUpTo device first old new → MakesUpTo device (first ++ then) old new
+  up_to_wider first then old new made = record {
+    done = made.done;
+    failed = made.failed;
+    left = made.left ++ then;
+    whole = ap (λ (asked : List Asked). asked ++ then) made.whole ∙ append_assoc made.done (made.failed ∷ made.left) then;
+    calls = made.calls;
+  }
 
   -- all of these, and then the others by their answer
   pub asked_behind : {T E : Type 0} (first then : List Asked) (old mid new : D) (result : Result T E) → MakesAll device first old mid → MakesAsked device then mid new result → MakesAsked device (first ++ then) old new result

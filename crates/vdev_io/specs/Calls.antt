@@ -1,8 +1,8 @@
 -- The calls that are made of a pool or of a cache device, one after another, and which of them failed.
-use Rattle.std.specs.Prelude.{◌≡◌, ℕ, ◌≤◌, Bool, true, false, List, [], ◌∷◌, ◌++◌, length, map, Option, None, Some, IfSome, Result, Ok, Err}
+use Rattle.std.specs.Prelude.{◌≡◌, ℕ, ◌≤◌, Bool, true, false, List, [], ◌∷◌, ◌++◌, length, map, Option, None, Some, IfSome, IsTrue, Result, Ok, Err}
 use Rattle.vdev_io.specs.declared.pool.Pool.{Ghosts}
 use Rattle.vdev_io.specs.declared.device.CacheDev.{Ghosts as DeviceGhosts}
-use Rattle.vdev_io.specs.Device.{put, IsTorn, LeavesOnly}
+use Rattle.vdev_io.specs.Device.{put, IsTorn, FollowsBySector, LeavesNoMore, LeavesOnly, LeavesSame}
 use Rattle.vdev_io.specs.Faults.{CountsOne}
 
 -- how a call was answered
@@ -73,17 +73,19 @@ IsToldAfter asked answer None new = new ≡ None
 IsToldAfter asked answer (Some old) None = ⊥
 IsToldAfter asked answer (Some old) (Some new) = IsImageAfter asked answer old new
 
--- a flush that was done: a crash leaves what is told, and nothing else
-abbrev pub Lasts : Asked → Call → Option (List ℕ) → (List ℕ → Type 0) → Type 0
-Lasts Flush Gave told leaves = IfSome told (λ image. LeavesOnly image leaves)
-Lasts asked answer told leaves = Unit {0}
+-- what a crash may leave after a call: what it might before, but for the sectors of a write; and only what is told, after a flush that was done
+abbrev pub LeavesAfter : Asked → Call → Option (List ℕ) → (sectors : Bool) → (old new : List ℕ → Type 0) → Type 0
+LeavesAfter (Read at n) answer told sectors old new = LeavesSame old new
+LeavesAfter (Write at bytes) answer told sectors old new = IsTrue sectors → FollowsBySector at bytes old new
+LeavesAfter Flush Gave told sectors old new = LeavesNoMore old new × IfSome told (λ image. LeavesOnly image new)
+LeavesAfter Flush Failed told sectors old new = LeavesSame old new
 
 -- the device was asked for this once, and answered so
 pub record MakesDeviceCall {D : Type 0} (device : DeviceGhosts D) (call : DeviceCall) (old new : D) : Type 0 where
   pub size : device.size new ≡ device.size old
   pub kind : device.has_sectors new ≡ device.has_sectors old
   pub told : IsToldAfter call.asked call.answer (device.told old) (device.told new)
-  pub lasts : Lasts call.asked call.answer (device.told old) (device.may_leave new)
+  pub crash : LeavesAfter call.asked call.answer (device.told old) (device.has_sectors old) (device.may_leave old) (device.may_leave new)
   pub reads : CountsRead call.asked (device.reads old) (device.reads new)
   pub faults : CountsCall call.answer (device.faults old) (device.faults new)
 

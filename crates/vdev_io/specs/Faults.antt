@@ -40,9 +40,3 @@ abbrev pub CountsIoFault : {T : Type 0} → (before now : ℕ) → Result T IoFa
 CountsIoFault before now (Ok value) = now ≡ before
 CountsIoFault before now (Err NoMemory) = now ≡ before
 CountsIoFault before now (Err Failed) = CountsOne before now
-
--- the count of faults after an answer: a failure of the outside is counted once, and nothing else is
-abbrev pub count_after : {T : Type 0} → ℕ → Result T IoFault → ℕ
-count_after before (Ok _) = before
-count_after before (Err NoMemory) = before
-count_after before (Err Failed) = sum_of_counts before 1
