@@ -255,6 +255,7 @@ impl CacheDev for SectorDisk {
         ensures time { Stands (length self.old.calls) (length self.new.calls) (DiskLeftSince self.old) (DiskLeftSince self.new) }
         ensures cause { HasIoCause self.old.faults self.new.faults result }
         ensures fault { CountsIoFault self.old.faults self.new.faults result }
+        ensures reads { self.new.reads ≡ self.old.reads }
         ensures stopped { IsErrOf result IoFault.Failed ↔ IsTrue (is_stopped self.old) }
         ensures only { OnOk result (self.new ≡ self.old) }
     {
