@@ -2,10 +2,17 @@
 """Runs a table over the built program: .ci/program_table.py PROGRAM.
 
 No contract speaks of `main`, so this table does: each row has the words, what the standard input and the standard output are, and
-the exit status, the standard output and the standard error, line by line. It prints each row that is wrong, and how many were right.
+the exit status, the standard output and the standard error, line by line. Behind the rows it looks at what became of the files, at the
+system calls that the program makes of its pool (where strace is installed), and at runs with ever less memory. It prints what is wrong,
+and how many rows were right.
 """
+import hashlib
 import os
+import random
+import re
 import resource
+import shutil
+import signal
 import subprocess
 import sys
 import tempfile
@@ -67,6 +74,69 @@ TWO_REPORT = [
     'end 1',
 ]
 SIXTEEN = f'arc 16 1 16 1 4096 0 0\nblock 0 512 1 {ZEROS}\nread 15 1 0 0 1\n'
+# bytes that no other file has, and four callers that read four blocks of them each
+RANDOM = random.Random(1).randbytes(20480)
+SPANS = [(1024 * i + 512 * (i % 2), 512 if i % 2 else 1536) for i in range(16)]
+DIGESTS = [hashlib.sha256(RANDOM[at:at + size]).hexdigest() for at, size in SPANS]
+FOUR_CALLERS = ''.join([
+    'arc 4 1 16 1 65536 0 0\n',
+    *(f'block {at} {size} 1 {digest}\n' for (at, size), digest in zip(SPANS, DIGESTS)),
+    *(f'read {i % 4} {i} {i} {i} 16\n' for i in range(16)),
+])
+FOUR_REPORT = [
+    'arc 1',
+    *(f'{i} ok pool {DIGESTS[i]} {RANDOM[at + i:at + i + 16].hex()}' for i, (at, size) in enumerate(SPANS)),
+    f'shard 0 c 65536 p 32768 anon 0 mru {sum(size for at, size in SPANS)} mrug 0 mfu 0 mfug 0 l2 0',
+    'count hit 0 miss 16 past 0 pool 16 l2 0 pass 0 set 0',
+    'end 0',
+]
+# the last block of the longest pool that there may be
+FAR = f'{ARC}block {2 ** 40 - 512} 512 1 {ZEROS}\nread 0 1 0 0 2\n'
+FAR_REPORT = [
+    'arc 1',
+    f'0 ok pool {ZEROS} 0000',
+    'shard 0 c 4096 p 2048 anon 0 mru 512 mrug 0 mfu 0 mfug 0 l2 0',
+    'count hit 0 miss 1 past 0 pool 1 l2 0 pass 0 set 0',
+    'end 0',
+]
+HELP = '''\
+Runs a trace of reads through a block cache over a pool, and reports what each read was answered.
+
+Usage: arc_tool POOL CACHE WORD...
+
+Arguments:
+  <POOL>   The file or block device that blocks are read from, or - for an empty pool
+  <CACHE>  The file of the cache device, or - for none; today only -
+
+Options:
+  -h, --help     Print help
+  -V, --version  Print version
+
+Words:
+  run                  Reads a trace from the standard input and runs it
+  run --events         Reports each event of the cache too
+  gen SEED BLOCKS OPS  Makes a trace of OPS reads over BLOCKS blocks of zero bytes
+                       and runs it; SEED is below 2147483648, BLOCKS from 1 to
+                       32768, OPS at most 1000000
+  paper C              Reads page numbers from the standard input, one a line,
+                       and tells which are hits of ARC for C pages; C is from
+                       1 to 65536
+
+The report goes to the standard output.
+
+Exit status:
+  0   Everything was done
+  1   The trace was run, and some reply is a refusal
+  2   A word behind the file names is wrong; its index from 0 is told
+  3   The standard input holds no trace, or no list of pages
+  4   The standard input could not be read
+  5   The standard output could not be written
+  6   The pool could not be opened once more for each of several callers
+  7   There was too little memory
+  9   The file names are missing, or a word is not UTF-8
+  11  The pool's file could not be opened, or is longer than 2^40 bytes
+  12  There is no cache device yet: CACHE is not -
+'''.splitlines()
 MADE = [
     'arc 1',
     'shard 0 c 4096 p 2048 anon 0 mru 1536 mrug 0 mfu 1024 mfug 0 l2 0',
@@ -75,12 +145,16 @@ MADE = [
 ]
 
 # name; words; standard input (a text, or a file by its name); exit status; lines of the standard output; of the standard error;
-# and what is special of it: 'full' or 'closed' for the standard output, 'poor' for little memory, 'few' for few open files, 'front' for
-# lines that begin the output
+# and what is special of it: 'full', 'closed' or 'cut' for the standard output, which then takes no byte, isn't there or takes 100 bytes,
+# 'poor' for little memory, 'few' for few open files, 'itself' for a pool that is the file of the program that runs
 ROWS = [
     ('a real pool', ['pool', '-', 'run'], READS, 1, ['arc 1', *REPLIES, *SUMS], []),
     ('its events', ['pool', '-', 'run', '--events'], READS, 1, ['arc 1', *REPLIES, *EVENTS, *SUMS], []),
     ('two callers, two shards', ['zeros', '-', 'run', '--events'], TWO_CALLERS, 1, TWO_REPORT, []),
+    ('four callers, a pool of random bytes', ['random', '-', 'run'], FOUR_CALLERS, 0, FOUR_REPORT, []),
+    ('a pool named by a path', ['folder/../pool', '-', 'run'], READS, 1, ['arc 1', *REPLIES, *SUMS], []),
+    ('a name that ends as that of no file', ['x-', '-', 'run'], READS, 1, ['arc 1', *REPLIES, *SUMS], []),
+    ('the end of the longest pool', ['longest', '-', 'run'], FAR, 0, FAR_REPORT, []),
     ('a pool that is opened for some callers', ['zeros', '-', 'run'], SIXTEEN, 6, [*EMPTY[:3], 'end 6'], ['arc_tool: status 6'], 'few'),
     ('a caller too many', ['zeros', '-', 'run'], 'arc 17 1 16 1 4096 0 0\n', 3, [], ['arc_tool: status 3']),
     ('a shard too many', ['zeros', '-', 'run'], 'arc 1 17 16 1 4096 0 0\n', 3, [], ['arc_tool: status 3']),
@@ -98,42 +172,67 @@ ROWS = [
     ('a wrong word', ['pool', '-', 'run', '--event'], READS, 2, [], ['arc_tool: word 1']),
     ('a word too many', ['pool', '-', 'run', '--events', 'x'], READS, 2, [], ['arc_tool: word 2']),
     ('a seed out of range', ['-', '-', 'gen', '2147483648', '8', '10'], '', 2, [], ['arc_tool: word 1']),
+    ('a made trace of a wrong length', ['-', '-', 'gen', '1', '8', 'x'], '', 2, [], ['arc_tool: word 3']),
     ('no trace', ['pool', '-', 'run'], 'arc 1 1 16 1 4095 0 0\n', 3, [], ['arc_tool: status 3']),
     ('an empty source', ['pool', '-', 'run'], '', 3, [], ['arc_tool: status 3']),
     ('a source that fails', ['pool', '-', 'run'], 'folder', 4, [], ['arc_tool: status 4']),
     ('a full output', ['pool', '-', 'run'], READS, 5, [], ['arc_tool: status 5'], 'full'),
     ('a closed output', ['pool', '-', 'run'], READS, 5, [], ['arc_tool: status 5'], 'closed'),
+    ('an output that takes a part', ['pool', '-', 'run'], READS, 5, ['arc 1', *REPLIES], ['arc_tool: status 5'], 'cut'),
     ('too little memory', ['pool', '-', 'run'], 'long', 7, [], ['arc_tool: status 7'], 'poor'),
     ('no file name', [], READS, 9, [], [USAGE]),
     ('one file name', ['pool'], READS, 9, [], [USAGE]),
     ('a file name that is no text', [b'\xff', '-', 'run'], READS, 9, [], [USAGE]),
     ('a word that is no text', ['pool', '-', b'r\xffn'], READS, 9, [], [USAGE]),
     ('an unknown option', ['--halp', '-', 'run'], READS, 9, [], [USAGE]),
+    ('an unknown letter', ['-x', '-', 'run'], READS, 9, [], [USAGE]),
+    ('no pool and no second name', ['-'], READS, 9, [], [USAGE]),
     ('a missing pool', ['nothing', '-', 'run'], READS, 11, [], [NO_POOL]),
     ('a folder for a pool', ['folder', '-', 'run'], READS, 11, [], [NO_POOL]),
     ('a missing pool of a made trace', ['nothing', '-', 'gen', '1', '8', '10'], '', 11, [], [NO_POOL]),
+    ('an empty name for the pool', ['', '-', 'run'], READS, 11, [], [NO_POOL]),
+    ('a longer pool than there may be', ['longer', '-', 'run'], FAR, 11, [], [NO_POOL]),
     ('a missing device', ['pool', 'nothing', 'run'], READS, 12, [], [NO_CACHE]),
     ('a folder for a device', ['pool', 'folder', 'run'], READS, 12, [], [NO_CACHE]),
     ('a pool in the place of the device', ['-', 'pool', 'run'], READS, 12, [], [NO_CACHE]),
+    ('an empty name for the device', ['pool', '', 'run'], READS, 12, [], [NO_CACHE]),
+    ('a device that ends as none', ['pool', 'x-', 'run'], READS, 12, [], [NO_CACHE]),
+    ('a device with a space', ['-', 'a b', 'run'], READS, 12, [], [NO_CACHE]),
     ('no pool and no device', ['nothing', 'nothing', 'run'], READS, 11, [], [NO_POOL]),
     ('the version', ['--version'], '', 0, ['arc_tool 0.1.0'], []),
-    ('the help', ['--help'], '', 0, [
-        'Runs a trace of reads through a block cache over a pool, and reports what each read was answered.',
-        '', 'Usage: arc_tool POOL CACHE WORD...'], [], 'front'),
+    ('the help', ['--help'], '', 0, HELP, []),
+    ('the help before a command', ['--help', 'run'], READS, 0, HELP, []),
     ('the help to a full output', ['--help'], '', 5, [], ['arc_tool: status 5'], 'full'),
 ]
 
 
-def put_files():
-    """The files that rows name: a pool of two blocks, one of zero bytes, a folder, and a trace of 60 MB."""
-    with open('pool', 'wb') as out:
-        out.write(bytes(512) + b'a' * 512)
-    with open('zeros', 'wb') as out:
-        out.truncate(4096)
+
+
+def own_row(program):
+    """A pool that is the file of the program that runs: the system refuses to open it to be written, so it is opened to be read."""
+    with open(program, 'rb') as file:
+        head = file.read(512)
+    digest = hashlib.sha256(head).hexdigest()
+    return ('a pool that can only be read', ['itself', '-', 'run'], f'{ARC}block 0 512 1 {digest}\nread 0 1 0 0 8\n', 0,
+            ['arc 1', f'0 ok pool {digest} {head[:8].hex()}', *FAR_REPORT[2:]], [], 'itself')
+
+
+def put_files(program):
+    """The files that rows name: pools, a folder, the program itself, and a trace of 60 MB."""
+    contents = {'pool': bytes(512) + b'a' * 512, 'zeros': bytes(4096), 'random': RANDOM}
+    contents['x-'] = contents['pool']
+    for name, content in contents.items():
+        with open(name, 'wb') as out:
+            out.write(content)
+    for name, length in ('longest', 2 ** 40), ('longer', 2 ** 40 + 1):
+        with open(name, 'wb') as out:
+            out.truncate(length)
     os.mkdir('folder')
+    shutil.copy(program, 'itself')
     with open('long', 'w') as out:
         out.write(ARC)
         out.writelines(['#' * 59 + '\n'] * 1_000_000)
+    return contents
 
 
 def source(given):
@@ -145,42 +244,125 @@ def source(given):
     return os.open('source', os.O_RDONLY)
 
 
-def run(program, words, given, special):
+def run(program, words, given, special=None):
     """The exit status, and the lines of the standard output and of the standard error."""
     def prepare():
         if special == 'closed':
             os.close(1)
+        if special == 'cut':
+            signal.signal(signal.SIGXFSZ, signal.SIG_IGN)
+            resource.setrlimit(resource.RLIMIT_FSIZE, (100, 100))
         if special == 'poor':
             resource.setrlimit(resource.RLIMIT_AS, (48 << 20, 48 << 20))
         if special == 'few':
             resource.setrlimit(resource.RLIMIT_NOFILE, (12, 12))
+    if special == 'itself':
+        program = os.path.abspath('itself')
     stdin = source(given)
-    stdout = os.open('/dev/full', os.O_WRONLY) if special == 'full' else subprocess.PIPE
+    if special == 'cut':
+        stdout = os.open('cut', os.O_WRONLY | os.O_CREAT | os.O_TRUNC)
+    else:
+        stdout = os.open('/dev/full', os.O_WRONLY) if special == 'full' else subprocess.PIPE
     ended = subprocess.run([program, *words], stdin=stdin, stdout=stdout, stderr=subprocess.PIPE, preexec_fn=prepare, timeout=60)
     os.close(stdin)
-    if special == 'full':
+    told = ended.stdout or b''
+    if stdout != subprocess.PIPE:
         os.close(stdout)
-    told = (ended.stdout or b'').decode().splitlines()
-    return ended.returncode, told, ended.stderr.decode().splitlines()
+    if special == 'cut':
+        with open('cut', 'rb') as file:
+            told = file.read()
+    return ended.returncode, told.decode().splitlines(), ended.stderr.decode().splitlines()
+
+
+def wrong_rows(program):
+    """Each row that is wrong, and how many rows there are."""
+    rows = [*ROWS, own_row(program)]
+    wrong = []
+    for name, words, given, status, output, errors, *special in rows:
+        special = special[0] if special else None
+        if special == 'cut':
+            output = '\n'.join(output)[:100].splitlines()
+        ours = run(program, words, given, special)
+        if ours != (status, output, errors):
+            wrong.append(f'{name}: {words} ended with {ours}, not with {(status, output, errors)}')
+    return wrong, len(rows)
+
+
+def changed_files(contents):
+    """What became of the files, all of which are only read."""
+    wrong = []
+    for name, content in contents.items():
+        with open(name, 'rb') as file:
+            if file.read() != content:
+                wrong.append(f'the file {name} was changed')
+    for name in 'nothing', 'a b', '-', '--halp', '-x':
+        if os.path.exists(name):
+            wrong.append(f'a file {name} was made')
+    return wrong
+
+
+def has_strace():
+    """Whether the system's calls can be looked at."""
+    return shutil.which('strace') and subprocess.run(['strace', '-o', '/dev/null', 'true'], capture_output=True).returncode == 0
+
+
+def wrong_opens(program):
+    """What is wrong of how the pool's file is opened for four callers: that is done once, and once more for each, under its own name, to be
+    read and written, and it is neither made nor cut. Nothing else is opened to be written."""
+    trace = ['strace', '-f', '-qq', '-o', 'calls', '-e', 'trace=open,openat,openat2,creat']
+    ended = subprocess.run([*trace, program, 'random', '-', 'run'], input=FOUR_CALLERS.encode(), capture_output=True, timeout=60)
+    with open('calls') as file:
+        opened = re.findall(r'"(.*)", ([A-Z_|]+)', file.read())
+    pool = [flags for name, flags in opened if name == 'random']
+    others = [name for name, flags in opened if name != 'random' and re.search('O_WRONLY|O_RDWR|O_CREAT', flags)]
+    wrong = []
+    if ended.returncode != 0 or ended.stdout.decode().splitlines() != FOUR_REPORT:
+        wrong.append(f'strace: the run ended with {ended}')
+    if len(pool) != 5 or any('O_RDWR' not in flags or re.search('O_CREAT|O_TRUNC|O_APPEND', flags) for flags in pool):
+        wrong.append(f'strace: the pool of four callers is opened so: {pool}')
+    if others:
+        wrong.append(f'strace: other files are opened to be written: {others}')
+    return wrong
+
+
+def wrong_refusals(program):
+    """What is wrong where memory is refused, at each place where it is asked for: then the status is 7. Each piece of memory is made a call
+    of the system of its own, and all such calls from the n-th on are refused, for each n behind those of the loader."""
+    environment = {**os.environ, 'GLIBC_TUNABLES': 'glibc.malloc.mmap_threshold=1'}
+    trace = ['strace', '-qq', '-o', 'calls', '-e', 'trace=brk,mmap,openat', '-e', 'inject=brk:error=ENOMEM']
+    wrong = []
+    for words, given in (['--help'], b''), (['pool', '-', 'run'], TWO_BLOCKS.encode() + b'read 0 1 1 510 2\n'):
+        def refused(*more):
+            ended = subprocess.run([*trace, *more, program, *words], input=given, capture_output=True, env=environment, timeout=60)
+            return ended.returncode, ended.stdout, ended.stderr
+        ample = refused()
+        with open('calls') as file:
+            calls = file.read().split('"/dev/null"', 1)
+        loaded, asked = (part.count('mmap(') for part in calls)
+        told = {n: refused('-e', f'inject=mmap:error=ENOMEM:when={n}+') for n in range(loaded + 1, loaded + asked + 1)}
+        short = 7, b'', b'arc_tool: status 7\n'
+        if short not in told.values():
+            wrong.append(f'memory: {words} are never short of it')
+        wrong += [f'memory: {words} without piece {n} ended with {ours}' for n, ours in told.items() if ours not in (short, ample)]
+    return wrong
 
 
 def main():
     program = os.path.abspath(sys.argv[1])
-    wrong = 0
     with tempfile.TemporaryDirectory(prefix='arc_tool.') as work:
         os.chdir(work)
-        put_files()
-        for name, words, given, status, output, errors, *special in ROWS:
-            special = special[0] if special else None
-            ours = run(program, words, given, special)
-            if special == 'front':
-                ours = ours[0], ours[1][:len(output)], ours[2]
-            if ours != (status, output, errors):
-                wrong += 1
-                print(f'{name}: {words} ended with {ours}, not with {(status, output, errors)}')
+        contents = put_files(program)
+        wrong, rows = wrong_rows(program)
+        others = changed_files(contents)
+        if has_strace():
+            others += wrong_opens(program) + wrong_refusals(program)
+        else:
+            print('program: there is no strace, so how the pool is opened and where memory is refused was not looked at')
         os.chdir('/')
-    print(f'program: {len(ROWS) - wrong} rows right, {wrong} wrong')
-    sys.exit(wrong > 0)
+    for line in wrong + others:
+        print(line)
+    print(f'program: {rows - len(wrong)} rows right, {len(wrong)} wrong')
+    sys.exit(len(wrong + others) > 0)
 
 
 main()

@@ -3,8 +3,6 @@
 
 mod fault;
 mod names;
-#[cfg(test)]
-mod tests;
 
 use crate::fault::Fault;
 use crate::names::{Names, names_of};
