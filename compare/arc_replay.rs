@@ -9,6 +9,7 @@
 //! It ends with status 0 and a line of sums, or with status 1 and the first thing that is wrong.
 
 mod key;
+#[allow(dead_code)]
 mod pool;
 mod replay;
 mod sha256;
@@ -23,7 +24,7 @@ use std::collections::{HashMap, VecDeque};
 use std::fmt::Write as _;
 use std::io::{self, Read};
 use std::process::ExitCode;
-use trace::{Pointer, Trace, digest, number, parse};
+use trace::{Lines, Pointer, Trace, digest, number, parse};
 
 type Checked<T> = Result<T, String>;
 
@@ -84,11 +85,12 @@ impl Replies<'_> {
     /// What operation `i` did, by its reply.
     fn answered(&mut self, i: usize, reply: &str) -> Checked<Did> {
         let op = &self.trace.ops[i];
-        let pointer = &self.trace.blocks[op.block];
-        let kept = self.kept.entry((op.caller, op.block)).or_default();
-        if matches!(op.what, trace::What::Drop) {
+        let block = op.block().ok_or("is no line on a block")?;
+        let pointer = &self.trace.blocks[block];
+        let kept = self.kept.entry((op.caller, block)).or_default();
+        if matches!(op.what, trace::What::Drop { .. }) {
             let Some((_, served)) = kept.pop_front() else {
-                wants(reply, &format!("refused hold {}", op.block))?;
+                wants(reply, &format!("refused hold {block}"))?;
                 return Ok(Did::Nothing);
             };
             wants(reply, "dropped")?;
@@ -99,7 +101,7 @@ impl Replies<'_> {
             wants(reply, &format!("refused window {end} {}", pointer.key.size))?;
             return Ok(Did::Nothing);
         }
-        let bytes = match self.plain.entry(op.block).or_insert_with(|| plain_read(self.pool, pointer)) {
+        let bytes = match self.plain.entry(block).or_insert_with(|| plain_read(self.pool, pointer)) {
             Ok(bytes) => bytes,
             Err(refusal) => {
                 wants(reply, refusal)?;
@@ -187,9 +189,11 @@ fn acts(trace: &Trace, pool: &Pool, replies: &[&str]) -> Checked<Vec<Vec<Act>>> 
     let mut read = Replies { trace, pool, plain: HashMap::new(), kept: HashMap::new() };
     let mut acts: Vec<Vec<Act>> = (0..trace.callers).map(|_| vec![]).collect();
     let mut push = |op: usize, did| {
-        let trace::Op { caller, block, ref what } = trace.ops[op];
-        let tick = if let trace::What::Read { tick, .. } | trace::What::Hold { tick } = *what { tick } else { 0 };
-        acts[caller].push(Act { op, pointer: trace.blocks[block], tick, did });
+        let line = &trace.ops[op];
+        let tick = if let trace::What::Read { tick, .. } | trace::What::Hold { tick, .. } = line.what { tick } else { 0 };
+        if let Some(block) = line.block() {
+            acts[line.caller].push(Act { op, pointer: trace.blocks[block], tick, did });
+        }
     };
     for (op, reply) in replies.iter().enumerate() {
         push(op, read.answered(op, reply).map_err(|fault| format!("operation {op} {fault}"))?);
@@ -354,7 +358,7 @@ fn perform() -> Checked<String> {
     let [pool, text] = &words[..] else { return Err("usage: arc_replay POOL TRACE <REPORT".into()) };
     let pool = Pool::open(pool).ok_or("the pool can't be had")?;
     let text = std::fs::read(text).map_err(|fault| format!("{text}: {fault}"))?;
-    let trace = parse(&text, 16).map_err(|line| format!("line {line} of the trace is at fault"))?;
+    let trace = parse(&text, 16, Lines::Reads).map_err(|line| format!("line {line} of the trace is at fault"))?;
     let mut report = String::new();
     io::stdin().read_to_string(&mut report).map_err(|fault| format!("the report: {fault}"))?;
     check(&trace, &pool, &report)

@@ -1,19 +1,26 @@
-//! A plain simulation of the cache for one caller, with nothing but the standard library:
+//! A plain simulation of the whole cache for one caller, with nothing but the standard library:
 //!
-//!     rustc -O arc_sim.rs && ./arc_sim POOL - run [--events] <TRACE     or     ./arc_sim - - gen SEED BLOCKS OPS
+//!     rustc -O arc_sim.rs && ./arc_sim POOL CACHE run [--events] <TRACE     or     ./arc_sim - - gen SEED BLOCKS OPS
 //!
-//! It reads the lines `arc`, `block`, `read`, `hold` and `drop`, and prints what `arc_tool` prints. It was written from the rules
-//! alone and shares no code with the program, so it serves as a baseline of speed and as a second opinion on each report. What several
-//! callers are answered is no function of the trace: then it ends with status 13, which says that it can't tell.
-//! With `--alone` as the first word a trace of more than one caller or shard is refused, as by a program that has one of each.
+//! It reads every line of a trace, and prints what `arc_tool` prints: reads, objects with their dbufs and syncs, capacities, feeds of a
+//! cache device and what a start finds on it. It was written from the rules alone and shares no code with the program, so it serves as a
+//! baseline of speed and as a second opinion on each report, on the pool and on the device. What several callers are answered is no
+//! function of the trace: then it ends with status 13, which says that it can't tell.
+//! With `--reads` as the first word a trace with other lines than `arc`, `block`, `read`, `hold` and `drop` is refused, and so is a cache
+//! device, as by a program that has no more yet.
 
+mod dbufs;
+mod device;
 mod key;
 mod pool;
 mod sha256;
+#[allow(dead_code)]
 mod shard;
 #[allow(dead_code)]
 mod trace;
 
+use dbufs::{Cell, Kept};
+use device::Device;
 use key::Key;
 use pool::Pool;
 use sha256::{Digest, Hex, sha256};
@@ -23,7 +30,7 @@ use std::fmt::{self, Display, Write as _};
 use std::io::{self, Read, Write};
 use std::process::ExitCode;
 use std::sync::Arc;
-use trace::{LONGEST_TRACE, MOST_OPS, Op, Pointer, Trace, What, number, parse};
+use trace::{LONGEST_TRACE, Lines, MOST_OPS, Oid, Op, Pointer, Trace, What, number, parse};
 
 /// The reads that a seed draws over blocks of zero bytes.
 fn draw(seed: u64, blocks: u64, ops: u64) -> Trace {
@@ -38,17 +45,27 @@ fn draw(seed: u64, blocks: u64, ops: u64) -> Trace {
         shards: 1,
         capacity: (blocks * 128).max(4_096),
         min_time: 0,
+        cells: 1,
+        dbuf_bytes: 0,
+        write_max: 8_388_608,
+        headroom: 2,
+        objects: Vec::new(),
         blocks: (0..blocks).map(|i| Pointer { key: Key { offset: i * 512, size: 512, birth: 1 }, digest }).collect(),
-        ops: (0..ops).map(|i| Op { caller: 0, block: next(), what: What::Read { tick: i + 1, at: 0, len: 0 } }).collect(),
+        ops: (0..ops).map(|i| Op { caller: 0, what: What::Read { block: next(), tick: i + 1, at: 0, len: 0 } }).collect(),
     }
 }
 
 // ---- The run ----------------------------------------------------------------------------------------------------------------
 
+/// Why a line is refused, as it is printed.
 enum Refusal {
     Key(String),
     Digest(Digest),
     Pool,
+    Window(u64, u64),
+    Hold(usize),
+    Block(Oid),
+    Pin(Oid),
 }
 
 impl Display for Refusal {
@@ -57,125 +74,390 @@ impl Display for Refusal {
             Refusal::Key(fault) => write!(f, "refused key {fault}"),
             Refusal::Digest(found) => write!(f, "refused digest {}", Hex(found)),
             Refusal::Pool => f.write_str("refused pool"),
+            Refusal::Window(end, size) => write!(f, "refused window {end} {size}"),
+            Refusal::Hold(block) => write!(f, "refused hold {block}"),
+            Refusal::Block((object, i)) => write!(f, "refused block {object} {i}"),
+            Refusal::Pin((object, i)) => write!(f, "refused pin {object} {i}"),
         }
+    }
+}
+
+/// Why a run ends before its last line.
+enum Stop {
+    Full,
+    Fault(io::Error),
+}
+
+impl Display for Stop {
+    fn fmt(&self, f: &mut fmt::Formatter<'_>) -> fmt::Result {
+        match self {
+            Stop::Full => f.write_str("the pool is full"),
+            Stop::Fault(fault) => fault.fmt(f),
+        }
+    }
+}
+
+impl From<io::Error> for Stop {
+    fn from(fault: io::Error) -> Stop {
+        Stop::Fault(fault)
     }
 }
 
 /// A block that was read: where its bytes are from, and its place in its shard but where it went past that.
 struct Served {
     from: &'static str,
-    place: Option<usize>,
-    bytes: Arc<[u8]>,
+    shard: usize,
+    block: Kept,
 }
 
-fn read_pool(pool: &Pool, pointer: &Pointer) -> Result<Arc<[u8]>, Refusal> {
-    let bytes = pool.read(pointer.key).map_err(|_| Refusal::Pool)?;
-    let found = sha256(&bytes);
-    if found == pointer.digest { Ok(bytes.into()) } else { Err(Refusal::Digest(found)) }
-}
+/// Bytes as a reply shows them.
+struct Bytes<'a>(&'a [u8]);
 
-fn read_block(shard: &mut Shard, pool: &Pool, pointer: &Pointer, tick: u64) -> Result<Served, Refusal> {
-    pool.check(pointer.key).map_err(Refusal::Key)?;
-    let found = shard.places.get(&pointer.key).copied();
-    if let Some(place) = found.filter(|place| !shard.entries[*place].state.is_ghost()) {
-        let kept = shard.entries[place].digest;
-        if kept == pointer.digest {
-            shard.hit(place, tick);
-            return Ok(Served { from: "hit", place: Some(place), bytes: shard.entries[place].bytes.clone() });
-        }
-        shard.history.push(Event::Past(pointer.key, kept));
-        let bytes = read_pool(pool, pointer)?;
-        return Ok(Served { from: "past", place: None, bytes });
-    }
-    let place = shard.miss(pointer.key, tick);
-    match read_pool(pool, pointer) {
-        Ok(bytes) => {
-            shard.arrive(place, pointer.digest, bytes.clone());
-            Ok(Served { from: "pool", place: Some(place), bytes })
-        }
-        Err(refusal) => {
-            shard.fail(place);
-            Err(refusal)
-        }
+impl Display for Bytes<'_> {
+    fn fmt(&self, f: &mut fmt::Formatter<'_>) -> fmt::Result {
+        if self.0.is_empty() { f.write_str("-") } else { Hex(self.0).fmt(f) }
     }
 }
 
-struct Run {
+/// The numbers that events have: the feeder's, and that of a cell.
+const FEEDER: u8 = 1;
+
+fn number_of(cell: usize) -> u8 {
+    cell as u8 + 2
+}
+
+/// What a device was found to have, as the report tells.
+struct Rebuilt {
+    entries: usize,
+    stop: String,
+}
+
+struct Sim<'a> {
+    trace: &'a Trace,
+    pool: Pool,
+    device: Option<Device>,
+    rebuilt: Option<Rebuilt>,
     shards: Vec<Shard>,
+    cells: Vec<Cell>,
+    /// the kept reads of each block, oldest first, with the operations that kept them
+    kept: HashMap<usize, VecDeque<(usize, Served)>>,
+    /// where the next sync writes, and the number of the group
+    next: u64,
+    group: u64,
     replies: String,
     is_refused: bool,
+    is_full: bool,
 }
 
-fn run(trace: &Trace, pool: &Pool, with_replies: bool) -> Run {
-    let mut shards: Vec<_> = (0..trace.shards).map(|_| Shard::new(trace.capacity, trace.min_time)).collect();
-    let mut kept = Kept::new();
-    let mut replies = String::new();
-    let mut is_refused = false;
-    for (i, op) in trace.ops.iter().enumerate() {
-        let start = replies.len();
-        let _ = write!(replies, "{i} ");
-        let pointer = &trace.blocks[op.block];
-        let shard = &mut shards[trace.shard_of(i)];
-        if let Err(refusal) = answer(shard, pool, pointer, i, op, &mut kept, &mut replies) {
-            let _ = write!(replies, "{refusal}");
-            is_refused = true;
+impl Sim<'_> {
+    fn new(trace: &Trace, pool: Pool, device: Option<(std::fs::File, u64)>) -> Result<Sim<'_>, Stop> {
+        let ends = trace.blocks.iter().filter(|it| pool.check(it.key).is_ok()).map(|it| it.key.offset + it.key.size);
+        let mut sim = Sim {
+            trace,
+            next: ends.max().unwrap_or(0),
+            pool,
+            device: None,
+            rebuilt: None,
+            shards: (0..trace.shards).map(|_| Shard::new(trace.capacity, trace.min_time)).collect(),
+            cells: (0..trace.cells).map(|_| Cell::new(trace.dbuf_bytes)).collect(),
+            kept: HashMap::new(),
+            group: 1,
+            replies: String::new(),
+            is_refused: false,
+            is_full: false,
+        };
+        for (oid, block) in &trace.objects {
+            let cell = sim.cell_of(*oid);
+            sim.cells[cell].map(*oid, trace.blocks[*block]);
         }
-        replies.push('\n');
-        if !with_replies {
-            replies.truncate(start);
+        if let Some((file, len)) = device {
+            let found = Device::start(file, len)?;
+            for live in &found.restored {
+                sim.shards[live.key.shard_of(trace.shards)].restore(live.key, live.place, live.digest);
+            }
+            sim.device = found.device;
+            sim.rebuilt = Some(Rebuilt { entries: found.restored.len(), stop: found.stop });
         }
+        Ok(sim)
     }
-    let mut left: Vec<_> = kept.into_values().flatten().collect();
-    left.sort_by_key(|(i, _)| *i);
-    for (i, served) in left {
-        if let Some(place) = served.place {
-            shards[trace.shard_of(i)].release(place);
-        }
-    }
-    Run { shards, replies, is_refused }
-}
 
-/// The kept reads of each block, oldest first, with the operations that kept them.
-type Kept = HashMap<usize, VecDeque<(usize, Served)>>;
+    fn cell_of(&self, (object, i): Oid) -> usize {
+        let cells = self.cells.len() as u64;
+        ((object % cells + i % cells) % cells) as usize
+    }
 
-/// Answers operation `i` on the block of this pointer, and writes its reply but for a refusal.
-fn answer(
-    shard: &mut Shard,
-    pool: &Pool,
-    pointer: &Pointer,
-    i: usize,
-    op: &Op,
-    kept: &mut Kept,
-    replies: &mut String,
-) -> Result<(), String> {
-    match op.what {
-        What::Read { tick, at, len } => {
-            if at + len > pointer.key.size {
-                return Err(format!("refused window {} {}", at + len, pointer.key.size));
-            }
-            let served = read_block(shard, pool, pointer, tick).map_err(|refusal| refusal.to_string())?;
-            let window = &served.bytes[at as usize..][..len as usize];
-            let _ = write!(replies, "ok {} {} ", served.from, Hex(&pointer.digest));
-            let _ = if window.is_empty() { write!(replies, "-") } else { write!(replies, "{}", Hex(window)) };
-            if let Some(place) = served.place {
-                shard.release(place);
-            }
+    // ---- reads
+
+    fn read_pool(&self, pointer: &Pointer) -> Result<Arc<[u8]>, Refusal> {
+        let bytes = self.pool.read(pointer.key).map_err(|_| Refusal::Pool)?;
+        let found = sha256(&bytes);
+        if found == pointer.digest { Ok(bytes.into()) } else { Err(Refusal::Digest(found)) }
+    }
+
+    /// The bytes that the cache device has of a pointer: at a place that its entry had, unless that tells another digest.
+    fn read_device(&self, pointer: &Pointer, place: Option<u64>, known: Option<Digest>) -> Option<Arc<[u8]>> {
+        if known.is_some_and(|digest| digest != pointer.digest) {
+            return None;
         }
-        What::Hold { tick } => {
-            let served = read_block(shard, pool, pointer, tick).map_err(|refusal| refusal.to_string())?;
-            let _ = write!(replies, "held {}", served.from);
-            kept.entry(op.block).or_default().push_back((i, served));
-        }
-        What::Drop => {
-            let oldest = kept.get_mut(&op.block).and_then(VecDeque::pop_front);
-            let (_, served) = oldest.ok_or_else(|| format!("refused hold {}", op.block))?;
-            if let Some(place) = served.place {
-                shard.release(place);
+        let bytes = self.device.as_ref()?.read(place?, pointer.key.size)?.ok()?;
+        (sha256(&bytes) == pointer.digest).then(|| bytes.into())
+    }
+
+    fn read_block(&mut self, pointer: &Pointer, tick: u64) -> Result<Served, Refusal> {
+        let key = pointer.key;
+        self.pool.check(key).map_err(Refusal::Key)?;
+        let s = key.shard_of(self.shards.len());
+        let shard = &mut self.shards[s];
+        let served = |from, place, bytes| Served { from, shard: s, block: Kept { key, place, bytes } };
+        let found = shard.places.get(&key).copied();
+        if let Some(place) = found.filter(|place| shard.entries[*place].state.has_bytes()) {
+            let kept = shard.entries[place].digest;
+            if kept == pointer.digest {
+                shard.hit(place, tick);
+                return Ok(served("hit", Some(place), shard.entries[place].bytes.clone()));
             }
-            replies.push_str("dropped");
+            shard.history.push(Event::Past(key, kept));
+            return Ok(served("past", None, self.read_pool(pointer)?));
+        }
+        let (on_device, known) = found.map_or((None, None), |at| (shard.entries[at].place(), shard.entries[at].known_digest()));
+        let place = shard.miss(key, tick);
+        if let Some(bytes) = self.read_device(pointer, on_device, known) {
+            self.shards[s].arrive_from(place, pointer.digest, bytes.clone(), true);
+            return Ok(served("l2", Some(place), bytes));
+        }
+        let read = self.read_pool(pointer);
+        match read {
+            Ok(bytes) => {
+                self.shards[s].arrive(place, pointer.digest, bytes.clone());
+                Ok(served("pool", Some(place), bytes))
+            }
+            Err(refusal) => {
+                self.shards[s].fail(place);
+                Err(refusal)
+            }
         }
     }
-    Ok(())
+
+    fn give_back(&mut self, n: u8, block: &Kept) {
+        if let Some(place) = block.place {
+            self.shards[block.key.shard_of(self.trace.shards)].drop_hold(n, place);
+        }
+    }
+
+    // ---- objects
+
+    /// Has the block of an Oid in its dbuf, where that is mapped and the window or the change ends inside.
+    fn bring(&mut self, oid: Oid, end: u64, tick: u64) -> Result<usize, Refusal> {
+        let c = self.cell_of(oid);
+        let size = self.cells[c].size(oid).ok_or(Refusal::Block(oid))?;
+        if end > size {
+            return Err(Refusal::Window(end, size));
+        }
+        if let Some(pointer) = self.cells[c].to_load(oid) {
+            let served = self.read_block(&pointer, tick)?;
+            if let Some(place) = served.block.place {
+                self.shards[served.shard].hand(place, number_of(c));
+            }
+            self.cells[c].load(oid, served.block);
+        }
+        Ok(c)
+    }
+
+    /// A dbuf's block is made private.
+    fn make_private(&mut self, c: usize, kept: Option<Kept>) {
+        if let Some(Kept { key, place: Some(place), .. }) = kept {
+            self.shards[key.shard_of(self.trace.shards)].make_private(number_of(c), place);
+        }
+    }
+
+    /// Evicts dbufs of a cell until the others are within its limit.
+    fn evict(&mut self, c: usize) {
+        while let Some(kept) = self.cells[c].evict() {
+            self.give_back(number_of(c), &kept);
+        }
+    }
+
+    /// Writes every dirty block to the pool, and says of how many and how many bytes.
+    fn sync(&mut self, tick: u64) -> Result<(u64, u64), Stop> {
+        let mut oids: Vec<(Oid, u64)> =
+            self.cells.iter().flat_map(Cell::dirty).map(|(oid, bytes)| (oid, bytes.len() as u64)).collect();
+        oids.sort_unstable();
+        let sum: u64 = oids.iter().map(|(_, size)| size).sum();
+        if sum > self.pool.len() - self.next {
+            return Err(Stop::Full);
+        }
+        for (oid, size) in &oids {
+            let c = self.cell_of(*oid);
+            let bytes: Arc<[u8]> = self.cells[c].bytes(*oid).into();
+            let key = Key { offset: self.next, size: *size, birth: self.group };
+            let pointer = Pointer { key, digest: sha256(&bytes) };
+            self.pool.write(key, &bytes)?;
+            self.next += size;
+            let shard = &mut self.shards[key.shard_of(self.trace.shards)];
+            let place = shard.put_in(number_of(c), key, pointer.digest, tick, bytes.clone());
+            self.cells[c].synced(*oid, pointer, Kept { key, place: Some(place), bytes });
+        }
+        Ok((oids.len() as u64, sum))
+    }
+
+    // ---- the feed
+
+    /// Feeds the device: how much was picked, how many bytes, and how many places were given and taken.
+    fn feed(&mut self) -> Result<String, Stop> {
+        let Some(device) = &mut self.device else { return Ok("feed none".into()) };
+        let most = self.trace.write_max.min(device.half());
+        let (mut picked, mut bytes, mut cleared) = (0, 0, 0);
+        for s in 0..self.shards.len() {
+            let picks = self.shards[s].pick(most, self.trace.headroom);
+            if picks.is_empty() {
+                continue;
+            }
+            let blocks: Vec<_> = picks.iter().map(|place| self.shards[s].block(*place)).collect();
+            for dropped in device.begin(&blocks)? {
+                let shard = &mut self.shards[dropped.key.shard_of(self.trace.shards)];
+                cleared += u64::from(shard.clear(dropped.key, dropped.place));
+            }
+            let places = device.write(&blocks)?;
+            for (place, on_device) in picks.iter().zip(places) {
+                self.shards[s].set(*place, on_device);
+            }
+            picked += picks.len();
+            bytes += blocks.iter().map(|(key, ..)| key.size).sum::<u64>();
+        }
+        Ok(format!("feed picked {picked} bytes {bytes} written {picked} cleared {cleared} ok"))
+    }
+
+    // ---- the lines
+
+    /// Answers an operation, and writes its reply but for a refusal.
+    fn answer(&mut self, i: usize, op: &Op) -> Result<Result<(), Refusal>, Stop> {
+        Ok(match &op.what {
+            What::Feed => {
+                let reply = self.feed()?;
+                self.replies.push_str(&reply);
+                Ok(())
+            }
+            What::Txg { tick } => {
+                let (blocks, bytes) = self.sync(*tick)?;
+                let _ = write!(self.replies, "txg {} blocks {blocks} bytes {bytes}", self.group);
+                self.group += 1;
+                Ok(())
+            }
+            What::Cap { capacity } => {
+                self.shards.iter_mut().for_each(|shard| shard.resize(*capacity));
+                let _ = write!(self.replies, "cap {capacity}");
+                self.group += 1;
+                Ok(())
+            }
+            What::Read { .. } | What::Hold { .. } | What::Drop { .. } => self.answer_read(i, &op.what),
+            _ => self.answer_dbuf(&op.what),
+        })
+    }
+
+    fn answer_read(&mut self, i: usize, what: &What) -> Result<(), Refusal> {
+        match *what {
+            What::Read { block, tick, at, len } => {
+                let pointer = self.trace.blocks[block];
+                if at + len > pointer.key.size {
+                    return Err(Refusal::Window(at + len, pointer.key.size));
+                }
+                let Served { from, block, .. } = self.read_block(&pointer, tick)?;
+                let window = &block.bytes[at as usize..][..len as usize];
+                let _ = write!(self.replies, "ok {from} {} {}", Hex(&pointer.digest), Bytes(window));
+                self.give_back(0, &block);
+            }
+            What::Hold { block, tick } => {
+                let served = self.read_block(&self.trace.blocks[block], tick)?;
+                let _ = write!(self.replies, "held {}", served.from);
+                self.kept.entry(block).or_default().push_back((i, served));
+            }
+            What::Drop { block } => {
+                let oldest = self.kept.get_mut(&block).and_then(VecDeque::pop_front);
+                let (_, served) = oldest.ok_or(Refusal::Hold(block))?;
+                self.give_back(0, &served.block);
+                self.replies.push_str("dropped");
+            }
+            _ => {}
+        }
+        Ok(())
+    }
+
+    fn answer_dbuf(&mut self, what: &What) -> Result<(), Refusal> {
+        let c = match *what {
+            What::Get { oid, tick, at, len } => {
+                let c = self.bring(oid, at + len, tick)?;
+                self.cells[c].touch(oid);
+                let bytes = self.cells[c].bytes(oid);
+                let _ = write!(self.replies, "got {} {}", bytes.len(), Bytes(&bytes[at as usize..][..len as usize]));
+                self.evict(c);
+                return Ok(());
+            }
+            What::Put { oid, size, fill } => {
+                let c = self.cell_of(oid);
+                let kept = self.cells[c].put(oid, vec![fill; size as usize]);
+                self.make_private(c, kept);
+                c
+            }
+            What::Patch { oid, tick, at, ref bytes } => {
+                let c = self.bring(oid, at + bytes.len() as u64, tick)?;
+                let kept = self.cells[c].patch(oid, at as usize, bytes);
+                self.make_private(c, kept);
+                c
+            }
+            What::Pin { oid, tick } => {
+                let c = self.bring(oid, 0, tick)?;
+                self.cells[c].pin(oid);
+                c
+            }
+            What::Unpin { oid } => {
+                let c = self.cell_of(oid);
+                if !self.cells[c].unpin(oid) {
+                    return Err(Refusal::Pin(oid));
+                }
+                c
+            }
+            _ => return Ok(()),
+        };
+        self.replies.push_str("done");
+        self.evict(c);
+        Ok(())
+    }
+
+    /// Does all lines, and gives back what is kept at their end.
+    fn run(&mut self, with_replies: bool) -> Result<(), Stop> {
+        for (i, op) in self.trace.ops.iter().enumerate() {
+            let start = self.replies.len();
+            let _ = write!(self.replies, "{i} ");
+            match self.answer(i, op) {
+                Ok(Ok(())) => {}
+                Ok(Err(refusal)) => {
+                    let _ = write!(self.replies, "{refusal}");
+                    self.is_refused = true;
+                }
+                Err(Stop::Full) => {
+                    self.replies.truncate(start);
+                    self.is_full = true;
+                    break;
+                }
+                Err(fault) => return Err(fault),
+            }
+            self.replies.push('\n');
+            if !with_replies {
+                self.replies.truncate(start);
+            }
+        }
+        let mut left: Vec<_> = std::mem::take(&mut self.kept).into_values().flatten().collect();
+        left.sort_by_key(|(i, _)| *i);
+        left.iter().for_each(|(_, served)| self.give_back(0, &served.block));
+        for c in 0..self.cells.len() {
+            self.cells[c].end().iter().for_each(|kept| self.give_back(number_of(c), kept));
+        }
+        Ok(())
+    }
+
+    fn status(&self) -> u8 {
+        if self.is_full { 8 } else { u8::from(self.is_refused) }
+    }
 }
 
 // ---- The report -------------------------------------------------------------------------------------------------------------
@@ -185,16 +467,32 @@ impl Display for Event {
         match self {
             Event::Hit(key, tick) => write!(f, "hit 0 {key} {tick}"),
             Event::Miss(key, tick) => write!(f, "miss 0 {key} {tick}"),
-            Event::Arrive(key, digest) => write!(f, "arrive 0 {key} {} pool", Hex(digest)),
+            Event::Arrive(key, digest, from_device) => {
+                write!(f, "arrive 0 {key} {} {}", Hex(digest), if *from_device { "l2" } else { "pool" })
+            }
             Event::Fail(key) => write!(f, "fail 0 {key} pool"),
-            Event::Drop(key) => write!(f, "drop 0 {key}"),
+            Event::Drop(n, key) => write!(f, "drop {n} {key}"),
             Event::Past(key, digest) => write!(f, "past 0 {key} {}", Hex(digest)),
+            Event::Hand(key, to) => write!(f, "hand 0 {key} {to}"),
+            Event::Release(n, key, sole) => write!(f, "release {n} {key} {}", if *sole { "sole" } else { "shared" }),
+            Event::Insert(of) => write!(f, "insert {} {} {} {}", of.0, of.1, Hex(&of.2), of.3),
+            Event::Pick(key) => write!(f, "pick {FEEDER} {key}"),
+            Event::FeedEnd => write!(f, "feedend {FEEDER}"),
+            Event::Set(key, place) => write!(f, "set {FEEDER} {key} {place}"),
+            Event::Clear(key) => write!(f, "clear {FEEDER} {key}"),
+            Event::Restore(of) => match &of.2 {
+                Some(digest) => write!(f, "restore {FEEDER} {} {} {}", of.0, of.1, Hex(digest)),
+                None => write!(f, "restore {FEEDER} {} {} -", of.0, of.1),
+            },
+            Event::Resize(capacity) => write!(f, "resize {FEEDER} {capacity}"),
         }
     }
 }
 
-fn report(run: Run, events: bool) -> Result<String, fmt::Error> {
-    let Run { shards, replies, is_refused } = run;
+/// The text of the report.
+fn report(sim: Sim<'_>, events: bool) -> Result<String, fmt::Error> {
+    let status = sim.status();
+    let Sim { shards, replies, rebuilt, .. } = sim;
     let mut text = String::from("arc 1\n");
     text.push_str(&replies);
     drop(replies);
@@ -206,17 +504,22 @@ fn report(run: Run, events: bool) -> Result<String, fmt::Error> {
         }
     }
     for (s, shard) in shards.iter().enumerate() {
-        let [anon, mru, mru_ghost, mfu, mfu_ghost] = shard.sizes;
+        let [anon, mru, mru_ghost, mfu, mfu_ghost, l2] = shard.sizes;
         let (c, p) = (shard.capacity, shard.target);
-        writeln!(text, "shard {s} c {c} p {p} anon {anon} mru {mru} mrug {mru_ghost} mfu {mfu} mfug {mfu_ghost} l2 0")?;
+        writeln!(text, "shard {s} c {c} p {p} anon {anon} mru {mru} mrug {mru_ghost} mfu {mfu} mfug {mfu_ghost} l2 {l2}")?;
     }
     let count = |is: fn(&Event) -> bool| shards.iter().flat_map(|shard| &shard.history).filter(|event| is(event)).count();
     let hits = count(|event| matches!(event, Event::Hit(..)));
     let misses = count(|event| matches!(event, Event::Miss(..)));
     let past = count(|event| matches!(event, Event::Past(..)));
-    let reads = count(|event| matches!(event, Event::Arrive(..) | Event::Fail(..) | Event::Past(..)));
-    writeln!(text, "count hit {hits} miss {misses} past {past} pool {reads} l2 0 pass 0 set 0")?;
-    writeln!(text, "end {}", u8::from(is_refused))?;
+    let reads = count(|event| matches!(event, Event::Arrive(_, _, false) | Event::Fail(..) | Event::Past(..)));
+    let from_device = count(|event| matches!(event, Event::Arrive(_, _, true)));
+    let sets = count(|event| matches!(event, Event::Set(..)));
+    writeln!(text, "count hit {hits} miss {misses} past {past} pool {reads} l2 {from_device} pass 0 set {sets}")?;
+    if let Some(Rebuilt { entries, stop }) = rebuilt {
+        writeln!(text, "rebuilt {entries} {stop}")?;
+    }
+    writeln!(text, "end {status}")?;
     Ok(text)
 }
 
@@ -252,20 +555,24 @@ fn command(words: &[String]) -> Result<Command, usize> {
 /// Does what the words ask, and gives the exit status.
 fn perform() -> u8 {
     let words: Vec<String> = std::env::args().skip(1).collect();
-    let (words, most) = match &words[..] {
-        [first, rest @ ..] if first == "--alone" => (rest, 1),
-        all => (all, 16),
+    let (words, lines) = match &words[..] {
+        [first, rest @ ..] if first == "--reads" => (rest, Lines::Reads),
+        all => (all, Lines::All),
     };
     let [pool, cache, words @ ..] = words else { return 9 };
     let Some(pool) = Pool::open(pool) else { return 11 };
-    if cache != "-" {
-        return 12;
-    }
-    let (run, events) = match command(words) {
+    let device = match (cache.as_str(), lines) {
+        ("-", _) => None,
+        (_, Lines::Reads) => return 12,
+        (name, Lines::All) => match Device::open(name) {
+            Some(device) => Some(device),
+            None => return 12,
+        },
+    };
+    let (trace, pool, device, events, with_replies) = match command(words) {
         Err(_) => return 2,
         Ok(Command::Gen { seed, blocks, ops }) => {
-            let zeros = Pool::Memory(vec![0; blocks as usize * 512]);
-            (run(&draw(seed, blocks, ops), &zeros, false), false)
+            (draw(seed, blocks, ops), Pool::Memory(vec![0; blocks as usize * 512]), None, false, false)
         }
         Ok(Command::Run { events }) => {
             let mut text = Vec::new();
@@ -275,16 +582,23 @@ fn perform() -> u8 {
             if text.len() > LONGEST_TRACE {
                 return 3;
             }
-            let Ok(trace) = parse(&text, most) else { return 3 };
-            drop(text);
+            let Ok(trace) = parse(&text, 16, lines) else { return 3 };
             if trace.callers > 1 {
                 return 13;
             }
-            (run(&trace, &pool, true), events)
+            (trace, pool, device, events, true)
         }
     };
-    let status = u8::from(run.is_refused);
-    let Ok(text) = report(run, events) else { return 7 };
+    let ran = Sim::new(&trace, pool, device).and_then(|mut sim| sim.run(with_replies).map(|()| sim));
+    let sim = match ran {
+        Ok(sim) => sim,
+        Err(stop) => {
+            eprintln!("arc_sim: {stop}");
+            return 14;
+        }
+    };
+    let status = sim.status();
+    let Ok(text) = report(sim, events) else { return 7 };
     let mut out = io::stdout();
     if out.write_all(text.as_bytes()).and_then(|()| out.flush()).is_err() {
         return 5;

@@ -4,7 +4,7 @@
 The program has to end with a report (status 0 or 1), or with status 3, or 2 where the words were drawn, and nothing written; and to
 agree with the plain simulation in arc_sim.rs on the status and on each byte that is written. A trace of several callers is run a few
 times. Each report that has its events is checked by arc_replay.rs. A trace on which anything is wrong is kept, and its place is
-printed. Several callers and shards are drawn only where the program takes them.
+printed. The program does no objects, syncs, capacities and feeds yet, so both refuse such lines.
 Needs rustc. The program has to be built: (cd crates/arc_tool && rt run). ARC_TOOL, ARC_SIM and ARC_REPLAY may name other builds.
 """
 import hashlib
@@ -32,9 +32,9 @@ def block(rng):
     return f'block {offset} {size} {birth} {digest}'
 
 
-def trace(rng, several):
+def trace(rng):
     """A trace of the grammar: few blocks, small capacities, and clocks that stand still or go back."""
-    callers, shards = (rng.choice([1, 1, 2, 2, 3, 4, 16]), rng.choice([1, 1, 2, 3, 16])) if several else (1, 1)
+    callers, shards = rng.choice([1, 1, 2, 2, 3, 4, 16]), rng.choice([1, 1, 2, 3, 16])
     capacity = rng.choice([4096, 4096, 4096, 5000, 6144, 8192, 2**32 // shards])
     lines = [f'arc {callers} {shards} {rng.choice([1, 16, 256])} 1 {capacity} {rng.choice([0, 0, 3, 2**32])} 4096']
     blocks = rng.randrange(1, 24)
@@ -90,13 +90,13 @@ def mutated(rng, text):
     return b'\n'.join(lines)
 
 
-def text(rng, several):
+def text(rng):
     kind = rng.random()
     if kind < 0.1:
         return rng.randbytes(rng.choice([0, 1, 10, 1000, 100_000]))
     if kind < 0.15:
         return ''.join(rng.choice(' \n#0159abf') for _ in range(rng.randrange(200))).encode()
-    made = trace(rng, several)
+    made = trace(rng)
     return made if kind < 0.6 else mutated(rng, made)
 
 
@@ -170,14 +170,12 @@ def main():
     pool = f'{work}/pool'
     with open(pool, 'wb') as out:
         out.truncate(8192)
-    several = run([tool, '-', '-', 'run'], b'arc 2 2 16 1 4096 0 0\n')[0] == 0
-    alone = [] if several else ['--alone']
     until, runs, bad, ends, checked = time.time() + seconds, 0, 0, {}, 0
     while time.time() < until and bad < 10:
-        given = text(rng, several)
+        given = text(rng)
         words = words_of(rng)
         ours = run([tool, pool, '-', *words], given)
-        theirs = run([plain, *alone, pool, '-', *words], given)
+        theirs = run([plain, '--reads', pool, '-', *words], given)
         if theirs == (13, b''):
             checked += 1
             fault = fault_of_several(tool, replay, pool, given, work)

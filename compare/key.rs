@@ -2,6 +2,8 @@
 
 use std::fmt::{self, Display};
 
+pub const LARGEST_BLOCK: u64 = 16_777_216;
+
 #[derive(Clone, Copy, Debug, PartialEq, Eq, Hash)]
 pub struct Key {
     pub offset: u64,

@@ -1,11 +1,10 @@
 //! The pool that a run reads, and which keys name a block of it.
 
-use crate::key::Key;
-use std::fs::File;
+use crate::key::{Key, LARGEST_BLOCK};
+use std::fs::{File, OpenOptions};
 use std::io;
 use std::os::unix::fs::FileExt;
 
-const LARGEST_BLOCK: u64 = 16_777_216;
 const LONGEST_POOL: u64 = 1 << 40;
 
 pub enum Pool {
@@ -19,12 +18,12 @@ impl Pool {
         if name == "-" {
             return Some(Pool::Memory(Vec::new()));
         }
-        let file = File::open(name).ok()?;
+        let file = OpenOptions::new().read(true).write(true).open(name).or_else(|_| File::open(name)).ok()?;
         let about = file.metadata().ok()?;
         (!about.is_dir() && about.len() <= LONGEST_POOL).then(|| Pool::File(file, about.len()))
     }
 
-    fn len(&self) -> u64 {
+    pub fn len(&self) -> u64 {
         match self {
             Pool::Memory(bytes) => bytes.len() as u64,
             Pool::File(_, len) => *len,
@@ -40,6 +39,15 @@ impl Pool {
                 Ok(bytes)
             }
         }
+    }
+
+    /// Writes a block at its key's place.
+    pub fn write(&mut self, key: Key, bytes: &[u8]) -> io::Result<()> {
+        match self {
+            Pool::Memory(image) => image[key.offset as usize..][..bytes.len()].copy_from_slice(bytes),
+            Pool::File(file, _) => file.write_all_at(bytes, key.offset)?,
+        }
+        Ok(())
     }
 
     /// Whether the key names a block here, or else what is wrong with it first.

@@ -7,6 +7,7 @@
 //! reads only blocks of shards of its own, a fourth of them. With `own` they are hits too, and each caller has a cache of its own, which shows what the
 //! machine gives to callers that share nothing.
 
+#[allow(dead_code)]
 mod key;
 #[allow(dead_code)]
 mod sha256;

@@ -9,6 +9,7 @@
 //!
 //! Each caller reads so many drawn blocks of 512 bytes, all of which are cached, and gives each back. It prints the reads of all callers a second.
 
+#[allow(dead_code)]
 mod key;
 #[allow(dead_code)]
 mod sha256;
