@@ -1,0 +1,183 @@
+"""The blocks that a log's accesses touch: which there are, in what order they are asked for, and where they lie in a pool, one file behind the
+other. What a trace can't have is told with what would fit."""
+import os
+import stat
+
+from .command import Fault
+from .sizes import short
+
+MOST_BLOCKS = 100_000
+MOST_OPERATIONS = 1_000_000
+LARGEST_BLOCK = 16_777_216
+LONGEST_POOL = 1 << 40
+LARGEST_PAGE = 1 << 62
+FURTHEST = 1 << 62  # no access of any file ends behind it
+FEW = 4_096
+ODD = 0x9E3779B97F4A7C15
+
+
+def mixed(number):
+    """A number of 64 bits that looks drawn."""
+    number = (number ^ (number >> 31)) * ODD & (2**64 - 1)
+    return (number ^ (number >> 29)) * ODD & (2**64 - 1)
+
+
+class Distinct:
+    """About how many different numbers there were, in little memory: of many only a known part is kept, by their low mixed bits."""
+
+    def __init__(self):
+        self.mask, self.kept = 0, set()
+
+    def add(self, number):
+        drawn = mixed(number)
+        if drawn & self.mask:
+            return
+        self.kept.add(drawn)
+        while len(self.kept) > FEW:
+            self.mask = self.mask * 2 + 1
+            self.kept = {kept for kept in self.kept if not kept & self.mask}
+
+    def about(self):
+        return len(self.kept) * (self.mask + 1)
+
+
+class File:
+    """A file of a log: where its bytes are, and how many there are, where they are at hand."""
+
+    def __init__(self, name, number, path, size, missing):
+        self.name, self.number, self.path, self.size, self.missing = name, number, path, size, missing
+        self.reads = self.bytes = 0
+        self.last = -1  # the furthest block that is asked for
+        self.base = 0
+
+    def blocks(self, block):
+        """How many blocks the pool has of it."""
+        return self.last + 1 if self.size is None else -(-self.size // block)
+
+
+class Layout:
+    """What is to be imported, access by access."""
+
+    def __init__(self, block, limits, tally, find, first=None, sample=1):
+        self.block, self.limits, self.tally, self.find, self.first, self.sample = block, limits, tally, find, first, sample
+        self.files = {}
+        self.numbers = {}  # (file's number, index) as one number -> block
+        self.places = []  # block -> (file, index)
+        self.operations = []  # (block, tick, caller)
+        self.accesses = 0
+        self.over = None
+        self.cut = False  # whether --first ended it
+
+    def file(self, name):
+        if name not in self.files:
+            path, size, missing = self.find(name)
+            self.files[name] = File(name, len(self.files), path, size, missing)
+        return self.files[name]
+
+    def take(self, access, tick, caller):
+        """Takes an access in. Whether more are wanted."""
+        if access.offset + access.length > FURTHEST:
+            raise ValueError(f'the range ends behind byte {FURTHEST:,}')
+        file = self.file(access.file)
+        if file.missing:
+            self.tally.add(f'reads of files {file.missing}', access.length)
+            return True
+        if access.length == 0:
+            self.tally.add('reads of no bytes')
+            return True
+        first, last = access.offset // self.block, (access.offset + access.length - 1) // self.block
+        if file.size is not None and last >= (blocks := file.blocks(self.block)):
+            self.tally.add('reads behind the end that the file has now', access.length if first >= blocks else 0)
+            if first >= blocks:
+                return True
+            last = blocks - 1
+        self.accesses += 1
+        file.reads += 1
+        file.bytes += access.length
+        return self.over.take(file, access) if self.over else self.place(file, first, last, access, tick, caller)
+
+    def place(self, file, first, last, access, tick, caller):
+        for index in range(first, last + 1):
+            name = file.number << 62 | index
+            if self.sample > 1 and mixed(name) % self.sample:
+                continue
+            if self.first is not None and len(self.operations) >= self.first:
+                self.cut = True
+                return False
+            new = name not in self.numbers
+            if len(self.operations) == MOST_OPERATIONS or (new and len(self.places) == self.limits):
+                self.over = Over(self, access.line)
+                return self.over.take(file, access)
+            if new:
+                self.numbers[name] = len(self.places)
+                self.places.append((file, index))
+                file.last = max(file.last, index)
+            self.operations.append((self.numbers[name], tick, caller))
+        return True
+
+    def lay_out(self, in_place):
+        """Gives each file its place in the pool, one behind the other. The pool's length."""
+        end = 0
+        for file in self.files.values():
+            if file.missing or not file.reads:
+                continue
+            file.base = 0 if in_place else end
+            end += file.blocks(self.block) * self.block
+        return end
+
+
+class Over:
+    """Counts on where a limit was met, to say how much there is and what would fit."""
+
+    def __init__(self, layout, line):
+        self.layout, self.line = layout, line
+        self.sizes = [size for size in (layout.block << shift for shift in range(16)) if size <= LARGEST_BLOCK]
+        self.larger = dict.fromkeys(self.sizes, len(layout.operations))  # at most so many operations with blocks of this size
+        self.distinct = {size: Distinct() for size in self.sizes}
+        for file, index in layout.places:
+            self.add(file, index * layout.block, layout.block)
+
+    def add(self, file, offset, length):
+        for size in self.sizes:
+            first, last = offset // size, (offset + length - 1) // size
+            for index in range(first, min(last, first + FEW) + 1):
+                number = file.number << 62 | index
+                if mixed(number) % self.layout.sample == 0:
+                    self.distinct[size].add(number)
+
+    def take(self, file, access):
+        for size in self.sizes:
+            count = (access.offset + access.length - 1) // size - access.offset // size + 1
+            self.larger[size] += -(-count // self.layout.sample)
+        self.add(file, access.offset, access.length)
+        return True
+
+    def fault(self, name):
+        """What is told of a log that is too long: how much there is, and each thing that helps."""
+        most, block = self.layout.limits, self.layout.block
+        blocks, operations = self.distinct[block].about(), self.larger[block]
+        of_trace = most == MOST_BLOCKS
+        has = f'{MOST_OPERATIONS:,} operations and {MOST_BLOCKS:,} blocks' if of_trace else f'{MOST_OPERATIONS:,} pages'
+        # a tenth more, since the numbers are about right
+        part = max(2, -(-operations * 11 // (MOST_OPERATIONS * 10)), -(-blocks * 11 // (most * 10)))
+        helps = [f'--first {len(self.layout.operations)} takes the front of the log up to here',
+                 f'--sample {part * self.layout.sample} takes one block of {part * self.layout.sample}, with all its reads']
+        fits = [size for size in self.sizes if self.larger[size] <= MOST_OPERATIONS and self.distinct[size].about() * 11 <= most * 10]
+        if fits:
+            helps.append(f'--block {short(fits[0])} makes fewer blocks, and larger ones')
+        return Fault(f'a {"trace" if of_trace else "list of pages"} has at most {has}, and here is one more. The whole log has {operations:,} reads of blocks of '
+                     f'{short(block)}, about {blocks:,} different ones. What helps: {"; ".join(helps)}', name, self.line)
+
+
+def at_hand(path):
+    """The size of a file whose bytes can be read, and what is wrong where there is none."""
+    try:
+        state = os.stat(path)
+    except OSError:
+        return None, 'that are not here'
+    if stat.S_ISREG(state.st_mode):
+        return (state.st_size, None) if os.access(path, os.R_OK) else (None, 'that may not be read')
+    if stat.S_ISBLK(state.st_mode):
+        with open(path, 'rb') as device:
+            return device.seek(0, os.SEEK_END), None
+    return None, 'that are no plain files'
