@@ -14,6 +14,8 @@ LARGEST_PAGE = 1 << 62
 FURTHEST = 1 << 62  # no access of any file ends behind it
 FEW = 4_096
 ODD = 0x9E3779B97F4A7C15
+MASK = 2**44 - 1
+MANY = 100_000
 
 
 def mixed(number):
@@ -23,19 +25,17 @@ def mixed(number):
 
 
 class Distinct:
-    """About how many different numbers there were, in little memory: of many only a known part is kept, by their low mixed bits."""
+    """About how many different numbers there were, in little memory: of many only those are kept that a hash picks."""
 
     def __init__(self):
         self.mask, self.kept = 0, set()
 
-    def add(self, number):
-        drawn = mixed(number)
-        if drawn & self.mask:
-            return
-        self.kept.add(drawn)
+    def add(self, numbers):
+        mask = self.mask
+        self.kept.update(drawn for drawn in (number * ODD >> 20 & MASK for number in numbers) if not drawn & mask)
         while len(self.kept) > FEW:
             self.mask = self.mask * 2 + 1
-            self.kept = {kept for kept in self.kept if not kept & self.mask}
+            self.kept = {drawn for drawn in self.kept if not drawn & self.mask}
 
     def about(self):
         return len(self.kept) * (self.mask + 1)
@@ -131,42 +131,45 @@ class Over:
 
     def __init__(self, layout, line):
         self.layout, self.line = layout, line
-        self.sizes = [size for size in (layout.block << shift for shift in range(16)) if size <= LARGEST_BLOCK]
-        self.larger = dict.fromkeys(self.sizes, len(layout.operations))  # at most so many operations with blocks of this size
-        self.distinct = {size: Distinct() for size in self.sizes}
-        for file, index in layout.places:
-            self.add(file, index * layout.block, layout.block)
-
-    def add(self, file, offset, length):
-        for size in self.sizes:
-            first, last = offset // size, (offset + length - 1) // size
-            for index in range(first, min(last, first + FEW) + 1):
-                number = file.number << 62 | index
-                if mixed(number) % self.layout.sample == 0:
-                    self.distinct[size].add(number)
+        self.of_trace = layout.limits == MOST_BLOCKS
+        shifts = [shift for shift in range(0, 16, 2) if layout.block << shift <= LARGEST_BLOCK]
+        # for each larger size of blocks, how many operations there are at most, and about how many blocks
+        self.operations = dict.fromkeys(shifts, len(layout.operations))
+        self.distinct = {shift: Distinct() for shift in shifts}
+        self.seen = {file.number << 62 | index for file, index in layout.places} if self.of_trace else set()
 
     def take(self, file, access):
-        for size in self.sizes:
-            count = (access.offset + access.length - 1) // size - access.offset // size + 1
-            self.larger[size] += -(-count // self.layout.sample)
-        self.add(file, access.offset, access.length)
+        block, sample = self.layout.block, self.layout.sample
+        first, last = access.offset // block, (access.offset + access.length - 1) // block
+        for shift in self.operations:
+            self.operations[shift] += -(-((last >> shift) - (first >> shift) + 1) // sample)
+        if self.of_trace:
+            name = file.number << 62
+            self.seen.update(name | index for index in range(first, min(last, first + MANY) + 1) if sample == 1 or mixed(name | index) % sample == 0)
+            if len(self.seen) > MANY:
+                self.settle()
         return True
+
+    def settle(self):
+        """Counts the blocks that were seen since the last time."""
+        for shift, distinct in self.distinct.items():
+            distinct.add({number >> shift for number in self.seen})
+        self.seen.clear()
 
     def fault(self, name):
         """What is told of a log that is too long: how much there is, and each thing that helps."""
-        most, block = self.layout.limits, self.layout.block
-        blocks, operations = self.distinct[block].about(), self.larger[block]
-        of_trace = most == MOST_BLOCKS
-        has = f'{MOST_OPERATIONS:,} operations and {MOST_BLOCKS:,} blocks' if of_trace else f'{MOST_OPERATIONS:,} pages'
+        self.settle()
+        most, block, sample = self.layout.limits, self.layout.block, self.layout.sample
+        operations, blocks = self.operations[0], self.distinct[0].about()
         # a tenth more, since the numbers are about right
-        part = max(2, -(-operations * 11 // (MOST_OPERATIONS * 10)), -(-blocks * 11 // (most * 10)))
-        helps = [f'--first {len(self.layout.operations)} takes the front of the log up to here',
-                 f'--sample {part * self.layout.sample} takes one block of {part * self.layout.sample}, with all its reads']
-        fits = [size for size in self.sizes if self.larger[size] <= MOST_OPERATIONS and self.distinct[size].about() * 11 <= most * 10]
+        part = max(2, -(-operations * 11 // (MOST_OPERATIONS * 10)), -(-blocks * 11 // (most * 10))) * sample
+        helps = [f'--first {len(self.layout.operations)} takes the front of the log up to here', f'--sample {part} takes one block of {part}, with all its reads']
+        fits = [shift for shift, distinct in self.distinct.items() if shift and self.operations[shift] <= MOST_OPERATIONS and distinct.about() * 11 <= most * 10]
         if fits:
-            helps.append(f'--block {short(fits[0])} makes fewer blocks, and larger ones')
-        return Fault(f'a {"trace" if of_trace else "list of pages"} has at most {has}, and here is one more. The whole log has {operations:,} reads of blocks of '
-                     f'{short(block)}, about {blocks:,} different ones. What helps: {"; ".join(helps)}', name, self.line)
+            helps.append(f'--block {short(block << fits[0])} makes fewer blocks, and larger ones')
+        has = f'a trace has at most {MOST_OPERATIONS:,} operations and {MOST_BLOCKS:,} blocks' if self.of_trace else f'a list of pages has at most {MOST_OPERATIONS:,}'
+        different = f', about {blocks:,} different ones' if self.of_trace else ''
+        return Fault(f'{has}, and here is one more. The whole log has {operations:,} reads of blocks of {short(block)}{different}. What helps: {"; ".join(helps)}', name, self.line)
 
 
 def at_hand(path):

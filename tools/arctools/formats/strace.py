@@ -14,7 +14,7 @@ LINE = re.compile(r'\s*(?:\[pid\s+(\d+)\]\s+|(\d+)\s+)?(?:(\d\d:\d\d:\d\d(?:\.\d
 CALL = re.compile(r'(\w+)\((.*)', re.DOTALL)
 RESUMED = re.compile(r'<\.\.\. (\w+) resumed>,? ?(.*)', re.DOTALL)
 ENDED = re.compile(r'(.*)\)\s+= (-?\d+|0x[0-9a-f]+|\?)(?:<(.*?)>(?= |$))?(?: .*)?', re.DOTALL)
-UNFINISHED = re.compile(r'(.*?),? ?<unfinished \.\.\.>', re.DOTALL)
+UNFINISHED = re.compile(r'(.*?),?\s*<unfinished \.\.\.>', re.DOTALL)
 NO_CALL = re.compile(r'\+\+\+ .* \+\+\+|--- .* ---|strace: .*|<\.\.\. .*exit.*resumed>.*|\w+\(.*<detached \.\.\.>?', re.DOTALL)
 DESCRIPTOR = re.compile(r'(-?\d+|AT_FDCWD)(?:<(.*?)>)?(?=,|$)')
 QUOTED = re.compile(r'"((?:[^"\\]|\\.)*)"', re.DOTALL)
@@ -41,13 +41,34 @@ class OpenFile:
 
 
 class Process:
-    """A process's table of descriptors, and its working folder. Threads share one."""
+    """A process's table of descriptors, and its working folder. Threads share one. Of a process whose beginning the log doesn't tell, it isn't known
+    whether it is a thread: it sees what `others` have opened, and what it opens and closes itself is its own."""
 
-    def __init__(self, files, folder):
-        self.files, self.folder = files, folder  # descriptor -> (open file, whether a new program loses it)
+    def __init__(self, files, folder, others=()):
+        self.files, self.folder, self.others = files, folder, others  # descriptor -> (open file, whether a new program loses it)
+        self.closed = set()
 
     def copy(self):
-        return Process(dict(self.files), self.folder)
+        return Process(dict(self.files), self.folder, self.others)
+
+    def get(self, descriptor):
+        for process in (self, *(() if descriptor in self.closed else self.others)):
+            if descriptor in process.files:
+                return process.files[descriptor]
+        return None
+
+    def put(self, descriptor, file, is_lost=False):
+        self.files[descriptor] = (file, is_lost)
+        self.closed.discard(descriptor)
+
+    def drop(self, descriptor):
+        self.files.pop(descriptor, None)
+        self.closed.add(descriptor)
+
+    def keep(self, is_kept):
+        """Closes each descriptor that isn't kept."""
+        for descriptor in [descriptor for descriptor, file in self.files.items() if not is_kept(descriptor, file)]:
+            self.drop(descriptor)
 
 
 class Calls:
@@ -56,15 +77,27 @@ class Calls:
     def __init__(self, tally, folder, wanted):
         self.tally, self.folder, self.wanted = tally, folder, wanted
         self.processes = {}
+        self.strangers = []  # the first process, and those whose beginning is not in the log
+        self.begun = {}  # the front of a call that others' lines interrupt, by process
 
     def process(self, who):
-        """A process that no line tells the beginning of is taken as a thread of the first one."""
+        """A process's tables. One that is seen first while another one's fork has not come back is that one's child."""
         if who not in self.processes:
-            first = next(iter(self.processes.values()), None)
-            if first:
-                self.tally.add('processes whose beginning is not in the log, taken as threads of the first (trace=desc,process tells it)')
-            self.processes[who] = first or Process({}, self.folder)
+            parent = next((other for other, front in self.begun.items() if front.split('(')[0] in FORKS and other in self.processes), None)
+            if parent is not None:
+                self.forked(self.processes[parent], self.begun[parent], who)
+            else:
+                if self.strangers:
+                    self.tally.add('beginnings of processes, so that what these read is guessed where -y does not tell it (trace=desc,process tells of them)')
+                stranger = Process({}, self.folder, self.strangers)
+                self.strangers.append(stranger)
+                self.processes[who] = stranger
         return self.processes[who]
+
+    def ended(self, who):
+        """The process is no more; its number may come again for another one."""
+        self.processes.pop(who, None)
+        self.begun.pop(who, None)
 
     # ---- what a call does to the tables
 
@@ -79,14 +112,14 @@ class Calls:
         flags = args[path.end():] if path else args
         full = told or os.path.normpath(os.path.join(at, unescaped(path[1])))
         file = OpenFile(full.removesuffix(' (deleted)'), appends='O_APPEND' in flags)
-        process.files[result] = (file, 'O_CLOEXEC' in flags)
+        process.put(result, file, 'O_CLOEXEC' in flags)
 
     def base(self, process, descriptor):
         if descriptor[2]:
             return descriptor[2]
         if descriptor[1] == 'AT_FDCWD':
             return process.folder
-        file = process.files.get(int(descriptor[1]))
+        file = process.get(int(descriptor[1]))
         return file[0].path if file else process.folder
 
     def copied(self, process, name, args, result):
@@ -94,24 +127,24 @@ class Calls:
         old = DESCRIPTOR.match(args)
         known = old and self.known(process, old)
         if known:
-            process.files[result] = (known, 'CLOEXEC' in args)
+            process.put(result, known, 'CLOEXEC' in args)
         else:
-            process.files.pop(result, None)
+            process.drop(result)
 
     def known(self, process, descriptor):
         """The open file of a descriptor. One that was opened before the log began is known by the path that -y tells."""
         if descriptor[1] == 'AT_FDCWD':
             return None
         number = int(descriptor[1])
-        if number not in process.files and descriptor[2] and descriptor[2].startswith('/'):
-            process.files[number] = (OpenFile(descriptor[2].removesuffix(' (deleted)'), place=None), False)
-        return process.files[number][0] if number in process.files else None
+        file, path = process.get(number), (descriptor[2] or '').removesuffix(' (deleted)')
+        if path.startswith('/') and (file is None or (file[0].path != path and process.others)):
+            process.put(number, OpenFile(path, place=None))
+            file = process.get(number)
+        return file[0] if file else None
 
     def forked(self, process, args, child):
-        if child > 0:
-            threads = 'CLONE_FILES' in args
-            # a child may have been seen before the line that tells of it
-            self.processes[child] = process if threads else process.copy()
+        if child > 0 and child not in self.processes:
+            self.processes[child] = process if 'CLONE_FILES' in args else process.copy()
 
     def change(self, who, name, args, result, told):
         """What a call that succeeded does to the tables. Whether it was such a call."""
@@ -121,14 +154,14 @@ class Calls:
         if name in OPENS:
             self.opened(process, name, args, result, told)
         elif name == 'close':
-            process.files.pop(number, None)
+            process.drop(number)
         elif name == 'close_range' and (ends := re.match(r'(\d+), (\d+|~0U?)', args)):
             last = int(ends[2]) if ends[2].isdigit() else 1 << 32
-            process.files = {fd: file for fd, file in process.files.items() if not int(ends[1]) <= fd <= last}
+            process.keep(lambda fd, file: not int(ends[1]) <= fd <= last)
         elif name in ('dup', 'dup2', 'dup3') or (name == 'fcntl' and 'F_DUPFD' in args):
             self.copied(process, name, args, result)
-        elif name == 'fcntl' and 'F_SETFD' in args and number in process.files:
-            process.files[number] = (process.files[number][0], 'FD_CLOEXEC' in args)
+        elif name == 'fcntl' and 'F_SETFD' in args and (file := process.get(number)):
+            process.put(number, file[0], 'FD_CLOEXEC' in args)
         elif name in ('lseek', '_llseek') and number is not None:
             file = self.known(process, descriptor)
             place = re.search(r'\[(\d+)\]', args) if name == '_llseek' else None
@@ -137,7 +170,7 @@ class Calls:
         elif name in FORKS:
             self.forked(process, args, result)
         elif name in ('execve', 'execveat'):
-            process.files = {fd: file for fd, file in process.files.items() if not file[1]}
+            process.keep(lambda fd, file: not file[1])
         elif name == 'chdir' and (path := QUOTED.search(args)):
             process.folder = os.path.normpath(os.path.join(process.folder, unescaped(path[1])))
         elif name in UNTOLD and result >= 0 and (name != 'mmap' or self.maps_file(process, args)):
@@ -190,16 +223,16 @@ def milliseconds(stamp):
 
 def accesses(lines, tally, name, options):
     calls = Calls(tally, os.path.abspath(options.folder or '.'), options.wanted)
-    begun = {}  # the front of a call that was interrupted by another process's, by process
     for number, line in lines:
         if not line.strip():
             continue
         who, time, text = parted(line)
         if unfinished := UNFINISHED.fullmatch(text):
-            begun[who] = unfinished[1]
+            calls.begun[who] = unfinished[1]
+            calls.process(who)
             continue
         if resumed := RESUMED.fullmatch(text):
-            front = begun.pop(who, None)
+            front = calls.begun.pop(who, None)
             if front is None:
                 tally.add('ends of calls whose beginning is not in the log')
                 continue
@@ -208,6 +241,8 @@ def accesses(lines, tally, name, options):
         ended = call and ENDED.fullmatch(call[2])
         if not ended:
             if NO_CALL.fullmatch(text):
+                if text.startswith('+++'):
+                    calls.ended(who)
                 continue
             raise Fault("here a line of strace is wanted, as 'pread64(3, \"..\", 4096, 8192) = 4096'", name, number)
         if ended[2] == '?' or ended[2].startswith('-'):
@@ -217,8 +252,8 @@ def accesses(lines, tally, name, options):
             calls.change(who, call[1], ended[1], result, ended[3])
         elif result > 0 and (access := calls.moved(who, call[1], ended[1], result, number, time)):
             yield access
-    if begun:
-        tally.add('calls whose end is not in the log', times=len(begun))
+    if calls.begun:
+        tally.add('calls whose end is not in the log', times=len(calls.begun))
 
 
 def parted(line):
