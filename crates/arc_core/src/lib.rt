@@ -26,6 +26,3 @@ pub use laws::{
 };
 pub use served::{ReadFault, Restored, Served};
 pub use shard::{EntryView, Shard};
-
-#[cfg(test)]
-mod tests;

@@ -7,6 +7,3 @@ mod node;
 
 pub use links::Links;
 pub use memory::NoMemory;
-
-#[cfg(test)]
-mod tests;

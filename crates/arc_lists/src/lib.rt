@@ -15,6 +15,3 @@ pub use ghost_list::Ghost;
 pub use lists::Lists;
 pub use member::Member;
 pub use name::Name;
-
-#[cfg(test)]
-mod tests;

@@ -8,6 +8,3 @@ mod slot;
 
 pub use key_table::NoMemory;
 pub use queue::Queue;
-
-#[cfg(test)]
-mod tests;

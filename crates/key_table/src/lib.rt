@@ -10,6 +10,3 @@ pub use chain::NO_PLACE;
 pub use hashed::Hashed;
 pub use memory::NoMemory;
 pub use table::Table;
-
-#[cfg(test)]
-mod tests;

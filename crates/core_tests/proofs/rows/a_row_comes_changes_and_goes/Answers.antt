@@ -1,6 +1,6 @@
 use Rattle.std.proofs.Common.{inl, refl}
 use Rattle.key_table.specs.PlainTable.{row}
-use Rattle.key_table.proofs.tests.a_row_comes_changes_and_goes.Goals as goal
+use Rattle.core_tests.proofs.rows.a_row_comes_changes_and_goes.Goals as goal
 
 pub set-requires : goal.set-requires
 set-requires g c = (70, (c.insert.ensures.rows (row 7 70)).1 (inl refl))

@@ -1,5 +1,5 @@
-//! The calls with ample memory, at a concrete type.
-use crate::Links;
+//! A linked list: the calls with ample memory, at a concrete type.
+use arc_links::Links;
 use std::test::Fail;
 
 #[test]

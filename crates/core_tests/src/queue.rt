@@ -1,5 +1,5 @@
-//! The calls with ample memory, at a concrete type.
-use crate::Queue;
+//! A queue by number: the calls with ample memory, at a concrete type.
+use key_queue::Queue;
 use std::test::Fail;
 
 #[test]

@@ -1,5 +1,5 @@
-//! The calls with ample memory, at concrete types.
-use crate::{NO_PLACE, Table};
+//! A table by key: the calls with ample memory, at concrete types.
+use key_table::{NO_PLACE, Table};
 use std::test::Fail;
 
 #[test]

@@ -1,5 +1,5 @@
-//! The calls with ample memory.
-use crate::Lists;
+//! The sequences of the cache: the calls with ample memory.
+use arc_lists::Lists;
 use blk_ptr::{Key, State};
 use key_table::NO_PLACE;
 use std::test::Fail;
