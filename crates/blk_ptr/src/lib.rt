@@ -24,6 +24,3 @@ pub use memory::NoMemory;
 pub use ptr::Ptr;
 pub use shows::Shows;
 pub use state::State;
-
-#[cfg(test)]
-mod tests;

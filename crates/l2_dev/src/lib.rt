@@ -18,6 +18,3 @@ pub use laws::{lists_have_ends, more_is_a_collision, reads_keep_promises};
 pub use report::{FeedReport, FeedStop};
 pub use start::Started;
 pub use stop::Stop;
-
-#[cfg(test)]
-mod tests;

@@ -23,6 +23,3 @@ pub use fault::{LogFault, LogReadFault};
 pub use header::{DevHeader, HEADER_LEN, LEAST_RING_END, RING_START, VERSION};
 pub use log_block::{Entries, LOG_LEN, LogBlock, MOST_ENTRIES, MOST_OLD_ENTRIES};
 pub use pointer::LogPtr;
-
-#[cfg(test)]
-mod tests;

@@ -16,6 +16,3 @@ pub use live::{Live, Written};
 pub use part::Part;
 pub use plan::Plan;
 pub use ring::Ring;
-
-#[cfg(test)]
-mod tests;

@@ -28,6 +28,3 @@ pub use pool::Pool;
 pub use sink::Sink;
 pub use source::Source;
 pub use stream::{StdSink, StdSource};
-
-#[cfg(test)]
-mod tests;

@@ -1,13 +1,12 @@
 //! Pools and cache devices over real files, and reads and writes at a place of a file that is short and fails.
 use super::devices::{has_at, write_and_read_again};
-use super::fakes::{Choppy, ChoppyFiles, Locked};
+use super::fakes::ChoppyFiles;
 use super::pools::{forks, reads, writes};
-use crate::file::{read_at, write_at};
-use crate::*;
 use std::fs::OpenOptions;
 use std::rt::Files;
 use std::test::Fail;
 use std::{fs, io};
+use vdev_io::*;
 
 /// Cuts a file to this length, or makes it longer. It is made where there is none.
 fn set_len(rt: &HostRuntime, name: &str, len: u64) -> io::Result<()> {
@@ -45,19 +44,6 @@ fn a_pool_in_a_file(rt: HostRuntime) -> Result<(), Fail> {
         &mut pool,
         &[(508, Err(Failed)), (254, Err(Failed)), (252, Ok([7; 4]))],
     );
-    fs::remove_file(&rt, name)?;
-    Ok(())
-}
-
-#[test]
-fn a_pool_that_may_not_be_written(rt: HostRuntime) -> Result<(), Fail> {
-    let name = "locked_pool_of_a_test";
-    fs::write(&rt, name, [7u8; 513].as_slice())?;
-    let locked = Locked(&rt);
-    let mut pool = FilePool::open(rt.alloc(), &locked, name).map_err(Fail::from)?;
-    assert_eq!(rt; pool.len(), 513);
-    writes(&rt, &mut pool, 509, b"lost", Err(IoFault::Failed));
-    forks(&rt, rt.alloc(), &mut pool, &[(509, Ok([7; 4]))]);
     fs::remove_file(&rt, name)?;
     assert!(rt; matches!(pool.fork(rt.alloc()), Err(IoFault::Failed)));
     Ok(())
@@ -141,27 +127,6 @@ fn read_sector<D: CacheDev>(dev: &mut D) -> Result<(), Failed> {
         return Ok(());
     }
     dev.read(512, &mut [0; 512])
-}
-
-#[test]
-fn a_file_of_short_calls(rt: HostRuntime) -> Result<(), Fail> {
-    let mut bytes = [0; 7];
-    read_at(&mut Choppy::new(99), 5, &mut bytes)?;
-    assert_eq!(rt; bytes, *b"56789ab");
-    let mut file = Choppy::new(99);
-    write_at(&mut file, 2, b"ABCDEFG")?;
-    assert_eq!(rt; file.bytes, *b"01ABCDEFG9abcdef");
-    for (at, bad) in [(10, 99), (5, 8)] {
-        assert!(rt;
-            read_at(&mut Choppy::new(bad), at, &mut bytes).is_err(),
-            "read at {at}"
-        );
-        assert!(rt;
-            write_at(&mut Choppy::new(bad), at, b"ABCDEFG").is_err(),
-            "write at {at}"
-        );
-    }
-    Ok(())
 }
 
 #[test]

@@ -1,8 +1,8 @@
 //! A device of version 1, spelled by hand: what it restores, and what a feed makes of it.
 use super::tools::*;
-use crate::*;
 use arc_core::Restored;
 use blk_ptr::digest_of;
+use l2_dev::*;
 use l2_log::LogFault;
 use std::alloc::Global;
 use std::test::Fail;

@@ -1,9 +1,9 @@
 //! The disk of sectors: its stop, and what a crash leaves of it.
 use super::devices::write_and_read_again;
-use crate::*;
 use std::alloc::Global;
 use std::process::Abort;
 use std::test::Fail;
+use vdev_io::*;
 
 /// A disk of 2,048 ones: a write of two sectors that is flushed, and then one that touches three.
 fn written(rt: &impl Abort, alloc: Global) -> Result<SectorDisk, Fail> {

@@ -1,6 +1,6 @@
 //! Worked values of the ring, computed by hand.
-use super::*;
 use blk_ptr::Key;
+use l2_ring::*;
 use std::process::Abort;
 use std::test::Fail;
 

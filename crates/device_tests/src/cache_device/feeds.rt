@@ -1,7 +1,7 @@
 //! Feeds of one block each: the places, the numbers of the ring, and the bytes of the header.
 use super::tools::*;
-use crate::*;
 use blk_ptr::Digest;
+use l2_dev::*;
 use l2_log::{DevHeader, HEADER_LEN, LOG_LEN, LogBlock, LogFault};
 use l2_ring::{Live, Ring};
 use std::alloc::Global;

@@ -1,8 +1,8 @@
 //! Cache devices in memory, and none.
-use crate::*;
 use std::alloc::Global;
 use std::process::Abort;
 use std::test::Fail;
+use vdev_io::*;
 
 /// Writes, flushes, forks and reads a device of at least 1,024 bytes through its trait alone.
 pub(super) fn write_and_read_again<D: CacheDev>(rt: &impl Abort, alloc: Global, dev: &mut D) {

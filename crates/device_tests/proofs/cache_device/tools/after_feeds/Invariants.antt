@@ -1,5 +1,5 @@
 use Rattle.std.proofs.Common.{◌≡◌, ◌≤◌, []}
-use Rattle.l2_dev.proofs.tests.tools.after_feeds.Given as goal
+use Rattle.device_tests.proofs.cache_device.tools.after_feeds.Given as goal
 
 abbrev pub invariant-loop-number : goal.invariant-loop-number
 invariant-loop-number g l = record {

@@ -1,5 +1,5 @@
-//! Values from outside for what a clause states by a definition.
-use crate::{Key, KeyFault, hash_of};
+//! Keys: values from outside for what a clause states by a definition.
+use blk_ptr::{Key, KeyFault, hash_of};
 
 fn key(offset: u64, size: u64, birth: u64) -> Key {
     Key {

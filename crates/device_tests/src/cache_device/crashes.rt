@@ -1,6 +1,6 @@
 //! Crashes at each write and flush, and calls that fail.
 use super::tools::*;
-use crate::*;
+use l2_dev::*;
 use l2_log::LogFault;
 use std::alloc::Global;
 use std::test::Fail;

@@ -1,8 +1,8 @@
 //! Pools in memory.
-use crate::*;
 use std::alloc::Global;
 use std::process::Abort;
 use std::test::Fail;
+use vdev_io::*;
 
 /// Four bytes of a pool, read through its trait alone.
 fn read_four<P: Pool>(pool: &mut P, offset: u64) -> Result<[u8; 4], Failed> {

@@ -2,9 +2,8 @@
 ghost use Rattle.std.specs.Prelude.{◌≡◌, true};
 ghost use Rattle.l2_log.specs.Rules.{is_there};
 
-use super::*;
-use crate::words::{digest_before, put_digest};
 use blk_ptr::{Digest, Key, digest_of};
+use l2_log::*;
 use std::alloc::Global;
 use std::process::Abort;
 use std::test::Fail;
@@ -97,8 +96,8 @@ fn field_at_fault(at: usize) -> Option<u32> {
 }
 
 fn seal(bytes: &mut [u8; 512]) {
-    let digest = digest_before(bytes, 480);
-    put_digest(bytes, 480, digest);
+    let digest = digest_of(&bytes[..480]);
+    put_at(bytes, 480, &digest.0);
 }
 
 fn check_sealed_change(rt: &impl Abort, at: usize) {

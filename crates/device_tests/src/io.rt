@@ -1,4 +1,4 @@
-//! The objects of this crate, called through their traits.
+//! The objects and adapters of `vdev_io`, called through their traits.
 
 mod devices;
 mod fakes;

@@ -1,4 +1,4 @@
-//! A file that is short and fails, a file system of such files, and one that lets nothing be written.
+//! A file that is short and fails, and a file system of such files.
 ghost use Rattle.std.specs.Prelude.{◌≤◌, IfOk};
 
 use std::alloc::Allocator;
@@ -110,59 +110,6 @@ impl<R: Files> Files for ChoppyFiles<'_, R> {
     fn open_file(&self, how: &OpenOptions, _path: &str) -> io::Result<Choppy> {
         how.check()?;
         Ok(Choppy::new(self.1))
-    }
-
-    fn open_dir(&self, path: &str) -> io::Result<R::Dir> {
-        self.0.open_dir(path)
-    }
-
-    fn metadata(&self, path: &str) -> io::Result<Metadata> {
-        self.0.metadata(path)
-    }
-
-    fn symlink_metadata(&self, path: &str) -> io::Result<Metadata> {
-        self.0.symlink_metadata(path)
-    }
-
-    fn copy(&self, from: &str, to: &str) -> io::Result<u64> {
-        self.0.copy(from, to)
-    }
-
-    fn rename(&self, from: &str, to: &str) -> io::Result<()> {
-        self.0.rename(from, to)
-    }
-
-    fn remove_file(&self, path: &str) -> io::Result<()> {
-        self.0.remove_file(path)
-    }
-
-    fn create_dir(&self, path: &str) -> io::Result<()> {
-        self.0.create_dir(path)
-    }
-
-    fn remove_dir(&self, path: &str) -> io::Result<()> {
-        self.0.remove_dir(path)
-    }
-
-    fn remove_dir_all<B: Allocator>(&self, alloc: B, path: &str) -> io::Result<()> {
-        self.0.remove_dir_all(alloc, path)
-    }
-}
-
-/// The files of another runtime, none of which may be written.
-#[derive(Drop)]
-pub(super) struct Locked<'a, R>(pub(super) &'a R);
-
-impl<R: Files> Files for Locked<'_, R> {
-    type File = R::File;
-
-    type Dir = R::Dir;
-
-    fn open_file(&self, how: &OpenOptions, path: &str) -> io::Result<R::File> {
-        if how.asks_write() {
-            return Err(Error::from(ErrorKind::PermissionDenied));
-        }
-        self.0.open_file(how, path)
     }
 
     fn open_dir(&self, path: &str) -> io::Result<R::Dir> {

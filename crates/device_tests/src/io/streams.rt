@@ -1,8 +1,6 @@
 //! Sources and sinks in memory, and the standard streams.
-use super::fakes::Choppy;
-use crate::stream::{read_some, write_some};
-use crate::*;
 use std::test::Fail;
+use vdev_io::*;
 
 /// What the standard streams carry is shown by the table over the built program; here they are called through their traits.
 #[test]
@@ -11,18 +9,6 @@ fn the_standard_streams(rt: HostRuntime) {
     assert_eq!(rt; sink.write(b""), Ok(0));
     let mut source = StdSource::new(&rt);
     assert_eq!(rt; source.read(&mut []), Ok(0));
-}
-
-#[test]
-fn a_stream_of_short_calls(rt: HostRuntime) -> Result<(), Fail> {
-    let mut file = Choppy::new(6);
-    let mut bytes = [0; 8];
-    assert_eq!(rt; read_some(&mut file, &mut bytes)?, 3);
-    assert_eq!(rt; bytes, *b"012\0\0\0\0\0");
-    assert_eq!(rt; write_some(&mut file, b"ABCDEFG")?, 3);
-    assert_eq!(rt; file.bytes, *b"012ABC6789abcdef");
-    assert!(rt; read_some(&mut file, &mut bytes).is_err(), "a bad place");
-    Ok(())
 }
 
 #[test]

@@ -1,7 +1,7 @@
 //! Starts over images: the table of changed bytes, short devices, and reads that fail.
 use super::tools::*;
-use crate::*;
 use blk_ptr::digest_of;
+use l2_dev::*;
 use l2_log::LogFault;
 use std::alloc::Global;
 use std::test::Fail;

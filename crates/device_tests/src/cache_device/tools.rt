@@ -2,9 +2,9 @@
 ghost use Rattle.std.specs.Prelude.{◌≡◌, ◌≤◌, [], length, IfOk, IfSome};
 ghost use Rattle.blk_ptr.specs.Key.{IsWellFormed};
 
-use crate::*;
 use arc_core::Restored;
 use blk_ptr::{Block, Key};
+use l2_dev::*;
 use l2_log::LOG_LEN;
 use l2_ring::Live;
 use std::alloc::{AllocError, Global};
