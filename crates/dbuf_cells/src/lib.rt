@@ -4,6 +4,3 @@
 mod kept;
 
 pub use kept::{Cells, HeapCell, Kept};
-
-#[cfg(test)]
-mod tests;

@@ -36,6 +36,3 @@ pub use shown::{MOST_SHOWN, Shown};
 pub use standing::Standing;
 pub use state::{DbState, Mapped, Mapping};
 pub use window::Window;
-
-#[cfg(test)]
-mod tests;

@@ -1,16 +1,11 @@
 //! A cell whose kept blocks are plain ones, called as the layer above calls it.
 ghost use Rattle.std.specs.Prelude.{IsTrue};
 ghost use Rattle.dbuf_state.specs.Dbufs.{IsKeptOf};
-ghost use Rattle.dbuf_state.specs.declared.tests.Plain.{Plain};
+ghost use Rattle.dbuf_tests.specs.declared.one_cell.Plain.{Plain};
 
-use crate::cell::Cell;
-use crate::event::CellEvent;
-use crate::oid::Oid;
-use crate::shown::Shown;
-use crate::state::{DbState, Mapped};
-use crate::window::Window;
 use arc_core::Keeps;
 use blk_ptr::{Block, Key, NoMemory, Ptr, Shows, is_block_size};
+use dbuf_state::{Cell, CellEvent, DbState, Mapped, Oid, Shown, Window};
 use std::alloc::Global;
 use std::test::Fail;
 

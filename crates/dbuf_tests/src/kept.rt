@@ -1,7 +1,7 @@
 //! What a kept block shows, and how many holds a cell on the heap counts.
-use crate::kept::{HeapCell, Kept};
 use arc_core::Keeps;
 use blk_ptr::{Block, Key, Shows};
+use dbuf_cells::{HeapCell, Kept};
 use dbuf_state::Cell;
 use std::alloc::Global;
 use std::sync::Arc;
