@@ -1,5 +1,3 @@
-pub mod Cells
-pub mod Feeds
 pub mod Gets
 pub mod Holds
 pub mod Newcomers

@@ -6,8 +6,6 @@ mod calls;
 mod plain;
 mod scene;
 mod soak;
-#[cfg(test)]
-mod tests;
 
 pub use calls::{look_at, read_and_release, read_and_try, read_one, try_one, who_has};
 pub use plain::{Caller, Plain, SIZE, config_of, draw, ptr_of};

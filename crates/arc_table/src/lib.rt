@@ -55,6 +55,3 @@ pub use read::Read;
 pub use resizes::ResizeStop;
 pub use restores::RestoreStop;
 pub use view::{Known, Ledger, Line, Mine, Note};
-
-#[cfg(test)]
-mod tests;

@@ -8,6 +8,3 @@ mod kept;
 pub use bucket::Bucket;
 pub use header::Header;
 pub use kept::Kept;
-
-#[cfg(test)]
-mod tests;

@@ -3,6 +3,4 @@
 
 pub mod histories;
 pub mod refusals;
-#[cfg(test)]
-mod tests;
 pub mod twins;

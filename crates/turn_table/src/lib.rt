@@ -16,6 +16,3 @@ pub use party::Party;
 pub use rule::{GivenView, TurnRule};
 pub use take::Take;
 pub use turns::Turns;
-
-#[cfg(test)]
-mod tests;
