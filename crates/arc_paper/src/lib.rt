@@ -11,8 +11,6 @@ mod paper;
 mod queue;
 mod queues;
 mod spot;
-#[cfg(test)]
-mod tests;
 mod text;
 
 pub use key_table::NoMemory;

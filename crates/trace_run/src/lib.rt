@@ -13,8 +13,6 @@ mod ran;
 mod run_trace;
 mod status;
 mod stream;
-#[cfg(test)]
-mod tests;
 mod together;
 mod top;
 mod words;

@@ -4,16 +4,16 @@ ghost use Rattle.std.proofs.lemmas.List.{length-replicate};
 ghost use Rattle.std.specs.Prelude.{◌≡◌, Some, replicate};
 ghost use Rattle.vdev_io.specs.MemoryLaws.{some_has_len};
 
-use super::{source_of, spelled};
-use crate::{Status, run};
-use std::alloc::Global;
+use super::runs::{ran, source_of, spelled};
+use std::alloc::{AllocError, Global};
 use std::sync::Wait;
 use std::sync::atomic::AtomicU64;
 use std::sync::atomic::Ordering::SeqCst;
 use std::test::Fail;
 use std::thread;
 use std::thread::Threads;
-use vdev_io::{Failed, FreeGate, Gate, IoFault, MemSink, NoCache, Pool};
+use trace_run::Status;
+use vdev_io::{Failed, FreeGate, Gate, IoFault, Pool};
 
 /// Waits until the number is at least this one, for at most 1,000,000 turns, and tells whether it is.
 fn waits_for(number: &AtomicU64, least: u64) -> bool {
@@ -148,24 +148,10 @@ fn answers<R: AllocGlobal + Threads + Wait + Sync, G: Gate>(
     trace: &str,
     pool: &mut Meeting<'_>,
     gate: &G,
-) -> Result<(Status, Vec<u8>), Fail> {
-    let alloc = rt.alloc();
-    let mut source = source_of(alloc, trace, &[])?;
-    let words = vec![in alloc; String::from_str(alloc, "run")?]?;
-    let Ok(mut sink) = MemSink::new(alloc, 4096, 1_048_576, Vec::new(alloc)) else {
-        return Err(Fail::from("no memory"));
-    };
-    let outcome = run(
-        alloc,
-        rt,
-        &words,
-        &mut source,
-        &mut sink,
-        pool,
-        &mut None::<NoCache>,
-        gate,
-    );
-    Ok((outcome.status, sink.bytes().to_vec(alloc)?))
+) -> Result<(Status, Vec<u8>), AllocError> {
+    let mut source = source_of(rt.alloc(), trace, &[])?;
+    let (outcome, text) = ran(rt, &["run"], &mut source, pool, &[], gate)?;
+    Ok((outcome.status, text))
 }
 
 /// Each caller's read of the pool ends only once the other's has begun. So callers that run one after another, and a reader that keeps its
@@ -189,12 +175,8 @@ count hit 0 miss 2 past 0 pool 2 l2 0 pass 0 set 0
 end 0
 ";
     let (status, text) = answers(&rt, trace, &mut pool, &FreeGate)?;
-    assert_eq!(rt;
-        str::from_utf8(&text)?,
-        spelled(rt.alloc(), report)?.as_str()
-    );
-    assert_eq!(rt; status, Status::Ok);
-    assert_eq!(rt; pool.reads, 2);
+    assert!(rt; text.as_slice() == spelled(rt.alloc(), report)?.as_bytes());
+    assert!(rt; status == Status::Ok && pool.reads == 2);
     Ok(())
 }
 
@@ -239,12 +221,8 @@ count hit 0 miss 2 past 0 pool 2 l2 0 pass 0 set 0
 end 1
 ";
     let (status, text) = answers(&rt, trace, &mut pool, &gate)?;
-    assert_eq!(rt;
-        str::from_utf8(&text)?,
-        spelled(rt.alloc(), report)?.as_str()
-    );
-    assert_eq!(rt; status, Status::ReadsFailed);
-    assert!(rt; pool.reads == 2 && pool.faults == 1);
+    assert!(rt; text.as_slice() == spelled(rt.alloc(), report)?.as_bytes());
+    assert!(rt; status == Status::ReadsFailed && pool.reads == 2 && pool.faults == 1);
     Ok(())
 }
 
@@ -296,8 +274,8 @@ read 0 2 1 512 1
 drop 0 1
 ";
     let (status, _) = answers(&rt, trace, &mut pool, &gate)?;
-    assert_eq!(rt; status, Status::ReadsFailed);
-    assert_eq!(rt; before.load(SeqCst), 0x1_0110_0110);
-    assert_eq!(rt; after.load(SeqCst), 0x1_0110_0110);
+    assert!(rt; status == Status::ReadsFailed);
+    assert!(rt; before.load(SeqCst) == 0x1_0110_0110);
+    assert!(rt; after.load(SeqCst) == 0x1_0110_0110);
     Ok(())
 }

@@ -1,0 +1,720 @@
+#!/usr/bin/env python3
+"""Runs traces and lists of pages over the built program, each with all the reports that it may have: .ci/trace_table.py PROGRAM.
+
+A row has what it shows, the words, the pool (the number of its zero bytes, or its bytes), the standard input, the exit status and
+the reports; there are several where callers may come in several orders, and such a row is run four times. The source comes through a
+pipe, a few bytes at a time. Behind the rows: a larger load of four callers, a pool that may not be written, and each short list of up to three
+pages beside a plain form of the policy. It prints each row that is wrong, and how many were right.
+"""
+import collections
+import itertools
+import os
+import shutil
+import subprocess
+import sys
+import tempfile
+
+# the letters that stand for digests in traces and reports
+DIGESTS = {
+    'Z': '076a27c79e5ace2a3d47f9dd2e83e4ff6ea8872b3c2218f66c92b89b55f36560',  # of 512 zero bytes
+    'Y': '5f70bf18a086007016e948b04aed3b82103a36bea41755b6cddfaf10ace3c6ef',  # of 1,024
+    'X': 'e5a00aa9991ac8a5ee3109844d84a55583bd20572ad3ffcd42792f3c36b183ad',  # of 2,048
+    'L': 'fa43239bcee7b97ca62f007cc68487560a39e19f74f3dde7486db3f98df8e471',  # of 131,072
+    'M': '080acf35a507ac9849cfcba47dc2ad83e01b75663a516279c8b9d243b719643e',  # of 16,777,216
+    'N': '110009dcee21620b166f3abfecb5eff7a873be729d1c2d53822e7acc5f34eb9b',  # of the numbers from 0 to 255 twice
+    'F': 'f' * 64,  # of no bytes that are known
+}
+COUNTING = bytes(range(256)) * 2
+Row = collections.namedtuple('Row', 'shows words pool source status reports')
+
+TRACES = [
+    Row('one block is read', ['run', '--events'], 512, '''\
+arc 1 1 16 1 4096 0 4096
+block 0 512 1 Z
+read 0 1 0 0 4
+''', 0, ['''\
+arc 1
+0 ok pool Z 00000000
+e 0 0 miss 0 0 512 1 1
+e 0 1 arrive 0 0 512 1 Z pool
+e 0 2 drop 0 0 512 1
+shard 0 c 4096 p 2048 anon 0 mru 512 mrug 0 mfu 0 mfug 0 l2 0
+count hit 0 miss 1 past 0 pool 1 l2 0 pass 0 set 0
+end 0
+''']),
+    Row('no operation', ['run', '--events'], 0, '''\
+arc 1 1 16 1 4096 0 4096
+''', 0, ['''\
+arc 1
+shard 0 c 4096 p 2048 anon 0 mru 0 mrug 0 mfu 0 mfug 0 l2 0
+count hit 0 miss 0 past 0 pool 0 l2 0 pass 0 set 0
+end 0
+''']),
+    Row('a second read is a hit', ['run'], 512, '''\
+arc 1 1 16 1 4096 0 4096
+block 0 512 1 Z
+read 0 1 0 0 4
+read 0 2 0 0 0
+''', 0, ['''\
+arc 1
+0 ok pool Z 00000000
+1 ok hit Z -
+shard 0 c 4096 p 2048 anon 0 mru 0 mrug 0 mfu 512 mfug 0 l2 0
+count hit 1 miss 1 past 0 pool 1 l2 0 pass 0 set 0
+end 0
+''']),
+    Row('a ghost of a block read once raises the target', ['run'], 5120, '''\
+arc 1 1 16 1 4096 0 4096
+block 0 1024 1 Y
+block 1024 1024 1 Y
+block 2048 1024 1 Y
+block 3072 1024 1 Y
+block 4096 1024 1 Y
+read 0 1 0 0 0
+read 0 2 1 0 0
+read 0 3 2 0 0
+read 0 4 3 0 0
+read 0 5 4 0 0
+read 0 6 0 0 0
+''', 0, ['''\
+arc 1
+0 ok pool Y -
+1 ok pool Y -
+2 ok pool Y -
+3 ok pool Y -
+4 ok pool Y -
+5 ok pool Y -
+shard 0 c 4096 p 3072 anon 0 mru 3072 mrug 1024 mfu 1024 mfug 0 l2 0
+count hit 0 miss 6 past 0 pool 6 l2 0 pass 0 set 0
+end 0
+''']),
+    Row('a ghost of a block read twice lowers the target', ['run'], 6144, '''\
+arc 1 1 16 1 4096 0 4096
+block 0 2048 1 X
+block 2048 2048 1 X
+block 4096 2048 1 X
+read 0 1 0 0 0
+read 0 2 0 0 0
+read 0 3 1 0 0
+read 0 4 2 0 0
+read 0 5 0 0 0
+''', 0, ['''\
+arc 1
+0 ok pool X -
+1 ok hit X -
+2 ok pool X -
+3 ok pool X -
+4 ok pool X -
+shard 0 c 4096 p 256 anon 0 mru 2048 mrug 2048 mfu 2048 mfug 0 l2 0
+count hit 1 miss 4 past 0 pool 4 l2 0 pass 0 set 0
+end 0
+''']),
+    Row('what is held is not evicted, and is dropped at the end, the oldest first', ['run', '--events'], 6144, '''\
+arc 1 1 16 1 4096 0 4096
+block 0 2048 1 X
+block 2048 2048 1 X
+block 4096 2048 1 X
+hold 0 1 0
+hold 0 2 1
+read 0 3 2 0 0
+''', 0, ['''\
+arc 1
+0 held pool
+1 held pool
+2 ok pool X -
+e 0 0 miss 0 0 2048 1 1
+e 0 1 arrive 0 0 2048 1 X pool
+e 0 2 miss 0 2048 2048 1 2
+e 0 3 arrive 0 2048 2048 1 X pool
+e 0 4 miss 0 4096 2048 1 3
+e 0 5 arrive 0 4096 2048 1 X pool
+e 0 6 drop 0 4096 2048 1
+e 0 7 drop 0 0 2048 1
+e 0 8 drop 0 2048 2048 1
+shard 0 c 4096 p 2048 anon 0 mru 6144 mrug 0 mfu 0 mfug 0 l2 0
+count hit 0 miss 3 past 0 pool 3 l2 0 pass 0 set 0
+end 0
+''']),
+    Row('a hit within the least time leaves the last access as it was', ['run'], 512, '''\
+arc 1 1 16 1 4096 10 4096
+block 0 512 1 Z
+read 0 5 0 0 0
+read 0 15 0 0 0
+read 0 16 0 0 0
+''', 0, ['''\
+arc 1
+0 ok pool Z -
+1 ok hit Z -
+2 ok hit Z -
+shard 0 c 4096 p 2048 anon 0 mru 0 mrug 0 mfu 512 mfug 0 l2 0
+count hit 2 miss 1 past 0 pool 1 l2 0 pass 0 set 0
+end 0
+''']),
+    Row('a hit within the least time stays recently used', ['run'], 512, '''\
+arc 1 1 16 1 4096 10 4096
+block 0 512 1 Z
+read 0 5 0 0 0
+read 0 15 0 0 0
+''', 0, ['''\
+arc 1
+0 ok pool Z -
+1 ok hit Z -
+shard 0 c 4096 p 2048 anon 0 mru 512 mrug 0 mfu 0 mfug 0 l2 0
+count hit 1 miss 1 past 0 pool 1 l2 0 pass 0 set 0
+end 0
+''']),
+    Row('another digest is found', ['run', '--events'], 512, '''\
+arc 1 1 16 1 4096 0 4096
+block 0 512 1 F
+read 0 1 0 0 4
+''', 1, ['''\
+arc 1
+0 refused digest Z
+e 0 0 miss 0 0 512 1 1
+e 0 1 fail 0 0 512 1 pool
+shard 0 c 4096 p 2048 anon 0 mru 0 mrug 0 mfu 0 mfug 0 l2 0
+count hit 0 miss 1 past 0 pool 1 l2 0 pass 0 set 0
+end 1
+''']),
+    Row('two digests for one key', ['run', '--events'], 512, '''\
+arc 1 1 16 1 4096 0 4096
+block 0 512 1 Z
+block 0 512 1 F
+read 0 1 0 0 0
+read 0 2 1 0 0
+read 0 3 0 0 0
+''', 1, ['''\
+arc 1
+0 ok pool Z -
+1 refused digest Z
+2 ok hit Z -
+e 0 0 miss 0 0 512 1 1
+e 0 1 arrive 0 0 512 1 Z pool
+e 0 2 drop 0 0 512 1
+e 0 3 past 0 0 512 1 Z
+e 0 4 hit 0 0 512 1 3
+e 0 5 drop 0 0 512 1
+shard 0 c 4096 p 2048 anon 0 mru 0 mrug 0 mfu 512 mfug 0 l2 0
+count hit 1 miss 1 past 1 pool 2 l2 0 pass 0 set 0
+end 1
+''']),
+    Row('a block past the end of the pool', ['run', '--events'], 512, '''\
+arc 1 1 16 1 4096 0 4096
+block 512 512 1 Z
+read 0 1 0 0 0
+''', 1, ['''\
+arc 1
+0 refused key range 1024 512
+shard 0 c 4096 p 2048 anon 0 mru 0 mrug 0 mfu 0 mfug 0 l2 0
+count hit 0 miss 0 past 0 pool 0 l2 0 pass 0 set 0
+end 1
+''']),
+    Row('the other faults of a key', ['run', '--events'], 512, '''\
+arc 1 1 16 1 4096 0 4096
+block 1 512 1 Z
+block 0 513 1 Z
+block 0 512 0 Z
+read 0 1 0 0 0
+hold 0 2 1
+read 0 3 2 0 0
+''', 1, ['''\
+arc 1
+0 refused key unaligned
+1 refused key size
+2 refused key birth
+shard 0 c 4096 p 2048 anon 0 mru 0 mrug 0 mfu 0 mfug 0 l2 0
+count hit 0 miss 0 past 0 pool 0 l2 0 pass 0 set 0
+end 1
+''']),
+    Row('a window past the block, before its key', ['run', '--events'], 512, '''\
+arc 1 1 16 1 4096 0 4096
+block 1 512 1 Z
+read 0 1 0 500 13
+''', 1, ['''\
+arc 1
+0 refused window 513 512
+shard 0 c 4096 p 2048 anon 0 mru 0 mrug 0 mfu 0 mfug 0 l2 0
+count hit 0 miss 0 past 0 pool 0 l2 0 pass 0 set 0
+end 1
+''']),
+    Row('nothing is kept', ['run', '--events'], 512, '''\
+arc 1 1 16 1 4096 0 4096
+block 0 512 1 Z
+drop 0 0
+''', 1, ['''\
+arc 1
+0 refused hold 0
+shard 0 c 4096 p 2048 anon 0 mru 0 mrug 0 mfu 0 mfug 0 l2 0
+count hit 0 miss 0 past 0 pool 0 l2 0 pass 0 set 0
+end 1
+''']),
+    Row('each kept read is dropped once', ['run', '--events'], 512, '''\
+arc 1 1 16 1 4096 0 4096
+block 0 512 1 Z
+hold 0 1 0
+hold 0 2 0
+drop 0 0
+drop 0 0
+drop 0 0
+''', 1, ['''\
+arc 1
+0 held pool
+1 held hit
+2 dropped
+3 dropped
+4 refused hold 0
+e 0 0 miss 0 0 512 1 1
+e 0 1 arrive 0 0 512 1 Z pool
+e 0 2 hit 0 0 512 1 2
+e 0 3 drop 0 0 512 1
+e 0 4 drop 0 0 512 1
+shard 0 c 4096 p 2048 anon 0 mru 0 mrug 0 mfu 512 mfug 0 l2 0
+count hit 1 miss 1 past 0 pool 1 l2 0 pass 0 set 0
+end 1
+''']),
+    Row('a kept read of another digest than the one that is cached', ['run', '--events'], 512, '''\
+arc 1 1 16 1 4096 0 4096
+block 0 512 1 Z
+block 0 512 1 F
+read 0 1 0 0 0
+hold 0 2 1
+drop 0 1
+''', 1, ['''\
+arc 1
+0 ok pool Z -
+1 refused digest Z
+2 refused hold 1
+e 0 0 miss 0 0 512 1 1
+e 0 1 arrive 0 0 512 1 Z pool
+e 0 2 drop 0 0 512 1
+e 0 3 past 0 0 512 1 Z
+shard 0 c 4096 p 2048 anon 0 mru 512 mrug 0 mfu 0 mfug 0 l2 0
+count hit 0 miss 1 past 1 pool 2 l2 0 pass 0 set 0
+end 1
+''']),
+    Row('the largest block, which is more than the cache may have, and one that is larger', ['run'], 16_777_216, '''\
+arc 1 1 16 1 4096 0 4096
+block 0 16777216 1 M
+block 0 16777728 1 M
+read 0 1 0 16777200 16
+read 0 2 1 0 0
+''', 1, ['''\
+arc 1
+0 ok pool M 00000000000000000000000000000000
+1 refused key size
+shard 0 c 4096 p 2048 anon 0 mru 16777216 mrug 0 mfu 0 mfug 0 l2 0
+count hit 0 miss 1 past 0 pool 1 l2 0 pass 0 set 0
+end 1
+''']),
+    Row('two callers read one block, and one of them reads the pool', ['run'], 8192, '''\
+arc 2 1 16 1 4096 0 0
+block 0 512 1 Z
+read 0 1 0 0 4
+read 1 1 0 0 4
+''', 0, ['''\
+arc 1
+0 ok pool Z 00000000
+1 ok hit Z 00000000
+shard 0 c 4096 p 2048 anon 0 mru 512 mrug 0 mfu 0 mfug 0 l2 0
+count hit 1 miss 1 past 0 pool 1 l2 0 pass 0 set 0
+end 0
+''', '''\
+arc 1
+0 ok hit Z 00000000
+1 ok pool Z 00000000
+shard 0 c 4096 p 2048 anon 0 mru 512 mrug 0 mfu 0 mfug 0 l2 0
+count hit 1 miss 1 past 0 pool 1 l2 0 pass 0 set 0
+end 0
+''']),
+    Row('three callers do', ['run'], 8192, '''\
+arc 3 1 16 1 4096 0 0
+block 0 512 1 Z
+read 0 1 0 0 0
+read 1 1 0 0 0
+read 2 1 0 0 0
+''', 0, ['''\
+arc 1
+0 ok pool Z -
+1 ok hit Z -
+2 ok hit Z -
+shard 0 c 4096 p 2048 anon 0 mru 512 mrug 0 mfu 0 mfug 0 l2 0
+count hit 2 miss 1 past 0 pool 1 l2 0 pass 0 set 0
+end 0
+''', '''\
+arc 1
+0 ok hit Z -
+1 ok pool Z -
+2 ok hit Z -
+shard 0 c 4096 p 2048 anon 0 mru 512 mrug 0 mfu 0 mfug 0 l2 0
+count hit 2 miss 1 past 0 pool 1 l2 0 pass 0 set 0
+end 0
+''', '''\
+arc 1
+0 ok hit Z -
+1 ok hit Z -
+2 ok pool Z -
+shard 0 c 4096 p 2048 anon 0 mru 512 mrug 0 mfu 0 mfug 0 l2 0
+count hit 2 miss 1 past 0 pool 1 l2 0 pass 0 set 0
+end 0
+''']),
+    Row('a read of another digest goes past the block that a caller keeps, or comes before it', ['run'], 8192, '''\
+arc 2 1 16 1 4096 0 0
+block 0 512 1 Z
+block 0 512 1 F
+hold 0 1 0
+read 1 1 1 0 0
+''', 1, ['''\
+arc 1
+0 held pool
+1 refused digest Z
+shard 0 c 4096 p 2048 anon 0 mru 512 mrug 0 mfu 0 mfug 0 l2 0
+count hit 0 miss 1 past 1 pool 2 l2 0 pass 0 set 0
+end 1
+''', '''\
+arc 1
+0 held pool
+1 refused digest Z
+shard 0 c 4096 p 2048 anon 0 mru 512 mrug 0 mfu 0 mfug 0 l2 0
+count hit 0 miss 2 past 0 pool 2 l2 0 pass 0 set 0
+end 1
+''']),
+    Row('no caller drops what another keeps', ['run'], 8192, '''\
+arc 2 1 16 1 4096 0 0
+block 0 512 1 Z
+hold 0 1 0
+drop 1 0
+''', 1, ['''\
+arc 1
+0 held pool
+1 refused hold 0
+shard 0 c 4096 p 2048 anon 0 mru 512 mrug 0 mfu 0 mfug 0 l2 0
+count hit 0 miss 1 past 0 pool 1 l2 0 pass 0 set 0
+end 1
+''']),
+    Row('each caller drops its own, in the order of its lines', ['run'], 8192, '''\
+arc 2 1 16 1 4096 0 0
+block 0 512 1 Z
+hold 0 1 0
+hold 1 1 0
+drop 1 0
+drop 0 0
+drop 1 0
+''', 1, ['''\
+arc 1
+0 held pool
+1 held hit
+2 dropped
+3 dropped
+4 refused hold 0
+shard 0 c 4096 p 2048 anon 0 mru 512 mrug 0 mfu 0 mfug 0 l2 0
+count hit 1 miss 1 past 0 pool 1 l2 0 pass 0 set 0
+end 1
+''', '''\
+arc 1
+0 held hit
+1 held pool
+2 dropped
+3 dropped
+4 refused hold 0
+shard 0 c 4096 p 2048 anon 0 mru 512 mrug 0 mfu 0 mfug 0 l2 0
+count hit 1 miss 1 past 0 pool 1 l2 0 pass 0 set 0
+end 1
+''']),
+    Row('the later access counts by its tick, and not by its turn', ['run'], 8192, '''\
+arc 2 1 16 1 4096 0 0
+block 0 512 1 Z
+hold 0 1 0
+read 1 5 0 0 0
+''', 0, ['''\
+arc 1
+0 held pool
+1 ok hit Z -
+shard 0 c 4096 p 2048 anon 0 mru 0 mrug 0 mfu 512 mfug 0 l2 0
+count hit 1 miss 1 past 0 pool 1 l2 0 pass 0 set 0
+end 0
+''', '''\
+arc 1
+0 held hit
+1 ok pool Z -
+shard 0 c 4096 p 2048 anon 0 mru 512 mrug 0 mfu 0 mfug 0 l2 0
+count hit 1 miss 1 past 0 pool 1 l2 0 pass 0 set 0
+end 0
+''']),
+    Row('what a caller keeps is not evicted for another', ['run'], 8192, '''\
+arc 2 1 16 1 4096 0 0
+block 0 2048 1 X
+block 2048 2048 1 X
+block 4096 2048 1 X
+hold 0 1 0
+read 1 1 1 0 0
+read 1 2 2 0 0
+''', 0, ['''\
+arc 1
+0 held pool
+1 ok pool X -
+2 ok pool X -
+shard 0 c 4096 p 2048 anon 0 mru 4096 mrug 2048 mfu 0 mfug 0 l2 0
+count hit 0 miss 3 past 0 pool 3 l2 0 pass 0 set 0
+end 0
+''']),
+    Row('two callers read blocks of two shards in opposite orders', ['run'], 8192, '''\
+arc 2 2 16 1 4096 0 0
+block 0 512 1 Z
+block 1536 512 1 Z
+read 0 1 0 0 0
+read 0 1 1 0 0
+read 1 1 1 0 0
+read 1 1 0 0 0
+''', 0, ['''\
+arc 1
+0 ok pool Z -
+1 ok hit Z -
+2 ok pool Z -
+3 ok hit Z -
+shard 0 c 4096 p 2048 anon 0 mru 512 mrug 0 mfu 0 mfug 0 l2 0
+shard 1 c 4096 p 2048 anon 0 mru 512 mrug 0 mfu 0 mfug 0 l2 0
+count hit 2 miss 2 past 0 pool 2 l2 0 pass 0 set 0
+end 0
+''', '''\
+arc 1
+0 ok pool Z -
+1 ok pool Z -
+2 ok hit Z -
+3 ok hit Z -
+shard 0 c 4096 p 2048 anon 0 mru 512 mrug 0 mfu 0 mfug 0 l2 0
+shard 1 c 4096 p 2048 anon 0 mru 512 mrug 0 mfu 0 mfug 0 l2 0
+count hit 2 miss 2 past 0 pool 2 l2 0 pass 0 set 0
+end 0
+''', '''\
+arc 1
+0 ok hit Z -
+1 ok hit Z -
+2 ok pool Z -
+3 ok pool Z -
+shard 0 c 4096 p 2048 anon 0 mru 512 mrug 0 mfu 0 mfug 0 l2 0
+shard 1 c 4096 p 2048 anon 0 mru 512 mrug 0 mfu 0 mfug 0 l2 0
+count hit 2 miss 2 past 0 pool 2 l2 0 pass 0 set 0
+end 0
+''']),
+    Row('the last bytes of a block whose bytes count up', ['run'], COUNTING, '''\
+arc 1 1 16 1 4096 0 4096
+block 0 512 1 N
+read 0 1 0 448 64
+''', 0, [f'''\
+arc 1
+0 ok pool N {COUNTING[448:].hex()}
+shard 0 c 4096 p 2048 anon 0 mru 512 mrug 0 mfu 0 mfug 0 l2 0
+count hit 0 miss 1 past 0 pool 1 l2 0 pass 0 set 0
+end 0
+''']),
+]
+
+LISTS = [
+    Row('five pages, with a comment and an empty line', ['paper', '2'], 0, '# five\n1\n2\n\n1\n3\n2\n', 0, ['''\
+0 miss
+1 miss
+2 hit
+3 miss
+4 miss
+paper c 2 p 1 t1 1 t2 1 b1 0 b2 1 hits 1
+end 0
+''']),
+    Row('one page pushes out the other', ['paper', '1'], 0, '1\n2\n1\n', 0, ['''\
+0 miss
+1 miss
+2 miss
+paper c 1 p 0 t1 1 t2 0 b1 0 b2 0 hits 0
+end 0
+''']),
+    Row('no page', ['paper', '1'], 0, '', 0, ['paper c 1 p 0 t1 0 t2 0 b1 0 b2 0 hits 0\nend 0\n']),
+    Row('pages at both ends of their range, the last with no end of its line', ['paper', '65536'], 0, f'0\n{2 ** 62}', 0, ['''\
+0 miss
+1 miss
+paper c 65536 p 0 t1 2 t2 0 b1 0 b2 0 hits 0
+end 0
+''']),
+    Row('the same pages again', ['paper', '2'], 0, f'0\n{2 ** 62}\n{2 ** 62}\n0\n', 0, ['''\
+0 miss
+1 miss
+2 hit
+3 hit
+paper c 2 p 0 t1 0 t2 2 b1 0 b2 0 hits 2
+end 0
+''']),
+    Row('a page past the range', ['paper', '2'], 0, f'1\n{2 ** 62 + 1}', 3, ['']),
+    Row('a page with a zero in front', ['paper', '2'], 0, '1\n01', 3, ['']),
+    Row('two pages on a line', ['paper', '2'], 0, '1\n2 \n3 4', 3, ['']),
+    Row('a page behind a space', ['paper', '2'], 0, ' 1', 3, ['']),
+    Row('no capacity', ['paper'], 0, '', 2, ['']),
+    Row('a capacity of no page', ['paper', '0'], 0, '', 2, ['']),
+    Row('a capacity past the range', ['paper', '65537'], 0, '', 2, ['']),
+    Row('a capacity with a zero in front', ['paper', '02'], 0, '', 2, ['']),
+    Row('a word behind the capacity', ['paper', '2', '3'], 0, '', 2, ['']),
+]
+
+REFUSED = [
+    Row('no word', [], 512, 'arc 1 1 16 1 4096 0 0\n', 2, ['']),
+    Row('no command', ['ran'], 512, 'arc 1 1 16 1 4096 0 0\n', 2, ['']),
+    Row('a word that run has not', ['run', '--event'], 512, 'arc 1 1 16 1 4096 0 0\n', 2, ['']),
+    Row('no block to read', ['gen', '1', '0', '10'], 512, '', 2, ['']),
+    Row('no number of reads', ['gen', '1', '8'], 512, '', 2, ['']),
+    Row('a line that lacks a number', ['run'], 512, 'arc 1 1 16 1 4096 0 0\n# none\nread 0 1 0 0\n', 3, ['']),
+]
+
+# Four callers read eight blocks twice each, over four shards. In every order one read of each block misses and all others hit, so what
+# the shards end with and the counts are always the same.
+LOAD = 'arc 4 4 64 4 16777216 62 1048576\n' + ''.join(f'block {i * 131072} 131072 1 L\n' for i in range(8)) + ''.join(
+    f'read {i % 4} {i // 4 + 1} {i // 4 % 8} 0 0\n' for i in range(64))
+LOAD_ENDS = '''\
+shard 0 c 16777216 p 8388608 anon 0 mru 262144 mrug 0 mfu 0 mfug 0 l2 0
+shard 1 c 16777216 p 8388608 anon 0 mru 262144 mrug 0 mfu 0 mfug 0 l2 0
+shard 2 c 16777216 p 8388608 anon 0 mru 393216 mrug 0 mfu 0 mfug 0 l2 0
+shard 3 c 16777216 p 8388608 anon 0 mru 131072 mrug 0 mfu 0 mfug 0 l2 0
+count hit 56 miss 8 past 0 pool 8 l2 0 pass 0 set 0
+end 0
+'''
+
+
+def spelled(text):
+    """A text with the digests in place of their letters."""
+    return text.translate(str.maketrans(DIGESTS))
+
+
+def run(program, row):
+    """The exit status, and what was written."""
+    with open('pool', 'wb') as pool:
+        if isinstance(row.pool, bytes):
+            pool.write(row.pool)
+        else:
+            pool.truncate(row.pool)
+    source = spelled(row.source).encode()
+    with subprocess.Popen([program, 'pool', '-', *row.words], stdin=subprocess.PIPE, stdout=subprocess.PIPE, stderr=subprocess.DEVNULL) as ended:
+        try:
+            for at in range(0, len(source), 7):
+                os.write(ended.stdin.fileno(), source[at:at + 7])
+            ended.stdin.close()
+        except BrokenPipeError:
+            pass  # its words were refused before it read
+        told = ended.stdout.read().decode()
+    return ended.returncode, told
+
+
+def is_right(program, row):
+    wanted = [(row.status, spelled(report)) for report in row.reports]
+    for _ in range(4 if len(wanted) > 1 else 1):
+        ours = run(program, row)
+        if ours not in wanted:
+            print(f'{row.shows}: {row.words} ended with {ours}, which is none of {wanted}')
+            return False
+    return True
+
+
+def is_load_right(program):
+    status, told = run(program, Row('a load of four callers', ['run'], 8 * 131072, LOAD, 0, []))
+    right = status == 0 and told.count(' ok ') == 64 and told.endswith(LOAD_ENDS)
+    if not right:
+        print(f'a load of four callers ended with {status}: {told[-600:]}')
+    return right
+
+
+def is_locked_pool_read(program):
+    """A pool that may not be written is read all the same. Root may write every file, so there the program is run as nobody."""
+    shutil.copy(program, 'tool')
+    os.chmod('.', 0o755)
+    with open('locked', 'wb') as pool:
+        pool.truncate(512)
+    os.chmod('locked', 0o444)
+    nobody = {'user': 65534, 'group': 65534, 'extra_groups': []} if os.geteuid() == 0 else {}
+    source = spelled('arc 1 1 16 1 4096 0 0\nblock 0 512 1 Z\nread 0 1 0 0 1\n')
+    ended = subprocess.run(['./tool', 'locked', '-', 'run'], input=source.encode(), capture_output=True, **nobody)
+    right = ended.returncode == 0 and spelled('0 ok pool Z 00\n') in ended.stdout.decode()
+    if not right:
+        print(f'a pool that may not be written ended with {ended}')
+    return right
+
+
+class Policy:
+    """The policy on four plain lists, the newest page first."""
+
+    def __init__(self, c):
+        self.c, self.p, self.hits = c, 0, 0
+        self.t1, self.t2, self.b1, self.b2 = [], [], [], []
+
+    def replace(self, in_b2):
+        n = len(self.t1)
+        if n > 0 and (n > self.p or (in_b2 and n == self.p)):
+            self.b1.insert(0, self.t1.pop())
+        elif self.t2:
+            self.b2.insert(0, self.t2.pop())
+
+    def make_room(self):
+        recent = len(self.t1) + len(self.b1)
+        everything = recent + len(self.t2) + len(self.b2)
+        if recent == self.c:
+            if len(self.t1) < self.c:
+                self.b1.pop()
+                self.replace(False)
+            else:
+                self.t1.pop()
+        elif everything >= self.c:
+            if everything == 2 * self.c:
+                self.b2.pop()
+            self.replace(False)
+
+    def page(self, x):
+        b1, b2 = len(self.b1), len(self.b2)
+        for cached in (self.t1, self.t2):
+            if x in cached:
+                cached.remove(x)
+                self.t2.insert(0, x)
+                self.hits += 1
+                return 'hit'
+        if x in self.b1:
+            self.p = min(self.c, self.p + max(1, b2 // b1))
+            self.replace(False)
+            self.b1.remove(x)
+            self.t2.insert(0, x)
+        elif x in self.b2:
+            self.p = max(0, self.p - max(1, b1 // b2))
+            self.replace(True)
+            self.b2.remove(x)
+            self.t2.insert(0, x)
+        else:
+            self.make_room()
+            self.t1.insert(0, x)
+        return 'miss'
+
+    def told(self, pages):
+        lines = [f'{i} {self.page(x)}\n' for i, x in enumerate(pages)]
+        t1, t2, b1, b2 = map(len, (self.t1, self.t2, self.b1, self.b2))
+        return ''.join(lines) + f'paper c {self.c} p {self.p} t1 {t1} t2 {t2} b1 {b1} b2 {b2} hits {self.hits}\nend 0\n'
+
+
+def short_lists():
+    """Each list of six of three pages, as far as they differ by more than the pages' names."""
+    for pages in itertools.product(range(3), repeat=6):
+        if all(x <= max(pages[:i], default=-1) + 1 for i, x in enumerate(pages)):
+            yield pages
+
+
+def policy_rows():
+    """A row for each such list and each small capacity. Its front has each shorter list."""
+    for c in range(1, 6):
+        for pages in short_lists():
+            text = ''.join(f'{x}\n' for x in pages)
+            yield Row(f'the pages {pages}', ['paper', str(c)], 0, text, 0, [Policy(c).told(pages)])
+
+
+def main():
+    program = os.path.abspath(sys.argv[1])
+    with tempfile.TemporaryDirectory(prefix='arc_tool.') as work:
+        os.chdir(work)
+        results = [is_right(program, row) for row in (*TRACES, *LISTS, *REFUSED, *policy_rows())]
+        results += [is_load_right(program), is_locked_pool_read(program)]
+        os.chdir('/')
+    print(f'traces: {results.count(True)} rows right, {results.count(False)} wrong')
+    sys.exit(not all(results))
+
+
+if __name__ == '__main__':
+    main()
