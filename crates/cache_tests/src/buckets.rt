@@ -3,6 +3,7 @@ ghost use Rattle.std.specs.Prelude.{◌≡◌};
 
 use blk_ptr::{Block, Key, NoMemory, State};
 use hash_chain::{Bucket, Header, Kept};
+use std::alloc::{AllocError, Global};
 use std::sync::Arc;
 use std::test::Fail;
 
@@ -38,12 +39,19 @@ fn put(bucket: &mut Bucket, header: Header) -> Result<(), NoMemory> {
     Ok(())
 }
 
-// Adds the headers of so many keys, one a sector.
-fn fill(bucket: &mut Bucket, keys: u32) -> Result<(), NoMemory> {
+// A bucket of the headers of so many keys, one a sector.
+fn filled(alloc: Global, keys: u32) -> Result<Bucket, NoMemory> {
+    let mut bucket = Bucket::new(alloc);
     for sector in 0..keys {
-        put(bucket, header(512 * u64::from(sector), None))?;
+        put(&mut bucket, header(512 * u64::from(sector), None))?;
     }
-    Ok(())
+    Ok(bucket)
+}
+
+// Removes the key's header, and answers the offset of its key.
+fn take_out(bucket: &mut Bucket, offset: u64) -> Option<u64> {
+    let at = bucket.find(key(offset))?;
+    Some(bucket.remove(at).key.offset)
 }
 
 // Puts another header in the place of its key's.
@@ -71,65 +79,77 @@ fn lend(bucket: &mut Bucket, key: Key, near: usize) -> Option<usize> {
     Some(before)
 }
 
-// The header that the key has.
-fn header_of(bucket: &Bucket, offset: u64) -> Option<&Header> {
+// The state of the key's header, and whether it has a block.
+fn seen_of(bucket: &Bucket, offset: u64) -> Option<(State, bool)> {
     let at = bucket.find(key(offset))?;
-    Some(bucket.at(at))
+    let header = bucket.at(at);
+    Some((header.state, header.block.is_some()))
+}
+
+// A block of zero bytes.
+fn zeros(alloc: Global) -> Result<Arc<Block>, AllocError> {
+    let bytes = vec![in alloc; 0u8; 512]?;
+    Arc::new(alloc, Block::seal(bytes))
 }
 
 #[test]
 fn headers_are_found_by_their_keys(rt: HostRuntime) -> Result<(), Fail> {
-    let mut bucket = Bucket::new(rt.alloc());
-    assert!(rt; bucket.find(key(0)).is_none());
-    let bytes = vec![in rt.alloc(); 0u8; 512]?;
-    let block = Arc::new(rt.alloc(), Block::seal(bytes))?;
-    put(&mut bucket, header(0, None)).ok().ok_or("memory")?;
-    put(&mut bucket, header(512, None)).ok().ok_or("memory")?;
-    put(&mut bucket, header(1024, None)).ok().ok_or("memory")?;
-    let first = bucket.find(key(0)).ok_or("the first key")?;
-    let gone = bucket.remove(first);
-    assert!(rt; gone.key == key(0) && bucket.find(key(0)).is_none());
-    replace(&mut bucket, header(1024, Some(Kept::new(block))));
-    assert!(rt; header_of(&bucket, 1024).is_some_and(|h| h.block.is_some()));
-    assert!(rt; header_of(&bucket, 512).is_some_and(|h| h.block.is_none()));
-    move_to(&mut bucket, key(1024), State::Mfu);
-    assert!(rt;
-        header_of(&bucket, 1024).is_some_and(|h| h.state == State::Mfu && h.block.is_some())
+    let mut bucket = filled(rt.alloc(), 3)?;
+    let gone = take_out(&mut bucket, 0);
+    assert!(rt; gone == Some(0) && bucket.find(key(0)).is_none());
+    replace(
+        &mut bucket,
+        header(1024, Some(Kept::new(zeros(rt.alloc())?))),
     );
+    move_to(&mut bucket, key(1024), State::Mfu);
+    assert!(rt; seen_of(&bucket, 1024) == Some((State::Mfu, true)));
+    assert!(rt; seen_of(&bucket, 512) == Some((State::Mru, false)));
     Ok(())
+}
+
+// Whether all of so many keys have their own headers.
+fn has_all(bucket: &Bucket, keys: u32) -> bool {
+    for sector in 0..keys {
+        let offset = 512 * u64::from(sector);
+        let Some(at) = bucket.find(key(offset)) else {
+            return false;
+        };
+        if bucket.at(at).key.offset != offset {
+            return false;
+        }
+    }
+    true
 }
 
 #[test]
 fn one_of_many_headers_is_found(rt: HostRuntime) -> Result<(), Fail> {
-    let mut bucket = Bucket::new(rt.alloc());
-    fill(&mut bucket, 50).ok().ok_or("memory")?;
-    for sector in 0..50u32 {
-        let offset = 512 * u64::from(sector);
-        assert!(rt; header_of(&bucket, offset).is_some_and(|h| h.key.offset == offset));
-    }
-    assert!(rt; bucket.find(key(25_600)).is_none());
-    let place = bucket.find(key(10_240)).ok_or("the key")?;
-    let gone = bucket.remove(place);
-    assert!(rt; gone.key == key(10_240) && bucket.find(key(10_240)).is_none());
-    assert!(rt; header_of(&bucket, 25_088).is_some_and(|h| h.key == key(25_088)));
+    let mut bucket = filled(rt.alloc(), 50)?;
+    assert!(rt; has_all(&bucket, 50) && bucket.find(key(25_600)).is_none());
+    let gone = take_out(&mut bucket, 10_240);
+    assert!(rt; gone == Some(10_240) && bucket.find(key(10_240)).is_none());
+    assert!(rt; bucket.find(key(25_088)).is_some());
     Ok(())
+}
+
+// A bucket of two headers, of which the second keeps this block.
+fn with_block(alloc: Global, block: &Arc<Block>) -> Result<Bucket, NoMemory> {
+    let mut bucket = filled(alloc, 1)?;
+    let kept = Kept::new(Arc::try_clone(block)?);
+    put(&mut bucket, header(512, Some(kept)))?;
+    Ok(bucket)
 }
 
 #[test]
 fn a_block_given_back_is_taken_again(rt: HostRuntime) -> Result<(), Fail> {
-    let mut bucket = Bucket::new(rt.alloc());
-    let bytes = vec![in rt.alloc(); 0u8; 512]?;
-    let block = Arc::new(rt.alloc(), Block::seal(bytes))?;
-    let kept = Kept::new(Arc::try_clone(&block)?);
-    put(&mut bucket, header(0, None)).ok().ok_or("memory")?;
-    put(&mut bucket, header(512, Some(kept)))
-        .ok()
-        .ok_or("memory")?;
-    assert!(rt; lend(&mut bucket, key(0), 3).is_none());
-    assert!(rt; lend(&mut bucket, key(512), 3) == Some(usize::MAX));
+    let block = zeros(rt.alloc())?;
+    let mut bucket = with_block(rt.alloc(), &block)?;
+    let before = [
+        lend(&mut bucket, key(0), 3),
+        lend(&mut bucket, key(512), 3),
+        lend(&mut bucket, key(512), 5),
+    ];
+    assert!(rt; before == [None, Some(usize::MAX), Some(3)]);
     // The test itself has one owner, and the header the block and the spare.
-    assert!(rt; Arc::strong_count(&block) == 3);
-    assert!(rt; lend(&mut bucket, key(512), 5) == Some(3));
     assert!(rt; Arc::strong_count(&block) == 3);
     Ok(())
 }

@@ -5,21 +5,11 @@ mod victims;
 
 use arc_core::{Bounds, Event, Origin, Shard};
 use blk_ptr::{Digest, Key, State};
-use std::process::Abort;
 
 const BOUNDS: Bounds = Bounds {
     write_max: 8_388_608,
     headroom: 2,
 };
-
-const STATES: [State; 6] = [
-    State::Anon,
-    State::Mru,
-    State::MruGhost,
-    State::Mfu,
-    State::MfuGhost,
-    State::L2Only,
-];
 
 const DIGEST: Digest = Digest([0; 32]);
 
@@ -32,12 +22,17 @@ fn block(size: u64, i: u64) -> Key {
     }
 }
 
-/// Asserts the target, and the sizes in the order of the states.
-fn assert_sizes(rt: &impl Abort, shard: &Shard, p: u64, sizes: [u128; 6]) {
-    assert!(rt; shard.p() == p);
-    for (state, size) in STATES.iter().zip(sizes.iter()) {
-        assert!(rt; shard.size(*state) == *size);
-    }
+/// Whether this is the target, and these are the sizes in the order of the states.
+fn has_sizes(shard: &Shard, p: u64, sizes: [u128; 6]) -> bool {
+    let found = [
+        shard.size(State::Anon),
+        shard.size(State::Mru),
+        shard.size(State::MruGhost),
+        shard.size(State::Mfu),
+        shard.size(State::MfuGhost),
+        shard.size(State::L2Only),
+    ];
+    shard.p() == p && found == sizes
 }
 
 /// Makes an event, where it may come and memory is there.
@@ -51,7 +46,12 @@ fn make(shard: &mut Shard, event: Event) -> bool {
 
 /// Makes events as far as they may come, and answers whether all came.
 fn make_all(shard: &mut Shard, events: &[Event]) -> bool {
-    events.iter().all(|event| make(shard, *event))
+    for event in events {
+        if !make(shard, *event) {
+            return false;
+        }
+    }
+    true
 }
 
 fn miss(key: Key, t: u64) -> Event {
@@ -69,10 +69,18 @@ fn arrive(key: Key) -> Event {
 
 /// Caller 0 reads a block that is missing, and gives it back.
 fn fetch(shard: &mut Shard, key: Key, t: u64) -> bool {
-    make(shard, miss(key, t)) && make(shard, arrive(key)) && make(shard, Event::Drop { n: 0, key })
+    make_all(
+        shard,
+        &[miss(key, t), arrive(key), Event::Drop { n: 0, key }],
+    )
 }
 
 /// Reads blocks of a quarter of 4,096 bytes, one after the other, and answers whether all were missing.
 fn fetch_quarters(shard: &mut Shard, blocks: &[u64]) -> bool {
-    blocks.iter().all(|i| fetch(shard, block(1024, *i), *i))
+    for i in blocks {
+        if !fetch(shard, block(1024, *i), *i) {
+            return false;
+        }
+    }
+    true
 }

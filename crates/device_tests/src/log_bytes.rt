@@ -40,24 +40,34 @@ fn header_after_one_feed() -> DevHeader {
 }
 
 #[test]
-fn the_first_bytes_of_a_header(rt: HostRuntime) -> Result<(), Fail> {
+fn the_first_bytes_of_a_header(rt: HostRuntime) {
     let mut bytes = [9; 512];
     let header = header_after_one_feed();
     header.write(&mut bytes);
     assert!(rt; has_at(&bytes, 0, &FIRST_BYTES));
-    let read = DevHeader::read(&bytes)
-        .ok()
-        .ok_or("the bytes are a header")?;
-    assert_eq!(rt; read, header);
-    Ok(())
+    assert!(rt; DevHeader::read(&bytes) == Ok(header));
 }
 
-/// The refusal of a header of which one byte was changed and no digest was computed again.
-fn refusal_of_a_changed_byte(at: usize, fault: LogFault) -> bool {
+/// What the bytes of that header are refused for once the lowest bit of the byte at `at` is turned, and the digest computed again
+/// where they are sealed.
+fn fault_of_a_change(at: usize, sealed: bool) -> Option<LogFault> {
+    let mut bytes = [0; 512];
+    header_after_one_feed().write(&mut bytes);
+    if at < 512 {
+        bytes[at] ^= 1;
+    }
+    if sealed {
+        seal(&mut bytes);
+    }
+    DevHeader::read(&bytes).err()
+}
+
+/// Whether a header is refused for this where the byte at `at` was changed and no digest computed again.
+fn is_right_at(at: usize, fault: Option<LogFault>) -> bool {
     match fault {
-        LogFault::Magic => at < 8,
-        LogFault::Version => (8..16).contains(&at),
-        LogFault::Digest { .. } => 16 <= at,
+        Some(LogFault::Magic) => at < 8,
+        Some(LogFault::Version) => 8 <= at && at < 16,
+        Some(LogFault::Digest { .. }) => 16 <= at,
         _ => false,
     }
 }
@@ -65,34 +75,46 @@ fn refusal_of_a_changed_byte(at: usize, fault: LogFault) -> bool {
 #[test]
 fn each_byte_of_a_header_counts(rt: HostRuntime) {
     for at in 0..512 {
-        let mut bytes = [0; 512];
-        header_after_one_feed().write(&mut bytes);
-        bytes[at] ^= 1;
-        match DevHeader::read(&bytes) {
-            Ok(_) => assert!(rt; false, "at {at}"),
-            Err(fault) => assert!(rt; refusal_of_a_changed_byte(at, fault), "at {at}"),
-        }
+        assert!(rt; is_right_at(at, fault_of_a_change(at, false)));
     }
 }
 
+/// The bytes whose change is told as the field at the third number, from the first number to below the second.
+const FIELDS: [(usize, usize, u32); 15] = [
+    (16, 24, 16),
+    (24, 26, 24),
+    (32, 34, 32),
+    (35, 40, 32),
+    (40, 48, 40),
+    (48, 50, 48),
+    (51, 56, 48),
+    (56, 57, 56),
+    (64, 72, 64),
+    (136, 144, 136),
+    (144, 145, 144),
+    (146, 152, 144),
+    (192, 202, 200),
+    (202, 203, 208),
+    (203, 256, 200),
+];
+
+/// The bytes that are zero, each of which is told by its own place.
+const PADS: [(usize, usize); 3] = [(72, 128), (152, 160), (256, 480)];
+
 /// Where the header is refused once the lowest bit of the byte at `at` is turned and the digest computed again.
 /// `None` where it is another header.
-fn field_at_fault(at: usize) -> Option<u32> {
-    match at {
-        16..24 => Some(16),
-        24 | 25 => Some(24),
-        32 | 33 | 35..40 => Some(32),
-        40..48 => Some(40),
-        48 | 49 | 51..56 => Some(48),
-        56 => Some(56),
-        64..72 => Some(64),
-        136..144 => Some(136),
-        144 | 146..152 => Some(144),
-        202 => Some(208),
-        192..256 => Some(200),
-        72..128 | 152..160 | 256..480 => Some(at as u32),
-        _ => None,
+fn field_at_fault(at: usize) -> Option<LogFault> {
+    for (first, end, field) in FIELDS {
+        if first <= at && at < end {
+            return Some(LogFault::Field { at: field });
+        }
     }
+    for (first, end) in PADS {
+        if first <= at && at < end {
+            return Some(LogFault::Field { at: at as u32 });
+        }
+    }
+    None
 }
 
 fn seal(bytes: &mut [u8; 512]) {
@@ -100,26 +122,10 @@ fn seal(bytes: &mut [u8; 512]) {
     put_at(bytes, 480, &digest.0);
 }
 
-fn check_sealed_change(rt: &impl Abort, at: usize) {
-    let mut bytes = [0; 512];
-    header_after_one_feed().write(&mut bytes);
-    if at >= 512 {
-        return;
-    }
-    bytes[at] ^= 1;
-    seal(&mut bytes);
-    let found = match DevHeader::read(&bytes) {
-        Ok(_) => None,
-        Err(LogFault::Field { at }) => Some(at),
-        Err(_) => Some(0),
-    };
-    assert_eq!(rt; found, field_at_fault(at), "at {at}");
-}
-
 #[test]
 fn each_field_of_a_sealed_header_has_its_rule(rt: HostRuntime) {
     for at in 16..480 {
-        check_sealed_change(&rt, at);
+        assert!(rt; fault_of_a_change(at, true) == field_at_fault(at));
     }
 }
 
@@ -128,14 +134,15 @@ fn bytes_that_are_no_log_block(rt: HostRuntime) -> Result<(), Fail> {
     let zeros = vec![in rt.alloc(); 0u8; LOG_LEN]?;
     let found = LogBlock::read(rt.alloc(), &zeros);
     assert!(rt; matches!(found, Err(LogReadFault::Fault(LogFault::Magic))));
+    Ok(())
+}
+
+#[test]
+fn a_short_log_block(rt: HostRuntime) -> Result<(), Fail> {
     let short = vec![in rt.alloc(); 0u8; LOG_LEN - 1]?;
     let found = LogBlock::read(rt.alloc(), &short);
-    assert!(rt;
-        matches!(
-            found,
-            Err(LogReadFault::Fault(LogFault::Length { len: 65_535 }))
-        )
-    );
+    let fault = LogFault::Length { len: 65_535 };
+    assert!(rt; matches!(found, Err(LogReadFault::Fault(told)) if told == fault));
     Ok(())
 }
 
@@ -168,6 +175,15 @@ fn log_block(rt: &impl Abort, alloc: Global, prev: Option<LogPtr>, entry: Entry)
     }
 }
 
+/// Whether these bytes are read as that log block.
+fn is_read_as(alloc: Global, bytes: &[u8], block: &LogBlock) -> bool {
+    let Ok(read) = LogBlock::read(alloc, bytes) else {
+        return false;
+    };
+    let same = [read.version, read.lap] == [block.version, block.lap] && read.prev == block.prev;
+    same && read.entries.into_vec().as_slice() == block.entries.as_slice()
+}
+
 #[test]
 fn the_log_block_of_a_third_feed(rt: HostRuntime) -> Result<(), Fail> {
     let prev = Some(LogPtr {
@@ -178,21 +194,15 @@ fn the_log_block_of_a_third_feed(rt: HostRuntime) -> Result<(), Fail> {
     let block = log_block(&rt, rt.alloc(), prev, third_entry(Some(Digest([5; 32]))));
     let mut bytes = vec![in rt.alloc(); 5u8; LOG_LEN]?;
     let ptr = block.write(&mut bytes);
-    assert_eq!(rt; ptr.place, 0);
-    assert_eq!(rt; ptr.count, 1);
-    assert_eq!(rt; ptr.digest, digest_of(&bytes));
-    assert!(rt; has_at(&bytes, 0, &[0x44, 0x48, 0x4b, 0x4c, 0x42, 0x47, 0x4f, 0x4c]));
-    assert!(rt; has_at(&bytes, 24, &[2, 0, 0, 0, 0, 0, 0, 0]));
-    assert!(rt; has_at(&bytes, 128, &THIRD_ENTRY));
-    assert!(rt; has_at(&bytes, 160, &[5; 32]));
-    let read = LogBlock::read(rt.alloc(), &bytes)
-        .ok()
-        .ok_or("the bytes are a log block")?;
-    assert_eq!(rt; read.version, VERSION);
-    assert_eq!(rt; read.lap, 1);
-    assert_eq!(rt; read.prev, prev);
-    assert_eq!(rt; read.entries.as_slice(), block.entries.as_slice());
-    assert_eq!(rt; read.entries.into_vec().len(), 1);
+    let seen = [
+        has_at(&bytes, 0, &[0x44, 0x48, 0x4b, 0x4c, 0x42, 0x47, 0x4f, 0x4c]),
+        has_at(&bytes, 24, &[2, 0, 0, 0, 0, 0, 0, 0]),
+        has_at(&bytes, 128, &THIRD_ENTRY),
+        has_at(&bytes, 160, &[5; 32]),
+        ptr.digest == digest_of(&bytes),
+        is_read_as(rt.alloc(), &bytes, &block),
+    ];
+    assert!(rt; seen == [true; 6] && [ptr.place, ptr.count] == [0, 1]);
     Ok(())
 }
 
@@ -231,33 +241,38 @@ fn a_log_block_of_version_1(rt: HostRuntime) -> Result<(), Fail> {
     let read = LogBlock::read(rt.alloc(), &bytes)
         .ok()
         .ok_or("the bytes are a log block")?;
-    assert_eq!(rt; read.version, 1);
-    assert_eq!(rt; read.entries.as_slice(), [third_entry(None)].as_slice());
+    assert!(rt; read.version == 1);
+    assert!(rt; read.entries.as_slice() == [third_entry(None)].as_slice());
     let mut again = vec![in rt.alloc(); 5u8; LOG_LEN]?;
     read.write(&mut again);
     assert!(rt; again == bytes);
     Ok(())
 }
 
+/// The refusal of the field at this place.
+fn field(at: u32) -> Option<LogFault> {
+    Some(LogFault::Field { at })
+}
+
 #[test]
 fn place_24_decides_what_an_entry_is(rt: HostRuntime) -> Result<(), Fail> {
     // the place of a byte, its value, and the field that is refused then; each row begins with the old log block
     let rows = [
-        (24, 1, Some(24)),
-        (25, 2, Some(24)),
+        (24, 1, field(24)),
+        (25, 2, field(24)),
         (24, 2, None),
-        (32, 1, Some(32)),
-        (17, 4, Some(16)),
-        (160, 7, Some(160)),
-        (138, 16, Some(136)),
-        (8, 0, Some(8)),
+        (32, 1, field(32)),
+        (17, 4, field(16)),
+        (160, 7, field(160)),
+        (138, 16, field(136)),
+        (8, 0, field(8)),
     ];
     for (at, value, refused) in rows {
         let mut bytes = vec![in rt.alloc(); 0u8; LOG_LEN]?;
         put_at(&mut bytes, 0, &OLD_FRONT);
         put_at(&mut bytes, 128, &THIRD_ENTRY);
         let found = refusal(rt.alloc(), &mut bytes, at, value);
-        assert_eq!(rt; found, refused.map(|at| LogFault::Field { at }), "at {at}");
+        assert!(rt; found == refused);
     }
     Ok(())
 }
@@ -270,16 +285,14 @@ fn a_large_block_needs_a_digest(rt: HostRuntime) -> Result<(), Fail> {
     put_at(&mut bytes, 128, &THIRD_ENTRY);
     // 16,777,216 bytes
     put_at(&mut bytes, 137, &[0]);
-    assert!(rt; refusal(rt.alloc(), &mut bytes, 139, 1).is_none());
-    assert_eq!(rt;
-        refusal(rt.alloc(), &mut bytes, 24, 0),
-        Some(LogFault::Field { at: 136 })
-    );
+    let with_digest = refusal(rt.alloc(), &mut bytes, 139, 1);
+    let without = refusal(rt.alloc(), &mut bytes, 24, 0);
+    assert!(rt; with_digest.is_none() && without == field(136));
     Ok(())
 }
 
 #[test]
-fn a_header_of_version_1(rt: HostRuntime) -> Result<(), Fail> {
+fn a_header_of_version_1(rt: HostRuntime) {
     let newer = header_after_one_feed();
     let header = DevHeader {
         version: 1,
@@ -293,17 +306,13 @@ fn a_header_of_version_1(rt: HostRuntime) -> Result<(), Fail> {
     };
     let mut bytes = [9; 512];
     header.write(&mut bytes);
-    assert!(rt; has_at(&bytes, 8, &[1, 0, 0, 0, 0, 0, 0, 0]));
     // 1,022
-    assert!(rt; has_at(&bytes, 64, &[0xfe, 3, 0, 0, 0, 0, 0, 0]));
-    assert_eq!(rt; DevHeader::read(&bytes).ok(), Some(header));
+    assert!(rt; has_at(&bytes, 8, &[1, 0]) && has_at(&bytes, 64, &[0xfe, 3, 0, 0, 0, 0, 0, 0]));
+    assert!(rt; DevHeader::read(&bytes) == Ok(header));
     bytes[8] = 2;
     seal(&mut bytes);
-    assert_eq!(rt;
-        DevHeader::read(&bytes).err(),
-        Some(LogFault::Field { at: 64 })
-    );
+    let second = DevHeader::read(&bytes).err();
     bytes[8] = 3;
-    assert_eq!(rt; DevHeader::read(&bytes).err(), Some(LogFault::Version));
-    Ok(())
+    let third = DevHeader::read(&bytes).err();
+    assert!(rt; second == field(64) && third == Some(LogFault::Version));
 }

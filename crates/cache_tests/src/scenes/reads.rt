@@ -94,8 +94,22 @@ fn two_reads(
 ) -> Result<(Answer, Answer), NoMemory> {
     let Pair { arcs, mut one, .. } = opened(alloc)?;
     let mut pool = pool_of(alloc, 0, fail)?;
-    let first = answer_of(rt, &arcs, &mut one.party, &ptrs.0, &mut pool, &mut NoCache::new());
-    let second = answer_of(rt, &arcs, &mut one.party, &ptrs.1, &mut pool, &mut NoCache::new());
+    let first = answer_of(
+        rt,
+        &arcs,
+        &mut one.party,
+        &ptrs.0,
+        &mut pool,
+        &mut NoCache::new(),
+    );
+    let second = answer_of(
+        rt,
+        &arcs,
+        &mut one.party,
+        &ptrs.1,
+        &mut pool,
+        &mut NoCache::new(),
+    );
     Ok((first, second))
 }
 

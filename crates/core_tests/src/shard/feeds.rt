@@ -12,11 +12,15 @@ fn is_next(shard: &mut Shard, event: Event, next: Option<Key>) -> bool {
 #[test]
 fn a_feed_passes_and_picks(rt: HostRuntime) {
     let mut shard = Shard::new(rt.alloc(), 4096, 0, BOUNDS);
-    let [a, b, c] = [0, 1, 2].map(|i| block(512, i));
-    assert!(rt; fetch(&mut shard, a, 1) && fetch(&mut shard, b, 1) && fetch(&mut shard, c, 1));
-    assert!(rt; shard.candidate() == Some(a));
+    let (a, b, c) = (block(512, 0), block(512, 1), block(512, 2));
     let (n, key, owner) = (1, a, 0);
-    assert!(rt; is_next(&mut shard, Event::Pass { n, key, owner }, Some(b)));
-    assert!(rt; is_next(&mut shard, Event::Pick { n, key: b }, Some(c)));
-    assert!(rt; is_next(&mut shard, Event::Pick { n, key: c }, None));
+    let seen = [
+        fetch(&mut shard, a, 1),
+        fetch(&mut shard, b, 1),
+        fetch(&mut shard, c, 1),
+        is_next(&mut shard, Event::Pass { n, key, owner }, Some(b)),
+        is_next(&mut shard, Event::Pick { n, key: b }, Some(c)),
+        is_next(&mut shard, Event::Pick { n, key: c }, None),
+    ];
+    assert!(rt; seen == [true; 6]);
 }

@@ -95,8 +95,7 @@ fn a_device_of_version_1(rt: HostRuntime) -> Result<(), Fail> {
     let alloc = rt.alloc();
     let (restored, stop) = rebuilt(alloc, old_device(alloc).ok_or("image")?).ok_or("rebuilt")?;
     let expected = [without_digest(2), without_digest(1), without_digest(0)];
-    assert_eq!(rt; restored.as_slice(), expected.as_slice());
-    assert_eq!(rt; stop, Stop::Zero);
+    assert!(rt; restored.as_slice() == expected.as_slice() && stop == Stop::Zero);
     Ok(())
 }
 
@@ -116,7 +115,7 @@ fn a_feed_to_a_device_of_version_1(rt: HostRuntime) -> Result<(), Fail> {
         digest: Some(block(alloc, 3)?.digest()),
     };
     let expected = [newest, without_digest(2), without_digest(1)];
-    assert_eq!(rt; restored.as_slice(), expected.as_slice());
+    assert!(rt; restored.as_slice() == expected.as_slice());
     assert!(rt; matches!(stop, Stop::Block(LogFault::Digest { .. })));
     Ok(())
 }
@@ -138,8 +137,7 @@ fn a_log_block_that_does_not_fit(rt: HostRuntime) -> Result<(), Fail> {
     // the byte of the third log block that becomes 2, and the field that is told
     for (at, field) in [(136_728, 24), (136_712, 8)] {
         let (restored, stop) = changed(alloc, at).ok_or("rebuilt")?;
-        assert!(rt; restored.is_empty());
-        assert_eq!(rt; stop, Stop::Block(LogFault::Field { at: field }));
+        assert!(rt; restored.is_empty() && stop == Stop::Block(LogFault::Field { at: field }));
     }
     Ok(())
 }

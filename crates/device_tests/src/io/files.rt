@@ -1,7 +1,7 @@
-//! Pools and cache devices over real files, and reads and writes at a place of a file that is short and fails.
-use super::devices::{has_at, write_and_read_again};
+//! Pools and cache devices over real files, and over files that are short and fail.
+use super::devices::{forks_with_it, keeps_a_sector, second_sector};
 use super::fakes::ChoppyFiles;
-use super::pools::{forks, reads, writes};
+use super::pools::{forks, reads, write_four};
 use std::fs::OpenOptions;
 use std::rt::Files;
 use std::test::Fail;
@@ -30,19 +30,13 @@ fn a_pool_in_a_file(rt: HostRuntime) -> Result<(), Fail> {
     let name = "pool_of_a_test";
     fs::write(&rt, name, [7u8; 512].as_slice())?;
     let mut pool = pool_in(&rt, name)?;
-    assert_eq!(rt; pool.len(), 512);
-    writes(&rt, &mut pool, 508, b"last", Ok(()));
-    forks(
-        &rt,
-        rt.alloc(),
-        &mut pool,
-        &[(0, Ok([7; 4])), (508, Ok(*b"last"))],
-    );
-    set_len(&rt, name, 256)?;
-    reads(
-        &rt,
-        &mut pool,
-        &[(508, Err(Failed)), (254, Err(Failed)), (252, Ok([7; 4]))],
+    assert!(rt; pool.len() == 512 && write_four(&mut pool, 508, b"last") == Some(Ok(())));
+    assert!(rt;
+        forks(
+            rt.alloc(),
+            &mut pool,
+            &[(0, Ok([7; 4])), (508, Ok(*b"last"))]
+        )
     );
     fs::remove_file(&rt, name)?;
     assert!(rt; matches!(pool.fork(rt.alloc()), Err(IoFault::Failed)));
@@ -50,25 +44,32 @@ fn a_pool_in_a_file(rt: HostRuntime) -> Result<(), Fail> {
 }
 
 #[test]
+fn a_pool_in_a_file_that_is_cut(rt: HostRuntime) -> Result<(), Fail> {
+    let name = "cut_pool_of_a_test";
+    fs::write(&rt, name, [7u8; 512].as_slice())?;
+    let mut pool = pool_in(&rt, name)?;
+    set_len(&rt, name, 256)?;
+    let wanted = [(508, Err(Failed)), (254, Err(Failed)), (252, Ok([7; 4]))];
+    assert!(rt; reads(&mut pool, &wanted));
+    fs::remove_file(&rt, name)?;
+    Ok(())
+}
+
+#[test]
 fn a_pool_of_no_file(rt: HostRuntime) {
     let mut pool = FilePool::empty(&rt);
-    assert_eq!(rt; pool.read(0, &mut []), Ok(()));
-    assert_eq!(rt; pool.write(0, &[]), Ok(()));
-    forks(&rt, rt.alloc(), &mut pool, &[(0, Err(Failed))]);
+    let read = pool.read(0, &mut []);
+    let written = pool.write(0, &[]);
+    assert!(rt; read == Ok(()) && written == Ok(()));
+    assert!(rt; forks(rt.alloc(), &mut pool, &[(0, Err(Failed))]));
 }
 
 /// The lengths of the pool and of the device in a file of this length, where they can be had.
-fn lengths(rt: &HostRuntime, name: &str, len: u64) -> Result<(Option<u64>, Option<u64>), Fail> {
+fn lengths(rt: &HostRuntime, name: &str, len: u64) -> Result<[Option<u64>; 2], Fail> {
     set_len(rt, name, len)?;
-    let pool = match FilePool::open(rt.alloc(), rt, name) {
-        Ok(pool) => Some(pool.len()),
-        Err(_) => None,
-    };
-    let device = match FileCache::open(rt.alloc(), rt, name) {
-        Ok(device) => Some(device.len()),
-        Err(_) => None,
-    };
-    Ok((pool, device))
+    let pool = FilePool::open(rt.alloc(), rt, name).map(|pool| pool.len());
+    let device = FileCache::open(rt.alloc(), rt, name).map(|device| device.len());
+    Ok([pool.ok(), device.ok()])
 }
 
 #[test]
@@ -81,27 +82,31 @@ fn files_that_are_too_long(rt: HostRuntime) -> Result<(), Fail> {
         LONGEST_POOL,
         LONGEST_POOL + 1,
     ] {
-        let pool = (len <= LONGEST_POOL).then_some(len);
-        let device = (len <= LONGEST_CACHE).then_some(len);
-        assert_eq!(rt; lengths(&rt, name, len)?, (pool, device), "of {len} bytes");
+        let wanted = [
+            (len <= LONGEST_POOL).then_some(len),
+            (len <= LONGEST_CACHE).then_some(len),
+        ];
+        assert!(rt; lengths(&rt, name, len)? == wanted);
     }
     fs::remove_file(&rt, name)?;
-    assert!(rt; matches!(FilePool::open(rt.alloc(), &rt, name), Err(OpenFault::File)));
-    assert!(rt; matches!(FileCache::open(rt.alloc(), &rt, "."), Err(OpenFault::File)));
     Ok(())
+}
+
+#[test]
+fn no_file(rt: HostRuntime) {
+    let pool = FilePool::open(rt.alloc(), &rt, "no_file_of_a_test").err();
+    let device = FileCache::open(rt.alloc(), &rt, ".").err();
+    assert!(rt; pool == Some(OpenFault::File) && device == Some(OpenFault::File));
 }
 
 #[test]
 fn a_place_past_32_bits(rt: HostRuntime) -> Result<(), Fail> {
     let name = "far_pool_of_a_test";
+    let far = (1 << 32) + 8;
     set_len(&rt, name, (1 << 32) + 512)?;
     let mut pool = pool_in(&rt, name)?;
-    writes(&rt, &mut pool, (1 << 32) + 8, b"high", Ok(()));
-    reads(
-        &rt,
-        &mut pool,
-        &[((1 << 32) + 8, Ok(*b"high")), (8, Ok([0; 4]))],
-    );
+    assert!(rt; write_four(&mut pool, far, b"high") == Some(Ok(())));
+    assert!(rt; reads(&mut pool, &[(far, Ok(*b"high")), (8, Ok([0; 4]))]));
     fs::remove_file(&rt, name)?;
     Ok(())
 }
@@ -111,22 +116,13 @@ fn a_device_in_a_file(rt: HostRuntime) -> Result<(), Fail> {
     let name = "cache_device_of_a_test";
     fs::write(&rt, name, [0u8; 1024].as_slice())?;
     let mut dev = device_in(&rt, name)?;
-    write_and_read_again(&rt, rt.alloc(), &mut dev);
-    let bytes = fs::read(&rt, name)?;
-    assert!(rt; has_at(&bytes, 512, &[5; 512]));
+    assert!(rt; keeps_a_sector(&mut dev) && forks_with_it(rt.alloc(), &mut dev));
+    assert!(rt; fs::read(&rt, name)?.ends_with(&[5; 512]));
     set_len(&rt, name, 600)?;
-    assert_eq!(rt; read_sector(&mut dev), Err(Failed));
+    assert!(rt; second_sector(&mut dev) == Err(Failed));
     fs::remove_file(&rt, name)?;
     assert!(rt; matches!(dev.fork(rt.alloc()), Err(IoFault::Failed)));
     Ok(())
-}
-
-/// Reads the second sector of a device.
-fn read_sector<D: CacheDev>(dev: &mut D) -> Result<(), Failed> {
-    if dev.len() < 1024 {
-        return Ok(());
-    }
-    dev.read(512, &mut [0; 512])
 }
 
 #[test]
@@ -135,22 +131,37 @@ fn a_pool_of_short_calls(rt: HostRuntime) -> Result<(), Fail> {
     fs::write(&rt, name, [0u8; 1].as_slice())?;
     let files = ChoppyFiles(&rt, 8);
     let mut pool = FilePool::open(rt.alloc(), &files, name).map_err(Fail::from)?;
-    assert_eq!(rt; pool.len(), 16);
-    writes(&rt, &mut pool, 1, b"ABCD", Ok(()));
-    writes(&rt, &mut pool, 5, b"EFGH", Err(IoFault::Failed));
-    reads(
-        &rt,
-        &mut pool,
-        &[
-            (0, Ok(*b"0ABC")),
-            (4, Ok(*b"DEFG")),
-            (8, Err(Failed)),
-            (9, Ok(*b"9abc")),
-        ],
-    );
-    forks(&rt, rt.alloc(), &mut pool, &[(1, Ok(*b"1234"))]);
+    let written = [
+        write_four(&mut pool, 1, b"ABCD"),
+        write_four(&mut pool, 5, b"EFGH"),
+    ];
+    assert!(rt; pool.len() == 16 && written == [Some(Ok(())), Some(Err(IoFault::Failed))]);
+    let now = [
+        (0, Ok(*b"0ABC")),
+        (4, Ok(*b"DEFG")),
+        (8, Err(Failed)),
+        (9, Ok(*b"9abc")),
+    ];
+    assert!(rt; reads(&mut pool, &now) && forks(rt.alloc(), &mut pool, &[(1, Ok(*b"1234"))]));
     fs::remove_file(&rt, name)?;
     Ok(())
+}
+
+/// What a device of 16 bytes answers to calls away from its bad place and at it, and the bytes that are read again.
+fn short_calls<D: CacheDev>(dev: &mut D) -> Option<([Result<(), Failed>; 6], [u8; 7])> {
+    let mut bytes = [0; 7];
+    if dev.len() != 16 {
+        return None;
+    }
+    let done = [
+        dev.write(9, b"ABCDEFG"),
+        dev.read(9, &mut bytes),
+        dev.flush(),
+        dev.read(5, &mut [0; 7]),
+        dev.flush(),
+        dev.write(5, &[0; 7]),
+    ];
+    Some((done, bytes))
 }
 
 #[test]
@@ -159,16 +170,9 @@ fn a_device_of_short_calls(rt: HostRuntime) -> Result<(), Fail> {
     fs::write(&rt, name, [0u8; 1].as_slice())?;
     let files = ChoppyFiles(&rt, 8);
     let mut dev = FileCache::open(rt.alloc(), &files, name).map_err(Fail::from)?;
-    let mut bytes = [0; 7];
-    if dev.len() == 16 {
-        assert_eq!(rt; dev.write(9, b"ABCDEFG"), Ok(()));
-        assert_eq!(rt; dev.read(9, &mut bytes), Ok(()));
-        assert_eq!(rt; dev.flush(), Ok(()));
-        assert_eq!(rt; dev.read(5, &mut [0; 7]), Err(Failed));
-        assert_eq!(rt; dev.flush(), Err(Failed));
-        assert_eq!(rt; dev.write(5, &[0; 7]), Err(Failed));
-    }
-    assert_eq!(rt; bytes, *b"ABCDEFG");
+    let (done, bytes) = short_calls(&mut dev).ok_or("16 bytes")?;
+    let failed = Err(Failed);
+    assert!(rt; done == [Ok(()), Ok(()), Ok(()), failed, failed, failed] && bytes == *b"ABCDEFG");
     fs::remove_file(&rt, name)?;
     Ok(())
 }

@@ -1,6 +1,5 @@
 //! Pools in memory.
 use std::alloc::Global;
-use std::process::Abort;
 use std::test::Fail;
 use vdev_io::*;
 
@@ -15,48 +14,41 @@ fn read_four<P: Pool>(pool: &mut P, offset: u64) -> Result<[u8; 4], Failed> {
     Ok(bytes)
 }
 
-/// Reads four bytes at each of these places.
-pub(super) fn reads<P: Pool>(
-    rt: &impl Abort,
-    pool: &mut P,
-    wanted: &[(u64, Result<[u8; 4], Failed>)],
-) {
+/// Whether a pool has these four bytes at each of these places, or fails there.
+pub(super) fn reads<P: Pool>(pool: &mut P, wanted: &[(u64, Result<[u8; 4], Failed>)]) -> bool {
     for (offset, wanted) in wanted {
-        assert_eq!(rt; read_four(pool, *offset), *wanted, "at {offset}");
+        if read_four(pool, *offset) != *wanted {
+            return false;
+        }
     }
+    true
 }
 
-/// Writes four bytes of a pool through its trait alone.
-pub(super) fn writes<P: Pool>(
-    rt: &impl Abort,
+/// Writes four bytes of a pool through its trait alone, where there are so many.
+pub(super) fn write_four<P: Pool>(
     pool: &mut P,
     offset: u64,
     bytes: &[u8; 4],
-    wanted: Result<(), IoFault>,
-) {
+) -> Option<Result<(), IoFault>> {
     let len = pool.len();
     if len < 4 || len - 4 < offset {
-        assert!(rt; false, "outside");
-        return;
+        return None;
     }
-    assert_eq!(rt; pool.write(offset, bytes), wanted);
+    Some(pool.write(offset, bytes))
 }
 
-/// Forks a pool through its trait alone, reads the same from the fork, and takes it back.
+/// Whether a fork of a pool has the same length and these bytes. It is taken back.
 pub(super) fn forks<P: Pool>(
-    rt: &impl Abort,
     alloc: Global,
     pool: &mut P,
     wanted: &[(u64, Result<[u8; 4], Failed>)],
-) {
-    match pool.fork(alloc) {
-        Ok(mut fork) => {
-            assert_eq!(rt; fork.len(), pool.len());
-            reads(rt, &mut fork, wanted);
-            pool.absorb(fork);
-        }
-        Err(_) => assert!(rt; false, "no fork"),
-    }
+) -> bool {
+    let Ok(mut fork) = pool.fork(alloc) else {
+        return false;
+    };
+    let same = fork.len() == pool.len() && reads(&mut fork, wanted);
+    pool.absorb(fork);
+    same
 }
 
 fn pool_of(alloc: Global, fail: &[u64], forks: &[&[u64]]) -> Result<MemPool, Fail> {
@@ -72,32 +64,28 @@ fn pool_of(alloc: Global, fail: &[u64], forks: &[&[u64]]) -> Result<MemPool, Fai
 fn a_pool_in_memory_and_its_fork(rt: HostRuntime) -> Result<(), Fail> {
     let mut pool = pool_of(rt.alloc(), &[], &[])?;
     let mut fork = pool.fork(rt.alloc()).ok().ok_or("a fork")?;
-    writes(&rt, &mut pool, 4, b"pool", Ok(()));
-    writes(&rt, &mut fork, 8, b"fork", Ok(()));
-    reads(&rt, &mut pool, &[(4, Ok(*b"pool")), (8, Ok([1; 4]))]);
-    reads(&rt, &mut fork, &[(4, Ok([1; 4])), (8, Ok(*b"fork"))]);
+    let written = [
+        write_four(&mut pool, 4, b"pool"),
+        write_four(&mut fork, 8, b"fork"),
+    ];
+    assert!(rt; written == [Some(Ok(())); 2]);
+    let now = [(4, Ok(*b"pool")), (8, Ok([1; 4]))];
+    assert!(rt; reads(&mut pool, &now) && forks(rt.alloc(), &mut pool, &now));
+    assert!(rt; reads(&mut fork, &[(4, Ok([1; 4])), (8, Ok(*b"fork"))]));
     pool.absorb(fork);
-    forks(
-        &rt,
-        rt.alloc(),
-        &mut pool,
-        &[(4, Ok(*b"pool")), (8, Ok([1; 4]))],
-    );
     Ok(())
 }
 
 #[test]
 fn forks_fail_the_calls_of_their_lists(rt: HostRuntime) -> Result<(), Fail> {
     let mut pool = pool_of(rt.alloc(), &[0], &[&[1], &[0]])?;
-    assert!(rt; matches!(pool.fork(rt.alloc()), Err(IoFault::Failed)));
+    let failed = pool.fork(rt.alloc()).err();
     let one = Ok([1; 4]);
-    for wanted in [[one, Err(Failed)], [Err(Failed), one], [one, one]] {
-        forks(
-            &rt,
-            rt.alloc(),
-            &mut pool,
-            &[(0, wanted[0]), (0, wanted[1])],
-        );
-    }
+    let seen = [
+        forks(rt.alloc(), &mut pool, &[(0, one), (0, Err(Failed))]),
+        forks(rt.alloc(), &mut pool, &[(0, Err(Failed)), (0, one)]),
+        forks(rt.alloc(), &mut pool, &[(0, one), (0, one)]),
+    ];
+    assert!(rt; failed == Some(IoFault::Failed) && seen == [true; 3]);
     Ok(())
 }
