@@ -21,6 +21,7 @@ pub mod Marking
 pub mod Others
 pub mod Owing
 pub mod PickPlaces
+pub mod Places
 pub mod Placing
 pub mod Scan
 pub mod Scanning
