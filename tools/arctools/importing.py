@@ -1,14 +1,17 @@
 """tools/import: a trace or a list of pages out of a log of reads."""
 import argparse
 import fnmatch
+import functools
 import hashlib
+import itertools
+import operator
 import os
 
 from . import layout, sizes
 from .access import Tally
 from .command import Fault, Progress, end_with, lines_of, say, whole
 from .formats import FORMATS
-from .layout import Layout, at_hand
+from .layout import PATCH, PUT, READ, Layout, at_hand
 
 HELP = """\
 formats:
@@ -33,8 +36,9 @@ and where nobody has the bytes:
   tools/curve usr.pages
 
 A trace has at most 1,000,000 operations and 100,000 blocks, a list of pages 1,000,000 pages. A log that has more is refused with what
-would fit: --first, --sample or larger blocks. Of writes the program knows nothing yet, so they are counted and left out, or taken as
-reads of the same ranges by --writes as-reads. What else can't be imported is counted too, and told at the end."""
+would fit: --first, --sample or larger blocks. Writes are counted and left out, or taken as reads of the same ranges by --writes as-reads.
+With --writes put they stay writes: such a trace has get, put, patch and txg lines, which the program of today refuses with status 3. What
+else can't be imported is counted too, and told at the end."""
 
 
 def options():
@@ -53,7 +57,9 @@ def options():
     parser.add_argument('--only', action='append', default=[], metavar='PATTERN', help="only files whose name fits, as '*.db'; may be given again")
     parser.add_argument('--folder', metavar='FOLDER', help='where the program of a strace log was begun (here)')
     parser.add_argument('--action', default='Q', metavar='LETTER', help="which line of a request blkparse's log is read by: Q, D, C .. (Q, queued)")
-    parser.add_argument('--writes', choices=('skip', 'as-reads'), default='skip', help='writes are left out and counted, or taken as reads (skip)')
+    parser.add_argument('--writes', choices=('skip', 'as-reads', 'put'), default='skip',
+                        help="writes are left out and counted, or taken as reads; `put` makes `get`, `put`, `patch` and `txg` lines, which the program does not run yet (skip)")
+    parser.add_argument('--sync', type=count, default=5000, metavar='TICKS', help='with `--writes put`: a txg line once so many ticks have gone by, where something was written (5000)')
     parser.add_argument('--first', type=count, metavar='N', help='the first N operations alone')
     parser.add_argument('--sample', type=count, default=1, metavar='N', help='one block of N, with all its reads; a cache for it has an Nth of the size')
     parser.add_argument('--cache', type=size, metavar='SIZE', help='the cache that the trace asks for (a fourth of all its blocks)')
@@ -91,8 +97,10 @@ def checked(parser):
         given.mintime = 62 if given.ticks == 'ms' else 0
     if not 0 <= given.mintime <= 1 << 32:
         parser.error('--mintime is from 0 to 4294967296')
-    if given.in_place and (given.zeros or given.pages):
-        parser.error('--in-place wants the bytes of a file')
+    if given.in_place and (given.zeros or given.pages or given.writes == 'put'):
+        parser.error('--in-place is for a file whose bytes are only read')
+    if given.pages and given.writes == 'put':
+        parser.error('a list of pages has no writes; --writes as-reads takes them as reads')
     return given
 
 
@@ -136,7 +144,7 @@ def is_wanted(given, name):
 def read_log(given, tally):
     """The layout of the log's reads."""
     limit = layout.MOST_OPERATIONS if given.pages else layout.MOST_BLOCKS
-    laid = Layout(given.block, limit, tally, Finder(given), given.first, given.sample)
+    laid = Layout(given.block, limit, tally, Finder(given), given.first, given.sample, given.sync if given.writes == 'put' else None)
     given.wanted = lambda name: is_wanted(given, name)
     callers, begin, tick = {}, None, 0
     for access in FORMATS[given.format].accesses(lines_of(given.log), tally, given.log, given):
@@ -161,6 +169,8 @@ def read_log(given, tally):
             raise Fault(str(error), given.log, access.line) from error
     if laid.over:
         raise laid.over.fault(given.log)
+    if laid.dirty:
+        laid.settle(tick)
     return laid
 
 
@@ -168,10 +178,14 @@ def read_log(given, tally):
 
 def head(given, laid, what):
     """Comments that say where a source comes from."""
-    yield f'# {what} by tools/import {given.format}: {len(laid.operations):,} reads of blocks of {given.block:,} bytes, {len(laid.places):,} different ones'
+    yield f'# {what} by tools/import {given.format}: {len(laid.operations):,} {done(given)} of blocks of {given.block:,} bytes, {len(laid.places):,} different ones'
     for file in laid.files.values():
         if file.reads and not file.missing:
             yield f'# from byte {file.base:,} on: {printable(file.name)}'
+
+
+def done(given):
+    return 'operations' if given.writes == 'put' else 'reads'
 
 
 def printable(name):
@@ -186,7 +200,7 @@ def write_pages(given, laid):
     with whole(name) as out:
         out.writelines(f'{line}\n' for line in head(given, laid, 'pages'))
         bases = {file.number: file.base // given.block for file in laid.files.values()}
-        out.writelines(f'{bases[laid.places[block][0].number] + laid.places[block][1]}\n' for block, _, _ in laid.operations)
+        out.writelines(f'{bases[laid.places[block][0].number] + laid.places[block][1]}\n' for _, block, *_ in laid.operations)
     return [name]
 
 
@@ -206,38 +220,64 @@ def write_trace(given, laid):
     names = [f'{given.output}.trace'] + ([] if given.in_place else [f'{given.output}.pool'])
     with whole(*names, mode='wb') as out:
         trace, pool = (out, None) if given.in_place else out
-        lines = [*head(given, laid, 'a trace'),
-                 f'arc {given.callers} {given.shards} 256 1 {capacity(given, laid)} {given.mintime} 0', *block_lines(given, laid, pool, end)]
+        lines = [*head(given, laid, 'a trace'), f'arc {given.callers} {given.shards} 256 1 {capacity(given, laid)} {given.mintime} 0', *block_lines(given, laid, pool)]
         trace.write('\n'.join(lines).encode('utf-8', 'surrogateescape') + b'\n')
         for start in range(0, len(laid.operations), 65_536):
-            trace.write(''.join(f'read {caller} {tick} {block} 0 0\n' for block, tick, caller in laid.operations[start:start + 65_536]).encode())
+            trace.write(''.join(operation_lines(given, laid, laid.operations[start:start + 65_536])).encode())
+        if pool:
+            # a sync puts each block that it writes behind all others
+            pool.truncate(end + laid.synced * given.block)
     return names
 
 
-def block_lines(given, laid, pool, end):
+def block_lines(given, laid, pool):
     """The lines of the blocks, in the order in which they are first read. Their bytes go into the pool, which is left empty between them."""
-    lines = [None] * len(laid.places)
-    progress = Progress('reading blocks', len(laid.places))
-    zeros = hashlib.sha256(bytes(given.block)).hexdigest()
-    done = 0
-    for file in laid.files.values():
-        mine = sorted((index, number) for number, (owner, index) in enumerate(laid.places) if owner is file)
+    lines = {}
+    wanted = sorted((file.number, index, number) for number, (file, index) in enumerate(laid.places) if number not in laid.put_first)
+    files = list(laid.files.values())
+    progress = Progress('reading blocks', len(wanted))
+    for number, group in itertools.groupby(wanted, key=operator.itemgetter(0)):
+        file = files[number]
         with open(file.path or os.devnull, 'rb') as source:
-            for index, number in mine:
-                at, length, digest = file.base + index * given.block, given.block, zeros
+            for _, index, block in group:
+                at, length, digest = file.base + index * given.block, given.block, zeros_digest(given.block)
                 if file.path:
                     bytes_of, length = block_bytes(source, index, given, file)
                     digest = hashlib.sha256(bytes_of).hexdigest()
                     if pool and bytes_of.strip(b'\0'):
                         pool.seek(at)
                         pool.write(bytes_of)
-                lines[number] = f'block {at} {length} 1 {digest}'
-                done += 1
-                progress.at(done)
+                lines[block] = f'block {at} {length} 1 {digest}'
+                progress.at(len(lines))
     progress.end()
-    if pool:
-        pool.truncate(end)
-    return lines
+    declared = sorted(lines)
+    yield from (lines[block] for block in declared)
+    if given.writes == 'put':
+        for number, block in enumerate(declared):
+            file, index = laid.places[block]
+            yield f'object {file.number} {index} {number}'
+
+
+@functools.cache
+def zeros_digest(size):
+    return hashlib.sha256(bytes(size)).hexdigest()
+
+
+def operation_lines(given, laid, operations):
+    """The lines of operations. Where writes stay writes, files are objects, whose blocks are read by `get`."""
+    for does, block, tick, caller, at in operations:
+        if given.writes != 'put':
+            yield f'read {caller} {tick} {block} 0 0\n'
+            continue
+        file, index = laid.places[block]
+        if does == READ:
+            yield f'get {caller} {tick} {file.number} {index} 0 0\n'
+        elif does == PUT:
+            yield f'put {caller} {tick} {file.number} {index} {given.block} 00\n'
+        elif does == PATCH:
+            yield f'patch {caller} {tick} {file.number} {index} {at} 00\n'
+        else:
+            yield f'txg {tick}\n'
 
 
 def block_bytes(source, index, given, file):
@@ -255,7 +295,7 @@ def block_bytes(source, index, given, file):
 
 def tell(given, laid, tally, names):
     block = sizes.text(given.block)
-    say(f'{given.log}: {laid.accesses:,} accesses, {len(laid.operations):,} reads of blocks of {block}, {len(laid.places):,} different ones '
+    say(f'{given.log}: {laid.accesses:,} accesses, {len(laid.operations):,} {done(given)} of blocks of {block}, {len(laid.places):,} different ones '
         f'({sizes.text(len(laid.places) * given.block)})')
     for file in sorted((file for file in laid.files.values() if file.reads), key=lambda file: -file.reads)[:10]:
         say(f'  {file.reads:>9,} of {printable(file.name)}, {sizes.text(file.bytes)}')
@@ -267,7 +307,7 @@ def tell(given, laid, tally, names):
         say(f'  left out: what follows the first {given.first:,} operations')
     say('wrote ' + ' and '.join(names))
     if not laid.operations:
-        say('nothing of the log could be imported: the trace has no reads')
+        say('nothing of the log could be imported: there are no reads')
 
 
 def run():

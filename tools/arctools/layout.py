@@ -13,6 +13,7 @@ LONGEST_POOL = 1 << 40
 LARGEST_PAGE = 1 << 62
 FURTHEST = 1 << 62  # no access of any file ends behind it
 FEW = 4_096
+READ, PUT, PATCH, SYNC = range(4)  # what an operation does: a write of a whole block, or of a part of one; a sync writes out what was written
 ODD = 0x9E3779B97F4A7C15
 MASK = 2**44 - 1
 MANY = 100_000
@@ -58,12 +59,15 @@ class File:
 class Layout:
     """What is to be imported, access by access."""
 
-    def __init__(self, block, limits, tally, find, first=None, sample=1):
+    def __init__(self, block, limits, tally, find, first=None, sample=1, sync=None):
         self.block, self.limits, self.tally, self.find, self.first, self.sample = block, limits, tally, find, first, sample
+        self.sync = sync  # writes stay writes, with a sync once so many ticks have gone by since the last; None: they are reads
         self.files = {}
         self.numbers = {}  # (file's number, index) as one number -> block
         self.places = []  # block -> (file, index)
-        self.operations = []  # (block, tick, caller)
+        self.operations = []  # (what it does, block, tick, caller, where in the block)
+        self.put_first = set()  # the blocks that are written before they are read, so that no bytes of theirs are wanted
+        self.dirty, self.synced, self.last_sync = set(), 0, 0
         self.accesses = 0
         self.over = None
         self.cut = False  # whether --first ended it
@@ -86,7 +90,7 @@ class Layout:
             self.tally.add('reads of no bytes')
             return True
         first, last = access.offset // self.block, (access.offset + access.length - 1) // self.block
-        if file.size is not None and last >= (blocks := file.blocks(self.block)):
+        if file.size is not None and self.sync is None and last >= (blocks := file.blocks(self.block)):
             self.tally.add('reads behind the end that the file has now', access.length if first >= blocks else 0)
             if first >= blocks:
                 return True
@@ -108,12 +112,43 @@ class Layout:
             if len(self.operations) == MOST_OPERATIONS or (new and len(self.places) == self.limits):
                 self.over = Over(self, access.line)
                 return self.over.take(file, access)
+            at = max(access.offset - index * self.block, 0)
+            does = self.does(access, at, index, new)
+            if new and does != PUT and file.size is not None and index >= -(-file.size // self.block):
+                self.tally.add('reads behind the end that the file has now')
+                continue
             if new:
                 self.numbers[name] = len(self.places)
                 self.places.append((file, index))
                 file.last = max(file.last, index)
-            self.operations.append((self.numbers[name], tick, caller))
+            block = self.numbers[name]
+            self.operations.append((does, block, tick, caller, at))
+            if does != READ:
+                self.write(block, new and does == PUT, tick)
         return True
+
+    def does(self, access, at, index, new):
+        """What an access does to a block: a part of a block that is new behind the file's end makes the whole of it."""
+        if self.sync is None or not access.is_write:
+            return READ
+        whole = at == 0 and access.offset + access.length >= (index + 1) * self.block
+        size = self.files[access.file].size
+        return PUT if whole or (new and size is not None and index * self.block >= size) else PATCH
+
+    def write(self, block, is_made, tick):
+        if is_made:
+            self.put_first.add(block)
+        self.dirty.add(block)
+        if tick >= self.last_sync + self.sync:
+            self.settle(tick)
+
+    def settle(self, tick):
+        """Syncs what was written."""
+        if self.dirty and len(self.operations) < MOST_OPERATIONS:
+            self.operations.append((SYNC, 0, tick, 0, 0))
+            self.synced += len(self.dirty)
+            self.dirty.clear()
+        self.last_sync = tick
 
     def lay_out(self, in_place):
         """Gives each file its place in the pool, one behind the other. The pool's length."""
@@ -122,7 +157,7 @@ class Layout:
             if file.missing or not file.reads:
                 continue
             file.base = 0 if in_place else end
-            end += file.blocks(self.block) * self.block
+            end += max(file.blocks(self.block), file.last + 1) * self.block
         return end
 
 

@@ -371,7 +371,7 @@ own-counted s (Restore n h place d) m k sound ok below is = subst (λ j. get_or 
 own-counted s (Resize n c) m k sound ok below is = refl
 
 -- the key that an event is about
-about-key : (j : Key) (e : Event) → is_about j e ≡ true → event_key e ≡ Some j
+pub about-key : (j : Key) (e : Event) → is_about j e ≡ true → event_key e ≡ Some j
 about-key j e about = go (event_key e) about
   where
     go : (o : Option Key) → option_map_or (key_eq j) o false ≡ true → o ≡ Some j

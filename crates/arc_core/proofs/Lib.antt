@@ -20,7 +20,9 @@ pub mod Making
 pub mod Marking
 pub mod Others
 pub mod Owing
+pub mod OwnEvents
 pub mod PickPlaces
+pub mod Places
 pub mod Placing
 pub mod Scan
 pub mod Scanning

@@ -18,6 +18,7 @@ pub mod Operations
 pub mod Owed
 pub mod PickPlaces
 pub mod Picks
+pub mod Places
 pub mod PlainShard
 pub mod PlainTable
 pub mod Replay

@@ -104,6 +104,10 @@ abbrev pub moments : PlainShard → List Event → List Moment
 moments s [] = []
 moments s (e ∷ es) = record { before = s; event = e } ∷ moments (after s e) es
 
+-- one number's events, its passes left out
+abbrev pub own_events : ℕ → List Event → List Event
+own_events n = filter (λ e. number_of e == n && not (is_pass e))
+
 -- the moments of one number's events, its passes left out
 abbrev pub own_moments : ℕ → List Moment → List Moment
 own_moments n = filter (λ m. number_of m.event == n && not (is_pass m.event))
@@ -279,12 +283,12 @@ abbrev pub acts_in : (shard_of : Key → ℕ) → (shard n : ℕ) → List Act �
 acts_in shard_of shard n = filter (λ act. actor_of act == n && shard_of (act_key act) == shard)
 
 -- The histories hold every call once: in each shard, the events of each caller and each cell, passes left out, are those of its acts
--- in their order; the feeder makes the feed's events alone; each event has a number that it may have by the configuration; and each
--- pass stands in front of what it was passed for.
-pub record HoldEveryCallOnce (config : Config) (shard_of : Key → ℕ) (opening : PlainShard) (acts : List Act) (histories : List (List Event)) : Type 0 where
+-- in their order; those of the feeder are exactly the ones that it was given to make there; each event has a number that it may have by
+-- the configuration; and each pass stands in front of what it was passed for.
+pub record HoldEveryCallOnce (config : Config) (shard_of : Key → ℕ) (opening : PlainShard) (acts : List Act) (feeds : (shard : ℕ) → List Event)
+    (histories : List (List Event)) : Type 0 where
   pub told : (shard n : ℕ) → shard < length histories → n ≢ config.callers
       → Tell (acts_in shard_of shard n acts) (own_moments n (moments opening (slice_index_or histories shard [])))
-  pub fed : (shard : ℕ) → shard < length histories
-      → AllByRecursion (λ m. IsTrue (is_of_feed m.event)) (own_moments config.callers (moments opening (slice_index_or histories shard [])))
+  pub fed : (shard : ℕ) → shard < length histories → own_events config.callers (slice_index_or histories shard []) ≡ feeds shard
   pub numbers : AllByRecursion (λ history. AllByRecursion (λ e. IsTrue (has_its_number config.callers config.cells e)) history) histories
   pub passes : AllByRecursion (λ history. IsTrue (are_passes_placed history)) histories

@@ -1,6 +1,7 @@
 //! The laws of a shard and its events, over the definitions alone: each is the contract of a function with nothing to do.
 ghost use Rattle.arc_core.specs.Changing.{IsCounted, IsFrameKept, IsHeldCached, IsHeldKept, IsOwnEntry};
 ghost use Rattle.arc_core.specs.Ending.{IsRoomEnding, IsTrimEnding};
+ghost use Rattle.arc_core.specs.Places.{IsTakenIn, IsTakingPlaces};
 ghost use Rattle.arc_core.specs.Replay.{IsPrefixLegal, IsReplayInParts};
 ghost use Rattle.arc_core.specs.Soundness.{IsSoundAfter};
 ghost use Rattle.arc_core.specs.Sparing.{IsSparing, IsSparingOthers, IsSparingUnmarked, IsStandingVictim};
@@ -32,6 +33,16 @@ pub fn events_spare_other_keys()
     ensures others { IsSparingOthers }
     ensures unmarked { IsSparingUnmarked }
     ensures victims { IsStandingVictim }
+{}
+
+/// An event leaves a key's place on the cache device or takes it away, unless it sets or restores that very key.
+pub fn events_take_places()
+    ensures { IsTakingPlaces }
+{}
+
+/// A key of which more than a place is kept came by a miss or an insertion of it.
+pub fn keys_are_taken_in()
+    ensures { IsTakenIn }
 {}
 
 /// Who holds what after an event.

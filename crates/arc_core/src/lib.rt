@@ -21,8 +21,8 @@ pub use holds::Holds;
 pub use keeps::Keeps;
 pub use laws::{
     events_change_their_own_key, events_count_holds, events_keep_soundness,
-    events_spare_other_keys, held_blocks_stay, prefixes_are_legal, replay_goes_on,
-    room_and_trim_end,
+    events_spare_other_keys, events_take_places, held_blocks_stay, keys_are_taken_in,
+    prefixes_are_legal, replay_goes_on, room_and_trim_end,
 };
 pub use served::{ReadFault, Restored, Served};
 pub use shard::{EntryView, Shard};

@@ -15,9 +15,10 @@ use Rattle.blk_ptr.specs.Hash.{shard_of}
 use Rattle.vdev_io.specs.declared.pool.Pool.{Ghosts}
 use Rattle.arc_core.specs.declared.config.Config.{Config}
 use Rattle.arc_core.specs.declared.event.Event.{Event}
-use Rattle.arc_core.specs.Operations.{Act, HoldEveryCallOnce, IsAtRest, Moment, Tell, acts_in, are_passes_placed, has_its_number, is_of_feed, is_pool_read, moments, number_of, own_moments, pool_reads}
+use Rattle.arc_core.specs.Operations.{Act, HoldEveryCallOnce, IsAtRest, Moment, Tell, acts_in, are_passes_placed, has_its_number, is_pool_read, moments, number_of, own_events, own_moments, pool_reads}
 use Rattle.arc_core.specs.PlainShard.{PlainShard}
 use Rattle.arc_core.specs.Replay.{is_legal_history, replay}
+use Rattle.arc_core.proofs.OwnEvents.{no-own-events}
 use Rattle.arc_core.specs.ShardLog.{ShardLog}
 use Rattle.turn_table.specs.Places.{Place, SomeHas}
 use Rattle.arc_table.specs.declared.view.Known.{Known}
@@ -38,7 +39,7 @@ use Rattle.trace_run.specs.CallerLines.{At, DidLines, at}
 use Rattle.trace_run.specs.Effects.{calls_of_all}
 use Rattle.trace_run.specs.Ends.{end_of, ends_of}
 use Rattle.arc_table.specs.Telling.{opening_of}
-use Rattle.trace_run.specs.Explaining.{Explain}
+use Rattle.trace_run.specs.Explaining.{Explain, none_of_the_feeder}
 use Rattle.trace_run.specs.KeptBlocks.{DroppedAlone, GivesAll, Stands, holds_in, read_of}
 use Rattle.trace_run.specs.Lines.{caller_of, is_in_shard, is_of_caller, replies_where, shard_of_line}
 use Rattle.trace_run.specs.OneCaller.{AreFoundAs, IsFoundAs, events_of, events_of_drops, kept_after, kept_after_all, one_caller_history}
@@ -312,7 +313,7 @@ module _ {C P : Type 0} (m : Meanings C) (cache : Cache) (pools : Ghosts P) (blo
     some-log : (shard : ℕ) → shard < length (histories_of closed) → (l : ShardLog) × (get_elem? closed.shards shard ≡ some l)
     some-log shard below = there closed.shards shard (subst (λ (n : ℕ). shard < n) (length-map closed.shards (λ (log : ShardLog). log.history)) below)
 
-    every-call : HoldEveryCallOnce g (shard_of g.shards) opening acts (histories_of closed)
+    every-call : HoldEveryCallOnce g (shard_of g.shards) opening acts none_of_the_feeder (histories_of closed)
     every-call = record {
       told = λ shard n below differs.
           let l = some-log shard below in
@@ -320,8 +321,7 @@ module _ {C P : Type 0} (m : Meanings C) (cache : Cache) (pools : Ghosts P) (blo
       fed = λ shard below.
           let l = some-log shard below in
           let feeder : g.callers ≢ 0 = λ (none : g.callers ≡ 0). let callers = one in omega arith in
-          subst (λ (ms : List Moment). AllByRecursion (λ m. IsTrue (is_of_feed m.event)) ms)
-          (sym (ap (λ (h : List Event). own_moments g.callers (moments opening h)) (index-is shard l.0 l.1) ∙ no-others shard l.0 l.1 g.callers feeder)) tt;
+          ap (own_events g.callers) (index-is shard l.0 l.1) ∙ no-own-events g.callers opening l.0.history (no-others shard l.0 l.1 g.callers feeder);
       numbers = all-mapped (λ (log : ShardLog). log.history) (λ history. AllByRecursion (λ e. IsTrue (has_its_number g.callers g.cells e)) history) closed.shards numbers;
       passes = all-mapped (λ (log : ShardLog). log.history) (λ history. IsTrue (are_passes_placed history)) closed.shards (λ i l at_l. no-passes 0 l.history (mine i l at_l));
     }

@@ -13,8 +13,9 @@ use Rattle.blk_ptr.specs.Hash.{shard_of}
 use Rattle.arc_core.specs.Config.{IsConfig}
 use Rattle.arc_core.specs.declared.config.Config.{Config}
 use Rattle.arc_core.specs.declared.event.Event.{Event}
-use Rattle.arc_core.specs.Operations.{Act, HoldEveryCallOnce, IsAtRest, Moment, Tell, acts_in, are_passes_placed, has_its_number, is_of_feed, is_pass, moments, number_of, own_moments, pool_reads}
+use Rattle.arc_core.specs.Operations.{Act, HoldEveryCallOnce, IsAtRest, Moment, Tell, acts_in, are_passes_placed, has_its_number, is_pass, moments, number_of, own_events, own_moments, pool_reads}
 use Rattle.arc_core.specs.Replay.{is_legal_history, replay}
+use Rattle.arc_core.proofs.OwnEvents.{no-own-events}
 use Rattle.arc_core.specs.ShardLog.{ShardLog}
 use Rattle.turn_table.specs.Places.{Place, ShowAll, SomeHas}
 use Rattle.arc_table.specs.declared.about.About.{About}
@@ -31,7 +32,7 @@ use Rattle.trace_text.specs.declared.reply.Reply.{Reply}
 use Rattle.trace_run.specs.Acts.{acts_of_caller, acts_of_callers}
 use Rattle.trace_run.specs.Ends.{end_of, ends_of}
 use Rattle.arc_table.specs.Telling.{opening_of}
-use Rattle.trace_run.specs.Explaining.{Explain}
+use Rattle.trace_run.specs.Explaining.{Explain, none_of_the_feeder}
 use Rattle.trace_run.specs.KeptBlocks.{IsIdle, Stands, is_ptr, times}
 use Rattle.trace_run.specs.Lines.{is_of_caller, replies_where}
 use Rattle.arc_table.specs.Seen.{HasSeenItsOwn, seen_of}
@@ -252,15 +253,14 @@ module _ {C : Type 0} (m : Meanings C) (cache : Cache) (valid : IsConfig cache.c
   abbrev histories : List (List Event)
   histories = map (λ (log : ShardLog). log.history) e.shards
 
-  every-call : HoldEveryCallOnce settled shard (opening_of settled) acts (map (λ log. log.history) e.shards)
+  every-call : HoldEveryCallOnce settled shard (opening_of settled) acts none_of_the_feeder (map (λ log. log.history) e.shards)
   every-call = record {
     told = λ i n inside differs.
         let h = log-at e.shards i inside in
         subst (λ (es : List Event). Tell (acts_in shard i n acts) (own_moments n (moments (opening_of settled) es))) (sym h.2) (told-any i h.0 h.1 n differs);
     fed = λ i inside.
         let h = log-at e.shards i inside in
-        subst (λ (es : List Event). AllByRecursion (λ (x : Moment). IsTrue (is_of_feed x.event)) (own_moments settled.callers (moments (opening_of settled) es))) (sym h.2)
-        (subst (AllByRecursion (λ (x : Moment). IsTrue (is_of_feed x.event))) (sym (feeder-none i h.0 h.1)) tt);
+        ap (own_events settled.callers) h.2 ∙ no-own-events settled.callers (opening_of settled) h.0.history (feeder-none i h.0 h.1);
     numbers = all-logs (AllByRecursion (λ ev. IsTrue (has_its_number settled.callers settled.cells ev))) e.shards
         (λ i l at. all-map (IsReadEvent settled.callers) (λ ev. IsTrue (has_its_number settled.callers settled.cells ev)) l.history (λ ev is. read-number settled.callers settled.cells ev is) (only-reads i l at));
     passes = all-logs (λ h. IsTrue (are_passes_placed h)) e.shards (λ i l at. placed i l at);

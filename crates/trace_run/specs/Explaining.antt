@@ -1,5 +1,5 @@
 -- What the histories of a run's shards say of it.
-use Rattle.std.specs.Prelude.{◌≡◌, IfSome, IsTrue, List, [], length, sum_by}
+use Rattle.std.specs.Prelude.{◌≡◌, ℕ, IfSome, IsTrue, List, [], length, sum_by}
 use Rattle.std.specs.List.{AllByRecursion, range_with_len}
 use Rattle.std.specs.Prelude.{filter}
 use Rattle.blk_ptr.specs.Hash.{shard_of}
@@ -21,6 +21,10 @@ use Rattle.trace_run.specs.PlainReport.{IsPlainReport}
 use Rattle.trace_run.specs.PlainRun.{report_of}
 use Rattle.vdev_io.specs.Calls.{MakesCalls, Call}
 
+-- the feeder makes no event of any shard
+abbrev pub none_of_the_feeder : (shard : ℕ) → List Event
+none_of_the_feeder shard = []
+
 -- The histories explain the replies, for any number of callers and shards.
 pub record Explain (trace : Trace) (replies : List Reply) (shard_ends : List ShardEnd) (histories : List (List Event)) : Type 0 where
   -- each shard has a history, by its number, which is legal from the shard's start
@@ -29,9 +33,9 @@ pub record Explain (trace : Trace) (replies : List Reply) (shard_ends : List Sha
   -- its replay gives the shard's end, where nothing is held or being read, and there is no feed
   pub ends : shard_ends ≡ ends_of trace.config histories
   pub at_rest : AllByRecursion (λ history. IsAtRest (replay (opening_of trace.config) history)) histories
-  -- each call of each caller stands once in the history of its key's shard, in the order of the lines
+  -- each call of each caller stands once in the history of its key's shard, in the order of the lines, and the feeder made no event
   pub every_call : HoldEveryCallOnce trace.config (shard_of trace.config.shards) (opening_of trace.config)
-      (acts_of_callers trace.blocks trace.config.callers trace.ops replies) histories
+      (acts_of_callers trace.blocks trace.config.callers trace.ops replies) none_of_the_feeder histories
 
 -- What more holds of a run with one caller: its report is a plain function of the trace, the bytes and which reads of the pool failed, as far as
 -- no two contents share a digest.
