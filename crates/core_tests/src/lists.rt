@@ -1,6 +1,6 @@
 //! The sequences of the cache: the calls with ample memory.
 use arc_lists::Lists;
-use blk_ptr::{Key, NoMemory, State};
+use blk_ptr::{Key, State};
 use key_table::NO_PLACE;
 use std::test::Fail;
 
@@ -10,17 +10,11 @@ const A: Key = Key {
     birth: 1,
 };
 
-/// Sequences with one key.
-fn with_one(rt: &HostRuntime) -> Result<Lists, NoMemory> {
+#[test]
+fn a_key_comes_and_goes(rt: HostRuntime) -> Result<(), Fail> {
     let mut lists = Lists::new(rt.alloc(), 8192);
     lists.reserve(1)?;
     lists.put(A, State::Mru, true);
-    Ok(lists)
-}
-
-#[test]
-fn a_key_comes_and_goes(rt: HostRuntime) -> Result<(), Fail> {
-    let mut lists = with_one(&rt)?;
     let oldest = lists.oldest(State::Mru);
     lists.take_out(A);
     assert!(rt; oldest == Some(A));
@@ -30,7 +24,9 @@ fn a_key_comes_and_goes(rt: HostRuntime) -> Result<(), Fail> {
 
 #[test]
 fn a_state_changes_near_a_place(rt: HostRuntime) -> Result<(), Fail> {
-    let mut lists = with_one(&rt)?;
+    let mut lists = Lists::new(rt.alloc(), 8192);
+    lists.reserve(1)?;
+    lists.put(A, State::Mru, true);
     // The only row stands at 0.
     lists.change_state_near(0, A, State::Mfu, false);
     let held = (lists.size(State::Mfu), lists.oldest(State::Mfu));
