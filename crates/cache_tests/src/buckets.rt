@@ -3,7 +3,7 @@ ghost use Rattle.std.specs.Prelude.{◌≡◌};
 
 use blk_ptr::{Block, Key, NoMemory, State};
 use hash_chain::{Bucket, Header, Kept};
-use std::alloc::{AllocError, Global};
+use std::alloc::Global;
 use std::sync::Arc;
 use std::test::Fail;
 
@@ -87,9 +87,9 @@ fn seen_of(bucket: &Bucket, offset: u64) -> Option<(State, bool)> {
 }
 
 // A block of zero bytes.
-fn zeros(alloc: Global) -> Result<Arc<Block>, AllocError> {
+fn zeros(alloc: Global) -> Result<Arc<Block>, Fail> {
     let bytes = vec![in alloc; 0u8; 512]?;
-    Arc::new(alloc, Block::seal(bytes))
+    Ok(Arc::new(alloc, Block::seal(bytes))?)
 }
 
 #[test]
