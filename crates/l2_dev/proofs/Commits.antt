@@ -418,12 +418,22 @@ module _ {D : Type 0} (tells : D → Option (List ℕ)) (has_sectors : D → Boo
         l.5.1,
   )
 
+fault_of : (T : Type 0) (e f : DevErr) → IsErrOf {T = T} {E = DevErr} (Err e) f → e ≡ f
+fault_of T e f is = cc
+
+err_of : (T : Type 0) (e f : DevErr) → e ≡ f → IsErrOf {T = T} {E = DevErr} (Err e) f
+err_of T e f same = cc
+
+-- it is no refusal of memory, whatever would have been answered
+pub no_refusal_of : (T U : Type 0) (e : DevErr) → (¬ IsErrOf {T = T} {E = DevErr} (Err e) NoMemory) → ¬ IsErrOf {T = U} {E = DevErr} (Err e) NoMemory
+no_refusal_of T U e other = λ is. other (err_of T e NoMemory (fault_of U e NoMemory is))
+
 -- which calls of the device a commit made
 module _ {D : Type 0} (device : Ghosts D) where
-  pub log_asks_err : {T : Type 0} (old new : D) (cursor : CursorState) (fault : DevErr) → (¬ (fault ≡ NoMemory)) → LogAsks device cursor old new (let r : Result LogPtr DevErr = Err fault in r)
+  pub log_asks_err : (T : Type 0) (old new : D) (cursor : CursorState) (fault : DevErr) → (¬ IsErrOf {T = T} {E = DevErr} (Err fault) NoMemory) → LogAsks device cursor old new (let r : Result LogPtr DevErr = Err fault in r)
       → CommitAsks device cursor old new (let r : Result T DevErr = Err fault in r)
-  log_asks_err old new cursor DevFault other l = (l.0, l.1, l.2, l.3, inl (refl, l.5))
-  log_asks_err old new cursor NoMemory other l = absurd (other refl)
+  log_asks_err T old new cursor DevFault other l = (l.0, l.1, l.2, l.3, inl (refl, l.5))
+  log_asks_err T old new cursor NoMemory other l = absurd (other refl)
 
   -- and then the header's write and its flush
   pub header_asks : {T : Type 0} (old mid new : D) (cursor : CursorState) (ptr : LogPtr) (header : DevHeader) (result : Result T DevErr) → LogAsks device cursor old mid (let r : Result LogPtr DevErr = Ok ptr in r)

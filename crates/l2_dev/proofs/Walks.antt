@@ -283,10 +283,11 @@ module _ {D : Type 0} (size : D → ℕ) (tells : D → Option (List ℕ)) (has_
         faults = omega arith;
       }
 
--- a fact of an error, where it holds anyhow
-pub on_err : {T E : Type 0} {P : Type 0} (result : Result T E) → P → OnErr result P
-on_err (Ok value) p = tt
-on_err (Err error) p = p
+-- what was read, whatever was answered
+pub reads_err : {D T E : Type 0} (device : Ghosts D) (old new : D) (result : Result T E) (reads : List DeviceCall) → MakesDeviceCalls device reads old new → AreReads reads
+    → OnErr result ((calls : List DeviceCall) × MakesDeviceCalls device calls old new × AreReads calls)
+reads_err device old new (Ok value) reads made are = tt
+reads_err device old new (Err error) reads made are = (reads, made, are)
 
 -- one log block more was read, behind those that were
 pub visit_behind : {D : Type 0} (device : Ghosts D) (visits : List Visit) (v : Visit) (old mid new : D) → MakesDeviceCalls device (map visit_read visits) old mid → MakesDeviceCalls device (visit_read v ∷ []) mid new

@@ -15,7 +15,8 @@ mod write;
 pub use device::L2Dev;
 pub use fault::DevErr;
 pub use laws::{
-    crashes_inside_calls, lists_have_ends, more_is_a_collision, newest_is_restored, reads_keep_promises,
+    crashes_inside_calls, lists_have_ends, more_is_a_collision, newest_is_restored,
+    reads_keep_promises,
 };
 pub use report::{FeedReport, FeedStop};
 pub use start::Started;

@@ -62,7 +62,7 @@ returns-in_err-write_through-clause-calls g c =
     let long : length c.write_block-ptr.new.out ≡ c.in_ok-bytes.bytes.len = omega (arith, whole, c.in_ok-bytes.ensures.len) in
     let same : c.deref.result.now ≡ c.write_block-ptr.new.out = c.deref.ensures.value ∙ take_at c.write_block-ptr.new.out _ c.in_ok-bytes.bytes.len long in
     let of = block_of_reserved c.args.cursor.now c.reserve.new.self _ _ _ c.reserve.ensures.reserved b.1 in
-    rw (p.1, p.2) (_, b.0, c.write_block-ptr.result, of, tt, rw (same, c.requires.at) at c.in_err-write_through.ensures.calls)
+    rw p.1 (_, b.0, c.write_block-ptr.result, of, tt, rw (same, c.requires.at) at c.in_err-write_through.ensures.calls)
 
 pub returns-clause-calls : goal.returns-clause-calls
 returns-clause-calls g c =

@@ -5,7 +5,7 @@ use Rattle.vdev_io.proofs.CallLemmas.{calls_behind}
 use Rattle.l2_dev.specs.declared.stop.Stop.{Stop}
 use Rattle.l2_dev.specs.Asking.{header_read, walk_reads}
 use Rattle.l2_dev.specs.Rebuilding.{IsStarted}
-use Rattle.l2_dev.proofs.Walks.{header_and_reads, on_err, started_along, started_bare, walk_are_reads}
+use Rattle.l2_dev.proofs.Walks.{header_and_reads, reads_err, started_along, started_bare, walk_are_reads}
 use Rattle.l2_dev.proofs.rebuild.rebuild.Goals as goal
 
 pub returns-in-Err-clause-started : goal.returns-in-Err-clause-started
@@ -37,18 +37,13 @@ returns-clause-refused g c =
     let d = g.D.CacheDev in
     let walked = c.in_ok-walked.ensures.chain in
     let reads = walk_reads c.in-Ok.header walked.0 c.in_ok-walked.walked.stop in
-    on_err c.along.result (
-      header_read Gave ∷ reads,
-      calls_behind d (header_read Gave ∷ []) reads c.args.dev.now c.read_header.new.dev c.walk.new.dev c.in-Ok.ensures.call walked.1,
-      header_and_reads reads (walk_are_reads c.in-Ok.header walked.0 c.in_ok-walked.walked.stop),
-    )
+    reads_err d c.args.dev.now c.walk.new.dev c.along.result (header_read Gave ∷ reads)
+    (calls_behind d (header_read Gave ∷ []) reads c.args.dev.now c.read_header.new.dev c.walk.new.dev c.in-Ok.ensures.call walked.1)
+    (header_and_reads reads (walk_are_reads c.in-Ok.header walked.0 c.in_ok-walked.walked.stop))
 
 pub returns-in_err-walked-clause-refused : goal.returns-in_err-walked-clause-refused
 returns-in_err-walked-clause-refused g c =
     let d = g.D.CacheDev in
     let walk = c.in_err-walked.ensures.refused in
-    on_err _ (
-      header_read Gave ∷ walk.0,
-      calls_behind d (header_read Gave ∷ []) walk.0 c.args.dev.now c.read_header.new.dev c.walk.new.dev c.in-Ok.ensures.call walk.1,
-      header_and_reads walk.0 walk.2,
-    )
+    reads_err d c.args.dev.now c.walk.new.dev c.from_residual.result (header_read Gave ∷ walk.0)
+    (calls_behind d (header_read Gave ∷ []) walk.0 c.args.dev.now c.read_header.new.dev c.walk.new.dev c.in-Ok.ensures.call walk.1) (header_and_reads walk.0 walk.2)

@@ -43,5 +43,5 @@ returns-in_err-block-clause-reads g c =
     let d = g.D.CacheDev in
     let p = err_from_is_err_and c.from_residual-in_err-block.result c.from_residual-in_err-block.ensures.1 in
     rw (p.1, p.2) (
-      subst (λ (calls : List DeviceCall). MakesDeviceCalls d calls c.args.dev.now c.read_at.new.dev) (sym (block_reads c.args.ptr _ c.in_err-block.field-0.0 c.in_err-block.ensures.stop))
-      (rw c.requires.len at c.in-Ok.ensures.call))
+    subst (λ (calls : List DeviceCall). MakesDeviceCalls d calls c.args.dev.now c.read_at.new.dev) (sym (block_reads c.args.ptr _ c.in_err-block.field-0.0 c.in_err-block.ensures.stop))
+    (rw c.requires.len at c.in-Ok.ensures.call))

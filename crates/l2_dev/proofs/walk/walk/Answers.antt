@@ -16,7 +16,7 @@ use Rattle.l2_dev.specs.Chain.{IsHeld, IsStop, numbers_in}
 use Rattle.l2_dev.specs.ListLaws.{all_append}
 use Rattle.l2_dev.specs.Restoring.{valid_of}
 use Rattle.l2_dev.specs.Walking.{EndsWith, IsFit, visit_of}
-use Rattle.l2_dev.proofs.Walks.{come_nowhere, come_further, come_to_end, end_are_reads, ended_chain, ended_reads, fit_more, on_err, same_len, rose_from, not_read, read_twice, visit_behind, visits_are_reads, whole_reads}
+use Rattle.l2_dev.proofs.Walks.{come_nowhere, come_further, come_to_end, end_are_reads, ended_chain, ended_reads, fit_more, reads_err, same_len, rose_from, not_read, read_twice, visit_behind, visits_are_reads, whole_reads}
 use Rattle.l2_dev.proofs.walk.walk.Goals as goal
 
 pub loop-next-init : goal.loop-next-init
@@ -78,11 +78,9 @@ pub returns-in-Err-clause-refused : goal.returns-in-Err-clause-refused
 returns-in-Err-clause-refused g c =
     let d = g.D.CacheDev in
     let so_far = c.loop-next.invariant.come in
-    on_err c.ended.result (
-      _,
-      calls_behind d (map visit_read so_far.0) (end_reads c.in-Some.ptr c.in-Err.end) c.args.dev.now c.loop-next.dev c.visit.new.dev so_far.2 c.in-Err.ensures.reads,
-      end_are_reads so_far.0 c.in-Some.ptr c.in-Err.end,
-    )
+    reads_err d c.args.dev.now c.visit.new.dev c.ended.result (map visit_read so_far.0 ++ end_reads c.in-Some.ptr c.in-Err.end)
+    (calls_behind d (map visit_read so_far.0) (end_reads c.in-Some.ptr c.in-Err.end) c.args.dev.now c.loop-next.dev c.visit.new.dev so_far.2 c.in-Err.ensures.reads)
+    (end_are_reads so_far.0 c.in-Some.ptr c.in-Err.end)
 
 pub returns-in-Err-clause-fit : goal.returns-in-Err-clause-fit
 returns-in-Err-clause-fit g c =
@@ -117,17 +115,19 @@ returns-in_err-valid-clause-refused g c =
     let d = g.D.CacheDev in
     let so_far = c.loop-next.invariant.come in
     let v = visit_of c.in-Some.ptr c.in-Ok.block in
-    on_err _ (_, visit_behind d so_far.0 v c.args.dev.now c.loop-next.dev c.visit.new.dev so_far.2 c.in-Ok.ensures.reads, visits_are_reads (so_far.0 ++ v ∷ []))
+    reads_err d c.args.dev.now c.visit.new.dev c.from_residual-in_err-valid.result (map visit_read (so_far.0 ++ v ∷ []))
+    (visit_behind d so_far.0 v c.args.dev.now c.loop-next.dev c.visit.new.dev so_far.2 c.in-Ok.ensures.reads) (visits_are_reads (so_far.0 ++ v ∷ []))
 
 pub returns-in_err-extend_from_slice-clause-refused : goal.returns-in_err-extend_from_slice-clause-refused
 returns-in_err-extend_from_slice-clause-refused g c =
     let d = g.D.CacheDev in
     let so_far = c.loop-next.invariant.come in
     let v = visit_of c.in-Some.ptr c.in-Ok.block in
-    on_err _ (_, visit_behind d so_far.0 v c.args.dev.now c.loop-next.dev c.visit.new.dev so_far.2 c.in-Ok.ensures.reads, visits_are_reads (so_far.0 ++ v ∷ []))
+    reads_err d c.args.dev.now c.visit.new.dev c.from_residual-in_err-extend_from_slice.result (map visit_read (so_far.0 ++ v ∷ []))
+    (visit_behind d so_far.0 v c.args.dev.now c.loop-next.dev c.visit.new.dev so_far.2 c.in-Ok.ensures.reads) (visits_are_reads (so_far.0 ++ v ∷ []))
 
 pub returns-in_err-bytes-clause-refused : goal.returns-in_err-bytes-clause-refused
-returns-in_err-bytes-clause-refused g c = on_err _ ([], refl, tt)
+returns-in_err-bytes-clause-refused g c = reads_err g.D.CacheDev c.args.dev.now c.args.dev.now c.from_residual.result [] refl tt
 
 pub overflow_add-walked : goal.overflow_add-walked
 overflow_add-walked g c = let short = c.in-Ok.ensures.reached.short in omega arith

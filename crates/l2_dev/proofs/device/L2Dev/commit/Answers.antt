@@ -1,5 +1,6 @@
 use Rattle.std.proofs.Common.{◌≡◌, ℕ, ◌++◌, ◌∷◌, inr, inl, sym, subst, arith}
-use Rattle.l2_dev.proofs.Commits.{log_failed, logged_of, commit_failed, commit_kept, header_reserved, forgotten_reserved, settled_from, commit_written, log_refused, log_left, header_left, header_asks, log_asks_err, no_refusal}
+use Rattle.l2_dev.proofs.Commits.{log_failed, logged_of, commit_failed, commit_kept, header_reserved, forgotten_reserved, settled_from, commit_written, log_refused, log_left, header_left, header_asks, log_asks_err, no_refusal, no_refusal_of}
+use Rattle.l2_log.specs.declared.pointer.LogPtr.{LogPtr}
 use Rattle.l2_dev.proofs.Puts.{forgotten_of}
 use Rattle.l2_dev.specs.Calls.{LeavesWith}
 use Rattle.l2_dev.specs.Planned.{IsHeaderWith}
@@ -118,7 +119,8 @@ returns-in-Err-write_header-clause-left g c =
     c.in-Ok.ensures.logged c.in-Err-write_header.ensures.written
 
 pub returns-in-Err-clause-calls : goal.returns-in-Err-clause-calls
-returns-in-Err-clause-calls g c = λ h. log_asks_err g.D.CacheDev c.args.self.now.dev c.write_log.new.dev c.args.self.now.cursor c.in-Err.fault h (c.in-Err.ensures.calls h)
+returns-in-Err-clause-calls g c =
+    λ h. log_asks_err g.D.CacheDev (Unit {0}) c.args.self.now.dev c.write_log.new.dev c.args.self.now.cursor c.in-Err.fault h (c.in-Err.ensures.calls (no_refusal_of (Unit {0}) LogPtr c.in-Err.fault h))
 
 pub returns-in-Err-write_header-clause-calls : goal.returns-in-Err-write_header-clause-calls
 returns-in-Err-write_header-clause-calls g c =

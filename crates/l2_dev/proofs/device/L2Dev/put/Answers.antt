@@ -92,7 +92,8 @@ returns-clause-written g c =
 pub returns-in-Err-clause-calls : goal.returns-in-Err-clause-calls
 returns-in-Err-clause-calls g c =
     let at : c.hand-place.result ≡ c.args.self.now.cursor.ring.hand = c.hand-place.ensures.hand ∙ ap (λ (r : RingState). r.hand) c.ring.ensures.ring in
-    asks_err g.D.CacheDev (Write c.args.self.now.cursor.ring.hand c.args.block.now ∷ []) c.args.self.now.dev c.put_block.new.dev c.in-Err.fault (rw (at, c.bytes.ensures) at c.in-Err.ensures.calls)
+    asks_err (Unit {0}) ℕ g.D.CacheDev (Write c.hand-place.result c.bytes.result.now ∷ []) (Write c.args.self.now.cursor.ring.hand c.args.block.now ∷ []) c.args.self.now.dev c.put_block.new.dev c.in-Err.fault
+    (ap (λ (place : ℕ). Write place c.bytes.result.now ∷ []) at ∙ ap (λ (bytes : List ℕ). Write c.args.self.now.cursor.ring.hand bytes ∷ []) c.bytes.ensures) c.in-Err.ensures.calls
 
 pub returns-clause-calls : goal.returns-clause-calls
 returns-clause-calls g c =
