@@ -188,7 +188,7 @@ def round_sizes(least, most):
 def spread(least, most, points, subject):
     """So many sizes from the least to the most, each the same times the one before, rounded to what the cache can have."""
     between = (least * (most / least) ** (i / max(points - 1, 1)) for i in range(points))
-    rounded = {max(subject.smallest, int(size) // subject.step * subject.step) for size in between}
+    rounded = {max(subject.smallest, round(size) // subject.step * subject.step) for size in between}
     return sorted(size for size in rounded | {most} if size <= subject.largest)
 
 

@@ -4,7 +4,7 @@ from array import array
 
 from . import report
 from .command import Fault, Progress
-from .report import ACCESSES, HIT, KINDS, MISS, PAST, STATES
+from .report import ACCESSES, HIT, KINDS, MISS, PAST, RESIZE, STATES
 from .shard import ANON, L2, MFU, MFUG, MRU, MRUG, Shard
 
 # what a read found: its block in one of the cached lists, nothing, one of the ghosts, only a place on the cache device, or bytes of another digest
@@ -70,20 +70,30 @@ class Moves:
 
 
 def merged(shards):
-    """The events of all shards, each shard's in its order, by the ticks of the reads. With one caller and rising ticks that is the trace's order."""
-    heap = [(0, number, 0) for number, events in enumerate(shards) if len(events)]
-    heapq.heapify(heap)
-    while heap:
-        tick, shard, at = heap[0]
+    """The events of all shards, each shard's in its order, by the ticks of the reads. With one caller and rising ticks that is the trace's order. A new
+    capacity is given to all shards at one time, so each waits for the others there."""
+    heap, waiting = [], []
+
+    def go_on(tick, shard, at):
         events = shards[shard]
-        yield shard, at
-        at += 1
-        if at == len(events):
-            heapq.heappop(heap)
+        if at < len(events):
+            heapq.heappush(heap, (max(tick, events.numbers[at]) if events.kinds[at] in (HIT, MISS) else tick, shard, at))
+
+    for shard in range(len(shards)):
+        go_on(0, shard, 0)
+    while heap or waiting:
+        if not heap:
+            for tick, shard, at in waiting:
+                yield shard, at
+                go_on(tick, shard, at + 1)
+            waiting.clear()
             continue
-        if events.kinds[at] in (HIT, MISS):
-            tick = max(tick, events.numbers[at])
-        heapq.heapreplace(heap, (tick, shard, at))
+        tick, shard, at = heapq.heappop(heap)
+        if shards[shard].kinds[at] == RESIZE:
+            waiting.append((tick, shard, at))
+            continue
+        yield shard, at
+        go_on(tick, shard, at + 1)
 
 
 class Replay:

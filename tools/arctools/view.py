@@ -5,7 +5,7 @@ import os
 
 from . import sizes
 from .arcstat import add_source, report_of
-from .command import Fault, end_with, say, whole
+from .command import end_with, say, whole
 from .replay import FOUND, LISTS, Replay
 from .trace import arc_of
 

@@ -3,7 +3,10 @@ use Rattle.std.proofs.Common.{◌≡◌, ℕ, ◌+◌, ◌<◌, ◌≤◌, ◌++
 use Rattle.std.specs.List.{AllByRecursion}
 use Rattle.std.specs.Option.{IfSome}
 use Rattle.std.specs.Result.{IsErrOf}
+use Rattle.vdev_io.specs.declared.device.CacheDev.{Ghosts}
+use Rattle.vdev_io.specs.Calls.{MakesAsked}
 use Rattle.vdev_io.specs.Device.{IsTorn, IsWritten, put}
+use Rattle.vdev_io.proofs.CallLemmas.{asked_behind}
 use Rattle.blk_ptr.specs.Ptr.{sha256_of}
 use Rattle.l2_log.specs.Rules.{log_len, header_len}
 use Rattle.l2_log.specs.HeaderBytes.{IsHeader}
@@ -26,6 +29,7 @@ use Rattle.l2_dev.specs.CommitLaws.{IsNewBlock, new_block_stays}
 use Rattle.l2_dev.specs.Planned.{IsBlockOf, IsHeaderWith, IsReserved, HasSettled}
 use Rattle.l2_dev.specs.Steps.{Wrote, HasFlushed, HeaderWritten}
 use Rattle.l2_dev.specs.TornLaws.{put_there}
+use Rattle.l2_dev.specs.Asking.{CommitAsks, LogAsks, header_calls, log_calls}
 use Rattle.l2_dev.specs.Calls.{LeavesTorn, LeavesWith, LogWritten, HasCommitWritten, forgotten, IsCommitBlock, IsCommitLeft}
 use Rattle.l2_log.specs.declared.pointer.LogPtr.{LogPtr}
 use Rattle.l2_dev.specs.declared.fault.DevErr.{DevErr}
@@ -210,7 +214,7 @@ torn_told T E at n bytes None now fault len w = tt
 torn_told T E at n bytes (Some image) None fault len w = absurd w
 torn_told T E at n bytes (Some image) (Some left) fault len w = (left, refl, subst (λ (m : ℕ). IsTorn at m image left) len w)
 
-no_refusal : (ptr : LogPtr) → IsErrOf {T = LogPtr} {E = DevErr} (Ok ptr) NoMemory → ⊥
+pub no_refusal : (ptr : LogPtr) → IsErrOf {T = LogPtr} {E = DevErr} (Ok ptr) NoMemory → ⊥
 no_refusal ptr e = cc
 
 module _ {D : Type 0} (tells : D → Option (List ℕ)) (has_sectors : D → Bool) (leaves : D → List ℕ → Type 0) (moment : D → ℕ) (since : D → ℕ → List ℕ → Type 0) where
@@ -412,4 +416,38 @@ module _ {D : Type 0} (tells : D → Option (List ℕ)) (has_sectors : D → Boo
         (λ image flushed. inr (torn_told T E 0 header_len w.sector (Some (put cursor.ring.hand l.0 image)) (tells new) fault w.is.whole
         (subst (λ (o : Option (List ℕ)). IsWritten {T = T} {E = E} 0 w.sector o (tells new) (Err fault)) flushed.told w.image)))
         l.5.1,
+  )
+
+fault_of : (T : Type 0) (e f : DevErr) → IsErrOf {T = T} {E = DevErr} (Err e) f → e ≡ f
+fault_of T e f is = cc
+
+err_of : (T : Type 0) (e f : DevErr) → e ≡ f → IsErrOf {T = T} {E = DevErr} (Err e) f
+err_of T e f same = cc
+
+-- it is no refusal of memory, whatever would have been answered
+pub no_refusal_of : (T U : Type 0) (e : DevErr) → (¬ IsErrOf {T = T} {E = DevErr} (Err e) NoMemory) → ¬ IsErrOf {T = U} {E = DevErr} (Err e) NoMemory
+no_refusal_of T U e other = λ is. other (err_of T e NoMemory (fault_of U e NoMemory is))
+
+-- which calls of the device a commit made
+module _ {D : Type 0} (device : Ghosts D) where
+  pub log_asks_err : (T : Type 0) (old new : D) (cursor : CursorState) (fault : DevErr) → (¬ IsErrOf {T = T} {E = DevErr} (Err fault) NoMemory) → LogAsks device cursor old new (let r : Result LogPtr DevErr = Err fault in r)
+      → CommitAsks device cursor old new (let r : Result T DevErr = Err fault in r)
+  log_asks_err T old new cursor DevFault other l = (l.0, l.1, l.2, l.3, inl (refl, l.5))
+  log_asks_err T old new cursor NoMemory other l = absurd (other refl)
+
+  -- and then the header's write and its flush
+  pub header_asks : {T : Type 0} (old mid new : D) (cursor : CursorState) (ptr : LogPtr) (header : DevHeader) (result : Result T DevErr) → LogAsks device cursor old mid (let r : Result LogPtr DevErr = Ok ptr in r)
+      → IsHeaderWith cursor ptr header → (sector : List ℕ) → IsHeader sector header → MakesAsked device (header_calls sector) mid new result → CommitAsks device cursor old new result
+  header_asks old mid new cursor ptr header result l with sector is made = (
+    l.0,
+    l.1,
+    l.2,
+    l.3,
+    inr (
+      sector,
+      header,
+      is,
+      subst (λ (p : LogPtr). IsHeaderWith cursor p header) l.4 with,
+      asked_behind device (log_calls cursor.ring.hand l.0) (header_calls sector) old mid new result l.5 made,
+    ),
   )

@@ -10,7 +10,12 @@ use Rattle.l2_dev.specs.Cursor.{CursorState, IsCursor, numbers_from}
 use Rattle.l2_dev.specs.Promise.{Promise, IsUpheld}
 use Rattle.l2_dev.specs.PromiseLaws.{same_plan}
 use Rattle.l2_dev.specs.Planned.{HasPushed, IsForgotten}
+use Rattle.vdev_io.specs.declared.device.CacheDev.{Ghosts}
+use Rattle.vdev_io.specs.Calls.{Asked, MakesAll, MakesUpTo}
 use Rattle.vdev_io.specs.Device.{IsWritten, IsTorn}
+use Rattle.l2_dev.specs.declared.fault.DevErr.{DevErr}
+use Rattle.l2_dev.specs.declared.fault.DevErr.TheVariants.{DevFault, NoMemory}
+use Rattle.l2_dev.specs.Asking.{AsksFor}
 use Rattle.l2_dev.specs.TornLaws.{IsAside, EntriesAside, put_torn}
 use Rattle.l2_dev.specs.ListLaws.{all_unmap, all_weaker}
 use Rattle.l2_dev.specs.CallLaws.{WritesInRing, HasForgotten, HasPut}
@@ -90,3 +95,9 @@ pub written_flushed : (T E U F : Type 0) (at : ℕ) (bytes : List ℕ) (old mid 
     → IsWritten {T = T} {E = E} at bytes old mid (Ok t) → new ≡ mid → IsWritten {T = U} {E = F} at bytes old new result
 written_flushed T E U F at bytes old mid new t result inside w same =
     subst (λ (o : Option (List ℕ)). IsWritten {T = U} {E = F} at bytes old o result) (sym same) (flushed_if T E U F at bytes old mid t result inside w)
+
+-- what was asked for before an error, whatever would have been answered
+pub asks_err : {D : Type 0} (T U : Type 0) (device : Ghosts D) (asked told : List Asked) (old new : D) (e : DevErr) → asked ≡ told → AsksFor device asked asked old new (let r : Result T DevErr = Err e in r)
+    → AsksFor device told told old new (let r : Result U DevErr = Err e in r)
+asks_err T U device asked told old new DevFault same made = subst (λ (xs : List Asked). MakesUpTo device xs old new) same made
+asks_err T U device asked told old new NoMemory same made = subst (λ (xs : List Asked). MakesAll device xs old new) same made

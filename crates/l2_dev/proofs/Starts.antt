@@ -3,6 +3,7 @@ use Rattle.std.proofs.Common.{◌≡◌, ℕ, ◌<◌, List, [], ◌∷◌, map,
 use Rattle.std.proofs.lemmas.List.{append-nil}
 use Rattle.std.proofs.lemmas.Bool.{false≢true}
 use Rattle.std.specs.List.{AllByRecursion}
+use Rattle.vdev_io.specs.Calls.{DeviceCall}
 use Rattle.vdev_io.specs.Device.{LeavesOnly}
 use Rattle.l2_log.specs.declared.entry.Entry.{Entry}
 use Rattle.l2_log.specs.declared.pointer.LogPtr.{LogPtr}
@@ -140,9 +141,9 @@ module _ (end : ℕ) (image : List ℕ) (cursor : CursorState) (restored : List 
     }
 
 -- what a start finds is what a rebuild finds
-pub started_rebuilt : (end : ℕ) (image : List ℕ) (cursor : CursorState) (restored : List Restored) (why : Stop) → IsStarted end image cursor restored why → IsRebuilt end image restored why
-started_rebuilt end image cursor restored why (inl u) = inl (u.2, u.0)
-started_rebuilt end image cursor restored why (inr s) = inr (s.0, s.1, s.2)
+pub started_rebuilt : (end : ℕ) (image : List ℕ) (reads : List DeviceCall) (cursor : CursorState) (restored : List Restored) (why : Stop) → IsStarted end image reads cursor restored why → IsRebuilt end image restored why
+started_rebuilt end image reads cursor restored why (inl u) = inl (u.2, u.0)
+started_rebuilt end image reads cursor restored why (inr s) = inr (s.0, s.1, s.2)
 
 module _ {D : Type 0} (size : D → ℕ) (tells : D → Option (List ℕ)) (has_sectors : D → Bool) (leaves : D → List ℕ → Type 0) (moment : D → ℕ) (since : D → ℕ → List ℕ → Type 0) (faults : D → ℕ) where
   shut : (cursor : CursorState) (P : Type 0) → cursor.ready ≡ false → cursor.ready ≡ true → P
@@ -165,10 +166,10 @@ module _ {D : Type 0} (size : D → ℕ) (tells : D → Option (List ℕ)) (has_
     begun = λ ready. shut cursor (AllByRecursion (IsOf k.blocks k.kept) (k ∷ [])) o.ready ready;
   }
 
-  pub start_keeps : (old new : D) (end : ℕ) (cursor : CursorState) (restored : List Restored) (why : Stop) → OnlyRead size tells has_sectors leaves moment since faults old new → IsOpened end cursor restored
-      → ((image : List ℕ) → tells old ≡ Some image → IsStarted end image cursor restored why) → StartKeeps tells has_sectors leaves end old new cursor restored why
+  pub start_keeps : (old new : D) (end : ℕ) (reads : List DeviceCall) (cursor : CursorState) (restored : List Restored) (why : Stop) → OnlyRead size tells has_sectors leaves moment since faults old new → IsOpened end cursor restored
+      → ((image : List ℕ) → tells old ≡ Some image → IsStarted end image reads cursor restored why) → StartKeeps tells has_sectors leaves end old new cursor restored why
   unfolding unread_candidate walked_candidate
-  start_keeps old new end cursor restored why read o started = λ image sectors was only orderly.
+  start_keeps old new end reads cursor restored why read o started = λ image sectors was only orderly.
       elim (started image was) [
         | inl u ↦ (
           unread_candidate end image cursor restored why o,

@@ -1,17 +1,22 @@
 -- The steps of a walk.
-use Rattle.std.proofs.Common.{◌≡◌, ℕ, ◌+◌, ◌*◌, ◌≤◌, List, [], ◌∷◌, ◌++◌, length, map, reverse, take, drop, Bool, true, Option, Some, refl, inr, sym, ap, subst, ◌∙◌, append_assoc, length-append, length-drop, length-take, arith}
+use Rattle.std.proofs.Common.{◌≡◌, ℕ, ◌+◌, ◌*◌, ◌≤◌, List, [], ◌∷◌, ◌++◌, length, map, reverse, take, drop, Bool, true, Option, None, Some, Result, Ok, Err, refl, inl, inr, sym, ap, subst, ◌∙◌, append_assoc, length-append, length-drop, length-take, arith}
 use Rattle.std.specs.Option.{IfSome}
+use Rattle.std.specs.Prelude.{OnErr}
 use Rattle.std.specs.List.{All, AllByRecursion}
 use Rattle.std.proofs.lemmas.Bool.{and_parts}
-use Rattle.std.proofs.lemmas.List.{append-nil, reverse-append}
+use Rattle.std.proofs.lemmas.List.{append-nil, map-append, reverse-append}
 use Rattle.std.proofs.lemmas.List.Concat.{flat_map-append}
 use Rattle.std.proofs.lemmas.List.Elements.{All-from_recursion, recursion_from_All, All-same, All-append}
 use Rattle.blk_ptr.specs.Key.{IsWellFormed}
 use Rattle.vdev_io.specs.Faults.{Rose}
+use Rattle.vdev_io.specs.declared.device.CacheDev.{Ghosts}
+use Rattle.vdev_io.specs.Calls.{Gave, Read, DeviceCall, answered, MakesDeviceCalls}
+use Rattle.vdev_io.proofs.CallLemmas.{calls_behind}
 use Rattle.arc_core.specs.declared.served.Restored.{Restored}
+use Rattle.l2_dev.specs.Asking.{AreReads, end_reads, header_read, last_read, read_log, unread_answer, visit_read, walk_reads}
 use Rattle.l2_dev.specs.Cursor.{CursorState}
-use Rattle.l2_dev.specs.Rebuilding.{IsBuilt, IsStarted}
-use Rattle.l2_log.specs.Rules.{log_len}
+use Rattle.l2_dev.specs.Rebuilding.{IsBuilt, IsFresh, IsStarted}
+use Rattle.l2_log.specs.Rules.{header_len, log_len}
 use Rattle.l2_log.specs.declared.entry.Entry.{Entry}
 use Rattle.l2_log.specs.declared.pointer.LogPtr.{LogPtr}
 use Rattle.l2_log.specs.declared.log_block.LogBlock.{LogBlock}
@@ -27,7 +32,7 @@ use Rattle.l2_log.specs.declared.fault.LogFault.{LogFault}
 use Rattle.l2_log.specs.declared.fault.LogFault.TheVariants as fault
 use Rattle.blk_ptr.specs.Ptr.{sha256_of}
 use Rattle.l2_dev.specs.Chain.{Visit, IsStop, IsMisfit, IsBlockFault, bytes_at, IsPassed, IsHeld, IsLinked, IsReached, pointer_behind, numbers_in, ring_len}
-use Rattle.l2_dev.specs.Restoring.{written_in, told_by, is_valid, valid_of, found_in, firsts, restored_of, first_sector, IsHeaderOf}
+use Rattle.l2_dev.specs.Restoring.{IsUnread, written_in, told_by, is_valid, valid_of, found_in, firsts, restored_of, first_sector, IsHeaderOf}
 use Rattle.l2_dev.specs.ListLaws.{filter_all, all_passes, all_append, all_two, firsts_all}
 use Rattle.l2_dev.specs.Reading.{OnlyRead}
 use Rattle.l2_dev.specs.Walking.{EndsWith, HasCome, HasWalked, IsFit, IsVisited, visit_of}
@@ -85,47 +90,103 @@ refused_all image header walked ptr bytes (ends.Stop why) same reached t =
 refused_all image header walked ptr bytes ends.NoMemory same reached t = tt
 
 -- a walk that has visited nothing
-pub come_nowhere : (image : List ℕ) (header : DevHeader) → HasCome image header [] header.newest header.second 0 []
-come_nowhere image header = record {
+pub come_nowhere : (header : DevHeader) → HasCome header [] header.newest header.second 0 []
+come_nowhere header = record {
   linked = λ rest linked. linked;
   leads = λ rest. refl;
   passed = tt;
-  held = tt;
   bytes = refl;
   entries = refl;
 }
 
 -- a walk that visits one more log block
-pub come_further : (image : List ℕ) (header : DevHeader) (visits : List Visit) (ptr : LogPtr) (block : LogBlock) (next behind : Option LogPtr) (walked : ℕ) (found more : List Written)
-    → next ≡ Some ptr → HasCome image header visits next behind walked found → IsVisited image header (visit_of ptr block) → more ≡ found ++ valid_of (numbers_in header) (visit_of ptr block)
-    → HasCome image header (visits ++ visit_of ptr block ∷ []) behind block.prev (walked + log_len) more
-come_further image header visits ptr block next behind walked found more at come v grown =
+pub come_further : (header : DevHeader) (visits : List Visit) (ptr : LogPtr) (block : LogBlock) (next behind : Option LogPtr) (walked : ℕ) (found more : List Written)
+    → next ≡ Some ptr → HasCome header visits next behind walked found → IsPassed header (visit_of ptr block) → more ≡ found ++ valid_of (numbers_in header) (visit_of ptr block)
+    → HasCome header (visits ++ visit_of ptr block ∷ []) behind block.prev (walked + log_len) more
+come_further header visits ptr block next behind walked found more at come passed grown =
     let one : List Visit = visit_of ptr block ∷ [] in
     let len = length-append visits one in
     let bytes = come.bytes in
     record {
       linked = λ rest linked. subst (λ (vs : List Visit). IsLinked header.newest header.second vs) (sym (append_assoc visits one rest)) (come.linked (visit_of ptr block ∷ rest) (at, linked));
       leads = λ rest. ap (λ (vs : List Visit). pointer_behind header.newest header.second vs) (append_assoc visits one rest) ∙ come.leads (visit_of ptr block ∷ rest);
-      passed = all_append (IsPassed header) visits one come.passed (v.passed, tt);
-      held = all_append (IsHeld image) visits one come.held (v.held, tt);
+      passed = all_append (IsPassed header) visits one come.passed (passed, tt);
       bytes = omega (arith, len, bytes);
       entries = grown ∙ ap (λ (ws : List Written). ws ++ valid_of (numbers_in header) (visit_of ptr block)) come.entries
           ∙ ap (λ (ws : List Written). found_in (numbers_in header) visits ++ ws) (sym (append-nil (valid_of (numbers_in header) (visit_of ptr block))))
           ∙ sym (flat_map-append (valid_of (numbers_in header)) visits one);
     }
 
+-- it stands at its next pointer
+pub behind_visits : (header : DevHeader) (visits : List Visit) (next behind : Option LogPtr) (walked : ℕ) (found : List Written) → HasCome header visits next behind walked found
+    → pointer_behind header.newest header.second visits ≡ next
+behind_visits header visits next behind walked found come =
+    ap (λ (vs : List Visit). pointer_behind header.newest header.second vs) (sym (append-nil visits)) ∙ come.leads []
+
+-- the reads of a walk that went no further from there
+pub ended_reads : (header : DevHeader) (visits : List Visit) (next behind : Option LogPtr) (walked : ℕ) (found : List Written) (ptr : LogPtr) (e : WalkEnd) (why : Stop)
+    → HasCome header visits next behind walked found → next ≡ Some ptr → e ≡ ends.Stop why → map visit_read visits ++ end_reads ptr e ≡ walk_reads header visits why
+ended_reads header visits next behind walked found ptr e why come at is =
+    ap (λ (w : WalkEnd). map visit_read visits ++ end_reads ptr w) is
+    ∙ ap (λ (p : Option LogPtr). map visit_read visits ++ last_read why p) (sym (behind_visits header visits next behind walked found come ∙ at))
+
+-- the reads of a walk to the end of the chain
+pub whole_reads : (header : DevHeader) (visits : List Visit) → map visit_read visits ≡ walk_reads header visits stop.Zero
+whole_reads header visits = sym (append-nil (map visit_read visits))
+
+-- one log block more was read
+pub more_reads : (visits : List Visit) (v : Visit) → map visit_read visits ++ visit_read v ∷ [] ≡ map visit_read (visits ++ v ∷ [])
+more_reads visits v = sym (map-append visit_read visits (v ∷ []))
+
+-- what the bytes say by themselves is read
+pub block_reads : (ptr : LogPtr) (P : LogFault → Type 0) (e : WalkEnd) → EndsWith (λ why. (f : LogFault) × (why ≡ stop.Block f) × P f) e → end_reads ptr e ≡ read_log Gave ptr ∷ []
+block_reads ptr P (ends.Stop why) t = ap (λ (w : Stop). last_read w (Some ptr)) t.1
+block_reads ptr P ends.NoMemory t = refl
+
+reads_more : (at n : ℕ) (calls : List DeviceCall) → AreReads calls → AreReads (answered Gave (Read at n) ∷ calls)
+reads_more at n [] are = (at, n, refl)
+reads_more at n (call ∷ calls) are = ((at, n, refl), are)
+
+last_reads : (why : Stop) (pointer : Option LogPtr) → AreReads (last_read why pointer)
+last_reads (stop.Block fault) (Some ptr) = (ptr.place, log_len, refl)
+last_reads stop.DevFault (Some ptr) = (ptr.place, log_len, refl)
+last_reads (stop.Block fault) None = tt
+last_reads stop.DevFault None = tt
+last_reads stop.Zero pointer = tt
+last_reads (stop.Short len) pointer = tt
+last_reads (stop.Header fault) pointer = tt
+last_reads (stop.Outside place) pointer = tt
+last_reads (stop.Evicted place) pointer = tt
+last_reads (stop.Length bytes) pointer = tt
+
+visit_reads : (visits : List Visit) (calls : List DeviceCall) → AreReads calls → AreReads (map visit_read visits ++ calls)
+visit_reads [] calls are = are
+visit_reads (v ∷ visits) calls are = reads_more v.ptr.place log_len (map visit_read visits ++ calls) (visit_reads visits calls are)
+
+-- the reads of a walk, and with that of the header before them
+pub walk_are_reads : (header : DevHeader) (visits : List Visit) (why : Stop) → AreReads (walk_reads header visits why)
+walk_are_reads header visits why = visit_reads visits (last_read why (pointer_behind header.newest header.second visits)) (last_reads why (pointer_behind header.newest header.second visits))
+
+pub header_and_reads : (calls : List DeviceCall) → AreReads calls → AreReads (header_read Gave ∷ calls)
+header_and_reads calls are = reads_more 0 header_len calls are
+
+pub visits_are_reads : (visits : List Visit) → AreReads (map visit_read visits)
+visits_are_reads visits = subst (λ (calls : List DeviceCall). AreReads calls) (append-nil (map visit_read visits)) (visit_reads visits [] tt)
+
+pub end_are_reads : (visits : List Visit) (ptr : LogPtr) (e : WalkEnd) → AreReads (map visit_read visits ++ end_reads ptr e)
+end_are_reads visits ptr (ends.Stop why) = visit_reads visits (last_read why (Some ptr)) (last_reads why (Some ptr))
+end_are_reads visits ptr ends.NoMemory = visit_reads visits (read_log Gave ptr ∷ []) (ptr.place, log_len, refl)
+
 -- a walk that ends at its next pointer
 pub come_to_end : (image : List ℕ) (header : DevHeader) (visits : List Visit) (next behind : Option LogPtr) (walked : ℕ) (found : List Written) (why : Stop)
-    → walked ≤ ring_len header → HasCome image header visits next behind walked found → IsStop image header walked next why → HasWalked image header found why
-come_to_end image header visits next behind walked found why short come stops =
+    → walked ≤ ring_len header → HasCome header visits next behind walked found → AllByRecursion (IsHeld image) visits → IsStop image header walked next why → HasWalked image header visits found why
+come_to_end image header visits next behind walked found why short come held stops =
     let bytes = come.bytes in
-    let there : pointer_behind header.newest header.second visits ≡ next =
-    ap (λ (vs : List Visit). pointer_behind header.newest header.second vs) (sym (append-nil visits)) ∙ come.leads [] in (
-      visits,
+    let there : pointer_behind header.newest header.second visits ≡ next = behind_visits header visits next behind walked found come in (
       record {
         linked = subst (λ (vs : List Visit). IsLinked header.newest header.second vs) (append-nil visits) (come.linked [] tt);
         passed = come.passed;
-        held = come.held;
+        held = held;
         short = omega (arith, bytes);
         stops = subst (λ (p : Option LogPtr). IsStop image header (log_len * length visits) p why) (sym there) (subst (λ (n : ℕ). IsStop image header n next why) bytes stops);
       },
@@ -149,15 +210,22 @@ same_len n xs ys whole full =
 pub rose_from : (a b c : ℕ) → a ≤ b → Rose b c → Rose a c
 rose_from a b c le rose = omega (arith, rose)
 
+-- what a rebuild finds where no header was found
+pub started_bare : (end : ℕ) (image : List ℕ) (why told : Stop) (cursor : CursorState) (restored : List Restored) → IsUnread end image why → IsFresh end cursor → restored ≡ [] → told ≡ why
+    → IsStarted end image (header_read (unread_answer why) ∷ []) cursor restored told
+started_bare end image why told cursor restored unread fresh none same =
+    subst (λ (s : Stop). IsStarted end image (header_read (unread_answer why) ∷ []) cursor restored s) (sym same) (inl (unread, fresh, none, refl))
+
 -- what a rebuild finds along the chain of a header
-pub started_along : (end : ℕ) (image : List ℕ) (header : DevHeader) (found : List Written) (why : Stop) (cursor : CursorState) (restored : List Restored)
-    → IsHeaderOf end (first_sector image) header → HasWalked image header found why → IsBuilt header found cursor restored → IsStarted end image cursor restored why
-started_along end image header found why cursor restored named walked b =
-    let same : found ≡ found_in (numbers_in header) walked.0 = walked.2 in
+pub started_along : (end : ℕ) (image : List ℕ) (header : DevHeader) (visits : List Visit) (found : List Written) (why : Stop) (cursor : CursorState) (restored : List Restored)
+    → IsHeaderOf end (first_sector image) header → HasWalked image header visits found why → IsBuilt header found cursor restored
+    → IsStarted end image (header_read Gave ∷ walk_reads header visits why) cursor restored why
+started_along end image header visits found why cursor restored named walked b =
+    let same : found ≡ found_in (numbers_in header) visits = walked.1 in
     inr (
       header,
-      walked.0,
-      record { named = named; chain = walked.1; list = b.list ∙ ap (λ (ws : List Written). map restored_of (firsts ws)) same },
+      visits,
+      record { named = named; chain = walked.0; list = b.list ∙ ap (λ (ws : List Written). map restored_of (firsts ws)) same },
       record {
         end = b.end;
         numbers = b.numbers;
@@ -165,6 +233,7 @@ started_along end image header found why cursor restored named walked b =
         newest = b.newest;
         second = b.second;
       },
+      refl,
     )
 
 -- what is added to the ring is what was found, of each key the first, the last first
@@ -176,10 +245,11 @@ fit_live p q found first entries same is back fit =
 
 -- what a walk answers, from the step that ended it
 pub ended_chain : (image : List ℕ) (header : DevHeader) (visits : List Visit) (next behind : Option LogPtr) (walked : ℕ) (found told : List Written) (e : WalkEnd) (why : Stop)
-    → walked ≤ ring_len header → HasCome image header visits next behind walked found → EndsWith (IsStop image header walked next) e → e ≡ ends.Stop why → told ≡ found → HasWalked image header told why
-ended_chain image header visits next behind walked found told e why short come stops is same =
-    subst (λ (ws : List Written). HasWalked image header ws why) (sym same)
-    (come_to_end image header visits next behind walked found why short come (subst (λ (w : WalkEnd). EndsWith (IsStop image header walked next) w) is stops))
+    → walked ≤ ring_len header → HasCome header visits next behind walked found → AllByRecursion (IsHeld image) visits → EndsWith (IsStop image header walked next) e → e ≡ ends.Stop why → told ≡ found
+    → HasWalked image header visits told why
+ended_chain image header visits next behind walked found told e why short come held stops is same =
+    subst (λ (ws : List Written). HasWalked image header visits ws why) (sym same)
+    (come_to_end image header visits next behind walked found why short come held (subst (λ (w : WalkEnd). EndsWith (IsStop image header walked next) w) is stops))
 
 module _ {D : Type 0} (size : D → ℕ) (tells : D → Option (List ℕ)) (has_sectors : D → Bool) (leaves : D → List ℕ → Type 0) (moment : D → ℕ) (since : D → ℕ → List ℕ → Type 0) (faults : D → ℕ) where
   -- a device that was not touched
@@ -212,3 +282,15 @@ module _ {D : Type 0} (size : D → ℕ) (tells : D → Option (List ℕ)) (has_
         };
         faults = omega arith;
       }
+
+-- what was read, whatever was answered
+pub reads_err : {D T E : Type 0} (device : Ghosts D) (old new : D) (result : Result T E) (reads : List DeviceCall) → MakesDeviceCalls device reads old new → AreReads reads
+    → OnErr result ((calls : List DeviceCall) × MakesDeviceCalls device calls old new × AreReads calls)
+reads_err device old new (Ok value) reads made are = tt
+reads_err device old new (Err error) reads made are = (reads, made, are)
+
+-- one log block more was read, behind those that were
+pub visit_behind : {D : Type 0} (device : Ghosts D) (visits : List Visit) (v : Visit) (old mid new : D) → MakesDeviceCalls device (map visit_read visits) old mid → MakesDeviceCalls device (visit_read v ∷ []) mid new
+    → MakesDeviceCalls device (map visit_read (visits ++ v ∷ [])) old new
+visit_behind device visits v old mid new so_far read =
+    subst (λ (calls : List DeviceCall). MakesDeviceCalls device calls old new) (more_reads visits v) (calls_behind device (map visit_read visits) (visit_read v ∷ []) old mid new so_far read)

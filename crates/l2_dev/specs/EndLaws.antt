@@ -5,6 +5,7 @@ use Rattle.std.proofs.Common.{inl, inr, refl, sym, ap, subst, ◌∙◌, arith}
 use Rattle.std.proofs.lemmas.Bool.{false≢true}
 use Rattle.std.proofs.lemmas.List.{append-nil}
 use Rattle.std.specs.List.{AllByRecursion}
+use Rattle.vdev_io.specs.Calls.{DeviceCall}
 use Rattle.l2_log.specs.Rules.{log_len}
 use Rattle.l2_log.specs.LogBytes.{IsLogBlock}
 use Rattle.l2_log.specs.HeaderBytes.{IsHeader}
@@ -114,7 +115,7 @@ module _ (Made : LogBlock → Type 0) where
       subst (λ (h : DevHeader). EndsBehind Made (numbers_in h) h.newest h.second k.blocks) same
       (ends_at (numbers_from cursor) (numbers_in header) cursor.newest cursor.second header.newest header.second k.blocks (sym from.numbers) (sym from.newest) (sym from.second) ends)
 
-  all_ends : (a b : ℕ) (ks : List Candidate) → a ≡ b → AllByRecursion (EndsAt Made a) ks → AllByRecursion (EndsAt Made b) ks
+  pub all_ends : (a b : ℕ) (ks : List Candidate) → a ≡ b → AllByRecursion (EndsAt Made a) ks → AllByRecursion (EndsAt Made b) ks
   all_ends a b ks same all = subst (λ (e : ℕ). AllByRecursion (EndsAt Made e) ks) same all
 
   -- a hand further on keeps the ends
@@ -152,7 +153,7 @@ module _ (Made : LogBlock → Type 0) where
       let there : IsHeaderOf end k.sector header = subst (λ (s : List ℕ). IsHeaderOf end s header) left.sector is in
       (k.blocks, subst (λ (vs : List Visit). IsStanding header vs) (sym none.0) (nothing_stands header), left.blocks, at.made, at.ends header there)
 
-  made_among : (end : ℕ) (image : List ℕ) (ks : List Candidate) → AnyOf (IsLeftBy image) ks → AllByRecursion (IsCandidate end) ks → AllByRecursion (EndsAt Made end) ks → IsMade Made end image
+  pub made_among : (end : ℕ) (image : List ℕ) (ks : List Candidate) → AnyOf (IsLeftBy image) ks → AllByRecursion (IsCandidate end) ks → AllByRecursion (EndsAt Made end) ks → IsMade Made end image
   made_among end image [] any good ends = absurd any
   made_among end image (k ∷ ks) (inl here) good ends = made_one end image k here good.0 ends.0
   made_among end image (k ∷ ks) (inr there) good ends = made_among end image ks there good.1 ends.1
@@ -234,6 +235,26 @@ module _ (Made : LogBlock → Type 0) where
         let others : AllByRecursion (EndsAt Made after.ring.end) p.candidates = all_ends cursor.ring.end after.ring.end p.candidates (sym h.numbers.end) all.headers in
         (record { made = made; behind = behind; headers = (first, tt) }, record { made = made; behind = behind; headers = (first, others) })
 
+    -- the header of a commit ends as the list did before it
+    pub commit_header_ends : (old new : D) (cursor after : CursorState) (p : Promise) (v : Visit) (k : Candidate) → IsCommitBlock cursor v → Made v.block
+        → LeavesWith moment since (IsHeaderWith cursor v.ptr) after.ring.end old new p (v ∷ p.blocks) (p.pending ++ p.kept) p.kept k → AllEnd Made cursor p → EndsAt Made after.ring.end k
+    commit_header_ends old new cursor after p v k is made left all =
+        let hand : ℕ = cursor.ring.hand + log_len in
+        let numbers : Plan = with_hand (numbers_from cursor) hand in
+        let further : EndsBehind Made numbers cursor.newest cursor.second p.blocks = ends_further (numbers_from cursor) hand cursor.newest cursor.second p.blocks all.behind in
+        let behind : EndsBehind Made numbers cursor.newest v.block.prev p.blocks =
+        ends_at numbers numbers cursor.newest cursor.second cursor.newest v.block.prev p.blocks refl refl (sym is.prev) further in
+        let header : DevHeader = left.header in
+        let header_behind : EndsBehind Made (numbers_in header) header.newest header.second (v ∷ p.blocks) =
+        ends_at numbers (numbers_in header) cursor.newest v.block.prev header.second v.block.prev p.blocks (sym left.such.numbers) (sym left.such.second) refl behind in
+        record {
+          made = subst (λ (vs : List Visit). AreMade Made vs) (sym left.of.list) (made, all.made);
+          ends = λ other named.
+              let same : header ≡ other = same_header_of_bytes k.sector header other left.named.named.bytes named.bytes in
+              subst (λ (h : DevHeader). EndsBehind Made (numbers_in h) h.newest h.second k.blocks) same
+              (subst (λ (vs : List Visit). EndsBehind Made (numbers_in header) header.newest header.second vs) (sym left.of.list) header_behind);
+        }
+
     -- a commit keeps them, and its log block was written
     abbrev pub CommitEnds : Type 0
     CommitEnds = (old new : D) (cursor after : CursorState) (p : Promise) (v : Visit) (k : Candidate) → IsCommitBlock cursor v → Made v.block
@@ -247,16 +268,7 @@ module _ (Made : LogBlock → Type 0) where
         let further : EndsBehind Made numbers cursor.newest cursor.second p.blocks = ends_further (numbers_from cursor) hand cursor.newest cursor.second p.blocks all.behind in
         let behind : EndsBehind Made numbers cursor.newest v.block.prev p.blocks =
         ends_at numbers numbers cursor.newest cursor.second cursor.newest v.block.prev p.blocks refl refl (sym is.prev) further in
-        let header : DevHeader = left.header in
-        let header_behind : EndsBehind Made (numbers_in header) header.newest header.second (v ∷ p.blocks) =
-        ends_at numbers (numbers_in header) cursor.newest v.block.prev header.second v.block.prev p.blocks (sym left.such.numbers) (sym left.such.second) refl behind in
-        let first : EndsAt Made after.ring.end k = record {
-          made = subst (λ (vs : List Visit). AreMade Made vs) (sym left.of.list) (made, all.made);
-          ends = λ other named.
-              let same : header ≡ other = same_header_of_bytes k.sector header other left.named.named.bytes named.bytes in
-              subst (λ (h : DevHeader). EndsBehind Made (numbers_in h) h.newest h.second k.blocks) same
-              (subst (λ (vs : List Visit). EndsBehind Made (numbers_in header) header.newest header.second vs) (sym left.of.list) header_behind);
-        } in (
+        let first : EndsAt Made after.ring.end k = commit_header_ends old new cursor after p v k is made left all in (
           λ ptr h.
               let to : numbers ≡ numbers_from after = same_plan numbers (numbers_from after) (sym (h.base ∙ h.hand)) (sym h.evict) (sym h.top) (sym h.lap) in
               record {
@@ -305,8 +317,8 @@ module _ (Made : LogBlock → Type 0) where
 
   -- a start on an image that these calls made begins with ends, or has met two contents of one digest
   abbrev pub StartEnds : Type 0
-  StartEnds = (end : ℕ) (image : List ℕ) (cursor : CursorState) (restored : List Restored) (why : Stop) (k : Candidate) → IsMade Made end image → IsOpened end cursor restored
-      → IsStarted end image cursor restored why → IsStartOf end image restored why k → why ≢ stop.DevFault → AllEnd Made cursor (opening k) ⊎ HasCollision Made image
+  StartEnds = (end : ℕ) (image : List ℕ) (reads : List DeviceCall) (cursor : CursorState) (restored : List Restored) (why : Stop) (k : Candidate) → IsMade Made end image → IsOpened end cursor restored
+      → IsStarted end image reads cursor restored why → IsStartOf end image restored why k → why ≢ stop.DevFault → AllEnd Made cursor (opening k) ⊎ HasCollision Made image
 
   bare_ends : (end : ℕ) (image : List ℕ) (cursor : CursorState) (k : Candidate) (refusal : LogFault) → cursor.ring.end ≡ end → cursor.newest ≡ None → k.sector ≡ first_sector image → k.blocks ≡ []
       → IsRefused end (first_sector image) refusal → AllEnd Made cursor (opening k)
@@ -343,14 +355,14 @@ module _ (Made : LogBlock → Type 0) where
   }
 
   pub start_ends : StartEnds
-  start_ends end image cursor restored why k made opened (inl started) start well = elim started.0 [
+  start_ends end image reads cursor restored why k made opened (inl started) start well = elim started.0 [
     | inl failed ↦ absurd (well failed)
     | inr refused ↦ elim start.chain [
       | inl none ↦ inl (bare_ends end image cursor k refused.0 opened.ends started.1.newest start.sector none.1 refused.2)
       | inr walked ↦ absurd (not_refused end (first_sector image) walked.0 refused.0 walked.1 refused.2)
     ]
   ]
-  start_ends end image cursor restored why k made opened (inr started) start well = elim start.chain [
+  start_ends end image reads cursor restored why k made opened (inr started) start well = elim start.chain [
     | inl none ↦ elim none.0 [
       | inl failed ↦ absurd (well failed)
       | inr refused ↦ absurd (not_refused end (first_sector image) started.0 refused.0 started.2.named refused.2)

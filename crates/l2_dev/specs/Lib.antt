@@ -1,3 +1,4 @@
+pub mod Asking
 pub mod CallLaws
 pub mod Calls
 pub mod Chain
@@ -6,8 +7,10 @@ pub mod CommitLaws
 pub mod Cursor
 pub mod EndLaws
 pub mod Ends
+pub mod InsideLaws
 pub mod Lending
 pub mod ListLaws
+pub mod NewestLaws
 pub mod Planned
 pub mod Promise
 pub mod PromiseLaws

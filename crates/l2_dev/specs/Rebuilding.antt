@@ -3,6 +3,7 @@ use Rattle.std.specs.Prelude.{◌≡◌, ◌≢◌, ◌∷◌, ℕ, ◌*◌, ◌
 use Rattle.std.specs.List.{AllByRecursion}
 use Rattle.blk_ptr.specs.Size.{sector}
 use Rattle.blk_ptr.specs.Key.{IsWellFormed}
+use Rattle.vdev_io.specs.Calls.{DeviceCall, Gave}
 use Rattle.l2_log.specs.Rules.{ring_start}
 use Rattle.l2_log.specs.declared.header.DevHeader.{DevHeader}
 use Rattle.l2_ring.specs.declared.live.Written.{Written}
@@ -12,6 +13,7 @@ use Rattle.l2_dev.specs.declared.stop.Stop.{Stop}
 use Rattle.l2_dev.specs.Chain.{Visit, numbers_in}
 use Rattle.l2_dev.specs.Restoring.{IsUnread, IsWalked, firsts, found_in, restored_of}
 use Rattle.l2_dev.specs.Cursor.{CursorState}
+use Rattle.l2_dev.specs.Asking.{header_read, unread_answer, walk_reads}
 
 -- where the ring of a device of this many bytes ends: at its last whole sector
 abbrev pub ring_end_of : ℕ → ℕ
@@ -55,9 +57,11 @@ pub record IsAlong (header : DevHeader) (visits : List Visit) (cursor : CursorSt
   pub newest : cursor.newest ≡ header.newest
   pub second : cursor.second ≡ header.second
 
--- what a start finds on an image: no header, and then the ring is fresh and nothing is restored; or a header, and then the ring
--- is the header's, and what is restored stands along its chain
-abbrev pub IsStarted : ℕ → List ℕ → CursorState → List Restored → Stop → Type 0
-IsStarted end image cursor restored why =
-    (IsUnread end image why × IsFresh end cursor × (restored ≡ []))
-    ⊎ ((header : DevHeader) × (visits : List Visit) × IsWalked end image header visits restored why × IsAlong header visits cursor)
+-- What a start finds on an image by these reads, made one after another: no header, by one read, and then the ring is fresh and
+-- nothing is restored; or a header, and then the ring is the header's, and what is restored stands along the chain of the log
+-- blocks that were read.
+abbrev pub IsStarted : ℕ → List ℕ → List DeviceCall → CursorState → List Restored → Stop → Type 0
+IsStarted end image reads cursor restored why =
+    (IsUnread end image why × IsFresh end cursor × (restored ≡ []) × (reads ≡ header_read (unread_answer why) ∷ []))
+    ⊎ ((header : DevHeader) × (visits : List Visit) × IsWalked end image header visits restored why × IsAlong header visits cursor
+    × (reads ≡ header_read Gave ∷ walk_reads header visits why))

@@ -29,12 +29,11 @@ pub record IsFit (numbers : Plan) (written : Written) : Type 0 where
   pub stays : stays numbers written ≡ true
   pub formed : IsWellFormed written.live.key
 
--- a walk over the image has visited these log blocks, of so many bytes, and two pointers lead on from there
-pub record HasCome (image : List ℕ) (header : DevHeader) (visits : List Visit) (next behind : Option LogPtr) (walked : ℕ) (found : List Written) : Type 0 where
+-- a walk from the header has visited these log blocks, of so many bytes, and two pointers lead on from there
+pub record HasCome (header : DevHeader) (visits : List Visit) (next behind : Option LogPtr) (walked : ℕ) (found : List Written) : Type 0 where
   pub linked : (rest : List Visit) → IsLinked next behind rest → IsLinked header.newest header.second (visits ++ rest)
   pub leads : (rest : List Visit) → pointer_behind header.newest header.second (visits ++ rest) ≡ pointer_behind next behind rest
   pub passed : AllByRecursion (IsPassed header) visits
-  pub held : AllByRecursion (IsHeld image) visits
   pub bytes : walked ≡ log_len * length visits
   pub entries : found ≡ found_in (numbers_in header) visits
 
@@ -43,6 +42,6 @@ pub record IsVisited (image : List ℕ) (header : DevHeader) (visit : Visit) : T
   pub passed : IsPassed header visit
   pub held : IsHeld image visit
 
--- the walk along the chain of the header found these entries, and ended for this reason
-abbrev pub HasWalked : List ℕ → DevHeader → List Written → Stop → Type 0
-HasWalked image header found why = (visits : List Visit) × IsChain image header visits why × (found ≡ found_in (numbers_in header) visits)
+-- the walk along the chain of the header visited these log blocks, found these entries, and ended for this reason
+abbrev pub HasWalked : List ℕ → DevHeader → List Visit → List Written → Stop → Type 0
+HasWalked image header visits found why = IsChain image header visits why × (found ≡ found_in (numbers_in header) visits)

@@ -1,9 +1,11 @@
 //! The cache device: its writes, and what every crash leaves of it.
 ghost use Rattle.std.specs.Prelude.{◌≡◌, ℕ, List, ◌+◌, ◌<◌, ◌≤◌, ◌++◌, [], ◌∷◌, length, map, true, false, vec_len, vec_capacity, OnOk, OnErr, Ok, Some, IsErrOf, IfSome, MatchResult};
+ghost use Rattle.vdev_io.specs.Calls.{Write};
 ghost use Rattle.vdev_io.specs.Device.{put, IsWritten};
 ghost use Rattle.blk_ptr.specs.Ptr.{sha256_of};
 ghost use Rattle.l2_dev.specs.Steps.{Wrote, HeaderWritten};
 ghost use Rattle.l2_dev.specs.PromiseLaws.{IsHeaderFrom};
+ghost use Rattle.l2_dev.specs.Asking.{AsksFor, LogAsks};
 ghost use Rattle.l2_dev.specs.Calls.{HasDevCause, LogWritten};
 ghost use Rattle.l2_dev.specs.Planned.{HasPushed, IsReserved};
 ghost use Rattle.std.specs.List.{filter};
@@ -49,6 +51,7 @@ fn put_block<D: CacheDev>(
     ensures pushed { MatchResult result (λ _. HasPushed entry cursor.old cursor.new) (λ _. cursor.new ≡ cursor.old) }
     ensures size { D.size dev.new ≡ D.size dev.old }
     ensures cause { HasDevCause (D.faults dev.old) (D.faults dev.new) result }
+    ensures calls { AsksFor D.CacheDev (Write entry.place bytes.now ∷ []) (Write entry.place bytes.now ∷ []) dev.old dev.new result }
 {
     write_at(dev, entry.place, bytes)?;
     cursor.push(entry)?;
@@ -70,6 +73,7 @@ fn write_log<D: CacheDev>(
     ensures logged { LogWritten D.told D.has_sectors D.may_leave D.moment D.left_since cursor.old dev.old dev.new result }
     ensures size { D.size dev.new ≡ D.size dev.old }
     ensures cause { HasDevCause (D.faults dev.old) (D.faults dev.new) result }
+    ensures calls { (¬ IsErrOf result err.NoMemory) → LogAsks D.CacheDev cursor.old dev.old dev.new result }
 {
     let mut bytes = vec![in alloc; 0u8; LOG_LEN]?;
     cursor.reserve()?;
@@ -79,6 +83,7 @@ fn write_log<D: CacheDev>(
 }
 
 impl<D: CacheDev> L2Dev<D> {
+    ghost use Rattle.l2_dev.specs.Asking.{BeginAsks, CommitAsks};
     ghost use Rattle.l2_dev.specs.Calls.{BeginKeeps, PutKeeps, CommitKeeps, HasCommitWritten, IsCommitLeft};
     ghost use Rattle.l2_dev.specs.Cursor.{IsCursor};
     ghost use Rattle.l2_dev.specs.Planned.{HasPlanned, HasSettled, IsForgotten};
@@ -95,6 +100,7 @@ impl<D: CacheDev> L2Dev<D> {
         requires none { self.old.cursor.pending ≡ [] }
         ensures size { D.size self.new.dev ≡ D.size self.old.dev }
         ensures cause { HasDevCause (D.faults self.old.dev) (D.faults self.new.dev) result }
+        ensures calls { (¬ IsErrOf result err.NoMemory) → BeginAsks D.CacheDev self.new.cursor self.old.dev self.new.dev result }
         ensures refused { IsErrOf result err.NoMemory → (self.new.dev ≡ self.old.dev) × (self.new.cursor ≡ self.old.cursor) × (dropped.new.items ≡ dropped.old.items) }
         ensures planned { (¬ IsErrOf result err.NoMemory) → HasPlanned n self.old.cursor self.new.cursor }
         ensures dropped { (¬ IsErrOf result err.NoMemory) → (plan : _) × IsPlanFor self.old.cursor.ring n plan × (dropped.new.items ≡ dropped.old.items ++ map live_of (filter (falls plan) self.old.cursor.ring.live)) }
@@ -123,6 +129,7 @@ impl<D: CacheDev> L2Dev<D> {
         requires few { length self.old.cursor.pending < most_with true }
         ensures size { D.size self.new.dev ≡ D.size self.old.dev }
         ensures cause { HasDevCause (D.faults self.old.dev) (D.faults self.new.dev) result }
+        ensures calls { AsksFor D.CacheDev (Write self.old.cursor.ring.hand block.now ∷ []) (Write self.old.cursor.ring.hand block.now ∷ []) self.old.dev self.new.dev result }
         ensures place { MatchResult result (λ place. place ≡ self.old.cursor.ring.hand) (λ _. IsForgotten self.old.cursor self.new.cursor) }
         ensures written { IsWritten self.old.cursor.ring.hand block.now (D.told self.old.dev) (D.told self.new.dev) result }
         ensures pending { OnOk result ((entry : _) × (entry.key ≡ key) × (entry.place ≡ self.old.cursor.ring.hand) × (entry.digest ≡ Some (sha256_of block.now)) × HasPushed entry self.old.cursor self.new.cursor) }
@@ -150,6 +157,7 @@ impl<D: CacheDev> L2Dev<D> {
         requires some { 0 < length self.old.cursor.pending }
         ensures size { D.size self.new.dev ≡ D.size self.old.dev }
         ensures cause { HasDevCause (D.faults self.old.dev) (D.faults self.new.dev) result }
+        ensures calls { (¬ IsErrOf result err.NoMemory) → CommitAsks D.CacheDev self.old.cursor self.old.dev self.new.dev result }
         ensures settled { MatchResult result (λ _. (ptr : _) × HasSettled ptr self.old.cursor self.new.cursor × HasCommitWritten (D.told self.old.dev) (D.told self.new.dev) self.old.cursor ptr) (λ _. IsForgotten self.old.cursor self.new.cursor) }
         ensures refused { IsErrOf result err.NoMemory → self.new.dev ≡ self.old.dev }
         ensures left { IsErrOf result err.DevFault → IsCommitLeft (D.told self.old.dev) (D.told self.new.dev) self.old.cursor }

@@ -14,7 +14,10 @@ mod write;
 
 pub use device::L2Dev;
 pub use fault::DevErr;
-pub use laws::{lists_have_ends, more_is_a_collision, reads_keep_promises};
+pub use laws::{
+    crashes_inside_calls, lists_have_ends, more_is_a_collision, newest_is_restored,
+    reads_keep_promises,
+};
 pub use report::{FeedReport, FeedStop};
 pub use start::Started;
 pub use stop::Stop;

@@ -1,10 +1,12 @@
 //! What is found on a device again: its header, and the entries that the walk restores (`l2arc_rebuild`, `l2arc_dev_hdr_read` and
 //! `l2arc_log_blk_restore` of OpenZFS's `arc.c`).
-ghost use Rattle.std.specs.Prelude.{◌≡◌, ◌<◌, ◌≤◌, ◌⊎◌, ◌++◌, ℕ, [], List, length, map, reverse, Option, None, Some, IfOk, OnOk, IsErrOf, MatchResult};
+ghost use Rattle.std.specs.Prelude.{◌≡◌, ◌<◌, ◌≤◌, ◌⊎◌, ◌++◌, ◌∷◌, ℕ, [], List, length, map, reverse, Option, None, Some, IfOk, OnOk, OnErr, IsErrOf, MatchResult};
 ghost use Rattle.std.specs.List.{All};
+ghost use Rattle.vdev_io.specs.Calls.{DeviceCall, Gave, MakesDeviceCalls};
 ghost use Rattle.vdev_io.specs.Faults.{HasCause, Rose};
 ghost use Rattle.l2_log.specs.Rules.{header_len, IsRingEnd};
 ghost use Rattle.l2_ring.specs.Ring.{IsSameRing, numbers_of};
+ghost use Rattle.l2_dev.specs.Asking.{AreReads, header_read, unread_answer};
 ghost use Rattle.l2_dev.specs.Chain.{numbers_in};
 ghost use Rattle.l2_dev.specs.Restoring.{IsHeaderOf, IsUnread, first_sector, firsts, restored_of};
 ghost use Rattle.l2_dev.specs.Reading.{OnlyRead};
@@ -38,6 +40,7 @@ fn read_header<D: CacheDev>(dev: &mut D, end: u64) -> Result<DevHeader, Stop>
     ensures told { (image : List ℕ) → D.told dev.old ≡ Some image → MatchResult result (λ header. IsHeaderOf end (first_sector image) header) (λ stop. IsUnread end image stop) }
     ensures read { OnlyRead D.size D.told D.has_sectors D.may_leave D.moment D.left_since D.faults dev.old dev.new }
     ensures cause { IsErrOf result why.DevFault → Rose (D.faults dev.old) (D.faults dev.new) }
+    ensures call { MatchResult result (λ _. MakesDeviceCalls D.CacheDev (header_read Gave ∷ []) dev.old dev.new) (λ stop. MakesDeviceCalls D.CacheDev (header_read (unread_answer stop) ∷ []) dev.old dev.new) }
 {
     let mut sector = [0; HEADER_LEN];
     let Ok(()) = read_at(dev, 0, &mut sector) else {
@@ -141,7 +144,9 @@ pub(crate) fn rebuild<D: CacheDev>(
     requires inside { end ≤ D.size dev.old }
     ensures opened { IfOk result (λ r. IsOpened end r.cursor r.restored.items) }
     ensures keys { IfOk result (λ r. HaveKeys r.restored.items) }
-    ensures started { IfOk result (λ r. (image : List ℕ) → D.told dev.old ≡ Some image → IsStarted end image r.cursor r.restored.items r.stop) }
+    ensures started { IfOk result (λ r. (reads : List DeviceCall) × MakesDeviceCalls D.CacheDev reads dev.old dev.new
+        × ((image : List ℕ) → D.told dev.old ≡ Some image → IsStarted end image reads r.cursor r.restored.items r.stop)) }
+    ensures refused { OnErr result ((reads : List DeviceCall) × MakesDeviceCalls D.CacheDev reads dev.old dev.new × AreReads reads) }
     ensures read { OnlyRead D.size D.told D.has_sectors D.may_leave D.moment D.left_since D.faults dev.old dev.new }
     ensures cause { IfOk result (λ r. r.stop ≡ why.DevFault → Rose (D.faults dev.old) (D.faults dev.new)) }
 {

@@ -35,6 +35,8 @@ pub enum Started<D: CacheDev> {
 }
 
 impl<D: CacheDev> L2Dev<D> {
+    ghost use Rattle.vdev_io.specs.Calls.{DeviceCall, MakesDeviceCalls};
+    ghost use Rattle.l2_dev.specs.Asking.{AreReads};
     ghost use Rattle.l2_dev.specs.Reading.{OnlyRead};
     ghost use Rattle.l2_dev.specs.Restoring.{IsRebuilt};
     ghost use Rattle.l2_dev.specs.Rebuilding.{HaveKeys, IsOpened, IsStarted, ring_end_of};
@@ -45,11 +47,12 @@ impl<D: CacheDev> L2Dev<D> {
     pub fn start(alloc: Global, dev: D) -> Started<D>
         ensures short { OnShort result (λ d len. (d ≡ dev) × (len ≡ D.size dev) × (len < least_ring_end)) }
         ensures long { D.size dev < least_ring_end → IsShort result }
-        ensures refused { OnRefused result (λ d. OnlyRead D.size D.told D.has_sectors D.may_leave D.moment D.left_since D.faults dev d) }
+        ensures refused { OnRefused result (λ d. OnlyRead D.size D.told D.has_sectors D.may_leave D.moment D.left_since D.faults dev d × ((reads : List DeviceCall) × MakesDeviceCalls D.CacheDev reads dev d × AreReads reads)) }
         ensures read { OnReady result (λ l2 restored stop. OnlyRead D.size D.told D.has_sectors D.may_leave D.moment D.left_since D.faults dev l2.dev) }
         ensures opened { OnReady result (λ l2 restored stop. IsOpened (ring_end_of (D.size dev)) l2.cursor restored) }
         ensures keys { OnReady result (λ l2 restored stop. HaveKeys restored) }
-        ensures started { OnReady result (λ l2 restored stop. (image : List ℕ) → D.told dev ≡ Some image → IsStarted (ring_end_of (D.size dev)) image l2.cursor restored stop) }
+        ensures started { OnReady result (λ l2 restored stop. (reads : List DeviceCall) × MakesDeviceCalls D.CacheDev reads dev l2.dev
+            × ((image : List ℕ) → D.told dev ≡ Some image → IsStarted (ring_end_of (D.size dev)) image reads l2.cursor restored stop)) }
         ensures rebuilt { OnReady result (λ l2 restored stop. (image : List ℕ) → D.told dev ≡ Some image → IsRebuilt (ring_end_of (D.size dev)) image restored stop) }
         ensures cause { OnReady result (λ l2 restored stop. stop ≡ why.DevFault → Rose (D.faults dev) (D.faults l2.dev)) }
         ensures crash { OnReady result (λ l2 restored stop. StartKeeps D.told D.has_sectors D.may_leave (ring_end_of (D.size dev)) dev l2.dev l2.cursor restored stop) }

@@ -1,12 +1,14 @@
 //! The walk along the chain of log blocks, from the newest on (`l2arc_log_blkptr_valid` and `l2arc_log_blk_read` of OpenZFS's `arc.c`).
-ghost use Rattle.std.specs.Prelude.{◌≡◌, ◌≢◌, ℕ, ◌+◌, ◌≤◌, ◌++◌, List, length, Option, Some, Ok, IfOk, OnOk, IsErrOf, MatchResult, IsTrue, ◌↔◌};
+ghost use Rattle.std.specs.Prelude.{◌≡◌, ◌≢◌, ℕ, ◌+◌, ◌≤◌, ◌++◌, ◌∷◌, [], List, length, Option, Some, Ok, IfOk, IfErr, OnOk, OnErr, IsErrOf, MatchResult, IsTrue, ◌↔◌};
 ghost use Rattle.std.specs.List.{All};
 ghost use Rattle.blk_ptr.specs.Ptr.{sha256_of};
+ghost use Rattle.vdev_io.specs.Calls.{MakesDeviceCalls, Read, answer_of, answered};
 ghost use Rattle.vdev_io.specs.Faults.{HasCause, Rose};
 ghost use Rattle.l2_log.specs.Rules.{log_len};
 ghost use Rattle.l2_log.specs.LogBytes.{IsLogBlock};
 ghost use Rattle.l2_log.specs.declared.header.DevHeader.{DevHeader as Header};
-ghost use Rattle.l2_dev.specs.Chain.{IsInPart, IsInRing, IsReached, IsStop, IsBlockFault, IsMisfit, IsPassed, bytes_at, numbers_in, ring_len};
+ghost use Rattle.l2_dev.specs.Asking.{AreReads, end_reads, last_read, visit_read, walk_reads};
+ghost use Rattle.l2_dev.specs.Chain.{Visit, IsInPart, IsInRing, IsReached, IsStop, IsBlockFault, IsMisfit, IsPassed, bytes_at, numbers_in, ring_len};
 ghost use Rattle.l2_dev.specs.Restoring.{is_valid, valid_of, written_in};
 ghost use Rattle.l2_dev.specs.Reading.{OnlyRead};
 ghost use Rattle.l2_dev.specs.Walking.{EndsWith, HasWalked, IsFit, IsVisited, visit_of};
@@ -50,6 +52,7 @@ pub(crate) fn read_at<D: CacheDev>(dev: &mut D, offset: u64, buf: &mut [u8]) -> 
     ensures bytes { OnOk result ((image : List ℕ) → D.told dev.old ≡ Some image → buf.new ≡ bytes_at image offset (length buf.old)) }
     ensures read { OnlyRead D.size D.told D.has_sectors D.may_leave D.moment D.left_since D.faults dev.old dev.new }
     ensures cause { HasCause (D.faults dev.old) (D.faults dev.new) result }
+    ensures call { MakesDeviceCalls D.CacheDev (answered (answer_of result) (Read offset (length buf.old)) ∷ []) dev.old dev.new }
 {
     dev.read(offset, buf)
 }
@@ -69,6 +72,7 @@ fn reach(header: &DevHeader, walked: u64, ptr: LogPtr) -> Result<(), Stop>
     ensures reached { OnOk result (IsReached header.now walked ptr) }
     ensures stop { MatchResult result (λ _. IsReached header.now walked ptr) (λ stop. (image : List ℕ) → IsStop image header.now walked (Some ptr) stop) }
     ensures well { ¬ IsErrOf result why.DevFault }
+    ensures unread { IfErr result (λ stop. last_read stop (Some ptr) ≡ []) }
 {
     let place = ptr.place;
     let last = header.end - LOG_LEN as u64;
@@ -144,6 +148,8 @@ fn visit<D: CacheDev>(
     requires inside { header.now.end ≤ D.size dev.old }
     requires short { walked ≤ ring_len header.now }
     ensures reached { OnOk result (IsReached header.now walked ptr) }
+    ensures passed { IfOk result (λ block. IsPassed header.now (visit_of ptr block)) }
+    ensures reads { MatchResult result (λ block. MakesDeviceCalls D.CacheDev (visit_read (visit_of ptr block) ∷ []) dev.old dev.new) (λ end. MakesDeviceCalls D.CacheDev (end_reads ptr end) dev.old dev.new) }
     ensures told { (image : List ℕ) → D.told dev.old ≡ Some image → MatchResult result
         (λ block. IsVisited image header.now (visit_of ptr block))
         (EndsWith (IsStop image header.now walked (Some ptr))) }
@@ -217,7 +223,9 @@ pub(crate) fn walk<D: CacheDev>(
     header: &DevHeader,
 ) -> Result<Walked, NoMemory>
     requires { header.now.end ≤ D.size dev.old }
-    ensures chain { IfOk result (λ walked. (image : List ℕ) → D.told dev.old ≡ Some image → HasWalked image header.now walked.found.items walked.stop) }
+    ensures chain { IfOk result (λ walked. (visits : List Visit) × MakesDeviceCalls D.CacheDev (walk_reads header.now visits walked.stop) dev.old dev.new
+        × ((image : List ℕ) → D.told dev.old ≡ Some image → HasWalked image header.now visits walked.found.items walked.stop)) }
+    ensures refused { OnErr result ((reads : _) × MakesDeviceCalls D.CacheDev reads dev.old dev.new × AreReads reads) }
     ensures fit { IfOk result (λ walked. All (IsFit (numbers_in header.now)) walked.found.items) }
     ensures read { OnlyRead D.size D.told D.has_sectors D.may_leave D.moment D.left_since D.faults dev.old dev.new }
     ensures cause { IfOk result (λ walked. walked.stop ≡ why.DevFault → Rose (D.faults dev.old) (D.faults dev.new)) }

@@ -1,8 +1,11 @@
 //! Writes of the device.
-ghost use Rattle.std.specs.Prelude.{◌≡◌, ◌+◌, ◌≤◌, ℕ, List, length, OnOk, IfSome, Some};
+ghost use Rattle.std.specs.Prelude.{◌≡◌, ◌+◌, ◌≤◌, ◌∷◌, [], ℕ, List, length, OnOk, IfSome, Some};
 ghost use Rattle.vdev_io.specs.Faults.{HasCause};
+ghost use Rattle.vdev_io.specs.Calls.{Flush, MakesAsked, Write};
 ghost use Rattle.vdev_io.specs.Device.{put, IsWritten};
+ghost use Rattle.l2_log.specs.HeaderBytes.{IsHeader};
 ghost use Rattle.l2_log.specs.Rules.{header_len};
+ghost use Rattle.l2_dev.specs.Asking.{header_calls};
 ghost use Rattle.l2_dev.specs.Steps.{Wrote, HasFlushed, HeaderWritten};
 
 use l2_log::{DevHeader, HEADER_LEN};
@@ -16,6 +19,7 @@ pub(crate) fn write_at<D: CacheDev>(dev: &mut D, offset: u64, bytes: &[u8]) -> R
     ensures told { IsWritten offset bytes.now (D.told dev.old) (D.told dev.new) result }
     ensures size { D.size dev.new ≡ D.size dev.old }
     ensures cause { HasCause (D.faults dev.old) (D.faults dev.new) result }
+    ensures calls { MakesAsked D.CacheDev (Write offset bytes.now ∷ []) dev.old dev.new result }
 {
     dev.write(offset, bytes)
 }
@@ -32,6 +36,7 @@ pub(crate) fn write_through<D: CacheDev>(
     ensures told { IsWritten offset bytes.now (D.told dev.old) (D.told dev.new) result }
     ensures size { D.size dev.new ≡ D.size dev.old }
     ensures cause { HasCause (D.faults dev.old) (D.faults dev.new) result }
+    ensures calls { MakesAsked D.CacheDev (Write offset bytes.now ∷ Flush ∷ []) dev.old dev.new result }
 {
     write_at(dev, offset, bytes)?;
     dev.flush()
@@ -43,6 +48,7 @@ pub(crate) fn write_header<D: CacheDev>(dev: &mut D, header: &DevHeader) -> Resu
     ensures written { HeaderWritten D.told D.has_sectors D.may_leave D.moment D.left_since header.now dev.old dev.new result }
     ensures size { D.size dev.new ≡ D.size dev.old }
     ensures cause { HasCause (D.faults dev.old) (D.faults dev.new) result }
+    ensures calls { (sector : List ℕ) × IsHeader sector header.now × MakesAsked D.CacheDev (header_calls sector) dev.old dev.new result }
 {
     let mut sector = [0; HEADER_LEN];
     header.write(&mut sector);

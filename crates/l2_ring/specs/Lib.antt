@@ -1,5 +1,6 @@
 pub mod PlanLaws
 pub mod Queue
+pub mod RangeLaws
 pub mod Ranges
 pub mod Ring
 pub mod Stays

@@ -5,6 +5,7 @@
 //! mark and the top, in the upper part. Everything else is dead.
 #![tactic(auto)]
 
+mod laws;
 mod live;
 mod part;
 mod plan;
@@ -12,6 +13,7 @@ mod queue;
 mod ring;
 mod sift;
 
+pub use laws::{one_range_falls_together, plans_are_one};
 pub use live::{Live, Written};
 pub use part::Part;
 pub use plan::Plan;

@@ -19,3 +19,13 @@ returns-in_err-push-clause-written g c =
     rw e.1
     (written_torn (Unit {0}) Failed (Unit {0}) DevErr c.args.entry.place c.args.bytes.now (d.told c.args.dev.now) (d.told c.write_at.new.dev) _ _ (λ image told. let n = laws.told_len c.args.dev.now image told in omega (arith, n, c.requires.inside))
     c.in_ok-write_at.ensures.told)
+
+pub returns-in_err-write_at-clause-calls : goal.returns-in_err-write_at-clause-calls
+returns-in_err-write_at-clause-calls g c =
+    let p = err_from_is_err_and c.from_residual.result c.from_residual.ensures.1 in
+    rw (p.1, p.2) c.in_err-write_at.ensures.calls
+
+pub returns-in_err-push-clause-calls : goal.returns-in_err-push-clause-calls
+returns-in_err-push-clause-calls g c =
+    let p = err_from_is_err_and c.from_residual-in_err-push.result c.from_residual-in_err-push.ensures.1 in
+    rw (p.1, p.2) c.in_ok-write_at.ensures.calls

@@ -52,3 +52,24 @@ returns-clause-logged g c =
       (refl, rw (same, c.requires.at) at c.in_ok-write_through.ensures.done),
       written_ok (Unit {0}) Failed LogPtr DevErr c.args.cursor.now.ring.hand _ (d.told c.args.dev.now) (d.told c.write_through.new.dev) _ _ (rw (same, c.requires.at) at c.in_ok-write_through.ensures.told),
     )
+
+pub returns-in_err-write_through-clause-calls : goal.returns-in_err-write_through-clause-calls
+returns-in_err-write_through-clause-calls g c =
+    λ h.
+    let p = err_from_is_err_and c.from_residual-in_err-write_through.result c.from_residual-in_err-write_through.ensures.1 in
+    let b = c.write_block-ptr.ensures.block in
+    let whole = b.1.bytes_of.whole in
+    let long : length c.write_block-ptr.new.out ≡ c.in_ok-bytes.bytes.len = omega (arith, whole, c.in_ok-bytes.ensures.len) in
+    let same : c.deref.result.now ≡ c.write_block-ptr.new.out = c.deref.ensures.value ∙ take_at c.write_block-ptr.new.out _ c.in_ok-bytes.bytes.len long in
+    let of = block_of_reserved c.args.cursor.now c.reserve.new.self _ _ _ c.reserve.ensures.reserved b.1 in
+    rw p.1 (_, b.0, c.write_block-ptr.result, of, tt, rw (same, c.requires.at) at c.in_err-write_through.ensures.calls)
+
+pub returns-clause-calls : goal.returns-clause-calls
+returns-clause-calls g c =
+    λ h.
+    let b = c.write_block-ptr.ensures.block in
+    let whole = b.1.bytes_of.whole in
+    let long : length c.write_block-ptr.new.out ≡ c.in_ok-bytes.bytes.len = omega (arith, whole, c.in_ok-bytes.ensures.len) in
+    let same : c.deref.result.now ≡ c.write_block-ptr.new.out = c.deref.ensures.value ∙ take_at c.write_block-ptr.new.out _ c.in_ok-bytes.bytes.len long in
+    let of = block_of_reserved c.args.cursor.now c.reserve.new.self _ _ _ c.reserve.ensures.reserved b.1 in
+    (_, b.0, c.write_block-ptr.result, of, refl, rw (same, c.requires.at) at c.in_ok-write_through.ensures.calls)

@@ -1,7 +1,9 @@
-use Rattle.std.proofs.Common.{◌≡◌, ◌-◌, ◌≤◌, ℕ, List, length, Some}
-use Rattle.std.specs.List.{All}
+use Rattle.std.proofs.Common.{◌≡◌, ◌-◌, ◌≤◌, ℕ, List, length, map, Some}
+use Rattle.std.specs.List.{All, AllByRecursion}
+use Rattle.vdev_io.specs.Calls.{MakesDeviceCalls}
 use Rattle.l2_log.specs.Rules.{log_len}
-use Rattle.l2_dev.specs.Chain.{Visit, numbers_in, ring_len}
+use Rattle.l2_dev.specs.Asking.{visit_read}
+use Rattle.l2_dev.specs.Chain.{Visit, IsHeld, numbers_in, ring_len}
 use Rattle.l2_dev.specs.Reading.{OnlyRead}
 use Rattle.l2_dev.specs.Walking.{HasCome, IsFit}
 use Rattle.l2_dev.proofs.walk.walk.Given as goal
@@ -12,7 +14,8 @@ invariant-loop-next g l = record {
   len : length l.bytes.items ≡ log_len;
   short : l.walked ≤ ring_len l.header;
   fit : All (IsFit (numbers_in l.header)) l.found.items;
-  come : (image : List ℕ) → g.D.CacheDev.told l.initial.dev ≡ Some image → (visits : List Visit) × HasCome image l.header visits l.next l.behind l.walked l.found.items;
+  come : (visits : List Visit) × HasCome l.header visits l.next l.behind l.walked l.found.items × MakesDeviceCalls g.D.CacheDev (map visit_read visits) l.initial.dev l.dev
+      × ((image : List ℕ) → g.D.CacheDev.told l.initial.dev ≡ Some image → AllByRecursion (IsHeld image) visits);
 }
 
 abbrev pub decreases-loop-next : goal.decreases-loop-next

@@ -99,3 +99,22 @@ returns-clause-planned g c =
     λ h.
     let same = c.open.ensures.same in
     opened_planned c.args.n c.args.self.now.cursor c.take.new.self c.open.new.self (c.take.ensures.planned c.args.n c.room-plan.ensures.plan) same.0 same.1 same.2 same.3 same.4
+
+pub returns-in_err-write_header-clause-calls : goal.returns-in_err-write_header-clause-calls
+returns-in_err-write_header-clause-calls g c =
+    λ h.
+    let e = err_from_is_err_and c.from_residual-in_err-write_header.result c.from_residual-in_err-write_header.ensures.1 in
+    let w = c.in_err-write_header.ensures.calls in
+    rw e.1 (w.0, c.header-header.result, w.1, c.header-header.ensures.header, w.2)
+
+pub returns-clause-calls : goal.returns-clause-calls
+returns-clause-calls g c =
+    λ h.
+    let same = c.open.ensures.same in
+    let w = c.in_ok-write_header.ensures.calls in (
+      w.0,
+      c.header-header.result,
+      w.1,
+      opened_header c.take.new.self c.open.new.self c.header-header.result c.header-header.ensures.header same.0 same.1 same.2 same.3,
+      w.2,
+    )

@@ -1,5 +1,6 @@
 use Rattle.std.proofs.Common.{◌≡◌, ℕ, ◌++◌, ◌∷◌, inr, inl, sym, subst, arith}
-use Rattle.l2_dev.proofs.Commits.{log_failed, logged_of, commit_failed, commit_kept, header_reserved, forgotten_reserved, settled_from, commit_written, log_refused, log_left, header_left}
+use Rattle.l2_dev.proofs.Commits.{log_failed, logged_of, commit_failed, commit_kept, header_reserved, forgotten_reserved, settled_from, commit_written, log_refused, log_left, header_left, header_asks, log_asks_err, no_refusal, no_refusal_of}
+use Rattle.l2_log.specs.declared.pointer.LogPtr.{LogPtr}
 use Rattle.l2_dev.proofs.Puts.{forgotten_of}
 use Rattle.l2_dev.specs.Calls.{LeavesWith}
 use Rattle.l2_dev.specs.Planned.{IsHeaderWith}
@@ -116,3 +117,21 @@ returns-in-Err-write_header-clause-left g c =
     let d = g.D.CacheDev in
     header_left d.told d.has_sectors d.may_leave d.moment d.left_since c.args.self.now.dev c.write_log.new.dev c.write_header.new.dev c.args.self.now.cursor c.in-Ok.ptr c.header_with-header.result _
     c.in-Ok.ensures.logged c.in-Err-write_header.ensures.written
+
+pub returns-in-Err-clause-calls : goal.returns-in-Err-clause-calls
+returns-in-Err-clause-calls g c =
+    λ h. log_asks_err g.D.CacheDev (Unit {0}) c.args.self.now.dev c.write_log.new.dev c.args.self.now.cursor c.in-Err.fault h (c.in-Err.ensures.calls (no_refusal_of (Unit {0}) LogPtr c.in-Err.fault h))
+
+pub returns-in-Err-write_header-clause-calls : goal.returns-in-Err-write_header-clause-calls
+returns-in-Err-write_header-clause-calls g c =
+    λ h.
+    let w = c.in-Err-write_header.ensures.calls in
+    header_asks g.D.CacheDev c.args.self.now.dev c.write_log.new.dev c.write_header.new.dev c.args.self.now.cursor c.in-Ok.ptr c.header_with-header.result _ (c.in-Ok.ensures.calls (λ e. no_refusal c.in-Ok.ptr e))
+    (header_reserved c.args.self.now.cursor c.write_log.new.cursor c.in-Ok.ptr c.header_with-header.result c.write_log.ensures.cursor c.header_with-header.ensures.header) w.0 w.1 w.2
+
+pub returns-clause-calls : goal.returns-clause-calls
+returns-clause-calls g c =
+    λ h.
+    let w = c.in_default.ensures.calls in
+    header_asks g.D.CacheDev c.args.self.now.dev c.write_log.new.dev c.write_header.new.dev c.args.self.now.cursor c.in-Ok.ptr c.header_with-header.result _ (c.in-Ok.ensures.calls (λ e. no_refusal c.in-Ok.ptr e))
+    (header_reserved c.args.self.now.cursor c.write_log.new.cursor c.in-Ok.ptr c.header_with-header.result c.write_log.ensures.cursor c.header_with-header.ensures.header) w.0 w.1 w.2

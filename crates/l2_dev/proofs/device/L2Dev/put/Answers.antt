@@ -1,4 +1,5 @@
-use Rattle.std.proofs.Common.{◌≡◌, ℕ, List, length, Some, refl, ap, sym, subst, ◌∙◌, arith}
+use Rattle.std.proofs.Common.{◌≡◌, ℕ, List, [], ◌∷◌, length, Some, refl, ap, sym, subst, ◌∙◌, arith}
+use Rattle.vdev_io.specs.Calls.{Write}
 use Rattle.vdev_io.specs.Device.{put}
 use Rattle.blk_ptr.specs.declared.digest.Digest.{Digest}
 use Rattle.l2_log.specs.Rules.{header_len}
@@ -9,7 +10,7 @@ use Rattle.l2_dev.specs.Calls.{put_entry}
 use Rattle.l2_dev.specs.CallLaws.{ring_crash, ring_forgets, put_kept}
 use Rattle.l2_dev.specs.TornLaws.{EntriesAside}
 use Rattle.l2_dev.proofs.Begins.{flushed_of}
-use Rattle.l2_dev.proofs.Puts.{pending_aside, put_writes, put_of, forgotten_of, written_ok, written_err}
+use Rattle.l2_dev.proofs.Puts.{asks_err, pending_aside, put_writes, put_of, forgotten_of, written_ok, written_err}
 use Rattle.l2_dev.proofs.device.L2Dev.put.Goals as goal
 
 pub returns-in-Err-clause-crash : goal.returns-in-Err-clause-crash
@@ -87,3 +88,14 @@ returns-clause-written g c =
     let d = g.D.CacheDev in
     let at : c.hand-place.result ≡ c.args.self.now.cursor.ring.hand = c.hand-place.ensures.hand ∙ ap (λ (r : RingState). r.hand) c.ring.ensures.ring in
     written_ok (Unit {0}) DevErr ℕ DevErr c.args.self.now.cursor.ring.hand c.args.block.now (d.told c.args.self.now.dev) (d.told c.put_block.new.dev) _ _ (rw (at, c.bytes.ensures) at c.in_default.ensures.written)
+
+pub returns-in-Err-clause-calls : goal.returns-in-Err-clause-calls
+returns-in-Err-clause-calls g c =
+    let at : c.hand-place.result ≡ c.args.self.now.cursor.ring.hand = c.hand-place.ensures.hand ∙ ap (λ (r : RingState). r.hand) c.ring.ensures.ring in
+    asks_err (Unit {0}) ℕ g.D.CacheDev (Write c.hand-place.result c.bytes.result.now ∷ []) (Write c.args.self.now.cursor.ring.hand c.args.block.now ∷ []) c.args.self.now.dev c.put_block.new.dev c.in-Err.fault
+    (ap (λ (place : ℕ). Write place c.bytes.result.now ∷ []) at ∙ ap (λ (bytes : List ℕ). Write c.args.self.now.cursor.ring.hand bytes ∷ []) c.bytes.ensures) c.in-Err.ensures.calls
+
+pub returns-clause-calls : goal.returns-clause-calls
+returns-clause-calls g c =
+    let at : c.hand-place.result ≡ c.args.self.now.cursor.ring.hand = c.hand-place.ensures.hand ∙ ap (λ (r : RingState). r.hand) c.ring.ensures.ring in
+    rw (at, c.bytes.ensures) at c.in_default.ensures.calls
