@@ -1,12 +1,12 @@
 -- What a pool is once forks of it were taken back, and what it counts then.
-use Rattle.std.proofs.Common.{◌≡◌, ℕ, zero, suc, ◌+◌, ◌*◌, ◌<◌, ◌≤◌, ◌^◌, List, [], min, ◌∷◌, ◌++◌, length, get_or, refl, sym, ap, ◌∙◌, subst, arith}
+use Rattle.std.proofs.Common.{◌≡◌, ℕ, zero, suc, ◌+◌, ◌*◌, ◌<◌, ◌≤◌, ◌^◌, List, [], ◌∷◌, ◌++◌, length, get_or, refl, sym, ap, ◌∙◌, subst, arith}
 use Rattle.std.specs.Prelude.{sum_by}
 use Rattle.std.specs.List.{AllByRecursion}
 use Rattle.std.proofs.lemmas.List.Sums.{count_by-le-length, sum_by-cons}
 use Rattle.vdev_io.specs.declared.pool.Pool.{Ghosts}
-use Rattle.vdev_io.specs.Faults.{last_count}
+use Rattle.vdev_io.specs.Faults.{last_count, sum_of_counts}
 use Rattle.vdev_io.specs.Calls.{KeepsPool, MakesCalls, Call, is_failed}
-use Rattle.trace_run.specs.Callers.{AbsorbsAll}
+use Rattle.trace_run.specs.Callers.{Absorbs, AbsorbsAll}
 use Rattle.trace_run.specs.Group.{IsFork, LeavesPool}
 use Rattle.trace_run.specs.Together.{over_callers}
 use Rattle.trace_run.proofs.RunLemmas.{calls-faults, calls-reads}
@@ -53,24 +53,29 @@ module _ {P : Type 0} (pools : Ghosts P) where
 
   -- ---- what it counts
 
-  pub absorbed-reads : (forks : List P) (old new : P) → AbsorbsAll pools forks old new → pools.reads old + sum_by pools.reads forks ≤ last_count → pools.reads new ≡ pools.reads old + sum_by pools.reads forks
-  absorbed-reads [] old new is room = let same : pools.reads new ≡ pools.reads old = ap (λ (p : P). pools.reads p) is in omega arith
-  absorbed-reads (fork ∷ forks) old new did room =
-      let sum : sum_by pools.reads (fork ∷ forks) ≡ pools.reads fork + sum_by pools.reads forks = sum_by-cons pools.reads fork forks in
-      let one : pools.reads did.0 ≡ pools.reads old + pools.reads fork = omega (arith, did.1.reads, sum, room) in
-      omega (arith, sum, one, absorbed-reads forks did.0 new did.2 (omega (arith, sum, one, room)))
+  -- where there is room, a count is the sum of what was counted
+  absorbed-count : (count : P → ℕ) → ((fork old new : P) → Absorbs pools fork old new → count new ≡ sum_of_counts (count old) (count fork)) → (forks : List P) (old new : P) → AbsorbsAll pools forks old new
+      → count old + sum_by count forks ≤ last_count → count new ≡ count old + sum_by count forks
+  absorbed-count count sums [] old new is room = let same : count new ≡ count old = ap count is in omega arith
+  absorbed-count count sums (fork ∷ forks) old new did room =
+      let sum : sum_by count (fork ∷ forks) ≡ count fork + sum_by count forks = sum_by-cons count fork forks in
+      let one : count did.0 ≡ count old + count fork = omega (arith, sums fork old did.0 did.1, sum, room) in
+      omega (arith, sum, one, absorbed-count count sums forks did.0 new did.2 (omega (arith, sum, one, room)))
 
-  -- whatever room there was, the count of faults is their sum, as far as a count goes
-  pub absorbed-most : (forks : List P) (old new : P) → AbsorbsAll pools forks old new → min (pools.faults old + sum_by pools.faults forks) last_count ≤ pools.faults new
-  absorbed-most [] old new is = let same : pools.faults new ≡ pools.faults old = ap (λ (p : P). pools.faults p) is in let none : sum_by pools.faults [] ≡ 0 = refl in omega arith
-  absorbed-most (fork ∷ forks) old new did =
-      let sum : sum_by pools.faults (fork ∷ forks) ≡ pools.faults fork + sum_by pools.faults forks = sum_by-cons pools.faults fork forks in
-      omega (arith, sum, did.1.faults, absorbed-most forks did.0 new did.2)
+  pub absorbed-reads : (forks : List P) (old new : P) → AbsorbsAll pools forks old new → pools.reads old + sum_by pools.reads forks ≤ last_count → pools.reads new ≡ pools.reads old + sum_by pools.reads forks
+  absorbed-reads = absorbed-count pools.reads (λ fork old new one. one.reads)
+
+  pub absorbed-faults : (forks : List P) (old new : P) → AbsorbsAll pools forks old new → pools.faults old + sum_by pools.faults forks ≤ last_count → pools.faults new ≡ pools.faults old + sum_by pools.faults forks
+  absorbed-faults = absorbed-count pools.faults (λ fork old new one. one.faults)
 
   -- forks that counted nothing
   pub fresh-reads : (pool : P) (forks : List P) → AllByRecursion (IsFork pools pool) forks → sum_by pools.reads forks ≡ 0
   fresh-reads pool [] all = refl
   fresh-reads pool (fork ∷ forks) all = omega (arith, sum_by-cons pools.reads fork forks, all.0.reads, fresh-reads pool forks all.1)
+
+  pub fresh-faults : (pool : P) (forks : List P) → AllByRecursion (IsFork pools pool) forks → sum_by pools.faults forks ≡ 0
+  fresh-faults pool [] all = refl
+  fresh-faults pool (fork ∷ forks) all = omega (arith, sum_by-cons pools.faults fork forks, all.0.faults, fresh-faults pool forks all.1)
 
   -- a fork was read at most as often as there were calls
   pub few-counts : (calls : List Call) (fork done : P) → pools.reads fork ≡ 0 → pools.faults fork ≡ 0 → MakesCalls pools calls fork done → (most : ℕ) → length calls ≤ most → most ≤ last_count

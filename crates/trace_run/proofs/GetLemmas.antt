@@ -209,9 +209,9 @@ module _ {C P D : Type 0} (m : Meanings C) (cache : Cache) (pools : PoolGhosts P
         key = held-lists.1.key
 
         go : (f : Served) → PoolDid pools ptr before.pool now.pool (Ok (gave.Held hold f)) → IsGot (pools.told before.pool) block ptr (record { served = f; read = record { block = block; kept = Held hold } })
-        go served.Hit d = record { read = read-of (pools.told before.pool) ptr hold.block.value d.1; range = λ none. absurd none; kept = ap (λ (k : Key). kept_read block (Some k)) key }
-        go served.L2 d = record { read = read-of (pools.told before.pool) ptr hold.block.value d.1; range = λ none. absurd none; kept = ap (λ (k : Key). kept_read block (Some k)) key }
-        go served.Pool d = record { read = read-of (pools.told before.pool) ptr hold.block.value d.of; range = λ from_pool. d.told; kept = ap (λ (k : Key). kept_read block (Some k)) key }
+        go served.Hit d = record { read = read-of (pools.told before.pool) ptr served.Hit hold.block.value d.1 (λ none. absurd none); kept = ap (λ (k : Key). kept_read block (Some k)) key }
+        go served.L2 d = record { read = read-of (pools.told before.pool) ptr served.L2 hold.block.value d.1 (λ none. absurd none); kept = ap (λ (k : Key). kept_read block (Some k)) key }
+        go served.Pool d = record { read = read-of (pools.told before.pool) ptr served.Pool hold.block.value d.of (λ from_pool. d.told); kept = ap (λ (k : Key). kept_read block (Some k)) key }
         go served.Past d = absurd d
 
   pub past-stands : Lists [] p q → (b : KeptBlock) → listed_for b.kept ≡ [] → IsOwnedBy p.number b.kept → Stands cache q (kept ++ b ∷ [])

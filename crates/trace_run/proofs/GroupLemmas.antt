@@ -29,7 +29,7 @@ use Rattle.trace_run.specs.OneCaller.{kept_after, kept_after_all}
 use Rattle.trace_run.specs.Tally.{AreAnswered}
 use Rattle.arc_table.specs.Told.{IsTold}
 use Rattle.trace_run.specs.Together.{over_callers}
-use Rattle.trace_run.proofs.AbsorbLemmas.{absorbed-leaves, absorbed-most, absorbed-reads, few-counts, over-sum, sum-few}
+use Rattle.trace_run.proofs.AbsorbLemmas.{absorbed-leaves, absorbed-faults, absorbed-reads, few-counts, over-sum, sum-few}
 use Rattle.trace_run.proofs.LinesLemmas.{lines-calls, lines-kept, lines-told}
 use Rattle.trace_run.proofs.RunLemmas.{calls-few}
 
@@ -231,6 +231,7 @@ module _ {C P : Type 0} (cache : Cache) (pools : Ghosts P) (blocks : List Ptr) (
       let counts = λ (n : ℕ) (lt : n < length ps). few n (get_or (map pool_of olds) n old) (get_or dones n old) old (each n lt).0 (each n lt).1 short (fork n lt) (each n lt).4 in
       let reads = sum-few pools.reads dones old (λ k lt. (counts k (omega (arith, lt, long))).0) in
       let all_reads : over_callers (length ps) (λ n. pools.reads (get_or dones n old)) ≡ sum_by pools.reads dones = ap (λ (l : ℕ). over_callers l (λ n. pools.reads (get_or dones n old))) (sym long) ∙ over-sum pools.reads dones old in
+      let faults = sum-few pools.faults dones old (λ k lt. (counts k (omega (arith, lt, long))).1) in
       let all_faults : over_callers (length ps) (λ n. pools.faults (get_or dones n old)) ≡ sum_by pools.faults dones = ap (λ (l : ℕ). over_callers l (λ n. pools.faults (get_or dones n old))) (sym long) ∙ over-sum pools.faults dones old in
       record {
         replied = gone.0 ∙ (same ∙ many);
@@ -240,6 +241,6 @@ module _ {C P : Type 0} (cache : Cache) (pools : Ghosts P) (blocks : List Ptr) (
         fresh = fork;
         each = each;
         reads = λ room. omega (arith, all_reads, absorbed-reads pools dones old new absorbs (omega (arith, room, reads, long, few_callers)));
-        faults = omega (arith, all_faults, absorbed-most pools dones old new absorbs);
+        faults = λ room. omega (arith, all_faults, absorbed-faults pools dones old new absorbs (omega (arith, room, faults, long, few_callers)));
         keeps = absorbed-leaves pools dones old new absorbs;
       }

@@ -306,12 +306,12 @@ module _ {C P : Type 0} (cache : Cache) (pools : Ghosts P) (before middle after 
   all-done-faults = over-same callers (λ n. pools.faults (ran.worked.done n)) (λ n. of-caller is_pool_fault callers n trace.ops replies) done-faults
       ∙ over-replies is_pool_fault callers trace.ops replies long (all-callers trace formed)
 
-  module _ (reads : pools.reads before < 2 ^ 63 → pools.reads middle ≡ pools.reads before) where
+  module _ (reads : pools.reads before < 2 ^ 63 → pools.reads middle ≡ pools.reads before) (unfailed : pools.faults middle ≡ pools.faults before) where
     reads-then : pools.reads before < 2 ^ 63 → pools.reads after ≡ pools.reads before + over_callers callers (λ n. pools.reads (ran.worked.done n))
     reads-then room = let same = reads room in omega (arith, same, ran.worked.reads (omega (arith, same, room)))
 
-    faults-then : pools.faults before < 2 ^ 63 → pools.faults before + over_callers callers (λ n. pools.faults (ran.worked.done n)) ≤ pools.faults after
-    faults-then room = omega (arith, room, keeps.faults, ran.worked.faults, all-done-faults, count_by-le-length is_pool_fault replies, long, formed.few_ops)
+    faults-then : pools.faults before < 2 ^ 63 → pools.faults after ≡ pools.faults before + over_callers callers (λ n. pools.faults (ran.worked.done n))
+    faults-then room = omega (arith, unfailed, ran.worked.faults (omega (arith, unfailed, room)))
 
     pub group-together : RanTogether pools before after trace false replies closed
     group-together = record {

@@ -30,7 +30,8 @@ use Rattle.trace_run.specs.OneCaller.{IsFoundAs, NamesSource, events_of, events_
 use Rattle.trace_run.specs.PlainLines.{IsNext}
 use Rattle.trace_run.specs.PlainReport.{IsPlainReply, ShowsCollision}
 use Rattle.trace_run.specs.PlainRun.{refused_access, reply_to, reply_to_read, reply_unless}
-use Rattle.trace_run.specs.Reads.{CameFromPool, IsFromPool}
+use Rattle.trace_run.specs.Read.{IsFromPool}
+use Rattle.trace_run.specs.Reads.{CameFromPool}
 use Rattle.trace_run.specs.Answering.{ShowsRange}
 use Rattle.trace_run.specs.Tally.{AnswersNow}
 use Rattle.trace_run.proofs.CacheLemmas.{access-hit}

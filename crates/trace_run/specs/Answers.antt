@@ -43,14 +43,14 @@ IsWindowRefusal pool_len image ptr window (NoHold block) = ⊥
 abbrev pub AnswersRead : ℕ → Option (List ℕ) → Ptr → Window → Reply → Type 0
 AnswersRead pool_len image ptr window (Read served digest shown) =
     IsInside window ptr.key.size × IsValid pool_len ptr.key × (digest ≡ ptr.digest)
-    × ((bytes : List ℕ) × IsReadOf image ptr bytes × (shown ≡ window_of window bytes))
+    × ((bytes : List ℕ) × IsReadOf image ptr served bytes × (shown ≡ window_of window bytes))
 AnswersRead pool_len image ptr window (Refused refusal) = IsWindowRefusal pool_len image ptr window refusal
 AnswersRead pool_len image ptr window (Kept served) = ⊥
 AnswersRead pool_len image ptr window Dropped = ⊥
 
 -- the answers to a read that is kept: one that is answered has the bytes of its block, though it shows none
 abbrev pub AnswersHold : ℕ → Option (List ℕ) → Ptr → Reply → Type 0
-AnswersHold pool_len image ptr (Kept served) = IsValid pool_len ptr.key × ((bytes : List ℕ) × IsReadOf image ptr bytes)
+AnswersHold pool_len image ptr (Kept served) = IsValid pool_len ptr.key × ((bytes : List ℕ) × IsReadOf image ptr served bytes)
 AnswersHold pool_len image ptr (Refused refusal) = IsReadRefusal pool_len image ptr refusal
 AnswersHold pool_len image ptr (Read served digest shown) = ⊥
 AnswersHold pool_len image ptr Dropped = ⊥

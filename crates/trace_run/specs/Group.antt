@@ -52,5 +52,5 @@ pub record HaveWorked {C P : Type 0} (cache : Cache) (pools : Ghosts P) (blocks 
   pub each : (n : ℕ) → n < callers → (rs : List Reply) × (p : Place (Known C)) × (get_elem? replies n ≡ some rs) × (get_elem? ps n ≡ some p)
       × HasWorked cache pools blocks ops n (forks n) (done n) rs p
   pub reads : pools.reads before < 2 ^ 63 → pools.reads after ≡ pools.reads before + over_callers callers (λ n. pools.reads (done n))
-  pub faults : min (pools.faults before + over_callers callers (λ n. pools.faults (done n))) last_count ≤ pools.faults after
+  pub faults : pools.faults before < 2 ^ 63 → pools.faults after ≡ pools.faults before + over_callers callers (λ n. pools.faults (done n))
   pub keeps : LeavesPool pools before after

@@ -43,6 +43,6 @@ pub record RanTogether {C P : Type 0} (pools : Ghosts P) (before after : P) (tra
   pub answers : AnswersAll (pools.size before) (pools.told before) trace.blocks (answered_ops trace fork_failed) replies
   pub explained : Explain trace replies (ends_in closed) (histories_of closed)
   pub reads : pools.reads before < 2 ^ 63 → pools.reads after ≡ pools.reads before + sum_by pool_reads (histories_of closed)
-  pub faults : pools.faults before < 2 ^ 63 → pools.faults before + faults_told fork_failed replies ≤ pools.faults after
+  pub faults : pools.faults before < 2 ^ 63 → pools.faults after ≡ pools.faults before + faults_told fork_failed replies
   pub together : fork_failed ≡ false → RunsTogether pools before after trace (report_of_closed fork_failed replies closed)
   pub failed : fork_failed ≡ true → Rose (pools.faults before) (pools.faults after)

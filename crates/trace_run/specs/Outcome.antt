@@ -22,7 +22,7 @@ use Rattle.trace_text.specs.Generator.{generated_block, generated_read, generate
 use Rattle.trace_run.specs.Answers.{AnswersAll}
 use Rattle.trace_run.specs.Explaining.{Explain, RunsAlone}
 use Rattle.trace_run.specs.PlainRun.{report_of}
-use Rattle.trace_run.specs.States.{Handed, StreamState}
+use Rattle.trace_run.specs.States.{Handed, NoneFailed, OneFailed, StreamState}
 use Rattle.trace_run.specs.Stream.{Gives, AppendsFront, TakesAtMost}
 use Rattle.trace_run.specs.Together.{RunsTogether, TellsClosed, answered_ops, faults_told, report_status}
 use Rattle.trace_run.specs.Words.{IsCommand, IsFirstWrong}
@@ -38,27 +38,29 @@ AnswersWords words did statuses.SinkFault = (command : Command) × IsCommand wor
 AnswersWords words did statuses.PoolFault = (command : Command) × IsCommand words command × did command
 AnswersWords words did statuses.NoMemory = (command : Command) × IsCommand words command × did command
 
--- The source gave a text, all that it had as far as it tells, and the text is this trace.
+-- The source gave a text, all that it had as far as it tells, by calls of which none failed, and the text is this trace.
 pub record WasRead (before after : StreamState) (trace : Trace) : Type 0 where
   pub text : List ℕ
   pub given : Gives before.told after.told longest_text text
+  pub unfailed : NoneFailed before after
   pub is_trace : IsTraceText text trace
 
--- The source was read, to its end or past the longest text, and this is the first fault of what it gave.
+-- The source was read, to its end or past the longest text, by calls of which none failed, and this is the first fault of what it gave.
 pub record IsBadTrace (before after : StreamState) (line : ℕ) (kind : Kind) : Type 0 where
   pub text : List ℕ
   pub given : Gives before.told after.told longest_text text
+  pub unfailed : NoneFailed before after
   pub fault : IsFirstFault text line kind
 
 -- Each operation that was answered has its answer, and the histories, which are those of the closed cache, explain the replies and the reads of
--- the pool; its faults rose at least once for each reply that says so, and once more where a fork failed, where each count had room. With one
+-- the pool; its faults rose by one for each reply that says so, and by one more where a fork failed, where each count had room. With one
 -- caller the report is a plain function; with several, each reads the pool through a fork of its own.
 pub record IsRun {C P : Type 0} (pool : Ghosts P) (before after : P) (trace : Trace) (fork_failed : Bool) (closed : Ended C) (report : Report) : Type 0 where
   pub answers : AnswersAll (pool.size before) (pool.told before) trace.blocks (answered_ops trace fork_failed) report.replies
   pub explained : Explain trace report.replies report.ends report.histories
   pub tells : TellsClosed closed report
   pub reads : pool.reads before < 2 ^ 63 → pool.reads after ≡ pool.reads before + sum_by pool_reads report.histories
-  pub faults : pool.faults before < 2 ^ 63 → pool.faults before + faults_told fork_failed report.replies ≤ pool.faults after
+  pub faults : pool.faults before < 2 ^ 63 → pool.faults after ≡ pool.faults before + faults_told fork_failed report.replies
   pub alone : trace.config.callers ≡ 1 → (fork_failed ≡ false) × RunsAlone pool before after trace report
   pub together : 2 ≤ trace.config.callers → fork_failed ≡ false → RunsTogether pool before after trace report
   pub failed : fork_failed ≡ true → Rose (pool.faults before) (pool.faults after)
@@ -115,25 +117,25 @@ ran statuses.SinkFault = true
 ran statuses.PoolFault = true
 ran statuses.NoMemory = true
 
--- what a source must have done for a status
+-- what a source must have done for a status: one call of it failed where that is told, and none else
 abbrev pub AnswersSource : StreamState → StreamState → Status → Type 0
 AnswersSource before after (statuses.BadTrace line kind) = IsBadTrace before after line kind
-AnswersSource before after statuses.SourceFault = Rose before.faults after.faults
-AnswersSource before after statuses.Ok = Unit {0}
-AnswersSource before after statuses.ReadsFailed = Unit {0}
-AnswersSource before after (statuses.Usage index) = Unit {0}
-AnswersSource before after statuses.SinkFault = Unit {0}
-AnswersSource before after statuses.PoolFault = Unit {0}
-AnswersSource before after statuses.NoMemory = Unit {0}
+AnswersSource before after statuses.SourceFault = OneFailed before after
+AnswersSource before after statuses.Ok = NoneFailed before after
+AnswersSource before after statuses.ReadsFailed = NoneFailed before after
+AnswersSource before after (statuses.Usage index) = NoneFailed before after
+AnswersSource before after statuses.SinkFault = NoneFailed before after
+AnswersSource before after statuses.PoolFault = NoneFailed before after
+AnswersSource before after statuses.NoMemory = NoneFailed before after
 
 -- What was written behind what the sink had: the report's text where the status is the report's, a front of it where the sink
--- failed, and else nothing. The text has the events where they are asked for.
+-- failed, and else nothing. The text has the events where they are asked for. One call of the sink failed where that is told, and none else.
 abbrev pub AnswersSink : Bool → StreamState → StreamState → Status → Option Report → Type 0
-AnswersSink events before after statuses.Ok (Some report) = Appends before.told after.told (text_of report events) × (report.status ≡ 0)
-AnswersSink events before after statuses.ReadsFailed (Some report) = Appends before.told after.told (text_of report events) × (report.status ≡ 1)
-AnswersSink events before after statuses.PoolFault (Some report) = Appends before.told after.told (text_of report events) × (report.status ≡ 6)
+AnswersSink events before after statuses.Ok (Some report) = Appends before.told after.told (text_of report events) × (report.status ≡ 0) × NoneFailed before after
+AnswersSink events before after statuses.ReadsFailed (Some report) = Appends before.told after.told (text_of report events) × (report.status ≡ 1) × NoneFailed before after
+AnswersSink events before after statuses.PoolFault (Some report) = Appends before.told after.told (text_of report events) × (report.status ≡ 6) × NoneFailed before after
 AnswersSink events before after statuses.SinkFault (Some report) =
-    AppendsFront before.told after.told (text_of report events) × Rose before.faults after.faults
+    AppendsFront before.told after.told (text_of report events) × OneFailed before after
 AnswersSink events before after statuses.Ok None = after ≡ before
 AnswersSink events before after statuses.ReadsFailed None = after ≡ before
 AnswersSink events before after statuses.PoolFault None = after ≡ before
@@ -143,42 +145,45 @@ AnswersSink events before after (statuses.BadTrace line kind) report = after ≡
 AnswersSink events before after statuses.SourceFault report = after ≡ before
 AnswersSink events before after statuses.NoMemory report = after ≡ before
 
--- The source gave a text, all that it had as far as it tells, and the text is these pages.
+-- The source gave a text, all that it had as far as it tells, by calls of which none failed, and the text is these pages.
 pub record WerePagesRead (before after : StreamState) (pages : List ℕ) : Type 0 where
   pub text : List ℕ
   pub given : Gives before.told after.told longest_text text
+  pub unfailed : NoneFailed before after
   pub are_pages : IsPageText text pages
 
--- The source was read, to its end or past the longest text, and this is the first fault of what it gave.
+-- The source was read, to its end or past the longest text, by calls of which none failed, and this is the first fault of what it gave.
 pub record AreBadPages (before after : StreamState) (line : ℕ) (kind : Kind) : Type 0 where
   pub text : List ℕ
   pub given : Gives before.told after.told longest_text text
+  pub unfailed : NoneFailed before after
   pub fault : IsFirstPageFault text line kind
 
 -- what a source must have done for a status at which no pages were read
 abbrev pub AnswersPageSource : StreamState → StreamState → Status → Type 0
 AnswersPageSource before after (statuses.BadTrace line kind) = AreBadPages before after line kind
-AnswersPageSource before after statuses.SourceFault = Rose before.faults after.faults
-AnswersPageSource before after statuses.Ok = Unit {0}
-AnswersPageSource before after statuses.ReadsFailed = Unit {0}
-AnswersPageSource before after (statuses.Usage index) = Unit {0}
-AnswersPageSource before after statuses.SinkFault = Unit {0}
-AnswersPageSource before after statuses.PoolFault = Unit {0}
-AnswersPageSource before after statuses.NoMemory = Unit {0}
+AnswersPageSource before after statuses.SourceFault = OneFailed before after
+AnswersPageSource before after statuses.Ok = NoneFailed before after
+AnswersPageSource before after statuses.ReadsFailed = NoneFailed before after
+AnswersPageSource before after (statuses.Usage index) = NoneFailed before after
+AnswersPageSource before after statuses.SinkFault = NoneFailed before after
+AnswersPageSource before after statuses.PoolFault = NoneFailed before after
+AnswersPageSource before after statuses.NoMemory = NoneFailed before after
 
 -- What was read and written for a list of pages, with room for c of them: the text of the pages, a front of it where the sink failed,
 -- and else nothing.
 abbrev pub AnswersPages : ℕ → (source_before source_after sink_before sink_after : StreamState) → Status → Type 0
 AnswersPages c source_before source_after sink_before sink_after statuses.Ok =
     (pages : List ℕ) × WerePagesRead source_before source_after pages × Appends sink_before.told sink_after.told (paper_text_of c pages)
+    × NoneFailed sink_before sink_after
 AnswersPages c source_before source_after sink_before sink_after statuses.SinkFault =
     (pages : List ℕ) × WerePagesRead source_before source_after pages × AppendsFront sink_before.told sink_after.told (paper_text_of c pages)
-    × Rose sink_before.faults sink_after.faults
+    × OneFailed sink_before sink_after
 AnswersPages c source_before source_after sink_before sink_after (statuses.BadTrace line kind) =
     AreBadPages source_before source_after line kind × (sink_after ≡ sink_before)
 AnswersPages c source_before source_after sink_before sink_after statuses.SourceFault =
-    Rose source_before.faults source_after.faults × (sink_after ≡ sink_before)
-AnswersPages c source_before source_after sink_before sink_after statuses.NoMemory = sink_after ≡ sink_before
+    OneFailed source_before source_after × (sink_after ≡ sink_before)
+AnswersPages c source_before source_after sink_before sink_after statuses.NoMemory = NoneFailed source_before source_after × (sink_after ≡ sink_before)
 AnswersPages c source_before source_after sink_before sink_after statuses.ReadsFailed = ⊥
 AnswersPages c source_before source_after sink_before sink_after statuses.PoolFault = ⊥
 AnswersPages c source_before source_after sink_before sink_after (statuses.Usage index) = ⊥

@@ -1,9 +1,8 @@
 -- What a read through the shared cache comes to for a caller between its lines.
-use Rattle.std.specs.Prelude.{◌≡◌, ℕ, List, [], ◌∷◌, ◌++◌, IfSome, Option, Result, Ok, Err}
+use Rattle.std.specs.Prelude.{◌≡◌, ℕ, List, [], ◌∷◌, ◌++◌, Option, Result, Ok, Err}
 use Rattle.blk_ptr.specs.declared.ptr.Ptr.{Ptr}
 use Rattle.blk_ptr.specs.Hash.{shard_of}
 use Rattle.blk_ptr.specs.Key.{IsValid, IsFirstFault}
-use Rattle.blk_ptr.specs.Ptr.{range_of}
 use Rattle.arc_core.specs.declared.config.Config.{Config}
 use Rattle.arc_core.specs.declared.event.Event.{Event}
 use Rattle.arc_core.specs.declared.served.ReadFault.{ReadFault}
@@ -28,7 +27,7 @@ use Rattle.arc_table.specs.Telling.{opening_of}
 use Rattle.trace_run.specs.KeptBlocks.{read_of}
 use Rattle.trace_run.specs.OneCaller.{key_held_by}
 use Rattle.trace_run.specs.KeptReads.{kept_read}
-use Rattle.trace_run.specs.Read.{IsMismatch, IsReadOf}
+use Rattle.trace_run.specs.Read.{IsFromPool, IsMismatch, IsReadOf}
 use Rattle.arc_table.specs.Seen.{AddsAll, AddsOwn, HasAll, seen_of}
 use Rattle.arc_table.specs.Told.{IsTold}
 
@@ -83,13 +82,6 @@ abbrev pub kept_then : List KeptBlock → Result Got ReadFault → List KeptBloc
 kept_then kept (Ok got) = kept ++ got.read ∷ []
 kept_then kept (Err why) = kept
 
--- the bytes came from the pool in this call
-abbrev pub IsFromPool : Served → Type 0
-IsFromPool served.Hit = ⊥
-IsFromPool served.L2 = ⊥
-IsFromPool served.Pool = Unit {0}
-IsFromPool served.Past = Unit {0}
-
 -- the bytes that a reply tells of came from the pool in this call
 abbrev pub CameFromPool : Effect → Type 0
 CameFromPool (Answered from) = IsFromPool from
@@ -97,11 +89,9 @@ CameFromPool GivenBack = ⊥
 CameFromPool (PoolRefused call) = ⊥
 CameFromPool NoEffect = ⊥
 
--- What was got: a read of this block, whose bytes are of the pointer. Over a pool that tells its bytes they are those in the key's range,
--- where they came from there in this call, and else those of a plain read unless two contents share a digest.
+-- what was got: a read of this block, with the bytes that it may give
 pub record IsGot (image : Option (List ℕ)) (block : ℕ) (ptr : Ptr) (got : Got) : Type 0 where
-  pub read : IsReadOf image ptr (bytes_of got.read.kept)
-  pub range : IsFromPool got.served → IfSome image (λ told. bytes_of got.read.kept ≡ range_of told ptr.key)
+  pub read : IsReadOf image ptr got.served (bytes_of got.read.kept)
   pub kept : read_of got.read ≡ kept_read block (key_held_by ptr got.served)
 
 -- why nothing was got

@@ -1,5 +1,6 @@
 -- What a source and a sink are for a run, and all that was handed in.
-use Rattle.std.specs.Prelude.{ℕ, List, Option}
+use Rattle.std.specs.Prelude.{◌≡◌, ℕ, List, Option}
+use Rattle.vdev_io.specs.Faults.{CountsOne}
 use Rattle.vdev_io.specs.declared.sink.Sink.{Ghosts as SinkGhosts}
 use Rattle.vdev_io.specs.declared.source.Source.{Ghosts as SourceGhosts}
 
@@ -13,6 +14,13 @@ source_state members source = record { told = members.left source; faults = memb
 
 abbrev pub sink_state : {K : Type 0} → SinkGhosts K → K → StreamState
 sink_state members sink = record { told = members.written sink; faults = members.faults sink }
+
+-- no call of the stream failed; and one did, which was counted where a count has room for it
+abbrev pub NoneFailed : StreamState → StreamState → Type 0
+NoneFailed before after = after.faults ≡ before.faults
+
+abbrev pub OneFailed : StreamState → StreamState → Type 0
+OneFailed before after = CountsOne before.faults after.faults
 
 -- a source, a sink and a pool at one moment
 pub record Handed (P : Type 0) : Type 0 where

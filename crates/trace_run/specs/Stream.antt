@@ -1,6 +1,9 @@
 -- What was read of a source, and what was written to a sink.
-use Rattle.std.specs.Prelude.{◌≡◌, ℕ, ◌+◌, ◌≤◌, List, ◌++◌, length, take, Option}
+use Rattle.std.specs.Prelude.{◌≡◌, ℕ, ◌+◌, ◌≤◌, List, ◌++◌, length, take, Option, Result, Ok, Err}
 use Rattle.std.specs.Io.KnownBytes.{Appends, Consumes, IsAtEnd}
+use Rattle.vdev_io.specs.Faults.{CountsOne}
+use Rattle.trace_run.specs.declared.stream.ReadAllFault.{ReadAllFault}
+use Rattle.trace_run.specs.declared.stream.ReadAllFault.TheVariants.{NoMemory, SourceFault}
 
 -- The source gave this text. It was read to its end, unless the text is longer than it may be; then it is by one byte.
 pub record Gives (before after : Option (List ℕ)) (most : ℕ) (text : List ℕ) : Type 0 where
@@ -27,3 +30,9 @@ pub record GivesPiece (before after : Option (List ℕ)) (old new : List ℕ) (n
   pub appended : new ≡ old ++ piece
   pub consumed : Consumes before after piece
   pub ended : n ≡ 0 → IsAtEnd after
+
+-- one more fault of the source was counted where the reading ended by one, and none else
+abbrev pub CountsReading : {T : Type 0} → (before now : ℕ) → Result T ReadAllFault → Type 0
+CountsReading before now (Ok value) = now ≡ before
+CountsReading before now (Err NoMemory) = now ≡ before
+CountsReading before now (Err SourceFault) = CountsOne before now

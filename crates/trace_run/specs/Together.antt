@@ -73,6 +73,6 @@ pub record RunsTogether {P : Type 0} (pool : Ghosts P) (before after : P) (trace
   pub fresh : (n : ℕ) → n < trace.config.callers → (pool.reads (forks n) ≡ 0) × (pool.faults (forks n) ≡ 0)
   pub works : (n : ℕ) → n < trace.config.callers → Works pool n trace.ops report.replies (forks n) (done n)
   pub reads : pool.reads before < 2 ^ 63 → pool.reads after ≡ pool.reads before + over_callers trace.config.callers (λ n. pool.reads (done n))
-  pub faults : pool.faults before < 2 ^ 63 → pool.faults before + over_callers trace.config.callers (λ n. pool.faults (done n)) ≤ pool.faults after
+  pub faults : pool.faults before < 2 ^ 63 → pool.faults after ≡ pool.faults before + over_callers trace.config.callers (λ n. pool.faults (done n))
   -- each caller's reads of its fork are those that its events stand for
   pub counted : (n : ℕ) → n < trace.config.callers → length (calls_of_all (replies_of_caller n trace.ops report.replies)) ≡ reads_of_caller n report.histories

@@ -1,11 +1,11 @@
 //! The work of several callers at once, each by its own lines, with its own party and its own fork of the pool.
-ghost use Rattle.std.specs.Prelude.{All, ◌≡◌, ◌<◌, ◌≤◌, ◌^◌, ◌++◌, ◌∷◌, [], IfOk, IsErrOf, List, OnErr, OnOk, length, map, vec_len};
+ghost use Rattle.std.specs.Prelude.{All, ◌≡◌, ◌<◌, ◌≤◌, ◌+◌, ◌^◌, ◌++◌, ◌∷◌, [], IfOk, IsErrOf, List, OnErr, OnOk, length, map, vec_len};
 ghost use Rattle.std.specs.List.{AllByRecursion, AllZip};
 ghost use Rattle.vdev_io.specs.Calls.{KeepsPool};
 ghost use Rattle.arc_table.specs.declared.view.Known.{Known};
 ghost use Rattle.turn_table.specs.Places.{Place};
 ghost use Rattle.trace_text.specs.declared.reply.Reply.{Reply};
-ghost use Rattle.vdev_io.specs.Faults.{HasIoCause, Rose};
+ghost use Rattle.vdev_io.specs.Faults.{CountsIoFault, Rose};
 ghost use Rattle.vdev_io.specs.declared.fault.IoFault.{IoFault};
 ghost use Rattle.trace_run.specs.Callers.{Absorbs, AbsorbsAll, AllGaveBack, AreAtStart, AreEnlisted, GaveBack, HasTried, IsReady, MayGiveBack};
 ghost use Rattle.trace_run.specs.Group.{HaveWorked, IsFork, LeavesPool};
@@ -59,7 +59,7 @@ fn one_fork<P: Pool>(alloc: Global, pool: &mut P, forks: &mut Vec<P>) -> Result<
     ensures none { OnErr result (forks.new.items ≡ forks.old.items) }
     ensures pool { KeepsPool P.Pool pool.old pool.new }
     ensures reads { P.reads pool.new ≡ P.reads pool.old }
-    ensures cause { HasIoCause (P.faults pool.old) (P.faults pool.new) result }
+    ensures faults { CountsIoFault (P.faults pool.old) (P.faults pool.new) result }
 {
     let fork = pool.fork(alloc)?;
     match forks.push(fork) {
@@ -69,13 +69,15 @@ fn one_fork<P: Pool>(alloc: Global, pool: &mut P, forks: &mut Vec<P>) -> Result<
 }
 
 /// A fork of a pool for each of so many callers. Where one can't be made, those that were are taken back, and only the pool's count of faults
-/// has changed.
+/// has changed: it has one more where the pool failed, which is asked no more then.
 pub(crate) fn forks<P: Pool>(alloc: Global, pool: &mut P, callers: u32) -> Result<Vec<P>, IoFault>
     ensures forks { IfOk result (λ forks. AllByRecursion (IsFork P.Pool pool.new) forks.items) }
     ensures count { IfOk result (λ forks. vec_len forks ≡ callers) }
     ensures pool { LeavesPool P.Pool pool.old pool.new }
     ensures keeps { OnOk result (KeepsPool P.Pool pool.old pool.new) }
     ensures reads { P.reads pool.old < 2 ^ 63 → P.reads pool.new ≡ P.reads pool.old }
+    ensures unfailed { OnOk result (P.faults pool.new ≡ P.faults pool.old) }
+    ensures failed { IsErrOf result IoFault.Failed → P.faults pool.old < 2 ^ 63 → P.faults pool.new ≡ P.faults pool.old + 1 }
     ensures rose { IsErrOf result IoFault.Failed → Rose (P.faults pool.old) (P.faults pool.new) }
 {
     let mut forks = Vec::new(alloc);

@@ -1,8 +1,8 @@
 //! All of a source, and all of a text to a sink.
-ghost use Rattle.std.specs.Prelude.{◌≡◌, ◌≤◌, ◌+◌, ◌^◌, ◌<◌, Err, length, IfOk, OnOk, OnErr};
+ghost use Rattle.std.specs.Prelude.{◌≡◌, ◌≤◌, ◌+◌, ◌^◌, ◌<◌, length, IfOk, OnOk};
 ghost use Rattle.std.specs.Io.KnownBytes.{Appends};
-ghost use Rattle.vdev_io.specs.Faults.{Rose};
-ghost use Rattle.trace_run.specs.Stream.{Gives, GivesPiece, AppendsFront, TakesAtMost};
+ghost use Rattle.vdev_io.specs.Faults.{CountsFault};
+ghost use Rattle.trace_run.specs.Stream.{Gives, GivesPiece, AppendsFront, CountsReading, TakesAtMost};
 
 use std::alloc::{AllocError, Global};
 use vdev_io::{Failed, Sink, Source};
@@ -41,7 +41,7 @@ impl From<Failed> for ReadAllFault {
     }
 }
 
-/// Reads a source to its end, or up to the first byte past `most`. However it ends, no more was taken.
+/// Reads a source to its end, or up to the first byte past `most`. However it ends, no more was taken, and the first call that fails is the last.
 pub(crate) fn read_all<S: Source>(
     alloc: Global,
     source: &mut S,
@@ -50,8 +50,7 @@ pub(crate) fn read_all<S: Source>(
     requires { most < 2 ^ 32 }
     ensures took { TakesAtMost (S.left source.old) (S.left source.new) (most + 1) }
     ensures ok { IfOk result (λ text. Gives (S.left source.old) (S.left source.new) most text.items) }
-    ensures failed { result ≡ Err ReadAllFault.SourceFault → Rose (S.faults source.old) (S.faults source.new) }
-    ensures never_falls { S.faults source.old ≤ S.faults source.new }
+    ensures faults { CountsReading (S.faults source.old) (S.faults source.new) result }
 {
     let mut text = Vec::new(alloc);
     let mut piece = Vec::new(alloc);
@@ -75,20 +74,18 @@ fn read_piece<S: Source>(
     ensures took { TakesAtMost (S.left source.old) (S.left source.new) (length piece.old) }
     ensures read { IfOk result (GivesPiece (S.left source.old) (S.left source.new) text.old.items text.new.items) }
     ensures bound { IfOk result (λ n. n ≤ length piece.old) }
-    ensures failed { result ≡ Err ReadAllFault.SourceFault → Rose (S.faults source.old) (S.faults source.new) }
-    ensures never_falls { S.faults source.old ≤ S.faults source.new }
+    ensures faults { CountsReading (S.faults source.old) (S.faults source.new) result }
 {
     let n = source.read(piece)?;
     text.extend_from_slice(&piece[..n])?;
     Ok(n)
 }
 
-/// Writes all of a text.
+/// Writes all of a text, or a front of it where a call of the sink fails, which is the last one.
 pub(crate) fn write_all<K: Sink>(sink: &mut K, text: &[u8]) -> Result<(), Failed>
     ensures ok { OnOk result (Appends (K.written sink.old) (K.written sink.new) text.now) }
-    ensures failed { OnErr result (Rose (K.faults sink.old) (K.faults sink.new)) }
+    ensures faults { CountsFault (K.faults sink.old) (K.faults sink.new) result }
     ensures front { AppendsFront (K.written sink.old) (K.written sink.new) text.now }
-    ensures never_falls { K.faults sink.old ≤ K.faults sink.new }
 {
     let mut at = 0;
     while at < text.len() {

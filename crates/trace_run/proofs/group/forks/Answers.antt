@@ -1,15 +1,25 @@
-use Rattle.std.proofs.Common.{◌≡◌, ℕ, ◌+◌, [], ◌∷◌, List, length, length-append, refl, sym, ap, ◌∙◌, subst, arith}
-use Rattle.std.specs.Prelude.{Err, IsErrOf, Result, sum_by}
+use Rattle.std.proofs.Common.{◌≡◌, ℕ, ◌+◌, ◌≤◌, [], ◌∷◌, List, length, length-append, refl, sym, ap, ◌∙◌, subst, arith, inl, inr, min}
+use Rattle.std.proofs.lemmas.Bool.{cases_lt}
+use Rattle.std.specs.Prelude.{Err, IsErrOf, sum_by}
 use Rattle.std.specs.List.{AllByRecursion}
+use Rattle.vdev_io.specs.Faults.{CountsIoFault, CountsOne, Rose, last_count}
+use Rattle.vdev_io.specs.declared.fault.IoFault.{IoFault}
 use Rattle.vdev_io.specs.declared.fault.IoFault.TheVariants.{Failed}
 use Rattle.trace_run.specs.Group.{IsFork}
-use Rattle.trace_run.proofs.AbsorbLemmas.{absorbed-leaves, absorbed-reads, forks-moved, fresh-reads, fresh-then, kept-leaves}
+use Rattle.trace_run.proofs.AbsorbLemmas.{absorbed-faults, absorbed-leaves, absorbed-reads, forks-moved, fresh-faults, fresh-reads, fresh-then, kept-leaves}
 use Rattle.trace_run.proofs.RunLemmas.{keeps-then}
 use Rattle.trace_run.proofs.group.forks.Goals as goal
 
--- an error is the same error of another result
-moved : {T U E : Type 0} (e f : E) → IsErrOf {T = T} {E = E} (Err e) f → IsErrOf {T = U} {E = E} (Err e) f
-moved {T} {U} {E} e f is = let same : e ≡ f = cc in ap (λ (x : E). let r : Result U E = Err x in r) same
+-- a fork that failed was counted once
+failed-one : {T : Type 0} (before now : ℕ) (fault : IoFault) → IsErrOf {T = T} {E = IoFault} (Err fault) Failed → CountsIoFault {T = Unit {0}} before now (Err fault) → CountsOne before now
+failed-one before now fault is counts = let same : fault ≡ Failed = cc in subst (λ (e : IoFault). CountsIoFault {T = Unit {0}} before now (Err e)) same counts
+
+-- a count that rose by one has risen, also where forks were taken back since
+rose-once : (start before failed later : ℕ) → before ≡ start → CountsOne before failed → min failed last_count ≤ later → Rose start later
+rose-once start before failed later same one least = elim (cases_lt before last_count) [
+  | inl low ↦ omega (arith, same, one.more low, least)
+  | inr high ↦ omega (arith, same, one.full high, high, least)
+]
 
 pub loop-preserved : goal.loop-preserved
 loop-preserved g c =
@@ -19,6 +29,7 @@ loop-preserved g c =
     record {
       keeps = keeps-then pools c.args.pool.now c.loop.pool c.one_fork.new.pool before.keeps c.one_fork.ensures.pool;
       reads = c.one_fork.ensures.reads ∙ before.reads;
+      unfailed = c.in_default.ensures.faults ∙ before.unfailed;
       fresh = fresh-then pools c.args.pool.now c.loop.pool before.keeps c.loop.forks.items made.0 c.one_fork.new.forks.items made.1 before.fresh made.2;
       count = ap length made.1 ∙ (length-append c.loop.forks.items (made.0 ∷ []) ∙ ap (λ (n : ℕ). n + 1) before.count);
     }
@@ -36,13 +47,22 @@ returns-in-Err-clause-reads g c = λ room.
     let same : pools.reads c.one_fork.new.pool ≡ pools.reads c.args.pool.now = c.one_fork.ensures.reads ∙ c.loop.invariant.reads in
     omega (arith, none, same, absorbed-reads pools forks c.one_fork.new.pool c.absorb_all.new.pool c.absorb_all.ensures (omega (arith, none, same, room)))
 
+pub returns-in-Err-clause-failed : goal.returns-in-Err-clause-failed
+returns-in-Err-clause-failed g c = λ is room.
+    let pools = g.P.Pool in
+    let forks : List g.row.P.Denot = c.one_fork.new.forks.items in
+    let none : sum_by pools.faults forks ≡ 0 = fresh-faults pools c.args.pool.now forks (subst (AllByRecursion (IsFork pools c.args.pool.now)) (sym c.in-Err.ensures.none) c.loop.invariant.fresh) in
+    let same = c.loop.invariant.unfailed in
+    let one = failed-one _ _ c.in-Err.fault is c.in-Err.ensures.faults in
+    let more : pools.faults c.one_fork.new.pool ≡ pools.faults c.args.pool.now + 1 = omega (arith, same, one.more (omega (arith, same, room))) in
+    omega (arith, none, more, absorbed-faults pools forks c.one_fork.new.pool c.absorb_all.new.pool c.absorb_all.ensures (omega (arith, none, more, room)))
+
 pub returns-in-Err-clause-rose : goal.returns-in-Err-clause-rose
 returns-in-Err-clause-rose g c = λ is.
-    let pools = g.P.Pool in
-    let rose = c.in-Err.ensures.cause.rose (moved c.in-Err.fault Failed is) in
-    let kept = c.loop.invariant.keeps.faults in
-    let leaves = absorbed-leaves pools c.one_fork.new.forks.items c.one_fork.new.pool c.absorb_all.new.pool c.absorb_all.ensures in
-    omega (arith, rose, kept, leaves.faults)
+    let one = failed-one _ _ c.in-Err.fault is c.in-Err.ensures.faults in
+    let same = c.loop.invariant.unfailed in
+    let leaves = absorbed-leaves g.P.Pool c.one_fork.new.forks.items c.one_fork.new.pool c.absorb_all.new.pool c.absorb_all.ensures in
+    rose-once _ _ _ _ same one leaves.faults
 
 pub returns-clause-forks : goal.returns-clause-forks
 returns-clause-forks g c = forks-moved g.P.Pool c.args.pool.now c.loop.pool c.loop.invariant.keeps c.loop.forks.items c.loop.invariant.fresh

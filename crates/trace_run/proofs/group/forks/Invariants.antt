@@ -10,6 +10,7 @@ invariant-loop g l =
     record {
       keeps : KeepsPool pools l.fn.pool l.pool;
       reads : pools.reads l.pool ≡ pools.reads l.fn.pool;
+      unfailed : pools.faults l.pool ≡ pools.faults l.fn.pool;
       fresh : AllByRecursion (IsFork pools l.fn.pool) l.forks.items;
       count : length l.forks.items ≡ l.counter;
     }

@@ -1,4 +1,4 @@
-use Rattle.std.proofs.Common.{◌+◌, ◌-◌, ◌<◌, ◌≤◌, length}
+use Rattle.std.proofs.Common.{◌≡◌, ◌+◌, ◌-◌, ◌<◌, ◌≤◌, length}
 use Rattle.std.specs.Io.KnownBytes.{Consumes}
 use Rattle.trace_run.proofs.stream.read_all.Given as goal
 
@@ -10,7 +10,7 @@ invariant-loop-piece g l =
       consumed : Consumes (source.left l.fn.source) (source.left l.source) l.text.items;
       short : length l.text.items ≤ l.most + 1;
       piece : 0 < length l.piece.items;
-      kept : source.faults l.fn.source ≤ source.faults l.source;
+      unfailed : source.faults l.source ≡ source.faults l.fn.source;
     }
 
 abbrev pub decreases-loop-piece : goal.decreases-loop-piece

@@ -1,4 +1,4 @@
-use Rattle.std.proofs.Common.{arith, length-drop}
+use Rattle.std.proofs.Common.{◌∙◌, arith, length-drop}
 use Rattle.std.proofs.lemmas.List.{take_rest}
 use Rattle.trace_run.proofs.StreamLemmas.{more_written}
 use Rattle.trace_run.proofs.stream.write_all.Goals as goal
@@ -11,5 +11,5 @@ loop-at-preserved g c =
     record {
       within = let bound = rw (take_rest text at) at clauses.bound in omega (arith, bound, length-drop at text);
       written = more_written _ _ _ text at c.in_ok-at.field-0 c.loop-at.invariant.written (rw (take_rest text at) at clauses.bytes);
-      kept = omega (arith, clauses.cause.never_falls);
+      unfailed = clauses.fault ∙ c.loop-at.invariant.unfailed;
     }

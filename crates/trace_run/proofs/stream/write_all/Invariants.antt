@@ -1,4 +1,4 @@
-use Rattle.std.proofs.Common.{◌-◌, ◌≤◌, length, take}
+use Rattle.std.proofs.Common.{◌≡◌, ◌-◌, ◌≤◌, length, take}
 use Rattle.std.specs.Io.KnownBytes.{Appends}
 use Rattle.trace_run.proofs.stream.write_all.Given as goal
 
@@ -9,7 +9,7 @@ invariant-loop-at g l =
     record {
       within : l.at ≤ length l.text;
       written : Appends (sink.written l.fn.sink) (sink.written l.sink) (take l.at l.text);
-      kept : sink.faults l.fn.sink ≤ sink.faults l.sink;
+      unfailed : sink.faults l.sink ≡ sink.faults l.fn.sink;
     }
 
 abbrev pub decreases-loop-at : goal.decreases-loop-at
