@@ -1,10 +1,15 @@
 pub mod CallerLemmas
 pub mod CellLemmas
+pub mod Changes
 pub mod FitLemmas
+pub mod HandLemmas
+pub mod HoldLemmas
 pub mod IndexLemmas
 pub mod NumberLemmas
+pub mod OutlineLemmas
+pub mod PinLemmas
 pub mod Places
 pub mod RankLemmas
+pub mod ReplayLemmas
 pub mod StepLemmas
-pub mod HoldLemmas
 mod WorkedHistories

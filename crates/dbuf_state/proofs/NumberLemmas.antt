@@ -3,7 +3,7 @@ use Rattle.std.proofs.Common.{◌≡◌, ℕ, zero, suc, ◌≤◌, List, [], �
 use Rattle.std.proofs.lemmas.List.{drop_at, take_all, take_at}
 use Rattle.dbuf_state.specs.declared.event.CellEvent.TheVariants.{Get, Put, Patch, Pin, Unpin, Load, Evict, Synced, End}
 use Rattle.dbuf_state.specs.declared.state.Mapping.{Mapping}
-use Rattle.dbuf_state.specs.Numbers.{AreEventsRead, AreMappingsRead, mapping_numbers, mappings_in}
+use Rattle.dbuf_state.specs.Numbers.{AreEventsNumbered, AreEventsRead, AreMappingsRead, mapping_numbers, mappings_in}
 
 pub events-read : AreEventsRead
 events-read (Get n at) = refl
@@ -32,3 +32,14 @@ enough (m ∷ ms) = omega (arith, enough ms, length-append m.ptr.digest.0 (mappi
 
 pub mappings-read : AreMappingsRead
 mappings-read ms = mappings-back ms (length (mapping_numbers ms)) (enough ms)
+
+pub events-numbered : AreEventsNumbered
+events-numbered (Get n at) = (_, refl)
+events-numbered (Put n at size fill) = (_, refl)
+events-numbered (Patch n at from bytes) = (_, refl)
+events-numbered (Pin n at) = (_, refl)
+events-numbered (Unpin n at) = (_, refl)
+events-numbered (Load n at) = (_, refl)
+events-numbered (Evict n at) = (_, refl)
+events-numbered (Synced n at ptr) = (_, refl)
+events-numbered (End n) = (_, refl)

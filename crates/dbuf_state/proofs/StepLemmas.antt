@@ -1,6 +1,6 @@
 -- That the changes of a cell's dbufs are what its events say of the plain cell.
 use Rattle.std.proofs.Common.{◌≡◌, ℕ, ◌+◌, true, not, ◌&&◌, List, [], ◌∷◌, ◌++◌, length, map, replicate, Option, Some, None, refl, sym, ap, subst, ◌∙◌, inl, inr}
-use Rattle.std.proofs.lemmas.List.{length_push}
+use Rattle.std.proofs.lemmas.List.{append-nil, append_assoc, length_push}
 use Rattle.dbuf_state.specs.declared.dbuf.Content.{Content}
 use Rattle.dbuf_state.specs.declared.dbuf.Content.TheVariants.{Clean, Dirty}
 use Rattle.dbuf_state.specs.declared.dbuf.Dbuf.{Dbuf}
@@ -9,23 +9,28 @@ use Rattle.dbuf_state.specs.declared.event.CellEvent.TheVariants.{Get, Put, Patc
 use Rattle.dbuf_state.specs.declared.oid.Oid.{Oid}
 use Rattle.dbuf_state.specs.declared.state.DbState.{DbState}
 use Rattle.dbuf_state.specs.declared.state.Mapping.{Mapping}
-use Rattle.std.specs.List.{list_all}
+use Rattle.std.specs.List.{AllByRecursion, list_all}
 use Rattle.dbuf_state.specs.declared.state.DbState.TheVariants as state
 use Rattle.dbuf_state.specs.CellLog.{CellLog, fresh, touched}
 use Rattle.dbuf_state.specs.Dbufs.{DbufHas, plain_block, cached_with, cleared, dbuf_at, dbuf_oid, dirty_with, emptied, is_cached, is_clean, is_clean_in, is_passing, is_reading, is_uncached, pinned_by, plain_dbuf, reading_by, synced_to, unpinned_by, unread, used_at, with_dbuf, without_kept, written, written_at}
 use Rattle.dbuf_state.specs.History.{Leads}
-use Rattle.dbuf_state.specs.Objects.{Block, Evicting, IsBase, IsLegal, PlainCell, PlainDbuf, after, changed, effect, evicting_after, opening_cell, use_of}
+use Rattle.dbuf_state.specs.Objects.{Block, Evicting, IsBase, IsLegal, PlainCell, PlainDbuf, after, changed, effect, evicting_after, opening_cell, untold, use_of}
 use Rattle.dbuf_state.specs.Objects as plain
 use Rattle.dbuf_state.specs.Oids.{oid_eq, with_item}
 use Rattle.dbuf_state.specs.Pins as pins
-use Rattle.dbuf_state.specs.Soundness.{plain_cell}
+use Rattle.dbuf_state.specs.Soundness.{KeepsWhereCached, plain_cell}
 use Rattle.dbuf_state.specs.Steps.{CallGoesOn, EndFollows, EvictFollows, Follows, GetFollows, GoesOn, LoadFollows, MappedIsSound, PatchFollows, PatchOfCleanFollows, PinFollows, PutFollows, ReadingAlike, SyncedFollows, UnpinFollows, UnreadAlike}
+use Rattle.dbuf_state.proofs.Changes.{view-change, view-item}
 use Rattle.dbuf_state.proofs.FitLemmas.{from-test}
 use Rattle.dbuf_state.proofs.IndexLemmas.{bool_cases}
 
 pub goes-on : GoesOn
-goes-on c end [] e base leads legal of = subst (λ (m : PlainCell). Leads m (e ∷ []) (after base end e)) leads (legal, (base, of, refl))
-goes-on c end (x ∷ es) e base leads legal of = (leads.0, (leads.1.0, leads.1.1, goes-on (after leads.1.0 c x) end es e base leads.1.2 legal of))
+goes-on c end [] bases e base leads legal of =
+    subst (λ (m : PlainCell). Leads m (e ∷ []) (bases ++ untold end e base) (after base end e)) leads.1
+    (legal, (base, [], ap (λ (bs : List (List ℕ)). bs ++ untold end e base) leads.0 ∙ sym (append-nil (untold end e base)), of, (refl, refl)))
+goes-on c end (x ∷ es) bases e base leads legal of =
+    (leads.0, (leads.1.0, leads.1.1 ++ untold end e base, ap (λ (bs : List (List ℕ)). bs ++ untold end e base) leads.1.2 ∙ append_assoc (untold c x leads.1.0) leads.1.1 (untold end e base), leads.1.3,
+    goes-on (after leads.1.0 c x) end es leads.1.1 e base leads.1.4 legal of))
 
 -- ---- what becomes of a block
 
@@ -92,31 +97,23 @@ rests : (H : Type 0) (ms : List Mapping) → list_all (λ d. not (is_passing d.s
 rests H [] = refl
 rests H (m ∷ ms) = rests H ms
 
+keep-none : (H : Type 0) (ms : List Mapping) → AllByRecursion KeepsWhereCached (mapped_dbufs H ms)
+keep-none H [] = tt
+keep-none H (m ∷ ms) = (refl, keep-none H ms)
+
 module _ {H : Type 0} where
   -- a change of the Oid's dbuf is a change of the plain one
   pub plain-change : (at : Oid) (f : Dbuf H → Dbuf H) (g : PlainDbuf → PlainDbuf) (ds : List (Dbuf H))
       → DbufHas (λ d. plain_dbuf (f d) ≡ g (plain_dbuf d)) (dbuf_at at ds) → map plain_dbuf (with_dbuf at f ds) ≡ changed at g (map plain_dbuf ds)
-  plain-change at f g [] has = refl
-  plain-change at f g (d ∷ ds) has = elim (bool_cases (oid_eq at d.at)) [
-    | inl holds ↦ rw holds (ap (λ (p : PlainDbuf). p ∷ map plain_dbuf ds) (rw holds at has))
-    | inr fails ↦ rw fails (ap (λ (ps : List PlainDbuf). plain_dbuf d ∷ ps) (plain-change at f g ds (rw fails at has)))
-  ]
+  plain-change at f g ds has = view-change dbuf_oid plain.dbuf_oid plain_dbuf (λ d. refl) at f g ds (λ d found. subst (DbufHas (λ d. plain_dbuf (f d) ≡ g (plain_dbuf d))) found has)
 
   pub plain-change-all : (at : Oid) (f : Dbuf H → Dbuf H) (g : PlainDbuf → PlainDbuf) → ((d : Dbuf H) → plain_dbuf (f d) ≡ g (plain_dbuf d)) → (ds : List (Dbuf H))
       → map plain_dbuf (with_dbuf at f ds) ≡ changed at g (map plain_dbuf ds)
-  plain-change-all at f g each [] = refl
-  plain-change-all at f g each (d ∷ ds) = elim (bool_cases (oid_eq at d.at)) [
-    | inl holds ↦ rw holds (ap (λ (p : PlainDbuf). p ∷ map plain_dbuf ds) (each d))
-    | inr fails ↦ rw fails (ap (λ (ps : List PlainDbuf). plain_dbuf d ∷ ps) (plain-change-all at f g each ds))
-  ]
+  plain-change-all at f g each ds = view-change dbuf_oid plain.dbuf_oid plain_dbuf (λ d. refl) at f g ds (λ d found. each d)
 
   plain-item : (at : Oid) (f : Dbuf H → Dbuf H) (new : Dbuf H) (g : PlainDbuf → PlainDbuf) (plain_new : PlainDbuf) → ((d : Dbuf H) → plain_dbuf (f d) ≡ g (plain_dbuf d)) → plain_dbuf new ≡ plain_new
       → (ds : List (Dbuf H)) → map plain_dbuf (with_item dbuf_oid at f new ds) ≡ with_item plain.dbuf_oid at g plain_new (map plain_dbuf ds)
-  plain-item at f new g plain_new each is [] = ap (λ (p : PlainDbuf). p ∷ []) is
-  plain-item at f new g plain_new each is (d ∷ ds) = elim (bool_cases (oid_eq at d.at)) [
-    | inl holds ↦ rw holds (ap (λ (p : PlainDbuf). p ∷ map plain_dbuf ds) (each d))
-    | inr fails ↦ rw fails (ap (λ (ps : List PlainDbuf). plain_dbuf d ∷ ps) (plain-item at f new g plain_new each is ds))
-  ]
+  plain-item at f new g plain_new each is ds = view-item dbuf_oid plain.dbuf_oid plain_dbuf (λ d. refl) at f new g plain_new each is ds
 
   plain-touched : (tick : ℕ) (used : Option Oid) (ds : List (Dbuf H)) → map plain_dbuf (touched tick used ds) ≡ plain.touched tick used (map plain_dbuf ds)
   plain-touched tick None ds = refl
@@ -179,7 +176,7 @@ module _ {H : Type 0} where
   ends (d ∷ ds) = ap (λ (b : Block). record { at = d.at; block = b; pins = []; used = d.used } ∷ map plain_dbuf (map cleared ds)) (empties d.content d.state) ∙ ap (λ (ps : List PlainDbuf). plain.ended (plain_dbuf d) ∷ ps) (ends ds)
 
   pub end-follows : EndFollows H
-  end-follows c n = follows [] c (End n) _ (ends c.dbufs)
+  end-follows c n ds same = follows [] c (End n) _ (same ∙ ends c.dbufs)
 
   -- ---- states that count alike
 
@@ -200,18 +197,20 @@ module _ {H : Type 0} where
   -- ---- histories
 
   pub call-goes-on : CallGoesOn H
-  call-goes-on c evicting base e ds leads legal of follows =
-      subst (λ (end : PlainCell). Leads (opening_cell c.limit c.opening) (c.history ++ e ∷ []) end) (sym (follows evicting))
-      (goes-on (opening_cell c.limit c.opening) (plain_cell evicting c) c.history e base leads legal of)
+  call-goes-on c evicting bases base e ds leads legal of follows =
+      subst (λ (end : PlainCell). Leads (opening_cell c.limit c.opening) (c.history ++ e ∷ []) (bases ++ untold (plain_cell evicting c) e base) end) (sym (follows evicting))
+      (goes-on (opening_cell c.limit c.opening) (plain_cell evicting c) c.history bases e base leads legal of)
 
   pub mapped-is-sound : MappedIsSound H
   mapped-is-sound c first mapped = record {
     evicting = plain.Never;
+    bases = [];
     history = record {
-      legal = subst (λ (es : List CellEvent). Leads (opening_cell c.limit c.opening) es (plain_cell plain.Never c)) (sym first)
-          (ap (λ (ps : List PlainDbuf). record { limit = c.limit; dbufs = ps; events = length c.history; evicting = plain.Never }) (ap (map plain_dbuf) mapped ∙ opened H c.opening)
+      legal = subst (λ (es : List CellEvent). Leads (opening_cell c.limit c.opening) es [] (plain_cell plain.Never c)) (sym first)
+          (refl, ap (λ (ps : List PlainDbuf). record { limit = c.limit; dbufs = ps; events = length c.history; evicting = plain.Never }) (ap (map plain_dbuf) mapped ∙ opened H c.opening)
           ∙ ap (λ (es : List CellEvent). record { limit = c.limit; dbufs = map plain.opened c.opening; events = length es; evicting = plain.Never }) first);
       settled = refl;
     };
     at_rest = subst (λ (ds : List (Dbuf H)). list_all (λ d. not (is_passing d.state)) ds ≡ true) (sym mapped) (rests H c.opening);
+    fit = subst (AllByRecursion KeepsWhereCached) (sym mapped) (keep-none H c.opening);
   }

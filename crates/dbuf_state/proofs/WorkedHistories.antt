@@ -33,8 +33,8 @@ turns_end = record {
   evicting = Never;
 }
 
-two_in_turn : Leads (opening_cell 512 (mapping 0 ∷ (mapping 1 ∷ []))) turns turns_end
-two_in_turn = (refl, ([], tt, (refl, ([], tt, (refl, ([], tt, (refl, ([], tt, (refl, ([], tt, (refl, ([], tt, (refl, ([], tt, (refl, ([], tt, (refl, ([], tt, refl))))))))))))))))))
+two_in_turn : Leads (opening_cell 512 (mapping 0 ∷ (mapping 1 ∷ []))) turns [] turns_end
+two_in_turn = (refl, ([], [], refl, tt, (refl, ([], [], refl, tt, (refl, ([], [], refl, tt, (refl, ([], [], refl, tt, (refl, ([], [], refl, tt, (refl, ([], [], refl, tt, (refl, ([], [], refl, tt, (refl, ([], [], refl, tt, (refl, ([], [], refl, tt, (refl, refl)))))))))))))))))))
 
 -- a block is read, patched and read again: the patch makes it dirty, and no event tells the bytes that it starts from
 abbrev edits : List CellEvent
@@ -48,5 +48,5 @@ edits_end base = record {
   evicting = Must;
 }
 
-one_patched : (base : List ℕ) → IsOf base (ptr 0) → Leads (opening_cell 4096 (mapping 0 ∷ [])) edits (edits_end base)
-one_patched base of = (refl, ([], tt, (refl, ([], tt, (refl, (base, of, (refl, ([], tt, refl))))))))
+one_patched : (base : List ℕ) → IsOf base (ptr 0) → Leads (opening_cell 4096 (mapping 0 ∷ [])) edits (base ∷ []) (edits_end base)
+one_patched base of = (refl, ([], base ∷ [], refl, tt, (refl, ([], base ∷ [], refl, tt, (refl, (base, [], refl, of, (refl, ([], [], refl, tt, (refl, refl)))))))))

@@ -1,13 +1,16 @@
+pub mod Answers
 pub mod CellLog
 pub mod CellModel
 pub mod Dbufs
 pub mod Faults
 pub mod History
+pub mod InHand
 pub mod Index
 pub mod IndexRow
 pub mod Numbers
 pub mod Objects
 pub mod Oids
+pub mod Outline
 pub mod Pins
 pub mod Ranks
 pub mod Soundness

@@ -68,6 +68,22 @@ mappings_in (suc most) [] = []
 mappings_in (suc most) (x ∷ xs) =
     record { at = oid_in (x ∷ xs); ptr = ptr_in (drop 2 (x ∷ xs)) } ∷ mappings_in most (drop (slice_index (x ∷ xs) 5) (drop 6 (x ∷ xs)))
 
+-- who did it
+abbrev pub number_of : CellEvent → ℕ
+number_of (Get n at) = n
+number_of (Put n at size fill) = n
+number_of (Patch n at from bytes) = n
+number_of (Pin n at) = n
+number_of (Unpin n at) = n
+number_of (Load n at) = n
+number_of (Evict n at) = n
+number_of (Synced n at ptr) = n
+number_of (End n) = n
+
+-- each event begins with who did it
+abbrev pub AreEventsNumbered : Type 0
+AreEventsNumbered = (e : CellEvent) → (rest : List ℕ) × (event_numbers e ≡ number_of e ∷ rest)
+
 -- each is read back as what was written
 abbrev pub AreEventsRead : Type 0
 AreEventsRead = (e : CellEvent) → event_in (event_numbers e) ≡ e

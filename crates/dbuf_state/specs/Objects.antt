@@ -1,6 +1,6 @@
 -- One cell of dbufs as plain data: its part of the object map, the dbufs with their pins and last uses, and what each event does
 -- (dbuf.c of OpenZFS: dbuf_hold, dbuf_read, dbuf_dirty, dbuf_sync_list, dbuf_evict_one; the object map is what a dnode's block pointers say).
-use Rattle.std.specs.Prelude.{◌≡◌, ℕ, ◌+◌, Bool, true, false, not, ◌&&◌, IsTrue, nat_le, if◌then◌else◌, List, [], ◌++◌, length, map, replicate, take, drop, Option, Some, None}
+use Rattle.std.specs.Prelude.{◌≡◌, ℕ, ◌+◌, Bool, true, false, not, ◌&&◌, IsTrue, nat_le, if◌then◌else◌, List, [], ◌∷◌, ◌++◌, length, map, replicate, take, drop, Option, Some, None}
 use Rattle.std.specs.Option.{option_map_or}
 use Rattle.blk_ptr.specs.Ptr.{IsOf}
 use Rattle.blk_ptr.specs.declared.ptr.Ptr.{Ptr}
@@ -143,15 +143,16 @@ IsLegal c (End n) = IsTrue (not (is_due c))
 
 -- ---- what an event does. A patch of a clean block starts from a list that is of its pointer, which no event tells: `base`
 
--- this list may be the base of the event
-abbrev pub IsBaseOf : List ℕ → Block → Type 0
-IsBaseOf base (Uncached ptr) = IsOf base ptr
-IsBaseOf base (Cached ptr) = IsOf base ptr
-IsBaseOf base (Dirty bytes) = bytes ≡ base
+-- these may be the bytes of the block: those of a dirty one, or a list of a clean one's pointer
+abbrev pub AreBytesOf : List ℕ → Block → Type 0
+AreBytesOf bytes (Uncached ptr) = IsOf bytes ptr
+AreBytesOf bytes (Cached ptr) = IsOf bytes ptr
+AreBytesOf bytes (Dirty written) = written ≡ bytes
 
+-- this list may be the base of the event
 abbrev pub IsBaseAt : List ℕ → Option PlainDbuf → Type 0
 IsBaseAt base None = Unit {0}
-IsBaseAt base (Some d) = IsBaseOf base d.block
+IsBaseAt base (Some d) = AreBytesOf base d.block
 
 abbrev pub IsBase : List ℕ → PlainCell → CellEvent → Type 0
 IsBase base c (Patch n at from bytes) = IsBaseAt base (dbuf_at at c)
@@ -163,6 +164,18 @@ IsBase base c (Load n at) = Unit {0}
 IsBase base c (Evict n at) = Unit {0}
 IsBase base c (Synced n at ptr) = Unit {0}
 IsBase base c (End n) = Unit {0}
+
+-- the list from which a change starts, where no event and no event before it tells it: the base of a patch of a clean block
+abbrev pub untold : PlainCell → CellEvent → List ℕ → List (List ℕ)
+untold c (Patch n at from bytes) base = if dbuf_is (λ d. is_cached d.block) at c then base ∷ [] else []
+untold c (Get n at) base = []
+untold c (Put n at size fill) base = []
+untold c (Pin n at) base = []
+untold c (Unpin n at) base = []
+untold c (Load n at) base = []
+untold c (Evict n at) base = []
+untold c (Synced n at ptr) base = []
+untold c (End n) base = []
 
 abbrev pub loaded : Block → Block
 loaded (Uncached ptr) = Cached ptr

@@ -8,16 +8,16 @@ use Rattle.dbuf_state.specs.declared.event.CellEvent.TheVariants.{Get, Put, Patc
 use Rattle.dbuf_state.specs.declared.oid.Oid.{Oid}
 use Rattle.dbuf_state.specs.declared.state.DbState.TheVariants as state
 use Rattle.dbuf_state.specs.CellLog.{CellLog, fresh, noted}
-use Rattle.dbuf_state.specs.Dbufs.{DbufHas, cached_with, cleared, dbuf_at, dbuf_is, dbuf_oid, dirty_with, is_clean_in, is_cached, is_reading, is_uncached, pinned_by, reading_by, synced_to, unpinned_by, unread, with_dbuf, without_kept, written_at}
+use Rattle.dbuf_state.specs.Dbufs.{DbufHas, cached_with, cleared, dbuf_at, dbuf_is, dbuf_oid, dirty_with, is_clean_in, is_cached, is_reading, is_uncached, pinned_by, plain_dbuf, reading_by, synced_to, unpinned_by, unread, with_dbuf, without_kept, written_at}
 use Rattle.dbuf_state.specs.History.{Leads}
-use Rattle.dbuf_state.specs.Objects.{Evicting, IsBase, IsLegal, PlainCell, after, evicting_after, opening_cell}
+use Rattle.dbuf_state.specs.Objects.{Evicting, IsBase, IsLegal, PlainCell, after, evicting_after, opening_cell, untold}
 use Rattle.dbuf_state.specs.Oids.{with_item}
 use Rattle.dbuf_state.specs.Soundness.{IsSound, plain_cell}
 
 -- a legal event more leads on
 abbrev pub GoesOn : Type 0
-GoesOn = (c end : PlainCell) (es : List CellEvent) (e : CellEvent) (base : List ℕ)
-    → Leads c es end → IsLegal end e → IsBase base end e → Leads c (es ++ e ∷ []) (after base end e)
+GoesOn = (c end : PlainCell) (es : List CellEvent) (bases : List (List ℕ)) (e : CellEvent) (base : List ℕ)
+    → Leads c es bases end → IsLegal end e → IsBase base end e → Leads c (es ++ e ∷ []) (bases ++ untold end e base) (after base end e)
 
 -- the cell after these changes of its dbufs and this event is what the event leads to from the cell before
 abbrev pub Follows : {H : Type 0} → List ℕ → CellLog H → CellEvent → List (Dbuf H) → Type 0
@@ -26,10 +26,10 @@ Follows base c e ds = (evicting : Evicting)
 
 -- a call with its event takes a legal history of a cell on
 abbrev pub CallGoesOn : Type 0 → Type 0
-CallGoesOn H = (c : CellLog H) (evicting : Evicting) (base : List ℕ) (e : CellEvent) (ds : List (Dbuf H))
-    → Leads (opening_cell c.limit c.opening) c.history (plain_cell evicting c)
+CallGoesOn H = (c : CellLog H) (evicting : Evicting) (bases : List (List ℕ)) (base : List ℕ) (e : CellEvent) (ds : List (Dbuf H))
+    → Leads (opening_cell c.limit c.opening) c.history bases (plain_cell evicting c)
     → IsLegal (plain_cell evicting c) e → IsBase base (plain_cell evicting c) e → Follows base c e ds
-    → Leads (opening_cell c.limit c.opening) (c.history ++ e ∷ []) (plain_cell (evicting_after evicting e) (noted e (record c { dbufs = ds })))
+    → Leads (opening_cell c.limit c.opening) (c.history ++ e ∷ []) (bases ++ untold (plain_cell evicting c) e base) (plain_cell (evicting_after evicting e) (noted e (record c { dbufs = ds })))
 
 -- a cell to which nothing was done but to map Oids is sound
 abbrev pub MappedIsSound : Type 0 → Type 0
@@ -74,8 +74,10 @@ abbrev pub SyncedFollows : Type 0 → Type 0
 SyncedFollows H = (c : CellLog H) (n : ℕ) (at : Oid) (ptr : Ptr) (kept : H)
     → Follows [] c (Synced n at ptr) (with_dbuf at (synced_to ptr kept) c.dbufs)
 
+-- the end empties the dbufs, whatever was taken out of them for it
 abbrev pub EndFollows : Type 0 → Type 0
-EndFollows H = (c : CellLog H) (n : ℕ) → Follows [] c (End n) (map cleared c.dbufs)
+EndFollows H = (c : CellLog H) (n : ℕ) (ds : List (Dbuf H)) → map plain_dbuf (map cleared ds) ≡ map plain_dbuf (map cleared c.dbufs)
+    → Follows [] c (End n) (map cleared ds)
 
 -- while a clean block is being brought, or is on its way out and back, it counts as it did
 abbrev pub ReadingAlike : Type 0 → Type 0

@@ -5,7 +5,7 @@ ghost use Rattle.dbuf_state.specs.Objects.{patched};
 use std::marker::Model;
 
 /// The bytes of a dirty block. Contracts see the list of them.
-#[derive(Debug, Drop)]
+#[derive(Drop)]
 pub struct Bytes {
     bytes: Vec<u8>,
 }

@@ -25,7 +25,7 @@ mod reading;
 /// The dbufs of one cell and its history. Contracts see the opening, the dbufs in the order in which they came, the history, and
 /// for how many more dbufs and events there is room. A dbuf keeps a block exactly where it is clean and cached, and the block is
 /// of its pointer.
-#[derive(Debug, Drop)]
+#[derive(Drop)]
 pub struct Cell<H: Shows> {
     alloc: Global,
     limit: u64,

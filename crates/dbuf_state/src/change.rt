@@ -5,7 +5,7 @@ use crate::state::DbState;
 use blk_ptr::Ptr;
 
 /// A change of one dbuf.
-#[derive(Debug, Drop)]
+#[derive(Drop)]
 pub enum Change<H> {
     /// `n` brings its bytes.
     Reading(u32),

@@ -13,7 +13,7 @@ use blk_ptr::{NoMemory, Ptr};
 use std::alloc::Global;
 
 /// What a block is.
-#[derive(Debug, Drop)]
+#[derive(Drop)]
 pub enum Content {
     /// It is in the pool, where this pointer names it.
     Clean(Ptr),
@@ -22,7 +22,7 @@ pub enum Content {
 }
 
 /// A block of an object as a cell keeps it (`dmu_buf_impl_t` of OpenZFS's `dbuf.h`).
-#[derive(Debug, Drop)]
+#[derive(Drop)]
 pub struct Dbuf<H> {
     /// Which block of which object it is.
     pub at: Oid,

@@ -15,7 +15,7 @@ use std::marker::Model;
 
 /// How the dbufs of a cell stand, in the order in which they came. Contracts see the list of the standings, and for how many
 /// more there is room.
-#[derive(Debug, Drop)]
+#[derive(Drop)]
 pub struct Index {
     standings: Vec<Standing>,
     oldest: Ranks,

@@ -8,7 +8,7 @@ use std::alloc::Global;
 use std::marker::Model;
 
 /// How often a number pins a dbuf.
-#[derive(Clone, Copy, Debug)]
+#[derive(Clone, Copy)]
 pub struct PinCount {
     /// Whose pins they are.
     pub n: u32,
@@ -18,7 +18,7 @@ pub struct PinCount {
 
 /// The pins on a dbuf. Contracts see the numbers that have pins there, in the order in which each pinned it first, with their
 /// counts.
-#[derive(Debug, Drop)]
+#[derive(Drop)]
 pub struct Pins {
     counts: Vec<PinCount>,
 }

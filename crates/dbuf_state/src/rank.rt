@@ -5,7 +5,7 @@ ghost use Rattle.dbuf_state.specs.Ranks.{least};
 use crate::oid::Oid;
 
 /// What a dbuf is ordered by: a number, and then its Oid.
-#[derive(Clone, Copy, Debug)]
+#[derive(Clone, Copy)]
 pub struct Rank {
     pub order: u64,
     pub at: Oid,

@@ -10,7 +10,7 @@ use std::marker::Model;
 
 /// A row of places, each with a rank or none, as the leaves of a tournament: to write one, or to name the least, costs no more
 /// than the tournament is high. Contracts see the row.
-#[derive(Debug, Drop)]
+#[derive(Drop)]
 pub struct Ranks {
     alloc: Global,
     half: usize,

@@ -2,7 +2,7 @@
 use crate::oid::Oid;
 
 /// How a dbuf stands when something is to be evicted.
-#[derive(Clone, Copy, Debug)]
+#[derive(Clone, Copy)]
 pub struct Standing {
     /// Which block of which object it is.
     pub at: Oid,

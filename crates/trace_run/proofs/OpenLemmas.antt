@@ -214,7 +214,7 @@ module _ {C : Type 0} (cache : Cache) (p : Place (Known C)) where
 
 -- a cell at its start is what the replay of no event gives
 pub opening-sound : (limit : ℕ) → IsSound (opening_log {H = Kept} limit)
-opening-sound limit = record { evicting = Never; history = record { legal = refl; settled = refl }; at_rest = refl }
+opening-sound limit = record { evicting = Never; bases = []; history = record { legal = (refl, refl); settled = refl }; at_rest = refl; fit = tt }
 
 -- a cell on the heap
 abbrev pub HeapCell : Type 0

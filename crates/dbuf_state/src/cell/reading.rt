@@ -1,13 +1,15 @@
 //! What a cell shows.
-ghost use Rattle.std.specs.Prelude.{◌≡◌, ◌+◌, ◌≤◌, not, IsTrue, IfOk, MatchOption, length, map, option_map, IsSorted, IsPermutation};
+ghost use Rattle.std.specs.Prelude.{◌≡◌, ◌+◌, ◌≤◌, not, IsTrue, IfOk, MatchOption, length, map, option_map, IsSortedBy, IsPermutation};
 ghost use Rattle.std.specs.List.{AllByRecursion};
 ghost use Rattle.std.specs.Option.{option_map_or};
 ghost use Rattle.dbuf_state.specs.declared.dbuf.Content.TheVariants as content;
 ghost use Rattle.dbuf_state.specs.declared.state.DbState.TheVariants as state;
 ghost use Rattle.dbuf_state.specs.Dbufs.{AreOf, DbufHas, IsFit, bytes_in, dbuf_at, dbuf_is, dbuf_oid, dirty_oids, is_cached, is_dirty, mapped_of, size_of, standing_of, window_of};
-ghost use Rattle.dbuf_state.specs.Oids.{is_distinct};
+ghost use Rattle.dbuf_state.specs.Oids.{is_distinct, oid_lt};
 ghost use Rattle.arc_core.specs.Keeps.{holds_on};
-ghost use Rattle.dbuf_state.specs.Soundness.{holds_in};
+ghost use Rattle.dbuf_state.specs.Answers.{IsAnswer};
+ghost use Rattle.dbuf_state.specs.Objects.{Evicting};
+ghost use Rattle.dbuf_state.specs.Soundness.{holds_in, plain_cell};
 ghost use Rattle.dbuf_state.specs.Standings.{is_evictable, is_first_kept, is_over, none_kept};
 
 use super::Cell;
@@ -52,7 +54,7 @@ impl<H: Shows + Drop> Cell<H> {
 
     /// The dirty blocks, by rising Oids. Err is want of memory for the list.
     pub fn dirty(&self) -> Result<Vec<Oid>, NoMemory>
-        ensures rising { IfOk result (λ oids. IsSorted ⟦<Oid as Ord>⟧.cmp oids.items) }
+        ensures rising { IfOk result (λ oids. IsSortedBy oid_lt oids.items) }
         ensures all { IfOk result (λ oids. IsPermutation (dirty_oids self.now.dbufs) oids.items) }
     {
         let mut oids = Vec::new(self.alloc);
@@ -79,8 +81,19 @@ impl<H: Shows + Drop> Cell<H> {
         bytes.bytes()
     }
 
-    /// Shows a part of a cached block.
+    /// Shows a part of a cached block: the answer to a get, with the block's size.
     pub fn shown(&self, at: Oid, w: Window, out: &mut Shown)
+        requires cached { IsTrue (dbuf_is (λ d. is_cached d.state) at self.now.dbufs) }
+        requires inside { DbufHas (λ d. w.at + w.len ≤ size_of d.content) (dbuf_at at self.now.dbufs) }
+        ensures window { DbufHas (λ d. out.new ≡ window_of w (bytes_in H.bytes_of d.content d.kept)) (dbuf_at at self.now.dbufs) }
+        ensures of { DbufHas (λ d. AreOf (bytes_in H.bytes_of d.content d.kept) d.content) (dbuf_at at self.now.dbufs) }
+        ensures answer { (evicting : Evicting) → DbufHas (λ d. IsAnswer (plain_cell evicting self.now) at w (size_of d.content) out.new) (dbuf_at at self.now.dbufs) }
+    {
+        self.show(at, w, out);
+    }
+
+    // The bytes of a part of a cached block.
+    fn show(&self, at: Oid, w: Window, out: &mut Shown)
         requires cached { IsTrue (dbuf_is (λ d. is_cached d.state) at self.now.dbufs) }
         requires inside { DbufHas (λ d. w.at + w.len ≤ size_of d.content) (dbuf_at at self.now.dbufs) }
         ensures window { DbufHas (λ d. out.new ≡ window_of w (bytes_in H.bytes_of d.content d.kept)) (dbuf_at at self.now.dbufs) }
