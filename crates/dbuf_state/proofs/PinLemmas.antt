@@ -260,7 +260,7 @@ count-pin n m at b ds d found = elim (bool_cases (oid_eq at b)) [
   | inl here ↦
       let there : at_in at ds ≡ Some d = ap (λ (x : Oid). at_in x ds) (same_oid at b here) ∙ found in
       let now : at_in at (changed b (with_pins (pinned m)) ds) ≡ Some (with_pins (pinned m) d) =
-          ap (λ (x : Oid). at_in at (changed x (with_pins (pinned m)) ds)) (sym (same_oid at b here)) ∙ (found-own at (with_pins (pinned m)) ds (λ d. refl) ∙ ap (option_map (with_pins (pinned m))) there) in
+      ap (λ (x : Oid). at_in at (changed x (with_pins (pinned m)) ds)) (sym (same_oid at b here)) ∙ (found-own at (with_pins (pinned m)) ds (λ d. refl) ∙ ap (option_map (with_pins (pinned m))) there) in
       rw (now, there, here) (elim (bool_cases (m == n)) [
         | inl own ↦ rw own (ap (λ (x : ℕ). pins_of n (pinned x d.pins)) (same_number m n own) ∙ pinned-own n d.pins)
         | inr other ↦ rw other (pinned-other m n d.pins other ∙ (let e : pins_of n d.pins ≡ pins_of n d.pins + 0 = omega arith in e))
@@ -281,7 +281,7 @@ count-unpin n m at b ds d rows found has = elim (bool_cases (oid_eq at b)) [
   | inl here ↦
       let there : at_in at ds ≡ Some d = ap (λ (x : Oid). at_in x ds) (same_oid at b here) ∙ found in
       let now : at_in at (changed b (with_pins (unpinned m)) ds) ≡ Some (with_pins (unpinned m) d) =
-          ap (λ (x : Oid). at_in at (changed x (with_pins (unpinned m)) ds)) (sym (same_oid at b here)) ∙ (found-own at (with_pins (unpinned m)) ds (λ d. refl) ∙ ap (option_map (with_pins (unpinned m))) there) in
+      ap (λ (x : Oid). at_in at (changed x (with_pins (unpinned m)) ds)) (sym (same_oid at b here)) ∙ (found-own at (with_pins (unpinned m)) ds (λ d. refl) ∙ ap (option_map (with_pins (unpinned m))) there) in
       rw (now, there, here) (elim (bool_cases (m == n)) [
         | inl own ↦
             let same = same_number m n own in

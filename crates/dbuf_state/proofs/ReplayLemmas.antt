@@ -84,7 +84,7 @@ ends-alike c [] xs ys a b one other = inl (one.0 ∙ sym other.0, one.1 ∙ sym 
 ends-alike c (e ∷ es) xs ys a b one other = elim (step-alike c e one.1.0 other.1.0 one.0 one.1.3 other.1.3) [
   | inl same ↦
       let rest : ((one.1.1 ≡ other.1.1) × (a ≡ b)) ⊎ Collide one.1.1 other.1.1 =
-          ends-alike (after one.1.0 c e) es one.1.1 other.1.1 a b one.1.4 (subst (λ (m : PlainCell). Leads m es other.1.1 b) (sym same.0) other.1.4) in
+      ends-alike (after one.1.0 c e) es one.1.1 other.1.1 a b one.1.4 (subst (λ (m : PlainCell). Leads m es other.1.1 b) (sym same.0) other.1.4) in
       elim rest [
         | inl alike ↦ inl (one.1.2 ∙ (ap (λ (bs : List (List ℕ)). bs ++ one.1.1) same.1 ∙ (ap (λ (bs : List (List ℕ)). untold c e other.1.0 ++ bs) alike.0 ∙ sym other.1.2)), alike.1)
         | inr collide ↦ inr (subst (λ (bs : List (List ℕ) × List (List ℕ)). Collide bs.0 bs.1)

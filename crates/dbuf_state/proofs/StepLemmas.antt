@@ -28,9 +28,16 @@ pub goes-on : GoesOn
 goes-on c end [] bases e base leads legal of =
     subst (λ (m : PlainCell). Leads m (e ∷ []) (bases ++ untold end e base) (after base end e)) leads.1
     (legal, (base, [], ap (λ (bs : List (List ℕ)). bs ++ untold end e base) leads.0 ∙ sym (append-nil (untold end e base)), of, (refl, refl)))
-goes-on c end (x ∷ es) bases e base leads legal of =
-    (leads.0, (leads.1.0, leads.1.1 ++ untold end e base, ap (λ (bs : List (List ℕ)). bs ++ untold end e base) leads.1.2 ∙ append_assoc (untold c x leads.1.0) leads.1.1 (untold end e base), leads.1.3,
-    goes-on (after leads.1.0 c x) end es leads.1.1 e base leads.1.4 legal of))
+goes-on c end (x ∷ es) bases e base leads legal of = (
+  leads.0,
+  (
+    leads.1.0,
+    leads.1.1 ++ untold end e base,
+    ap (λ (bs : List (List ℕ)). bs ++ untold end e base) leads.1.2 ∙ append_assoc (untold c x leads.1.0) leads.1.1 (untold end e base),
+    leads.1.3,
+    goes-on (after leads.1.0 c x) end es leads.1.1 e base leads.1.4 legal of,
+  ),
+)
 
 -- ---- what becomes of a block
 
@@ -206,9 +213,11 @@ module _ {H : Type 0} where
     evicting = plain.Never;
     bases = [];
     history = record {
-      legal = subst (λ (es : List CellEvent). Leads (opening_cell c.limit c.opening) es [] (plain_cell plain.Never c)) (sym first)
-          (refl, ap (λ (ps : List PlainDbuf). record { limit = c.limit; dbufs = ps; events = length c.history; evicting = plain.Never }) (ap (map plain_dbuf) mapped ∙ opened H c.opening)
-          ∙ ap (λ (es : List CellEvent). record { limit = c.limit; dbufs = map plain.opened c.opening; events = length es; evicting = plain.Never }) first);
+      legal = subst (λ (es : List CellEvent). Leads (opening_cell c.limit c.opening) es [] (plain_cell plain.Never c)) (sym first) (
+        refl,
+        ap (λ (ps : List PlainDbuf). record { limit = c.limit; dbufs = ps; events = length c.history; evicting = plain.Never }) (ap (map plain_dbuf) mapped ∙ opened H c.opening)
+            ∙ ap (λ (es : List CellEvent). record { limit = c.limit; dbufs = map plain.opened c.opening; events = length es; evicting = plain.Never }) first,
+      );
       settled = refl;
     };
     at_rest = subst (λ (ds : List (Dbuf H)). list_all (λ d. not (is_passing d.state)) ds ≡ true) (sym mapped) (rests H c.opening);

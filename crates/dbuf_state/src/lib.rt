@@ -28,10 +28,9 @@ pub use event::CellEvent;
 pub use fault::DbufFault;
 pub use laws::{
     a_history_goes_on, calls_are_their_events, cells_are_in_their_outlines, cells_come_to_rest,
-    cells_stay_legal,
-    claims_go_with_what_is_read, ended_cells_keep_nothing, holds_go_with_what_is_kept,
-    numbers_are_read_back, outlines_are_told, plain_cells_are_read, replays_are_alike,
-    what_counts_alike, what_is_out_for_a_while,
+    cells_stay_legal, claims_go_with_what_is_read, ended_cells_keep_nothing,
+    holds_go_with_what_is_kept, numbers_are_read_back, outlines_are_told, plain_cells_are_read,
+    replays_are_alike, what_counts_alike, what_is_out_for_a_while,
 };
 pub use oid::Oid;
 pub use pins::{PinCount, Pins};
