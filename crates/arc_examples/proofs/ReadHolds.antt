@@ -73,14 +73,14 @@ module _ {C P D : Type 0} (m : Meanings C) (g : Config) (valid : IsConfig g) (po
 
   turn-holds : (found : Option EntryView) (old new : D) (p q : Place (Known C)) → p.own.about.config ≡ g → TurnsToPool m devices g ptr found old new p q → q.own.ledger.holds ≡ p.own.ledger.holds
   turn-holds found old new p q config (unserved why is) = ap (λ (x : Place (Known C)). x.own.ledger.holds) is
-  turn-holds found old new p q config (cleared f) = none-holds m g valid ptr.key p q config f.does
+  turn-holds found old new p q config (cleared bytes came f) = none-holds m g valid ptr.key p q config f.does
 
   miss-lists : (before now : Outside P D) (found : Option EntryView) (p q : Place (Known C)) (result : Result Read ReadFault) → p.own.about.config ≡ g → EndsMiss m pools devices g ptr found before now p q result → ReadLists g ptr p q result
   miss-lists before now found p q result config (from_device hold is a) = subst (ReadLists g ptr p q) (sym is) (a.held.0.key, a.held.1, arrive-gains m g valid ptr origin.L2 p q config a.does)
   miss-lists before now found p q result config (from_pool back turns goes) =
       let s = turns_stays m g valid devices ptr found before.device now.device p back config turns in
       lists-after g ptr p back q result (turn-holds found before.device now.device p back config turns) (goes-list before.pool now.pool back q result (stays_config g p back s config) goes)
-  miss-lists before now found p q result config (from_none f) = subst (ReadLists g ptr p q) (sym f.answer) (fail-holds m g valid ptr.key failed.Unread p q config f.does)
+  miss-lists before now found p q result config (from_none asked f) = subst (ReadLists g ptr p q) (sym f.answer) (fail-holds m g valid ptr.key failed.Unread p q config f.does)
 
   past-lists : (old new : P) (kept : Digest) (p q : Place (Known C)) (result : Result Read ReadFault) → q.own.ledger.holds ≡ p.own.ledger.holds → EndsPast pools ptr kept old new result → ReadLists g ptr p q result
   past-lists old new kept p q (Ok (gave.Past block digest)) same h = same

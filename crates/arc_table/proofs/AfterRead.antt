@@ -73,12 +73,12 @@ module _ {C P : Type 0} (m : Meanings C) (g : Config) (valid : IsConfig g) (pool
 module _ {C D : Type 0} (m : Meanings C) (g : Config) (valid : IsConfig g) (devices : DeviceGhosts D) where
   pub turns_stays : (ptr : Ptr) (found : Option EntryView) (old new : D) (p q : Place (Known C)) → p.own.about.config ≡ g → TurnsToPool m devices g ptr found old new p q → Stays p q
   turns_stays ptr found old new p q same (unserved why is) = stays_same p q is
-  turns_stays ptr found old new p q same (cleared c) = does_stays m g valid ptr.key _ p q same c.does
+  turns_stays ptr found old new p q same (cleared bytes came c) = does_stays m g valid ptr.key _ p q same c.does
 
 module _ {C P D : Type 0} (m : Meanings C) (g : Config) (valid : IsConfig g) (pools : PoolGhosts P) (devices : DeviceGhosts D) where
   pub ends_stays : (ptr : Ptr) (found : Option EntryView) (before now : Outside P D) (p q : Place (Known C)) (result : Result Read ReadFault) → p.own.about.config ≡ g → EndsMiss m pools devices g ptr found before now p q result → Stays p q
   ends_stays ptr found before now p q result same (from_device hold is e) = does_stays m g valid ptr.key _ p q same e.does
-  ends_stays ptr found before now p q result same (from_none e) = does_stays m g valid ptr.key _ p q same e.does
+  ends_stays ptr found before now p q result same (from_none asked e) = does_stays m g valid ptr.key _ p q same e.does
   ends_stays ptr found before now p q result same (from_pool back turns e) =
       let s = turns_stays m g valid devices ptr found before.device now.device p back same turns in
       stays_then p back q s (goes_stays m g valid pools ptr before.pool now.pool back q result (stays_config g p back s same) e)

@@ -144,14 +144,15 @@ module _ {C : Type 0} (m : Meanings C) where
       within (x ∷ xs) (suc j) a e = let h = within xs j a e in omega arith
 
   pub ends : (cache : Cache) (vs : List (Item C)) (views : List (Known C)) (ps : List (Place (Known C))) → Pact m (opening vs views) → AreAtRest cache ps → SomeHas 0 ps → ShowAll views ps → length vs ≡ turns_of cache.config
-      → length views ≡ parties_of cache.config → (cells : List C) (shards : List ShardLog) → cells ≡ cells_in vs → shards ≡ shards_in vs → Ends m cache ps record { shards = shards; cells = cells }
+      → length views ≡ parties_of cache.config → (cells : List C) (shards : List ShardLog) → cells ≡ cells_in vs → shards ≡ shards_in vs → Ends m cache ps record { config = cache.config; shards = shards; cells = cells }
   ends cache vs views ps p rest some_has shown long count cells shards cells_is shards_is =
       let a = values_are cache vs views ps p rest some_has shown long in
       let n_cells = a.cells in
       let n_chains = a.chains in
       let total : length vs ≡ length (cells_in vs) + (length (chains_in vs) + length (shards_in vs)) = ap length a.are ∙ long_all (cells_in vs) (chains_in vs) (shards_in vs) in
-      subst (λ (e : Ended C). Ends m cache ps e) (λ k. record { shards = sym shards_is k; cells = sym cells_is k })
+      subst (λ (e : Ended C). Ends m cache ps e) (λ k. record { config = cache.config; shards = sym shards_is k; cells = sym cells_is k })
       record {
+        config = refl;
         views = views;
         buckets = chains_in vs;
         parties = count;

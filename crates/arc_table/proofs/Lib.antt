@@ -59,3 +59,9 @@ pub mod MadeLemmas
 pub mod RoomyLemmas
 pub mod MoveLemmas
 pub mod ScanAlone
+pub mod PicksAfter
+pub mod FeedMade
+pub mod PickLaws
+pub mod CellsInHand
+pub mod CellsInReads
+pub mod EntriesSeen

@@ -19,16 +19,16 @@ use Rattle.arc_table.specs.TableLaws.{front_else, within}
 use Rattle.arc_table.proofs.Afterwards.{does_mine, does_seen, does_stays}
 use Rattle.arc_table.proofs.PassMines.{mines_of_are}
 use Rattle.arc_table.proofs.Reached.{reached, sound_log}
-use Rattle.arc_table.specs.Seen.{AreOwn, HasSeenItsOwn, Made, turn_of}
+use Rattle.arc_table.specs.Seen.{AreOwnBy, HasSeenBy, MadeBy, turn_of}
 use Rattle.arc_table.proofs.SeenLemmas.{finds, shard-is-above}
 
-module _ {C : Type 0} (m : Meanings C) (g : Config) (valid : IsConfig g) (k : Key) (es : List Event) (p q : Place (Known C)) (config : p.own.about.config ≡ g)
-    (own : HasSeenItsOwn g p) (mine : AreOwn (parties_of g) p.number es) (d : Does m g k es p q) where
+module _ {C : Type 0} {May : (n number : ℕ) → Type 0} (m : Meanings C) (g : Config) (valid : IsConfig g) (k : Key) (es : List Event) (p q : Place (Known C)) (config : p.own.about.config ≡ g)
+    (own : HasSeenBy May g p) (mine : AreOwnBy May (parties_of g) p.number es) (d : Does m g k es p q) where
   apart : (j : ℕ) → j ≢ shard_of g.shards k → turn_of g j ≢ turn_of g (shard_of g.shards k)
   apart j differs is = differs (omega arith)
 
   -- an event or some of one key
-  pub does-made : Made g (shard_of g.shards k) d.before es p q
+  pub does-made : MadeBy May g (shard_of g.shards k) d.before es p q
   does-made =
       let r = reached m g k d.chain d.before p d.reached d.takes in
       let stays = does_stays m g valid k es p q config d in
@@ -36,7 +36,7 @@ module _ {C : Type 0} (m : Meanings C) (g : Config) (valid : IsConfig g) (k : Ke
       let news = mines_of_are (shard_turn g k) (length d.before.history) (length d.reached.own.notes - passes_in es) es in
       record {
         same = record { number = stays.number; parties = stays.parties; joined = stays.joined; about = stays.about };
-        found = finds m g valid k d.chain d.before p d.reached d.takes own;
+        found = finds m g valid k d.chain d.before p d.reached d.takes config own;
         replayed = ap (λ (x : PlainShard). replay x d.before.history) (sym sound.opening) ∙ sound.replayed.replayed;
         here = does_seen m g valid k es p q d;
         others = λ j differs.

@@ -64,7 +64,7 @@ module _ {C : Type 0} (m : Meanings C) (g : Config) (valid : IsConfig g) (k : Ke
 
   pub roomy-moves : (e : Event) → (number_of e ≡ p.number) × (is_pass e ≡ false) × IsTrue (goes_on p.number e) → (d : DoesRoomy m g k e p q)
       → Moves g (shard_of g.shards k) (own_moments p.number (moments d.before.now (d.makes.passes ++ e ∷ []))) (d.makes.passes ++ e ∷ []) p q
-  roomy-moves e fits d = made-moves g (shard_of g.shards k) d.before (d.makes.passes ++ e ∷ []) p q config seen (roomy-made m g valid k e p q config seen fits d)
+  roomy-moves e fits d = made-moves g (shard_of g.shards k) d.before (d.makes.passes ++ e ∷ []) p q config seen (roomy-made m g valid k e p q config seen refl fits d)
 
   -- what a party finds that has every number
   pub does-now : (es : List Event) → AreOwn (parties_of g) p.number es → (d : Does m g k es p q) → HasAll p → d.before.now ≡ replay (opening_of g) (seen_of g (shard_of g.shards k) p)
@@ -72,7 +72,7 @@ module _ {C : Type 0} (m : Meanings C) (g : Config) (valid : IsConfig g) (k : Ke
 
   pub roomy-now : (e : Event) → (number_of e ≡ p.number) × (is_pass e ≡ false) × IsTrue (goes_on p.number e) → (d : DoesRoomy m g k e p q) → HasAll p
       → d.before.now ≡ replay (opening_of g) (seen_of g (shard_of g.shards k) p)
-  roomy-now e fits d = made-now g (shard_of g.shards k) d.before (d.makes.passes ++ e ∷ []) p q (roomy-made m g valid k e p q config seen fits d)
+  roomy-now e fits d = made-now g (shard_of g.shards k) d.before (d.makes.passes ++ e ∷ []) p q (roomy-made m g valid k e p q config seen refl fits d)
 
   -- one event that is no pass
   pub one-moves : (e : Event) → number_of e ≡ p.number → is_pass e ≡ false → (d : Does m g k (e ∷ []) p q) → Moves g (shard_of g.shards k) (moment d.before.now e ∷ []) (e ∷ []) p q

@@ -23,7 +23,7 @@ use Rattle.arc_table.specs.Fronts.{StartsWith, front_of}
 use Rattle.arc_table.specs.Geometry.{parties_of}
 use Rattle.arc_table.specs.TableLaws.{get_front, starts_more, starts_whole, there}
 use Rattle.arc_table.specs.Telling.{opening_of}
-use Rattle.arc_table.specs.Seen.{AddsAll, AddsOwn, AllSeen, HasAll, HasSeenItsOwn, IsSeen, Made, events_in, seen_of, turn_of}
+use Rattle.arc_table.specs.Seen.{AddsAll, AddsOwn, AllSeenBy, HasAll, HasSeenBy, IsSeenBy, MadeBy, events_in, seen_of, turn_of}
 use Rattle.arc_table.proofs.SeenLemmas.{events-at, events-map, get-behind}
 use Rattle.arc_table.proofs.Tells.{moments-append}
 
@@ -38,14 +38,14 @@ pub own-append : (n : ℕ) (s : PlainShard) (front rest : List Event) → own_mo
 own-append n s front rest = ap (own_moments n) (moments-append s front rest) ∙ filter-append _ (moments s front) (moments (replay s front) rest)
 
 module _ {A : Type 0} where
-  get-either : (l m : List A) (j : ℕ) (a : A) → get_elem? (l ++ m) j ≡ some a → (get_elem? l j ≡ some a) ⊎ ((y : ℕ) × (get_elem? m y ≡ some a))
+  pub get-either : (l m : List A) (j : ℕ) (a : A) → get_elem? (l ++ m) j ≡ some a → (get_elem? l j ≡ some a) ⊎ ((y : ℕ) × (get_elem? m y ≡ some a))
   get-either [] m j a at = inr (j, at)
   get-either (x ∷ xs) m zero a at = inl at
   get-either (x ∷ xs) m (suc j) a at = get-either xs m j a at
 
 -- what stands in a front stands in the history
-seen-more : (b n : ℕ) (h front : List Line) (place : ℕ) → StartsWith h front → IsSeen b n front place → IsSeen b n h place
-seen-more b n h front place starts seen = subst (λ (l : List Line). IsSeen b n l place) (sym starts.1) (record {
+seen-more : {May : (n number : ℕ) → Type 0} → (b n : ℕ) (h front : List Line) (place : ℕ) → StartsWith h front → IsSeenBy May b n front place → IsSeenBy May b n h place
+seen-more {May} b n h front place starts seen = subst (λ (l : List Line). IsSeenBy May b n l place) (sym starts.1) (record {
   event = seen.event;
   there = get_front front starts.0 place (line.Event seen.event) seen.there;
   number = seen.number;
@@ -56,11 +56,11 @@ seen-more b n h front place starts seen = subst (λ (l : List Line). IsSeen b n 
 -- ---- one call
 
 module _ {C : Type 0} (g : Config) where
-  all-seen-more : (ks : List (Kept (Known C))) (s t : List (List Line)) → ((i : ℕ) → StartsWith (front_of (turn_of g i) t) (front_of (turn_of g i) s)) → AllSeen g ks s → AllSeen g ks t
-  all-seen-more [] s t more all = tt
-  all-seen-more (k ∷ ks) s t more all = ((λ i j a at is. seen-more (parties_of g) k.number (front_of (turn_of g i) t) (front_of (turn_of g i) s) a.place (more i) (all.0 i j a at is)), all-seen-more ks s t more all.1)
+  all-seen-more : (May : (n number : ℕ) → Type 0) (ks : List (Kept (Known C))) (s t : List (List Line)) → ((i : ℕ) → StartsWith (front_of (turn_of g i) t) (front_of (turn_of g i) s)) → AllSeenBy May g ks s → AllSeenBy May g ks t
+  all-seen-more May [] s t more all = tt
+  all-seen-more May (k ∷ ks) s t more all = ((λ i j a at is. seen-more (parties_of g) k.number (front_of (turn_of g i) t) (front_of (turn_of g i) s) a.place (more i) (all.0 i j a at is)), all-seen-more May ks s t more all.1)
 
-  module _ (shard : ℕ) (before : ShardLog) (es : List Event) (p q : Place (Known C)) (made : Made g shard before es p q) where
+  module _ {May : (n number : ℕ) → Type 0} (shard : ℕ) (before : ShardLog) (es : List Event) (p q : Place (Known C)) (made : MadeBy May g shard before es p q) where
     history-is : seen_of g shard q ≡ before.history ++ es
     history-is = ap events_in made.here ∙ events-map (before.history ++ es)
 
@@ -108,14 +108,14 @@ module _ {C : Type 0} (g : Config) where
         ∙ (ap (λ (n : ℕ). get_elem? (map line.Event before.history ++ map line.Event es) (n + z)) (sym (length-map before.history line.Event))
         ∙ (get-behind (map line.Event before.history) (map line.Event es) z ∙ events-at (map line.Event es) es refl z e at))
 
-    made-seen : (y : ℕ) → y < length es → IsSeen (parties_of g) q.number (front_of (turn_of g shard) q.own.seen) (length before.history + y)
+    made-seen : (y : ℕ) → y < length es → IsSeenBy May (parties_of g) q.number (front_of (turn_of g shard) q.own.seen) (length before.history + y)
     made-seen y inside =
         let e = there es y inside in
         let own = made.own y e.0 e.1 in
         record {
           event = e.0;
           there = at-end y e.0 e.1;
-          number = own.0 ∙ sym made.same.number;
+          number = subst (λ (n : ℕ). May n (number_of e.0)) (sym made.same.number) own.0;
           placed = λ pass.
               let x = own.1 pass in
               let next : suc (length before.history + y) ≡ length before.history + suc y = omega arith in (
@@ -126,14 +126,14 @@ module _ {C : Type 0} (g : Config) where
           named = own.2;
         }
 
-    pub made-sees : HasSeenItsOwn g p → HasSeenItsOwn g q
+    pub made-sees : HasSeenBy May g p → HasSeenBy May g q
     made-sees own = record {
       own = λ j i a at is. ⊎_elim
-          (λ (old : get_elem? p.own.mine i ≡ some a). subst (λ (n : ℕ). IsSeen (parties_of g) n (front_of (turn_of g j) q.own.seen) a.place) (sym made.same.number)
+          (λ (old : get_elem? p.own.mine i ≡ some a). subst (λ (n : ℕ). IsSeenBy May (parties_of g) n (front_of (turn_of g j) q.own.seen) a.place) (sym made.same.number)
           (seen-more (parties_of g) p.number (front_of (turn_of g j) q.own.seen) (front_of (turn_of g j) p.own.seen) a.place (grows j) (own.own j i a old is)))
           (λ (new : (y : ℕ) × (get_elem? made.news y ≡ some a)).
           let each = made.each new.0 a new.1 in
-          subst (λ (x : ℕ × ℕ). IsSeen (parties_of g) q.number (front_of x.0 q.own.seen) x.1) (λ h. ((sym each.0 ∙ is) h, sym each.1 h)) (made-seen new.0 each.2))
+          subst (λ (x : ℕ × ℕ). IsSeenBy May (parties_of g) q.number (front_of x.0 q.own.seen) x.1) (λ h. ((sym each.0 ∙ is) h, sym each.1 h)) (made-seen new.0 each.2))
           (get-either p.own.mine made.news i a (subst (λ (l : List Mine). get_elem? l i ≡ some a) made.mine at));
-      joined = subst (λ (ks : List (Kept (Known C))). AllSeen g ks q.own.seen) (sym made.same.joined) (all-seen-more p.joined p.own.seen q.own.seen grows own.joined);
+      joined = subst (λ (ks : List (Kept (Known C))). AllSeenBy May g ks q.own.seen) (sym made.same.joined) (all-seen-more May p.joined p.own.seen q.own.seen grows own.joined);
     }

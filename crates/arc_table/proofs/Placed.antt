@@ -17,22 +17,17 @@ use Rattle.arc_table.specs.declared.view.Known.{Known}
 use Rattle.arc_table.specs.Booking.{digest_at}
 use Rattle.arc_table.specs.Both.{Does}
 use Rattle.arc_table.specs.Ending.{DoesRoomy}
-use Rattle.arc_table.specs.Fetching.{ReadsPool, Unserved}
+use Rattle.arc_table.specs.Fetching.{Unserved}
 use Rattle.arc_table.specs.Items.{Meanings}
 use Rattle.arc_table.specs.Reading.{TurnsToPool, cleared, known_at, unserved}
 use Rattle.arc_table.proofs.AfterRead.{stays_config, turns_stays}
 use Rattle.arc_table.proofs.Awaiting.{KeepsPlace, place_gone, place_kept}
 use Rattle.arc_table.proofs.RoomyAfter.{does_roomy_stays}
 
-placed : (ptr : Ptr) (o : Option Entry) (size before now place : ℕ) (told : Option (List ℕ)) → ReadsPool ptr (option_map view_of o) size before now told → option_and_then (λ e. e.place) o ≡ Some place
-    → Unserved ptr place (option_and_then (λ e. e.digest) o) size before now told
-placed ptr None size before now place told why is = absurd (none-some place is)
-placed ptr (Some x) size before now place told why is = subst (λ (y : Option ℕ). MatchOption y (Unit {0}) (λ place. Unserved ptr place x.digest size before now told)) is why
-
 module _ {C D : Type 0} (m : Meanings C) (devices : DeviceGhosts D) (g : Config) (valid : IsConfig g) (ptr : Ptr) (t : ℕ) (p r : Place (Known C)) (same : p.own.about.config ≡ g) (miss : DoesRoomy m g ptr.key (Miss p.number ptr.key t) p r) where
-  -- the device did not serve this place
+  -- the key had this place right before, and the device did not serve the read
   abbrev pub UnservedAt : (old new : D) → (place : ℕ) → Type 0
-  UnservedAt old new place = Unserved ptr place (digest_at ptr.key miss.before.now) (devices.size old) (devices.faults old) (devices.faults new) (devices.told old)
+  UnservedAt old new place = (place_of ptr.key miss.before.now ≡ Some place) × Unserved devices ptr (known_at ptr.key miss.before) old new
 
   -- the entry has a place where the read that turned to the pool ends: then the device did not serve this place
   pub placed_unserved : (old new : D) (back q : Place (Known C)) → TurnsToPool m devices g ptr (known_at ptr.key miss.before) old new r back → (es : List Event) (end : Does m g ptr.key es back q) (place : ℕ)
@@ -45,11 +40,11 @@ module _ {C D : Type 0} (m : Meanings C) (devices : DeviceGhosts D) (g : Config)
 
       kept : (now : Option ℕ) → now ≡ Some place → KeepsPlace (place_of ptr.key miss.before.now) now → UnservedAt old new place
       kept now there (inl none) = absurd (none-some place (sym none ∙ there))
-      kept now there (inr as_then) = placed ptr (entry_of ptr.key miss.before.now) (devices.size old) (devices.faults old) (devices.faults new) place (devices.told old) why (sym as_then ∙ there)
+      kept now there (inr as_then) = (sym as_then ∙ there, why)
 
       straight : (d : Does m g ptr.key es r q) → place_of ptr.key d.before.now ≡ Some place → UnservedAt old new place
       straight d there = kept (place_of ptr.key d.before.now) there (place_kept m g ptr.key valid t p.number p r same refl miss config es q d)
-  placed_unserved old new back q (cleared c) es end place at =
+  placed_unserved old new back q (cleared bytes came c) es end place at =
       let config : r.own.about.config ≡ g = stays_config g p r (does_roomy_stays m g valid ptr.key (Miss p.number ptr.key t) p r same miss) same in
-      let s = turns_stays m g valid devices ptr (known_at ptr.key miss.before) old new r back config (cleared c) in
+      let s = turns_stays m g valid devices ptr (known_at ptr.key miss.before) old new r back config (cleared bytes came c) in
       absurd (none-some place (sym (place_gone m g ptr.key valid t p.number p r same refl miss config back (stays_config g r back s config) c es q end) ∙ at))

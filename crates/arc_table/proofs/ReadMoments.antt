@@ -12,7 +12,7 @@ use Rattle.arc_core.specs.PlainShard.{PlainShard}
 use Rattle.arc_core.specs.Replay.{replay}
 use Rattle.arc_core.specs.Step.{after}
 use Rattle.arc_table.specs.Scanning.{ArePasses}
-use Rattle.arc_table.specs.Seen.{AreOwn, pass_owner}
+use Rattle.arc_table.specs.Seen.{AreOwn, AreOwnBy, IsNumberOf, pass_owner}
 
 abbrev pub moment : PlainShard → Event → Moment
 moment s e = record { before = s; event = e }
@@ -48,10 +48,14 @@ own-behind g n turn s (Resize a c ∷ es) e all = absurd all
 pub own-none : {b : ℕ} (n : ℕ) → AreOwn b n []
 own-none n z e at = absurd (some-ne-none e (sym at))
 
+-- one event that is no pass
+pub own-single-by : (May : (n number : ℕ) → Type 0) {b : ℕ} (n : ℕ) (e : Event) → May n (number_of e) → is_pass e ≡ false → AreOwnBy May b n (e ∷ [])
+own-single-by May n e his none zero x at = let is : e ≡ x = some-injective e x at in
+    (subst (λ (y : Event). May n (number_of y)) is his, (λ pass. absurd (false≢true (sym none ∙ (ap is_pass is ∙ pass)))), (λ pass. absurd (false≢true (sym none ∙ (ap is_pass is ∙ pass)))))
+own-single-by May n e his none (suc z) x at = absurd (some-ne-none x (sym at))
+
 pub own-single : {b : ℕ} (n : ℕ) (e : Event) → number_of e ≡ n → is_pass e ≡ false → AreOwn b n (e ∷ [])
-own-single n e his none zero x at = let is : e ≡ x = some-injective e x at in
-    (ap number_of (sym is) ∙ his, (λ pass. absurd (false≢true (sym none ∙ (ap is_pass is ∙ pass)))), (λ pass. absurd (false≢true (sym none ∙ (ap is_pass is ∙ pass)))))
-own-single n e his none (suc z) x at = absurd (some-ne-none x (sym at))
+own-single n e his none = own-single-by IsNumberOf n e his none
 
 -- the first of a scan's events, the last of which is this
 first-goes-on : (g : Config) (n turn : ℕ) (passes : List Event) (e : Event) → ArePasses g n turn passes → IsTrue (goes_on n e)
@@ -98,11 +102,11 @@ pass-is g n turn (Restore a k place d) xs all = absurd all
 pass-is g n turn (Resize a c) xs all = absurd all
 
 -- the passes of a scan, each of which names one of so many parties, and the event behind them
-pub own-scan : (b : ℕ) (g : Config) (n turn : ℕ) (passes : List Event) (e : Event) → ArePasses g n turn passes → AllByRecursion (λ x. pass_owner x < b) passes
-    → (number_of e ≡ n) × (is_pass e ≡ false) × IsTrue (goes_on n e) → AreOwn b n (passes ++ e ∷ [])
-own-scan b g n turn [] e all named fits z x at = own-single n e fits.0 fits.1 z x at
-own-scan b g n turn (y ∷ ys) e all named fits zero x at =
+pub own-scan : (May : (n number : ℕ) → Type 0) (b : ℕ) (g : Config) (n turn : ℕ) (passes : List Event) (e : Event) → May n n → ArePasses g n turn passes → AllByRecursion (λ x. pass_owner x < b) passes
+    → May n (number_of e) × (is_pass e ≡ false) × IsTrue (goes_on n e) → AreOwnBy May b n (passes ++ e ∷ [])
+own-scan May b g n turn [] e itself all named fits z x at = own-single-by May n e fits.0 fits.1 z x at
+own-scan May b g n turn (y ∷ ys) e itself all named fits zero x at =
     let is : y ≡ x = some-injective y x at in
     let h = pass-is g n turn y ys all in
-    (ap number_of (sym is) ∙ h.0, (λ pass. first-goes-on g n turn ys e h.1 fits.2), (λ pass. subst (λ (v : Event). pass_owner v < b) is named.0))
-own-scan b g n turn (y ∷ ys) e all named fits (suc z) x at = own-scan b g n turn ys e (pass-is g n turn y ys all).1 named.1 fits z x at
+    (subst (May n) (sym (ap number_of (sym is) ∙ h.0)) itself, (λ pass. first-goes-on g n turn ys e h.1 fits.2), (λ pass. subst (λ (v : Event). pass_owner v < b) is named.0))
+own-scan May b g n turn (y ∷ ys) e itself all named fits (suc z) x at = own-scan May b g n turn ys e itself (pass-is g n turn y ys all).1 named.1 fits z x at

@@ -39,7 +39,7 @@ module _ {C : Type 0} where
   gave_listed [] p = refl
   gave_listed (v ∷ vs) p = gave_listed vs (gave_back p v.0 (after_same v.0 p.own))
 
-  gave_held : (vs : List (ℕ × Chain)) (p : Place (Known C)) (j : ℕ) → ((x : ℕ) → IsAmong x (turns_in vs) → j ≢ x) → IsAmong j p.held → IsAmong j (gave_all vs p).held
+  pub gave_held : (vs : List (ℕ × Chain)) (p : Place (Known C)) (j : ℕ) → ((x : ℕ) → IsAmong x (turns_in vs) → j ≢ x) → IsAmong j p.held → IsAmong j (gave_all vs p).held
   gave_held [] p j far among = among
   gave_held (v ∷ vs) p j far among = gave_held vs (gave_back p v.0 (after_same v.0 p.own)) j (λ x h. far x (inr h)) (among_without v.0 j p.held (far v.0 (inl refl)) among)
 
@@ -50,12 +50,12 @@ through_passes g n i a k t key d s [] hs h = ap (λ (b : Bool). if b then record
 through_passes g n i a k t key d s (Pass b x owner ∷ es) hs h = through_passes g n i a k t key d (after s (Pass b x owner)) es hs h.1
 through_passes g n i a k t key d s (_ ∷ es) hs h = absurd h
 
-among_turns : (g : Config) (x : ℕ) (vs : List (ℕ × Chain)) → AllPairs (λ j b. IsBucket g j) vs → IsAmong x (turns_in vs) → IsBucket g x
+pub among_turns : (g : Config) (x : ℕ) (vs : List (ℕ × Chain)) → AllPairs (λ j b. IsBucket g j) vs → IsAmong x (turns_in vs) → IsBucket g x
 among_turns g x [] all h = absurd h
 among_turns g x (v ∷ vs) all (inl is) = subst (IsBucket g) is all.0
 among_turns g x (v ∷ vs) all (inr h) = among_turns g x vs all.1 h
 
-cell_far : (g : Config) (i : ℕ) (vs : List (ℕ × Chain)) → IsCell g i → AllPairs (λ j b. IsBucket g j) vs → AllPairs (λ j b. i ≢ j) vs
+pub cell_far : (g : Config) (i : ℕ) (vs : List (ℕ × Chain)) → IsCell g i → AllPairs (λ j b. IsBucket g j) vs → AllPairs (λ j b. i ≢ j) vs
 cell_far g i [] in_range all = tt
 cell_far g i (v ∷ vs) in_range all = ((λ is. let a = all.0.0 in omega arith), cell_far g i vs in_range all.1)
 

@@ -25,7 +25,7 @@ use Rattle.arc_table.specs.TableLaws.{front_else, front_here, within}
 use Rattle.arc_table.specs.Views.{after_same}
 use Rattle.arc_table.proofs.PassMines.{mines_of_are}
 use Rattle.arc_table.proofs.Reached.{reached, sound_log}
-use Rattle.arc_table.specs.Seen.{HasSeenItsOwn, Made, pass_owner, turn_of}
+use Rattle.arc_table.specs.Seen.{HasSeenBy, MadeBy, pass_owner, turn_of}
 use Rattle.arc_table.proofs.ReadMoments.{own-scan}
 use Rattle.arc_table.proofs.SeenLemmas.{finds, parties-then, shard-is-above}
 
@@ -65,8 +65,8 @@ module _ {C : Type 0} (m : Meanings C) (g : Config) where
       let apart : turn_of g j ≢ v.0 = λ e. let b = all.0.1 in omega arith in
       won-seen vs _ j all.1 ∙ front_else v.0 (turn_of g j) [] w.seen apart
 
-module _ {C : Type 0} (m : Meanings C) (g : Config) (valid : IsConfig g) (k : Key) (e : Event) (p q : Place (Known C)) (config : p.own.about.config ≡ g)
-    (own : HasSeenItsOwn g p) (fits : (number_of e ≡ p.number) × (is_pass e ≡ false) × IsTrue (goes_on p.number e)) (d : DoesRoomy m g k e p q) where
+module _ {C : Type 0} {May : (n number : ℕ) → Type 0} (m : Meanings C) (g : Config) (valid : IsConfig g) (k : Key) (e : Event) (p q : Place (Known C)) (config : p.own.about.config ≡ g)
+    (own : HasSeenBy May g p) (itself : May p.number p.number) (fits : May p.number (number_of e) × (is_pass e ≡ false) × IsTrue (goes_on p.number e)) (d : DoesRoomy m g k e p q) where
   abbrev events : List Event
   events = d.makes.passes ++ e ∷ []
 
@@ -86,14 +86,14 @@ module _ {C : Type 0} (m : Meanings C) (g : Config) (valid : IsConfig g) (k : Ke
   scanned-seen : (j : ℕ) → front_of (turn_of g j) scanned.own.seen ≡ front_of (turn_of g j) d.reached.own.seen
   scanned-seen j = won-seen m g d.makes.won d.reached.own j d.makes.buckets
 
-  pub roomy-made : Made g (shard_of g.shards k) d.before (d.makes.passes ++ e ∷ []) p q
+  pub roomy-made : MadeBy May g (shard_of g.shards k) d.before (d.makes.passes ++ e ∷ []) p q
   roomy-made =
       let r = reached m g k d.chain d.before p d.reached d.takes in
       let sound = sound_log m g k d.chain d.before p d.reached d.takes config valid in
       let news = mines_of_are (shard_turn g k) (length d.before.history) (length scanned.own.notes - passes_in events) events in
       record {
         same = record { number = same.number ∙ r.number; parties = same.parties ∙ r.parties; joined = same.joined ∙ r.joined; about = same.about ∙ (won-about m g d.makes.won d.reached.own ∙ r.about) };
-        found = finds m g valid k d.chain d.before p d.reached d.takes own;
+        found = finds m g valid k d.chain d.before p d.reached d.takes config own;
         replayed = ap (λ (x : PlainShard). replay x d.before.history) (sym sound.opening) ∙ sound.replayed.replayed;
         here = ap (front_of (turn_of g (shard_of g.shards k))) same.seen
             ∙ (front_here (shard_turn g k) (map line.Event d.makes.after.history) scanned.own.seen ∙ ap (map line.Event) d.makes.history);
@@ -110,6 +110,6 @@ module _ {C : Type 0} (m : Meanings C) (g : Config) (valid : IsConfig g) (k : Ke
         each = λ y a at.
             let each = news.each y a at in
             (each.0, each.1, (let w = within _ y a at in let l = news.long in omega arith));
-        own = own-scan (parties_of g) g p.number (shard_turn g k) d.makes.passes e (subst (λ (n : ℕ). ArePasses g n (shard_turn g k) d.makes.passes) r.number d.makes.own)
+        own = own-scan May (parties_of g) g p.number (shard_turn g k) d.makes.passes e itself (subst (λ (n : ℕ). ArePasses g n (shard_turn g k) d.makes.passes) r.number d.makes.own)
             (named-others (parties_of g) g d.reached.number (shard_turn g k) d.reached d.makes.passes (r.parties ∙ parties-then m g valid k d.chain d.before p d.reached d.takes config) d.makes.own d.makes.others) fits;
       }

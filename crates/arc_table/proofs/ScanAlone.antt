@@ -14,7 +14,7 @@ use Rattle.arc_table.proofs.Reached.{reached}
 use Rattle.arc_table.specs.Seen.{HasAll}
 
 module _ {C : Type 0} where
-  never-in : (n : ℕ) (ks : List (Kept (Known C))) → Apart n ks → ¬ IsIn n ks
+  pub never-in : (n : ℕ) (ks : List (Kept (Known C))) → Apart n ks → ¬ IsIn n ks
   never-in n [] apart there = absurd there
   never-in n (k ∷ ks) apart there = ⊎_elim (λ is. apart.0 is) (λ later. never-in n ks apart.1 later) there
 

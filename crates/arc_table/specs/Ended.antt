@@ -1,6 +1,7 @@
 -- What is left of a cache that is closed.
 use Rattle.std.specs.Prelude.{◌≡◌, List, [], ◌∷◌, ◌++◌, length, map, ◌*◌}
 use Rattle.hash_chain.specs.Chain.{Chain}
+use Rattle.arc_core.specs.declared.config.Config.{Config}
 use Rattle.arc_core.specs.ShardLog.{ShardLog}
 use Rattle.turn_table.specs.Board.{opening}
 use Rattle.turn_table.specs.Places.{Place, ShowAll}
@@ -12,8 +13,9 @@ use Rattle.arc_table.specs.Geometry.{parties_of}
 use Rattle.arc_table.specs.Items.{Meanings}
 use Rattle.arc_table.specs.Rule.{Pact}
 
--- the shards and the cells that a cache had at its end, by their numbers
+-- the numbers with which a cache was made, and the shards and the cells that it had at its end, by their numbers
 pub record Ended (C : Type 0) : Type 0 where
+  pub config : Config
   pub shards : List ShardLog
   pub cells : List C
 
@@ -43,8 +45,9 @@ module _ {C : Type 0} where
   shards_in (item.Shard l ∷ vs) = l ∷ shards_in vs
 
 module _ {C : Type 0} (m : Meanings C) where
-  -- The cache ended with these cells and shards: with its buckets, by the numbers of the turns, they meet the pact with all turns free and with what these parties know
+  -- The cache ended with its numbers and with these cells and shards: with its buckets, by the numbers of the turns, they meet the pact with all turns free and with what these parties know
   pub record Ends (cache : Cache) (ps : List (Place (Known C))) (e : Ended C) : Type 0 where
+    pub config : e.config ≡ cache.config
     pub views : List (Known C)
     pub buckets : List Chain
     pub parties : length views ≡ parties_of cache.config

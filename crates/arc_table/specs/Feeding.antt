@@ -54,9 +54,9 @@ module _ {C : Type 0} (m : Meanings C) where
   abbrev pub Leaves : Config → Key → Why → Place (Known C) → Place (Known C) → Type 0
   Leaves g k reason p q = (w : Why) × ((w ≡ reason) ⊎ (w ≡ why.Gone)) × Does m g k (Leave p.number k w ∷ []) p q
 
-  -- `clear`: the key had the place and lost it; or the replay of the front has it not, and there is no event
+  -- `clear`: the key had this place and lost it; or the replay of the front has it not, and there is no event
   abbrev pub AnswersClear : Config → Key → (place : ℕ) → Place (Known C) → Place (Known C) → Cleared → Type 0
-  AnswersClear g k place p q (cleared.Done) = Does m g k (Clear p.number k ∷ []) p q
+  AnswersClear g k place p q (cleared.Done) = (d : Does m g k (Clear p.number k ∷ []) p q) × IsTrue (has_place place k d.before.now)
   AnswersClear g k place p q (cleared.Not front) = Does m g k [] p q × Tells (λ s. IsTrue (not (has_place place k s))) g k p q front
 
   -- one key is restored; or there is no event, since memory was refused or the key is there in the replay of the front

@@ -46,3 +46,5 @@ pub mod Resizing
 pub mod Lending
 pub mod Seen
 pub mod Told
+pub mod Listing
+pub mod Cells

@@ -37,7 +37,7 @@ use Rattle.arc_table.specs.declared.view.Known.{Known}
 use Rattle.arc_table.specs.Arriving.{FindsCleared}
 use Rattle.arc_table.specs.Both.{Does}
 use Rattle.arc_table.specs.Ending.{DoesRoomy}
-use Rattle.arc_table.specs.Fetching.{CameFromCache, IsFound, ReadsPool}
+use Rattle.arc_table.specs.Fetching.{CameFromCache, IsAskedAtMost, IsFound, Unserved}
 use Rattle.arc_table.specs.Holding.{IsHeld, IsHoldOf}
 use Rattle.arc_table.specs.Items.{Meanings}
 use Rattle.vdev_io.specs.Calls.{Failed, Gave, MakesCall}
@@ -161,15 +161,15 @@ module _ {C P : Type 0} (m : Meanings C) (pools : PoolGhosts P) where
 
 module _ {C D : Type 0} (m : Meanings C) (devices : DeviceGhosts D) where
   -- The party turns to the pool, by what was known of the key right before its miss: there was no place on the cache device, or the device
-  -- did not serve it. Or the device did, and the feeder has cleared the place since: bytes from there may not arrive any more.
+  -- did not serve it. Or the device gave bytes of the pointer, and the feeder has cleared the place since: bytes from there may not arrive any more.
   pub data TurnsToPool (g : Config) (ptr : Ptr) (found : Option EntryView) (old new : D) (p q : Place (Known C)) : Type 0 where
-    unserved : ReadsPool ptr found (devices.size old) (devices.faults old) (devices.faults new) (devices.told old) → q ≡ p → TurnsToPool g ptr found old new p q
-    cleared : FindsCleared m g ptr.key p q → TurnsToPool g ptr found old new p q
+    unserved : Unserved devices ptr found old new → q ≡ p → TurnsToPool g ptr found old new p q
+    cleared : (bytes : List ℕ) → CameFromCache devices ptr found bytes old new → FindsCleared m g ptr.key p q → TurnsToPool g ptr found old new p q
 
 module _ {C P D : Type 0} (m : Meanings C) (pools : PoolGhosts P) (devices : DeviceGhosts D) where
   -- the block arrived from the place on the cache device that was known of it, and is held; the pool was not read
   pub record ArrivesFromDevice (g : Config) (ptr : Ptr) (found : Option EntryView) (before now : Outside P D) (p q : Place (Known C)) (hold : Hold) : Type 0 where
-    pub bytes : CameFromCache ptr found hold.block.value (devices.size before.device) (devices.told before.device)
+    pub bytes : CameFromCache devices ptr found hold.block.value before.device now.device
     pub none : now.pool ≡ before.pool
     pub does : Does m g ptr.key (Arrive p.number ptr.key ptr.digest origin.L2 ∷ []) p q
     pub held : IsHeldOf m g ptr p q hold
@@ -179,7 +179,7 @@ module _ {C P D : Type 0} (m : Meanings C) (pools : PoolGhosts P) (devices : Dev
   pub data EndsMiss (g : Config) (ptr : Ptr) (found : Option EntryView) (before now : Outside P D) (p q : Place (Known C)) (result : Result Read ReadFault) : Type 0 where
     from_device : (hold : Hold) → result ≡ Ok (gave.Held hold served.L2) → ArrivesFromDevice g ptr found before now p q hold → EndsMiss g ptr found before now p q result
     from_pool : (back : Place (Known C)) → TurnsToPool m devices g ptr found before.device now.device p back → GoesToPool m pools g ptr before.pool now.pool back q result → EndsMiss g ptr found before now p q result
-    from_none : FailsUnread m pools g ptr before.pool now.pool p q result → EndsMiss g ptr found before now p q result
+    from_none : IsAskedAtMost devices ptr found before.device now.device → FailsUnread m pools g ptr before.pool now.pool p q result → EndsMiss g ptr found before now p q result
 
   -- ---- a read
 

@@ -8,15 +8,16 @@ ghost use Rattle.arc_table.specs.Items.{meanings};
 
 use crate::arcs::{Arcs, Party};
 use crate::item::Item;
-use arc_core::{Keeps, Shard};
+use arc_core::{Config, Keeps, Shard};
 use blk_ptr::NoMemory;
 use std::marker::Model;
 use std::sync::Arc;
 
-/// What the turns of a cache had at its end: its shards with their whole histories, and its cells. `Arcs::close` alone makes one.
-/// Contracts see both lists.
+/// What the turns of a cache had at its end: its shards with their whole histories, and its cells; and the numbers with which the cache was
+/// made. `Arcs::close` alone makes one. Contracts see all three.
 #[derive(Drop)]
 pub struct Closed<C> {
+    config: Config,
     // Counted, so that a report of the run owns the histories too and needs no copy of them.
     shards: Arc<Vec<Shard>>,
     cells: Vec<C>,
@@ -28,10 +29,17 @@ impl<C> Model for Closed<C> {
 
     ghost Value = { Ended C };
 
-    ghost view = { λ c. record { shards = (arc_value c.shards).items; cells = c.cells.items } };
+    ghost view = { λ c. record { config = c.config; shards = (arc_value c.shards).items; cells = c.cells.items } };
 }
 
 impl<C> Closed<C> {
+    /// The numbers with which the cache was made.
+    pub fn config(&self) -> &Config
+        ensures { result.now ≡ self.now.config }
+    {
+        &self.config
+    }
+
     /// The shards, by their numbers.
     pub fn shards(&self) -> &[Shard]
         ensures { result.now ≡ self.now.shards }
@@ -91,6 +99,10 @@ impl<C: Keeps + Drop> Arcs<C> {
         };
         sort_out(values, &mut cells, &mut shards);
         let shards = Arc::new(alloc, shards)?;
-        Ok(Closed { shards, cells })
+        Ok(Closed {
+            config,
+            shards,
+            cells,
+        })
     }
 }

@@ -5,6 +5,7 @@ ghost use Rattle.arc_core.specs.declared.event.Event.{Event};
 ghost use Rattle.arc_core.specs.PlainShard.{entry_of, holds_of};
 ghost use Rattle.arc_table.specs.Both.{Makes};
 ghost use Rattle.arc_table.specs.Cache.{IsPartyOf};
+ghost use Rattle.arc_table.specs.Geometry.{IsCell, cell_number};
 ghost use Rattle.arc_table.specs.Handing.{AnswersHand, IsCellInHand, Releases};
 ghost use Rattle.arc_table.specs.Holding.{IsHeld};
 ghost use Rattle.arc_table.specs.Items.{meanings};
@@ -71,9 +72,30 @@ impl<C: Keeps> Arcs<C> {
         let Ok(bytes) = hold.block.bytes().to_vec(self.alloc) else {
             return Err(hold);
         };
+        self.give_up(rt, party, hold);
+        Ok(bytes)
+    }
+
+    /// Gives up a hold of the party's own, or of a cell in its hands, whose bytes nobody needs any more. Where it was the only hold, the entry
+    /// goes. It may wait, and takes no memory.
+    pub fn give_up(&self, rt: &impl Wait, party: &mut Party<C>, hold: Hold)
+        requires party { IsPartyOf self.now party.old }
+        requires look { HasNoLook self.now party.old }
+        requires hold { IsHeld self.now.config party.old hold }
+        ensures { Releases (meanings C.holds C.entries C.opening C.claims C.sound) self.now.config hold party.old party.new }
+    {
         let both = self.take_both(rt, party, hold.key);
         self.release_taken(party, both, &hold);
-        Ok(bytes)
+    }
+
+    /// A hold that the cell `i` keeps, whoever put it there: it has the cell's number. Only a party that has the cell in hand and lists the hold
+    /// there may give it back, so this takes no turn.
+    pub fn of_cell(&self, mut hold: Hold, i: u32) -> Hold
+        requires range { IsCell self.now.config i }
+        ensures { result ≡ record hold { owner = cell_number self.now.config i } }
+    {
+        hold.owner = self.config.callers + 1 + i;
+        hold
     }
 
     // Gives a hold up on the entry whose bucket and shard the party has just taken.

@@ -22,6 +22,7 @@ mod hits;
 mod hold;
 mod inserts;
 mod item;
+mod laws;
 mod look;
 mod looks;
 mod misses;
@@ -48,6 +49,10 @@ pub use hits::TryHit;
 pub use hold::Hold;
 pub use inserts::Inserted;
 pub use item::Item;
+pub use laws::{
+    calls_settle_picks, cells_stay_in_hand, parties_see_their_entries, picks_are_candidates,
+    reads_leave_cells,
+};
 pub use look::{BucketTurn, Look};
 pub use pact::{Pact, Settled};
 pub use picks::Picked;

@@ -12,10 +12,9 @@ ghost use Rattle.arc_table.specs.Reading.{Answers, AnswersRead, AnswersRound, En
 ghost use Rattle.arc_table.specs.Waiting.{HasAllIdle};
 
 use crate::arcs::{Arcs, Party};
-use crate::fetch::{Unfetched, fetch, fetch_pool};
+use crate::fetch::Unfetched;
 use crate::hits::{Standing, standing_of};
 use crate::hold::Hold;
-use crate::past::read_past;
 use arc_core::{EntryView, FailedAt, Keeps, Origin, ReadFault, Served};
 use blk_ptr::{Block, Digest, NoMemory, Ptr};
 use std::sync::{Arc, Wait};
@@ -179,7 +178,7 @@ impl<C: Keeps> Arcs<C> {
                 Round::Reading
             }
             Standing::Other { kept } => match self.past_taken(party, both, ptr.key, kept) {
-                Ok(bytes) => Round::Answered(read_past(self.alloc, pool, &ptr, bytes, kept)),
+                Ok(bytes) => Round::Answered(self.read_past(party, pool, &ptr, bytes, kept)),
                 Err(NoMemory) => Round::Answered(Err(ReadFault::NoMemory)),
             },
             Standing::Missing => match self.miss_taken(party, both, ptr.key, found, tick) {
@@ -210,7 +209,7 @@ impl<C: Keeps> Arcs<C> {
         ensures pool { KeepsPool P.Pool pool.old pool.new }
         ensures cache { KeepsDevice D.CacheDev cache.old cache.new }
     {
-        let fetched = match fetch(self.alloc, pool, cache, ptr, found) {
+        let fetched = match self.fetch(party, pool, cache, ptr, found) {
             Ok(fetched) => fetched,
             Err(why) => {
                 self.fail_read(rt, party, ptr.key, why.failed_at());
@@ -241,7 +240,7 @@ impl<C: Keeps> Arcs<C> {
             pool.old pool.new party.old party.new result }
         ensures pool { KeepsPool P.Pool pool.old pool.new }
     {
-        match fetch_pool(self.alloc, pool, ptr) {
+        match self.fetch_pool(party, pool, ptr) {
             Ok(fetched) => {
                 let Some(hold) = self.arrive_read(rt, party, ptr, fetched) else {
                     unreachable!()

@@ -24,8 +24,8 @@ use Rattle.arc_table.specs.declared.view.Ledger.{Ledger}
 use Rattle.arc_table.specs.Booking.{digest_at, with_hold, without_hold}
 use Rattle.arc_table.specs.Both.{Does}
 use Rattle.arc_table.specs.Cache.{Cache, IsPartyOf}
-use Rattle.arc_table.specs.Fronts.{item_at, list_at, without_item}
-use Rattle.arc_table.specs.Geometry.{IsCell, bucket_turn, cell_number, shard_turn}
+use Rattle.arc_table.specs.Fronts.{item_at, list_at}
+use Rattle.arc_table.specs.Geometry.{IsCell, cell_number}
 use Rattle.arc_table.specs.Giving.{IsGivenCell}
 use Rattle.arc_table.specs.Holding.{IsHeld, cell, own, ptr_of}
 use Rattle.arc_table.specs.Items.{Meanings}
@@ -33,12 +33,11 @@ use Rattle.arc_table.specs.Logged.{IsSoundItem}
 use Rattle.arc_table.specs.Looking.{HasNoLook}
 use Rattle.arc_table.specs.Rule.{Pact}
 use Rattle.arc_table.specs.ShardGiving.{holds_through}
-use Rattle.arc_table.specs.TableLaws.{item_else, item_here, list_else, list_here, without_else}
+use Rattle.arc_table.specs.TableLaws.{item_here, list_here}
 use Rattle.arc_table.specs.Views.{after_won}
 use Rattle.arc_table.proofs.Afterwards.{Stays, does_stays, stays_party}
-use Rattle.arc_table.proofs.HoldEvents.{listed_now}
-use Rattle.arc_table.proofs.Ranges.{bucket_range, shard_range}
-use Rattle.arc_table.proofs.Reached.{Took, holding, listed_still, reached}
+use Rattle.arc_table.proofs.CellsInHand.{cell-lists, cell-recorded}
+use Rattle.arc_table.proofs.Reached.{Took, holding, listed_still}
 use Rattle.arc_examples.specs.Ready.{IsReady, IsReadyAs}
 use Rattle.arc_examples.proofs.Holds.{own-hold, without-first}
 
@@ -116,30 +115,7 @@ module _ {C : Type 0} (m : Meanings C) where
     number = s.number ∙ t.number;
   }
 
--- ---- events of a shard while a cell is in hand
-
-module _ {C : Type 0} (m : Meanings C) (g : Config) (valid : IsConfig g) (k : Key) (es : List Event) (p q : Place (Known C)) (same : p.own.about.config ≡ g) (d : Does m g k es p q) (j : ℕ) (in_range : IsCell g j) where
-  not-shard : j ≢ shard_turn g k
-  not-shard = let a = (shard_range g k valid).0 in λ e. omega arith
-
-  not-bucket : j ≢ bucket_turn g k
-  not-bucket = let a = (bucket_range g k valid).0 in λ e. omega arith
-
-  pub cell-recorded : item_at j q.own.records ≡ item_at j p.own.records
-  cell-recorded = ap (λ (x : Place (Known C)). item_at j x.own.records) d.makes.gave
-      ∙ (without_else (bucket_turn g k) j ((bucket_turn g k, item.Bucket d.makes.given) ∷ without_item (shard_turn g k) d.reached.own.records) not-bucket
-      ∙ (item_else (bucket_turn g k) j (item.Bucket d.makes.given) (without_item (shard_turn g k) d.reached.own.records) not-bucket
-      ∙ (without_else (shard_turn g k) j d.reached.own.records not-shard
-      ∙ (ap (item_at j) (reached m g k d.chain d.before p d.reached d.takes).records
-      ∙ (item_else (shard_turn g k) j (item.Shard d.before) ((bucket_turn g k, item.Bucket d.chain) ∷ p.own.records) not-shard
-      ∙ item_else (bucket_turn g k) j (item.Bucket d.chain) p.own.records not-bucket)))))
-
-  listed-before : list_at j d.reached.own.listed ≡ list_at j p.own.listed
-  listed-before = ap (list_at j) (reached m g k d.chain d.before p d.reached d.takes).listed
-      ∙ (list_else (shard_turn g k) j [] ((bucket_turn g k, []) ∷ p.own.listed) not-shard ∙ list_else (bucket_turn g k) j [] p.own.listed not-bucket)
-
-  pub cell-lists : IsAmong j p.held → list_at j q.own.listed ≡ holds_through (cell_number g j) d.before.now es (list_at j p.own.listed)
-  cell-lists among = listed_now m g k d.chain d.before p d.reached d.takes same valid es q d.makes j among in_range ∙ ap (holds_through (cell_number g j) d.before.now es) listed-before
+-- ---- a hold that is handed to a cell, and one that is given up
 
 none-left : (k : Key) (b : Bool) → (if b then without_hold k [] else []) ≡ []
 none-left k true = refl

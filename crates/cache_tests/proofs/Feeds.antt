@@ -29,7 +29,7 @@ module _ {C : Type 0} (m : Meanings C) (cache : Cache) (p q : Place (Known C)) (
   does-ready k es d = ready-stays cache p q ready (does_stays m cache.config ready.valid k es p q ready.of.config d)
 
   pub clear-ready : (k : Key) (place : ℕ) (result : Cleared) → AnswersClear m cache.config k place p q result → IsReadyAs cache p q
-  clear-ready k place (cleared.Done) a = does-ready k _ a
+  clear-ready k place (cleared.Done) a = does-ready k _ a.0
   clear-ready k place (cleared.Not front) a = does-ready k _ a.0
 
   stops-stay : {Q : Restored → Place (Known C) → Place (Known C) → Type 0} → (n : ℕ) (list : List Restored) (done : ℕ) → StopsAt m Q cache.config n list done p q → Stays p q

@@ -366,6 +366,7 @@ module _ {C P : Type 0} (m : Meanings C) (cache : Cache) (pools : Ghosts P) (blo
       found = all-counted _ (λ shard. found-over g.shards blocks shard (λ i. opening) [] os replies found-all) 0 g.shards;
       counted = counted-all;
       explained = explained;
+      config = ends.config;
       lines = record { first = a; last = b; alone = alone; none = refl; opens = opens; from = refl; to = refl; lines = did };
     }
       where

@@ -69,7 +69,7 @@ module _ {C : Type 0} (m : Meanings C) (cache : Cache) (ps : List (Place (Known 
 
     module _ (config : p.own.about.config ≡ g) (seen : HasSeenItsOwn g p) where
       pub closed-finds : Finds g i p l.history
-      closed-finds = finds-then m g p i l last seen
+      closed-finds = finds-then m g p i l last seen config
 
       pub closed-starts : StartsWith (map line.Event l.history) (front_of (turn_of g i) p.own.seen)
       closed-starts = closed-finds.starts

@@ -149,6 +149,7 @@ module _ {C : Type 0} (m : Meanings C) (cache : Cache) (valid : IsConfig cache.c
 
   abbrev bare-ends : Ends m cache (bares settled ps) e
   bare-ends = record {
+    config = ends.config;
     views = ends.views;
     buckets = ends.buckets;
     parties = ends.parties;

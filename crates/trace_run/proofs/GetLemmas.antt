@@ -146,7 +146,7 @@ module _ {C P D : Type 0} (m : Meanings C) (pools : PoolGhosts P) (devices : Dev
       → EndsMiss m pools devices g ptr found before now p q result → PoolDid pools ptr before.pool now.pool result
   miss-did found before now p q result ok (from_device hold is a) = subst (PoolDid pools ptr before.pool now.pool) (sym is) (a.none, a.bytes.of)
   miss-did found before now p q result ok (from_pool back turns goes) = goes-did before.pool now.pool back q result ok goes
-  miss-did found before now p q result ok (from_none f) = subst (PoolDid pools ptr before.pool now.pool) (sym f.answer) tt
+  miss-did found before now p q result ok (from_none asked f) = subst (PoolDid pools ptr before.pool now.pool) (sym f.answer) tt
 
   past-pool : (old new : P) (kept : Digest) (result : Result Read ReadFault) → IsValid (pools.size old) ptr.key → EndsPast pools ptr kept old new result → PoolDid pools ptr old new result
   past-pool old new kept (Ok (gave.Past block digest)) ok h = h.1

@@ -229,6 +229,7 @@ ran-group m cache trace is valid pools before after own ps whole feeder parts wo
       parties = ps;
       worked = subst (λ (c : ℕ). HaveWorked cache pools blocks os c before after own ps) same worked;
       ordered = ordered;
+      config = ended.config ∙ is;
       explained = explained-as trace cache.config merged (ends_in closed) (histories_of closed) is (worked-explains cache pools blocks os before after own ps feeder worked last merged ordered m valid closed ended);
       counted = λ n below. worked-counted cache pools blocks os before after own ps feeder worked last merged ordered m valid closed ended n (subst (λ (c : ℕ). n < c) (sym same) below);
       others = subst (λ (c : ℕ). over_callers c (λ n. reads_of_caller n (histories_of closed)) ≡ sum_by pool_reads (histories_of closed)) same
@@ -318,6 +319,7 @@ module _ {C P : Type 0} (cache : Cache) (pools : Ghosts P) (before middle after 
       answers = subst (λ (x : ℕ × Option (List ℕ)). AnswersAll x.0 x.1 trace.blocks trace.ops replies) (λ i. (keeps.size i, keeps.told i))
           (worked-answered cache pools trace.blocks trace.ops callers middle after ran.own ran.parties (all-callers trace formed) ran.worked replies ran.ordered);
       explained = ran.explained;
+      config = ran.config;
       reads = λ room. omega (arith, reads-then room, all-done-reads);
       faults = λ room. omega (arith, faults-then room, all-done-faults);
       together = λ whole. record {

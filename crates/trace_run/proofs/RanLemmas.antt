@@ -34,6 +34,7 @@ module _ {C P : Type 0} (pools : Ghosts P) (before after : P) (trace : Trace) (r
         answers = ran.answers;
         explained = ran.explained;
         tells = record { histories = refl; ends = refl };
+        config = ran.config;
         reads = λ low. calls-reads pools (calls_of_all replies) before after ran.made (omega (arith, low, few)) ∙ ap (λ (n : ℕ). pools.reads before + n) ran.counted;
         faults = λ low. omega (arith, calls-faults pools (calls_of_all replies) before after ran.made (omega (arith, low, few)), failed-all replies);
         alone = λ _. (
@@ -65,6 +66,7 @@ module _ {C P : Type 0} (pools : Ghosts P) (before after : P) (trace : Trace) (r
     answers = ran.answers;
     explained = ran.explained;
     tells = record { histories = refl; ends = refl };
+    config = ran.config;
     reads = ran.reads;
     faults = ran.faults;
     alone = λ one. absurd (omega (arith, two, one));

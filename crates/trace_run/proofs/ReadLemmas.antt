@@ -83,7 +83,7 @@ module _ {C P D : Type 0} (m : Meanings C) (g : Config) (valid : IsConfig g) (po
 
   turn-move : (found : Option EntryView) (old new : D) (p q : Place (Known C)) → p.own.about.config ≡ g → HasSeenItsOwn g p → TurnsToPool m devices g ptr found old new p q → Moves g shard [] [] p q
   turn-move found old new p q config seen (unserved why is) = subst (Moves g shard [] [] p) (sym is) (moves-none g shard p config seen)
-  turn-move found old new p q config seen (cleared f) = does-moves m g valid ptr.key p q config seen [] (own-none p.number) f.does
+  turn-move found old new p q config seen (cleared bytes came f) = does-moves m g valid ptr.key p q config seen [] (own-none p.number) f.does
 
   -- how a party that is alone finds its block, where it found the shard so
   access-then : (p : Place (Known C)) (s : PlainShard) (a : Access) → s ≡ now_of g shard p → access_of s ptr ≡ a → access_now g ptr p ≡ a
@@ -215,11 +215,11 @@ module _ {C P D : Type 0} (m : Meanings C) (g : Config) (valid : IsConfig g) (po
     moves = ended s es p r q begun (Arrive r.number ptr.key ptr.digest origin.L2) refl refl a.does;
     events = ap (λ (n : ℕ). Miss p.number ptr.key t ∷ (Arrive n ptr.key ptr.digest origin.L2 ∷ [])) begun.moves.own.number;
     digests = (tt, (tt, tt));
-    alone = λ x. let inside = a.bytes.inside in let none = x.none in absurd (omega arith);
+    alone = λ x. let inside = a.bytes.asked.due.inside in let none = x.none in absurd (omega arith);
   })
   miss-adds sized before now s es found p r q result long begun (from_pool back turns goes) =
       goes-adds before.pool now.pool s (es ++ []) p back q result (turned s es p r back begun (turn-move found before.device now.device r back begun.moves.config begun.moves.seen turns)) goes
-  miss-adds sized before now s es found p r q result long begun (from_none f) = subst (AddsAnswer p q) (sym f.answer) (unread-seen _ r q begun.moves.config begun.moves.seen refl refl f.does)
+  miss-adds sized before now s es found p r q result long begun (from_none asked f) = subst (AddsAnswer p q) (sym f.answer) (unread-seen _ r q begun.moves.config begun.moves.seen refl refl f.does)
 
   answer-adds : 0 < ptr.key.size → (before now : Outside P D) (p q : Place (Known C)) (result : Result Read ReadFault) → devices.size before.device ≡ size → p.own.about.config ≡ g → HasSeenItsOwn g p
       → Answers m pools devices g ptr t before now p q result → AddsAnswer p q result

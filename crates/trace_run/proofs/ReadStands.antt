@@ -171,7 +171,7 @@ module _ {C P D : Type 0} (m : Meanings C) (g : Config) (valid : IsConfig g) (po
 
   turn-lists : (found : Option EntryView) (old new : D) (p q : Place (Known C)) → p.own.about.config ≡ g → TurnsToPool m devices g ptr found old new p q → Lists [] p q
   turn-lists found old new p q config (unserved why is) = lists-same m g valid p q is
-  turn-lists found old new p q config (cleared f) = lists-none m g valid ptr.key p q config f.does
+  turn-lists found old new p q config (cleared bytes came f) = lists-none m g valid ptr.key p q config f.does
 
   miss-lists : (before now : Outside P D) (found : Option EntryView) (p r q : Place (Known C)) (result : Result Read ReadFault) → r.number ≡ p.number → Reading m g valid ptr.key p r → r.own.about.config ≡ g
       → EndsMiss m pools devices g ptr found before now r q result → ListsAnswer ptr p q result
@@ -180,7 +180,7 @@ module _ {C P D : Type 0} (m : Meanings C) (g : Config) (valid : IsConfig g) (po
   miss-lists before now found p r q result number reads config (from_pool back turns goes) =
       let s = turns_stays m g valid devices ptr found before.device now.device r back config turns in
       goes-list before.pool now.pool p back q result (s.number ∙ number) (reading-then m g valid ptr.key p r back reads (turn-lists found before.device now.device r back config turns)) (stays_config g r back s config) goes
-  miss-lists before now found p r q result number reads config (from_none f) = subst (ListsAnswer ptr p q) (sym f.answer) (lists-fail m g valid ptr.key failed.Unread p r q reads config f.does)
+  miss-lists before now found p r q result number reads config (from_none asked f) = subst (ListsAnswer ptr p q) (sym f.answer) (lists-fail m g valid ptr.key failed.Unread p r q reads config f.does)
 
   past-lists : (old new : P) (kept : Digest) (p q : Place (Known C)) (result : Result Read ReadFault) → Lists [] p q → EndsPast pools ptr kept old new result → ListsAnswer ptr p q result
   past-lists old new kept p q (Ok (gave.Past block digest)) lists h = lists

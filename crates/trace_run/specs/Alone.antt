@@ -50,4 +50,6 @@ pub record RanAlone {C P : Type 0} (pools : Ghosts P) (before after : P) (trace 
   -- each event that stands for a read of the pool is one that a reply says
   pub counted : length (calls_of_all replies) ≡ sum_by pool_reads (histories_of closed)
   pub explained : Explain trace replies (ends_in closed) (histories_of closed)
+  -- the cache was made with the trace's numbers
+  pub config : closed.config ≡ trace.config
   pub lines : LinesAlone C pools before after trace replies

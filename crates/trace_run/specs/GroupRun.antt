@@ -33,6 +33,7 @@ pub record RanGroup {C P : Type 0} (cache : Cache) (pools : Ghosts P) (before af
   pub parties : List (Place (Known C))
   pub worked : HaveWorked cache pools trace.blocks trace.ops trace.config.callers before after own parties
   pub ordered : AreInOrder trace.ops own replies
+  pub config : closed.config ≡ trace.config
   pub explained : Explain trace replies (ends_in closed) (histories_of closed)
   pub counted : (n : ℕ) → n < trace.config.callers → length (calls_of_all (replies_of_caller n trace.ops replies)) ≡ reads_of_caller n (histories_of closed)
   pub others : over_callers trace.config.callers (λ n. reads_of_caller n (histories_of closed)) ≡ sum_by pool_reads (histories_of closed)
@@ -41,6 +42,7 @@ pub record RanGroup {C P : Type 0} (cache : Cache) (pools : Ghosts P) (before af
 -- fork of the pool failed, and none was.
 pub record RanTogether {C P : Type 0} (pools : Ghosts P) (before after : P) (trace : Trace) (fork_failed : Bool) (replies : List Reply) (closed : Ended C) : Type 0 where
   pub answers : AnswersAll (pools.size before) (pools.told before) trace.blocks (answered_ops trace fork_failed) replies
+  pub config : closed.config ≡ trace.config
   pub explained : Explain trace replies (ends_in closed) (histories_of closed)
   pub reads : pools.reads before < 2 ^ 63 → pools.reads after ≡ pools.reads before + sum_by pool_reads (histories_of closed)
   pub faults : pools.faults before < 2 ^ 63 → pools.faults after ≡ pools.faults before + faults_told fork_failed replies

@@ -59,6 +59,8 @@ pub record IsRun {C P : Type 0} (pool : Ghosts P) (before after : P) (trace : Tr
   pub answers : AnswersAll (pool.size before) (pool.told before) trace.blocks (answered_ops trace fork_failed) report.replies
   pub explained : Explain trace report.replies report.ends report.histories
   pub tells : TellsClosed closed report
+  -- the shared cache was made with the trace's numbers
+  pub config : closed.config ≡ trace.config
   pub reads : pool.reads before < 2 ^ 63 → pool.reads after ≡ pool.reads before + sum_by pool_reads report.histories
   pub faults : pool.faults before < 2 ^ 63 → pool.faults after ≡ pool.faults before + faults_told fork_failed report.replies
   pub alone : trace.config.callers ≡ 1 → (fork_failed ≡ false) × RunsAlone pool before after trace report
@@ -93,6 +95,7 @@ pub record IsGenReport {C : Type 0} (seed blocks ops : ℕ) (closed : Ended C) (
   pub answers : AnswersAll (blocks * 512) (Some (zeros_of blocks)) (generated seed blocks ops).blocks (generated seed blocks ops).ops report.replies
   pub explained : Explain (generated seed blocks ops) report.replies report.ends report.histories
   pub tells : TellsClosed closed report
+  pub config : closed.config ≡ generated_sizes blocks
   pub status : report.status ≡ 0
 
 -- the report is there exactly where the trace was run

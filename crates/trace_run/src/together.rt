@@ -91,6 +91,7 @@ fn run_none(
     ensures explained { IfOk result (λ ran. Explain trace.now [] (ends_in ran.closed) (histories_of ran.closed)) }
     ensures reads { IfOk result (λ ran. sum_by pool_reads (histories_of ran.closed) ≡ 0) }
     ensures failed { IfOk result (λ ran. ran.fork_failed ≡ true) }
+    ensures config { IfOk result (λ ran. ran.closed.config ≡ trace.now.config) }
 {
     let closed = close_run(arcs, parties)?;
     Ok(Ran {

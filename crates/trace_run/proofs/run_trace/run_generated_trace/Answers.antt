@@ -34,5 +34,6 @@ returns g c =
       answers = subst (λ (t : Trace). AnswersAll (c.args.blocks * 512) (Some (zeros_of c.args.blocks)) t.blocks t.ops report.replies) is answers;
       explained = subst (λ (t : Trace). Explain t report.replies report.ends report.histories) is run.explained;
       tells = record { histories = run.tells.histories; ends = run.tells.ends };
+      config = run.config ∙ ap (λ (t : Trace). t.config) is;
       status = ran.2 ∙ rw (one.0, none) refl;
     }

@@ -108,4 +108,5 @@ returns-clause-ok g c =
     let n = c.number.result in
     let is : n ≡ p.number = c.number.ensures ∙ (reached m config k b.result.hand.own.bucket s p q takes).number in
     let makes = makes_these m config k b.result.hand.before.value s c.clear.new.self (Clear n k ∷ []) q c.give_both.new.party (b.ensures.new ∙ sym same) (c.clear.ensures.makes.history ∙ ap (λ (l : ShardLog). l.history ++ Clear n k ∷ []) c.reserve.ensures.log) c.give_both.ensures in
-    record { chain = b.result.hand.own.bucket; before = s; reached = q; takes = takes; makes = subst (λ (x : ℕ). Makes m config k s (Clear x k ∷ []) q c.give_both.new.party) is makes }
+    let has : has_place c.args.place k s.now ≡ true = sym c.has_place.ensures ∙ c.if-not-has_place.false in
+    (record { chain = b.result.hand.own.bucket; before = s; reached = q; takes = takes; makes = subst (λ (x : ℕ). Makes m config k s (Clear x k ∷ []) q c.give_both.new.party) is makes }, has)

@@ -50,6 +50,6 @@ returns g c =
     let cells : c.sort_out.new.cells.items ≡ cells_in c.in-Ok.values.items = c.sort_out.ensures.cells ∙ ap (λ l. l ++ cells_in c.in-Ok.values.items) c.in_ok-cells.ensures.items in
     let counted : c.in_ok-shards-2.shards.value ≡ c.sort_out.new.shards = c.in_ok-shards-2.ensures.ok in
     let shards : c.in_ok-shards-2.shards.value.items ≡ shards_in c.in-Ok.values.items = ap (λ v. v.items) counted ∙ c.sort_out.ensures.shards ∙ ap (λ l. l ++ shards_in c.in-Ok.values.items) c.in_ok-shards.ensures.items in
-    subst (λ (k : Cache). Ends m k c.args.parties.items record { shards = c.in_ok-shards-2.shards.value.items; cells = c.sort_out.new.cells.items }) c.self.view_is
+    subst (λ (k : Cache). Ends m k c.args.parties.items record { config = c.self.inside.config; shards = c.in_ok-shards-2.shards.value.items; cells = c.sort_out.new.cells.items }) c.self.view_is
     (ends m cache c.in-Ok.values.items e.1.0 c.args.parties.items e.1.3 (subst (λ (k : Cache). AreAtRest k c.args.parties.items) (sym c.self.view_is) c.requires.rest) (c.requires.all 0 (omega arith)) e.1.2
     (let a = e.0 in let b = c.in-Ok.values.ok.0 in let d = c.self.invariant.turns in omega arith) (e.1.1 ∙ c.self.invariant.parties) c.sort_out.new.cells.items c.in_ok-shards-2.shards.value.items cells shards)

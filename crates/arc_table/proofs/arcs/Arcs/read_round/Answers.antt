@@ -7,7 +7,7 @@ use Rattle.arc_table.specs.Items.{meanings}
 use Rattle.arc_table.specs.Reading.{outside}
 use Rattle.arc_table.specs.Standing.{is_cached_with}
 use Rattle.arc_table.proofs.AfterRead.{answers_stays}
-use Rattle.arc_table.proofs.Afterwards.{stays_free, stays_party}
+use Rattle.arc_table.proofs.Afterwards.{does_stays, stays_free, stays_party}
 use Rattle.arc_table.proofs.Reached.{reached, sound_log}
 use Rattle.arc_table.proofs.RoomyGives.{only_bucket}
 use Rattle.arc_table.proofs.Rounds.{does_these, missed_reading, missed_stays, none_stays, round_hit, round_missed, round_none, round_past}
@@ -20,6 +20,15 @@ miss_taken-requires-clause-others g c =
     let b = c.take_ready-both in
     only_bucket c.args.self.now.config c.args.ptr.key c.args.party.now.held b.new.party.held b.ensures.kind.valid
     (reached m c.args.self.now.config c.args.ptr.key b.result.0.hand.own.bucket b.result.0.shard c.args.party.now b.new.party b.ensures.takes).held c.requires.look
+
+pub read_past-requires-clause-look : goal.read_past-requires-clause-look
+read_past-requires-clause-look g c κs within =
+    let m = meanings g.C.Keeps.holds g.C.Keeps.entries g.C.Keeps.opening g.C.Keeps.claims g.C.Keeps.sound in
+    let b = c.take_ready-both in
+    stays_free c.args.self.now c.args.party.now c.past_taken.new.party
+    (does_stays m c.args.self.now.config b.ensures.kind.valid c.args.ptr.key _ c.args.party.now c.past_taken.new.party c.requires.party.config
+    (does_these m c.args.self.now.config c.args.ptr.key b.result.0.hand.own.bucket b.result.0.shard c.args.party.now b.new.party c.past_taken.new.party b.ensures.takes _ c.in-Ok-past_taken.ensures.ok))
+    c.requires.look
 
 pub end_miss-requires-clause-party : goal.end_miss-requires-clause-party
 end_miss-requires-clause-party g c κs within =
