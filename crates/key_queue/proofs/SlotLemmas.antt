@@ -199,6 +199,11 @@ module _ {T : Type 0} where
 
   -- ---- the first pair
 
+  -- where the first slot has a value it has one still when another value comes
+  pub trimmed-pushed : (ss : List (Slot T)) (n : ℕ) (v : T) → IsTrimmed ss → IsTrimmed (ss ++ record { number = n; value = Some v } ∷ [])
+  trimmed-pushed [] n v trim = refl
+  trimmed-pushed (x ∷ xs) n v trim = trim
+
   -- where the first slot has a value, its pair is the first
   pub first-pair : (ss : List (Slot T)) (s : Slot T) → 0 < length ss → s ≡ get_or ss 0 s → IsTrimmed ss → (w : T) × (xs : List (ℕ × T)) × (pairs ss ≡ (s.number, w) ∷ xs)
   first-pair [] s some is trim = absurd (omega (arith, some))

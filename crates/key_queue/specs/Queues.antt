@@ -2,7 +2,7 @@
 use Rattle.std.specs.Prelude.{ℕ, ◌+◌, ◌^◌, ◌<◌, List, length}
 use Rattle.key_queue.specs.declared.queue.Queue.TheInside.{Inside}
 use Rattle.key_queue.specs.Places.{IsFound}
-use Rattle.key_queue.specs.Slots.{pairs, places}
+use Rattle.key_queue.specs.Slots.{IsTrimmed, pairs, places}
 
 module _ {T : Type 0} where
   abbrev pub pairs_of : Inside T → List (ℕ × T)
@@ -13,3 +13,5 @@ module _ {T : Type 0} where
     pub found : (n : ℕ) → IsFound n q.places.rows (places n q.base q.slots.items)
     -- and every place is a `usize`
     pub fits : q.base + length q.slots.items < 2 ^ 64
+    -- what was taken from the front is gone: the first slot has a value
+    pub trimmed : IsTrimmed q.slots.items

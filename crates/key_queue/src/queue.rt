@@ -79,7 +79,6 @@ impl<T: Drop> Queue<T> {
     pub fn pop_oldest(&mut self) -> Option<T>
         ensures { MatchOption result ((self.old ≡ []) × (self.new ≡ [])) (λ v. (n : ℕ) × (self.old ≡ (n, v) ∷ self.new)) }
     {
-        trim(&mut self.slots, &mut self.base);
         let number = self.slots.front()?.number;
         self.take_oldest(number)
     }

@@ -1,9 +1,9 @@
 use Rattle.std.proofs.Common.{◌≡◌, ◌+◌, ◌<◌, ◌^◌, List, [], ◌∷◌, ◌++◌, length, Some, refl, sym, ap, subst, ◌∙◌, arith, length-append, ◌-◌}
 use Rattle.key_queue.specs.declared.slot.Slot.{Slot}
 use Rattle.key_queue.specs.Places.{IsFound}
-use Rattle.key_queue.specs.Slots.{pairs, places}
+use Rattle.key_queue.specs.Slots.{IsTrimmed, pairs, places}
 use Rattle.key_queue.proofs.QueueLemmas.{found-all}
-use Rattle.key_queue.proofs.SlotLemmas.{pairs-append, pushed-others, pushed-places}
+use Rattle.key_queue.proofs.SlotLemmas.{pairs-append, pushed-others, pushed-places, trimmed-pushed}
 use Rattle.key_queue.proofs.queue.Queue.push.Goals as goal
 
 pub invariant_of-self-in_err-add_place : goal.invariant_of-self-in_err-add_place
@@ -17,6 +17,7 @@ invariant_of-self-in_err-add_place g c =
           (found-all t.places.rows new n (λ k. places k t.base t.slots.items) (λ k. places k t.base t.slots.items) c.self.invariant.found
           (c.in_err-add_place.ensures.err _ (c.self.invariant.found n)) c.add_place.ensures.others (λ _ _. refl) m);
       fits = subst (λ (l : List (Slot g.row.T.Denot)). t.base + length l < 2 ^ 64) (sym same) c.self.invariant.fits;
+      trimmed = subst (λ (l : List (Slot g.row.T.Denot)). IsTrimmed l) (sym same) c.self.invariant.trimmed;
     }
 
 pub invariant_of-self-2 : goal.invariant_of-self-2
@@ -37,6 +38,7 @@ invariant_of-self-2 g c =
           (subst (IsFound n new) (sym (pushed-places n t.base q ss c.args.value is)) (c.in_ok-add_place.ensures.ok _ (c.self.invariant.found n))) c.add_place.ensures.others
           (pushed-others n t.base q ss c.args.value is) m);
       fits = subst (λ (l : List (Slot g.row.T.Denot)). t.base + length l < 2 ^ 64) (sym e) (omega (arith, c.self.invariant.fits, is, long, below));
+      trimmed = subst (λ (l : List (Slot g.row.T.Denot)). IsTrimmed l) (sym e) (trimmed-pushed ss n c.args.value c.self.invariant.trimmed);
     }
 
 pub returns-clause-ok : goal.returns-clause-ok

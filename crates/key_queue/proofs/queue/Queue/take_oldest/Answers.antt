@@ -16,6 +16,7 @@ invariant_of-self g c =
       found = found-all t.places.rows c.take_place.new.places.rows n (λ k. places k t.base t.slots.items) (λ k. places k t.base t.slots.items) c.self.invariant.found
           (c.in_err-place.ensures.taken _ (c.self.invariant.found n)).1 c.take_place.ensures.others (λ _ _. refl);
       fits = c.self.invariant.fits;
+      trimmed = c.self.invariant.trimmed;
     }
 
 pub returns-in_err-place : goal.returns-in_err-place
@@ -63,6 +64,7 @@ invariant_of-self-2 g c =
           (found-all t.places.rows new n (λ k. places k t.base ss) (λ k. places k t.base (remaining n t.base q taken.0 ss oldest)) c.self.invariant.found
           (subst (IsFound n new) (sym (cut-places n t.base q taken.0 ss oldest)) taken.2) c.take_place.ensures.others (cut-others n t.base q taken.0 ss oldest) m));
       fits = omega (arith, c.trim.ensures.fits, c.self.invariant.fits, length-set ss (q - t.base) slot);
+      trimmed = c.trim.ensures.trimmed;
     }
 
 pub returns : goal.returns
