@@ -50,8 +50,3 @@ pub use reader::{LONGEST_TEXT, read_trace};
 pub use reply::{Refusal, Reply};
 pub use report::Report;
 pub use trace::Trace;
-
-#[cfg(test)]
-mod report_tests;
-#[cfg(test)]
-mod tests;

@@ -1,0 +1,259 @@
+//! The texts of reports.
+use arc_core::{Event, FailedAt, Origin};
+use blk_ptr::{Digest, Key, KeyFault};
+use std::alloc::{AllocError, Global};
+use std::test::Fail;
+use trace_text::{
+    Ends, Histories, History, Refusal, Replies, Reply, Report, Served, ShardEnd, Shown, counts_of,
+    report_text,
+};
+
+const KEY: Key = Key {
+    offset: 1024,
+    size: 512,
+    birth: 7,
+};
+
+/// Its bytes as hex digits.
+const AB: &str = "abababababababababababababababababababababababababababababababab";
+
+/// The digest of these digits.
+fn some_digest() -> Digest {
+    Digest([0xab; 32])
+}
+
+/// Whether the report has this text.
+fn has_text(alloc: Global, report: &Report, events: bool, text: &str) -> Result<bool, AllocError> {
+    let mut out = Vec::new(alloc);
+    if report_text(alloc, report, events, &mut out).is_err() {
+        return Err(AllocError);
+    }
+    Ok(out.as_slice() == text.as_bytes())
+}
+
+/// Whether the line of the reply, the first of a report of no shard, has these words.
+fn has_words(alloc: Global, reply: Reply, words: &str) -> Result<bool, AllocError> {
+    let mut replies = Vec::new(alloc);
+    replies.push(reply)?;
+    let report = Report {
+        replies: Replies::from_vec(replies),
+        histories: Histories::from_vec(Vec::new(alloc)),
+        ends: Ends::from_vec(Vec::new(alloc)),
+        status: 0,
+        short: false,
+    };
+    let counts = "count hit 0 miss 0 past 0 pool 0 l2 0 pass 0 set 0";
+    let text = format!(in alloc; "arc 1\n0 {words}\n{counts}\nend 0\n")?;
+    has_text(alloc, &report, false, text.as_str())
+}
+
+/// A read that shows these bytes.
+fn read_of(served: Served, bytes: &[u8; 2]) -> Reply {
+    let digest = some_digest();
+    let shown = Shown::of(bytes);
+    Reply::Read {
+        served,
+        digest,
+        shown,
+    }
+}
+
+#[test]
+fn lines_of_reads(rt: HostRuntime) -> Result<(), Fail> {
+    for (served, word) in [
+        (Served::Hit, "hit"),
+        (Served::Pool, "pool"),
+        (Served::L2, "l2"),
+        (Served::Past, "past"),
+    ] {
+        let words = format!(in rt.alloc(); "ok {word} {AB} 000f")?;
+        assert!(rt; has_words(rt.alloc(), read_of(served, &[0, 15]), words.as_str())?);
+    }
+    Ok(())
+}
+
+#[test]
+fn the_line_of_an_empty_window(rt: HostRuntime) -> Result<(), Fail> {
+    let served = Served::Hit;
+    let digest = some_digest();
+    let shown = Shown::of(&[]);
+    let reply = Reply::Read {
+        served,
+        digest,
+        shown,
+    };
+    let words = format!(in rt.alloc(); "ok hit {AB} -")?;
+    assert!(rt; has_words(rt.alloc(), reply, words.as_str())?);
+    Ok(())
+}
+
+#[test]
+fn lines_of_kept_reads(rt: HostRuntime) -> Result<(), Fail> {
+    let served = Served::Past;
+    let kept = Reply::Kept { served };
+    assert!(rt; has_words(rt.alloc(), kept, "held past")?);
+    assert!(rt; has_words(rt.alloc(), Reply::Dropped, "dropped")?);
+    Ok(())
+}
+
+/// Whether the line of the refusal has these words.
+fn is_refused(alloc: Global, refusal: Refusal, words: &str) -> Result<bool, AllocError> {
+    let all = format!(in alloc; "refused {words}")?;
+    has_words(alloc, Reply::Refused(refusal), all.as_str())
+}
+
+#[test]
+fn lines_of_refusals(rt: HostRuntime) -> Result<(), Fail> {
+    assert!(rt; is_refused(rt.alloc(), Refusal::PoolFault, "pool")?);
+    assert!(rt; is_refused(rt.alloc(), Refusal::NoMemory, "memory")?);
+    let range = Refusal::Range {
+        end: 513,
+        size: 512,
+    };
+    assert!(rt; is_refused(rt.alloc(), range, "window 513 512")?);
+    assert!(rt; is_refused(rt.alloc(), Refusal::NoHold { block: 5 }, "hold 5")?);
+    Ok(())
+}
+
+#[test]
+fn the_line_of_another_digest(rt: HostRuntime) -> Result<(), Fail> {
+    let found = some_digest();
+    let words = format!(in rt.alloc(); "digest {AB}")?;
+    assert!(rt; is_refused(rt.alloc(), Refusal::Mismatch { found }, words.as_str())?);
+    Ok(())
+}
+
+#[test]
+fn lines_of_keys_at_fault(rt: HostRuntime) -> Result<(), Fail> {
+    let range = KeyFault::OutOfPool {
+        end: 1024,
+        len: 512,
+    };
+    for (fault, words) in [
+        (KeyFault::Unaligned, "key unaligned"),
+        (KeyFault::Size, "key size"),
+        (range, "key range 1024 512"),
+        (KeyFault::BirthZero, "key birth"),
+    ] {
+        assert!(rt; is_refused(rt.alloc(), Refusal::Key(fault), words)?);
+    }
+    Ok(())
+}
+
+/// The events of the first shard.
+fn first_history(alloc: Global) -> Result<History, AllocError> {
+    let key = KEY;
+    let mut events = Vec::new(alloc);
+    events.push(Event::Miss { n: 0, key, t: 9 })?;
+    let at = FailedAt::Unread;
+    events.push(Event::Fail { n: 0, key, at })?;
+    let owner = 1;
+    events.push(Event::Pass { n: 0, key, owner })?;
+    Ok(History::from_vec(events))
+}
+
+/// The events of the second shard.
+fn second_history(alloc: Global) -> Result<History, AllocError> {
+    let key = KEY;
+    let kept = some_digest();
+    let place = 4096;
+    let mut events = Vec::new(alloc);
+    events.push(Event::Hit { n: 0, key, t: 3 })?;
+    events.push(Event::Hit { n: 1, key, t: 4 })?;
+    events.push(Event::Past { n: 0, key, kept })?;
+    events.push(Event::Set { n: 1, key, place })?;
+    Ok(History::from_vec(events))
+}
+
+/// What the two shards end with.
+fn some_ends(alloc: Global) -> Result<Ends, AllocError> {
+    let mut ends = Vec::new(alloc);
+    let (c, p) = (4096, 512);
+    let sizes = [1, 2, 3, 4, 5, 6];
+    ends.push(ShardEnd { c, p, sizes })?;
+    let (c, p) = (1 << 32, 0);
+    let sizes = [0, 0, 0, 0, 0, u128::MAX];
+    ends.push(ShardEnd { c, p, sizes })?;
+    Ok(Ends::from_vec(ends))
+}
+
+/// A report of two shards and one reply.
+fn some_report(alloc: Global, short: bool) -> Result<Report, AllocError> {
+    let mut replies = Vec::new(alloc);
+    replies.push(Reply::Dropped)?;
+    replies.push(Reply::Refused(Refusal::PoolFault))?;
+    let mut histories = Vec::new(alloc);
+    histories.push(first_history(alloc)?)?;
+    histories.push(second_history(alloc)?)?;
+    let ends = some_ends(alloc)?;
+    Ok(Report {
+        replies: Replies::from_vec(replies),
+        histories: Histories::from_vec(histories),
+        ends,
+        status: 1,
+        short,
+    })
+}
+
+const REPLY_LINES: &str = "\
+0 dropped
+1 refused pool
+";
+
+const EVENT_LINES: &str = "\
+e 0 0 miss 0 1024 512 7 9
+e 0 1 fail 0 1024 512 7 unread
+e 0 2 pass 0 1024 512 7 1
+e 1 0 hit 0 1024 512 7 3
+e 1 1 hit 1 1024 512 7 4
+e 1 2 past 0 1024 512 7 abababababababababababababababababababababababababababababababab
+e 1 3 set 1 1024 512 7 4096
+";
+
+const LAST_LINES: &str = "\
+shard 0 c 4096 p 512 anon 1 mru 2 mrug 3 mfu 4 mfug 5 l2 6
+shard 1 c 4294967296 p 0 anon 0 mru 0 mrug 0 mfu 0 mfug 0 l2 340282366920938463463374607431768211455
+count hit 2 miss 1 past 1 pool 1 l2 0 pass 1 set 1
+end 1
+";
+
+#[test]
+fn reports_with_and_without_events(rt: HostRuntime) -> Result<(), Fail> {
+    let report = some_report(rt.alloc(), false)?;
+    let without = format!(in rt.alloc(); "arc 1\n{REPLY_LINES}{LAST_LINES}")?;
+    assert!(rt; has_text(rt.alloc(), &report, false, without.as_str())?);
+    let with = format!(in rt.alloc(); "arc 1\n{REPLY_LINES}{EVENT_LINES}{LAST_LINES}")?;
+    assert!(rt; has_text(rt.alloc(), &report, true, with.as_str())?);
+    Ok(())
+}
+
+#[test]
+fn a_short_report_behind_another_text(rt: HostRuntime) -> Result<(), Fail> {
+    let report = some_report(rt.alloc(), true)?;
+    let mut out = Vec::from_slice(rt.alloc(), b"a line\n")?;
+    report_text(rt.alloc(), &report, true, &mut out)?;
+    let want = format!(in rt.alloc(); "a line\narc 1\n{EVENT_LINES}{LAST_LINES}")?;
+    assert_eq!(rt; out.as_slice(), want.as_bytes());
+    Ok(())
+}
+
+#[test]
+fn reads_of_the_pool_and_of_the_cache_device(rt: HostRuntime) -> Result<(), Fail> {
+    let key = KEY;
+    let digest = some_digest();
+    let mut events = Vec::new(rt.alloc());
+    for from in [Origin::L2, Origin::Pool] {
+        events.push(Event::Arrive {
+            n: 0,
+            key,
+            digest,
+            from,
+        })?;
+    }
+    let at = FailedAt::Pool;
+    events.push(Event::Fail { n: 0, key, at })?;
+    let counts = counts_of(&[History::from_vec(events)]);
+    assert!(rt; counts.pool == 2 && counts.l2 == 1);
+    assert!(rt; counts.hit == 0 && counts.miss == 0 && counts.past == 0);
+    Ok(())
+}
