@@ -1,5 +1,5 @@
 -- What other calls leave of a cell in hand, and what a cell is that was just taken.
-use Rattle.std.proofs.Common.{◌≡◌, ◌≢◌, if◌then◌else◌, ℕ, zero, suc, ◌<◌, ◌≤◌, nat_lt, List, [], ◌∷◌, ◌++◌, length, map, Bool, true, Option, Some, refl, sym, ap, ◌∙◌, subst, inl, inr, arith}
+use Rattle.std.proofs.Common.{◌≡◌, ◌≢◌, if◌then◌else◌, ℕ, zero, suc, ◌<◌, ◌≤◌, nat_lt, List, [], ◌∷◌, ◌++◌, length, map, Bool, true, Some, refl, sym, ap, ◌∙◌, subst, inl, inr, arith}
 use Rattle.std.specs.Prelude.{slice_index_or}
 use Rattle.std.proofs.lemmas.Bool.Decides.{nat_tests}
 use mathlib.Core.Option.{some, some-injective, some-ne-none}
@@ -9,7 +9,6 @@ use Rattle.blk_ptr.specs.declared.ptr.Ptr.{Ptr}
 use Rattle.arc_core.specs.Config.{IsConfig}
 use Rattle.arc_core.specs.declared.config.Config.{Config}
 use Rattle.arc_core.specs.declared.event.Event.{Event}
-use Rattle.arc_core.specs.PlainShard.{PlainShard}
 use Rattle.hash_chain.specs.Chain.{Chain}
 use Rattle.turn_table.specs.declared.standing.Kept.{Kept}
 use Rattle.turn_table.specs.Board.{IsAmong}
@@ -27,7 +26,7 @@ use Rattle.arc_table.specs.Both.{Does}
 use Rattle.arc_table.specs.Cells.{IsTakenCell, KeepsCell}
 use Rattle.arc_table.specs.Ending.{DoesRoomy}
 use Rattle.arc_table.specs.Fronts.{StartsWith, front_of, item_at, list_at, without_item}
-use Rattle.arc_table.specs.Geometry.{IsBucket, IsCell, bucket_turn, cell_number, parties_of, shard_turn}
+use Rattle.arc_table.specs.Geometry.{IsCell, bucket_turn, cell_number, parties_of, shard_turn}
 use Rattle.arc_table.specs.Items.{Meanings, claims_in, lines_in}
 use Rattle.arc_table.specs.Logged.{IsSoundItem}
 use Rattle.arc_table.specs.Rule.{Pact}

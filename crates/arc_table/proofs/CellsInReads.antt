@@ -1,5 +1,5 @@
 -- A read leaves each cell in hand as it was: its events are of the party's own number, and no cell's.
-use Rattle.std.proofs.Common.{◌≡◌, ◌≢◌, if◌then◌else◌, ℕ, zero, suc, ◌+◌, ◌<◌, List, [], ◌∷◌, ◌++◌, Bool, Some, refl, sym, ap, ◌∙◌, subst, ne_eqb, arith}
+use Rattle.std.proofs.Common.{◌≡◌, ◌≢◌, if◌then◌else◌, ℕ, zero, suc, List, [], ◌∷◌, ◌++◌, Bool, Some, refl, sym, ap, ◌∙◌, subst, ne_eqb, arith}
 use Rattle.std.specs.Prelude.{Option, Result, Ok, Err}
 use Rattle.blk_ptr.specs.declared.digest.Digest.{Digest}
 use Rattle.blk_ptr.specs.declared.key.Key.{Key}
@@ -30,7 +30,7 @@ use Rattle.arc_table.specs.Both.{Does}
 use Rattle.arc_table.specs.Cells.{KeepsCell, SameCell}
 use Rattle.arc_table.specs.Ending.{DoesRoomy}
 use Rattle.arc_table.specs.Fronts.{list_at}
-use Rattle.arc_table.specs.Geometry.{IsCell, cell_number, parties_of}
+use Rattle.arc_table.specs.Geometry.{IsCell, cell_number}
 use Rattle.arc_table.specs.Items.{Meanings}
 use Rattle.arc_table.specs.Reading.{Answers, AnswersRead, EndsAtPool, EndsMiss, GoesToPool, Outside, TurnsToPool, Waits, answered, cleared, from_device, from_none, from_pool, hit, missed, no_memory, past, read, refused, unread, unserved}
 use Rattle.arc_table.specs.Scanning.{ArePasses}

@@ -1,30 +1,27 @@
 -- A feed's picks are events that the feeder makes of what it finds: picks and passes, and then the feed's end.
-use Rattle.std.proofs.Common.{◌≡◌, ◌≢◌, ℕ, zero, suc, ◌-◌, ◌+◌, ◌*◌, ◌<◌, false, IsTrue, List, [], ◌∷◌, ◌++◌, length, map, refl, sym, ap, ◌∙◌, subst, eq-eqb, arith}
+use Rattle.std.proofs.Common.{◌≡◌, ◌≢◌, ℕ, zero, suc, ◌-◌, ◌<◌, IsTrue, List, [], ◌∷◌, ◌++◌, length, map, refl, sym, ap, ◌∙◌, subst, eq-eqb, arith}
 use Rattle.std.specs.List.{AllByRecursion}
 use mathlib.Core.Option.{some, some-injective}
 use lib.ListN.{get_elem?}
 use Rattle.arc_core.specs.declared.config.Config.{Config}
 use Rattle.arc_core.specs.declared.event.Event.{Event}
 use Rattle.arc_core.specs.declared.event.Event.TheVariants.{FeedEnd, Pass, Pick}
-use Rattle.arc_core.specs.Operations.{goes_on, is_pass, number_of}
+use Rattle.arc_core.specs.Operations.{goes_on, number_of}
 use Rattle.arc_core.specs.PlainShard.{PlainShard}
 use Rattle.arc_core.specs.Replay.{replay}
-use Rattle.arc_core.specs.ShardLog.{ShardLog}
 use Rattle.turn_table.specs.Moments.{WasFree}
 use Rattle.turn_table.specs.Places.{Place, saw}
 use Rattle.arc_table.specs.declared.about.About.{About}
-use Rattle.arc_table.specs.declared.item.Item.{Item}
 use Rattle.arc_table.specs.declared.item.Item.TheVariants as item
 use Rattle.arc_table.specs.declared.view.Known.{Known}
 use Rattle.arc_table.specs.declared.view.Line.{Line}
 use Rattle.arc_table.specs.declared.view.Line.TheVariants as line
 use Rattle.arc_table.specs.declared.view.Mine.{Mine}
-use Rattle.arc_table.specs.Both.{Takes}
 use Rattle.arc_table.specs.Fronts.{StartsWith, front_of}
 use Rattle.arc_table.specs.Geometry.{IsBucket, parties_of}
 use Rattle.arc_table.specs.Items.{Meanings}
 use Rattle.arc_table.specs.Logged.{IsSoundItem, IsSoundLog}
-use Rattle.arc_table.specs.Picking.{ArePicks, Feeds, PicksAll}
+use Rattle.arc_table.specs.Picking.{ArePicks, Feeds}
 use Rattle.arc_table.specs.Rule.{Pact}
 use Rattle.arc_table.specs.Scanning.{AreOfOthers}
 use Rattle.arc_table.specs.Seen.{AreOwnBy, Finds, HasSeenBy, IsSeenBy, MadeBy, events_in, pass_owner, turn_of}

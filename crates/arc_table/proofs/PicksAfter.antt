@@ -1,9 +1,8 @@
 -- What the feeder lists as picked after each of its calls.
-use Rattle.std.proofs.Common.{◌≡◌, ◌≢◌, ◌⊎◌, if◌then◌else◌, ℕ, ◌==◌, Bool, true, false, List, [], ◌∷◌, refl, sym, ap, ◌∙◌, subst, eq-eqb, ⊎_elim}
+use Rattle.std.proofs.Common.{◌≡◌, ◌≢◌, if◌then◌else◌, ℕ, ◌==◌, Bool, true, false, List, [], ◌∷◌, refl, sym, ap, ◌∙◌, subst, eq-eqb}
 use mathlib.Core.Logic.{dite}
 use native.Mathlib.Decide.{ℕ_discrete}
 use Rattle.blk_ptr.specs.declared.key.Key.{Key}
-use Rattle.arc_core.specs.Config.{IsConfig}
 use Rattle.arc_core.specs.declared.config.Config.{Config}
 use Rattle.arc_core.specs.declared.entry.Entry.{Entry}
 use Rattle.arc_core.specs.declared.entry.Picked.{Picked}
@@ -15,14 +14,11 @@ use Rattle.arc_core.specs.declared.served.Restored.{Restored}
 use Rattle.arc_core.specs.Changes.{changed, gone, without_pick}
 use Rattle.arc_core.specs.PlainShard.{PlainShard}
 use Rattle.arc_core.specs.Replay.{replay}
-use Rattle.arc_core.specs.ShardLog.{ShardLog}
-use Rattle.arc_core.specs.Step.{cleared}
 use Rattle.turn_table.specs.Places.{Place}
 use Rattle.arc_table.specs.declared.about.About.{About}
 use Rattle.arc_table.specs.declared.feeds.Cleared.{Cleared}
 use Rattle.arc_table.specs.declared.feeds.Cleared.TheVariants as answer
 use Rattle.arc_table.specs.declared.item.Item.TheVariants as item
-use Rattle.arc_table.specs.declared.picks.Picked.{Picked as Block}
 use Rattle.arc_table.specs.declared.view.Known.{Known}
 use Rattle.arc_table.specs.declared.view.Ledger.{Ledger}
 use Rattle.arc_table.specs.Both.{Does}
@@ -31,7 +27,7 @@ use Rattle.arc_table.specs.Fronts.{list_at}
 use Rattle.arc_table.specs.Geometry.{shard_turn}
 use Rattle.arc_table.specs.Items.{Meanings}
 use Rattle.arc_table.specs.Listing.{IsFeederOf, PicksAre, picks_of}
-use Rattle.arc_table.specs.Picking.{Feeds, PicksAll}
+use Rattle.arc_table.specs.Picking.{Feeds}
 use Rattle.arc_table.specs.TableLaws.{list_else, list_here}
 use Rattle.arc_table.proofs.Afterwards.{does_ledger, does_stays}
 use Rattle.arc_table.proofs.FeedEvents.{feeder_is}
