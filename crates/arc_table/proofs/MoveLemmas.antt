@@ -27,6 +27,7 @@ pub record Moves {C : Type 0} (g : Config) (shard : ℕ) (ms : List Moment) (es 
   pub own : AddsOwn g shard ms p q
   pub alone : HasAll p → AddsAll g shard es p q
   pub all : HasAll p → HasAll q
+  pub joined : q.joined ≡ p.joined
   pub seen : HasSeenItsOwn g q
   pub config : q.own.about.config ≡ g
 
@@ -36,6 +37,7 @@ module _ {C : Type 0} (g : Config) (shard : ℕ) where
     own = record { number = refl; here = sym (append-nil (own_moments p.number (moments (opening_of g) (seen_of g shard p)))); others = λ j differs. refl };
     alone = λ all. record { number = refl; here = sym (append-nil (seen_of g shard p)); others = λ j differs. refl };
     all = λ all. all;
+    joined = refl;
     seen = seen;
     config = config;
   }
@@ -45,6 +47,7 @@ module _ {C : Type 0} (g : Config) (shard : ℕ) where
     own = adds-own-then g shard ms ns p q r a.own b.own;
     alone = λ all. adds-all-then g shard es fs p q r (a.alone all) (b.alone (a.all all));
     all = λ all. b.all (a.all all);
+    joined = b.joined ∙ a.joined;
     seen = b.seen;
     config = b.config;
   }
@@ -54,6 +57,7 @@ module _ {C : Type 0} (g : Config) (shard : ℕ) where
     own = made-own g shard before es p q made;
     alone = made-alone g shard before es p q made;
     all = made-all g shard before es p q made;
+    joined = made.same.joined;
     seen = made-sees g shard before es p q made seen;
     config = ap (λ a. a.config) made.same.about ∙ config;
   }

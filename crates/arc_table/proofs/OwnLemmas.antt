@@ -44,7 +44,7 @@ module _ {A : Type 0} where
   get-either (x ∷ xs) m (suc j) a at = get-either xs m j a at
 
 -- what stands in a front stands in the history
-seen-more : {May : (n number : ℕ) → Type 0} → (b n : ℕ) (h front : List Line) (place : ℕ) → StartsWith h front → IsSeenBy May b n front place → IsSeenBy May b n h place
+pub seen-more : {May : (n number : ℕ) → Type 0} → (b n : ℕ) (h front : List Line) (place : ℕ) → StartsWith h front → IsSeenBy May b n front place → IsSeenBy May b n h place
 seen-more {May} b n h front place starts seen = subst (λ (l : List Line). IsSeenBy May b n l place) (sym starts.1) (record {
   event = seen.event;
   there = get_front front starts.0 place (line.Event seen.event) seen.there;
@@ -95,7 +95,7 @@ module _ {C : Type 0} (g : Config) where
     made-all all n below = subst (λ (x : ℕ × List (Kept (Known C))). (x.0 ≡ n) ⊎ IsIn n x.1) (λ h. (sym made.same.number h, sym made.same.joined h))
         (all n (subst (λ (x : ℕ). n < x) made.same.parties below))
 
-    grows : (j : ℕ) → StartsWith (front_of (turn_of g j) q.own.seen) (front_of (turn_of g j) p.own.seen)
+    pub grows : (j : ℕ) → StartsWith (front_of (turn_of g j) q.own.seen) (front_of (turn_of g j) p.own.seen)
     grows j = dite (ℕ_discrete j shard)
         (λ is. subst (λ (x : ℕ). StartsWith (front_of (turn_of g x) q.own.seen) (front_of (turn_of g x) p.own.seen)) (sym is)
         (subst (λ (l : List Line). StartsWith l (front_of (turn_of g shard) p.own.seen)) (sym (made.here ∙ map-append line.Event before.history es))

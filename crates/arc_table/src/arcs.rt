@@ -1,10 +1,12 @@
 //! The shared cache, how it begins, and how parties join and part.
 ghost use Rattle.std.specs.Prelude.{◌≡◌, ℕ, ◌<◌, [], IfOk};
 ghost use Rattle.arc_core.specs.Config.{IsConfig};
+ghost use Rattle.turn_table.specs.Moments.{WasSo};
 ghost use Rattle.turn_table.specs.Places.{met, IsLast, stayed, parted};
 ghost use Rattle.arc_table.specs.Cache.{IsPartyOf, all_newcomers};
 ghost use Rattle.arc_table.specs.Items.{meanings};
 ghost use Rattle.arc_table.specs.Opening.{AreFresh, AreFreshCells, about_of};
+ghost use Rattle.arc_table.specs.Rule.{Pact as pact};
 ghost use Rattle.arc_table.specs.Views.{after_learned};
 
 use crate::item::Item;
@@ -78,10 +80,12 @@ impl<C: Keeps> Arcs<C> {
     }
 
     /// `other` joins `party`, which keeps what either has made, holds and claims under its own number, and has seen what either has seen.
+    /// At one moment of it the pact held with what both had known before: so of what both had seen of a turn, one begins with the other.
     pub fn join(&self, party: &mut Party<C>, other: Party<C>)
         requires row { IsPartyOf self.now party.old × IsPartyOf self.now other }
         requires free { (party.old.held ≡ []) × (other.held ≡ []) }
-        ensures { party.new ≡ met party.old other (after_learned party.old.own other.own) }
+        ensures joined { party.new ≡ met party.old other (after_learned party.old.own other.own) }
+        ensures moment { WasSo (pact (meanings C.holds C.entries C.opening C.claims C.sound)) (met party.old other party.old.own) }
     {
         self.turns.join(party, other);
     }

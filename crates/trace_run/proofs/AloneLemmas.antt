@@ -39,7 +39,7 @@ use Rattle.trace_run.specs.CallerLines.{At, DidLines, at}
 use Rattle.trace_run.specs.Effects.{calls_of_all}
 use Rattle.trace_run.specs.Ends.{end_of, ends_of}
 use Rattle.arc_table.specs.Telling.{opening_of}
-use Rattle.trace_run.specs.Explaining.{Explain, none_of_the_feeder}
+use Rattle.trace_run.specs.Explaining.{EndsWith, Explain, drops_at_end, none_of_the_feeder}
 use Rattle.trace_run.specs.KeptBlocks.{DroppedAlone, GivesAll, Stands, holds_in, read_of}
 use Rattle.trace_run.specs.Lines.{caller_of, is_in_shard, is_of_caller, replies_where, shard_of_line}
 use Rattle.trace_run.specs.OneCaller.{AreFoundAs, IsFoundAs, events_of, events_of_drops, kept_after, kept_after_all, one_caller_history}
@@ -60,7 +60,7 @@ use Rattle.trace_run.proofs.NamedLemmas.{history-over, named-drops}
 use Rattle.trace_run.proofs.OpenLemmas.{joined-all, new-seen}
 use Rattle.trace_run.proofs.OverShardLemmas.{events-here, kept-else, kept-here, other-shard, same-shard}
 use Rattle.arc_table.proofs.OwnLemmas.{no-own-moments}
-use Rattle.trace_run.proofs.ReportLemmas.{all-own, of-caller, one-acts, one-caller, possible-at}
+use Rattle.trace_run.proofs.ReportLemmas.{all-own, of-caller, one-acts, one-caller, possible-at, replies-all}
 use Rattle.trace_run.proofs.RestAlone.{all-there, alone-history, alone-legal, alone-now, alone-rests, alone-told}
 use Rattle.trace_run.proofs.TellLemmas.{IsMine, all-map, filter-all, mine-events, no-passes}
 
@@ -278,7 +278,7 @@ module _ {C P : Type 0} (m : Meanings C) (cache : Cache) (pools : Ghosts P) (blo
       no-others n differs = no-own-moments n opening l.history (λ y e is same. differs (sym same ∙ (all-then-at (IsMine 0) l.history mine y e is).0))
 
       rests : IsAtRest (replay opening l.history)
-      rests = alone-rests m cache r closed ends parties-r last dropped.all i l at_i reads
+      rests = alone-rests m cache r closed ends parties-r last dropped.all i l at_i (λ n below. number-r ∙ omega (arith, below, one)) reads
 
       now-is : replay opening l.history ≡ l.now
       now-is = alone-now m cache r closed ends parties-r last dropped.all i l at_i
@@ -344,6 +344,17 @@ module _ {C P : Type 0} (m : Meanings C) (cache : Cache) (pools : Ghosts P) (blo
     abbrev trace : Trace
     trace = record { config = cache.config; blocks = blocks; ops = os }
 
+    -- each history ends with the drops of what is kept
+    drops-are : (i : ℕ) → events_of_drops q.number (holds_in g i (map read_of kept)) ≡ drops_at_end g blocks i g.callers os replies
+    drops-are i =
+        (λ h. events_of_drops (number-q h) (holds_in g i (kept-is h)))
+        ∙ ((λ h. events_of_drops 0 (holds_in g i (kept_after_all blocks [] (sym his-are h) (sym (replies-all (is_of_caller 0) os replies same-count (of-caller os all-his)) h))))
+        ∙ ap (λ (n : ℕ). drops_at_end g blocks i n os replies) (sym one))
+
+    ends-at : (i : ℕ) (l : ShardLog) → get_elem? closed.shards i ≡ some l → EndsWith l.history (drops_at_end g blocks i g.callers os replies)
+    ends-at i l at_i =
+        (seen_of g i q, alone-history m cache r closed ends parties-r last dropped.all i l at_i ∙ (dropped.seen i ∙ ap (λ (es : List Event). seen_of g i q ++ es) (drops-are i)))
+
     explained : Explain trace replies (ends_in closed) (histories_of closed)
     explained = record {
       shards = length-map closed.shards (λ (log : ShardLog). log.history) ∙ ends.shards;
@@ -351,6 +362,7 @@ module _ {C P : Type 0} (m : Meanings C) (cache : Cache) (pools : Ghosts P) (blo
       ends = ends-are closed.shards (λ i l at_l. ap end_of (sym (now-is i l at_l)));
       at_rest = all-mapped (λ (log : ShardLog). log.history) (λ history. IsAtRest (replay opening history)) closed.shards rests;
       every_call = every-call;
+      ending = λ shard below. let l = some-log shard below in subst (λ (h : List Event). EndsWith h (drops_at_end g blocks shard g.callers os replies)) (sym (index-is shard l.0 l.1)) (ends-at shard l.0 l.1);
     }
       where
         ends-are : (l : List ShardLog) → ((i : ℕ) (log : ShardLog) → get_elem? l i ≡ some log → end_of log.now ≡ end_of (replay opening log.history)) → map (λ (log : ShardLog). end_of log.now) l ≡ ends_of g (map (λ (log : ShardLog). log.history) l)

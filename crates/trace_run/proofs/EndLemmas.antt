@@ -1,5 +1,5 @@
 -- A closed cache explains the replies of its callers.
-use Rattle.std.proofs.Common.{◌≡◌, ◌≢◌, ℕ, zero, suc, ◌<◌, ◌≤◌, Bool, true, false, cond, IsTrue, List, [], ◌∷◌, length, map, inl, inr, refl, sym, ap, ◌∙◌, subst, arith}
+use Rattle.std.proofs.Common.{◌≡◌, ◌≢◌, ℕ, zero, suc, ◌+◌, ◌<◌, ◌≤◌, Bool, true, false, cond, IsTrue, List, [], ◌∷◌, ◌++◌, append-nil, length, map, inl, inr, refl, sym, ap, ◌∙◌, subst, arith}
 use Rattle.std.specs.Prelude.{filter, slice_index_or, sum_by}
 use Rattle.std.specs.List.{AllByRecursion}
 use Rattle.std.proofs.lemmas.Bool.{cases_lt, false≢true}
@@ -20,6 +20,7 @@ use Rattle.arc_core.specs.ShardLog.{ShardLog}
 use Rattle.turn_table.specs.Places.{Place, ShowAll, SomeHas}
 use Rattle.arc_table.specs.declared.about.About.{About}
 use Rattle.arc_table.specs.declared.view.Known.{Known}
+use Rattle.arc_table.specs.declared.view.Line.{Line}
 use Rattle.arc_table.specs.Cache.{Cache}
 use Rattle.arc_table.specs.Ended.{Ended, Ends}
 use Rattle.arc_table.specs.Geometry.{parties_of}
@@ -32,20 +33,24 @@ use Rattle.trace_text.specs.declared.reply.Reply.{Reply}
 use Rattle.trace_run.specs.Acts.{acts_of_caller, acts_of_callers}
 use Rattle.trace_run.specs.Ends.{end_of, ends_of}
 use Rattle.arc_table.specs.Telling.{opening_of}
-use Rattle.trace_run.specs.Explaining.{Explain, none_of_the_feeder}
-use Rattle.trace_run.specs.KeptBlocks.{IsIdle, Stands, is_ptr, times}
+use Rattle.trace_run.specs.Explaining.{EndsWith, Explain, drops_at_end, none_of_the_feeder}
+use Rattle.trace_run.specs.KeptBlocks.{IsIdle, Stands, holds_in, is_ptr, times}
+use Rattle.trace_run.specs.KeptReads.{KeptRead}
 use Rattle.trace_run.specs.Lines.{is_of_caller, replies_where}
-use Rattle.arc_table.specs.Seen.{HasSeenItsOwn, seen_of}
+use Rattle.trace_run.specs.Meeting.{IsLevel}
+use Rattle.trace_run.specs.OneCaller.{events_of_drops, kept_after_all}
+use Rattle.arc_table.specs.Seen.{HasSeenItsOwn, events_in, seen_of}
+use Rattle.arc_table.proofs.SeenLemmas.{get-behind}
 use Rattle.trace_run.specs.Together.{over_callers, reads_of_caller}
 use Rattle.arc_table.specs.Told.{IsTold}
 use Rattle.trace_run.proofs.CallerActLemmas.{callers-none, callers-own, own-lines}
-use Rattle.trace_run.proofs.CloseLemmas.{closed-legal, closed-now, closed-sound, closed-told}
+use Rattle.trace_run.proofs.CloseLemmas.{closed-finds, closed-legal, closed-now, closed-sound, closed-told}
 use Rattle.trace_run.proofs.EachLemmas.{AreLast, IsLast, closed-others, closed-placed, each-own}
 use Rattle.trace_run.proofs.GroupCounts.{IsReadOfCaller, all-reads, read-no-pass}
 use Rattle.trace_run.proofs.HistoryLemmas.{IsReadEvent, own-events, read-number, told-reads}
 use Rattle.trace_run.proofs.KeptBlockLemmas.{is_ptr-same, times-cons}
 use Rattle.trace_run.proofs.PlacedLemmas.{all-by-place}
-use Rattle.trace_run.proofs.RestLemmas.{AreIdle, closed-rests}
+use Rattle.trace_run.proofs.RestLemmas.{AreIdle, closed-rests, party-idle}
 use Rattle.trace_run.proofs.TellLemmas.{IsActOf, IsReadAct, acts-caller, all-append, all-map, is_of_reads}
 
 -- what is so of a party at the end of a run: it has this number and has given all back, and what it did is told
@@ -238,7 +243,7 @@ module _ {C : Type 0} (m : Meanings C) (cache : Cache) (valid : IsConfig cache.c
     only-reads = all-by-place (IsReadEvent settled.callers) l.history event-is
 
     rests : IsAtRest l.now
-    rests = closed-rests m cache (bares settled ps) e bare-ends i l at config all-have are-idle valid sound only-reads
+    rests = closed-rests m cache (bares settled ps) e bare-ends i l at config (λ n below. party-idle ends.views n (bares settled ps) (all-have n (omega (arith, below))) bare-ends.shown are-idle) valid sound only-reads
 
     placed : IsTrue (are_passes_placed l.history)
     placed = closed-placed m cache e i l at (bares settled ps) bare-ends config all-have are-last
@@ -267,13 +272,45 @@ module _ {C : Type 0} (m : Meanings C) (cache : Cache) (valid : IsConfig cache.c
     passes = all-logs (λ h. IsTrue (are_passes_placed h)) e.shards (λ i l at. placed i l at);
   }
 
-  pub explains : Explain (record { config = settled; blocks = blocks; ops = ops }) replies (map (λ log. end_of log.now) e.shards) (map (λ log. log.history) e.shards)
-  explains = record {
+  -- where all parties have seen the same, the histories are that
+  module _ (lines : ℕ → List Line) (level : (n : ℕ) (p : Place (Known C)) → get_elem? ps n ≡ some p → IsLevel settled lines p) (i : ℕ) (l : ShardLog) (at : get_elem? e.shards i ≡ some l) where
+    abbrev front : List Event
+    front = events_in (lines i)
+
+    finds : (n : ℕ) → n < parties_of settled → (rest : List Event) × (l.history ≡ front ++ rest) × ((y : ℕ) (ev : Event) → get_elem? rest y ≡ some ev → number_of ev ≢ n)
+    finds n below =
+        let p = party n below in
+        let h = ended n p.0 p.1 in
+        let f = closed-finds m cache (bares settled ps) e bare-ends i l at (bare settled p.0) (shown-at settled ends.views ps n p.0 p.1 ends.shown, tt) refl refl tt h.config (seen-bare settled p.0 h.seen) in
+        (f.rest, f.whole ∙ ap (λ (ls : List Line). events_in ls ++ f.rest) (level n p.0 p.1 i), λ y ev there_is same. f.others y ev there_is (same ∙ sym h.number))
+
+    nothing-more : (ev : Event) → get_elem? (finds 0 first-party).0 0 ≡ some ev → ⊥
+    nothing-more ev first =
+        let whole = (finds 0 first-party).1 in
+        let here : get_elem? l.history (length front + 0) ≡ some ev = ap (λ (h : List Event). get_elem? h (length front + 0)) whole ∙ (get-behind front (finds 0 first-party).0 0 ∙ first) in
+        let own = each-own m cache e i l at (bares settled ps) bare-ends config all-have are-last (length front + 0) ev here in
+        let his = finds (number_of ev) own.party in
+        his.2 0 ev (sym (get-behind front his.0 0) ∙ (ap (λ (h : List Event). get_elem? h (length front + 0)) (sym his.1) ∙ here)) refl
+
+    pub closed-level : l.history ≡ front
+    closed-level = (finds 0 first-party).1 ∙ (ap (λ (rest : List Event). front ++ rest) (none-first (finds 0 first-party).0 nothing-more) ∙ append-nil front)
+      where
+        none-first : (es : List Event) → ((ev : Event) → get_elem? es 0 ≡ some ev → ⊥) → es ≡ []
+        none-first [] none = refl
+        none-first (ev ∷ es) none = absurd (none ev refl)
+
+  abbrev at-end : ℕ → List Event
+  at-end i = drops_at_end settled blocks i settled.callers ops replies
+
+  pub explains : ((i : ℕ) (l : ShardLog) → get_elem? e.shards i ≡ some l → EndsWith l.history (at-end i))
+      → Explain (record { config = settled; blocks = blocks; ops = ops }) replies (map (λ log. end_of log.now) e.shards) (map (λ log. log.history) e.shards)
+  explains ends_so = record {
     shards = length-map e.shards (λ (log : ShardLog). log.history) ∙ ends.shards;
     legal = all-logs (λ h. IsTrue (is_legal_history (opening_of settled) h)) e.shards (λ i l at. legal i l at);
     ends = ends-of-logs settled e.shards (λ i l at. now i l at);
     at_rest = all-logs (λ h. IsAtRest (replay (opening_of settled) h)) e.shards (λ i l at. subst IsAtRest (sym (now i l at)) (rests i l at));
     every_call = every-call;
+    ending = λ i inside. let h = log-at e.shards i inside in subst (λ (es : List Event). EndsWith es (at-end i)) (sym h.2) (ends_so i h.0 h.1);
   }
 
   -- what a caller did stands in each history, by its own lines
@@ -341,6 +378,16 @@ acts-none blocks n (op ∷ os) = refl
 replies-none : (test : Op → Bool) (os : List Op) → replies_where test os [] ≡ []
 replies-none test [] = refl
 replies-none test (op ∷ os) = refl
+
+kept-none : (blocks : List Ptr) (os : List Op) → kept_after_all blocks [] os [] ≡ []
+kept-none blocks [] = refl
+kept-none blocks (op ∷ os) = refl
+
+pub none-dropped : (g : Config) (blocks : List Ptr) (shard callers : ℕ) (ops : List Op) → drops_at_end g blocks shard callers ops [] ≡ []
+none-dropped g blocks shard zero ops = refl
+none-dropped g blocks shard (suc n) ops =
+    ap (λ (l : List Event). l ++ events_of_drops n (holds_in g shard (kept_after_all blocks [] (filter (is_of_caller n) ops) (replies_where (is_of_caller n) ops [])))) (none-dropped g blocks shard n ops)
+    ∙ ap (λ (l : List KeptRead). events_of_drops n (holds_in g shard l)) (ap (kept_after_all blocks [] (filter (is_of_caller n) ops)) (replies-none (is_of_caller n) ops) ∙ kept-none blocks (filter (is_of_caller n) ops))
 
 pub idle-told : {C : Type 0} (g : Config) (blocks : List Ptr) (ops : List Op) (n : ℕ) (p : Place (Known C)) → IsTold g [] p → IsTold g (acts_of_caller blocks n (filter (is_of_caller n) ops) (replies_where (is_of_caller n) ops [])) p
 idle-told g blocks ops n p told =

@@ -1,11 +1,11 @@
 -- A read through the shared cache, as its caller gets it: what it stands with then, what was done, what was got and which reads of the pool were made.
-use Rattle.std.proofs.Common.{◌≡◌, ℕ, ◌+◌, List, [], ◌∷◌, ◌++◌, Option, Some, Result, Ok, Err, refl, sym, ap, ◌∙◌, subst, append-nil}
+use Rattle.std.proofs.Common.{◌≡◌, ℕ, ◌+◌, List, [], ◌∷◌, ◌++◌, Option, Some, None, IfSome, Result, Ok, Err, refl, sym, ap, ◌∙◌, subst, append-nil}
 use Rattle.std.specs.List.{AllByRecursion}
 use Rattle.blk_ptr.specs.declared.digest.Digest.{Digest}
 use Rattle.blk_ptr.specs.declared.key.Key.{Key}
 use Rattle.blk_ptr.specs.declared.ptr.Ptr.{Ptr}
 use Rattle.blk_ptr.specs.Key.{IsFirstFault, IsValid}
-use Rattle.blk_ptr.specs.Ptr.{IsOf}
+use Rattle.blk_ptr.specs.Ptr.{IsOf, IsPlainRead, range_of, sha256_of}
 use Rattle.vdev_io.specs.declared.device.CacheDev.{Ghosts as DeviceGhosts}
 use Rattle.vdev_io.specs.declared.pool.Pool.{Ghosts as PoolGhosts}
 use Rattle.arc_core.specs.Config.{IsConfig}
@@ -16,7 +16,9 @@ use Rattle.arc_core.specs.declared.served.ReadFault.TheVariants as fault
 use Rattle.arc_core.specs.declared.served.Served.{Served}
 use Rattle.arc_core.specs.declared.served.Served.TheVariants as served
 use Rattle.arc_core.specs.declared.shard.EntryView.{EntryView}
+use Rattle.dbuf_cells.specs.declared.kept.Kept.{Kept}
 use Rattle.dbuf_cells.specs.declared.kept.Kept.TheVariants.{Held}
+use Rattle.dbuf_cells.specs.Kept.{bytes_of}
 use Rattle.turn_table.specs.declared.standing.Kept.{Kept as Joined}
 use Rattle.turn_table.specs.Places.{Apart, Place}
 use Rattle.arc_table.specs.declared.hold.Hold.{Hold}
@@ -26,14 +28,16 @@ use Rattle.arc_table.specs.declared.view.Known.{Known}
 use Rattle.arc_table.specs.Cache.{Cache}
 use Rattle.arc_table.specs.Holding.{IsHoldOf, ptr_of}
 use Rattle.arc_table.specs.Items.{Meanings}
-use Rattle.vdev_io.specs.Calls.{Failed, MakesCall}
+use Rattle.vdev_io.specs.Calls.{Failed, MakesCall, MakesCalls}
 use Rattle.arc_table.specs.Reading.{Answers, AnswersRead, EndsAtPool, EndsMiss, EndsPast, GivesBlock, GivesOthers, GoesToPool, Outside, answered, from_device, from_none, from_pool, hit, missed, no_memory, past, read, refused, unread}
 use Rattle.arc_table.proofs.AfterRead.{read_stays}
 use Rattle.arc_table.proofs.Afterwards.{Stays, stays_party}
 use Rattle.trace_run.specs.declared.kept_blocks.KeptBlock.{KeptBlock}
-use Rattle.trace_run.specs.KeptBlocks.{AllIdle, IsOwnedBy, Stands, listed_all, listed_for, times}
+use Rattle.trace_run.specs.Effects.{calls_from}
+use Rattle.trace_run.specs.KeptBlocks.{AllUnread, IsOwnedBy, Stands, held_key, listed_all, listed_for, times}
 use Rattle.trace_run.specs.KeptReads.{kept_read}
-use Rattle.trace_run.specs.Reads.{DidAnswer, DidFail, DidRead, IsGot}
+use Rattle.trace_run.specs.Read.{IsMismatch}
+use Rattle.trace_run.specs.Reads.{CallsFor, DidAnswer, DidFail, DidRead, IsCauseOf, IsGot}
 use Rattle.arc_table.specs.Seen.{AddsAll, HasSeenItsOwn}
 use Rattle.trace_run.proofs.KeptBlockLemmas.{times-append, times-middle}
 use Rattle.trace_run.proofs.ReadLemmas.{AddsFailed, AddsRead, AddsServed, read-adds, read-seen}
@@ -59,7 +63,7 @@ module _ {C : Type 0} (cache : Cache) (p q : Place (Known C)) (kept : List KeptB
     idle = lists.readings ∙ stands.idle;
     seen = seen;
     apart = subst (λ (x : ℕ × List (Joined (Known C))). Apart x.0 x.1) (λ i. (sym stays.number i, sym stays.joined i)) stands.apart;
-    joined = subst AllIdle (sym stays.joined) stands.joined;
+    joined = subst AllUnread (sym stays.joined) stands.joined;
     owned = subst (λ (n : ℕ). AllByRecursion (λ b. IsOwnedBy n b.kept) kept) (sym stays.number) stands.owned;
     listed = λ x. ap (times x) lists.holds ∙ stands.listed x;
   }
@@ -72,7 +76,7 @@ module _ {C : Type 0} (cache : Cache) (p q : Place (Known C)) (kept : List KeptB
     idle = lists.readings ∙ stands.idle;
     seen = seen;
     apart = subst (λ (x : ℕ × List (Joined (Known C))). Apart x.0 x.1) (λ i. (sym stays.number i, sym stays.joined i)) stands.apart;
-    joined = subst AllIdle (sym stays.joined) stands.joined;
+    joined = subst AllUnread (sym stays.joined) stands.joined;
     owned = subst (λ (n : ℕ). AllByRecursion (λ b. IsOwnedBy n b.kept) (kept ++ b ∷ [])) (sym stays.number) (all-last (λ b. IsOwnedBy p.number b.kept) kept b stands.owned owned);
     listed = λ x.
         ap (times x) lists.holds
@@ -95,6 +99,7 @@ module _ {C P D : Type 0} (m : Meanings C) (g : Config) (valid : IsConfig g) (po
       act_is = record { events = a.events; digests = a.digests };
       alone = λ x. subst (λ (es : List Event). AddsAll g _ es p q) (a.alone x).0 (a.moves.alone x.all);
       all = a.moves.all;
+      joined = a.moves.joined;
     };
     source = λ x. (a.alone x).1;
   }
@@ -107,6 +112,7 @@ module _ {C P D : Type 0} (m : Meanings C) (g : Config) (valid : IsConfig g) (po
       act_is = record { events = a.events; digests = a.digests };
       alone = λ x. subst (λ (es : List Event). AddsAll g _ es p q) (a.alone x).0 (a.moves.alone x.all);
       all = a.moves.all;
+      joined = a.moves.joined;
     };
     asked = λ x. (a.alone x).1;
   }
@@ -172,6 +178,38 @@ module _ {C P D : Type 0} (m : Meanings C) (pools : PoolGhosts P) (devices : Dev
       → IsValid (pools.size before.pool) ptr.key
   ok-valid before now p q result got is (refused why fails first same none) = let never : ◌≡◌ {A = Result Read ReadFault} (Ok got) (Err (fault.Key why)) = sym is ∙ fails in cc
   ok-valid before now p q result got is (answered ok looks r waits answer) = ok
+
+-- ---- what the pool did, as the call tells it
+
+module _ {P : Type 0} (pools : PoolGhosts P) (ptr : Ptr) (old new : P) where
+  pub held-calls : (hold : Hold) (from : Served) → PoolDid pools ptr old new (Ok (gave.Held hold from)) → MakesCalls pools (calls_from from) old new
+  held-calls hold served.Hit d = d.0
+  held-calls hold served.L2 d = d.0
+  held-calls hold served.Pool d = (new, d.call, refl)
+  held-calls hold served.Past d = absurd d
+
+  pub past-got : (block : ℕ) (kept : Kept) → held_key kept ≡ None → GivesBlock pools ptr old new (bytes_of kept)
+      → IsGot (pools.told old) block ptr (record { served = served.Past; read = record { block = block; kept = kept } })
+  past-got block kept loose d = record { read = read-of (pools.told old) ptr served.Past (bytes_of kept) d.of (λ from_pool. d.told); kept = ap (kept_read block) loose }
+
+  mismatch : (found : Digest) → GivesOthers pools ptr old new found → IsMismatch (pools.told old) ptr found
+  mismatch found d = record { bytes = d.bytes.bytes; size = d.bytes.size; digest = d.bytes.digest; other = d.other; plain = go (pools.told old) d.told }
+    where
+      go : (image : Option (List ℕ)) → IfSome image (λ told. found ≡ sha256_of (range_of told ptr.key)) → IfSome image (λ told. IsPlainRead told ptr (Err found))
+      go None told = tt
+      go (Some image) told = (told, λ of. d.other (told ∙ of.digest))
+
+  pub fault-cause : (why : ReadFault) → PoolDid pools ptr old new (Err why) → IsCauseOf (pools.size old) (pools.told old) ptr why
+  fault-cause (fault.PoolFault) d = d.1
+  fault-cause (fault.Mismatch found) d = (d.1, mismatch found d.0)
+  fault-cause (fault.Key why) d = d.1
+  fault-cause (fault.NoMemory) d = tt
+
+  pub fault-calls : (why : ReadFault) → PoolDid pools ptr old new (Err why) → CallsFor pools old new (Err why)
+  fault-calls (fault.PoolFault) d = (new, d.0, refl)
+  fault-calls (fault.Mismatch found) d = (new, d.0.call, refl)
+  fault-calls (fault.Key why) d = d.0
+  fault-calls (fault.NoMemory) d = tt
 
 -- ---- the call
 

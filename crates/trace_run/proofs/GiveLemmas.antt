@@ -12,6 +12,7 @@ use Rattle.arc_core.specs.Operations.{Act}
 use Rattle.turn_table.specs.Places.{Place}
 use Rattle.arc_table.specs.declared.view.Known.{Known}
 use Rattle.arc_table.specs.Cache.{Cache}
+use Rattle.arc_table.specs.Fronts.{front_of}
 use Rattle.arc_table.specs.Items.{Meanings}
 use Rattle.trace_run.specs.KeptReads.{KeptRead}
 use Rattle.trace_run.specs.declared.kept_blocks.KeptBlock.{KeptBlock}
@@ -19,9 +20,10 @@ use Rattle.trace_run.specs.Access.{events_of_drop}
 use Rattle.trace_run.specs.Acts.{acts_of_drop, acts_of_drops}
 use Rattle.trace_run.specs.KeptBlocks.{DroppedAlone, Drops, GivesAll, GivesBack, Stands, held_key, holds_in, read_of}
 use Rattle.trace_run.specs.OneCaller.{events_of_drops}
-use Rattle.arc_table.specs.Seen.{HasAll, seen_of}
+use Rattle.arc_table.specs.Seen.{HasAll, seen_of, turn_of}
 use Rattle.arc_table.specs.Told.{IsTold}
-use Rattle.trace_run.proofs.KeptBlockLemmas.{given-drops, given-stands}
+use Rattle.trace_run.proofs.KeptBlockLemmas.{KeepsJoined, given-drops, given-keeps, given-stands, keeps-same}
+use Rattle.trace_run.proofs.MeetLemmas.{starts-then}
 
 module _ {C : Type 0} (g : Config) (p q : Place (Known C)) where
   drop-number : (o : Option Key) → Drops g o p q → q.number ≡ p.number
@@ -67,6 +69,14 @@ module _ {C : Type 0} (m : Meanings C) (cache : Cache) where
   pub all-stand : (kept : List KeptBlock) (p q : Place (Known C)) → Stands cache p kept → GivesAll m g kept p q → Stands cache q []
   all-stand [] p q stands is = subst (λ (x : Place (Known C)). Stands cache x []) (sym is) stands
   all-stand (b ∷ bs) p q stands gives = all-stand bs gives.0 q (step b bs p gives.0 stands gives.1).0 gives.2
+
+  pub all-keep : (kept : List KeptBlock) (p q : Place (Known C)) → Stands cache p kept → GivesAll m g kept p q → KeepsJoined g p q
+  all-keep [] p q stands is = keeps-same g p q is
+  all-keep (b ∷ bs) p q stands gives =
+      let r = gives.0 in
+      let one = given-keeps m cache p r [] bs b stands b.kept refl gives.1 in
+      let rest = all-keep bs r q (step b bs p r stands gives.1).0 gives.2 in
+      (rest.0 ∙ one.0, λ i. starts-then (front_of (turn_of g i) q.own.seen) (front_of (turn_of g i) r.own.seen) (front_of (turn_of g i) p.own.seen) (rest.1 i) (one.1 i))
 
   pub all-number : (kept : List KeptBlock) (p q : Place (Known C)) → Stands cache p kept → GivesAll m g kept p q → q.number ≡ p.number
   all-number [] p q stands is = ap (λ (x : Place (Known C)). x.number) is

@@ -18,9 +18,10 @@ use Rattle.trace_text.specs.declared.op.Op.{Op}
 use Rattle.trace_text.specs.declared.reply.Reply.{Reply}
 use Rattle.trace_run.specs.KeptReads.{KeptRead}
 use Rattle.trace_run.specs.declared.group.Caller.{Caller}
-use Rattle.trace_run.specs.Acts.{acts_of_all, acts_of_drops}
+use Rattle.trace_run.specs.declared.kept_blocks.KeptBlock.{KeptBlock}
+use Rattle.trace_run.specs.Acts.{acts_of_all}
 use Rattle.trace_run.specs.CallerLines.{At, DidLines, at}
-use Rattle.trace_run.specs.Callers.{AbsorbsAll, AllGaveBack, AreAtStart, AreEnlisted, GaveBack, HasDone, HasTried, IsReady, MayGiveBack}
+use Rattle.trace_run.specs.Callers.{AbsorbsAll, AllReplied, AreAtStart, AreEnlisted, HasDone, HasTried, HaveComeBack, IsReady, Replied}
 use Rattle.trace_run.specs.Effects.{calls_of_all}
 use Rattle.trace_run.specs.Group.{HasWorked, HaveWorked, IsFork}
 use Rattle.trace_run.specs.KeptBlocks.{Stands, read_of}
@@ -59,6 +60,12 @@ lines-number g pools device blocks [] (r ∷ rs) a b did = absurd did
 lines-number g pools device blocks (o ∷ os) [] a b did = absurd did
 lines-number g pools device blocks (o ∷ os) (r ∷ rs) a b did = lines-number g pools device blocks os rs did.0 b did.2 ∙ did.1.did.number
 
+pub lines-joined : {C P : Type 0} (g : Config) (pools : Ghosts P) (device : ℕ) (blocks : List Ptr) (os : List Op) (rs : List Reply) (a b : At C P) → DidLines g pools device blocks os rs a b → b.party.joined ≡ a.party.joined
+lines-joined {C} {P} g pools device blocks [] [] a b did = ap (λ (x : At C P). x.party.joined) did
+lines-joined g pools device blocks [] (r ∷ rs) a b did = absurd did
+lines-joined g pools device blocks (o ∷ os) [] a b did = absurd did
+lines-joined g pools device blocks (o ∷ os) (r ∷ rs) a b did = lines-joined g pools device blocks os rs did.0 b did.2 ∙ did.1.did.joined
+
 answers-length : (len : ℕ) (image : Option (List ℕ)) (blocks : List Ptr) (kept : List KeptRead) (os : List Op) (rs : List Reply) → AreAnswered len image blocks kept os rs → length rs ≡ length os
 answers-length len image blocks kept [] [] answers = refl
 answers-length len image blocks kept [] (r ∷ rs) answers = absurd answers
@@ -78,6 +85,7 @@ module _ {C P : Type 0} (cache : Cache) (pools : Ghosts P) (blocks : List Ptr) (
       let none : map read_of old.kept ≡ [] = ap (map read_of) ready.none in
       record {
         number = lines-number g pools device blocks os rs a b did ∙ his;
+        alone = lines-joined g pools device blocks os rs a b did ∙ ready.alone;
         stands = stands;
         kept = lines-kept g pools device blocks os rs a b did ∙ ap (λ (ks : List KeptRead). kept_after_all blocks ks os rs) none;
         told = subst (λ (ks : List KeptRead). IsTold g (acts_of_all blocks ks os rs) new.party) none (lines-told g pools device blocks os rs a b did [] ready.told);
@@ -97,18 +105,16 @@ module _ {C P : Type 0} (cache : Cache) (pools : Ghosts P) (blocks : List Ptr) (
       both (Ok v) stood done = lines-done old.party.number device old new v.items ready refl stood done
       both (Err e) stood done = tt
 
-  -- a caller that tried, and then gave back what it kept, has worked
-  worked-of : (old new : Caller C P) (rs : List Reply) (p : Place (Known C)) (n : ℕ) → old.party.number ≡ n → HasTried cache pools blocks ops old new → GaveBack cache new rs p
-      → HasWorked cache pools blocks ops n old.pool new.pool rs p
-  worked-of old new rs p n his tried gave =
-      let g : Config = cache.config in
-      let there : HasDone cache pools blocks ops old.party.number old.pool new gave.all.items =
-      subst (λ (r : Result (Vec Reply Global) NoMemory). IfOk r (λ replies. HasDone cache pools blocks ops old.party.number old.pool new replies.items)) gave.replied tried.done in
-      let done : HasDone cache pools blocks ops n old.pool new rs = subst (λ (x : ℕ × List Reply). HasDone cache pools blocks ops x.0 old.pool new x.1) (λ h. (his h, gave.replies_are h)) there in
+  -- a caller that tried, and was answered so, has worked
+  worked-of : (old new : Caller C P) (rs : List Reply) (n : ℕ) → old.party.number ≡ n → HasTried cache pools blocks ops old new → Replied new rs
+      → HasWorked cache pools blocks ops n old.pool new.pool rs new.kept new.party
+  worked-of old new rs n his tried replied =
+      let there : HasDone cache pools blocks ops old.party.number old.pool new replied.all.items =
+      subst (λ (r : Result (Vec Reply Global) NoMemory). IfOk r (λ replies. HasDone cache pools blocks ops old.party.number old.pool new replies.items)) replied.replied tried.done in
+      let done : HasDone cache pools blocks ops n old.pool new rs = subst (λ (x : ℕ × List Reply). HasDone cache pools blocks ops x.0 old.pool new x.1) (λ h. (his h, replied.replies_are h)) there in
       record {
-        number = gave.number ∙ done.number;
-        stands = gave.stands;
-        told = subst (λ (x : ℕ × List KeptRead). IsTold g (acts_of_all blocks [] (filter (is_of_caller n) ops) rs ++ acts_of_drops x.0 x.1) p) (λ h. (done.number h, done.kept h)) (gave.told _ done.told);
+        waits = record { number = done.number; alone = done.alone; stands = done.stands; told = done.told };
+        keeps = done.kept;
         answers = done.answers;
         calls = done.calls;
       }
@@ -137,6 +143,7 @@ module _ {C P : Type 0} (cache : Cache) (pools : Ghosts P) (blocks : List Ptr) (
         (
           ap (λ (q : Place (Known C)). q.number) one.party ∙ begins.number,
           record {
+            alone = ap (λ (q : Place (Known C)). q.joined) one.party ∙ begins.alone;
             stands = subst (λ (q : Place (Known C)). Stands cache q []) (sym one.party) begins.stands;
             told = subst (λ (q : Place (Known C)). IsTold cache.config [] q) (sym one.party) begins.told;
             none = one.none;
@@ -156,29 +163,11 @@ module _ {C P : Type 0} (cache : Cache) (pools : Ghosts P) (blocks : List Ptr) (
       → AllByRecursion (IsReady cache) callers
   enlisted-ready pool ps forks callers start fresh made = starts-ready pool 0 callers (enlisted-start pool 0 ps forks callers start fresh made).0
 
-  may-give : (old new : Caller C P) → HasTried cache pools blocks ops old new → MayGiveBack cache new
-  may-give old new tried = stood new.replies (λ replies. HasDone cache pools blocks ops old.party.number old.pool new replies.items) (λ replies done. done.stands) tried.done
-    where
-      stood : (r : Result (Vec Reply Global) NoMemory) (F : Vec Reply Global → Type 0) → ((v : Vec Reply Global) → F v → Stands cache new.party new.kept) → IfOk r F → IfOk r (λ replies. Stands cache new.party new.kept)
-      stood (Ok v) F each holds = each v holds
-      stood (Err e) F each holds = tt
-
-  -- then what they keep may be given back
-  pub tried-may-give : (olds news : List (Caller C P)) → AllZip (HasTried cache pools blocks ops) olds news → AllByRecursion (MayGiveBack cache) news
-  tried-may-give [] [] tried = tt
-  tried-may-give [] (new ∷ news) tried = absurd tried
-  tried-may-give (old ∷ olds) [] tried = absurd tried
-  tried-may-give (old ∷ olds) (new ∷ news) tried = (may-give old new tried.0, tried-may-give olds news tried.1)
-
-  gave-length : (news : List (Caller C P)) (rss : List (List Reply)) (ps : List (Place (Known C))) → AllGaveBack cache news rss ps → (length rss ≡ length news) × (length ps ≡ length news)
-  gave-length [] [] [] gave = (refl, refl)
-  gave-length [] [] (p ∷ ps) gave = absurd gave
-  gave-length [] (rs ∷ rss) [] gave = absurd gave
-  gave-length [] (rs ∷ rss) (p ∷ ps) gave = absurd gave
-  gave-length (new ∷ news) [] [] gave = absurd gave
-  gave-length (new ∷ news) [] (p ∷ ps) gave = absurd gave
-  gave-length (new ∷ news) (rs ∷ rss) [] gave = absurd gave
-  gave-length (new ∷ news) (rs ∷ rss) (p ∷ ps) gave = let rest = gave-length news rss ps gave.1 in (ap suc rest.0, ap suc rest.1)
+  replied-length : (news : List (Caller C P)) (rss : List (List Reply)) → AllReplied news rss → length rss ≡ length news
+  replied-length [] [] replied = refl
+  replied-length [] (rs ∷ rss) replied = absurd replied
+  replied-length (new ∷ news) [] replied = absurd replied
+  replied-length (new ∷ news) (rs ∷ rss) replied = ap suc (replied-length news rss replied.1)
 
   tried-length : (olds news : List (Caller C P)) → AllZip (HasTried cache pools blocks ops) olds news → length news ≡ length olds
   tried-length [] [] tried = refl
@@ -195,47 +184,45 @@ module _ {C P : Type 0} (cache : Cache) (pools : Ghosts P) (blocks : List Ptr) (
   starts-fork pool n (old ∷ olds) start (suc k) lt = starts-fork pool (suc n) olds start.3 k (omega arith)
 
   -- what the caller of each number has done
-  worked-each : (pool : P) (n : ℕ) (olds news : List (Caller C P)) (rss : List (List Reply)) (ps : List (Place (Known C))) → AllStart pool n olds → AllZip (HasTried cache pools blocks ops) olds news
-      → AllGaveBack cache news rss ps → (k m : ℕ) → m ≡ n + k → k < length olds
-      → (rs : List Reply) × (p : Place (Known C)) × (get_elem? rss k ≡ some rs) × (get_elem? ps k ≡ some p)
-      × HasWorked cache pools blocks ops m (get_or (map pool_of olds) k pool) (get_or (map pool_of news) k pool) rs p
-  worked-each pool n [] news rss ps start tried gave k m is lt = absurd (omega arith)
-  worked-each pool n (old ∷ olds) [] rss ps start tried gave k m is lt = absurd tried
-  worked-each pool n (old ∷ olds) (new ∷ news) [] [] start tried gave k m is lt = absurd gave
-  worked-each pool n (old ∷ olds) (new ∷ news) [] (p ∷ ps) start tried gave k m is lt = absurd gave
-  worked-each pool n (old ∷ olds) (new ∷ news) (rs ∷ rss) [] start tried gave k m is lt = absurd gave
-  worked-each pool n (old ∷ olds) (new ∷ news) (rs ∷ rss) (p ∷ ps) start tried gave zero m is lt = (rs, p, refl, refl, worked-of old new rs p m (start.0 ∙ omega arith) tried.0 gave.0)
-  worked-each pool n (old ∷ olds) (new ∷ news) (rs ∷ rss) (p ∷ ps) start tried gave (suc k) m is lt = worked-each pool (suc n) olds news rss ps start.3 tried.1 gave.1 k m (omega arith) (omega arith)
+  worked-each : (pool : P) (n : ℕ) (olds news : List (Caller C P)) (rss : List (List Reply)) → AllStart pool n olds → AllZip (HasTried cache pools blocks ops) olds news
+      → AllReplied news rss → (k m : ℕ) → m ≡ n + k → k < length olds
+      → (rs : List Reply) × (p : Place (Known C)) × (get_elem? rss k ≡ some rs) × (get_elem? (map (λ caller. caller.party) news) k ≡ some p) × (ks : List KeptBlock) × (get_elem? (map (λ caller. caller.kept) news) k ≡ some ks)
+      × HasWorked cache pools blocks ops m (get_or (map pool_of olds) k pool) (get_or (map pool_of news) k pool) rs ks p
+  worked-each pool n [] news rss start tried replied k m is lt = absurd (omega arith)
+  worked-each pool n (old ∷ olds) [] rss start tried replied k m is lt = absurd tried
+  worked-each pool n (old ∷ olds) (new ∷ news) [] start tried replied k m is lt = absurd replied
+  worked-each pool n (old ∷ olds) (new ∷ news) (rs ∷ rss) start tried replied zero m is lt = (rs, new.party, refl, refl, new.kept, refl, worked-of old new rs m (start.0 ∙ omega arith) tried.0 replied.0)
+  worked-each pool n (old ∷ olds) (new ∷ news) (rs ∷ rss) start tried replied (suc k) m is lt = worked-each pool (suc n) olds news rss start.3 tried.1 replied.1 k m (omega arith) (omega arith)
 
   -- a caller's fork counted at most as much as the trace has operations
-  few : (n : ℕ) (fork done pool : P) (rs : List Reply) (p : Place (Known C)) → length ops < 2 ^ 32 → IsFork pools pool fork → HasWorked cache pools blocks ops n fork done rs p
+  few : (n : ℕ) (fork done pool : P) (rs : List Reply) (ks : List KeptBlock) (p : Place (Known C)) → length ops < 2 ^ 32 → IsFork pools pool fork → HasWorked cache pools blocks ops n fork done rs ks p
       → (pools.reads done ≤ 2 ^ 32) × (pools.faults done ≤ 2 ^ 32)
-  few n fork done pool rs p short fresh worked =
+  few n fork done pool rs ks p short fresh worked =
       let os : List Op = filter (is_of_caller n) ops in
       let long : length rs ≡ length os = answers-length (pools.size fork) (pools.told fork) blocks [] os rs worked.answers in
       let most : length (calls_of_all rs) ≤ 2 ^ 32 = omega (arith, short, long, length-filter (is_of_caller n) ops, count_by-le-length (is_of_caller n) ops, calls-few rs) in
       few-counts pools (calls_of_all rs) fork done fresh.reads fresh.faults worked.calls (2 ^ 32) most (omega arith)
 
-  pub have-worked : (old new : P) (ps : List (Place (Known C))) (forks : List P) (olds news : List (Caller C P)) (rss : List (List Reply)) (qs : List (Place (Known C)))
+  pub have-worked : (old new : P) (ps : List (Place (Known C))) (forks : List P) (olds news : List (Caller C P)) (rss : List (List Reply)) (kept : List (List KeptBlock)) (qs : List (Place (Known C)))
       → AreAtStart cache 0 ps → AllByRecursion (IsFork pools old) forks → length ps ≤ 16 → length ops < 2 ^ 32 → AreEnlisted ps forks olds → AllZip (HasTried cache pools blocks ops) olds news
-      → AbsorbsAll pools (map pool_of news) old new → AllGaveBack cache news rss qs → HaveWorked cache pools blocks ops (length ps) old new rss qs
-  have-worked old new ps forks olds news rss qs start fresh few_callers short made tried absorbs gave =
+      → AbsorbsAll pools (map pool_of news) old new → HaveComeBack news rss qs kept → HaveWorked cache pools blocks ops (length ps) old new rss kept qs
+  have-worked old new ps forks olds news rss kept qs start fresh few_callers short made tried absorbs came =
       let begun = enlisted-start old 0 ps forks olds start fresh made in
       let many : length olds ≡ length ps = begun.1 in
       let same : length news ≡ length olds = tried-length olds news tried in
       let dones : List P = map pool_of news in
       let long : length dones ≡ length ps = length-map news pool_of ∙ (same ∙ many) in
-      let gone = gave-length news rss qs gave in
-      let each = λ (n : ℕ) (lt : n < length ps). worked-each old 0 olds news rss qs begun.0 tried gave n n (omega arith) (omega (arith, lt, many)) in
+      let each = λ (n : ℕ) (lt : n < length ps). worked-each old 0 olds news rss begun.0 tried came.replied n n (omega arith) (omega (arith, lt, many)) in
       let fork = λ (n : ℕ) (lt : n < length ps). starts-fork old 0 olds begun.0 n (omega (arith, lt, many)) in
-      let counts = λ (n : ℕ) (lt : n < length ps). few n (get_or (map pool_of olds) n old) (get_or dones n old) old (each n lt).0 (each n lt).1 short (fork n lt) (each n lt).4 in
+      let counts = λ (n : ℕ) (lt : n < length ps). let e = each n lt in few n (get_or (map pool_of olds) n old) (get_or dones n old) old e.0 e.4 e.1 short (fork n lt) e.6 in
       let reads = sum-few pools.reads dones old (λ k lt. (counts k (omega (arith, lt, long))).0) in
       let all_reads : over_callers (length ps) (λ n. pools.reads (get_or dones n old)) ≡ sum_by pools.reads dones = ap (λ (l : ℕ). over_callers l (λ n. pools.reads (get_or dones n old))) (sym long) ∙ over-sum pools.reads dones old in
       let faults = sum-few pools.faults dones old (λ k lt. (counts k (omega (arith, lt, long))).1) in
       let all_faults : over_callers (length ps) (λ n. pools.faults (get_or dones n old)) ≡ sum_by pools.faults dones = ap (λ (l : ℕ). over_callers l (λ n. pools.faults (get_or dones n old))) (sym long) ∙ over-sum pools.faults dones old in
-      record {
-        replied = gone.0 ∙ (same ∙ many);
-        parties = gone.1 ∙ (same ∙ many);
+      subst (λ (x : List (List KeptBlock) × List (Place (Known C))). HaveWorked cache pools blocks ops (length ps) old new rss x.0 x.1) (λ i. (sym came.keeps i, sym came.parties i)) record {
+        replied = replied-length news rss came.replied ∙ (same ∙ many);
+        kepts = length-map news _ ∙ (same ∙ many);
+        parties = length-map news _ ∙ (same ∙ many);
         forks = λ n. get_or (map pool_of olds) n old;
         done = λ n. get_or dones n old;
         fresh = fork;

@@ -1,5 +1,5 @@
 -- A history of reads and passes: nobody but callers holds anything behind it, and nothing is picked.
-use Rattle.std.proofs.Common.{◌≡◌, ◌⊎◌, ℕ, zero, suc, ◌+◌, ◌<◌, true, false, ◌==◌, nat_le, not, IsTrue, List, [], ◌∷◌, map, inl, inr, refl, sym, ap, ◌∙◌, subst, eq-eqb, ne_eqb, arith}
+use Rattle.std.proofs.Common.{◌≡◌, ◌⊎◌, ℕ, zero, suc, ◌+◌, ◌<◌, ◌≤◌, true, false, ◌==◌, nat_le, not, IsTrue, List, [], ◌∷◌, map, inl, inr, refl, sym, ap, ◌∙◌, subst, eq-eqb, ne_eqb, arith}
 use Rattle.std.specs.List.{AllByRecursion}
 use Rattle.std.proofs.lemmas.Bool.{false≢true}
 use Rattle.std.proofs.lemmas.Bool.Decides.{nat_tests}
@@ -37,7 +37,7 @@ hold-other : (n m : ℕ) (k j : Key) → n < m → hold_for n k m j ≡ 0
 hold-other n m k j below = let other : (m == n) ≡ false = ne_eqb m n (λ e. absurd (omega arith)) in rw other refl
 
 -- a number that no caller has gains nothing
-none-gained : (callers m : ℕ) (j : Key) (e : Event) → callers < m → IsReadEvent callers e → gained e m j ≡ 0
+none-gained : (callers m : ℕ) (j : Key) (e : Event) → callers ≤ m → IsReadEvent callers e → gained e m j ≡ 0
 none-gained callers m j (Hit n k t) above (inl of) = let below : n < m = omega (arith, of.0) in hold-other n m k j below
 none-gained callers m j (Hit n k t) above (inr pass) = absurd (false≢true pass.0)
 none-gained callers m j (Miss n k t) above (inl of) = let below : n < m = omega (arith, of.0) in hold-other n m k j below
@@ -60,7 +60,7 @@ none-gained callers m j (Clear n k) above is = refl
 none-gained callers m j (Restore n k place d) above is = refl
 none-gained callers m j (Resize n c) above is = refl
 
-pub none-counted : (callers m : ℕ) (j : Key) (s : PlainShard) (es : List Event) → callers < m → m < numbers → IsSound s → IsTrue (is_legal_history s es) → AllByRecursion (IsReadEvent callers) es
+pub none-counted : (callers m : ℕ) (j : Key) (s : PlainShard) (es : List Event) → callers ≤ m → m < numbers → IsSound s → IsTrue (is_legal_history s es) → AllByRecursion (IsReadEvent callers) es
     → count_of m j s ≡ 0 → count_of m j (replay s es) ≡ 0
 none-counted callers m j s [] above below sound lawful reads none = none
 none-counted callers m j s (e ∷ es) above below sound lawful reads none =

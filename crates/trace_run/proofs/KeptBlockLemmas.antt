@@ -37,13 +37,15 @@ use Rattle.arc_table.specs.ShardGiving.{ledger_through}
 use Rattle.arc_table.proofs.Afterwards.{does_ledger, does_stays, stays_party}
 use Rattle.arc_table.proofs.Reached.{reached, rests}
 use Rattle.trace_run.specs.declared.kept_blocks.KeptBlock.{KeptBlock}
-use Rattle.trace_run.specs.KeptBlocks.{Adds, AllIdle, Drops, GivesBack, IsOwnedBy, Stands, held_key, is_ptr, listed_all, listed_for, times}
-use Rattle.arc_table.specs.Seen.{AddsAll, AddsOwn, Made}
+use Rattle.trace_run.specs.KeptBlocks.{Adds, AllUnread, Drops, GivesBack, IsOwnedBy, Stands, held_key, is_ptr, listed_all, listed_for, times}
+use Rattle.arc_table.specs.Fronts.{StartsWith, front_of}
+use Rattle.arc_table.specs.Seen.{AddsAll, AddsOwn, Made, turn_of}
+use Rattle.arc_table.specs.TableLaws.{starts_whole}
 use Rattle.trace_run.specs.Access.{events_of_drop}
 use Rattle.trace_run.specs.Acts.{acts_of_drop}
 use Rattle.trace_run.proofs.CacheLemmas.{digest_eq-is}
 use Rattle.arc_table.proofs.MadeLemmas.{does-made}
-use Rattle.arc_table.proofs.OwnLemmas.{made-all, made-alone, made-own, made-sees}
+use Rattle.arc_table.proofs.OwnLemmas.{grows, made-all, made-alone, made-own, made-sees}
 use Rattle.arc_table.proofs.ReadMoments.{own-single}
 use Rattle.trace_run.proofs.TellLemmas.{digest_eq-same}
 use Rattle.arc_table.proofs.ToldLemmas.{told-more}
@@ -121,6 +123,13 @@ module _ {X : Type 0} (P : X → Type 0) where
   all-middle (y ∷ ys) rest x all = let h = all-middle ys rest x all.1 in (h.0, (all.0, h.1))
 
 -- ---- one read is given back
+
+-- the parties that joined it are as before, and it has seen all that it had
+abbrev pub KeepsJoined : {C : Type 0} → Config → (p q : Place (Known C)) → Type 0
+KeepsJoined g p q = (q.joined ≡ p.joined) × ((i : ℕ) → StartsWith (front_of (turn_of g i) q.own.seen) (front_of (turn_of g i) p.own.seen))
+
+pub keeps-same : {C : Type 0} (g : Config) (p q : Place (Known C)) → q ≡ p → KeepsJoined g p q
+keeps-same g p q is = subst (KeepsJoined g p) (sym is) (refl, λ i. starts_whole (front_of (turn_of g i) p.own.seen))
 
 module _ {C : Type 0} (cache : Cache) (p : Place (Known C)) (front rest : List KeptBlock) (read : KeptBlock) (stands : Stands cache p (front ++ read ∷ rest)) where
   owned-one : IsOwnedBy p.number read.kept
@@ -209,7 +218,7 @@ module _ {C : Type 0} (m : Meanings C) (cache : Cache) (p q : Place (Known C)) (
           idle = ap (λ (l : Ledger). l.readings) ledger-is ∙ stands.idle;
           seen = made-sees g (shard_of g.shards hold.key) d.before (Drop hold.owner hold.key ∷ []) p q made stands.seen;
           apart = subst (λ (x : ℕ × List (Joined (Known C))). Apart x.0 x.1) (λ i. (sym stays.number i, sym stays.joined i)) stands.apart;
-          joined = subst AllIdle (sym stays.joined) stands.joined;
+          joined = subst AllUnread (sym stays.joined) stands.joined;
           owned = subst (λ (n : ℕ). AllByRecursion (λ b. IsOwnedBy n b.kept) (front ++ rest)) (sym stays.number) owned-rest;
           listed = λ x.
               let a = without-one hold.key (sha256_of hold.block.value) p.own.ledger.holds same-digest listed-once x in
@@ -230,7 +239,15 @@ module _ {C : Type 0} (m : Meanings C) (cache : Cache) (p q : Place (Known C)) (
           (record { events = refl; digests = (tt, tt) });
       alone = λ all. subst (λ (n : ℕ). AddsAll g (shard_of g.shards hold.key) (Drop n hold.key ∷ []) p q) owner (made-alone g (shard_of g.shards hold.key) d.before (Drop hold.owner hold.key ∷ []) p q made all);
       all = λ all. made-all g (shard_of g.shards hold.key) d.before (Drop hold.owner hold.key ∷ []) p q made all;
+      joined = made.same.joined;
     }
+
+    pub held-keeps : KeepsJoined g p q
+    held-keeps = (made.same.joined, grows g (shard_of g.shards hold.key) d.before (Drop hold.owner hold.key ∷ []) p q made)
+
+  pub given-keeps : (kept : Kept) → read.kept ≡ kept → GivesBack m g kept p q → KeepsJoined g p q
+  given-keeps (Held hold) is d = held-keeps hold is d
+  given-keeps (Loose key block) is same = keeps-same g p q same
 
   -- what is left of the kept reads is held
   pub given-stands : (kept : Kept) → read.kept ≡ kept → GivesBack m g kept p q → Stands cache q (front ++ rest)

@@ -21,6 +21,7 @@ pub mod KeptBlockLemmas
 pub mod KeptQueueLemmas
 pub mod LineLemmas
 pub mod LinesLemmas
+pub mod MeetLemmas
 pub mod NamedLemmas
 pub mod OpenLemmas
 pub mod OutcomeLemmas
@@ -42,4 +43,6 @@ pub mod StreamLemmas
 pub mod TakenLemmas
 pub mod TellLemmas
 pub mod TogetherLemmas
+pub mod TurnLemmas
+pub mod TurningLemmas
 pub mod WordLemmas

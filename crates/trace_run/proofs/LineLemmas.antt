@@ -64,6 +64,7 @@ module _ {C : Type 0} (g : Config) (device : ℕ) (p q : Place (Known C)) where
     told = λ before told. subst (λ (l : List Act). IsTold g l p) (sym (append-nil before)) told;
     alone = λ a. record { number = refl; here = sym (append-nil (seen_of g shard p)); others = λ j differs. refl };
     all = λ all. all;
+    joined = refl;
   })
 
   -- one act was done
@@ -73,6 +74,7 @@ module _ {C : Type 0} (g : Config) (device : ℕ) (p q : Place (Known C)) where
     told = λ before told. told-more g before act did.made p q his told did.own did.act_is;
     alone = did.alone;
     all = did.all;
+    joined = did.joined;
   }
 
   module _ (t : ℕ) (ptr : Ptr) where
@@ -127,6 +129,7 @@ module _ {C : Type 0} (m : Meanings C) (g : Config) (valid : IsConfig g) (device
         ∙ append-nil (events_of_answered p.number t ptr (access_now g ptr p))))
         (did.act.alone a);
     all = did.act.all;
+    joined = did.act.joined;
   })
 
   -- an access that was served, and then its drop
@@ -153,6 +156,7 @@ module _ {C : Type 0} (m : Meanings C) (g : Config) (valid : IsConfig g) (device
             subst (λ (o : Option Key). AddsAll g here (events_of_answered p.number t ptr (access_now g ptr p) ++ events_of_drop p.number o) p q) (sym held)
             (adds-all-then g here (events_of_answered p.number t ptr (access_now g ptr p)) (Drop p.number ptr.key ∷ []) p r q (did.act.alone a) (drop.alone (did.act.all a.all)));
         all = λ all. drop.all (did.act.all all);
+        joined = drop.joined ∙ did.act.joined;
       }
 
   -- what is kept of it is given back
@@ -268,7 +272,7 @@ module _ {C P : Type 0} (g : Config) (pools : Ghosts P) (device : ℕ) (blocks :
       let here : shard_of g.shards k ≡ shard_of_line g.shards blocks (ops.Drop n x) =
       ap (shard_of g.shards) own.2 ∙ ap (λ (o : Option Ptr). option_map_or (λ (ptr : Ptr). shard_of g.shards ptr.key) o 0) (sym own.1) in
       subst (λ (shard : ℕ). DidActs g device shard (acts_of_drop p.number (Some k)) (events_of_drop p.number (Some k)) p q) here
-      (record { number = drops.number; told = drops.told; alone = λ alone. drops.alone alone.all; all = drops.all })
+      (record { number = drops.number; told = drops.told; alone = λ alone. drops.alone alone.all; all = drops.all; joined = drops.joined })
 
   drop-acts : (n x had gave : ℕ) (kept : List KeptRead) (reply : Reply) → AreNamed blocks kept → AnswersDrop had gave x reply → Drops g (oldest_key x kept) p q → (reply ≢ Dropped → oldest_key x kept ≡ None)
       → DidActs g device (shard_of_line g.shards blocks (ops.Drop n x)) (acts_of_dropping p.number x kept (effect_of reply)) (events_of_dropping p.number x kept (effect_of reply)) p q

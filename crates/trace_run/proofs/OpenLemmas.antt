@@ -1,5 +1,5 @@
 -- What a party of a new cache is, and one that others have joined before anything was done.
-use Rattle.std.proofs.Common.{◌≡◌, ◌≢◌, ◌⊎◌, ℕ, zero, suc, ◌+◌, ◌<◌, List, [], ◌∷◌, ◌++◌, length, get_or, refl, sym, ap, ◌∙◌, subst, inl, inr, arith}
+use Rattle.std.proofs.Common.{◌≡◌, ◌≢◌, ◌⊎◌, ℕ, zero, suc, ◌+◌, ◌<◌, List, [], ◌∷◌, ◌++◌, length, map, replicate, get_or, refl, sym, ap, ◌∙◌, subst, inl, inr, arith}
 use Rattle.std.specs.List.{AllByRecursion, remove}
 use Rattle.std.specs.declared.alloc.Global.{Global}
 use Rattle.std.specs.declared.boxed.Box.{Box}
@@ -12,6 +12,7 @@ use Rattle.arc_core.specs.declared.config.Config.{Config}
 use Rattle.arc_core.specs.Operations.{moments, own_moments}
 use Rattle.dbuf_cells.specs.declared.kept.Kept.{Kept}
 use Rattle.dbuf_state.specs.CellLog.{CellLog, opening_log}
+use Rattle.dbuf_state.specs.Numbers.{opening_numbers}
 use Rattle.dbuf_state.specs.Objects.{Never}
 use Rattle.dbuf_state.specs.Soundness.{IsSound}
 use Rattle.turn_table.specs.declared.standing.Kept.{Kept as Joined}
@@ -28,8 +29,8 @@ use Rattle.arc_table.specs.Opening.{AreFreshCells, IsFreshCell}
 use Rattle.arc_table.specs.TableLaws.{there}
 use Rattle.arc_table.specs.Views.{after_learned, newcomer as known}
 use Rattle.arc_table.specs.Telling.{opening_of}
-use Rattle.trace_run.specs.KeptBlocks.{AllIdle, Stands}
-use Rattle.trace_run.specs.Opened.{AreOpened, HasJoined, IsNew, IsOpened}
+use Rattle.trace_run.specs.KeptBlocks.{AllUnread, Stands}
+use Rattle.trace_run.specs.Opened.{AreOpened, HasJoined, IsNew, IsOpened, openings_of}
 use Rattle.arc_table.specs.Seen.{AllSeen, AreSeen, HasAll, HasSeenItsOwn, events_in, seen_of, turn_of}
 use Rattle.arc_table.specs.Told.{IsTold}
 
@@ -38,7 +39,7 @@ use Rattle.arc_table.specs.Told.{IsTold}
 no-mine : (g : Config) (n : ℕ) (seen : List (List Line)) → AreSeen g n [] seen
 no-mine g n seen i j a at is = absurd (some-ne-none a (sym at))
 
-module _ (C : Type 0) (cache : Cache) (about : About) (is : about.config ≡ cache.config) (row : cache.row.parties ≡ parties_of cache.config) (valid : IsConfig cache.config) where
+module _ (C : Type 0) (cache : Cache) (about : About) (is : about.config ≡ cache.config) (cells : about.openings ≡ openings_of cache.config) (row : cache.row.parties ≡ parties_of cache.config) (valid : IsConfig cache.config) where
   abbrev one : ℕ → Place (Known C)
   one n = newcomer cache.row.table (parties_of cache.config) n (known about n)
 
@@ -62,7 +63,7 @@ module _ (C : Type 0) (cache : Cache) (about : About) (is : about.config ≡ cac
   newcomer-new n = record {
     number = refl;
     joined = refl;
-    new = record { parties = refl; begun = refl; seen = refl; stands = newcomer-stands n; told = newcomer-told n };
+    new = record { parties = refl; openings = cells; begun = refl; seen = refl; stands = newcomer-stands n; told = newcomer-told n };
   }
 
   newcomers-count : (n k : ℕ) → length (newcomers cache.row.table (parties_of cache.config) (known {C = C} about) n k) ≡ k
@@ -82,9 +83,9 @@ module _ (C : Type 0) (cache : Cache) (about : About) (is : about.config ≡ cac
 
 -- the parties of a cache that was given so
 pub all-opened : {C : Type 0} (given cache : Cache) (about : About) (ps : List (Place (Known C))) → ps ≡ all_newcomers given about → cache ≡ given → about.config ≡ cache.config
-    → cache.row.parties ≡ parties_of cache.config → IsConfig cache.config → AreOpened cache ps
-all-opened {C} given cache about ps all same is row valid =
-    subst (AreOpened cache) (sym (all ∙ ap (λ (x : Cache). all_newcomers x about) (sym same))) (newcomers-opened C cache about is row valid)
+    → about.openings ≡ openings_of cache.config → cache.row.parties ≡ parties_of cache.config → IsConfig cache.config → AreOpened cache ps
+all-opened {C} given cache about ps all same is cells row valid =
+    subst (AreOpened cache) (sym (all ∙ ap (λ (x : Cache). all_newcomers x about) (sym same))) (newcomers-opened C cache about is cells row valid)
 
 -- ---- parties that are taken out of the row
 
@@ -156,8 +157,8 @@ module _ {C : Type 0} (cache : Cache) where
     apart-then = subst (Apart p.number) (sym joined-is)
         ((λ (same : q.number ≡ p.number). let a = next.number in let b = first.number in let c = some-count in omega arith), first.new.stands.apart)
 
-    idle-then : AllIdle then.joined
-    idle-then = subst AllIdle (sym joined-is) (record { holds = ap (λ (l : Ledger). l.holds) next.new.begun; readings = ap (λ (l : Ledger). l.readings) next.new.begun }, first.new.stands.joined)
+    unread-then : AllUnread then.joined
+    unread-then = subst AllUnread (sym joined-is) (ap (λ (l : Ledger). l.readings) next.new.begun, first.new.stands.joined)
 
     same-seen : q.own.seen ≡ then.own.seen
     same-seen = next.new.seen ∙ sym seen-none
@@ -182,7 +183,7 @@ module _ {C : Type 0} (cache : Cache) where
       idle = first.new.stands.idle;
       seen = own-seen;
       apart = apart-then;
-      joined = idle-then;
+      joined = unread-then;
       owned = tt;
       listed = first.new.stands.listed;
     }
@@ -192,7 +193,7 @@ module _ {C : Type 0} (cache : Cache) where
       number = first.number;
       has = λ n below. has-then n (which n below);
       low = low-then;
-      new = record { parties = first.new.parties; begun = first.new.begun; seen = seen-none; stands = stands-then; told = told-then };
+      new = record { parties = first.new.parties; openings = first.new.openings; begun = first.new.begun; seen = seen-none; stands = stands-then; told = told-then };
     }
       where
         less : (n c : ℕ) → n < suc c → n ≢ c → n < c
@@ -241,6 +242,14 @@ module _ (limit : ℕ) where
   one-opening cells b n more are one is =
       let h = more-opening cells b n are one in
       subst (AreOpening limit (n + 1)) (sym is) (omega (arith, h.0), h.1)
+
+-- what such cells tell of how they began
+pub all-openings : (opening : HeapCell → List ℕ) (limit : ℕ) → ((b : HeapCell) → IsOpening limit b → opening b ≡ opening_numbers limit []) → (n : ℕ) (cells : List HeapCell) → AreOpening limit n cells
+    → map opening cells ≡ replicate n (opening_numbers limit [])
+all-openings opening limit one zero [] are = refl
+all-openings opening limit one zero (c ∷ cs) are = absurd (omega (arith, are.0))
+all-openings opening limit one (suc n) [] are = absurd (omega (arith, are.0))
+all-openings opening limit one (suc n) (c ∷ cs) are = λ i. one c are.1.0 i ∷ all-openings opening limit one n cs (omega (arith, are.0), are.1.1) i
 
 module _ (m : Meanings HeapCell) (limit : ℕ) (fresh : (b : HeapCell) → IsOpening limit b → IsFreshCell m b) where
   fresh-at : (cells : List HeapCell) → AllByRecursion (IsOpening limit) cells → (i : ℕ) (b : HeapCell) → get_elem? cells i ≡ some b → IsFreshCell m b

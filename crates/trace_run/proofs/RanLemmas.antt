@@ -1,11 +1,12 @@
 -- What a run over the shared cache came to is what its report has to say.
-use Rattle.std.proofs.Common.{◌≡◌, ℕ, ◌+◌, ◌<◌, ◌≤◌, ◌^◌, Bool, false, List, length, Some, IfSome, refl, sym, ap, subst, ◌∙◌, arith}
+use Rattle.std.proofs.Common.{◌≡◌, ℕ, ◌+◌, ◌<◌, ◌≤◌, ◌^◌, Bool, false, List, [], ◌∷◌, length, Some, IfSome, refl, sym, ap, subst, ◌∙◌, arith}
 use Rattle.arc_core.specs.declared.event.Event.{Event}
 use Rattle.arc_table.specs.Ended.{Ended}
 use Rattle.trace_text.specs.Grammar.{IsFormed}
 use Rattle.trace_text.specs.declared.reply.Reply.{Reply}
 use Rattle.trace_text.specs.declared.report.Report.{Report}
 use Rattle.trace_text.specs.declared.trace.Trace.{Trace}
+use Rattle.vdev_io.specs.Calls.{Call, MakesCalls}
 use Rattle.vdev_io.specs.declared.pool.Pool.{Ghosts}
 use Rattle.trace_run.specs.Alone.{RanAlone, ends_in}
 use Rattle.trace_run.specs.Effects.{calls_of_all}
@@ -18,6 +19,11 @@ use Rattle.trace_run.specs.Together.{report_of_closed}
 use Rattle.trace_run.proofs.AlonePlainLemmas.{plain-alone}
 use Rattle.trace_run.proofs.ReportLemmas.{report-is}
 use Rattle.trace_run.proofs.RunLemmas.{calls-faults, calls-few, calls-reads, failed-all}
+
+-- no reply, no read of the pool
+no-calls : (replies : List Reply) → length replies ≡ 0 → calls_of_all replies ≡ []
+no-calls [] none = refl
+no-calls (reply ∷ rest) none = absurd (omega (arith, none))
 
 module _ {C P : Type 0} (pools : Ghosts P) (before after : P) (trace : Trace) (replies : List Reply) (closed : Ended C) where
   -- one caller's run
@@ -51,6 +57,7 @@ module _ {C P : Type 0} (pools : Ghosts P) (before after : P) (trace : Trace) (r
           },
         );
         together = λ two. absurd (omega (arith, two, one));
+        idle = λ none. (refl, subst (λ (cs : List Call). MakesCalls pools cs before after) (no-calls replies (ran.answers.all ∙ ap length none)) ran.made);
         failed = λ is. cc;
       }
 
@@ -70,6 +77,7 @@ module _ {C P : Type 0} (pools : Ghosts P) (before after : P) (trace : Trace) (r
     reads = ran.reads;
     faults = ran.faults;
     alone = λ one. absurd (omega (arith, two, one));
-    together = λ _ whole. ran.together whole;
+    together = λ _ some whole. ran.together some whole;
+    idle = ran.idle;
     failed = ran.failed;
   }

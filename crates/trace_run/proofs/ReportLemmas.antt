@@ -48,7 +48,7 @@ pub of-caller : (os : List Op) → AllByRecursion (λ op. caller_of op ≡ 0) os
 of-caller [] own = tt
 of-caller (op ∷ os) own = (test-same (caller_of op) 0 own.0, of-caller os own.1)
 
-replies-all : (test : Op → Bool) (os : List Op) (replies : List Reply) → length replies ≡ length os → AllByRecursion (λ op. test op ≡ true) os → replies_where test os replies ≡ replies
+pub replies-all : (test : Op → Bool) (os : List Op) (replies : List Reply) → length replies ≡ length os → AllByRecursion (λ op. test op ≡ true) os → replies_where test os replies ≡ replies
 replies-all test [] [] same all = refl
 replies-all test [] (r ∷ rs) same all = absurd (omega arith)
 replies-all test (o ∷ os) [] same all = absurd (omega arith)

@@ -21,13 +21,13 @@ use Rattle.arc_table.specs.Logged.{IsSoundLog}
 use Rattle.arc_table.specs.Rule.{Pact}
 use Rattle.arc_table.proofs.HandHeads.{config_then}
 use Rattle.arc_table.specs.Telling.{opening_of}
-use Rattle.trace_run.specs.KeptBlocks.{Stands, is_ptr, times}
+use Rattle.trace_run.specs.KeptBlocks.{IsIdle, Stands, is_ptr, times}
 use Rattle.arc_table.specs.Seen.{HasAll, seen_of, turn_of}
 use Rattle.arc_table.specs.Told.{IsTold}
 use Rattle.trace_run.proofs.CloseLemmas.{closed-alone, closed-legal, closed-now, closed-sound, closed-told, last}
 use Rattle.trace_run.proofs.HistoryLemmas.{IsReadEvent}
 use Rattle.trace_run.proofs.KeptBlockLemmas.{is_ptr-same, times-cons}
-use Rattle.trace_run.proofs.RestLemmas.{AreIdle, closed-rests}
+use Rattle.trace_run.proofs.RestLemmas.{closed-rests}
 
 -- where no pointer is listed, none is held
 pub none-listed : (hs : List Ptr) → ((x : Ptr) → times x hs ≡ 0) → hs ≡ []
@@ -50,8 +50,8 @@ module _ {C : Type 0} (m : Meanings C) (cache : Cache) (p : Place (Known C)) (cl
   abbrev g : Config
   g = cache.config
 
-  idle : AreIdle (p ∷ [])
-  idle = (record { holds = none-listed p.own.ledger.holds (λ x. stands.listed x); readings = stands.idle }, stands.joined, tt)
+  idle : IsIdle p.own.ledger
+  idle = record { holds = none-listed p.own.ledger.holds (λ x. stands.listed x); readings = stands.idle }
 
   module _ (i : ℕ) (l : ShardLog) (at : get_elem? closed.shards i ≡ some l) where
     pub alone-history : l.history ≡ seen_of g i p
@@ -72,6 +72,8 @@ module _ {C : Type 0} (m : Meanings C) (cache : Cache) (p : Place (Known C)) (cl
     abbrev was-free : WasFree (Pact m) p (turn_of g i) (item.Shard l)
     was-free = last m cache (p ∷ []) closed ends i l at p ends.shown.0 parties stands.free stands.apart
 
-    pub alone-rests : AllByRecursion (IsReadEvent cache.config.callers) l.history → IsAtRest (replay (opening_of g) l.history)
-    alone-rests reads = subst IsAtRest (sym alone-now)
-        (closed-rests m cache (p ∷ []) closed ends i l at (config_then m p (turn_of g i) l was-free ∙ stands.of.config) (all-there cache p parties all) idle stands.valid alone-sound reads)
+    -- where all callers' numbers are its own
+    pub alone-rests : ((n : ℕ) → n < cache.config.callers → p.number ≡ n) → AllByRecursion (IsReadEvent cache.config.callers) l.history → IsAtRest (replay (opening_of g) l.history)
+    alone-rests own reads = subst IsAtRest (sym alone-now)
+        (closed-rests m cache (p ∷ []) closed ends i l at (config_then m p (turn_of g i) l was-free ∙ stands.of.config)
+        (λ n below. (p.own, subst (λ (x : ℕ). get_elem? ends.views x ≡ some p.own) (own n below) ends.shown.0.0, idle)) stands.valid alone-sound reads)

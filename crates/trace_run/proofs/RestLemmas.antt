@@ -39,7 +39,7 @@ use Rattle.arc_table.specs.Logged.{IsSoundLog}
 use Rattle.arc_table.specs.Scene.{Scene}
 use Rattle.arc_table.specs.OpeningLaws.{opening_sound}
 use Rattle.arc_table.specs.Telling.{opening_of}
-use Rattle.trace_run.specs.KeptBlocks.{AllIdle, IsIdle}
+use Rattle.trace_run.specs.KeptBlocks.{IsIdle}
 use Rattle.arc_table.specs.Seen.{turn_of}
 use Rattle.trace_run.proofs.CloseLemmas.{get-map, value-at}
 use Rattle.trace_run.proofs.DropLemmas.{all-items}
@@ -84,6 +84,11 @@ opening-sound : (g : Config) → IsConfig g → IsSound (opening_of g)
 opening-sound g valid = opening_sound g.c g.mintime g.bounds valid.amounts.c
 
 module _ {C : Type 0} where
+  -- so has each that another party keeps by a join
+  abbrev AllIdle : List (Kept (Known C)) → Type 0
+  AllIdle [] = Unit {0}
+  AllIdle (k ∷ ks) = IsIdle k.view.ledger × AllIdle ks
+
   -- these parties have given all back, and those that they keep by a join
   abbrev pub AreIdle : List (Place (Known C)) → Type 0
   AreIdle [] = Unit {0}
@@ -100,10 +105,10 @@ module _ {C : Type 0} where
   party-idle views n (p ∷ ps) (inl (inr among)) shown idle = kept-idle views n p.joined among shown.0.1 idle.1
   party-idle views n (p ∷ ps) (inr among) shown idle = party-idle views n ps among shown.1 idle.2
 
--- the history is one of reads and passes, and all parties have given all back
+-- the history is one of reads and passes, and each caller has given all back
 module _ {C : Type 0} (m : Meanings C) (cache : Cache) (ps : List (Place (Known C))) (e : Ended C) (ends : Ends m cache ps e) (i : ℕ) (l : ShardLog) (at : get_elem? e.shards i ≡ some l)
     (config : ends.pact.scene.about.config ≡ cache.config)
-    (all : (n : ℕ) → n < parties_of cache.config → SomeHas n ps) (idle : AreIdle ps)
+    (idle : (n : ℕ) → n < cache.config.callers → (w : Known C) × (get_elem? ends.views n ≡ some w) × IsIdle w.ledger)
     (valid : IsConfig cache.config) (sound : IsSoundLog cache.config l) (reads : AllByRecursion (IsReadEvent cache.config.callers) l.history) where
   abbrev g : Config
   g = cache.config
@@ -114,9 +119,9 @@ module _ {C : Type 0} (m : Meanings C) (cache : Cache) (ps : List (Place (Known 
   shard-now : scene.now (turn_of g i) ≡ item.Shard l
   shard-now = (ends.pact.attached.free (turn_of g i) (item.Shard l) (get-map free _ (turn_of g i) (item.Shard l) (value-at m cache ps e ends i l at))).0
 
-  ledger-idle : (n : ℕ) → n < parties_of g → IsIdle (scene.ledger n)
+  ledger-idle : (n : ℕ) → n < g.callers → IsIdle (scene.ledger n)
   ledger-idle n below =
-      let h = party-idle ends.views n ps (all n below) ends.shown idle in
+      let h = idle n below in
       subst IsIdle (ends.pact.attached.views n h.0 h.1).ledger h.2
 
   -- the shard has entries of its own keys alone
@@ -133,23 +138,23 @@ module _ {C : Type 0} (m : Meanings C) (cache : Cache) (ps : List (Place (Known 
   lawful : IsTrue (is_legal_history (opening_of g) l.history)
   lawful = subst (λ (s : PlainShard). IsTrue (is_legal_history s l.history)) sound.opening sound.replayed.legal
 
-  -- a cell's number holds nothing
-  cell-none : (n : ℕ) (k : Key) → g.callers < n → n < numbers_of g → count_of n k l.now ≡ 0
-  cell-none n k above below =
+  -- a number that is no caller's holds nothing
+  other-none : (n : ℕ) (k : Key) → g.callers ≤ n → n < numbers_of g → count_of n k l.now ≡ 0
+  other-none n k above below =
       let few : n < 33 = let a = valid.counts.callers.1 in let b = valid.counts.cells.1 in omega arith in
       subst (λ (s : PlainShard). count_of n k s ≡ 0) replay-is (none-counted g.callers n k (opening_of g) l.history above few (opening-sound g valid) lawful reads refl)
 
   no-count : (n : ℕ) (k : Key) → turn_of g i ≡ shard_turn g k → count_of n k l.now ≡ 0
-  no-count n k own = elim (cases_lt n (parties_of g)) [
-    | inl party ↦
-        let h = ledger-idle n party in
-        let below : n < parties_of scene.about.config = subst (λ (c : Config). n < parties_of c) (sym config) party in
+  no-count n k own = elim (cases_lt n g.callers) [
+    | inl caller ↦
+        let h = ledger-idle n caller in
+        let below : n < parties_of scene.about.config = subst (λ (c : Config). n < parties_of c) (sym config) (omega (arith, caller)) in
         ap (count_of n k) (sym (shard-of-key k own)) ∙ (ends.pact.counted.parties n k below
         ∙ subst (λ (x : List Ptr × List Key). holds_on k x.0 + readings_of k x.1 ≡ 0) (λ q. (sym h.holds q, sym h.readings q)) refl)
     | inr above ↦ elim (cases_lt n (numbers_of g)) [
-      | inl cell ↦ cell-none n k (omega arith) cell
-      | inr other ↦
-          let beyond : numbers_of scene.about.config ≤ n = subst (λ (c : Config). numbers_of c ≤ n) (sym config) other in
+      | inl other ↦ other-none n k above other
+      | inr none ↦
+          let beyond : numbers_of scene.about.config ≤ n = subst (λ (c : Config). numbers_of c ≤ n) (sym config) none in
           ap (count_of n k) (sym (shard-of-key k own)) ∙ ends.pact.counted.others n k beyond
     ]
   ]

@@ -111,7 +111,7 @@ mine-all n blocks s kept (op ∷ os) [] own = tt
 mine-all n blocks s kept (op ∷ os) (reply ∷ replies) own =
     all-append (IsMine n) (events_of blocks s kept op reply) _ (rw own.0 at (mine-of blocks s kept op reply)) (mine-all n blocks (replay s (events_of blocks s kept op reply)) (kept_after blocks op reply kept) os replies own.1)
 
-mine-drops : (n : ℕ) (kept : List KeptRead) → AllByRecursion (IsMine n) (events_of_drops n kept)
+pub mine-drops : (n : ℕ) (kept : List KeptRead) → AllByRecursion (IsMine n) (events_of_drops n kept)
 mine-drops n [] = tt
 mine-drops n (read ∷ reads) = all-append (IsMine n) (events_of_drop n read.held) _ (mine-drop n read.held) (mine-drops n reads)
 

@@ -15,6 +15,7 @@ use Rattle.vdev_io.specs.declared.pool.Pool.{Ghosts}
 use Rattle.trace_text.specs.declared.op.Op.{Op}
 use Rattle.trace_text.specs.declared.op.Op.TheVariants as ops
 use Rattle.trace_text.specs.declared.reply.Reply.{Reply}
+use Rattle.trace_run.specs.declared.kept_blocks.KeptBlock.{KeptBlock}
 use Rattle.trace_run.specs.KeptReads.{KeptRead}
 use Rattle.trace_run.specs.Answers.{AnswersAll, drops, drops_one, keeps, keeps_one}
 use Rattle.trace_run.specs.Effects.{Answered, Effect, GivenBack, NoEffect, PoolRefused, effect_of}
@@ -147,8 +148,8 @@ module _ (pool_len : ℕ) (image : Option (List ℕ)) (blocks : List Ptr) where
 
 -- ---- what several callers have done
 
-module _ {C P : Type 0} (cache : Cache) (pools : Ghosts P) (blocks : List Ptr) (os : List Op) (callers : ℕ) (before after : P) (replies : List (List Reply)) (ps : List (Place (Known C)))
-    (own : (k : ℕ) (op : Op) → slice_get os k ≡ Some op → caller_of op < callers) (worked : HaveWorked cache pools blocks os callers before after replies ps) where
+module _ {C P : Type 0} (cache : Cache) (pools : Ghosts P) (blocks : List Ptr) (os : List Op) (callers : ℕ) (before after : P) (replies : List (List Reply)) (kept : List (List KeptBlock)) (ps : List (Place (Known C)))
+    (own : (k : ℕ) (op : Op) → slice_get os k ≡ Some op → caller_of op < callers) (worked : HaveWorked cache pools blocks os callers before after replies kept ps) where
   their-own : (k : ℕ) (op : Op) → slice_get os k ≡ Some op → caller_of op < length replies
   their-own k op at = let lt = own k op at in let l = worked.replied in omega arith
 
@@ -158,7 +159,7 @@ module _ {C P : Type 0} (cache : Cache) (pools : Ghosts P) (blocks : List Ptr) (
     own = their-own;
     each = λ n lt.
         let w = worked.each n (let l = worked.replied in omega arith) in
-        let done = w.4 in
+        let done = w.6 in
         (w.0, w.2, answered-length _ _ blocks [] (filter (is_of_caller n) os) w.0 done.answers);
   }
 
@@ -169,4 +170,4 @@ module _ {C P : Type 0} (cache : Cache) (pools : Ghosts P) (blocks : List Ptr) (
       let m : n < callers = let l = worked.replied in omega arith in
       let w = worked.each n m in
       let fork = worked.fresh n m in
-      (w.0, w.2, subst (λ (x : ℕ × Option (List ℕ)). AreAnswered x.0 x.1 blocks [] (filter (is_of_caller n) os) w.0) (λ i. (fork.size i, fork.told i)) w.4.answers))
+      (w.0, w.2, subst (λ (x : ℕ × Option (List ℕ)). AreAnswered x.0 x.1 blocks [] (filter (is_of_caller n) os) w.0) (λ i. (fork.size i, fork.told i)) w.6.answers))

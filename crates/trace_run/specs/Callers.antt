@@ -2,7 +2,6 @@
 use Rattle.std.specs.Prelude.{◌≡◌, ℕ, suc, List, [], ◌∷◌, ◌++◌, filter, map, IfOk, Vec, Ok}
 use Rattle.std.specs.declared.alloc.Global.{Global}
 use Rattle.blk_ptr.specs.declared.ptr.Ptr.{Ptr}
-use Rattle.arc_core.specs.Operations.{Act}
 use Rattle.arc_table.specs.Cache.{Cache}
 use Rattle.vdev_io.specs.Calls.{MakesCalls}
 use Rattle.arc_table.specs.declared.view.Known.{Known}
@@ -12,7 +11,8 @@ use Rattle.trace_text.specs.declared.reply.Reply.{Reply}
 use Rattle.vdev_io.specs.declared.pool.Pool.{Ghosts}
 use Rattle.vdev_io.specs.Faults.{sum_of_counts}
 use Rattle.trace_run.specs.declared.group.Caller.{Caller}
-use Rattle.trace_run.specs.Acts.{acts_of_all, acts_of_drops}
+use Rattle.trace_run.specs.declared.kept_blocks.KeptBlock.{KeptBlock}
+use Rattle.trace_run.specs.Acts.{acts_of_all}
 use Rattle.trace_run.specs.Effects.{calls_of_all}
 use Rattle.trace_run.specs.KeptBlocks.{Stands, read_of}
 use Rattle.trace_run.specs.Lines.{is_of_caller}
@@ -41,6 +41,7 @@ module _ {C : Type 0} where
   -- a party before the lines of its caller, which has this number
   pub record IsAtStart (cache : Cache) (n : ℕ) (p : Place (Known C)) : Type 0 where
     pub number : p.number ≡ n
+    pub alone : p.joined ≡ []
     pub stands : Stands cache p []
     pub told : IsTold cache.config [] p
 
@@ -64,6 +65,7 @@ module _ {C P : Type 0} where
 
   -- a caller that may begin
   pub record IsReady (cache : Cache) (caller : Caller C P) : Type 0 where
+    pub alone : caller.party.joined ≡ []
     pub stands : Stands cache caller.party []
     pub told : IsTold cache.config [] caller.party
     pub none : caller.kept ≡ []
@@ -73,6 +75,7 @@ module _ {C P : Type 0} where
   -- A caller has done its lines, which were answered so, and keeps what they say. Its party has the number n, and its fork was as this one.
   pub record HasDone (cache : Cache) (pools : Ghosts P) (blocks : List Ptr) (ops : List Op) (n : ℕ) (fork : P) (caller : Caller C P) (replies : List Reply) : Type 0 where
     pub number : caller.party.number ≡ n
+    pub alone : caller.party.joined ≡ []
     pub stands : Stands cache caller.party caller.kept
     pub kept : map read_of caller.kept ≡ kept_after_all blocks [] (filter (is_of_caller n) ops) replies
     pub told : IsTold cache.config (acts_of_all blocks [] (filter (is_of_caller n) ops) replies) caller.party
@@ -83,20 +86,19 @@ module _ {C P : Type 0} where
   pub record HasTried (cache : Cache) (pools : Ghosts P) (blocks : List Ptr) (ops : List Op) (old new : Caller C P) : Type 0 where
     pub done : IfOk new.replies (λ replies. HasDone cache pools blocks ops old.party.number old.pool new replies.items)
 
-  -- what a caller keeps may be given back
-  abbrev pub MayGiveBack : Cache → Caller C P → Type 0
-  MayGiveBack cache caller = IfOk caller.replies (λ replies. Stands cache caller.party caller.kept)
-
-  -- Its lines were answered so. Its party gave back all that it kept, and is this one then.
-  pub record GaveBack (cache : Cache) (caller : Caller C P) (replies : List Reply) (p : Place (Known C)) : Type 0 where
+  -- its lines were answered so
+  pub record Replied (caller : Caller C P) (replies : List Reply) : Type 0 where
     pub all : Vec Reply Global
     pub replied : caller.replies ≡ Ok all
     pub replies_are : all.items ≡ replies
-    pub number : p.number ≡ caller.party.number
-    pub stands : Stands cache p []
-    pub told : (before : List Act) → IsTold cache.config before caller.party → IsTold cache.config (before ++ acts_of_drops caller.party.number (map read_of caller.kept)) p
 
-  abbrev pub AllGaveBack : Cache → List (Caller C P) → List (List Reply) → List (Place (Known C)) → Type 0
-  AllGaveBack cache [] [] [] = Unit {0}
-  AllGaveBack cache (caller ∷ callers) (replies ∷ rest) (p ∷ ps) = GaveBack cache caller replies p × AllGaveBack cache callers rest ps
-  AllGaveBack cache _ _ _ = ⊥
+  abbrev pub AllReplied : List (Caller C P) → List (List Reply) → Type 0
+  AllReplied [] [] = Unit {0}
+  AllReplied (caller ∷ callers) (replies ∷ rest) = Replied caller replies × AllReplied callers rest
+  AllReplied _ _ = ⊥
+
+  -- what callers that have done their lines come to: their replies, their parties, and what they keep
+  pub record HaveComeBack (callers : List (Caller C P)) (replies : List (List Reply)) (ps : List (Place (Known C))) (kept : List (List KeptBlock)) : Type 0 where
+    pub replied : AllReplied callers replies
+    pub parties : ps ≡ map (λ caller. caller.party) callers
+    pub keeps : kept ≡ map (λ caller. caller.kept) callers

@@ -1,13 +1,16 @@
 -- What the histories of a run's shards say of it.
-use Rattle.std.specs.Prelude.{◌≡◌, ℕ, IfSome, IsTrue, List, [], length, sum_by}
+use Rattle.std.specs.Prelude.{◌≡◌, ℕ, zero, suc, ◌<◌, IfSome, IsTrue, List, [], ◌++◌, length, slice_index_or, sum_by}
 use Rattle.std.specs.List.{AllByRecursion, range_with_len}
 use Rattle.std.specs.Prelude.{filter}
 use Rattle.blk_ptr.specs.Hash.{shard_of}
+use Rattle.blk_ptr.specs.declared.ptr.Ptr.{Ptr}
+use Rattle.arc_core.specs.declared.config.Config.{Config}
 use Rattle.vdev_io.specs.declared.pool.Pool.{Ghosts}
 use Rattle.arc_core.specs.declared.event.Event.{Event}
 use Rattle.arc_core.specs.Operations.{HoldEveryCallOnce, IsAtRest, pool_reads}
 use Rattle.arc_core.specs.Replay.{is_legal_history, replay}
 use Rattle.trace_text.specs.declared.ends.ShardEnd.{ShardEnd}
+use Rattle.trace_text.specs.declared.op.Op.{Op}
 use Rattle.trace_text.specs.declared.reply.Reply.{Reply}
 use Rattle.trace_text.specs.declared.report.Report.{Report}
 use Rattle.trace_text.specs.declared.trace.Trace.{Trace}
@@ -15,8 +18,9 @@ use Rattle.trace_run.specs.Acts.{acts_of_callers}
 use Rattle.trace_run.specs.Effects.{calls_of_all}
 use Rattle.trace_run.specs.Ends.{ends_of}
 use Rattle.arc_table.specs.Telling.{opening_of}
-use Rattle.trace_run.specs.Lines.{is_in_shard, replies_where}
-use Rattle.trace_run.specs.OneCaller.{AreFoundAs, one_caller_histories}
+use Rattle.trace_run.specs.KeptBlocks.{holds_in}
+use Rattle.trace_run.specs.Lines.{is_in_shard, is_of_caller, replies_where}
+use Rattle.trace_run.specs.OneCaller.{AreFoundAs, events_of_drops, kept_after_all, one_caller_histories}
 use Rattle.trace_run.specs.PlainReport.{IsPlainReport}
 use Rattle.trace_run.specs.PlainRun.{report_of}
 use Rattle.vdev_io.specs.Calls.{MakesCalls, Call}
@@ -24,6 +28,17 @@ use Rattle.vdev_io.specs.Calls.{MakesCalls, Call}
 -- the feeder makes no event of any shard
 abbrev pub none_of_the_feeder : (shard : ℕ) → List Event
 none_of_the_feeder shard = []
+
+-- the drops at the end of a run in the shard of this number: what each caller still keeps there, by rising caller, the oldest first
+abbrev pub drops_at_end : Config → List Ptr → (shard callers : ℕ) → List Op → List Reply → List Event
+drops_at_end config blocks shard zero ops replies = []
+drops_at_end config blocks shard (suc n) ops replies =
+    drops_at_end config blocks shard n ops replies
+    ++ events_of_drops n (holds_in config shard (kept_after_all blocks [] (filter (is_of_caller n) ops) (replies_where (is_of_caller n) ops replies)))
+
+-- a history ends with these events
+abbrev pub EndsWith : List Event → List Event → Type 0
+EndsWith history es = (front : List Event) × (history ≡ front ++ es)
 
 -- The histories explain the replies, for any number of callers and shards.
 pub record Explain (trace : Trace) (replies : List Reply) (shard_ends : List ShardEnd) (histories : List (List Event)) : Type 0 where
@@ -36,6 +51,9 @@ pub record Explain (trace : Trace) (replies : List Reply) (shard_ends : List Sha
   -- each call of each caller stands once in the history of its key's shard, in the order of the lines, and the feeder made no event
   pub every_call : HoldEveryCallOnce trace.config (shard_of trace.config.shards) (opening_of trace.config)
       (acts_of_callers trace.blocks trace.config.callers trace.ops replies) none_of_the_feeder histories
+  -- each history ends with the drops at the end of the run
+  pub ending : (shard : ℕ) → shard < length histories
+      → EndsWith (slice_index_or histories shard []) (drops_at_end trace.config trace.blocks shard trace.config.callers trace.ops replies)
 
 -- What more holds of a run with one caller: its report is a plain function of the trace, the bytes and which reads of the pool failed, as far as
 -- no two contents share a digest.

@@ -1,8 +1,9 @@
 -- The work of several callers at once, each by its own lines, with its own party and its own fork of the pool.
-use Rattle.std.specs.Prelude.{◌≡◌, ◌<◌, ◌≤◌, ◌^◌, ◌+◌, ℕ, List, [], filter, length, min}
+use Rattle.std.specs.Prelude.{◌≡◌, ◌<◌, ◌≤◌, ◌^◌, ◌+◌, ℕ, List, [], filter, length, map, min}
 use mathlib.Core.Option.{some}
 use lib.ListN.{get_elem?}
 use Rattle.blk_ptr.specs.declared.ptr.Ptr.{Ptr}
+use Rattle.arc_core.specs.Operations.{Act}
 use Rattle.arc_table.specs.Cache.{Cache}
 use Rattle.vdev_io.specs.Calls.{MakesCalls}
 use Rattle.arc_table.specs.declared.view.Known.{Known}
@@ -11,20 +12,25 @@ use Rattle.trace_text.specs.declared.op.Op.{Op}
 use Rattle.trace_text.specs.declared.reply.Reply.{Reply}
 use Rattle.vdev_io.specs.declared.pool.Pool.{Ghosts}
 use Rattle.vdev_io.specs.Faults.{last_count}
-use Rattle.trace_run.specs.Acts.{acts_of_caller}
+use Rattle.trace_run.specs.Acts.{acts_of_all}
 use Rattle.trace_run.specs.Effects.{calls_of_all}
-use Rattle.trace_run.specs.KeptBlocks.{Stands}
+use Rattle.trace_run.specs.KeptBlocks.{read_of}
 use Rattle.trace_run.specs.Lines.{is_of_caller}
+use Rattle.trace_run.specs.Meeting.{Waits}
+use Rattle.trace_run.specs.OneCaller.{kept_after_all}
+use Rattle.trace_run.specs.declared.kept_blocks.KeptBlock.{KeptBlock}
 use Rattle.trace_run.specs.Tally.{AreAnswered}
 use Rattle.trace_run.specs.Together.{over_callers}
-use Rattle.arc_table.specs.Told.{IsTold}
+
+-- what a caller's own lines do, by the replies to them
+abbrev pub acts_of_lines : List Ptr → List Op → (n : ℕ) → List Reply → List Act
+acts_of_lines blocks ops n replies = acts_of_all blocks [] (filter (is_of_caller n) ops) replies
 
 -- A caller has done its work: its lines were answered, one after another, its fork of the pool was read as they say and in no other way, what it
--- did is told, and it keeps nothing any more.
-pub record HasWorked {C P : Type 0} (cache : Cache) (pools : Ghosts P) (blocks : List Ptr) (ops : List Op) (n : ℕ) (fork done : P) (replies : List Reply) (p : Place (Known C)) : Type 0 where
-  pub number : p.number ≡ n
-  pub stands : Stands cache p []
-  pub told : IsTold cache.config (acts_of_caller blocks n (filter (is_of_caller n) ops) replies) p
+-- did is told, and it stands by itself with what they say that it keeps.
+pub record HasWorked {C P : Type 0} (cache : Cache) (pools : Ghosts P) (blocks : List Ptr) (ops : List Op) (n : ℕ) (fork done : P) (replies : List Reply) (kept : List KeptBlock) (p : Place (Known C)) : Type 0 where
+  pub waits : Waits cache n (acts_of_lines blocks ops n replies) kept p
+  pub keeps : map read_of kept ≡ kept_after_all blocks [] (filter (is_of_caller n) ops) replies
   pub answers : AreAnswered (pools.size fork) (pools.told fork) blocks [] (filter (is_of_caller n) ops) replies
   pub calls : MakesCalls pools (calls_of_all replies) fork done
 
@@ -43,14 +49,15 @@ pub record LeavesPool {P : Type 0} (pools : Ghosts P) (old new : P) : Type 0 whe
   pub faults : min (pools.faults old) last_count ≤ pools.faults new
 
 -- So many callers have done their work, each on its own fork, and the pool has counted what the forks did, where there was room.
-pub record HaveWorked {C P : Type 0} (cache : Cache) (pools : Ghosts P) (blocks : List Ptr) (ops : List Op) (callers : ℕ) (before after : P) (replies : List (List Reply)) (ps : List (Place (Known C))) : Type 0 where
+pub record HaveWorked {C P : Type 0} (cache : Cache) (pools : Ghosts P) (blocks : List Ptr) (ops : List Op) (callers : ℕ) (before after : P) (replies : List (List Reply)) (kept : List (List KeptBlock)) (ps : List (Place (Known C))) : Type 0 where
   pub replied : length replies ≡ callers
+  pub kepts : length kept ≡ callers
   pub parties : length ps ≡ callers
   pub forks : ℕ → P
   pub done : ℕ → P
   pub fresh : (n : ℕ) → n < callers → IsFork pools before (forks n)
-  pub each : (n : ℕ) → n < callers → (rs : List Reply) × (p : Place (Known C)) × (get_elem? replies n ≡ some rs) × (get_elem? ps n ≡ some p)
-      × HasWorked cache pools blocks ops n (forks n) (done n) rs p
+  pub each : (n : ℕ) → n < callers → (rs : List Reply) × (p : Place (Known C)) × (get_elem? replies n ≡ some rs) × (get_elem? ps n ≡ some p) × (ks : List KeptBlock) × (get_elem? kept n ≡ some ks)
+      × HasWorked cache pools blocks ops n (forks n) (done n) rs ks p
   pub reads : pools.reads before < 2 ^ 63 → pools.reads after ≡ pools.reads before + over_callers callers (λ n. pools.reads (done n))
   pub faults : pools.faults before < 2 ^ 63 → pools.faults after ≡ pools.faults before + over_callers callers (λ n. pools.faults (done n))
   pub keeps : LeavesPool pools before after

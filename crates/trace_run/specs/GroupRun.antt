@@ -1,5 +1,5 @@
 -- The run of a trace with several callers over the shared cache.
-use Rattle.std.specs.Prelude.{◌≡◌, ◌<◌, ◌≤◌, ◌^◌, ◌+◌, ℕ, Bool, true, false, List, [], length, sum_by}
+use Rattle.std.specs.Prelude.{◌≡◌, ◌≢◌, ◌<◌, ◌≤◌, ◌^◌, ◌+◌, ℕ, Bool, true, false, List, [], length, sum_by}
 use mathlib.Core.Option.{some}
 use lib.ListN.{get_elem?}
 use Rattle.arc_core.specs.Operations.{pool_reads}
@@ -12,6 +12,7 @@ use Rattle.trace_text.specs.declared.reply.Reply.{Reply}
 use Rattle.trace_text.specs.declared.trace.Trace.{Trace}
 use Rattle.vdev_io.specs.declared.pool.Pool.{Ghosts}
 use Rattle.vdev_io.specs.Faults.{Rose}
+use Rattle.trace_run.specs.declared.kept_blocks.KeptBlock.{KeptBlock}
 use Rattle.trace_run.specs.Alone.{ends_in, histories_of}
 use Rattle.trace_run.specs.Answers.{AnswersAll}
 use Rattle.trace_run.specs.Effects.{calls_of_all}
@@ -30,8 +31,9 @@ pub record HaveStopped {C : Type 0} (cache : Cache) (ps : List (Place (Known C))
 -- explain the replies, and each event of it that stands for a read of the pool is a caller's own.
 pub record RanGroup {C P : Type 0} (cache : Cache) (pools : Ghosts P) (before after : P) (trace : Trace) (replies : List Reply) (closed : Ended C) : Type 0 where
   pub own : List (List Reply)
+  pub kept : List (List KeptBlock)
   pub parties : List (Place (Known C))
-  pub worked : HaveWorked cache pools trace.blocks trace.ops trace.config.callers before after own parties
+  pub worked : HaveWorked cache pools trace.blocks trace.ops trace.config.callers before after own kept parties
   pub ordered : AreInOrder trace.ops own replies
   pub config : closed.config ≡ trace.config
   pub explained : Explain trace replies (ends_in closed) (histories_of closed)
@@ -39,12 +41,13 @@ pub record RanGroup {C P : Type 0} (cache : Cache) (pools : Ghosts P) (before af
   pub others : over_callers trace.config.callers (λ n. reads_of_caller n (histories_of closed)) ≡ sum_by pool_reads (histories_of closed)
 
 -- The operations of several callers were answered, and the histories of the closed cache explain the replies and the reads of the pool; or a
--- fork of the pool failed, and none was.
+-- fork of the pool failed, and none was. For a trace without an operation none is made.
 pub record RanTogether {C P : Type 0} (pools : Ghosts P) (before after : P) (trace : Trace) (fork_failed : Bool) (replies : List Reply) (closed : Ended C) : Type 0 where
   pub answers : AnswersAll (pools.size before) (pools.told before) trace.blocks (answered_ops trace fork_failed) replies
   pub config : closed.config ≡ trace.config
   pub explained : Explain trace replies (ends_in closed) (histories_of closed)
   pub reads : pools.reads before < 2 ^ 63 → pools.reads after ≡ pools.reads before + sum_by pool_reads (histories_of closed)
   pub faults : pools.faults before < 2 ^ 63 → pools.faults after ≡ pools.faults before + faults_told fork_failed replies
-  pub together : fork_failed ≡ false → RunsTogether pools before after trace (report_of_closed fork_failed replies closed)
+  pub together : trace.ops ≢ [] → fork_failed ≡ false → RunsTogether pools before after trace (report_of_closed fork_failed replies closed)
+  pub idle : trace.ops ≡ [] → (fork_failed ≡ false) × (after ≡ before)
   pub failed : fork_failed ≡ true → Rose (pools.faults before) (pools.faults after)

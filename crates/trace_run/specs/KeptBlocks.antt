@@ -78,13 +78,13 @@ pub record IsIdle (l : Ledger) : Type 0 where
   pub readings : l.readings ≡ []
 
 module _ {C : Type 0} where
-  -- so it is of each that another party keeps by a join
-  abbrev pub AllIdle : List (Joined (Known C)) → Type 0
-  AllIdle [] = Unit {0}
-  AllIdle (k ∷ ks) = IsIdle k.view.ledger × AllIdle ks
+  -- the parties that another keeps by a join read nothing
+  abbrev pub AllUnread : List (Joined (Known C)) → Type 0
+  AllUnread [] = Unit {0}
+  AllUnread (k ∷ ks) = (k.view.ledger.readings ≡ []) × AllUnread ks
 
   -- The party is one of the cache, has no turn in hand, reads nothing just now, has seen all that it made, and holds what is kept, each as
-  -- often as it is kept. Those that it keeps by a join have other numbers, and hold and read nothing.
+  -- often as it is kept. Those that it keeps by a join have other numbers, and read nothing; they may hold something.
   pub record Stands (cache : Cache) (p : Place (Known C)) (kept : List KeptBlock) : Type 0 where
     pub valid : IsConfig cache.config
     pub of : IsPartyOf cache p
@@ -92,7 +92,7 @@ module _ {C : Type 0} where
     pub idle : p.own.ledger.readings ≡ []
     pub seen : HasSeenItsOwn cache.config p
     pub apart : Apart p.number p.joined
-    pub joined : AllIdle p.joined
+    pub joined : AllUnread p.joined
     pub owned : AllByRecursion (λ b. IsOwnedBy p.number b.kept) kept
     pub listed : (x : Ptr) → times x p.own.ledger.holds ≡ times x (listed_all kept)
 
@@ -111,6 +111,7 @@ module _ {C : Type 0} where
     pub told : (before : List Act) → IsTold g before p → IsTold g (before ++ acts) q
     pub alone : HasAll p → AddsAll g shard es p q
     pub all : HasAll p → HasAll q
+    pub joined : q.joined ≡ p.joined
 
   -- the hold on the entry of this key was given back, where there was one
   abbrev pub Drops : Config → Option Key → Place (Known C) → Place (Known C) → Type 0

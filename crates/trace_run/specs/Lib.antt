@@ -14,6 +14,7 @@ pub mod InOrder
 pub mod KeptBlocks
 pub mod KeptQueue
 pub mod KeptReads
+pub mod Meeting
 pub mod Lines
 pub mod OneCaller
 pub mod Opened

@@ -1,5 +1,5 @@
 -- What a run answers, status by status.
-use Rattle.std.specs.Prelude.{◌≡◌, ◌⊎◌, ℕ, ◌+◌, ◌*◌, ◌^◌, ◌<◌, ◌≤◌, List, [], Option, Some, None, is_some, map, replicate, sum_by, Bool, true, false}
+use Rattle.std.specs.Prelude.{◌≡◌, ◌≢◌, ◌⊎◌, ℕ, ◌+◌, ◌*◌, ◌^◌, ◌<◌, ◌≤◌, List, [], Option, Some, None, is_some, map, replicate, sum_by, Bool, true, false}
 use Rattle.std.specs.Bool.{OnFalse}
 use Rattle.std.specs.List.{range_with_len}
 use Rattle.std.specs.Io.KnownBytes.{Appends}
@@ -64,7 +64,9 @@ pub record IsRun {C P : Type 0} (pool : Ghosts P) (before after : P) (trace : Tr
   pub reads : pool.reads before < 2 ^ 63 → pool.reads after ≡ pool.reads before + sum_by pool_reads report.histories
   pub faults : pool.faults before < 2 ^ 63 → pool.faults after ≡ pool.faults before + faults_told fork_failed report.replies
   pub alone : trace.config.callers ≡ 1 → (fork_failed ≡ false) × RunsAlone pool before after trace report
-  pub together : 2 ≤ trace.config.callers → fork_failed ≡ false → RunsTogether pool before after trace report
+  pub together : 2 ≤ trace.config.callers → trace.ops ≢ [] → fork_failed ≡ false → RunsTogether pool before after trace report
+  -- a trace without an operation has no work: no fork is made for it, and the pool is as it was
+  pub idle : trace.ops ≡ [] → (fork_failed ≡ false) × (after ≡ before)
   pub failed : fork_failed ≡ true → Rose (pool.faults before) (pool.faults after)
 
 -- The report is that of a run of the trace that the source gave.

@@ -52,6 +52,7 @@ module _ {C : Type 0} where
     pub act_is : StandsFor act made
     pub alone : IsAlone device p → AddsAll g (shard_of g.shards (act_key act)) es p q
     pub all : HasAll p → HasAll q
+    pub joined : q.joined ≡ p.joined
 
   -- the read was answered, and its bytes came from here; or the pool was asked for them, and failed or gave others
   pub record DidAnswer (g : Config) (device t : ℕ) (ptr : Ptr) (from : Served) (p q : Place (Known C)) : Type 0 where
@@ -68,6 +69,7 @@ module _ {C : Type 0} where
     pub told : (before : List Act) → IsTold g before p → IsTold g (before ++ acts) q
     pub alone : IsAlone device p → AddsAll g shard es p q
     pub all : HasAll p → HasAll q
+    pub joined : q.joined ≡ p.joined
 
   -- What a read at this tick that came to this did. Of want of memory nothing is said.
   abbrev pub DidRead : Config → (device t : ℕ) → Ptr → (p q : Place (Known C)) → Result Got ReadFault → Type 0

@@ -2,16 +2,14 @@
 ghost use Rattle.std.specs.Prelude.{All, ◌≡◌, ◌<◌, ◌≤◌, ◌+◌, ◌^◌, ◌++◌, ◌∷◌, [], IfOk, IsErrOf, List, OnErr, OnOk, length, map, vec_len};
 ghost use Rattle.std.specs.List.{AllByRecursion, AllZip};
 ghost use Rattle.vdev_io.specs.Calls.{KeepsPool};
-ghost use Rattle.arc_table.specs.declared.view.Known.{Known};
-ghost use Rattle.turn_table.specs.Places.{Place};
 ghost use Rattle.trace_text.specs.declared.reply.Reply.{Reply};
 ghost use Rattle.vdev_io.specs.Faults.{CountsIoFault, Rose};
 ghost use Rattle.vdev_io.specs.declared.fault.IoFault.{IoFault};
-ghost use Rattle.trace_run.specs.Callers.{Absorbs, AbsorbsAll, AllGaveBack, AreAtStart, AreEnlisted, GaveBack, HasTried, IsReady, MayGiveBack};
+ghost use Rattle.trace_run.specs.Callers.{Absorbs, AbsorbsAll, AreAtStart, AreEnlisted, HasTried, HaveComeBack, IsReady, Replied};
 ghost use Rattle.trace_run.specs.Group.{HaveWorked, IsFork, LeavesPool};
 ghost use Rattle.trace_run.specs.Tally.{AreDeclared};
 
-use crate::kept_blocks::{KeptBlocks, give_back_all};
+use crate::kept_blocks::KeptBlocks;
 use crate::lines::all_lines;
 use arc_core::Keeps;
 use arc_table::{Arcs, Party};
@@ -40,6 +38,8 @@ struct Caller<C: Keeps, P: Pool> {
 pub(crate) struct Worked<C: Keeps> {
     /// Their parties.
     pub(crate) parties: Vec<Party<C>>,
+    /// The reads that each still keeps.
+    pub(crate) kept: Vec<KeptBlocks>,
     /// The replies to the lines of each.
     pub(crate) replies: Vec<Vec<Reply>>,
 }
@@ -166,29 +166,27 @@ fn work_all<R: Threads + Wait + Sync, C: Keeps + Send, P: Pool, G: Gate>(
     thread::for_each_mut(rt, callers, MOST_CALLERS, &each);
 }
 
-/// Takes a caller back that has done its lines: the pool takes its fork, and its party gives back what it keeps.
+/// Takes a caller back that has done its lines: the pool takes its fork.
 fn take_back<C: Keeps, P: Pool>(
-    rt: &impl Wait,
-    arcs: &Arcs<C>,
     caller: Caller<C, P>,
     pool: &mut P,
     worked: &mut Worked<C>,
 ) -> Result<(), NoMemory>
-    requires { MayGiveBack arcs.now caller }
     ensures absorbs { Absorbs P.Pool caller.pool pool.old pool.new }
-    ensures gave { OnOk result ((replies : List Reply) × (p : Place (Known C)) × (map (λ v. v.items) worked.new.replies.items ≡ map (λ v. v.items) worked.old.replies.items ++ replies ∷ [])
-        × (worked.new.parties.items ≡ worked.old.parties.items ++ p ∷ []) × GaveBack arcs.now caller replies p) }
+    ensures replied { OnOk result ((replies : List Reply) × (map (λ v. v.items) worked.new.replies.items ≡ map (λ v. v.items) worked.old.replies.items ++ replies ∷ []) × Replied caller replies) }
+    ensures party { OnOk result (worked.new.parties.items ≡ worked.old.parties.items ++ caller.party ∷ []) }
+    ensures kept { OnOk result (worked.new.kept.items ≡ worked.old.kept.items ++ caller.kept ∷ []) }
 {
     let Caller {
-        mut party,
+        party,
         kept,
         pool: fork,
         replies,
     } = caller;
     pool.absorb(fork);
     let replies = replies?;
-    give_back_all(rt, arcs, &mut party, kept);
     worked.parties.push(party)?;
+    worked.kept.push(kept)?;
     worked.replies.push(replies)?;
     Ok(())
 }
@@ -196,22 +194,20 @@ fn take_back<C: Keeps, P: Pool>(
 /// Takes all callers back that have done their lines. The pool takes each fork, also where some caller was short of memory.
 fn take_all_back<C: Keeps, P: Pool>(
     alloc: Global,
-    rt: &impl Wait,
-    arcs: &Arcs<C>,
     callers: Vec<Caller<C, P>>,
     pool: &mut P,
 ) -> Result<Worked<C>, NoMemory>
-    requires { AllByRecursion (MayGiveBack arcs.now) callers.items }
     ensures absorbs { AbsorbsAll P.Pool (map (λ caller. caller.pool) callers.items) pool.old pool.new }
-    ensures gave { IfOk result (λ worked. AllGaveBack arcs.now callers.items (map (λ v. v.items) worked.replies.items) worked.parties.items) }
+    ensures came { IfOk result (λ worked. HaveComeBack callers.items (map (λ v. v.items) worked.replies.items) worked.parties.items worked.kept.items) }
 {
     let mut worked = Worked {
         parties: Vec::new(alloc),
+        kept: Vec::new(alloc),
         replies: Vec::new(alloc),
     };
     let mut short = false;
     for caller in callers {
-        if take_back(rt, arcs, caller, pool, &mut worked).is_err() {
+        if take_back(caller, pool, &mut worked).is_err() {
             short = true;
         }
     }
@@ -221,8 +217,8 @@ fn take_all_back<C: Keeps, P: Pool>(
     Ok(worked)
 }
 
-/// Lets callers work at once, each by its own lines of a trace, with its own party and its own fork of the pool. Then each gives back what
-/// it keeps, and the pool takes its fork back, by their numbers.
+/// Lets callers work at once, each by its own lines of a trace, with its own party and its own fork of the pool. Then the pool takes their forks
+/// back, by their numbers.
 pub(crate) fn run_group<R: Threads + Wait + Sync, C: Keeps + Send, P: Pool, G: Gate>(
     alloc: Global,
     rt: &R,
@@ -240,10 +236,10 @@ pub(crate) fn run_group<R: Threads + Wait + Sync, C: Keeps + Send, P: Pool, G: G
     requires callers { vec_len parties ≤ 16 }
     requires declared { AreDeclared (length blocks.now) ops.now }
     requires few { length ops.now < 2 ^ 32 }
-    ensures worked { IfOk result (λ worked. HaveWorked arcs.now P.Pool blocks.now ops.now (vec_len parties) pool.old pool.new (map (λ v. v.items) worked.replies.items) worked.parties.items) }
+    ensures worked { IfOk result (λ worked. HaveWorked arcs.now P.Pool blocks.now ops.now (vec_len parties) pool.old pool.new (map (λ v. v.items) worked.replies.items) worked.kept.items worked.parties.items) }
     ensures pool { LeavesPool P.Pool pool.old pool.new }
 {
     let mut callers = enlist(alloc, parties, forks)?;
     work_all(alloc, rt, arcs, &mut callers, blocks, ops, gate);
-    take_all_back(alloc, rt, arcs, callers, pool)
+    take_all_back(alloc, callers, pool)
 }

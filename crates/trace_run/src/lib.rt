@@ -2,6 +2,7 @@
 #![tactic(auto)]
 
 mod alone;
+mod ending;
 mod get;
 mod group;
 mod in_order;

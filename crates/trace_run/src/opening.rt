@@ -1,8 +1,9 @@
 //! How the shared cache of a run begins: its cells are empty, and each caller and the feeder has a party.
-ghost use Rattle.std.specs.Prelude.{◌≡◌, IfOk};
+ghost use Rattle.std.specs.Prelude.{◌≡◌, [], IfOk, map, replicate};
 ghost use Rattle.arc_core.specs.Config.{IsConfig};
 ghost use Rattle.arc_table.specs.Geometry.{parties_of};
 ghost use Rattle.arc_table.specs.Opening.{AreFreshCells};
+ghost use Rattle.dbuf_state.specs.Numbers.{opening_numbers};
 ghost use Rattle.trace_run.specs.Opened.{AreOpened, meanings_of};
 
 use arc_core::{Config, Keeps};
@@ -19,7 +20,8 @@ pub(crate) fn fresh_cells(
     config: &Config,
     limit: u64,
 ) -> Result<Vec<HeapCell>, NoMemory>
-    ensures { IfOk result (λ cells. AreFreshCells (meanings_of ⟦<HeapCell as Keeps>⟧) config.now cells.items) }
+    ensures fresh { IfOk result (λ cells. AreFreshCells (meanings_of ⟦<HeapCell as Keeps>⟧) config.now cells.items) }
+    ensures openings { IfOk result (λ cells. map (meanings_of ⟦<HeapCell as Keeps>⟧).opening cells.items ≡ replicate config.now.cells (opening_numbers limit [])) }
 {
     let mut cells = Vec::new(alloc);
     for made in 0..config.cells {

@@ -10,6 +10,7 @@ ghost use Rattle.trace_run.specs.Alone.{ends_in, histories_of};
 ghost use Rattle.trace_run.specs.Explaining.{Explain};
 ghost use Rattle.trace_run.specs.Opened.{AreOpened, meanings_of};
 
+use crate::ending::all_give_back;
 use crate::group::{forks, run_group};
 use crate::in_order::in_order;
 use crate::opening::open_cache;
@@ -43,7 +44,7 @@ fn close_run(arcs: Cells, parties: Vec<Party<HeapCell>>) -> Result<Closed<HeapCe
     arcs.close(parties)
 }
 
-/// Lets the callers work at once, each on its fork of the pool, and closes the cache.
+/// Lets the callers work at once, each on its fork of the pool. Then each gives back what it still keeps, and the cache is closed.
 fn run_callers<R: Threads + Wait + Sync, P: Pool, G: Gate>(
     alloc: Global,
     rt: &R,
@@ -66,10 +67,10 @@ fn run_callers<R: Threads + Wait + Sync, P: Pool, G: Gate>(
     let feeder = take_feeder(&mut parties);
     let blocks = trace.blocks.as_slice();
     let ops = trace.ops.as_slice();
-    let mut worked = run_group(alloc, rt, &arcs, parties, forks, pool, blocks, ops, gate)?;
-    worked.parties.push(feeder)?;
+    let worked = run_group(alloc, rt, &arcs, parties, forks, pool, blocks, ops, gate)?;
     let replies = in_order(alloc, ops, worked.replies)?;
-    let closed = close_run(arcs, worked.parties)?;
+    let parties = all_give_back(alloc, rt, &arcs, worked.parties, worked.kept, feeder)?;
+    let closed = close_run(arcs, parties)?;
     Ok(Ran {
         replies,
         closed,
@@ -77,12 +78,13 @@ fn run_callers<R: Threads + Wait + Sync, P: Pool, G: Gate>(
     })
 }
 
-/// Closes the cache of a run that ends before its first operation, since a fork of the pool failed.
+/// Closes the cache of a run in which no operation is begun: its trace has none, or a fork of the pool failed.
 fn run_none(
     alloc: Global,
     trace: &Trace,
     arcs: Cells,
     parties: Vec<Party<HeapCell>>,
+    fork_failed: bool,
 ) -> Result<Ran, NoMemory>
     requires config { arcs.config ≡ trace.now.config }
     requires formed { IsFormed trace.now }
@@ -90,18 +92,19 @@ fn run_none(
     ensures none { IfOk result (λ ran. ran.replies.items ≡ []) }
     ensures explained { IfOk result (λ ran. Explain trace.now [] (ends_in ran.closed) (histories_of ran.closed)) }
     ensures reads { IfOk result (λ ran. sum_by pool_reads (histories_of ran.closed) ≡ 0) }
-    ensures failed { IfOk result (λ ran. ran.fork_failed ≡ true) }
+    ensures failed { IfOk result (λ ran. ran.fork_failed ≡ fork_failed) }
     ensures config { IfOk result (λ ran. ran.closed.config ≡ trace.now.config) }
 {
     let closed = close_run(arcs, parties)?;
     Ok(Ran {
         replies: Vec::new(alloc),
         closed,
-        fork_failed: true,
+        fork_failed,
     })
 }
 
-/// Runs a trace of several callers, each on its own fork of the pool. Where a fork fails, no operation is answered.
+/// Runs a trace of several callers, each on its own fork of the pool. Where a fork fails, no operation is answered. A trace without an
+/// operation has no work, and no fork is made for it.
 pub(crate) fn run_together<R: Threads + Wait + Sync, P: Pool, G: Gate>(
     alloc: Global,
     rt: &R,
@@ -114,9 +117,12 @@ pub(crate) fn run_together<R: Threads + Wait + Sync, P: Pool, G: Gate>(
     ensures pool { LeavesPool P.Pool pool.old pool.new }
 {
     let (arcs, parties) = open_cache(alloc, trace)?;
+    if trace.ops.as_slice().is_empty() {
+        return run_none(alloc, trace, arcs, parties, false);
+    }
     match forks(alloc, pool, trace.config.callers) {
         Ok(forks) => run_callers(alloc, rt, trace, arcs, parties, forks, pool, gate),
-        Err(IoFault::Failed) => run_none(alloc, trace, arcs, parties),
+        Err(IoFault::Failed) => run_none(alloc, trace, arcs, parties, true),
         Err(IoFault::NoMemory) => Err(NoMemory),
     }
 }

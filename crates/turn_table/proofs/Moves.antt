@@ -8,14 +8,14 @@ use prog.Atomic.{either}
 use Rattle.atomic_table.specs.Seated.{TableId}
 use Rattle.atomic_table.specs.Table.{State, Me, Act, keeps, takes, gives, stepped, Allows, step, Valid, carried_after, rest}
 use Rattle.atomic_table.proofs.Lists.{at_set, set_here, set_else, set_again}
-use Rattle.turn_table.specs.Board.{Turn, free, taken, Board, IsAmong, without, KeepsWon, KeepsLost}
+use Rattle.turn_table.specs.Board.{Turn, free, taken, Board, IsAmong, without, KeepsWon, KeepsLearned, KeepsLost}
 use Rattle.turn_table.specs.Homes.{home}
-use Rattle.turn_table.specs.Standings.{AllKept, AllStand, empties, Sits, HasSeat, TurnsKeep, taking, giving, seeing, tried, brought, gave, place_of}
+use Rattle.turn_table.specs.Standings.{AllKept, AllStand, empties, Sits, HasSeat, TurnsKeep, taking, giving, seeing, tried, brought, gave, learnt, learned_last, place_of}
 use Rattle.turn_table.specs.Places.{Apart, AllOnce, AllHeld, AllShow}
 use Rattle.turn_table.specs.Moments.{WasFree, WasTaken, MayGive, Stands}
 use Rattle.turn_table.specs.declared.standing.Kept.{Kept}
 use Rattle.turn_table.specs.declared.standing.Standing.{Standing}
-use Rattle.turn_table.proofs.Homes.{home_same, home_below}
+use Rattle.turn_table.proofs.Homes.{home_same, home_below, some_room}
 use Rattle.turn_table.proofs.Rows.{some_at, within, read_at, same_at, stands_set, Slots, among_without, once_without, held_at, held_without, all_out, front, fronted}
 
 module _ {W : Type 0} where
@@ -218,6 +218,37 @@ module _ {V W : Type 0} (holds : Board V W → Type 0) (parties size : ℕ) wher
 
       pub tries : (word : ℕ) → word ≡ home i → i < size → Allows (TurnsKeep holds parties size) slots id me word (λ n. either (eqb n 0) new n) (tried holds won lost (step slots word 0 new none) me)
       tries word is near = subst (λ (k : ℕ). Allows (TurnsKeep holds parties size) slots id me k (λ n. either (eqb n 0) new n) (tried holds won lost (step slots k 0 new none) me)) (sym is) (tries_home near)
+
+  -- the rule holds once a party knows what the one that joined it last has seen
+  rule_learned : (learned : W → W → W) → KeepsLearned holds learned → (s : State (Option V) (Standing W)) (r : TurnsKeep holds parties size s) (id n : ℕ) (w : W) (ks : List (Kept W)) → get_elem? r.views n ≡ some w
+      → Apart n ks → AllKept r.views r.seat id ks → holds record { turns = r.turns; views = set r.views n (learned_last learned w ks) }
+  rule_learned learned keeps_learned s r id n w [] own apart kept = subst (λ (l : List W). holds record { turns = r.turns; views = l }) (sym (set_again r.views n w own)) r.rule
+  rule_learned learned keeps_learned s r id n w (k ∷ ks) own apart kept =
+      keeps_learned record { turns = r.turns; views = r.views } n k.number w k.view r.rule (λ e. apart.0 (sym e)) own kept.0.1
+
+  -- a party learns what the one that joined it last has seen, while the word 0 is read
+  pub learns : (learned : W → W → W) → KeepsLearned holds learned → (slots id : ℕ) (me : Me (Option V) (Standing W)) → me.0.live ≡ true → 0 < size
+      → Allows (TurnsKeep holds parties size) slots id me 0 (λ n. n) (learnt holds learned (step slots 0 0 0 none) me)
+  learns learned keeps_learned slots id me live some_turn s r wide at big =
+      let own = r.seats id me.0 at live in
+      let b : Board V W = record { turns = r.turns; views = r.views } in
+      let near : 0 < length s.words = subst (λ (k : ℕ). 0 < k) (sym r.stands.words) (some_room (length r.turns) (subst (λ (k : ℕ). 0 < k) (sym r.long) some_turn)) in
+      let first = some_at s.words 0 near in
+      let n : ℕ = get_or s.words 0 0 in
+      let same : set s.words 0 n ≡ s.words = set_again s.words 0 n (first.1 ∙ ap some (sym (read_at s.words 0 first.0 0 first.1))) in (
+        seeing me.0 (learned_last learned me.0.own me.0.joined),
+        keeps,
+        tt,
+        moved s r id me.0 at live r.turns (set s.words 0 n) s.homes (learned_last learned me.0.own me.0.joined) me.0.held
+            refl
+            (subst (λ (ws : List ℕ). AllStand ws s.homes r.turns) (sym same) r.stands)
+            (rule_learned learned keeps_learned s r id me.0.number me.0.own me.0.joined own.own_is own.own_apart own.joined)
+            (λ j k _ f. f)
+            (λ j k f. whose_else s r id me.0 at live j k me.0.held (λ h. h) f)
+            own.held
+            own.once,
+        ((λ z. record { board = b; held = r.rule; stands = sits_so s r id me.0 own z }), refl),
+      )
 
   -- the slot of a turn that a party holds comes to the front of those that are out with it, and nothing else changes
   brings_at : (slots i id : ℕ) (x : Standing W) → x.live ≡ true → IsAmong i x.held

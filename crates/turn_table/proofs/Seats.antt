@@ -173,17 +173,7 @@ module _ {V W : Type 0} (holds : Board V W → Type 0) (parties size : ℕ) wher
         idle : (z : Standing W) → z.held ≡ [] → (i : ℕ) → IsAmong i z.held → ⊥
         idle z e i h = subst (λ (l : List ℕ). IsAmong i l) e h
 
-  -- a party joins another, which learns what it has seen
-  pub meets : (learned : W → W → W) → KeepsLearned holds learned → (id other : ℕ) (x y : Standing W) (w : W) → x.live ≡ true → y.live ≡ true → x.held ≡ [] → y.held ≡ []
-      → Joins (TurnsKeep holds parties size) id x other y (meeting x y (learned x.own y.own)) (spent w)
-  meets learned keeps id other x y w live live' free_x free_y s r at ne at2 =
-      let at' : get_elem? s.views other ≡ some y = sym (set_else s.views id other (meeting x y (learned x.own y.own)) ne) ∙ at2 in
-      let own = r.seats id x at live in
-      let there = r.seats other y at' live' in
-      let differ : x.number ≢ y.number = λ e. ne (sym there.own_at ∙ (ap r.seat (sym e) ∙ own.own_at)) in
-      joins_kept s r id other x y (learned x.own y.own) w at live ne at' live' free_x free_y (keeps record { turns = r.turns; views = r.views } x.number y.number x.own y.own r.rule differ own.own_is there.own_is)
-
-  -- the same, and it learns nothing
+  -- a party joins another, which learns nothing
   pub gathers : (id other : ℕ) (x y : Standing W) (w : W) → x.live ≡ true → y.live ≡ true → x.held ≡ [] → y.held ≡ [] → Joins (TurnsKeep holds parties size) id x other y (meeting x y x.own) (spent w)
   gathers id other x y w live live' free_x free_y s r at ne at2 =
       let at' : get_elem? s.views other ≡ some y = sym (set_else s.views id other (meeting x y x.own) ne) ∙ at2 in

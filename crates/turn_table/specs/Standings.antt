@@ -8,7 +8,7 @@ use Rattle.atomic_table.specs.Seated.{TableId}
 use Rattle.turn_table.specs.Board.{Turn, free, taken, Board, IsAmong, without}
 use Rattle.turn_table.specs.Places.{Place, kept, Apart, entries, rest_of, AllOnce, AllHeld}
 use Rattle.turn_table.specs.Homes.{home, room}
-use Rattle.turn_table.specs.Moments.{WasFree, WasTaken}
+use Rattle.turn_table.specs.Moments.{WasFree, WasSo, WasTaken}
 use Rattle.turn_table.specs.declared.standing.Kept.{Kept}
 use Rattle.turn_table.specs.declared.standing.Standing.{Standing}
 
@@ -63,6 +63,11 @@ module _ {W : Type 0} where
   -- a standing that nobody has any more
   abbrev pub spent : W → Standing W
   spent w = record { live = false; parties = 0; number = 0; own = w; joined = []; held = [] }
+
+  -- what a party knows once it has learned what the one that joined it last has seen
+  abbrev pub learned_last : (W → W → W) → W → List (Kept W) → W
+  learned_last learned w [] = w
+  learned_last learned w (k ∷ ks) = learned w k.view
 
   -- the standing x without the party that joined it last
   abbrev pub left_with : Standing W → Standing W
@@ -147,6 +152,10 @@ module _ {V W : Type 0} where
   tried holds won lost p me found after = (i : ℕ) → home i ≡ p.word →
       (found ≡ 0 → (v : V) × ((z : TableId) → WasFree holds (place_of z me.0) i v) × (after ≡ (taking me.0 i (won me.0.number i v me.0.own), (p.word, Some v) ∷ me.1)))
       × ((m : ℕ) → found ≡ suc m → ((z : TableId) → WasTaken holds (place_of z me.0) i m) × (after ≡ (seeing me.0 (lost me.0.number i m me.0.own), me.1)))
+
+  -- a party learned what the one that joined it last has seen, at a moment at which the rule held, with what both knew
+  abbrev pub learnt : (Board V W → Type 0) → (W → W → W) → Step (Option V) → Me (Option V) (Standing W) → ℕ → Me (Option V) (Standing W) → Type 0
+  learnt holds learned p me found after = ((z : TableId) → WasSo holds (place_of z me.0)) × (after ≡ (seeing me.0 (learned_last learned me.0.own me.0.joined), me.1))
 
   -- the slot of this turn is now the one taken last
   abbrev pub brought : Step (Option V) → Me (Option V) (Standing W) → ℕ → Me (Option V) (Standing W) → Type 0

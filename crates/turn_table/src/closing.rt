@@ -9,24 +9,12 @@ ghost use Rattle.turn_table.specs.Places.{IsPartyOf, met, HasNumber, SomeHas, Ar
 use crate::home::home;
 use crate::opening::NoMemory;
 use crate::party::Party;
-use crate::plays::Gather;
 use crate::rule::TurnRule;
 use crate::turns::Turns;
 use atomic_table::Closed;
 use std::alloc::Global;
 
 impl<V, R: TurnRule<V>> Turns<V, R> {
-    // `other` joins `party`, which learns nothing.
-    fn take_in(&self, party: &mut Party<V, R>, other: Party<V, R>)
-        requires row { IsPartyOf self.now party.old × IsPartyOf self.now other }
-        requires free { (party.old.held ≡ []) × (other.held ≡ []) }
-        ensures { party.new ≡ met party.old other party.old.own }
-    {
-        self.table
-            .shared
-            .join_seat::<Gather<V, R>>(&mut party.seat, other.into_seat());
-    }
-
     // All these parties join `party`.
     fn gather(&self, party: &mut Party<V, R>, mut others: Vec<Party<V, R>>)
         requires row { IsPartyOf self.now party.old × (party.old.held ≡ []) }

@@ -1,6 +1,6 @@
 //! What each step on the table tells. These types are for the proofs alone.
 ghost use Rattle.std.specs.Prelude.{Option, None};
-ghost use Rattle.turn_table.specs.Standings.{TurnsKeep, tried, brought, gave, whole, meeting, spent, left_with, leaving};
+ghost use Rattle.turn_table.specs.Standings.{TurnsKeep, tried, brought, gave, learnt, whole, meeting, spent, left_with, leaving};
 
 use crate::rule::TurnRule;
 use crate::standing::Standing;
@@ -67,18 +67,16 @@ impl<V, W, N: Next<W>> Play<Option<V>, Standing<W>> for Give<N> {
     ghost then = { gave N.next };
 }
 
-/// Another party joins, and the one that it joins learns what it has seen.
-pub struct Meet<V, R> {
-    rule: PhantomData<(V, R)>,
+/// A party learns what the one that joined it last has seen.
+pub struct Learn<R> {
+    rule: PhantomData<R>,
 }
 
-impl<V, R: TurnRule<V>> Join<Standing<R::View>> for Meet<V, R> {
-    ghost both = { λ x y. meeting x y (R.learned x.own y.own) };
-
-    ghost spent = { spent R.blank };
+impl<V, R: TurnRule<V>> Play<Option<V>, Standing<R::View>> for Learn<R> {
+    ghost then = { learnt R.holds R.learned };
 }
 
-/// The same, where nothing is learned.
+/// Another party joins. Nothing is learned.
 pub struct Gather<V, R> {
     rule: PhantomData<(V, R)>,
 }

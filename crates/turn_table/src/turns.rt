@@ -2,12 +2,13 @@
 ghost use Rattle.std.specs.Prelude.{◌≡◌, ◌≢◌, ℕ, ◌<◌, List, [], Some, IfSome};
 ghost use Rattle.turn_table.specs.Board.{IsAmong};
 ghost use Rattle.turn_table.specs.Places.{IsPartyOf, Apart, took, saw, gave_back, met, IsLast, stayed, parted};
-ghost use Rattle.turn_table.specs.Moments.{WasFree, WasTaken, Loses, MayGive};
+ghost use Rattle.turn_table.specs.Moments.{WasFree, WasSo, WasTaken, Loses, MayGive};
+ghost use Rattle.turn_table.specs.Standings.{learned_last};
 ghost use Rattle.turn_table.specs.Taken.{IfTaken, IfBusy};
 
 use crate::home::home;
 use crate::party::Party;
-use crate::plays::{Bring, Give, Meet, Next, Part, Ruled, Setup, Try};
+use crate::plays::{Bring, Gather, Give, Learn, Next, Part, Ruled, Setup, Try};
 use crate::rule::{GivenView, TurnRule};
 use crate::standing::Standing;
 use crate::take::Take;
@@ -163,15 +164,36 @@ impl<V, R: TurnRule<V>> Turns<V, R> {
         unreachable!()
     }
 
-    /// `other` joins `party`, which keeps what either has made, holds and claims under its own number, and has seen what either has seen.
-    pub fn join(&self, party: &mut Party<V, R>, other: Party<V, R>)
+    // `other` joins `party`, which learns nothing.
+    pub(crate) fn take_in(&self, party: &mut Party<V, R>, other: Party<V, R>)
         requires row { IsPartyOf self.now party.old × IsPartyOf self.now other }
         requires free { (party.old.held ≡ []) × (other.held ≡ []) }
-        ensures { party.new ≡ met party.old other (R.learned party.old.own other.own) }
+        ensures { party.new ≡ met party.old other party.old.own }
     {
         self.table
             .shared
-            .join_seat::<Meet<V, R>>(&mut party.seat, other.into_seat());
+            .join_seat::<Gather<V, R>>(&mut party.seat, other.into_seat());
+    }
+
+    // The party learns what the one that joined it last has seen.
+    fn learn(&self, party: &mut Party<V, R>)
+        requires row { IsPartyOf self.now party.old }
+        ensures moment { WasSo R.holds party.old }
+        ensures learned { party.new ≡ saw party.old (learned_last R.learned party.old.own party.old.joined) }
+    {
+        self.table.shared.load::<Learn<R>>(&mut party.seat, 0);
+    }
+
+    /// `other` joins `party`, which keeps what either has made, holds and claims under its own number, and has seen what either has seen.
+    /// At one moment of it the rule held with what both had known before.
+    pub fn join(&self, party: &mut Party<V, R>, other: Party<V, R>)
+        requires row { IsPartyOf self.now party.old × IsPartyOf self.now other }
+        requires free { (party.old.held ≡ []) × (other.held ≡ []) }
+        ensures joined { party.new ≡ met party.old other (R.learned party.old.own other.own) }
+        ensures moment { WasSo R.holds (met party.old other party.old.own) }
+    {
+        self.take_in(party, other);
+        self.learn(party);
     }
 
     /// The party of this number, which joined `party` last, parts from it. It has all that is its own, and has seen what `party` has seen.

@@ -20,5 +20,5 @@ pub returns : goal.returns
 returns c =
     let two = two-opened c.args.arcs.now c.args.parties.items c.remove-feeder.new.self.items c.remove-party.result c.remove-feeder.result c.requires.one c.requires.opened c.remove-feeder.ensures.value c.remove-feeder.ensures.items c.remove-party.ensures.value in
     let count : parties_of c.args.arcs.now.config ≡ 2 = let one = c.requires.one in omega arith in
-    subst (λ (x : ℕ × Place (Known HeapCell)). HasJoined c.args.arcs.now x.0 x.1) (λ i. (sym count i, sym c.join.ensures i))
+    subst (λ (x : ℕ × Place (Known HeapCell)). HasJoined c.args.arcs.now x.0 x.1) (λ i. (sym count i, sym c.join.ensures.joined i))
     (next-joined c.args.arcs.now 1 c.remove-party.result c.remove-feeder.result (first-joined c.args.arcs.now c.remove-party.result two.0) two.1)

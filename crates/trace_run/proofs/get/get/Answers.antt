@@ -2,7 +2,7 @@ use Rattle.std.proofs.Common.{Ok, refl, ap, ◌∙◌, subst}
 use Rattle.arc_table.specs.Items.{meanings}
 use Rattle.arc_table.specs.Reading.{outside}
 use Rattle.dbuf_cells.specs.declared.kept.Kept.TheVariants.{Loose}
-use Rattle.trace_run.proofs.GetLemmas.{adds, fault-did, fault-stands, held-did, held-got, held-stands, lists, ok-valid, past-did, past-stands}
+use Rattle.trace_run.proofs.GetLemmas.{PoolDid, adds, fault-calls, fault-cause, fault-did, fault-stands, held-calls, held-did, held-got, held-stands, lists, ok-valid, past-did, past-got, past-stands, pool-did}
 use Rattle.trace_run.proofs.ReadLemmas.{AddsRead}
 use Rattle.trace_run.proofs.ReadStands.{ListsAnswer}
 use Rattle.trace_run.proofs.get.get.Goals as goal
@@ -60,3 +60,36 @@ pub returns-in-Ok-Past-clause-valid : goal.returns-in-Ok-Past-clause-valid
 returns-in-Ok-Past-clause-valid g c =
     ok-valid (meanings g.C.Keeps.holds g.C.Keeps.entries g.C.Keeps.opening g.C.Keeps.claims g.C.Keeps.sound) g.P.Pool g.D.CacheDev c.args.arcs.now.config c.args.ptr.now c.args.t
     (outside c.args.pool.now c.args.device.now) (outside c.read.new.pool c.read.new.cache) c.args.party.now c.read.new.party c.read.result _ c.in-Ok-Past.is c.read.ensures.answer
+
+-- ---- the reads of the pool
+
+pub returns-in-Ok-Held-clause-calls : goal.returns-in-Ok-Held-clause-calls
+returns-in-Ok-Held-clause-calls g c =
+    held-calls g.P.Pool c.args.ptr.now c.args.pool.now c.read.new.pool c.in-Ok-Held.hold c.in-Ok-Held.served (subst (PoolDid g.P.Pool c.args.ptr.now c.args.pool.now c.read.new.pool) (c.in-Ok-Held.is ∙ ap Ok c.in-Ok-Held.field-0-is)
+    (pool-did (meanings g.C.Keeps.holds g.C.Keeps.entries g.C.Keeps.opening g.C.Keeps.claims g.C.Keeps.sound) g.P.Pool g.D.CacheDev c.args.arcs.now.config c.args.ptr.now c.args.t
+    (outside c.args.pool.now c.args.device.now) (outside c.read.new.pool c.read.new.cache) c.args.party.now c.read.new.party c.read.result c.read.ensures.answer))
+
+pub returns-in-Ok-Past-clause-got : goal.returns-in-Ok-Past-clause-got
+returns-in-Ok-Past-clause-got g c =
+    past-got g.P.Pool c.args.ptr.now c.args.pool.now c.read.new.pool c.args.block (Loose c.args.ptr.now.key c.in-Ok-Past.bytes) refl (subst (PoolDid g.P.Pool c.args.ptr.now c.args.pool.now c.read.new.pool) (c.in-Ok-Past.is ∙ ap Ok c.in-Ok-Past.field-0-is)
+    (pool-did (meanings g.C.Keeps.holds g.C.Keeps.entries g.C.Keeps.opening g.C.Keeps.claims g.C.Keeps.sound) g.P.Pool g.D.CacheDev c.args.arcs.now.config c.args.ptr.now c.args.t
+    (outside c.args.pool.now c.args.device.now) (outside c.read.new.pool c.read.new.cache) c.args.party.now c.read.new.party c.read.result c.read.ensures.answer))
+
+pub returns-in-Ok-Past-clause-calls : goal.returns-in-Ok-Past-clause-calls
+returns-in-Ok-Past-clause-calls g c =
+    let did = subst (PoolDid g.P.Pool c.args.ptr.now c.args.pool.now c.read.new.pool) (c.in-Ok-Past.is ∙ ap Ok c.in-Ok-Past.field-0-is)
+    (pool-did (meanings g.C.Keeps.holds g.C.Keeps.entries g.C.Keeps.opening g.C.Keeps.claims g.C.Keeps.sound) g.P.Pool g.D.CacheDev c.args.arcs.now.config c.args.ptr.now c.args.t
+    (outside c.args.pool.now c.args.device.now) (outside c.read.new.pool c.read.new.cache) c.args.party.now c.read.new.party c.read.result c.read.ensures.answer) in
+    (c.read.new.pool, did.call, refl)
+
+pub returns-in-Err-clause-cause : goal.returns-in-Err-clause-cause
+returns-in-Err-clause-cause g c =
+    fault-cause g.P.Pool c.args.ptr.now c.args.pool.now c.read.new.pool c.in-Err.fault (subst (PoolDid g.P.Pool c.args.ptr.now c.args.pool.now c.read.new.pool) c.in-Err.is
+    (pool-did (meanings g.C.Keeps.holds g.C.Keeps.entries g.C.Keeps.opening g.C.Keeps.claims g.C.Keeps.sound) g.P.Pool g.D.CacheDev c.args.arcs.now.config c.args.ptr.now c.args.t
+    (outside c.args.pool.now c.args.device.now) (outside c.read.new.pool c.read.new.cache) c.args.party.now c.read.new.party c.read.result c.read.ensures.answer))
+
+pub returns-in-Err-clause-calls : goal.returns-in-Err-clause-calls
+returns-in-Err-clause-calls g c =
+    fault-calls g.P.Pool c.args.ptr.now c.args.pool.now c.read.new.pool c.in-Err.fault (subst (PoolDid g.P.Pool c.args.ptr.now c.args.pool.now c.read.new.pool) c.in-Err.is
+    (pool-did (meanings g.C.Keeps.holds g.C.Keeps.entries g.C.Keeps.opening g.C.Keeps.claims g.C.Keeps.sound) g.P.Pool g.D.CacheDev c.args.arcs.now.config c.args.ptr.now c.args.t
+    (outside c.args.pool.now c.args.device.now) (outside c.read.new.pool c.read.new.cache) c.args.party.now c.read.new.party c.read.result c.read.ensures.answer))

@@ -5,11 +5,11 @@ use Rattle.std.proofs.Math.Seq.{take-append_seam}
 use Rattle.std.proofs.lemmas.Result.{IfOk-weaker}
 use Rattle.dbuf_state.proofs.CellLemmas.{all-at}
 use Rattle.trace_text.specs.declared.reply.Reply.{Reply}
-use Rattle.trace_run.specs.Callers.{AbsorbsAll, AllGaveBack, HasTried, IsReady, MayGiveBack}
+use Rattle.trace_run.specs.Callers.{AbsorbsAll, HasTried, HaveComeBack, IsReady}
 use Rattle.trace_run.specs.Group.{HaveWorked}
 use Rattle.trace_run.specs.declared.group.Caller.{Caller}
 use Rattle.trace_run.proofs.AbsorbLemmas.{absorbed-leaves}
-use Rattle.trace_run.proofs.GroupLemmas.{enlisted-ready, have-worked, tried-may-give}
+use Rattle.trace_run.proofs.GroupLemmas.{enlisted-ready, have-worked}
 use Rattle.trace_run.proofs.group.run_group.Goals as goal
 
 -- what a slice of a whole vector leaves there
@@ -22,15 +22,6 @@ work_all-requires-clause-ready g c = λ k lives i d lt.
     (subst (AllByRecursion (IsReady c.args.arcs.now)) (sym c.deref_mut.ensures.value)
     (enlisted-ready c.args.arcs.now g.P.Pool c.args.blocks.now c.args.ops.now c.args.pool.now c.args.parties.items c.args.forks.items c.in_ok-callers.callers.items c.requires.parties c.requires.forks c.in_ok-callers.ensures)) lt
 
-pub take_all_back-requires : goal.take_all_back-requires
-take_all_back-requires g c =
-    let news : List (Caller g.row.C.Denot g.row.P.Denot) = c.work_all.new.callers in
-    let long : c.in_ok-callers.callers.len ≡ length news = let a = c.work_all.auto.callers in let b = c.deref_mut.ensures.len in omega arith in (
-      search (sendable, c.type_bounds.send-P) depth 20,
-      subst (AllByRecursion (MayGiveBack c.args.arcs.now)) (sym (written c.in_ok-callers.callers.len news c.in_ok-callers.callers.items long))
-          (tried-may-give c.args.arcs.now g.P.Pool c.args.blocks.now c.args.ops.now c.deref_mut.result.now news c.work_all.ensures),
-    )
-
 pub returns-clause-worked : goal.returns-clause-worked
 returns-clause-worked g c =
     let news : List (Caller g.row.C.Denot g.row.P.Denot) = c.work_all.new.callers in
@@ -40,14 +31,14 @@ returns-clause-worked g c =
     let absorbs = subst (λ (l : List (Caller g.row.C.Denot g.row.P.Denot)). AbsorbsAll g.P.Pool (map (λ caller. caller.pool) l) c.args.pool.now c.take_all_back.new.pool) same c.take_all_back.ensures.absorbs in
     let many : length c.args.parties.items ≡ c.args.parties.len = let o = c.args.parties.ok in omega arith in
     IfOk-weaker c.take_all_back.result
-    (λ worked. AllGaveBack c.args.arcs.now (take c.in_ok-callers.callers.len (news ++ drop (length news) c.in_ok-callers.callers.items)) (map (λ (v : Vec Reply Global). v.items) worked.replies.items) worked.parties.items)
-    (λ worked. HaveWorked c.args.arcs.now g.P.Pool c.args.blocks.now c.args.ops.now c.args.parties.len c.args.pool.now c.take_all_back.new.pool (map (λ (v : Vec Reply Global). v.items) worked.replies.items) worked.parties.items)
-    (λ worked gave.
-    subst (λ (n : ℕ). HaveWorked c.args.arcs.now g.P.Pool c.args.blocks.now c.args.ops.now n c.args.pool.now c.take_all_back.new.pool (map (λ (v : Vec Reply Global). v.items) worked.replies.items) worked.parties.items) many
+    (λ worked. HaveComeBack (take c.in_ok-callers.callers.len (news ++ drop (length news) c.in_ok-callers.callers.items)) (map (λ (v : Vec Reply Global). v.items) worked.replies.items) worked.parties.items worked.kept.items)
+    (λ worked. HaveWorked c.args.arcs.now g.P.Pool c.args.blocks.now c.args.ops.now c.args.parties.len c.args.pool.now c.take_all_back.new.pool (map (λ (v : Vec Reply Global). v.items) worked.replies.items) worked.kept.items worked.parties.items)
+    (λ worked came.
+    subst (λ (n : ℕ). HaveWorked c.args.arcs.now g.P.Pool c.args.blocks.now c.args.ops.now n c.args.pool.now c.take_all_back.new.pool (map (λ (v : Vec Reply Global). v.items) worked.replies.items) worked.kept.items worked.parties.items) many
     (have-worked c.args.arcs.now g.P.Pool c.args.blocks.now c.args.ops.now c.args.pool.now c.take_all_back.new.pool c.args.parties.items c.args.forks.items c.in_ok-callers.callers.items news
-    (map (λ (v : Vec Reply Global). v.items) worked.replies.items) worked.parties.items c.requires.parties c.requires.forks (let few = c.requires.callers in omega arith) c.requires.few c.in_ok-callers.ensures tried absorbs
-    (subst (λ (l : List (Caller g.row.C.Denot g.row.P.Denot)). AllGaveBack c.args.arcs.now l (map (λ (v : Vec Reply Global). v.items) worked.replies.items) worked.parties.items) same gave)))
-    c.take_all_back.ensures.gave
+    (map (λ (v : Vec Reply Global). v.items) worked.replies.items) worked.kept.items worked.parties.items c.requires.parties c.requires.forks (let few = c.requires.callers in omega arith) c.requires.few c.in_ok-callers.ensures tried absorbs
+    (subst (λ (l : List (Caller g.row.C.Denot g.row.P.Denot)). HaveComeBack l (map (λ (v : Vec Reply Global). v.items) worked.replies.items) worked.parties.items worked.kept.items) same came)))
+    c.take_all_back.ensures.came
 
 pub returns-clause-pool : goal.returns-clause-pool
 returns-clause-pool g c = absorbed-leaves g.P.Pool (map (λ caller. caller.pool) (take c.in_ok-callers.callers.len (c.work_all.new.callers ++ drop (length c.work_all.new.callers) c.in_ok-callers.callers.items))) c.args.pool.now c.take_all_back.new.pool c.take_all_back.ensures.absorbs

@@ -1,6 +1,7 @@
 use Rattle.std.proofs.Common.{◌≡◌, sym, ap, ◌∙◌, subst}
 use Rattle.arc_core.specs.Config.{IsConfig}
 use Rattle.arc_table.specs.Cache.{Cache}
+use Rattle.trace_run.specs.Opened.{openings_of}
 use Rattle.trace_run.proofs.OpenLemmas.{all-opened}
 use Rattle.trace_run.proofs.opening.open_cache.Goals as goal
 
@@ -8,4 +9,4 @@ pub returns-clause-parties : goal.returns-clause-parties
 returns-clause-parties c =
     let cache : Cache = c.with_parties.result in
     let config : cache.config ≡ c.args.trace.now.config = ap (λ (x : Cache). x.config) c.with_parties.ensures.same ∙ c.in_ok-arcs.ensures.config in
-    all-opened c.in_ok-arcs.arcs cache _ c.in_ok-arcs.parties.items c.in_ok-arcs.ensures.parties c.with_parties.ensures.same (sym config) c.with_parties.ensures.parties (subst IsConfig (sym config) c.requires)
+    all-opened c.in_ok-arcs.arcs cache _ c.in_ok-arcs.parties.items c.in_ok-arcs.ensures.parties c.with_parties.ensures.same (sym config) (c.in_ok-cells.ensures.openings ∙ ap openings_of (sym config)) c.with_parties.ensures.parties (subst IsConfig (sym config) c.requires)

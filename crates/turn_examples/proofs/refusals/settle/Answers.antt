@@ -11,7 +11,7 @@ returns-clause-told c =
     let e = c.in_ok-values.ensures in
     let one : Place Clerk = c.args.one in
     let two : Place Clerk = c.args.two in
-    let items : c.push.new.self.items ≡ met one two one.own ∷ [] = c.in_ok-push.ensures.items ∙ (λ k. c.in_ok-parties.ensures.items k ++ c.join.ensures k ∷ []) in
+    let items : c.push.new.self.items ≡ met one two one.own ∷ [] = c.in_ok-push.ensures.items ∙ (λ k. c.in_ok-parties.ensures.items k ++ c.join.ensures.joined k ∷ []) in
     let shown : ShowAll e.1.0 (met one two one.own ∷ []) = subst (ShowAll e.1.0) items e.1.2 in
     let long : 0 < length c.in_ok-values.values.items = let a = e.0 in let b = c.requires.row.0 in let d = c.in_ok-values.values.ok.0 in omega arith in
     let r = settled c.in_ok-values.values.items c.index.result.now e.1.0 one.own two.own e.1.3 long (e.1.1 ∙ c.requires.row.1)
@@ -23,7 +23,7 @@ returns-clause-bounded c =
     let e = c.in_ok-values.ensures in
     let one : Place Clerk = c.args.one in
     let two : Place Clerk = c.args.two in
-    let items : c.push.new.self.items ≡ met one two one.own ∷ [] = c.in_ok-push.ensures.items ∙ (λ k. c.in_ok-parties.ensures.items k ++ c.join.ensures k ∷ []) in
+    let items : c.push.new.self.items ≡ met one two one.own ∷ [] = c.in_ok-push.ensures.items ∙ (λ k. c.in_ok-parties.ensures.items k ++ c.join.ensures.joined k ∷ []) in
     let shown : ShowAll e.1.0 (met one two one.own ∷ []) = subst (ShowAll e.1.0) items e.1.2 in
     let long : 0 < length c.in_ok-values.values.items = let a = e.0 in let b = c.requires.row.0 in let d = c.in_ok-values.values.ok.0 in omega arith in
     let r = settled c.in_ok-values.values.items c.index.result.now e.1.0 one.own two.own e.1.3 long (e.1.1 ∙ c.requires.row.1)

@@ -1,0 +1,318 @@
+-- What parties have seen once one has joined another: all that either had, and behind it no event of their own.
+use Rattle.std.proofs.Common.{◌≡◌, ◌≢◌, ◌⊎◌, ℕ, zero, suc, ◌+◌, ◌<◌, ◌≤◌, List, [], ◌∷◌, ◌++◌, length, map, drop, refl, sym, ap, ◌∙◌, subst, inl, inr, arith, append-nil, append_assoc, length-append}
+use Rattle.std.specs.List.{AllByRecursion}
+use mathlib.Core.Option.{some, some-injective, some-ne-none}
+use lib.ListN.{get_elem?}
+use Rattle.arc_core.specs.declared.config.Config.{Config}
+use Rattle.arc_core.specs.declared.event.Event.{Event}
+use Rattle.arc_core.specs.Operations.{Moment, moments, number_of, own_moments}
+use Rattle.arc_core.specs.PlainShard.{PlainShard}
+use Rattle.turn_table.proofs.Histories.{both_least, front_both}
+use Rattle.turn_table.specs.declared.standing.Kept.{Kept}
+use Rattle.turn_table.specs.Moments.{WasSo}
+use Rattle.turn_table.specs.Places.{AllShow, IsLast, Place, kept, met, parted, rest_of, stayed}
+use Rattle.arc_table.specs.declared.view.Known.{Known}
+use Rattle.arc_table.specs.declared.view.Line.{Line}
+use Rattle.arc_table.specs.declared.view.Line.TheVariants as line
+use Rattle.arc_table.specs.declared.view.Mine.{Mine}
+use Rattle.arc_table.specs.Attached.{IsShown}
+use Rattle.arc_table.specs.Cache.{Cache, IsPartyOf}
+use Rattle.arc_table.specs.Fronts.{StartsWith, front_of, seen_by_both}
+use Rattle.arc_table.specs.Geometry.{parties_of}
+use Rattle.arc_table.specs.Items.{Meanings, lines_in}
+use Rattle.arc_table.specs.Logged.{HasPlace}
+use Rattle.arc_table.specs.Rule.{Pact}
+use Rattle.arc_table.specs.Scene.{Scene}
+use Rattle.arc_table.specs.Seen.{AllSeen, AreSeen, HasSeenItsOwn, events_in, turn_of}
+use Rattle.arc_table.specs.TableLaws.{get_front, starts_whole, within}
+use Rattle.arc_table.specs.Telling.{opening_of}
+use Rattle.arc_table.specs.Views.{after_learned}
+use Rattle.arc_table.proofs.OwnLemmas.{no-own-moments, own-append, seen-more}
+use Rattle.arc_table.proofs.SeenLemmas.{events-append, get-behind}
+use Rattle.trace_run.specs.Meeting.{AreLast, HasSameOwn, IsLevel, JoinAll, Joins, MayJoin, PartAll}
+
+-- ---- lists that begin alike
+
+-- of two that a list begins with, the longer one begins with the other
+pub shorter : {A : Type 0} (a b h r s : List A) → h ≡ a ++ r → h ≡ b ++ s → length a ≤ length b → StartsWith b a
+shorter [] b h r s x y le = (b, refl)
+shorter (p ∷ ps) [] h r s x y le = absurd (omega (arith, le))
+shorter (p ∷ ps) (q ∷ qs) [] r s x y le = cc
+shorter {A} (p ∷ ps) (q ∷ qs) (z ∷ zs) r s x y le =
+    let first : zs ≡ ps ++ r = cc in
+    let second : zs ≡ qs ++ s = cc in
+    let same : ◌≡◌ {A = A} q p = cc in
+    let t = shorter ps qs zs r s first second (omega (arith, le)) in
+    (t.0, λ i. same i ∷ t.1 i)
+
+pub starts-then : {A : Type 0} (c b a : List A) → StartsWith c b → StartsWith b a → StartsWith c a
+starts-then c b a outer inner = (inner.0 ++ outer.0, outer.1 ∙ (ap (λ l. l ++ outer.0) inner.1 ∙ append_assoc a inner.0 outer.0))
+
+-- a fact of each event among lines
+events-each : (P : Event → Type 0) (ls : List Line) → ((y : ℕ) (e : Event) → get_elem? ls y ≡ some (line.Event e) → P e) → (y : ℕ) (e : Event) → get_elem? (events_in ls) y ≡ some e → P e
+events-each P [] each y e at = absurd (some-ne-none e (sym at))
+events-each P (line.Event x ∷ ls) each zero e at = subst P (some-injective x e at) (each 0 x refl)
+events-each P (line.Event x ∷ ls) each (suc y) e at = events-each P ls (λ k z is. each (suc k) z is) y e at
+events-each P (line.Entry ns ∷ ls) each y e at = events-each P ls (λ k z is. each (suc k) z is) y e at
+
+-- ---- one moment
+
+module _ {C : Type 0} (m : Meanings C) (g : Config) (x : Place (Known C)) (w : WasSo (Pact m) x) where
+  abbrev scene : Scene C
+  scene = w.held.scene
+
+  abbrev lines : ℕ → List Line
+  lines t = lines_in m (scene.now t)
+
+  -- what a party knew then
+  module _ (n : ℕ) (v : Known C) (shown : get_elem? w.board.views n ≡ some v) where
+    view : IsShown scene n v
+    view = w.held.attached.views n v shown
+
+    pub begins : (t : ℕ) → StartsWith (lines t) (front_of t v.seen)
+    begins t = subst (λ (s : List (List Line)). StartsWith (lines t) (front_of t s)) (sym view.seen) (w.held.logged.seen n t)
+
+    module _ (seen : List (List Line)) (own : AreSeen g n v.mine seen) (i : ℕ) (front : List Line) (in_now : StartsWith (lines (turn_of g i)) front) (more : StartsWith front (front_of (turn_of g i) seen)) where
+      abbrev known : List Line
+      known = front_of (turn_of g i) seen
+
+      stands-at : (y : ℕ) (e : Event) → get_elem? more.0 y ≡ some (line.Event e) → get_elem? (lines (turn_of g i)) (length known + y) ≡ some (line.Event e)
+      stands-at y e at = ap (λ (l : List Line). get_elem? l (length known + y)) (in_now.1 ∙ (ap (λ (l : List Line). l ++ in_now.0) more.1 ∙ append_assoc known more.0 in_now.0))
+          ∙ (get-behind known (more.0 ++ in_now.0) y ∙ get_front more.0 in_now.0 y (line.Event e) at)
+
+      -- its own lines stand in what it has seen, so none stands behind
+      not-own : (y : ℕ) (e : Event) → get_elem? more.0 y ≡ some (line.Event e) → number_of e ≢ n
+      not-own y e at is =
+          let t : ℕ = turn_of g i in
+          let place : ℕ = length known + y in
+          let here = stands-at y e at in
+          let parties : length w.board.views ≡ parties_of scene.about.config = w.held.attached.parties in
+          let below : n < parties_of scene.about.config = subst (λ (k : ℕ). n < k) parties (within w.board.views n v shown) in
+          let maker = (w.held.logged.own t place (line.Event e) here).maker (subst (λ (k : ℕ). k < parties_of scene.about.config) (sym is) below) in
+          let owner : scene.owner t place ≡ n = sym maker ∙ is in
+          let h : HasPlace m scene t place n = subst (HasPlace m scene t place) owner (w.held.logged.places t place (within (lines t) place (line.Event e) here)) in
+          let listed : get_elem? v.mine h.index ≡ some h.line = ap (λ (l : List Mine). get_elem? l h.index) view.mine ∙ h.at in
+          let stands = own i h.index h.line listed h.turn in
+          let inside : h.line.place < length known = within known h.line.place (line.Event stands.event) stands.there in
+          let same : h.line.place ≡ length known + y = h.place in
+          absurd (omega arith)
+
+      pub same-moments : own_moments n (moments (opening_of g) (events_in front)) ≡ own_moments n (moments (opening_of g) (events_in known))
+      same-moments =
+          let s : PlainShard = opening_of g in
+          ap (λ (l : List Line). own_moments n (moments s (events_in l))) more.1
+          ∙ (ap (λ (es : List Event). own_moments n (moments s es)) (events-append known more.0)
+          ∙ (own-append n s (events_in known) (events_in more.0)
+          ∙ (ap (λ (l : List Moment). own_moments n (moments s (events_in known)) ++ l) (no-own-moments n _ (events_in more.0) (events-each (λ e. number_of e ≢ n) more.0 not-own))
+          ∙ append-nil (own_moments n (moments s (events_in known))))))
+
+-- ---- a party joins another
+
+module _ {C : Type 0} (m : Meanings C) (g : Config) (r o : Place (Known C)) (w : WasSo (Pact m) (met r o r.own)) where
+  abbrev before : Place (Known C)
+  before = met r o r.own
+
+  abbrev then : Place (Known C)
+  then = met r o (after_learned r.own o.own)
+
+  abbrev both : List (List Line)
+  both = seen_by_both r.own.seen o.own.seen
+
+  begins-r : (t : ℕ) → StartsWith (lines m g before w t) (front_of t r.own.seen)
+  begins-r = begins m g before w r.number r.own w.stands.shows.0
+
+  begins-o : (t : ℕ) → StartsWith (lines m g before w t) (front_of t o.own.seen)
+  begins-o = begins m g before w o.number o.own w.stands.shows.1.0
+
+  in-now : (t : ℕ) → StartsWith (lines m g before w t) (front_of t both)
+  in-now t = elim (front_both t r.own.seen o.own.seen) [
+    | inl is ↦ subst (StartsWith (lines m g before w t)) (sym is) (begins-r t)
+    | inr is ↦ subst (StartsWith (lines m g before w t)) (sym is) (begins-o t)
+  ]
+
+  -- it has seen all that either had seen
+  pub grows-r : (t : ℕ) → StartsWith (front_of t both) (front_of t r.own.seen)
+  grows-r t = shorter (front_of t r.own.seen) (front_of t both) (lines m g before w t) (begins-r t).0 (in-now t).0 (begins-r t).1 (in-now t).1 (both_least t r.own.seen o.own.seen).0
+
+  pub grows-o : (t : ℕ) → StartsWith (front_of t both) (front_of t o.own.seen)
+  grows-o t = shorter (front_of t o.own.seen) (front_of t both) (lines m g before w t) (begins-o t).0 (in-now t).0 (begins-o t).1 (in-now t).1 (both_least t r.own.seen o.own.seen).1
+
+  -- and behind it nothing of its own, nor of those that joined it
+  pub same-r : AreSeen g r.number r.own.mine r.own.seen → HasSameOwn g r.number r.own.seen both
+  same-r own i = same-moments m g before w r.number r.own w.stands.shows.0 r.own.seen own i (front_of (turn_of g i) both) (in-now (turn_of g i)) (grows-r (turn_of g i))
+
+  pub same-o : AreSeen g o.number o.own.mine o.own.seen → HasSameOwn g o.number o.own.seen both
+  same-o own i = same-moments m g before w o.number o.own w.stands.shows.1.0 o.own.seen own i (front_of (turn_of g i) both) (in-now (turn_of g i)) (grows-o (turn_of g i))
+
+  pub same-joined : (k : Kept (Known C)) → get_elem? w.board.views k.number ≡ some k.view → AreSeen g k.number k.view.mine r.own.seen → HasSameOwn g k.number r.own.seen both
+  same-joined k shown own i = same-moments m g before w k.number k.view shown r.own.seen own i (front_of (turn_of g i) both) (in-now (turn_of g i)) (grows-r (turn_of g i))
+
+-- ---- all others join
+
+-- what is kept of parties that joined by themselves, the first of them last
+abbrev pub joined_of : {C : Type 0} → List (Place (Known C)) → List (Kept (Known C))
+joined_of [] = []
+joined_of (o ∷ os) = kept o.number o.own 0 ∷ joined_of os
+
+-- q has seen all that o had, and behind it no event of o's own
+pub record HasLearned {C : Type 0} (g : Config) (o q : Place (Known C)) : Type 0 where
+  pub starts : (i : ℕ) → StartsWith (front_of (turn_of g i) q.own.seen) (front_of (turn_of g i) o.own.seen)
+  pub own : HasSameOwn g o.number o.own.seen q.own.seen
+
+pub are-seen-more : (g : Config) (n : ℕ) (mines : List Mine) (s t : List (List Line)) → ((i : ℕ) → StartsWith (front_of (turn_of g i) t) (front_of (turn_of g i) s)) → AreSeen g n mines s → AreSeen g n mines t
+are-seen-more g n mines s t more seen i j a at is = seen-more (parties_of g) n (front_of (turn_of g i) t) (front_of (turn_of g i) s) a.place (more i) (seen i j a at is)
+
+all-seen-more : {C : Type 0} (g : Config) (ks : List (Kept (Known C))) (s t : List (List Line)) → ((i : ℕ) → StartsWith (front_of (turn_of g i) t) (front_of (turn_of g i) s)) → AllSeen g ks s → AllSeen g ks t
+all-seen-more g [] s t more all = tt
+all-seen-more g (k ∷ ks) s t more all = (are-seen-more g k.number k.view.mine s t more all.0, all-seen-more g ks s t more all.1)
+
+module _ {C : Type 0} (m : Meanings C) (cache : Cache) (p : Place (Known C)) where
+  abbrev gc : Config
+  gc = cache.config
+
+  -- what is so of the party that these have joined
+  pub record HaveJoined (others : List (Place (Known C))) (q : Place (Known C)) : Type 0 where
+    pub of : IsPartyOf cache q
+    pub number : q.number ≡ p.number
+    pub parties : q.parties ≡ p.parties
+    pub held : q.held ≡ []
+    pub ledger : q.own.ledger ≡ p.own.ledger
+    pub joined : q.joined ≡ joined_of others
+    pub seen : HasSeenItsOwn gc q
+    pub self : HasLearned gc p q
+    pub all : AllByRecursion (λ o. HasLearned gc o q) others
+    pub level : (lines : ℕ → List Line) → IsLevel gc lines p → AllByRecursion (IsLevel gc lines) others → IsLevel gc lines q
+
+  none-joined : MayJoin cache p → HaveJoined [] p
+  none-joined may = record {
+    of = may.of;
+    number = refl;
+    parties = refl;
+    held = may.free;
+    ledger = refl;
+    joined = may.alone;
+    seen = may.seen;
+    self = record { starts = λ i. starts_whole (front_of (turn_of gc i) p.own.seen); own = λ shard. refl };
+    all = tt;
+    level = λ lines own rest. own;
+  }
+
+  -- one more
+  module _ (os : List (Place (Known C))) (o r : Place (Known C)) (may : MayJoin cache o) (have : HaveJoined os r) (w : WasSo (Pact m) (met r o r.own)) where
+    abbrev q : Place (Known C)
+    q = met r o (after_learned r.own o.own)
+
+    grows : (i : ℕ) → StartsWith (front_of (turn_of gc i) q.own.seen) (front_of (turn_of gc i) r.own.seen)
+    grows i = grows-r m gc r o w (turn_of gc i)
+
+    joined-is : q.joined ≡ joined_of (o ∷ os)
+    joined-is = ap (λ (ks : List (Kept (Known C))). (kept o.number o.own (length ks) ∷ ks) ++ r.joined) may.alone ∙ ap (λ (ks : List (Kept (Known C))). kept o.number o.own 0 ∷ ks) have.joined
+
+    others-seen : AllSeen gc (joined_of os) r.own.seen
+    others-seen = subst (λ (ks : List (Kept (Known C))). AllSeen gc ks r.own.seen) have.joined have.seen.joined
+
+    others-shown : AllShow w.board.views (joined_of os)
+    others-shown = subst (AllShow w.board.views) (ap (λ (ks : List (Kept (Known C))). ks ++ r.joined) may.alone ∙ have.joined) w.stands.shows.1.1
+
+    each-then : (ks : List (Place (Known C))) → AllShow w.board.views (joined_of ks) → AllSeen gc (joined_of ks) r.own.seen → AllByRecursion (λ k. HasLearned gc k r) ks → AllByRecursion (λ k. HasLearned gc k q) ks
+    each-then [] shown seen all = tt
+    each-then (k ∷ ks) shown seen all = (
+      record {
+        starts = λ i. starts-then (front_of (turn_of gc i) q.own.seen) (front_of (turn_of gc i) r.own.seen) (front_of (turn_of gc i) k.own.seen) (grows i) (all.0.starts i);
+        own = λ shard. same-joined m gc r o w (kept k.number k.own 0) shown.0 seen.0 shard ∙ all.0.own shard;
+      },
+      each-then ks shown.1 seen.1 all.1,
+    )
+
+    one-more : HaveJoined (o ∷ os) q
+    one-more = record {
+      of = record { row = have.of.row; config = have.of.config };
+      number = have.number;
+      parties = have.parties;
+      held = have.held;
+      ledger = have.ledger;
+      joined = joined-is;
+      seen = record {
+        own = are-seen-more gc r.number r.own.mine r.own.seen q.own.seen grows have.seen.own;
+        joined = subst (λ (ks : List (Kept (Known C))). AllSeen gc ks q.own.seen) (sym joined-is) (
+          are-seen-more gc o.number o.own.mine o.own.seen q.own.seen (λ i. grows-o m gc r o w (turn_of gc i)) may.seen.own,
+          all-seen-more gc (joined_of os) r.own.seen q.own.seen grows others-seen,
+        );
+      };
+      self = record {
+        starts = λ i. starts-then (front_of (turn_of gc i) q.own.seen) (front_of (turn_of gc i) r.own.seen) (front_of (turn_of gc i) p.own.seen) (grows i) (have.self.starts i);
+        own = λ shard. subst (λ (n : ℕ). HasSameOwn gc n r.own.seen q.own.seen) have.number (same-r m gc r o w have.seen.own) shard ∙ have.self.own shard;
+      };
+      all = (record { starts = λ i. grows-o m gc r o w (turn_of gc i); own = same-o m gc r o w may.seen.own }, each-then os others-shown others-seen have.all);
+      level = λ lines own rest shard. elim (front_both (turn_of gc shard) r.own.seen o.own.seen) [
+        | inl is ↦ is ∙ have.level lines own rest.1 shard
+        | inr is ↦ is ∙ rest.0 shard
+      ];
+    }
+
+  pub have-joined : MayJoin cache p → (others : List (Place (Known C))) (q : Place (Known C)) → AllByRecursion (MayJoin cache) others → JoinAll m others p q → HaveJoined others q
+  have-joined may [] q all is = subst (HaveJoined []) (sym is) (none-joined may)
+  have-joined may (o ∷ os) q all joins =
+      subst (HaveJoined (o ∷ os)) (sym joins.2.is) (one-more os o joins.0 all.0 (have-joined may os joins.0 all.1 joins.1) joins.2.moment)
+
+-- the last of the list joins first
+pub joins-first : {C : Type 0} (m : Meanings C) (os : List (Place (Known C))) (o p r q : Place (Known C)) → Joins m o p r → JoinAll m os r q → JoinAll m (os ++ o ∷ []) p q
+joins-first m [] o p r q joins is = (p, refl, subst (Joins m o p) (sym is) joins)
+joins-first m (x ∷ xs) o p r q joins rest = (rest.0, joins-first m xs o p r rest.0 joins rest.1, rest.2)
+
+-- ---- they part again
+
+module _ {C : Type 0} where
+  -- the party o, once it has parted from r
+  abbrev pub parted_from : Place (Known C) → Place (Known C) → Place (Known C)
+  parted_from r o = record { table = r.table; parties = r.parties; number = o.number; own = after_learned o.own r.own; joined = []; held = [] }
+
+  abbrev pub left_alone : Place (Known C) → Place (Known C)
+  left_alone r = record { table = r.table; parties = r.parties; number = r.number; own = r.own; joined = []; held = r.held }
+
+  pub all-parted : (others : List (Place (Known C))) (numbers : List ℕ) (r : Place (Known C)) (xs : List (Place (Known C))) (q : Place (Known C)) → r.joined ≡ joined_of others → AreLast numbers (joined_of others) → PartAll numbers r xs q
+      → (xs ≡ map (parted_from r) others) × (q ≡ left_alone r)
+  all-parted [] [] r [] q joined last is = (refl, is ∙ (λ i. record { table = r.table; parties = r.parties; number = r.number; own = r.own; joined = joined i; held = r.held }))
+  all-parted [] [] r (x ∷ xs) q joined last parts = absurd parts
+  all-parted [] (n ∷ ns) r xs q joined last parts = absurd last
+  all-parted (o ∷ os) [] r xs q joined last parts = absurd last
+  all-parted (o ∷ os) (n ∷ ns) r [] q joined last parts = absurd parts
+  all-parted (o ∷ os) (n ∷ ns) r (x ∷ xs) q joined last parts =
+      let first : x ≡ parted_from r o = parts.0 ∙ ap (λ (ks : List (Kept (Known C))). parted (λ w. after_learned w r.own) r ks) joined in
+      let rest = all-parted os ns (stayed r) xs q (ap (λ (ks : List (Kept (Known C))). rest_of ks) joined) last.2 parts.1 in
+      ((λ i. first i ∷ rest.0 i), rest.1)
+
+  -- they have the numbers that they had
+  pub are-last : (others : List (Place (Known C))) → AreLast (map (λ o. o.number) others) (joined_of others)
+  are-last [] = tt
+  are-last (o ∷ os) = (refl, refl, are-last os)
+
+-- a list that begins with another and is no longer is that one
+no-longer : {A : Type 0} (a b : List A) → StartsWith b a → length b ≤ length a → b ≡ a
+no-longer a b starts le = starts.1 ∙ (ap (λ l. a ++ l) (gone starts.0 (omega (arith, ap length starts.1, length-append a starts.0, le))) ∙ append-nil a)
+  where
+    gone : {A : Type 0} (l : List A) → length l ≡ 0 → l ≡ []
+    gone [] e = refl
+    gone (x ∷ xs) e = absurd (omega (arith, e))
+
+-- what a party has seen once it has parted from one that had seen more
+pub parted-front : (t : ℕ) (s u : List (List Line)) → StartsWith (front_of t u) (front_of t s) → front_of t (seen_by_both s u) ≡ front_of t u
+parted-front t s u starts = elim (front_both t s u) [
+  | inl is ↦ is ∙ sym (no-longer (front_of t s) (front_of t u) starts (omega (arith, (both_least t s u).1, ap length is)))
+  | inr is ↦ is
+]
+
+-- ---- lists by their ends
+
+pub all-before : {A : Type 0} (P : A → Type 0) (xs : List A) (x : A) → AllByRecursion P (xs ++ x ∷ []) → AllByRecursion P xs × P x
+all-before P [] x all = (tt, all.0)
+all-before P (y ∷ ys) x all = let h = all-before P ys x all.1 in ((all.0, h.0), h.1)
+
+module _ {C : Type 0} where
+  pub is-last : (n : ℕ) (ns : List ℕ) (ks : List (Kept (Known C))) → AreLast (n ∷ ns) ks → IsLast n ks
+  is-last n ns [] last = last
+  is-last n ns (k ∷ ks) last = last.0
+
+  pub rest-last : (n : ℕ) (ns : List ℕ) (ks : List (Kept (Known C))) → AreLast (n ∷ ns) ks → AreLast ns (rest_of ks)
+  rest-last n ns [] last = absurd last
+  rest-last n ns (k ∷ ks) last = subst (λ (c : ℕ). AreLast ns (drop c ks)) (sym last.1) last.2

@@ -1,0 +1,212 @@
+-- One party gives back what it keeps, while all others have joined it: what it and they are then.
+use Rattle.std.proofs.Common.{◌≡◌, ◌≢◌, ◌⊎◌, ℕ, zero, suc, ◌+◌, ◌<◌, List, [], ◌∷◌, ◌++◌, length, map, refl, sym, ap, ◌∙◌, subst, inl, inr, arith, append-nil}
+use Rattle.std.specs.List.{AllByRecursion}
+use mathlib.Core.Option.{some, some-injective, some-ne-none}
+use lib.ListN.{get_elem?}
+use Rattle.arc_core.specs.declared.config.Config.{Config}
+use Rattle.arc_core.specs.declared.event.Event.{Event}
+use Rattle.arc_core.specs.Operations.{Act, Moment, Tell, acts_in, moments, number_of, own_moments}
+use Rattle.arc_core.specs.PlainShard.{PlainShard}
+use Rattle.blk_ptr.specs.Hash.{shard_of}
+use Rattle.turn_table.specs.declared.standing.Kept.{Kept}
+use Rattle.turn_table.specs.Places.{Apart, HasNumber, IsIn, Place, SomeHas, kept as kept_at}
+use Rattle.arc_table.specs.declared.view.Known.{Known}
+use Rattle.arc_table.specs.declared.view.Ledger.{Ledger}
+use Rattle.arc_table.specs.declared.view.Line.{Line}
+use Rattle.arc_table.specs.Cache.{Cache, IsPartyOf}
+use Rattle.arc_table.specs.Fronts.{StartsWith, front_of, seen_by_both}
+use Rattle.arc_table.specs.Geometry.{parties_of}
+use Rattle.arc_table.specs.Items.{Meanings}
+use Rattle.arc_table.specs.Seen.{AreSeen, HasAll, HasSeenItsOwn, events_in, seen_of, turn_of}
+use Rattle.arc_table.specs.Telling.{opening_of}
+use Rattle.arc_table.specs.Told.{IsTold}
+use Rattle.arc_table.proofs.OwnLemmas.{no-own-moments, own-append}
+use Rattle.trace_run.specs.declared.kept_blocks.KeptBlock.{KeptBlock}
+use Rattle.trace_run.specs.Acts.{acts_of_drops}
+use Rattle.trace_run.specs.KeptBlocks.{AllUnread, GivesAll, IsOwnedBy, Stands, holds_in, listed_all, read_of, times}
+use Rattle.trace_run.specs.KeptReads.{KeptRead}
+use Rattle.trace_run.specs.Meeting.{AreLast, GaveBackJoined, HasParted, HasSameOwn, HaveParted, IsApart, IsLevel, JoinAll, MayJoin, PartAll, Waits}
+use Rattle.trace_run.specs.OneCaller.{events_of_drops}
+use Rattle.trace_run.proofs.GiveLemmas.{all-alone, all-keep, all-number, all-stand, all-told}
+use Rattle.trace_run.proofs.MeetLemmas.{HasLearned, HaveJoined, all-parted, are-last, are-seen-more, have-joined, joined_of, left_alone, parted-front, parted_from, starts-then}
+use Rattle.trace_run.proofs.TellLemmas.{IsMine, mine-drops}
+
+-- ---- numbers
+
+-- a number that one of these parties has, each by itself, is among those that are kept of them
+pub number-kept : {C : Type 0} (cache : Cache) (n : ℕ) (os : List (Place (Known C))) → AllByRecursion (IsApart cache) os → SomeHas n os → IsIn n (joined_of os)
+number-kept cache n [] apart has = has
+number-kept cache n (o ∷ os) apart (inl (inl is)) = inl is
+number-kept cache n (o ∷ os) apart (inl (inr among)) = absurd (subst (IsIn n) apart.0.2 among)
+number-kept cache n (o ∷ os) apart (inr rest) = inr (number-kept cache n os apart.1 rest)
+
+pub apart-kept : {C : Type 0} (n : ℕ) (os : List (Place (Known C))) → AllByRecursion (λ o. o.number ≢ n) os → Apart n (joined_of os)
+apart-kept n [] differ = tt
+apart-kept n (o ∷ os) differ = (differ.0, apart-kept n os differ.1)
+
+pub unread-kept : {C : Type 0} (cache : Cache) (os : List (Place (Known C))) → AllByRecursion (IsApart cache) os → AllUnread (joined_of os)
+unread-kept cache [] apart = tt
+unread-kept cache (o ∷ os) apart = (apart.0.1.idle, unread-kept cache os apart.1)
+
+pub may-join : {C : Type 0} (cache : Cache) (kept : List KeptBlock) (p : Place (Known C)) → Stands cache p kept → p.joined ≡ [] → MayJoin cache p
+may-join cache kept p stands alone = record { of = stands.of; free = stands.free; alone = alone; seen = stands.seen }
+
+pub all-may : {C : Type 0} (cache : Cache) (os : List (Place (Known C))) → AllByRecursion (IsApart cache) os → AllByRecursion (MayJoin cache) os
+all-may cache [] apart = tt
+all-may cache (o ∷ os) apart = (may-join cache apart.0.0 o apart.0.1 apart.0.2, all-may cache os apart.1)
+
+-- ---- the drops of one number are no other's
+
+all-at : {A : Type 0} (P : A → Type 0) (l : List A) → AllByRecursion P l → (i : ℕ) (a : A) → get_elem? l i ≡ some a → P a
+all-at P [] all i a at = absurd (some-ne-none a (sym at))
+all-at P (x ∷ xs) all zero a at = subst P (some-injective x a at) all.0
+all-at P (x ∷ xs) all (suc i) a at = all-at P xs all.1 i a at
+
+other-drops : (n k : ℕ) (s : PlainShard) (front : List Event) (reads : List KeptRead) → n ≢ k → own_moments k (moments s (front ++ events_of_drops n reads)) ≡ own_moments k (moments s front)
+other-drops n k s front reads differs =
+    own-append k s front (events_of_drops n reads)
+    ∙ (ap (λ (l : List Moment). own_moments k (moments s front) ++ l) (no-own-moments k _ (events_of_drops n reads) (λ y e at is. differs (sym (all-at (IsMine n) (events_of_drops n reads) (mine-drops n reads) y e at).0 ∙ is)))
+    ∙ append-nil (own_moments k (moments s front)))
+
+-- ---- the step
+
+module _ {C : Type 0} (m : Meanings C) (cache : Cache) (p : Place (Known C)) (kept : List KeptBlock) (others : List (Place (Known C))) (stands : Stands cache p kept) (alone : p.joined ≡ [])
+    (apart : AllByRecursion (IsApart cache) others) (everyone : (n : ℕ) → n < parties_of cache.config → SomeHas n (p ∷ others)) (count : p.parties ≡ parties_of cache.config)
+    (differ : AllByRecursion (λ o. o.number ≢ p.number) others) (q : Place (Known C)) (joins : JoinAll m others p q) where
+  abbrev g : Config
+  g = cache.config
+
+  joined : HaveJoined m cache p others q
+  joined = have-joined m cache p (may-join cache kept p stands alone) others q (all-may cache others apart) joins
+
+  pub joined-stands : Stands cache q kept
+  joined-stands = record {
+    valid = stands.valid;
+    of = joined.of;
+    free = joined.held;
+    idle = ap (λ (l : Ledger). l.readings) joined.ledger ∙ stands.idle;
+    seen = joined.seen;
+    apart = subst (λ (x : ℕ × List (Kept (Known C))). Apart x.0 x.1) (λ i. (sym joined.number i, sym joined.joined i)) (apart-kept p.number others differ);
+    joined = subst AllUnread (sym joined.joined) (unread-kept cache others apart);
+    owned = subst (λ (n : ℕ). AllByRecursion (λ b. IsOwnedBy n b.kept) kept) (sym joined.number) stands.owned;
+    listed = λ x. ap (λ (l : Ledger). times x l.holds) joined.ledger ∙ stands.listed x;
+  }
+
+  joined-all : HasAll q
+  joined-all n below = has (everyone n (subst (λ (k : ℕ). n < k) (joined.parties ∙ count) below))
+    where
+      has : SomeHas n (p ∷ others) → HasNumber n q
+      has (inl (inl is)) = inl (joined.number ∙ is)
+      has (inl (inr among)) = absurd (subst (IsIn n) alone among)
+      has (inr rest) = inr (subst (IsIn n) (sym joined.joined) (number-kept cache n others apart rest))
+
+  module _ (r : Place (Known C)) (gives : GivesAll m g kept q r) where
+    after : Stands cache r []
+    after = all-stand m cache kept q r joined-stands gives
+
+    number : r.number ≡ p.number
+    number = all-number m cache kept q r joined-stands gives ∙ joined.number
+
+    kept-joined : r.joined ≡ joined_of others
+    kept-joined = (all-keep m cache kept q r joined-stands gives).0 ∙ joined.joined
+
+    more : (i : ℕ) → StartsWith (front_of (turn_of g i) r.own.seen) (front_of (turn_of g i) q.own.seen)
+    more = (all-keep m cache kept q r joined-stands gives).1
+
+    abbrev reads : List KeptRead
+    reads = map read_of kept
+
+    drops : (shard : ℕ) → seen_of g shard r ≡ seen_of g shard q ++ events_of_drops p.number (holds_in g shard reads)
+    drops shard = (all-alone m cache kept q r joined-stands gives joined-all).seen shard ∙ ap (λ (n : ℕ). seen_of g shard q ++ events_of_drops n (holds_in g shard reads)) joined.number
+
+    abbrev lines : ℕ → List Line
+    lines shard = front_of (turn_of g shard) r.own.seen
+
+    -- another party, once it has parted
+    module _ (o : Place (Known C)) (learned : HasLearned g o q) (other : o.number ≢ p.number) where
+      abbrev x : Place (Known C)
+      x = parted_from r o
+
+      front : (i : ℕ) → front_of (turn_of g i) x.own.seen ≡ lines i
+      front i = parted-front (turn_of g i) o.own.seen r.own.seen (starts-then (lines i) (front_of (turn_of g i) q.own.seen) (front_of (turn_of g i) o.own.seen) (more i) (learned.starts i))
+
+      starts : (i : ℕ) → StartsWith (front_of (turn_of g i) x.own.seen) (front_of (turn_of g i) o.own.seen)
+      starts i = subst (λ (l : List Line). StartsWith l (front_of (turn_of g i) o.own.seen)) (sym (front i))
+          (starts-then (lines i) (front_of (turn_of g i) q.own.seen) (front_of (turn_of g i) o.own.seen) (more i) (learned.starts i))
+
+      own : HasSameOwn g o.number o.own.seen x.own.seen
+      own shard =
+          let n : ℕ = o.number in
+          let s : PlainShard = opening_of g in
+          ap (λ (l : List Line). own_moments n (moments s (events_in l))) (front shard)
+          ∙ (ap (λ (es : List Event). own_moments n (moments s es)) (drops shard)
+          ∙ (other-drops p.number n s (seen_of g shard q) (holds_in g shard reads) (λ is. other (sym is)) ∙ learned.own shard))
+
+      parted-one : HasParted cache lines o x
+      parted-one = record {
+        level = front;
+        waits = λ n acts keeps waits. record {
+          number = waits.number;
+          alone = refl;
+          stands = record {
+            valid = waits.stands.valid;
+            of = record { row = after.of.row; config = waits.stands.of.config };
+            free = refl;
+            idle = waits.stands.idle;
+            seen = record { own = are-seen-more g o.number o.own.mine o.own.seen x.own.seen starts waits.stands.seen.own; joined = tt };
+            apart = tt;
+            joined = tt;
+            owned = waits.stands.owned;
+            listed = waits.stands.listed;
+          };
+          told = λ shard. subst (Tell (acts_in (shard_of g.shards) shard o.number acts)) (sym (own shard)) (waits.told shard);
+        };
+      }
+
+    all-parted-from : (os : List (Place (Known C))) → AllByRecursion (λ o. HasLearned g o q) os → AllByRecursion (λ o. o.number ≢ p.number) os → HaveParted cache lines os (map (parted_from r) os)
+    all-parted-from [] learned others_differ = tt
+    all-parted-from (o ∷ os) learned others_differ = (parted-one o learned.0 others_differ.0, all-parted-from os learned.1 others_differ.1)
+
+    -- the party itself
+    abbrev last : Place (Known C)
+    last = left_alone r
+
+    last-waits : (n : ℕ) (acts : List Act) → Waits cache n acts kept p → Waits cache n (acts ++ acts_of_drops n reads) [] last
+    last-waits n acts waits = record {
+      number = number ∙ waits.number;
+      alone = refl;
+      stands = record {
+        valid = after.valid;
+        of = record { row = after.of.row; config = after.of.config };
+        free = after.free;
+        idle = after.idle;
+        seen = record { own = after.seen.own; joined = tt };
+        apart = tt;
+        joined = tt;
+        owned = tt;
+        listed = after.listed;
+      };
+      told = λ shard. subst (λ (k : ℕ). IsTold g (acts ++ acts_of_drops k reads) r) (joined.number ∙ waits.number)
+          (all-told m cache kept q r joined-stands gives acts
+          (λ s. subst (λ (k : ℕ). Tell (acts_in (shard_of g.shards) s k acts) (own_moments k (moments (opening_of g) (seen_of g s q)))) (sym joined.number)
+          (subst (Tell (acts_in (shard_of g.shards) s p.number acts)) (sym (joined.self.own s)) (waits.told s)))) shard;
+    }
+
+    module _ (numbers : List ℕ) (numbers_are : numbers ≡ map (λ o. o.number) others) (xs : List (Place (Known C))) (z : Place (Known C)) (parts : PartAll numbers r xs z) where
+      parted : (xs ≡ map (parted_from r) others) × (z ≡ last)
+      parted = all-parted others numbers r xs z kept-joined (subst (λ (l : List ℕ). AreLast l (joined_of others)) (sym numbers_are) (are-last others)) parts
+
+      pub gave-back : GaveBackJoined cache p kept others (xs ++ z ∷ [])
+      gave-back = record {
+        lines = lines;
+        rest = xs;
+        last = z;
+        are = refl;
+        parted = subst (HaveParted cache lines others) (sym parted.0) (all-parted-from others joined.all differ);
+        level = subst (IsLevel g lines) (sym parted.1) (λ shard. refl);
+        gave = λ n acts waits. subst (Waits cache n (acts ++ acts_of_drops n reads) []) (sym parted.1) (last-waits n acts waits);
+        drops = λ before own rest shard. drops shard ∙ ap (λ (l : List Line). events_in l ++ events_of_drops p.number (holds_in g shard reads)) (joined.level before own rest shard);
+      }
+
+  pub last-numbers : (r : Place (Known C)) → GivesAll m g kept q r → (numbers : List ℕ) → numbers ≡ map (λ o. o.number) others → AreLast numbers r.joined
+  last-numbers r gives numbers is = subst (λ (x : List ℕ × List (Kept (Known C))). AreLast x.0 x.1) (λ i. (sym is i, sym (kept-joined r gives) i)) (are-last others)

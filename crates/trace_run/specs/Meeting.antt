@@ -1,0 +1,159 @@
+-- How parties join one and part from it, what they have seen then, and how each in turn gives back what it keeps.
+use Rattle.std.specs.Prelude.{◌≡◌, ◌≢◌, ◌<◌, ℕ, suc, List, [], ◌∷◌, ◌++◌, length, map}
+use Rattle.std.specs.List.{AllByRecursion}
+use Rattle.arc_core.specs.declared.config.Config.{Config}
+use Rattle.arc_core.specs.declared.event.Event.{Event}
+use Rattle.arc_core.specs.Operations.{Act, moments, own_moments}
+use Rattle.turn_table.specs.declared.standing.Kept.{Kept}
+use Rattle.turn_table.specs.Moments.{WasSo}
+use Rattle.turn_table.specs.Places.{Place, SomeHas, met, parted, stayed}
+use Rattle.arc_table.specs.declared.view.Known.{Known}
+use Rattle.arc_table.specs.declared.view.Line.{Line}
+use Rattle.arc_table.specs.Cache.{Cache, IsPartyOf}
+use Rattle.arc_table.specs.Fronts.{front_of}
+use Rattle.arc_table.specs.Geometry.{parties_of}
+use Rattle.arc_table.specs.Items.{Meanings}
+use Rattle.arc_table.specs.Rule.{Pact}
+use Rattle.arc_table.specs.Seen.{HasSeenItsOwn, events_in, seen_of, turn_of}
+use Rattle.arc_table.specs.Telling.{opening_of}
+use Rattle.arc_table.specs.Told.{IsTold}
+use Rattle.arc_table.specs.Views.{after_learned}
+use Rattle.trace_run.specs.declared.kept_blocks.KeptBlock.{KeptBlock}
+use Rattle.trace_run.specs.Acts.{acts_of_drops}
+use Rattle.trace_run.specs.KeptBlocks.{Stands, holds_in, read_of}
+use Rattle.trace_run.specs.OneCaller.{events_of_drops}
+
+-- of the number n's own events two have seen the same
+abbrev pub HasSameOwn : Config → (n : ℕ) → (s t : List (List Line)) → Type 0
+HasSameOwn g n s t = (shard : ℕ) → own_moments n (moments (opening_of g) (events_in (front_of (turn_of g shard) t)))
+    ≡ own_moments n (moments (opening_of g) (events_in (front_of (turn_of g shard) s)))
+
+-- ---- joins and parts
+
+module _ {C : Type 0} where
+  -- a party that no other has joined, that holds no turn, and has seen all that it made
+  pub record MayJoin (cache : Cache) (p : Place (Known C)) : Type 0 where
+    pub of : IsPartyOf cache p
+    pub free : p.held ≡ []
+    pub alone : p.joined ≡ []
+    pub seen : HasSeenItsOwn cache.config p
+
+  -- a party that no other has joined, and that keeps something or nothing
+  abbrev pub IsApart : Cache → Place (Known C) → Type 0
+  IsApart cache p = (kept : List KeptBlock) × Stands cache p kept × (p.joined ≡ [])
+
+  -- a party from which others may part
+  abbrev pub MayPart : Cache → Place (Known C) → Type 0
+  MayPart cache p = IsPartyOf cache p × (p.held ≡ [])
+
+  -- parties of these numbers joined, each by itself, the first of them last
+  abbrev pub AreLast : List ℕ → List (Kept (Known C)) → Type 0
+  AreLast [] [] = Unit {0}
+  AreLast (n ∷ ns) (k ∷ ks) = (k.number ≡ n) × (k.count ≡ 0) × AreLast ns ks
+  AreLast _ _ = ⊥
+
+  -- the parties of these numbers parted from p one after another, and are these; then it is q
+  abbrev pub PartAll : (numbers : List ℕ) → Place (Known C) → List (Place (Known C)) → Place (Known C) → Type 0
+  PartAll [] p [] q = q ≡ p
+  PartAll (n ∷ ns) p (x ∷ xs) q = (x ≡ parted (λ w. after_learned w p.own) p p.joined) × PartAll ns (stayed p) xs q
+  PartAll _ p _ q = ⊥
+
+module _ {C : Type 0} (m : Meanings C) where
+  -- o joined p, which is q then; at one moment the pact held with what both had known before
+  pub record Joins (o p q : Place (Known C)) : Type 0 where
+    pub moment : WasSo (Pact m) (met p o p.own)
+    pub is : q ≡ met p o (after_learned p.own o.own)
+
+  -- all these did, the first of them last
+  abbrev pub JoinAll : List (Place (Known C)) → (p q : Place (Known C)) → Type 0
+  JoinAll [] p q = q ≡ p
+  JoinAll (o ∷ os) p q = (r : Place (Known C)) × JoinAll os p r × Joins o r q
+
+-- ---- one party gives back what it keeps, while all others have joined it
+
+module _ {C : Type 0} where
+  -- these lines of each shard are what the party has seen
+  abbrev pub IsLevel : Config → (ℕ → List Line) → Place (Known C) → Type 0
+  IsLevel g lines p = (shard : ℕ) → front_of (turn_of g shard) p.own.seen ≡ lines shard
+
+  -- A party that stands by itself with these kept reads and has done these acts.
+  pub record Waits (cache : Cache) (n : ℕ) (acts : List Act) (kept : List KeptBlock) (p : Place (Known C)) : Type 0 where
+    pub number : p.number ≡ n
+    pub alone : p.joined ≡ []
+    pub stands : Stands cache p kept
+    pub told : IsTold cache.config acts p
+
+  -- What another party is once it has parted: it has its number, what it keeps and what it did, and has seen what all have.
+  pub record HasParted (cache : Cache) (lines : ℕ → List Line) (old new : Place (Known C)) : Type 0 where
+    pub level : IsLevel cache.config lines new
+    pub waits : (n : ℕ) (acts : List Act) (kept : List KeptBlock) → Waits cache n acts kept old → Waits cache n acts kept new
+
+  abbrev pub HaveParted : Cache → (ℕ → List Line) → (olds news : List (Place (Known C))) → Type 0
+  HaveParted cache lines [] [] = Unit {0}
+  HaveParted cache lines (o ∷ os) (x ∷ xs) = HasParted cache lines o x × HaveParted cache lines os xs
+  HaveParted cache lines _ _ = ⊥
+
+  -- While all others had joined it, the party gave back what it kept. Then all have seen the same: where they had before, just its drops more.
+  -- The others stand in their order, and then the party.
+  pub record GaveBackJoined (cache : Cache) (p : Place (Known C)) (kept : List KeptBlock) (others news : List (Place (Known C))) : Type 0 where
+    pub lines : ℕ → List Line
+    pub rest : List (Place (Known C))
+    pub last : Place (Known C)
+    pub are : news ≡ rest ++ last ∷ []
+    pub parted : HaveParted cache lines others rest
+    pub level : IsLevel cache.config lines last
+    pub gave : (n : ℕ) (acts : List Act) → Waits cache n acts kept p → Waits cache n (acts ++ acts_of_drops n (map read_of kept)) [] last
+    pub drops : (before : ℕ → List Line) → IsLevel cache.config before p → AllByRecursion (IsLevel cache.config before) others
+        → (shard : ℕ) → events_in (lines shard) ≡ events_in (before shard) ++ events_of_drops p.number (holds_in cache.config shard (map read_of kept))
+
+module _ {C : Type 0} where
+  -- a party that keeps these reads, and all other parties, each by itself
+  pub record MayGoOn (cache : Cache) (kept : List KeptBlock) (p : Place (Known C)) (others : List (Place (Known C))) : Type 0 where
+    pub stands : Stands cache p kept
+    pub alone : p.joined ≡ []
+    pub count : p.parties ≡ parties_of cache.config
+    pub apart : AllByRecursion (IsApart cache) others
+    pub everyone : (n : ℕ) → n < parties_of cache.config → SomeHas n (p ∷ others)
+    pub differ : AllByRecursion (λ o. o.number ≢ p.number) others
+
+  -- so it is of the first of these parties
+  abbrev pub FirstMayGoOn : Cache → List KeptBlock → List (Place (Known C)) → Type 0
+  FirstMayGoOn cache kept [] = ⊥
+  FirstMayGoOn cache kept (p ∷ others) = MayGoOn cache kept p others
+
+  abbrev pub FirstGaveBack : Cache → List KeptBlock → (olds news : List (Place (Known C))) → Type 0
+  FirstGaveBack cache kept [] news = ⊥
+  FirstGaveBack cache kept (p ∷ others) news = GaveBackJoined cache p kept others news
+
+-- ---- all callers give back what they keep, by rising caller
+
+-- the drops of kept reads in a shard: first those of the caller n, and then of those behind it
+abbrev pub drops_from : Config → (shard n : ℕ) → List (List KeptBlock) → List Event
+drops_from g shard n [] = []
+drops_from g shard n (k ∷ ks) = events_of_drops n (holds_in g shard (map read_of k)) ++ drops_from g shard (suc n) ks
+
+module _ {C : Type 0} where
+  -- callers by their numbers from this one on, which keep these reads
+  abbrev pub AreWaiting : Cache → (ℕ → List Act) → (n : ℕ) → List (List KeptBlock) → List (Place (Known C)) → Type 0
+  AreWaiting cache acts n [] [] = Unit {0}
+  AreWaiting cache acts n (k ∷ ks) (p ∷ ps) = Waits cache n (acts n) k p × AreWaiting cache acts (suc n) ks ps
+  AreWaiting cache acts n _ _ = ⊥
+
+  -- and once they have given them back
+  abbrev pub AllGave : Cache → (ℕ → List Act) → (n : ℕ) → List (List KeptBlock) → List (Place (Known C)) → Type 0
+  AllGave cache acts n [] [] = Unit {0}
+  AllGave cache acts n (k ∷ ks) (p ∷ ps) = Waits cache n (acts n ++ acts_of_drops n (map read_of k)) [] p × AllGave cache acts (suc n) ks ps
+  AllGave cache acts n _ _ = ⊥
+
+  -- All callers gave back what they kept, by rising caller; the feeder's party stands behind theirs. All have seen the same: of each shard what was
+  -- so before, and then their drops.
+  pub record HaveGivenBack (cache : Cache) (acts : ℕ → List Act) (kept : List (List KeptBlock)) (ps : List (Place (Known C))) : Type 0 where
+    pub callers : List (Place (Known C))
+    pub feeder : Place (Known C)
+    pub are : ps ≡ callers ++ feeder ∷ []
+    pub gave : AllGave cache acts 0 kept callers
+    pub fed : Waits cache (length kept) [] [] feeder
+    pub first : ℕ → List Event
+    pub lines : ℕ → List Line
+    pub level : AllByRecursion (IsLevel cache.config lines) ps
+    pub drops : (shard : ℕ) → events_in (lines shard) ≡ first shard ++ drops_from cache.config shard 0 kept
