@@ -21,11 +21,13 @@ use Rattle.dbuf_cells.specs.declared.kept.Kept.TheVariants.{Held}
 use Rattle.dbuf_cells.specs.Kept.{bytes_of}
 use Rattle.turn_table.specs.declared.standing.Kept.{Kept as Joined}
 use Rattle.turn_table.specs.Places.{Apart, Place}
+use Rattle.arc_table.specs.declared.about.About.{About}
 use Rattle.arc_table.specs.declared.hold.Hold.{Hold}
 use Rattle.arc_table.specs.declared.read.Read.{Read}
 use Rattle.arc_table.specs.declared.read.Read.TheVariants as gave
 use Rattle.arc_table.specs.declared.view.Known.{Known}
 use Rattle.arc_table.specs.Cache.{Cache}
+use Rattle.arc_table.specs.Fronts.{list_at}
 use Rattle.arc_table.specs.Holding.{IsHoldOf, ptr_of}
 use Rattle.arc_table.specs.Items.{Meanings}
 use Rattle.vdev_io.specs.Calls.{Failed, MakesCall, MakesCalls}
@@ -34,7 +36,7 @@ use Rattle.arc_table.proofs.AfterRead.{read_stays}
 use Rattle.arc_table.proofs.Afterwards.{Stays, stays_party}
 use Rattle.trace_run.specs.declared.kept_blocks.KeptBlock.{KeptBlock}
 use Rattle.trace_run.specs.Effects.{calls_from}
-use Rattle.trace_run.specs.KeptBlocks.{AllUnread, IsOwnedBy, Stands, held_key, listed_all, listed_for, times}
+use Rattle.trace_run.specs.KeptBlocks.{AllQuiet, IsOwnedBy, Stands, held_key, listed_all, listed_for, times}
 use Rattle.trace_run.specs.KeptReads.{kept_read}
 use Rattle.trace_run.specs.Read.{IsMismatch}
 use Rattle.trace_run.specs.Reads.{CallsFor, DidAnswer, DidFail, DidRead, IsCauseOf, IsGot}
@@ -60,10 +62,12 @@ module _ {C : Type 0} (cache : Cache) (p q : Place (Known C)) (kept : List KeptB
     valid = stands.valid;
     of = stays_party cache p q stays stands.of;
     free = stays.held ∙ stands.free;
+    cells = ap (λ (a : About). a.openings) stays.about ∙ stands.cells;
     idle = lists.readings ∙ stands.idle;
+    unclaimed = λ i. ap (list_at i) lists.claims ∙ stands.unclaimed i;
     seen = seen;
     apart = subst (λ (x : ℕ × List (Joined (Known C))). Apart x.0 x.1) (λ i. (sym stays.number i, sym stays.joined i)) stands.apart;
-    joined = subst AllUnread (sym stays.joined) stands.joined;
+    joined = subst AllQuiet (sym stays.joined) stands.joined;
     owned = subst (λ (n : ℕ). AllByRecursion (λ b. IsOwnedBy n b.kept) kept) (sym stays.number) stands.owned;
     listed = λ x. ap (times x) lists.holds ∙ stands.listed x;
   }
@@ -73,10 +77,12 @@ module _ {C : Type 0} (cache : Cache) (p q : Place (Known C)) (kept : List KeptB
     valid = stands.valid;
     of = stays_party cache p q stays stands.of;
     free = stays.held ∙ stands.free;
+    cells = ap (λ (a : About). a.openings) stays.about ∙ stands.cells;
     idle = lists.readings ∙ stands.idle;
+    unclaimed = λ i. ap (list_at i) lists.claims ∙ stands.unclaimed i;
     seen = seen;
     apart = subst (λ (x : ℕ × List (Joined (Known C))). Apart x.0 x.1) (λ i. (sym stays.number i, sym stays.joined i)) stands.apart;
-    joined = subst AllUnread (sym stays.joined) stands.joined;
+    joined = subst AllQuiet (sym stays.joined) stands.joined;
     owned = subst (λ (n : ℕ). AllByRecursion (λ b. IsOwnedBy n b.kept) (kept ++ b ∷ [])) (sym stays.number) (all-last (λ b. IsOwnedBy p.number b.kept) kept b stands.owned owned);
     listed = λ x.
         ap (times x) lists.holds

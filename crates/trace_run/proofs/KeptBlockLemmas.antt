@@ -23,6 +23,7 @@ use Rattle.dbuf_cells.specs.declared.kept.Kept.{Kept}
 use Rattle.dbuf_cells.specs.declared.kept.Kept.TheVariants.{Held, Loose}
 use Rattle.turn_table.specs.declared.standing.Kept.{Kept as Joined}
 use Rattle.turn_table.specs.Places.{Apart, Place}
+use Rattle.arc_table.specs.declared.about.About.{About}
 use Rattle.arc_table.specs.declared.hold.Hold.{Hold}
 use Rattle.arc_table.specs.declared.view.Known.{Known}
 use Rattle.arc_table.specs.declared.view.Ledger.{Ledger}
@@ -37,8 +38,8 @@ use Rattle.arc_table.specs.ShardGiving.{ledger_through}
 use Rattle.arc_table.proofs.Afterwards.{does_ledger, does_stays, stays_party}
 use Rattle.arc_table.proofs.Reached.{reached, rests}
 use Rattle.trace_run.specs.declared.kept_blocks.KeptBlock.{KeptBlock}
-use Rattle.trace_run.specs.KeptBlocks.{Adds, AllUnread, Drops, GivesBack, IsOwnedBy, Stands, held_key, is_ptr, listed_all, listed_for, times}
-use Rattle.arc_table.specs.Fronts.{StartsWith, front_of}
+use Rattle.trace_run.specs.KeptBlocks.{Adds, AllQuiet, Drops, GivesBack, IsOwnedBy, Stands, held_key, is_ptr, listed_all, listed_for, times}
+use Rattle.arc_table.specs.Fronts.{StartsWith, front_of, list_at}
 use Rattle.arc_table.specs.Seen.{AddsAll, AddsOwn, Made, turn_of}
 use Rattle.arc_table.specs.TableLaws.{starts_whole}
 use Rattle.trace_run.specs.Access.{events_of_drop}
@@ -215,10 +216,12 @@ module _ {C : Type 0} (m : Meanings C) (cache : Cache) (p q : Place (Known C)) (
           valid = stands.valid;
           of = stays_party cache p q stays stands.of;
           free = stays.held ∙ stands.free;
+          cells = ap (λ (a : About). a.openings) stays.about ∙ stands.cells;
           idle = ap (λ (l : Ledger). l.readings) ledger-is ∙ stands.idle;
+          unclaimed = λ i. ap (λ (l : Ledger). list_at i l.claims) ledger-is ∙ stands.unclaimed i;
           seen = made-sees g (shard_of g.shards hold.key) d.before (Drop hold.owner hold.key ∷ []) p q made stands.seen;
           apart = subst (λ (x : ℕ × List (Joined (Known C))). Apart x.0 x.1) (λ i. (sym stays.number i, sym stays.joined i)) stands.apart;
-          joined = subst AllUnread (sym stays.joined) stands.joined;
+          joined = subst AllQuiet (sym stays.joined) stands.joined;
           owned = subst (λ (n : ℕ). AllByRecursion (λ b. IsOwnedBy n b.kept) (front ++ rest)) (sym stays.number) owned-rest;
           listed = λ x.
               let a = without-one hold.key (sha256_of hold.block.value) p.own.ledger.holds same-digest listed-once x in
@@ -257,7 +260,9 @@ module _ {C : Type 0} (m : Meanings C) (cache : Cache) (p q : Place (Known C)) (
         valid = stands.valid;
         of = stands.of;
         free = stands.free;
+        cells = stands.cells;
         idle = stands.idle;
+        unclaimed = stands.unclaimed;
         seen = stands.seen;
         apart = stands.apart;
         joined = stands.joined;

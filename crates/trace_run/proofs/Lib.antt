@@ -5,6 +5,7 @@ pub mod AlonePlainLemmas
 pub mod AnswerLemmas
 pub mod CacheLemmas
 pub mod CallerActLemmas
+pub mod CellLemmas
 pub mod CloseLemmas
 pub mod DropLemmas
 pub mod EachLemmas

@@ -176,6 +176,7 @@ module _ {C : Type 0} (m : Meanings C) (cache : Cache) (p : Place (Known C)) whe
     pub number : q.number ≡ p.number
     pub parties : q.parties ≡ p.parties
     pub held : q.held ≡ []
+    pub about : q.own.about ≡ p.own.about
     pub ledger : q.own.ledger ≡ p.own.ledger
     pub joined : q.joined ≡ joined_of others
     pub seen : HasSeenItsOwn gc q
@@ -189,6 +190,7 @@ module _ {C : Type 0} (m : Meanings C) (cache : Cache) (p : Place (Known C)) whe
     number = refl;
     parties = refl;
     held = may.free;
+    about = refl;
     ledger = refl;
     joined = may.alone;
     seen = may.seen;
@@ -230,6 +232,7 @@ module _ {C : Type 0} (m : Meanings C) (cache : Cache) (p : Place (Known C)) whe
       number = have.number;
       parties = have.parties;
       held = have.held;
+      about = have.about;
       ledger = have.ledger;
       joined = joined-is;
       seen = record {

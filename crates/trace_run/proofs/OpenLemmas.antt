@@ -29,8 +29,9 @@ use Rattle.arc_table.specs.Opening.{AreFreshCells, IsFreshCell}
 use Rattle.arc_table.specs.TableLaws.{there}
 use Rattle.arc_table.specs.Views.{after_learned, newcomer as known}
 use Rattle.arc_table.specs.Telling.{opening_of}
-use Rattle.trace_run.specs.KeptBlocks.{AllUnread, Stands}
-use Rattle.trace_run.specs.Opened.{AreOpened, HasJoined, IsNew, IsOpened, openings_of}
+use Rattle.trace_run.specs.KeptBlocks.{AllQuiet, Stands}
+use Rattle.trace_run.specs.Opened.{AreOpened, HasJoined, IsNew, IsOpened}
+use Rattle.trace_run.specs.Openings.{openings_of}
 use Rattle.arc_table.specs.Seen.{AllSeen, AreSeen, HasAll, HasSeenItsOwn, events_in, seen_of, turn_of}
 use Rattle.arc_table.specs.Told.{IsTold}
 
@@ -48,7 +49,9 @@ module _ (C : Type 0) (cache : Cache) (about : About) (is : about.config ≡ cac
     valid = valid;
     of = record { row = (refl, sym row); config = is };
     free = refl;
+    cells = cells;
     idle = refl;
+    unclaimed = λ i. refl;
     seen = record { own = no-mine cache.config n []; joined = tt };
     apart = tt;
     joined = tt;
@@ -63,7 +66,7 @@ module _ (C : Type 0) (cache : Cache) (about : About) (is : about.config ≡ cac
   newcomer-new n = record {
     number = refl;
     joined = refl;
-    new = record { parties = refl; openings = cells; begun = refl; seen = refl; stands = newcomer-stands n; told = newcomer-told n };
+    new = record { parties = refl; begun = refl; seen = refl; stands = newcomer-stands n; told = newcomer-told n };
   }
 
   newcomers-count : (n k : ℕ) → length (newcomers cache.row.table (parties_of cache.config) (known {C = C} about) n k) ≡ k
@@ -157,8 +160,8 @@ module _ {C : Type 0} (cache : Cache) where
     apart-then = subst (Apart p.number) (sym joined-is)
         ((λ (same : q.number ≡ p.number). let a = next.number in let b = first.number in let c = some-count in omega arith), first.new.stands.apart)
 
-    unread-then : AllUnread then.joined
-    unread-then = subst AllUnread (sym joined-is) (ap (λ (l : Ledger). l.readings) next.new.begun, first.new.stands.joined)
+    quiet-then : AllQuiet then.joined
+    quiet-then = subst AllQuiet (sym joined-is) (ap (λ (l : Ledger). l.readings) next.new.begun, next.new.stands.unclaimed, first.new.stands.joined)
 
     same-seen : q.own.seen ≡ then.own.seen
     same-seen = next.new.seen ∙ sym seen-none
@@ -180,10 +183,12 @@ module _ {C : Type 0} (cache : Cache) where
       valid = first.new.stands.valid;
       of = record { row = first.new.stands.of.row; config = first.new.stands.of.config };
       free = first.new.stands.free;
+      cells = first.new.stands.cells;
       idle = first.new.stands.idle;
+      unclaimed = first.new.stands.unclaimed;
       seen = own-seen;
       apart = apart-then;
-      joined = unread-then;
+      joined = quiet-then;
       owned = tt;
       listed = first.new.stands.listed;
     }
@@ -193,7 +198,7 @@ module _ {C : Type 0} (cache : Cache) where
       number = first.number;
       has = λ n below. has-then n (which n below);
       low = low-then;
-      new = record { parties = first.new.parties; openings = first.new.openings; begun = first.new.begun; seen = seen-none; stands = stands-then; told = told-then };
+      new = record { parties = first.new.parties; begun = first.new.begun; seen = seen-none; stands = stands-then; told = told-then };
     }
       where
         less : (n c : ℕ) → n < suc c → n ≢ c → n < c

@@ -47,10 +47,11 @@ use Rattle.arc_table.proofs.Reached.{reached}
 use Rattle.arc_table.proofs.RoomyAfter.{does_roomy_ledger, does_roomy_stays, missed_readings}
 use Rattle.trace_run.proofs.CacheLemmas.{digest_eq-is}
 
--- a party lists these holds more, and reads what it read
+-- a party lists these holds more, and reads and claims what it did
 pub record Lists {C : Type 0} (new : List Ptr) (p q : Place (Known C)) : Type 0 where
   pub holds : q.own.ledger.holds ≡ new ++ p.own.ledger.holds
   pub readings : q.own.ledger.readings ≡ p.own.ledger.readings
+  pub claims : q.own.ledger.claims ≡ p.own.ledger.claims
 
 -- the digest of bytes that are cached with it
 cached-digest : (ptr : Ptr) (s : PlainShard) → is_cached_with ptr s → digest_at ptr.key s ≡ Some ptr.digest
@@ -75,25 +76,25 @@ without-first k ks = rw (key_eq-same k) refl
 
 module _ {C : Type 0} (m : Meanings C) (g : Config) (valid : IsConfig g) where
   lists-same : (p q : Place (Known C)) → q ≡ p → Lists [] p q
-  lists-same p q is = record { holds = ap (λ (x : Place (Known C)). x.own.ledger.holds) is; readings = ap (λ (x : Place (Known C)). x.own.ledger.readings) is }
+  lists-same p q is = record { holds = ap (λ (x : Place (Known C)). x.own.ledger.holds) is; readings = ap (λ (x : Place (Known C)). x.own.ledger.readings) is; claims = ap (λ (x : Place (Known C)). x.own.ledger.claims) is }
 
   lists-then : (new : List Ptr) (p r q : Place (Known C)) → Lists [] p r → Lists new r q → Lists new p q
-  lists-then new p r q a b = record { holds = b.holds ∙ ap (λ (l : List Ptr). new ++ l) a.holds; readings = b.readings ∙ a.readings }
+  lists-then new p r q a b = record { holds = b.holds ∙ ap (λ (l : List Ptr). new ++ l) a.holds; readings = b.readings ∙ a.readings; claims = b.claims ∙ a.claims }
 
   lists-none : (k : Key) (p q : Place (Known C)) → p.own.about.config ≡ g → Does m g k [] p q → Lists [] p q
   lists-none k p q config d =
       let l = does_ledger m g valid k [] p q config d in
-      record { holds = ap (λ (x : Ledger). x.holds) l; readings = ap (λ (x : Ledger). x.readings) l }
+      record { holds = ap (λ (x : Ledger). x.holds) l; readings = ap (λ (x : Ledger). x.readings) l; claims = ap (λ (x : Ledger). x.claims) l }
 
   lists-hit : (ptr : Ptr) (t : ℕ) (p q : Place (Known C)) → p.own.about.config ≡ g → (d : Does m g ptr.key (Hit p.number ptr.key t ∷ []) p q) → is_cached_with ptr d.before.now → Lists (ptr ∷ []) p q
   lists-hit ptr t p q config d cached =
       let l = does_ledger m g valid ptr.key (Hit p.number ptr.key t ∷ []) p q config d in
-      record { holds = ap (λ (x : Ledger). x.holds) l ∙ rw (eq-eqb p.number p.number refl, cached-digest ptr d.before.now cached) refl; readings = ap (λ (x : Ledger). x.readings) l }
+      record { holds = ap (λ (x : Ledger). x.holds) l ∙ rw (eq-eqb p.number p.number refl, cached-digest ptr d.before.now cached) refl; readings = ap (λ (x : Ledger). x.readings) l; claims = ap (λ (x : Ledger). x.claims) l }
 
   lists-past : (k : Key) (kept : Digest) (p q : Place (Known C)) → p.own.about.config ≡ g → Does m g k (Past p.number k kept ∷ []) p q → Lists [] p q
   lists-past k kept p q config d =
       let l = does_ledger m g valid k (Past p.number k kept ∷ []) p q config d in
-      record { holds = ap (λ (x : Ledger). x.holds) l; readings = ap (λ (x : Ledger). x.readings) l }
+      record { holds = ap (λ (x : Ledger). x.holds) l; readings = ap (λ (x : Ledger). x.readings) l; claims = ap (λ (x : Ledger). x.claims) l }
 
   -- ---- a miss
 
@@ -101,6 +102,7 @@ module _ {C : Type 0} (m : Meanings C) (g : Config) (valid : IsConfig g) where
   record Reading (k : Key) (p r : Place (Known C)) : Type 0 where
     pub holds : r.own.ledger.holds ≡ p.own.ledger.holds
     pub readings : r.own.ledger.readings ≡ k ∷ p.own.ledger.readings
+    pub claims : r.own.ledger.claims ≡ p.own.ledger.claims
 
   reading-missed : (k : Key) (t : ℕ) (p r : Place (Known C)) → p.own.about.config ≡ g → DoesRoomy m g k (Miss p.number k t) p r → Reading k p r
   reading-missed k t p r config d =
@@ -108,10 +110,11 @@ module _ {C : Type 0} (m : Meanings C) (g : Config) (valid : IsConfig g) where
       record {
         holds = ap (λ (l : Ledger). l.holds) (does_roomy_ledger m g valid k (Miss p.number k t) p r config d) ∙ holds-then g p.number (shard_turn g k) t k d.before.now d.makes.passes p.own.ledger.holds own;
         readings = missed_readings m g valid k t p r config d;
+        claims = ap (λ (l : Ledger). l.claims) (does_roomy_ledger m g valid k (Miss p.number k t) p r config d);
       }
 
   reading-then : (k : Key) (p r back : Place (Known C)) → Reading k p r → Lists [] r back → Reading k p back
-  reading-then k p r back a b = record { holds = b.holds ∙ a.holds; readings = b.readings ∙ a.readings }
+  reading-then k p r back a b = record { holds = b.holds ∙ a.holds; readings = b.readings ∙ a.readings; claims = b.claims ∙ a.claims }
 
   lists-arrive : (ptr : Ptr) (from : Origin) (p r q : Place (Known C)) → Reading ptr.key p r → r.own.about.config ≡ g → Does m g ptr.key (Arrive r.number ptr.key ptr.digest from ∷ []) r q → Lists (ptr ∷ []) p q
   lists-arrive ptr from p r q reads config d =
@@ -119,6 +122,7 @@ module _ {C : Type 0} (m : Meanings C) (g : Config) (valid : IsConfig g) where
       record {
         holds = ap (λ (x : Ledger). x.holds) l ∙ (rw (eq-eqb r.number r.number refl) (ap (λ (hs : List Ptr). ptr ∷ hs) reads.holds));
         readings = ap (λ (x : Ledger). x.readings) l ∙ (rw (eq-eqb r.number r.number refl) (ap (without_reading ptr.key) reads.readings ∙ without-first ptr.key p.own.ledger.readings));
+        claims = ap (λ (x : Ledger). x.claims) l ∙ reads.claims;
       }
 
   lists-fail : (k : Key) (at : FailedAt) (p r q : Place (Known C)) → Reading k p r → r.own.about.config ≡ g → Does m g k (Fail r.number k at ∷ []) r q → Lists [] p q
@@ -127,6 +131,7 @@ module _ {C : Type 0} (m : Meanings C) (g : Config) (valid : IsConfig g) where
       record {
         holds = ap (λ (x : Ledger). x.holds) l ∙ reads.holds;
         readings = ap (λ (x : Ledger). x.readings) l ∙ (rw (eq-eqb r.number r.number refl) (ap (without_reading k) reads.readings ∙ without-first k p.own.ledger.readings));
+        claims = ap (λ (x : Ledger). x.claims) l ∙ reads.claims;
       }
 
   waits-list : (k : Key) (times : ℕ) (p q : Place (Known C)) → p.own.about.config ≡ g → Waits m g k times p q → Lists [] p q

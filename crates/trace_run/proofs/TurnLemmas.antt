@@ -10,11 +10,12 @@ use Rattle.arc_core.specs.PlainShard.{PlainShard}
 use Rattle.blk_ptr.specs.Hash.{shard_of}
 use Rattle.turn_table.specs.declared.standing.Kept.{Kept}
 use Rattle.turn_table.specs.Places.{Apart, HasNumber, IsIn, Place, SomeHas, kept as kept_at}
+use Rattle.arc_table.specs.declared.about.About.{About}
 use Rattle.arc_table.specs.declared.view.Known.{Known}
 use Rattle.arc_table.specs.declared.view.Ledger.{Ledger}
 use Rattle.arc_table.specs.declared.view.Line.{Line}
 use Rattle.arc_table.specs.Cache.{Cache, IsPartyOf}
-use Rattle.arc_table.specs.Fronts.{StartsWith, front_of, seen_by_both}
+use Rattle.arc_table.specs.Fronts.{StartsWith, front_of, list_at, seen_by_both}
 use Rattle.arc_table.specs.Geometry.{parties_of}
 use Rattle.arc_table.specs.Items.{Meanings}
 use Rattle.arc_table.specs.Seen.{AreSeen, HasAll, HasSeenItsOwn, events_in, seen_of, turn_of}
@@ -23,7 +24,7 @@ use Rattle.arc_table.specs.Told.{IsTold}
 use Rattle.arc_table.proofs.OwnLemmas.{no-own-moments, own-append}
 use Rattle.trace_run.specs.declared.kept_blocks.KeptBlock.{KeptBlock}
 use Rattle.trace_run.specs.Acts.{acts_of_drops}
-use Rattle.trace_run.specs.KeptBlocks.{AllUnread, GivesAll, IsOwnedBy, Stands, holds_in, listed_all, read_of, times}
+use Rattle.trace_run.specs.KeptBlocks.{AllQuiet, GivesAll, IsOwnedBy, Stands, holds_in, listed_all, read_of, times}
 use Rattle.trace_run.specs.KeptReads.{KeptRead}
 use Rattle.trace_run.specs.Meeting.{AreLast, GaveBackJoined, HasParted, HasSameOwn, HaveParted, IsApart, IsLevel, JoinAll, MayJoin, PartAll, Waits}
 use Rattle.trace_run.specs.OneCaller.{events_of_drops}
@@ -44,9 +45,9 @@ pub apart-kept : {C : Type 0} (n : ℕ) (os : List (Place (Known C))) → AllByR
 apart-kept n [] differ = tt
 apart-kept n (o ∷ os) differ = (differ.0, apart-kept n os differ.1)
 
-pub unread-kept : {C : Type 0} (cache : Cache) (os : List (Place (Known C))) → AllByRecursion (IsApart cache) os → AllUnread (joined_of os)
-unread-kept cache [] apart = tt
-unread-kept cache (o ∷ os) apart = (apart.0.1.idle, unread-kept cache os apart.1)
+pub quiet-kept : {C : Type 0} (cache : Cache) (os : List (Place (Known C))) → AllByRecursion (IsApart cache) os → AllQuiet (joined_of os)
+quiet-kept cache [] apart = tt
+quiet-kept cache (o ∷ os) apart = (apart.0.1.idle, apart.0.1.unclaimed, quiet-kept cache os apart.1)
 
 pub may-join : {C : Type 0} (cache : Cache) (kept : List KeptBlock) (p : Place (Known C)) → Stands cache p kept → p.joined ≡ [] → MayJoin cache p
 may-join cache kept p stands alone = record { of = stands.of; free = stands.free; alone = alone; seen = stands.seen }
@@ -84,10 +85,12 @@ module _ {C : Type 0} (m : Meanings C) (cache : Cache) (p : Place (Known C)) (ke
     valid = stands.valid;
     of = joined.of;
     free = joined.held;
+    cells = ap (λ (a : About). a.openings) joined.about ∙ stands.cells;
     idle = ap (λ (l : Ledger). l.readings) joined.ledger ∙ stands.idle;
+    unclaimed = λ i. ap (λ (l : Ledger). list_at i l.claims) joined.ledger ∙ stands.unclaimed i;
     seen = joined.seen;
     apart = subst (λ (x : ℕ × List (Kept (Known C))). Apart x.0 x.1) (λ i. (sym joined.number i, sym joined.joined i)) (apart-kept p.number others differ);
-    joined = subst AllUnread (sym joined.joined) (unread-kept cache others apart);
+    joined = subst AllQuiet (sym joined.joined) (quiet-kept cache others apart);
     owned = subst (λ (n : ℕ). AllByRecursion (λ b. IsOwnedBy n b.kept) kept) (sym joined.number) stands.owned;
     listed = λ x. ap (λ (l : Ledger). times x l.holds) joined.ledger ∙ stands.listed x;
   }
@@ -152,7 +155,9 @@ module _ {C : Type 0} (m : Meanings C) (cache : Cache) (p : Place (Known C)) (ke
             valid = waits.stands.valid;
             of = record { row = after.of.row; config = waits.stands.of.config };
             free = refl;
+            cells = waits.stands.cells;
             idle = waits.stands.idle;
+            unclaimed = waits.stands.unclaimed;
             seen = record { own = are-seen-more g o.number o.own.mine o.own.seen x.own.seen starts waits.stands.seen.own; joined = tt };
             apart = tt;
             joined = tt;
@@ -179,7 +184,9 @@ module _ {C : Type 0} (m : Meanings C) (cache : Cache) (p : Place (Known C)) (ke
         valid = after.valid;
         of = record { row = after.of.row; config = after.of.config };
         free = after.free;
+        cells = after.cells;
         idle = after.idle;
+        unclaimed = after.unclaimed;
         seen = record { own = after.seen.own; joined = tt };
         apart = tt;
         joined = tt;

@@ -19,10 +19,12 @@ use Rattle.arc_table.specs.declared.view.Known.{Known}
 use Rattle.arc_table.specs.declared.view.Ledger.{Ledger}
 use Rattle.arc_table.specs.Both.{Does}
 use Rattle.arc_table.specs.Cache.{Cache, IsPartyOf}
+use Rattle.arc_table.specs.Fronts.{list_at}
 use Rattle.arc_table.specs.Holding.{ptr_of}
 use Rattle.arc_table.specs.Items.{Meanings}
 use Rattle.trace_run.specs.declared.kept_blocks.KeptBlock.{KeptBlock}
 use Rattle.trace_run.specs.KeptReads.{KeptRead, kept_read}
+use Rattle.trace_run.specs.Openings.{openings_of}
 use Rattle.trace_run.specs.OneCaller.{events_of_drops}
 use Rattle.arc_table.specs.Seen.{AddsAll, HasAll, HasSeenItsOwn, seen_of}
 use Rattle.trace_run.specs.Access.{events_of_drop}
@@ -77,22 +79,29 @@ pub record IsIdle (l : Ledger) : Type 0 where
   pub holds : l.holds ≡ []
   pub readings : l.readings ≡ []
 
-module _ {C : Type 0} where
-  -- the parties that another keeps by a join read nothing
-  abbrev pub AllUnread : List (Joined (Known C)) → Type 0
-  AllUnread [] = Unit {0}
-  AllUnread (k ∷ ks) = (k.view.ledger.readings ≡ []) × AllUnread ks
+-- a party claims nothing of any cell
+abbrev pub ClaimsNothing : Ledger → Type 0
+ClaimsNothing l = (i : ℕ) → list_at i l.claims ≡ []
 
-  -- The party is one of the cache, has no turn in hand, reads nothing just now, has seen all that it made, and holds what is kept, each as
-  -- often as it is kept. Those that it keeps by a join have other numbers, and read nothing; they may hold something.
+module _ {C : Type 0} where
+  -- the parties that another keeps by a join read nothing and claim nothing
+  abbrev pub AllQuiet : List (Joined (Known C)) → Type 0
+  AllQuiet [] = Unit {0}
+  AllQuiet (k ∷ ks) = (k.view.ledger.readings ≡ []) × ClaimsNothing k.view.ledger × AllQuiet ks
+
+  -- The party is one of the cache, knows how the cells of a run begin, has no turn in hand, reads nothing just now and claims nothing, has seen all that
+  -- it made, and holds what is kept, each as often as it is kept. Those that it keeps by a join have other numbers, read nothing and claim nothing; they
+  -- may hold something.
   pub record Stands (cache : Cache) (p : Place (Known C)) (kept : List KeptBlock) : Type 0 where
     pub valid : IsConfig cache.config
     pub of : IsPartyOf cache p
     pub free : p.held ≡ []
+    pub cells : p.own.about.openings ≡ openings_of cache.config
     pub idle : p.own.ledger.readings ≡ []
+    pub unclaimed : ClaimsNothing p.own.ledger
     pub seen : HasSeenItsOwn cache.config p
     pub apart : Apart p.number p.joined
-    pub joined : AllUnread p.joined
+    pub joined : AllQuiet p.joined
     pub owned : AllByRecursion (λ b. IsOwnedBy p.number b.kept) kept
     pub listed : (x : Ptr) → times x p.own.ledger.holds ≡ times x (listed_all kept)
 

@@ -18,6 +18,7 @@ pub mod Meeting
 pub mod Lines
 pub mod OneCaller
 pub mod Opened
+pub mod Openings
 pub mod Outcome
 pub mod OverShards
 pub mod PlainLines

@@ -1,10 +1,8 @@
 -- The parties of a cache that has just been made.
-use Rattle.std.specs.Prelude.{◌≡◌, ℕ, ◌<◌, List, [], length, replicate}
+use Rattle.std.specs.Prelude.{◌≡◌, ℕ, ◌<◌, List, [], length}
 use mathlib.Core.Option.{some}
 use lib.ListN.{get_elem?}
-use Rattle.arc_core.specs.declared.config.Config.{Config}
 use Rattle.arc_core.specs.declared.keeps.Keeps.{Ghosts}
-use Rattle.dbuf_state.specs.Numbers.{opening_numbers}
 use Rattle.turn_table.specs.Places.{HasNumber, Place}
 use Rattle.arc_table.specs.declared.view.Known.{Known}
 use Rattle.arc_table.specs.Cache.{Cache}
@@ -18,16 +16,10 @@ use Rattle.arc_table.specs.Told.{IsTold}
 abbrev pub meanings_of : {C : Type 0} → Ghosts C → Meanings C
 meanings_of cells = record { holds = cells.holds; entries = cells.entries; opening = cells.opening; claims = cells.claims; sound = cells.sound }
 
--- how the cells of a run begin: each maps nothing, and keeps at most the configuration's bytes of clean dbufs
-abbrev pub openings_of : Config → List (List ℕ)
-openings_of config = replicate config.cells (opening_numbers config.dbuf_bytes [])
-
 module _ {C : Type 0} where
-  -- A party that has done nothing yet, and seen nothing: it is one of so many as the cache has, and has begun nothing. It knows how the cells
-  -- began.
+  -- A party that has done nothing yet, and seen nothing: it is one of so many as the cache has, and has begun nothing.
   pub record IsNew (cache : Cache) (p : Place (Known C)) : Type 0 where
     pub parties : p.parties ≡ parties_of cache.config
-    pub openings : p.own.about.openings ≡ openings_of cache.config
     pub begun : p.own.ledger ≡ no_ledger
     pub seen : p.own.seen ≡ []
     pub stands : Stands cache p []

@@ -5,11 +5,13 @@ ghost use Rattle.vdev_io.specs.Calls.{KeepsPool};
 ghost use Rattle.trace_text.specs.Grammar.{IsFormed};
 ghost use Rattle.trace_run.specs.Alone.{RanAlone};
 ghost use Rattle.trace_run.specs.Opened.{AreOpened, HasJoined};
+ghost use Rattle.trace_run.specs.Openings.{HaveBegunEmpty};
 
 use crate::kept_blocks::{KeptBlocks, give_back_all};
 use crate::lines::all_lines;
 use crate::opening::open_cache;
 use crate::ran::Ran;
+use arc_core::Keeps;
 use arc_table::Party;
 use blk_ptr::NoMemory;
 use dbuf_cells::{Cells, HeapCell};
@@ -41,6 +43,7 @@ pub(crate) fn run_alone<P: Pool, G: Gate>(
     requires formed { IsFormed trace.now }
     requires one { trace.now.config.callers ≡ 1 }
     ensures ran { IfOk result (λ ran. RanAlone P.Pool pool.old pool.new trace.now ran.replies.items ran.closed) }
+    ensures cells { IfOk result (λ ran. HaveBegunEmpty ⟦<HeapCell as Keeps>⟧ ran.closed) }
     ensures fork { IfOk result (λ ran. ran.fork_failed ≡ false) }
     ensures pool { KeepsPool P.Pool pool.old pool.new }
 {

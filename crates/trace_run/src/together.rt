@@ -9,6 +9,7 @@ ghost use Rattle.trace_run.specs.GroupRun.{HaveStopped, RanGroup, RanTogether};
 ghost use Rattle.trace_run.specs.Alone.{ends_in, histories_of};
 ghost use Rattle.trace_run.specs.Explaining.{Explain};
 ghost use Rattle.trace_run.specs.Opened.{AreOpened, meanings_of};
+ghost use Rattle.trace_run.specs.Openings.{HaveBegunEmpty};
 
 use crate::ending::all_give_back;
 use crate::group::{forks, run_group};
@@ -39,7 +40,8 @@ fn take_feeder(parties: &mut Vec<Party<HeapCell>>) -> Party<HeapCell>
 /// Closes the cache of a run, once each party has given all back.
 fn close_run(arcs: Cells, parties: Vec<Party<HeapCell>>) -> Result<Closed<HeapCell>, NoMemory>
     requires { HaveStopped arcs parties.items }
-    ensures { IfOk result (λ closed. Ends (meanings_of ⟦<HeapCell as Keeps>⟧) arcs parties.items closed) }
+    ensures ends { IfOk result (λ closed. Ends (meanings_of ⟦<HeapCell as Keeps>⟧) arcs parties.items closed) }
+    ensures cells { IfOk result (HaveBegunEmpty ⟦<HeapCell as Keeps>⟧) }
 {
     arcs.close(parties)
 }
@@ -61,6 +63,7 @@ fn run_callers<R: Threads + Wait + Sync, P: Pool, G: Gate>(
     requires forks { AllByRecursion (IsFork P.Pool pool.old) forks.items }
     requires count { vec_len forks ≡ trace.now.config.callers }
     ensures ran { IfOk result (λ ran. RanGroup arcs P.Pool pool.old pool.new trace.now ran.replies.items ran.closed) }
+    ensures cells { IfOk result (λ ran. HaveBegunEmpty ⟦<HeapCell as Keeps>⟧ ran.closed) }
     ensures whole { IfOk result (λ ran. ran.fork_failed ≡ false) }
     ensures pool { LeavesPool P.Pool pool.old pool.new }
 {
@@ -94,6 +97,7 @@ fn run_none(
     ensures reads { IfOk result (λ ran. sum_by pool_reads (histories_of ran.closed) ≡ 0) }
     ensures failed { IfOk result (λ ran. ran.fork_failed ≡ fork_failed) }
     ensures config { IfOk result (λ ran. ran.closed.config ≡ trace.now.config) }
+    ensures cells { IfOk result (λ ran. HaveBegunEmpty ⟦<HeapCell as Keeps>⟧ ran.closed) }
 {
     let closed = close_run(arcs, parties)?;
     Ok(Ran {
@@ -114,6 +118,7 @@ pub(crate) fn run_together<R: Threads + Wait + Sync, P: Pool, G: Gate>(
 ) -> Result<Ran, NoMemory>
     requires { IsFormed trace.now }
     ensures ran { IfOk result (λ ran. RanTogether P.Pool pool.old pool.new trace.now ran.fork_failed ran.replies.items ran.closed) }
+    ensures cells { IfOk result (λ ran. HaveBegunEmpty ⟦<HeapCell as Keeps>⟧ ran.closed) }
     ensures pool { LeavesPool P.Pool pool.old pool.new }
 {
     let (arcs, parties) = open_cache(alloc, trace)?;

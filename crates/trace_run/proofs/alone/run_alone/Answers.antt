@@ -13,6 +13,7 @@ use Rattle.trace_run.specs.KeptBlocks.{read_of}
 use Rattle.trace_run.specs.Lines.{is_of_caller}
 use Rattle.trace_run.specs.Tally.{IsOfCaller}
 use Rattle.trace_run.proofs.AloneLemmas.{alone-ops, end-there, ran-alone}
+use Rattle.trace_run.proofs.CellLemmas.{one-closed}
 use Rattle.trace_run.proofs.OpenLemmas.{HeapCell}
 use Rattle.trace_run.proofs.alone.run_alone.Goals as goal
 
@@ -49,3 +50,6 @@ returns-clause-ran g c =
     ran-alone _ cache g.P.Pool c.args.trace.now c.in_ok-replies.replies.items c.args.pool.now c.all_lines.new.pool p q r kept c.in_ok-arcs.ensures.config c.requires.formed c.requires.one
     c.only_party-party.ensures did c.in_ok-replies.ensures.stands c.give_back_all.ensures.gives c.give_back_all.ensures.stands
     _ c.in_ok-vec.field-0.items c.in_ok-closed.closed c.arcs.view_is c.in_ok-vec.ensures.items c.in_ok-closed.ensures
+
+pub returns-clause-cells : goal.returns-clause-cells
+returns-clause-cells g c = one-closed _ c.in_ok-arcs.arcs c.give_back_all.new.party _ c.in_ok-vec.field-0.items c.in_ok-closed.closed c.arcs.view_is c.in_ok-vec.ensures.items c.in_ok-closed.ensures c.give_back_all.ensures.stands

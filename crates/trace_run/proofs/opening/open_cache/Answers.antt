@@ -1,7 +1,7 @@
 use Rattle.std.proofs.Common.{◌≡◌, sym, ap, ◌∙◌, subst}
 use Rattle.arc_core.specs.Config.{IsConfig}
 use Rattle.arc_table.specs.Cache.{Cache}
-use Rattle.trace_run.specs.Opened.{openings_of}
+use Rattle.trace_run.specs.Openings.{openings_of}
 use Rattle.trace_run.proofs.OpenLemmas.{all-opened}
 use Rattle.trace_run.proofs.opening.open_cache.Goals as goal
 

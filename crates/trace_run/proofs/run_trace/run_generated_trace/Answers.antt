@@ -9,8 +9,8 @@ use Rattle.trace_run.specs.PlainRun.{report_of}
 use Rattle.trace_run.proofs.GenLemmas.{made-plain, made-report, made-trace, never-failed, none-refused}
 use Rattle.trace_run.proofs.run_trace.run_generated_trace.Goals as goal
 
-pub returns : goal.returns
-returns g c =
+pub returns-clause-report : goal.returns-clause-report
+returns-clause-report g c =
     let len : c.new-pool.result.len ≡ c.args.blocks * 512 = c.new-pool.ensures.len ∙ ap (λ n. n * 512) c.from.ensures in
     let trace = c.in_ok-trace.trace in
     let reported = c.in_ok-reported.reported in

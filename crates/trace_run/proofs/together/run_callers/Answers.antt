@@ -64,4 +64,4 @@ returns-clause-ran g c =
     let own : List (List Reply) = map (λ (v : Vec Reply Global). v.items) c.in_ok-worked.worked.replies.items in
     let ordered = subst (λ (os : List Op). AreInOrder os own c.in_ok-replies.replies.items) c.as_slice-ops.ensures c.in_ok-replies.ensures in
     ran-group _ c.args.arcs c.args.trace.now c.requires.config valid _ _ _ own c.in_ok-worked.worked.kept.items c.in_ok-worked.worked.parties.items c.in_ok-parties.parties.items worked gone c.in_ok-replies.replies.items ordered
-    c.in_ok-closed.closed c.in_ok-closed.ensures
+    c.in_ok-closed.closed c.in_ok-closed.ensures.ends
