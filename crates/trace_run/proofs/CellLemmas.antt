@@ -1,10 +1,9 @@
 -- The cells of a closed cache have the openings with which they moved in.
-use Rattle.std.proofs.Common.{◌≡◌, ℕ, zero, suc, List, [], ◌∷◌, ◌++◌, length, map, refl, sym, ap, ◌∙◌, subst, arith}
+use Rattle.std.proofs.Common.{◌≡◌, ℕ, suc, List, [], ◌∷◌, ◌++◌, length, map, refl, sym, ap, ◌∙◌, subst, arith}
 use Rattle.std.specs.Prelude.{slice_index_or}
 use Rattle.std.proofs.lemmas.List.{length-replicate}
-use mathlib.Core.Option.{some, some-ne-none}
+use mathlib.Core.Option.{some}
 use lib.ListN.{get_elem?}
-use Rattle.arc_core.specs.declared.config.Config.{Config}
 use Rattle.turn_table.specs.Board.{free}
 use Rattle.turn_table.specs.Places.{Place}
 use Rattle.arc_table.specs.declared.about.About.{About}

@@ -1,5 +1,5 @@
 -- Several callers at once: from what each did on its own to what all have done.
-use Rattle.std.proofs.Common.{◌≡◌, ℕ, zero, suc, ◌+◌, ◌<◌, ◌≤◌, ◌^◌, List, [], ◌∷◌, ◌++◌, length, get_or, map, Option, refl, sym, ap, ◌∙◌, subst, arith}
+use Rattle.std.proofs.Common.{◌≡◌, ℕ, zero, suc, ◌+◌, ◌<◌, ◌≤◌, ◌^◌, List, [], ◌∷◌, length, get_or, map, Option, refl, sym, ap, ◌∙◌, subst, arith}
 use Rattle.std.specs.Prelude.{Err, IfOk, Ok, Result, Vec, filter, sum_by}
 use Rattle.std.specs.List.{AllByRecursion, AllZip}
 use Rattle.std.specs.declared.alloc.Global.{Global}

@@ -1,5 +1,5 @@
 -- What callers that work at once are between the steps of their work.
-use Rattle.std.specs.Prelude.{◌≡◌, ℕ, suc, List, [], ◌∷◌, ◌++◌, filter, map, IfOk, Vec, Ok}
+use Rattle.std.specs.Prelude.{◌≡◌, ℕ, suc, List, [], ◌∷◌, filter, map, IfOk, Vec, Ok}
 use Rattle.std.specs.declared.alloc.Global.{Global}
 use Rattle.blk_ptr.specs.declared.ptr.Ptr.{Ptr}
 use Rattle.arc_table.specs.Cache.{Cache}

@@ -14,7 +14,7 @@ use Rattle.arc_table.specs.Fronts.{front_of}
 use Rattle.arc_table.specs.Geometry.{parties_of}
 use Rattle.arc_table.specs.Items.{Meanings}
 use Rattle.arc_table.specs.Rule.{Pact}
-use Rattle.arc_table.specs.Seen.{HasSeenItsOwn, events_in, seen_of, turn_of}
+use Rattle.arc_table.specs.Seen.{HasSeenItsOwn, events_in, turn_of}
 use Rattle.arc_table.specs.Telling.{opening_of}
 use Rattle.arc_table.specs.Told.{IsTold}
 use Rattle.arc_table.specs.Views.{after_learned}

@@ -8,7 +8,6 @@ use Rattle.arc_core.specs.declared.event.Event.{Event}
 use Rattle.arc_core.specs.declared.served.ReadFault.{ReadFault}
 use Rattle.arc_core.specs.declared.served.ReadFault.TheVariants as fault
 use Rattle.arc_core.specs.declared.served.Served.{Served}
-use Rattle.arc_core.specs.declared.served.Served.TheVariants as served
 use Rattle.arc_core.specs.Operations.{Act, Fails, Keeps, Moment, StandsFor, act_key}
 use Rattle.arc_core.specs.PlainShard.{PlainShard}
 use Rattle.arc_core.specs.Replay.{replay}

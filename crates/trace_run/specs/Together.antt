@@ -1,5 +1,5 @@
 -- A run of several callers: which operations were answered, what each caller's work did to its fork of the pool, and what the closed cache tells.
-use Rattle.std.specs.Prelude.{◌≡◌, ℕ, zero, suc, ◌+◌, ◌^◌, ◌<◌, ◌≤◌, ◌==◌, ◌&&◌, Bool, true, false, List, [], count_by, length, map, sum_by}
+use Rattle.std.specs.Prelude.{◌≡◌, ℕ, zero, suc, ◌+◌, ◌^◌, ◌<◌, ◌==◌, ◌&&◌, Bool, true, false, List, [], count_by, length, map, sum_by}
 use Rattle.arc_core.specs.declared.event.Event.{Event}
 use Rattle.arc_core.specs.Operations.{is_pool_read, number_of}
 use Rattle.arc_table.specs.Ended.{Ended}

@@ -1,10 +1,7 @@
-use Rattle.std.proofs.Common.{◌≡◌, ◌∷◌, ◌++◌, [], ℕ, List, length, sym, ap, ◌∙◌, subst, arith}
-use Rattle.arc_core.specs.Operations.{Act}
-use Rattle.turn_table.specs.Places.{Place}
-use Rattle.arc_table.specs.declared.view.Known.{Known}
+use Rattle.std.proofs.Common.{◌≡◌, [], List, length, sym, subst, arith}
 use Rattle.arc_table.proofs.Ends.{nothing_left}
 use Rattle.trace_run.specs.declared.kept_blocks.KeptBlock.{KeptBlock}
-use Rattle.trace_run.specs.Meeting.{AreWaiting, GaveBackJoined, MayGoOn}
+use Rattle.trace_run.specs.Meeting.{GaveBackJoined, MayGoOn}
 use Rattle.trace_run.proofs.TurningLemmas.{Turning, begun, may-begin, may-turn, turned, turned-all, turning-some}
 use Rattle.trace_run.proofs.ending.all_give_back.Goals as goal
 

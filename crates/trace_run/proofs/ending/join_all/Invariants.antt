@@ -1,4 +1,4 @@
-use Rattle.std.proofs.Common.{◌≡◌, [], vec_len}
+use Rattle.std.proofs.Common.{vec_len}
 use Rattle.std.specs.List.{AllByRecursion}
 use Rattle.turn_table.specs.Places.{Place}
 use Rattle.arc_table.specs.declared.view.Known.{Known}

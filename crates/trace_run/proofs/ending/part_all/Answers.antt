@@ -1,6 +1,5 @@
 use Rattle.std.proofs.Common.{◌≡◌, ◌∷◌, ◌++◌, [], ℕ, List, refl, sym, ap, ◌∙◌, subst, append-nil, append_assoc, arith}
-use Rattle.turn_table.specs.declared.standing.Kept.{Kept}
-use Rattle.turn_table.specs.Places.{IsLast, Place}
+use Rattle.turn_table.specs.Places.{Place}
 use Rattle.arc_table.specs.declared.view.Known.{Known}
 use Rattle.arc_table.proofs.Ends.{nothing_left}
 use Rattle.trace_run.specs.Meeting.{AreLast, MayPart, PartAll}

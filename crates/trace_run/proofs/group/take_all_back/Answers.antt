@@ -1,4 +1,4 @@
-use Rattle.std.proofs.Common.{◌≡◌, ◌++◌, [], ◌∷◌, List, false, Global, Vec, map, refl, sym, ap, ◌∙◌, subst, arith, append_assoc, append-nil}
+use Rattle.std.proofs.Common.{◌≡◌, ◌++◌, [], ◌∷◌, List, false, Global, Vec, map, sym, ap, ◌∙◌, subst, arith, append_assoc, append-nil}
 use Rattle.std.specs.Prelude.{Err, Ok, OnOk, Result, is_err}
 use Rattle.std.proofs.lemmas.Bool.{false≢true}
 use Rattle.turn_table.specs.Places.{Place}

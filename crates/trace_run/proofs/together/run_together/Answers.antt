@@ -1,7 +1,7 @@
 -- The run of several callers, over forks of the pool that is handed in.
 use Rattle.std.proofs.Common.{Bool, refl, sym, subst}
 use Rattle.trace_run.specs.GroupRun.{RanTogether}
-use Rattle.trace_run.proofs.GroupRunLemmas.{fork-failed, group-together, no-op, none-asked, none-ran, ok-both, some-op}
+use Rattle.trace_run.proofs.GroupRunLemmas.{group-together, no-op, none-asked, none-ran, ok-both, some-op}
 use Rattle.trace_run.proofs.together.run_together.Goals as goal
 
 pub returns-then-is_empty-clause-ran : goal.returns-then-is_empty-clause-ran
