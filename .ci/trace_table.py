@@ -558,6 +558,7 @@ REFUSED = [
     Row('a word that run has not', ['run', '--event'], 512, 'arc 1 1 16 1 4096 0 0\n', 2, ['']),
     Row('no block to read', ['gen', '1', '0', '10'], 512, '', 2, ['']),
     Row('no number of reads', ['gen', '1', '8'], 512, '', 2, ['']),
+    Row('a capacity that is not done yet', ['run'], 512, 'arc 1 1 16 1 4096 0 0\ncap 4096\n', 3, ['']),
     Row('a line that lacks a number', ['run'], 512, 'arc 1 1 16 1 4096 0 0\n# none\nread 0 1 0 0\n', 3, ['']),
 ]
 

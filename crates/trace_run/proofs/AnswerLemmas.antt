@@ -10,8 +10,8 @@ use Rattle.blk_ptr.specs.declared.ptr.Ptr.{Ptr}
 use Rattle.trace_text.specs.declared.op.Op.{Op}
 use Rattle.trace_text.specs.declared.reply.Reply.{Reply}
 use Rattle.trace_text.specs.declared.op.Op.TheVariants as ops
-use Rattle.trace_text.specs.declared.reply.Reply.TheVariants.{Read, Kept, Dropped, Refused}
-use Rattle.trace_text.specs.declared.reply.Refusal.TheVariants.{PoolFault, Mismatch, Key, NoMemory, Range, NoHold}
+use Rattle.trace_text.specs.declared.reply.Reply.TheVariants.{Dropped, Refused}
+use Rattle.trace_text.specs.declared.reply.Refusal.TheVariants.{NoHold}
 use Rattle.trace_run.specs.Answers.{Answers, AnswersDrop, keeps, keeps_one, drops, drops_one, kept_reads, dropped_reads}
 use Rattle.trace_run.specs.Effects.{Effect, Answered, GivenBack, PoolRefused, NoEffect, effect_of}
 use Rattle.trace_run.specs.OneCaller.{is_of_block, kept_after, kept_after_drop, kept_after_hold, key_held_by, without_oldest}
@@ -139,18 +139,13 @@ hold_step ptr n caller y x kept NoEffect same = omega arith
 -- and a drop by what it gives back
 drop_step : (n caller y x : ℕ) (kept : List KeptRead) (reply : Reply) → n ≡ caller → AnswersDrop (kept_of_block y kept) 0 y reply
     → kept_of_block x (kept_after_drop y (effect_of reply) kept) + drops_one (effect_of reply) (n == caller && y == x) ≡ kept_of_block x kept
-drop_step n caller y x kept (Read served digest shown) same answer = absurd answer
-drop_step n caller y x kept (Kept served) same answer = absurd answer
 drop_step n caller y x kept Dropped same answer =
     let less = lowered kept y x answer in
     let mine = own n caller y x same in
     omega (arith, less, mine)
-drop_step n caller y x kept (Refused PoolFault) same answer = absurd answer
-drop_step n caller y x kept (Refused (Mismatch found)) same answer = absurd answer
-drop_step n caller y x kept (Refused (Key fault)) same answer = absurd answer
-drop_step n caller y x kept (Refused NoMemory) same answer = absurd answer
-drop_step n caller y x kept (Refused (Range end size)) same answer = absurd answer
 drop_step n caller y x kept (Refused (NoHold missing)) same answer = omega arith
+drop_step n caller y x kept (Refused other) same answer = absurd answer
+drop_step n caller y x kept other same answer = absurd answer
 
 -- an operation and its reply change the kept reads by what they keep and drop
 one_step : (pool_len : ℕ) (image : Option (List ℕ)) (blocks : List Ptr) (caller : ℕ) (kept : List KeptRead) (o : Op) (r : Reply) (x : ℕ)
@@ -163,6 +158,7 @@ one_step pool_len image blocks caller kept (ops.Hold n t y) r x same answer =
 one_step pool_len image blocks caller kept (ops.Drop n y) r x same answer =
     let step = drop_step n caller y x kept r same answer in
     omega (arith, step)
+one_step pool_len image blocks caller kept other r x same answer = absurd answer
 
 pub more_tally : (pool_len : ℕ) (image : Option (List ℕ)) (blocks : List Ptr) (caller : ℕ) (ops : List Op) (replies : List Reply) (kept : List KeptRead) (o : Op) (r : Reply)
     → slice_get ops (length replies) ≡ Some o → IsTally caller (take (length replies) ops) replies kept
@@ -190,10 +186,6 @@ to_answer pool_len image blocks caller earlier replies kept (ops.Drop n y) Dropp
     let here = tally.each y in rw same (omega (arith, here, answer))
 to_answer pool_len image blocks caller earlier replies kept (ops.Drop n y) (Refused (NoHold missing)) tally same answer =
     let here = tally.each y in rw same (answer.0, omega (arith, here, answer.1))
-to_answer pool_len image blocks caller earlier replies kept (ops.Drop n y) (Refused PoolFault) tally same answer = answer
-to_answer pool_len image blocks caller earlier replies kept (ops.Drop n y) (Refused (Mismatch found)) tally same answer = answer
-to_answer pool_len image blocks caller earlier replies kept (ops.Drop n y) (Refused (Key fault)) tally same answer = answer
-to_answer pool_len image blocks caller earlier replies kept (ops.Drop n y) (Refused NoMemory) tally same answer = answer
-to_answer pool_len image blocks caller earlier replies kept (ops.Drop n y) (Refused (Range end size)) tally same answer = answer
-to_answer pool_len image blocks caller earlier replies kept (ops.Drop n y) (Kept served) tally same answer = answer
-to_answer pool_len image blocks caller earlier replies kept (ops.Drop n y) (Read served digest shown) tally same answer = answer
+to_answer pool_len image blocks caller earlier replies kept (ops.Drop n y) (Refused other) tally same answer = answer
+to_answer pool_len image blocks caller earlier replies kept (ops.Drop n y) other tally same answer = answer
+to_answer pool_len image blocks caller earlier replies kept other r tally same answer = answer

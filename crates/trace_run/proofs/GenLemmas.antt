@@ -14,7 +14,7 @@ use Rattle.blk_ptr.specs.Ptr.{IsOf, range_of}
 use Rattle.trace_text.specs.declared.op.Op.{Op}
 use Rattle.trace_text.specs.declared.op.Op.TheVariants as ops
 use Rattle.trace_text.specs.declared.reply.Reply.{Reply}
-use Rattle.trace_text.specs.declared.reply.Reply.TheVariants.{Read, Kept, Dropped, Refused}
+use Rattle.trace_text.specs.declared.reply.Reply.TheVariants.{Read, Refused}
 use Rattle.trace_text.specs.declared.reply.Refusal.TheVariants as refusal
 use Rattle.trace_text.specs.declared.report.Report.{Report}
 use Rattle.trace_text.specs.declared.trace.Trace.{Trace}
@@ -77,8 +77,7 @@ range-below from (suc n) most le = (omega arith, range-below (from + 1) n most (
 -- a read with an empty window
 abbrev IsMadeRead : Op → Type 0
 IsMadeRead (ops.Read n t x window) = window ≡ empty_window
-IsMadeRead (ops.Hold n t x) = ⊥
-IsMadeRead (ops.Drop n x) = ⊥
+IsMadeRead other = ⊥
 
 abbrev IsMadeBlock : ℕ → Ptr → Type 0
 IsMadeBlock blocks ptr = (i : ℕ) × (i < blocks) × (ptr ≡ generated_block i)
@@ -116,24 +115,21 @@ valid-key blocks i fault.BirthZero lt fails = absurd (omega (arith, fails.3))
 no-refusal : (blocks : ℕ) (ptr : Ptr) (reply : Reply) → IsMadeBlock blocks ptr → is_pool_fault reply ≡ false
     → AnswersRead (blocks * 512) (Some (replicate (blocks * 512) 0)) ptr empty_window reply → is_refusal reply ≡ false
 no-refusal blocks ptr (Read served digest shown) made served_well answer = refl
-no-refusal blocks ptr (Kept served) made served_well answer = refl
-no-refusal blocks ptr Dropped made served_well answer = refl
 no-refusal blocks ptr (Refused refusal.PoolFault) made served_well answer = absurd (false≢true (sym served_well))
 no-refusal blocks ptr (Refused (refusal.Mismatch digest)) made served_well answer =
     absurd (answer.1.1.plain.1 (rw made.2 (of-zeros blocks made.0 made.1)))
 no-refusal blocks ptr (Refused (refusal.Key why)) made served_well answer =
     absurd (valid-key blocks made.0 why made.1 (subst (λ (p : Ptr). IsFirstFault (blocks * 512) p.key why) made.2 answer.1))
-no-refusal blocks ptr (Refused refusal.NoMemory) made served_well answer = absurd answer
 no-refusal blocks ptr (Refused (refusal.Range end size)) made served_well answer = absurd (omega (arith, answer.0, answer.2))
-no-refusal blocks ptr (Refused (refusal.NoHold block)) made served_well answer = absurd answer
+no-refusal blocks ptr (Refused other) made served_well answer = absurd answer
+no-refusal blocks ptr other made served_well answer = refl
 
 answered : (seed blocks ops : ℕ) (trace : Trace) (earlier : List Op) (replied : List Reply) (op : Op) (reply : Reply) → IsGenerated seed blocks ops trace → IsMadeRead op → is_pool_fault reply ≡ false
     → Answers (blocks * 512) (Some (replicate (blocks * 512) 0)) trace.blocks earlier replied op reply → is_refusal reply ≡ false
 answered seed blocks count trace earlier replied (ops.Read n t x window) reply made read fair answer =
     no-refusal blocks answer.0 reply (all-at (IsMadeBlock blocks) trace.blocks x answer.0 (made-blocks seed blocks count trace made) answer.1) fair
     (subst (λ (w : Window). AnswersRead (blocks * 512) (Some (replicate (blocks * 512) 0)) answer.0 w reply) read answer.2)
-answered seed blocks count trace earlier replied (ops.Hold n t x) reply made read fair answer = absurd read
-answered seed blocks count trace earlier replied (ops.Drop n x) reply made read fair answer = absurd read
+answered seed blocks count trace earlier replied other reply made read fair answer = absurd read
 
 not-counted : (replies : List Reply) (k : ℕ) (reply : Reply) → count_by is_pool_fault replies ≡ 0 → slice_get replies k ≡ Some reply → is_pool_fault reply ≡ false
 not-counted replies k reply none at = elim (cases_true (is_pool_fault reply)) [
@@ -171,8 +167,7 @@ made-reply image blocks (ops.Read n t x window) plain reply read is = elim is [
   | inl same ↦ same
   | inr other ↦ empty-shows image other.0 window plain reply read other.2
 ]
-made-reply image blocks (ops.Hold n t x) plain reply read is = is
-made-reply image blocks (ops.Drop n x) plain reply read is = is
+made-reply image blocks other plain reply read is = is
 
 made-replies : (image : List ℕ) (blocks : List Ptr) (os : List Op) (ps rs : List Reply) → AllByRecursion IsMadeRead os → ArePlainReplies image blocks os ps rs → rs ≡ ps
 made-replies image blocks [] [] [] reads are = refl

@@ -200,21 +200,17 @@ stand-hold n t ptr (PoolRefused call) = record { line = (tt, tt); count = refl }
 stand-hold n t ptr NoEffect = record { line = tt; count = refl }
 
 stand-dropping : (n x had gave : ℕ) (kept : List KeptRead) (reply : Reply) → AnswersDrop had gave x reply → Stand (acts_of_dropping n x kept (effect_of reply)) (length (calls_of (effect_of reply)))
-stand-dropping n x had gave kept (replies.Read from digest shown) answer = absurd answer
-stand-dropping n x had gave kept (replies.Kept from) answer = absurd answer
 stand-dropping n x had gave kept replies.Dropped answer = stand-drop n (oldest_key x kept)
-stand-dropping n x had gave kept (replies.Refused refusal.PoolFault) answer = absurd answer
-stand-dropping n x had gave kept (replies.Refused (refusal.Mismatch digest)) answer = absurd answer
-stand-dropping n x had gave kept (replies.Refused (refusal.Key fault)) answer = absurd answer
-stand-dropping n x had gave kept (replies.Refused refusal.NoMemory) answer = absurd answer
-stand-dropping n x had gave kept (replies.Refused (refusal.Range end size)) answer = absurd answer
 stand-dropping n x had gave kept (replies.Refused (refusal.NoHold block)) answer = record { line = tt; count = refl }
+stand-dropping n x had gave kept (replies.Refused other) answer = absurd answer
+stand-dropping n x had gave kept other answer = absurd answer
 
 module _ (len : ℕ) (image : Option (List ℕ)) (blocks : List Ptr) where
   stand-line : (kept : List KeptRead) (op : Op) (reply : Reply) → AnswersNow len image blocks kept op reply → Stand (acts_of blocks kept op reply) (length (calls_of (effect_of reply)))
   stand-line kept (ops.Read n t x window) reply answer = rw answer.1 (stand-read n t answer.0 (effect_of reply))
   stand-line kept (ops.Hold n t x) reply answer = rw answer.1 (stand-hold n t answer.0 (effect_of reply))
   stand-line kept (ops.Drop n x) reply answer = stand-dropping n x (kept_of_block x kept) 0 kept reply answer
+  stand-line kept other reply answer = absurd answer
 
   stand-lines : (kept : List KeptRead) (os : List Op) (rs : List Reply) → AreAnswered len image blocks kept os rs → Stand (acts_of_all blocks kept os rs) (length (calls_of_all rs))
   stand-lines kept [] [] answers = record { line = tt; count = refl }

@@ -40,6 +40,7 @@ pub mod RestAlone
 pub mod RestLemmas
 pub mod RunLemmas
 pub mod ServeLemmas
+pub mod SourceLemmas
 pub mod StreamLemmas
 pub mod TakenLemmas
 pub mod TellLemmas

@@ -33,7 +33,7 @@ use Rattle.trace_text.specs.declared.op.Op.TheVariants as ops
 use Rattle.trace_text.specs.declared.reply.Refusal.{Refusal}
 use Rattle.trace_text.specs.declared.reply.Refusal.TheVariants as refusals
 use Rattle.trace_text.specs.declared.reply.Reply.{Reply}
-use Rattle.trace_text.specs.declared.reply.Reply.TheVariants.{Dropped, Read, Kept as KeptReply, Refused}
+use Rattle.trace_text.specs.declared.reply.Reply.TheVariants.{Dropped, Refused}
 use Rattle.trace_run.specs.KeptReads.{KeptRead}
 use Rattle.trace_run.specs.Access as access
 use Rattle.trace_run.specs.Access.{Access, events_of_answered, events_of_drop, held_key as access_key, source_of}
@@ -201,13 +201,13 @@ named-drop blocks x NoEffect kept all = all
 
 -- so it is after a line too
 pub named-after : (blocks : List Ptr) (op : Op) (reply : Reply) (kept : List KeptRead) → AreNamed blocks kept → AreNamed blocks (kept_after blocks op reply kept)
-named-after blocks (ops.Read n t x window) reply kept all = all
 named-after blocks (ops.Hold n t x) reply kept all = go (slice_get blocks x) refl
   where
     go : (o : Option Ptr) → slice_get blocks x ≡ o → AreNamed blocks (option_map_or (λ ptr. kept_after_hold x ptr (effect_of reply) kept) o kept)
     go None is = all
     go (Some ptr) is = named-hold blocks x ptr (effect_of reply) kept is all
 named-after blocks (ops.Drop n x) reply kept all = named-drop blocks x (effect_of reply) kept all
+named-after blocks other reply kept all = all
 
 oldest-named : (blocks : List Ptr) (x : ℕ) (kept : List KeptRead) (k : Key) → AreNamed blocks kept → oldest_key x kept ≡ Some k → (ptr : Ptr) × (slice_get blocks x ≡ Some ptr) × (k ≡ ptr.key)
 oldest-named blocks x [] k all is = let never : ◌≡◌ {A = Option Key} None (Some k) = is in cc
@@ -277,15 +277,10 @@ module _ {C P : Type 0} (g : Config) (pools : Ghosts P) (device : ℕ) (blocks :
   drop-acts : (n x had gave : ℕ) (kept : List KeptRead) (reply : Reply) → AreNamed blocks kept → AnswersDrop had gave x reply → Drops g (oldest_key x kept) p q → (reply ≢ Dropped → oldest_key x kept ≡ None)
       → DidActs g device (shard_of_line g.shards blocks (ops.Drop n x)) (acts_of_dropping p.number x kept (effect_of reply)) (events_of_dropping p.number x kept (effect_of reply)) p q
   drop-acts n x had gave kept Dropped named answer drops none = drop-did n x kept (oldest_key x kept) refl named drops
-  drop-acts n x had gave kept (Read served digest shown) named answer drops none = absurd answer
-  drop-acts n x had gave kept (KeptReply served) named answer drops none = absurd answer
-  drop-acts n x had gave kept (Refused refusals.PoolFault) named answer drops none = absurd answer
-  drop-acts n x had gave kept (Refused (refusals.Mismatch found)) named answer drops none = absurd answer
-  drop-acts n x had gave kept (Refused (refusals.Key why)) named answer drops none = absurd answer
-  drop-acts n x had gave kept (Refused refusals.NoMemory) named answer drops none = absurd answer
-  drop-acts n x had gave kept (Refused (refusals.Range end size)) named answer drops none = absurd answer
   drop-acts n x had gave kept (Refused (refusals.NoHold block)) named answer drops none =
       acts-none g device p q (shard_of_line g.shards blocks (ops.Drop n x)) (subst (λ (o : Option Key). Drops g o p q) (none (λ is. cc)) drops)
+  drop-acts n x had gave kept (Refused other) named answer drops none = absurd answer
+  drop-acts n x had gave kept other named answer drops none = absurd answer
 
   pub drop-line : (n x : ℕ) (kept now : List KeptRead) (reply : Reply) → n ≡ p.number → AreNamed blocks kept → AnswersDrop (kept_of_block x kept) 0 x reply → now ≡ kept_after_drop x (effect_of reply) kept
       → Drops g (oldest_key x kept) p q → (reply ≢ Dropped → oldest_key x kept ≡ None) → calls_of (effect_of reply) ≡ [] → DidLine g pools device blocks (ops.Drop n x) reply (at p kept a) (at q now a)

@@ -92,7 +92,6 @@ module _ (shards : ℕ) (blocks : List Ptr) (i : ℕ) where
 
   pub kept-here : (op : Op) (reply : Reply) (kept : List KeptRead) → is_in_shard shards blocks i op ≡ true
       → kept_in_shard shards blocks i (kept_after blocks op reply kept) ≡ kept_after blocks op reply (kept_in_shard shards blocks i kept)
-  kept-here (ops.Read n t x window) reply kept is = refl
   kept-here (ops.Hold n t x) reply kept is = go (slice_get blocks x)
     where
       go : (o : Option Ptr) → kept_in_shard shards blocks i (option_map_or (λ ptr. kept_after_hold x ptr (effect_of reply) kept) o kept)
@@ -100,21 +99,20 @@ module _ (shards : ℕ) (blocks : List Ptr) (i : ℕ) where
       go None = refl
       go (Some ptr) = hold-here x ptr (effect_of reply) kept is
   kept-here (ops.Drop n x) reply kept is = drop-here x (effect_of reply) kept is
+  kept-here other reply kept is = refl
 
   pub kept-else : (op : Op) (reply : Reply) (kept : List KeptRead) → is_in_shard shards blocks i op ≡ false
       → kept_in_shard shards blocks i (kept_after blocks op reply kept) ≡ kept_in_shard shards blocks i kept
-  kept-else (ops.Read n t x window) reply kept is = refl
   kept-else (ops.Hold n t x) reply kept is = go (slice_get blocks x)
     where
       go : (o : Option Ptr) → kept_in_shard shards blocks i (option_map_or (λ ptr. kept_after_hold x ptr (effect_of reply) kept) o kept) ≡ kept_in_shard shards blocks i kept
       go None = refl
       go (Some ptr) = hold-else x ptr (effect_of reply) kept is
   kept-else (ops.Drop n x) reply kept is = drop-else x (effect_of reply) kept is
+  kept-else other reply kept is = refl
 
   pub events-here : (s : PlainShard) (op : Op) (reply : Reply) (kept : List KeptRead) → is_in_shard shards blocks i op ≡ true
       → events_of blocks s kept op reply ≡ events_of blocks s (kept_in_shard shards blocks i kept) op reply
-  events-here s (ops.Read n t x window) reply kept is = refl
-  events-here s (ops.Hold n t x) reply kept is = refl
   events-here s (ops.Drop n x) reply kept is = go (effect_of reply)
     where
       go : (e : Effect) → events_of_dropping n x kept e ≡ events_of_dropping n x (kept_in_shard shards blocks i kept) e
@@ -122,6 +120,7 @@ module _ (shards : ℕ) (blocks : List Ptr) (i : ℕ) where
       go GivenBack = ap (λ (o : Option KeptRead). events_of_drop n (option_and_then (λ (read : KeptRead). read.held) o)) (find-here x kept is)
       go (PoolRefused call) = refl
       go NoEffect = refl
+  events-here s other reply kept is = refl
 
   -- ---- the shards after a line
 

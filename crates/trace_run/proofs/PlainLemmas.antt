@@ -109,8 +109,6 @@ plain-read image s ptr window (Read served digest shown) call answer named read 
     let valid = valid-key (length image) ptr.key answer.1 in
     let fine = accepted image ptr (access_of s ptr) call read.of (subst (λ f. IsNext (calls_from f) call) named next) in
     rw (inside, valid, fine, named, answer.2, read.range) refl
-plain-read image s ptr window (Kept served) call answer named read next = absurd answer
-plain-read image s ptr window Dropped call answer named read next = absurd answer
 plain-read image s ptr window (Refused refusal.PoolFault) call answer named read next =
     rw (least-test ptr.key.size (window.at + window.len) answer.0, valid-key (length image) ptr.key answer.1, failed image ptr (access_of s ptr) call named next) refl
 plain-read image s ptr window (Refused (refusal.Mismatch found)) call answer named read next =
@@ -118,43 +116,35 @@ plain-read image s ptr window (Refused (refusal.Mismatch found)) call answer nam
     rw (least-test ptr.key.size (window.at + window.len) answer.0, valid-key (length image) ptr.key answer.1.0, mismatched image ptr (access_of s ptr) call found named next miss.plain.0 miss.other) refl
 plain-read image s ptr window (Refused (refusal.Key why)) call answer named read next =
     rw (least-test ptr.key.size (window.at + window.len) answer.0, first-key (length image) ptr.key why answer.1) refl
-plain-read image s ptr window (Refused refusal.NoMemory) call answer named read next = absurd answer
 plain-read image s ptr window (Refused (refusal.Range end size)) call answer named read next =
     let past : ptr.key.size < window.at + window.len = omega (arith, answer.0, answer.1, answer.2) in
     rw (less-test ptr.key.size (window.at + window.len) past, answer.0, answer.1) refl
-plain-read image s ptr window (Refused (refusal.NoHold block)) call answer named read next = absurd answer
+plain-read image s ptr window (Refused other) call answer named read next = absurd answer
+plain-read image s ptr window other call answer named read next = absurd answer
 
 plain-hold : (image : List ℕ) (s : PlainShard) (ptr : Ptr) (reply : Reply) (call : Call) → AnswersHold (length image) (Some image) ptr reply
     → NamesSource (access_of s ptr) (effect_of reply) → KeepsImage image ptr reply → IsNext (calls_of (effect_of reply)) call → reply ≡ reply_to_hold image s ptr call
-plain-hold image s ptr (Read served digest shown) call answer named read next = absurd answer
 plain-hold image s ptr (Kept served) call answer named read next =
     let fine = accepted image ptr (access_of s ptr) call read (subst (λ f. IsNext (calls_from f) call) named next) in
     rw (valid-key (length image) ptr.key answer.0, fine, named) refl
-plain-hold image s ptr Dropped call answer named read next = absurd answer
 plain-hold image s ptr (Refused refusal.PoolFault) call answer named read next = rw (valid-key (length image) ptr.key answer, failed image ptr (access_of s ptr) call named next) refl
 plain-hold image s ptr (Refused (refusal.Mismatch found)) call answer named read next =
     rw (valid-key (length image) ptr.key answer.0, mismatched image ptr (access_of s ptr) call found named next answer.1.plain.0 answer.1.other) refl
 plain-hold image s ptr (Refused (refusal.Key why)) call answer named read next = rw (first-key (length image) ptr.key why answer) refl
-plain-hold image s ptr (Refused refusal.NoMemory) call answer named read next = absurd answer
-plain-hold image s ptr (Refused (refusal.Range end size)) call answer named read next = absurd answer
-plain-hold image s ptr (Refused (refusal.NoHold block)) call answer named read next = absurd answer
+plain-hold image s ptr (Refused other) call answer named read next = absurd answer
+plain-hold image s ptr other call answer named read next = absurd answer
 
 plain-drop : (x : ℕ) (kept : List KeptRead) (reply : Reply) → AnswersDrop (kept_of_block x kept) 0 x reply → reply ≡ reply_to_drop x kept
-plain-drop x kept (Read served digest shown) answer = absurd answer
-plain-drop x kept (Kept served) answer = absurd answer
 plain-drop x kept Dropped answer = elim (cases_true (is_some (oldest_kept x kept))) [
   | inl there ↦ rw there refl
   | inr absent ↦ absurd (omega (arith, answer, (absent-counted x kept absent).0))
 ]
-plain-drop x kept (Refused refusal.PoolFault) answer = absurd answer
-plain-drop x kept (Refused (refusal.Mismatch found)) answer = absurd answer
-plain-drop x kept (Refused (refusal.Key why)) answer = absurd answer
-plain-drop x kept (Refused refusal.NoMemory) answer = absurd answer
-plain-drop x kept (Refused (refusal.Range end size)) answer = absurd answer
 plain-drop x kept (Refused (refusal.NoHold missing)) answer = elim (cases_true (is_some (oldest_kept x kept))) [
   | inl there ↦ absurd (omega (arith, answer.1, found-counted x kept there))
   | inr absent ↦ rw (absent, answer.0) refl
 ]
+plain-drop x kept (Refused other) answer = absurd answer
+plain-drop x kept other answer = absurd answer
 
 pub plain-line : (image : List ℕ) (blocks : List Ptr) (s : PlainShard) (kept : List KeptRead) (op : Op) (reply : Reply) → AnswersNow (length image) (Some image) blocks kept op reply
     → IsFoundAs blocks s op reply → IsReadOfImage image blocks op reply → IsPlainLine image blocks s kept op reply
@@ -163,6 +153,7 @@ plain-line image blocks s kept (ops.Read n t x window) reply answer found read =
 plain-line image blocks s kept (ops.Hold n t x) reply answer found read = λ call next.
     rw answer.1 (plain-hold image s answer.0 reply call answer.2 (rw answer.1 at found) (rw answer.1 at read) next)
 plain-line image blocks s kept (ops.Drop n x) reply answer found read = λ call next. plain-drop x kept reply answer
+plain-line image blocks s kept other reply answer found read = absurd answer
 
 -- ---- all replies
 

@@ -15,7 +15,7 @@ use Rattle.arc_core.specs.PlainShard.{PlainShard}
 use Rattle.trace_text.specs.declared.op.Op.{Op}
 use Rattle.trace_text.specs.declared.op.Op.TheVariants as ops
 use Rattle.trace_text.specs.declared.reply.Reply.{Reply}
-use Rattle.trace_text.specs.declared.reply.Reply.TheVariants.{Read, Kept, Dropped, Refused}
+use Rattle.trace_text.specs.declared.reply.Reply.TheVariants.{Read, Kept, Refused}
 use Rattle.trace_text.specs.declared.reply.Refusal.{Refusal}
 use Rattle.trace_text.specs.declared.reply.Refusal.TheVariants as refusal
 use Rattle.dbuf_state.specs.declared.window.Window.{Window}
@@ -49,25 +49,20 @@ pub record IsPlainlyServed (image : List ℕ) (blocks : List Ptr) (s : PlainShar
 none-came : (r : Refusal) → CameFromPool (effect_of_refusal r) → ⊥
 none-came refusal.PoolFault came = came
 none-came (refusal.Mismatch found) came = came
-none-came (refusal.Key why) came = came
-none-came refusal.NoMemory came = came
-none-came (refusal.Range end size) came = came
-none-came (refusal.NoHold block) came = came
+none-came other came = came
 
 module _ (image : List ℕ) where
   read-came : (ptr : Ptr) (window : Window) (reply : Reply) → AnswersRead (length image) (Some image) ptr window reply → (CameFromPool (effect_of reply) → ReadsImage image ptr window reply)
       → CameFromPool (effect_of reply) → IsOf (range_of image ptr.key) ptr
   read-came ptr window (Read from digest shown) answer range came = (range came).of
-  read-came ptr window (Kept from) answer range came = absurd answer
-  read-came ptr window Dropped answer range came = absurd came
   read-came ptr window (Refused r) answer range came = absurd (none-came r came)
+  read-came ptr window other answer range came = absurd answer
 
   hold-came : (ptr : Ptr) (reply : Reply) → AnswersHold (length image) (Some image) ptr reply → (CameFromPool (effect_of reply) → KeepsImage image ptr reply)
       → CameFromPool (effect_of reply) → IsOf (range_of image ptr.key) ptr
-  hold-came ptr (Read from digest shown) answer range came = absurd answer
   hold-came ptr (Kept from) answer range came = range came
-  hold-came ptr Dropped answer range came = absurd came
   hold-came ptr (Refused r) answer range came = absurd (none-came r came)
+  hold-came ptr other answer range came = absurd answer
 
   brings-dropped : (n : ℕ) (o : Option Key) → AllByRecursion (Brings image) (events_of_drop n o)
   brings-dropped n None = tt
@@ -121,6 +116,7 @@ module _ (image : List ℕ) where
       let range : CameFromPool (effect_of reply) → KeepsImage image is.answer.0 reply = rw at at is.range in
       rw at (hold-brings n t s is.answer.0 (effect_of reply) (rw at at is.found) (hold-came is.answer.0 reply is.answer.2 range))
   line-brings blocks s kept (ops.Drop n x) reply is = drop-brings n x kept (effect_of reply)
+  line-brings blocks s kept other reply is = tt
 
   -- ---- what a read shows
 
@@ -179,9 +175,8 @@ module _ (image : List ℕ) where
           reply_is = λ i. Read (c.cached i) (answer.2 i) (c.window_is i);
         })
       ]
-  plain-or-collides s ptr window (Kept from) call answer named told range = absurd answer
-  plain-or-collides s ptr window Dropped call answer named told range = absurd answer
   plain-or-collides s ptr window (Refused r) call answer named told range = inl tt
+  plain-or-collides s ptr window other call answer named told range = absurd answer
 
   -- ---- the reply
 
@@ -194,9 +189,8 @@ module _ (image : List ℕ) where
       go access.Hit hit is = record { size = range-size ptr.key answer.0; digest = told-resident image s ptr.key ptr.digest told (access-hit s ptr hit) }
       go (access.Past other) hit is = range (subst IsFromPool (sym is) tt)
       go access.Miss hit is = range (subst IsFromPool (sym is) tt)
-  keeps-told s ptr (Read from digest shown) answer named told range = absurd answer
-  keeps-told s ptr Dropped answer named told range = absurd answer
   keeps-told s ptr (Refused r) answer named told range = tt
+  keeps-told s ptr other answer named told range = absurd answer
 
   pub line-plain : (blocks : List Ptr) (s : PlainShard) (kept : List KeptRead) (op : Op) (reply : Reply) (call : Call) → IsPlainlyServed image blocks s kept op reply → AreTold image s.entries
       → IsNext (calls_of (effect_of reply)) call → IsPlainReply image blocks op (reply_to image blocks s kept op call) reply
@@ -220,3 +214,4 @@ module _ (image : List ℕ) where
       let keeps : IsReadOfImage image blocks (ops.Hold n t x) reply = rw at (keeps-told s ptr reply is.answer.2 (rw at at is.found) told range) in
       plain-line image blocks s kept (ops.Hold n t x) reply is.answer is.found keeps call next
   line-plain blocks s kept (ops.Drop n x) reply call is told next = plain-line image blocks s kept (ops.Drop n x) reply is.answer is.found tt call next
+  line-plain blocks s kept other reply call is told next = absurd is.answer

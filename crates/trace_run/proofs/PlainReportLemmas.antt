@@ -43,8 +43,7 @@ plain-alike image blocks (ops.Read n t x window) plain reply is = elim is [
   | inl same ↦ equal-alike plain reply (sym same)
   | inr other ↦ record { effect = ap effect_of other.2.plain_is ∙ sym (ap effect_of other.2.reply_is); refusal = ap is_refusal other.2.plain_is ∙ sym (ap is_refusal other.2.reply_is) }
 ]
-plain-alike image blocks (ops.Hold n t x) plain reply is = equal-alike plain reply (sym is)
-plain-alike image blocks (ops.Drop n x) plain reply is = equal-alike plain reply (sym is)
+plain-alike image blocks other plain reply is = equal-alike plain reply (sym is)
 
 all-alike : (image : List ℕ) (blocks : List Ptr) (os : List Op) (ps rs : List Reply) → ArePlainReplies image blocks os ps rs → AreAlike ps rs
 all-alike image blocks [] [] [] are = tt
@@ -60,11 +59,12 @@ pub alike-events : (blocks : List Ptr) (s : PlainShard) (kept : List KeptRead) (
 alike-events blocks s kept (ops.Read n t x window) a b same = ap (λ (e : Effect). option_map_or (λ ptr. events_of_read n t s ptr e) (slice_get blocks x) []) same
 alike-events blocks s kept (ops.Hold n t x) a b same = ap (λ (e : Effect). option_map_or (λ ptr. events_of_hold n t s ptr e) (slice_get blocks x) []) same
 alike-events blocks s kept (ops.Drop n x) a b same = ap (λ (e : Effect). events_of_dropping n x kept e) same
+alike-events blocks s kept other a b same = refl
 
 pub alike-kept : (blocks : List Ptr) (kept : List KeptRead) (op : Op) (a b : Reply) → effect_of a ≡ effect_of b → kept_after blocks op a kept ≡ kept_after blocks op b kept
-alike-kept blocks kept (ops.Read n t x window) a b same = refl
 alike-kept blocks kept (ops.Hold n t x) a b same = ap (λ (e : Effect). option_map_or (λ ptr. kept_after_hold x ptr e kept) (slice_get blocks x) kept) same
 alike-kept blocks kept (ops.Drop n x) a b same = ap (λ (e : Effect). kept_after_drop x e kept) same
+alike-kept blocks kept other a b same = refl
 
 alike-all : (blocks : List Ptr) (s : PlainShard) (kept : List KeptRead) (os : List Op) (ps rs : List Reply) → AreAlike ps rs
     → (events_of_all blocks s kept os ps ≡ events_of_all blocks s kept os rs) × (kept_after_all blocks kept os ps ≡ kept_after_all blocks kept os rs)

@@ -29,6 +29,7 @@ pub one-caller : (sizes : Config) (blocks : List Ptr) (op : Op) → sizes.caller
 one-caller sizes blocks (ops.Read n t x w) one possible = omega (arith, possible.0.0)
 one-caller sizes blocks (ops.Hold n t x) one possible = omega (arith, possible.0.0)
 one-caller sizes blocks (ops.Drop n x) one possible = omega (arith, possible.0.0)
+one-caller sizes blocks other one possible = refl
 
 pub possible-at : (sizes : Config) (blocks : List Ptr) (os : List Op) (k : ℕ) (op : Op) → All (IsPossible sizes blocks) os → slice_get os k ≡ Some op → IsPossible sizes blocks op
 possible-at sizes blocks os k op all at =

@@ -102,6 +102,7 @@ mine-of blocks s kept (ops.Hold n t x) reply = go (slice_get blocks x)
     go None = tt
     go (Some ptr) = mine-hold n t s ptr (effect_of reply)
 mine-of blocks s kept (ops.Drop n x) reply = mine-dropping n x kept (effect_of reply)
+mine-of blocks s kept other reply = tt
 
 mine-all : (n : ℕ) (blocks : List Ptr) (s : PlainShard) (kept : List KeptRead) (os : List Op) (replies : List Reply) → AllByRecursion (λ op. caller_of op ≡ n) os
     → AllByRecursion (IsMine n) (events_of_all blocks s kept os replies)
@@ -161,6 +162,7 @@ act-of blocks kept (ops.Hold n t x) reply = go (slice_get blocks x)
     go None = tt
     go (Some ptr) = act-hold n t ptr (effect_of reply)
 act-of blocks kept (ops.Drop n x) reply = act-dropping n x kept (effect_of reply)
+act-of blocks kept other reply = tt
 
 act-all : (n : ℕ) (blocks : List Ptr) (kept : List KeptRead) (os : List Op) (replies : List Reply) → AllByRecursion (λ op. caller_of op ≡ n) os
     → AllByRecursion (IsActOf n) (acts_of_all blocks kept os replies)

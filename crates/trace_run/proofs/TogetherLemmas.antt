@@ -41,14 +41,12 @@ drops-none (PoolRefused call) = refl
 drops-none NoEffect = refl
 
 other-keeps : (n x : ℕ) (o : Op) (r : Reply) → caller_of o ≢ n → keeps n x o r ≡ 0
-other-keeps n x (ops.Read m t y window) r other = refl
 other-keeps n x (ops.Hold m t y) r other = rw (ne_eqb m n other) (keeps-none (effect_of r))
-other-keeps n x (ops.Drop m y) r other = refl
+other-keeps n x op r other = refl
 
 other-drops : (n x : ℕ) (o : Op) (r : Reply) → caller_of o ≢ n → drops n x o r ≡ 0
-other-drops n x (ops.Read m t y window) r other = refl
-other-drops n x (ops.Hold m t y) r other = refl
 other-drops n x (ops.Drop m y) r other = rw (ne_eqb m n other) (drops-none (effect_of r))
+other-drops n x op r other = refl
 
 other-tally : (n : ℕ) (all : List Op) (replied : List Reply) (kept : List KeptRead) (o : Op) (r : Reply) → slice_get all (length replied) ≡ Some o → caller_of o ≢ n
     → IsTally n (take (length replied) all) replied kept → IsTally n (take (length replied + 1) all) (replied ++ r ∷ []) kept

@@ -42,6 +42,7 @@ abbrev pub acts_of : List Ptr → List KeptRead → Op → Reply → List Act
 acts_of blocks kept (ops.Read n t x window) reply = option_map_or (λ ptr. acts_of_read n t ptr (effect_of reply)) (slice_get blocks x) []
 acts_of blocks kept (ops.Hold n t x) reply = option_map_or (λ ptr. acts_of_hold n t ptr (effect_of reply)) (slice_get blocks x) []
 acts_of blocks kept (ops.Drop n x) reply = acts_of_dropping n x kept (effect_of reply)
+acts_of blocks kept other reply = []
 
 -- all operations of one caller with their replies, one after another
 abbrev pub acts_of_all : List Ptr → List KeptRead → List Op → List Reply → List Act

@@ -17,17 +17,13 @@ pub record ShowsRange (image : List ℕ) (ptr : Ptr) (window : Window) (shown : 
 -- an answered read shows the bytes that the image has in its key's range, and a kept one is of these bytes
 abbrev pub ReadsImage : (image : List ℕ) → Ptr → Window → Reply → Type 0
 ReadsImage image ptr window (replies.Read served digest shown) = ShowsRange image ptr window shown
-ReadsImage image ptr window (replies.Kept served) = Unit {0}
-ReadsImage image ptr window replies.Dropped = Unit {0}
-ReadsImage image ptr window (replies.Refused refusal) = Unit {0}
+ReadsImage image ptr window other = Unit {0}
 
 abbrev pub KeepsImage : (image : List ℕ) → Ptr → Reply → Type 0
-KeepsImage image ptr (replies.Read served digest shown) = Unit {0}
 KeepsImage image ptr (replies.Kept served) = IsOf (range_of image ptr.key) ptr
-KeepsImage image ptr replies.Dropped = Unit {0}
-KeepsImage image ptr (replies.Refused refusal) = Unit {0}
+KeepsImage image ptr other = Unit {0}
 
 abbrev pub IsReadOfImage : (image : List ℕ) → List Ptr → Op → Reply → Type 0
 IsReadOfImage image blocks (ops.Read n t x window) reply = IfSome (slice_get blocks x) (λ ptr. ReadsImage image ptr window reply)
 IsReadOfImage image blocks (ops.Hold n t x) reply = IfSome (slice_get blocks x) (λ ptr. KeepsImage image ptr reply)
-IsReadOfImage image blocks (ops.Drop n x) reply = Unit {0}
+IsReadOfImage image blocks other reply = Unit {0}

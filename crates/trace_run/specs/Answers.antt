@@ -7,7 +7,7 @@ use Rattle.trace_text.specs.declared.op.Op.TheVariants as ops
 use Rattle.trace_text.specs.declared.reply.Reply.{Reply}
 use Rattle.trace_text.specs.declared.reply.Reply.TheVariants.{Read, Kept, Dropped, Refused}
 use Rattle.trace_text.specs.declared.reply.Refusal.{Refusal}
-use Rattle.trace_text.specs.declared.reply.Refusal.TheVariants.{PoolFault, Mismatch, Key, NoMemory, Range, NoHold}
+use Rattle.trace_text.specs.declared.reply.Refusal.TheVariants.{PoolFault, Mismatch, Key, Range, NoHold}
 use Rattle.dbuf_state.specs.declared.window.Window.{Window}
 use Rattle.trace_run.specs.Effects.{Effect, Answered, GivenBack, PoolRefused, NoEffect, effect_of}
 use Rattle.vdev_io.specs.Calls.{is_failed}
@@ -26,18 +26,15 @@ abbrev pub IsReadRefusal : ℕ → Option (List ℕ) → Ptr → Refusal → Typ
 IsReadRefusal pool_len image ptr PoolFault = IsValid pool_len ptr.key
 IsReadRefusal pool_len image ptr (Mismatch found) = IsValid pool_len ptr.key × IsMismatch image ptr found
 IsReadRefusal pool_len image ptr (Key fault) = IsFirstFault pool_len ptr.key fault
-IsReadRefusal pool_len image ptr NoMemory = ⊥
-IsReadRefusal pool_len image ptr (Range end size) = ⊥
-IsReadRefusal pool_len image ptr (NoHold block) = ⊥
+IsReadRefusal pool_len image ptr other = ⊥
 
 -- the same where a window is asked for: one that ends past the block's size is refused before the key is looked at
 abbrev pub IsWindowRefusal : ℕ → Option (List ℕ) → Ptr → Window → Refusal → Type 0
 IsWindowRefusal pool_len image ptr window PoolFault = IsInside window ptr.key.size × IsReadRefusal pool_len image ptr PoolFault
 IsWindowRefusal pool_len image ptr window (Mismatch found) = IsInside window ptr.key.size × IsReadRefusal pool_len image ptr (Mismatch found)
 IsWindowRefusal pool_len image ptr window (Key fault) = IsInside window ptr.key.size × IsReadRefusal pool_len image ptr (Key fault)
-IsWindowRefusal pool_len image ptr window NoMemory = ⊥
 IsWindowRefusal pool_len image ptr window (Range end size) = (end ≡ window.at + window.len) × (size ≡ ptr.key.size) × (size < end)
-IsWindowRefusal pool_len image ptr window (NoHold block) = ⊥
+IsWindowRefusal pool_len image ptr window other = ⊥
 
 -- the answers to a read that shows a window
 abbrev pub AnswersRead : ℕ → Option (List ℕ) → Ptr → Window → Reply → Type 0
@@ -45,15 +42,13 @@ AnswersRead pool_len image ptr window (Read served digest shown) =
     IsInside window ptr.key.size × IsValid pool_len ptr.key × (digest ≡ ptr.digest)
     × ((bytes : List ℕ) × IsReadOf image ptr served bytes × (shown ≡ window_of window bytes))
 AnswersRead pool_len image ptr window (Refused refusal) = IsWindowRefusal pool_len image ptr window refusal
-AnswersRead pool_len image ptr window (Kept served) = ⊥
-AnswersRead pool_len image ptr window Dropped = ⊥
+AnswersRead pool_len image ptr window other = ⊥
 
 -- the answers to a read that is kept: one that is answered has the bytes of its block, though it shows none
 abbrev pub AnswersHold : ℕ → Option (List ℕ) → Ptr → Reply → Type 0
 AnswersHold pool_len image ptr (Kept served) = IsValid pool_len ptr.key × ((bytes : List ℕ) × IsReadOf image ptr served bytes)
 AnswersHold pool_len image ptr (Refused refusal) = IsReadRefusal pool_len image ptr refusal
-AnswersHold pool_len image ptr (Read served digest shown) = ⊥
-AnswersHold pool_len image ptr Dropped = ⊥
+AnswersHold pool_len image ptr other = ⊥
 
 -- 1 where a read that was to be kept and is this caller's is kept, and 1 where a drop of this caller's gave one back
 abbrev pub keeps_one : Effect → Bool → ℕ
@@ -70,15 +65,13 @@ drops_one NoEffect mine = 0
 
 -- 1 where this reply to this operation keeps a read of the block by the caller
 abbrev pub keeps : ℕ → ℕ → Op → Reply → ℕ
-keeps caller block (ops.Read n t x window) reply = 0
 keeps caller block (ops.Hold n t x) reply = keeps_one (effect_of reply) (n == caller && x == block)
-keeps caller block (ops.Drop n x) reply = 0
+keeps caller block other reply = 0
 
 -- 1 where it drops one again
 abbrev pub drops : ℕ → ℕ → Op → Reply → ℕ
-drops caller block (ops.Read n t x window) reply = 0
-drops caller block (ops.Hold n t x) reply = 0
 drops caller block (ops.Drop n x) reply = drops_one (effect_of reply) (n == caller && x == block)
+drops caller block other reply = 0
 
 -- how many reads of a block a caller kept, by the operations and their replies
 abbrev pub kept_reads : ℕ → ℕ → List Op → List Reply → ℕ
@@ -94,21 +87,16 @@ dropped_reads caller block (op ∷ ops) (reply ∷ replies) = drops caller block
 
 -- a drop is refused for one reason alone
 abbrev pub IsDropRefusal : ℕ → ℕ → ℕ → Refusal → Type 0
-IsDropRefusal kept dropped block PoolFault = ⊥
-IsDropRefusal kept dropped block (Mismatch found) = ⊥
-IsDropRefusal kept dropped block (Key fault) = ⊥
-IsDropRefusal kept dropped block NoMemory = ⊥
-IsDropRefusal kept dropped block (Range end size) = ⊥
 IsDropRefusal kept dropped block (NoHold missing) = (missing ≡ block) × (kept ≤ dropped)
+IsDropRefusal kept dropped block other = ⊥
 
 -- the answers to a drop, where so many reads were kept and so many dropped
 abbrev pub AnswersDrop : ℕ → ℕ → ℕ → Reply → Type 0
 AnswersDrop kept dropped block Dropped = dropped < kept
-AnswersDrop kept dropped block (Read served digest shown) = ⊥
-AnswersDrop kept dropped block (Kept served) = ⊥
 AnswersDrop kept dropped block (Refused refusal) = IsDropRefusal kept dropped block refusal
+AnswersDrop kept dropped block other = ⊥
 
--- the answer to an operation, behind these operations and replies
+-- the answer to an operation, behind these operations and replies; one that is not done yet has none
 abbrev pub Answers : ℕ → Option (List ℕ) → List Ptr → List Op → List Reply → Op → Reply → Type 0
 Answers pool_len image blocks earlier replied (ops.Read n t x window) reply =
     (ptr : Ptr) × (slice_get blocks x ≡ Some ptr) × AnswersRead pool_len image ptr window reply
@@ -116,6 +104,7 @@ Answers pool_len image blocks earlier replied (ops.Hold n t x) reply =
     (ptr : Ptr) × (slice_get blocks x ≡ Some ptr) × AnswersHold pool_len image ptr reply
 Answers pool_len image blocks earlier replied (ops.Drop n x) reply =
     AnswersDrop (kept_reads n x earlier replied) (dropped_reads n x earlier replied) x reply
+Answers pool_len image blocks earlier replied other reply = ⊥
 
 -- each operation has its answer, in their order
 pub record AnswersAll (pool_len : ℕ) (image : Option (List ℕ)) (blocks : List Ptr) (ops : List Op) (replies : List Reply) : Type 0 where
@@ -135,7 +124,5 @@ is_pool_fault reply = tells_fault (effect_of reply)
 
 -- a reply that is a refusal
 abbrev pub is_refusal : Reply → Bool
-is_refusal (Read served digest shown) = false
-is_refusal (Kept served) = false
-is_refusal Dropped = false
 is_refusal (Refused refusal) = true
+is_refusal other = false

@@ -58,9 +58,9 @@ kept_after_drop block NoEffect kept = kept
 
 -- the kept reads after an operation and its reply
 abbrev pub kept_after : List Ptr → Op → Reply → List KeptRead → List KeptRead
-kept_after blocks (ops.Read n t x window) reply kept = kept
 kept_after blocks (ops.Hold n t x) reply kept = option_map_or (λ ptr. kept_after_hold x ptr (effect_of reply) kept) (slice_get blocks x) kept
 kept_after blocks (ops.Drop n x) reply kept = kept_after_drop x (effect_of reply) kept
+kept_after blocks other reply kept = kept
 
 -- ---- the events of an operation
 
@@ -90,6 +90,7 @@ abbrev pub events_of : List Ptr → PlainShard → List KeptRead → Op → Repl
 events_of blocks s kept (ops.Read n t x window) reply = option_map_or (λ ptr. events_of_read n t s ptr (effect_of reply)) (slice_get blocks x) []
 events_of blocks s kept (ops.Hold n t x) reply = option_map_or (λ ptr. events_of_hold n t s ptr (effect_of reply)) (slice_get blocks x) []
 events_of blocks s kept (ops.Drop n x) reply = events_of_dropping n x kept (effect_of reply)
+events_of blocks s kept other reply = []
 
 -- An answered read names where its access found the bytes, and one that the pool refused had to ask the pool.
 abbrev pub NamesSource : Access → Effect → Type 0
@@ -101,7 +102,7 @@ NamesSource access NoEffect = Unit {0}
 abbrev pub IsFoundAs : List Ptr → PlainShard → Op → Reply → Type 0
 IsFoundAs blocks s (ops.Read n t x window) reply = IfSome (slice_get blocks x) (λ ptr. NamesSource (access_of s ptr) (effect_of reply))
 IsFoundAs blocks s (ops.Hold n t x) reply = IfSome (slice_get blocks x) (λ ptr. NamesSource (access_of s ptr) (effect_of reply))
-IsFoundAs blocks s (ops.Drop n x) reply = Unit {0}
+IsFoundAs blocks s other reply = Unit {0}
 
 -- ---- all operations
 

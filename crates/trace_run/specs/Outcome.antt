@@ -1,7 +1,7 @@
 -- What a run answers, status by status.
 use Rattle.std.specs.Prelude.{◌≡◌, ◌≢◌, ◌⊎◌, ℕ, ◌+◌, ◌*◌, ◌^◌, ◌<◌, ◌≤◌, List, [], Option, Some, None, is_some, map, replicate, sum_by, Bool, true, false}
 use Rattle.std.specs.Bool.{OnFalse}
-use Rattle.std.specs.List.{range_with_len}
+use Rattle.std.specs.List.{list_any, range_with_len}
 use Rattle.std.specs.Io.KnownBytes.{Appends}
 use Rattle.vdev_io.specs.Faults.{Rose}
 use Rattle.trace_text.specs.Grammar.{IsTraceText, IsFirstFault, longest_text}
@@ -9,6 +9,7 @@ use Rattle.trace_text.specs.Pages.{IsFirstPageFault, IsPageText}
 use Rattle.trace_text.specs.ReportText.{text_of}
 use Rattle.arc_paper.specs.Text.{text_of as paper_text_of}
 use Rattle.trace_text.specs.declared.fault.Kind.{Kind}
+use Rattle.trace_text.specs.declared.fault.Kind.TheVariants as kinds
 use Rattle.trace_text.specs.declared.report.Report.{Report}
 use Rattle.trace_text.specs.declared.trace.Trace.{Trace}
 use Rattle.trace_run.specs.declared.status.Status.{Status}
@@ -21,6 +22,7 @@ use Rattle.arc_table.specs.Ended.{Ended}
 use Rattle.trace_text.specs.Generator.{generated_block, generated_read, generated_sizes}
 use Rattle.trace_run.specs.Answers.{AnswersAll}
 use Rattle.trace_run.specs.Explaining.{Explain, RunsAlone}
+use Rattle.trace_run.specs.Lines.{is_undone}
 use Rattle.trace_run.specs.PlainRun.{report_of}
 use Rattle.trace_run.specs.States.{Handed, NoneFailed, OneFailed, StreamState}
 use Rattle.trace_run.specs.Stream.{Gives, AppendsFront, TakesAtMost}
@@ -45,12 +47,20 @@ pub record WasRead (before after : StreamState) (trace : Trace) : Type 0 where
   pub unfailed : NoneFailed before after
   pub is_trace : IsTraceText text trace
 
--- The source was read, to its end or past the longest text, by calls of which none failed, and this is the first fault of what it gave.
+-- The text is a trace, and an operation of it is none that the program does yet: that is told as an unknown word is.
+pub record IsUndone (text : List ℕ) (kind : Kind) : Type 0 where
+  pub trace : Trace
+  pub is_trace : IsTraceText text trace
+  pub undone : list_any is_undone trace.ops ≡ true
+  pub unknown : kind ≡ kinds.Word
+
+-- The source was read, to its end or past the longest text, by calls of which none failed, and this is the first fault of what it gave, or
+-- what it gave is not done yet.
 pub record IsBadTrace (before after : StreamState) (line : ℕ) (kind : Kind) : Type 0 where
   pub text : List ℕ
   pub given : Gives before.told after.told longest_text text
   pub unfailed : NoneFailed before after
-  pub fault : IsFirstFault text line kind
+  pub fault : IsFirstFault text line kind ⊎ IsUndone text kind
 
 -- Each operation that was answered has its answer, and the histories, which are those of the closed cache, explain the replies and the reads of
 -- the pool; its faults rose by one for each reply that says so, and by one more where a fork failed, where each count had room. With one

@@ -26,8 +26,7 @@ pub record ShowsCollision (image : List ℕ) (ptr : Ptr) (window : Window) (plai
 abbrev pub IsPlainReply : (image : List ℕ) → List Ptr → Op → (plain reply : Reply) → Type 0
 IsPlainReply image blocks (ops.Read n t x window) plain reply =
     (reply ≡ plain) ⊎ ((ptr : Ptr) × (slice_get blocks x ≡ Some ptr) × ShowsCollision image ptr window plain reply)
-IsPlainReply image blocks (ops.Hold n t x) plain reply = reply ≡ plain
-IsPlainReply image blocks (ops.Drop n x) plain reply = reply ≡ plain
+IsPlainReply image blocks other plain reply = reply ≡ plain
 
 -- each reply is, in their order
 abbrev pub ArePlainReplies : (image : List ℕ) → List Ptr → List Op → (plain replies : List Reply) → Type 0

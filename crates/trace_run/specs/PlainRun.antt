@@ -83,11 +83,12 @@ reply_to_hold image s ptr call = reply_unless (refused_read image s ptr call) (K
 abbrev pub reply_to_drop : (block : ℕ) → List KeptRead → Reply
 reply_to_drop block kept = if is_some (oldest_kept block kept) then Dropped else Refused (NoHold block)
 
--- the reply to an operation, where the pool answers so if it is read; each block of a trace is declared
+-- the reply to an operation, where the pool answers so if it is read; each block of a trace is declared, and no other operation is done yet
 abbrev pub reply_to : (image : List ℕ) → List Ptr → PlainShard → List KeptRead → Op → Call → Reply
 reply_to image blocks s kept (ops.Read n t x window) call = option_map_or (λ ptr. reply_to_read image s ptr window call) (slice_get blocks x) Dropped
 reply_to image blocks s kept (ops.Hold n t x) call = option_map_or (λ ptr. reply_to_hold image s ptr call) (slice_get blocks x) Dropped
 reply_to image blocks s kept (ops.Drop n x) call = reply_to_drop x kept
+reply_to image blocks s kept other call = Dropped
 
 -- ---- the replies to all operations
 

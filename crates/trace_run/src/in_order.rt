@@ -18,7 +18,7 @@ pub(crate) fn in_order(
 {
     let mut merged = Vec::new(alloc);
     for number in (0..ops.len()).rev() {
-        let caller = caller_of(ops[number]) as usize;
+        let caller = caller_of(&ops[number]) as usize;
         let Some(reply) = replies[caller].pop() else {
             unreachable!()
         };

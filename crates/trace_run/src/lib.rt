@@ -16,6 +16,7 @@ mod status;
 mod stream;
 mod together;
 mod top;
+mod undone;
 mod words;
 mod zero_pool;
 

@@ -14,6 +14,7 @@ use crate::ran::Reported;
 use crate::run_trace::{run_generated_trace, run_trace};
 use crate::status::{Outcome, Status};
 use crate::stream::{ReadAllFault, read_all, write_all};
+use crate::undone::{first_undone, has_undone};
 use crate::words::Command;
 use arc_core::Keeps;
 use blk_ptr::NoMemory;
@@ -21,7 +22,7 @@ use dbuf_cells::HeapCell;
 use std::alloc::Global;
 use std::sync::Wait;
 use std::thread::Threads;
-use trace_text::{LONGEST_TEXT, Trace, TraceFault, read_trace, report_text};
+use trace_text::{Kind, LONGEST_TEXT, Trace, TraceFault, read_trace, report_text};
 use vdev_io::{CacheDev, Failed, Gate, Pool, Sink, Source};
 
 /// Does what the words ask: `run` reads a trace from the source and runs it over the pool, `gen` makes a trace and runs it
@@ -146,6 +147,10 @@ fn read_source<S: Source>(alloc: Global, source: &mut S) -> Result<Trace, Status
         Err(ReadAllFault::NoMemory) => return Err(Status::NoMemory),
     };
     match read_trace(alloc, &text) {
+        Ok(trace) if has_undone(trace.ops.as_slice()) => Err(Status::BadTrace {
+            line: first_undone(&text),
+            kind: Kind::Word,
+        }),
         Ok(trace) => Ok(trace),
         Err(TraceFault::Bad { line, kind }) => Err(Status::BadTrace { line, kind }),
         Err(TraceFault::NoMemory) => Err(Status::NoMemory),

@@ -1,5 +1,5 @@
 -- What every trace that is read has.
-use Rattle.std.proofs.Common.{◌≡◌, ℕ, ◌<◌, ◌≤◌, ◌↔◌, Bool, true, false, not, List, [], ◌∷◌, ◌++◌, length, map, filter, Option, Some, None, refl, ap, ◌∙◌, sym, arith, length-append, append_assoc, cond}
+use Rattle.std.proofs.Common.{◌≡◌, ℕ, ◌≤◌, ◌↔◌, Bool, true, false, not, List, [], ◌∷◌, ◌++◌, length, map, filter, Option, Some, None, refl, ap, ◌∙◌, sym, arith, length-append, append_assoc, cond}
 use Rattle.std.proofs.lemmas.List.{append-nil, map-append}
 use Rattle.std.specs.Prelude.{All, IfSome, IsNone, MatchBool}
 use Rattle.std.proofs.lemmas.Bool.{false≢true}
@@ -14,11 +14,11 @@ use Rattle.trace_text.specs.declared.words.Line.TheVariants.{Sizes, Declared, Op
 use Rattle.trace_text.specs.declared.words.Word.{Word}
 use Rattle.trace_text.specs.declared.words.Word.TheVariants as words
 use Rattle.trace_text.proofs.WordLemmas.{begins-word}
-use Rattle.trace_text.specs.Grammar.{Add, AddAll, Adds, AreSizes, BeginsWith, Content, HasRoom, IsDeclarable, IsFormed, IsInOrder, IsOperation, IsTraceText, Say, block_of, callers_of, content_of, counted_fields, fields_of, is_passed_over, lines_in, lines_of, nothing, spelling, with_line, word_of}
+use Rattle.trace_text.specs.Grammar.{Add, AddAll, Adds, AreSizes, BeginsWith, Content, HasRoom, IsDeclarable, IsFormed, IsInOrder, IsOnDeclared, IsOperation, IsTraceText, Say, callers_of, content_of, counted_fields, fields_of, is_passed_over, lines_in, lines_of, nothing, seen_of, shards_of, spelling, with_line, word_of}
 
--- an operation that is possible where there are so many callers and blocks
-abbrev Possible : ℕ → ℕ → Op → Type 0
-Possible callers blocks op = IsOperation callers op × (block_of op < blocks)
+-- an operation that is possible where there are so many callers, shards and blocks
+abbrev Possible : (callers shards blocks : ℕ) → Op → Type 0
+Possible callers shards blocks op = IsOperation callers shards op × IsOnDeclared blocks op
 
 -- what is said is formed
 pub record Sound (said : Content) : Type 0 where
@@ -27,7 +27,7 @@ pub record Sound (said : Content) : Type 0 where
   pub config : IfSome said.config AreSizes
   pub blocks : All IsDeclarable said.blocks
   pub few_blocks : length said.blocks ≤ 100000
-  pub ops : All (Possible (callers_of said.config) (length said.blocks)) said.ops
+  pub ops : All (Possible (callers_of said.config) (shards_of said.config) (length said.blocks)) said.ops
   pub few_ops : length said.ops ≤ 1000000
 
 pub Sound-nothing : Sound nothing
@@ -37,7 +37,7 @@ Sound-nothing = record {
   config = tt;
   blocks = All-nil IsDeclarable;
   few_blocks = omega arith;
-  ops = All-nil (Possible 0 0);
+  ops = All-nil (Possible 0 0 0);
   few_ops = omega arith;
 }
 
@@ -60,7 +60,7 @@ is-none config fields z said =
 
 -- one more line
 Sound-line : (before : Content) (fields : List (List ℕ)) (l : Line) → Sound before → Say before.config fields l
-    → IsInOrder (length before.blocks) (length before.ops) l → HasRoom (length before.blocks) (length before.ops) l → Sound (with_line before l)
+    → IsInOrder (seen_of before) l → HasRoom (seen_of before) l → Sound (with_line before l)
 Sound-line before fields (Sizes z) s said ordered room =
     let none = is-none before.config fields z said in
     record {
@@ -69,7 +69,7 @@ Sound-line before fields (Sizes z) s said ordered room =
       config = said.spelled.ranged;
       blocks = s.blocks;
       few_blocks = s.few_blocks;
-      ops = no-ops (Possible z.callers (length before.blocks)) before.ops (s.no_ops none);
+      ops = no-ops (Possible z.callers z.shards (length before.blocks)) before.ops (s.no_ops none);
       few_ops = s.few_ops;
     }
 Sound-line before fields (Declared p) s said ordered room =
@@ -80,7 +80,7 @@ Sound-line before fields (Declared p) s said ordered room =
       config = s.config;
       blocks = All-push IsDeclarable before.blocks p s.blocks said.spelled.ranged;
       few_blocks = omega arith;
-      ops = no-ops (Possible (callers_of before.config) (length (before.blocks ++ p ∷ []))) before.ops ordered;
+      ops = no-ops (Possible (callers_of before.config) (shards_of before.config) (length (before.blocks ++ p ∷ []))) before.ops ordered;
       few_ops = s.few_ops;
     }
 Sound-line before fields (Operation op) s said ordered room =
@@ -91,7 +91,7 @@ Sound-line before fields (Operation op) s said ordered room =
       config = s.config;
       blocks = s.blocks;
       few_blocks = s.few_blocks;
-      ops = All-push (Possible (callers_of before.config) (length before.blocks)) before.ops op s.ops (said.spelled.ranged, ordered);
+      ops = All-push (Possible (callers_of before.config) (shards_of before.config) (length before.blocks)) before.ops op s.ops (said.spelled.ranged, ordered);
       few_ops = omega arith;
     }
   where
@@ -99,6 +99,14 @@ Sound-line before fields (Operation op) s said ordered room =
     later (ops.Read n t x w) e = cc
     later (ops.Hold n t x) e = cc
     later (ops.Drop n x) e = cc
+    later (ops.Get n t at w) e = cc
+    later (ops.Put n t at size fill) e = cc
+    later (ops.Patch n t at from bytes) e = cc
+    later (ops.Pin n t at) e = cc
+    later (ops.Unpin n at) e = cc
+    later ops.Feed e = cc
+    later (ops.Txg t) e = cc
+    later (ops.Cap c) e = cc
 
 Sound-adds : (before after : Content) (line : List ℕ) → Sound before → Adds before line after → Sound after
 Sound-adds before after line s a = by (is_passed_over line) a
@@ -141,7 +149,7 @@ sizes-none (Some z) h = absurd (false≢true (sym h))
 
 -- a line comes last of what is said
 lines_said-line : (before : Content) (fields : List (List ℕ)) (l : Line) → Sound before → Say before.config fields l
-    → IsInOrder (length before.blocks) (length before.ops) l → lines_said (with_line before l) ≡ lines_said before ++ l ∷ []
+    → IsInOrder (seen_of before) l → lines_said (with_line before l) ≡ lines_said before ++ l ∷ []
 lines_said-line before fields (Sizes z) s said ordered =
     let none = is-none before.config fields z said in
     rw (no-blocks before.blocks (s.no_blocks none), no-operations before.ops (s.no_ops none), sizes-none before.config none) refl

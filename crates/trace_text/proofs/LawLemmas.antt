@@ -12,10 +12,11 @@ use Rattle.trace_text.specs.declared.op.Op.TheVariants as ops
 use Rattle.trace_text.specs.declared.trace.Trace.{Trace}
 use Rattle.trace_text.specs.declared.words.Line.{Line}
 use Rattle.trace_text.specs.declared.words.Line.TheVariants.{Sizes, Declared, Operation}
+use Rattle.trace_text.specs.declared.words.Seen.{Seen}
 use Rattle.trace_text.specs.declared.words.Word.{Word}
 use Rattle.trace_text.proofs.WordLemmas.{begins-word, word-one}
 use Rattle.trace_text.proofs.SameLemmas.{spelling-injective}
-use Rattle.trace_text.specs.Grammar.{Add, AddAll, Adds, BeginsWith, Content, HasFault, HasRoom, HasShape, IsFaulty, IsFirstFault, IsInOrder, IsInRange, IsMisplaced, IsMisspelled, IsTraceText, Say, SaysNothing, callers_of, content_of, fields_of, is_passed_over, lines_of, nothing, spelling, with_line, word_of}
+use Rattle.trace_text.specs.Grammar.{Add, AddAll, Adds, BeginsWith, Content, HasFault, HasRoom, HasShape, IsFaulty, IsFirstFault, IsInOrder, IsInRange, IsMisplaced, IsMisspelled, IsTraceText, Say, SaysNothing, callers_of, content_of, fields_of, is_passed_over, lines_of, nothing, seen_of, shards_of, spelling, with_line, word_of}
 
 -- ---- what is said is determined
 
@@ -26,7 +27,7 @@ FewCallers said = callers_of said.config ≤ 16
 -- the fields are one line
 pub Say-one : (config : Option Config) → callers_of config ≤ 16 → (fields : List (List ℕ)) (l m : Line) → Say config fields l → Say config fields m → l ≡ m
 Say-one config few fields l m a b =
-    spelling-injective (callers_of config) (omega arith) l m a.spelled.ranged b.spelled.ranged (sym a.spelled.spelled ∙ b.spelled.spelled)
+    spelling-injective (callers_of config) (shards_of config) (omega arith) l m a.spelled.ranged b.spelled.ranged (sym a.spelled.spelled ∙ b.spelled.spelled)
 
 Add-one : (before : Content) → FewCallers before → (fields : List (List ℕ)) (x y : Content) → Add before fields x → Add before fields y → x ≡ y
 Add-one before few fields x y a b =
@@ -40,7 +41,7 @@ Adds-one before few line x y a b = by (is_passed_over line) a b
     by true a b = a ∙ sym b
     by false a b = Add-one before few (fields_of line) x y a b
 
-with_line-few : (before : Content) (l : Line) → FewCallers before → IsInRange (callers_of before.config) l → FewCallers (with_line before l)
+with_line-few : (before : Content) (l : Line) → FewCallers before → IsInRange (callers_of before.config) (shards_of before.config) l → FewCallers (with_line before l)
 with_line-few before (Sizes z) few ranged = ranged.ranged.counts.callers.1
 with_line-few before (Declared p) few ranged = few
 with_line-few before (Operation op) few ranged = few
@@ -67,18 +68,26 @@ AddAll-one before few (line ∷ lines) x y a b =
 
 -- ---- a line that is added has no fault
 
-spelling-shape : (callers : ℕ) → callers ≤ 16 → (l : Line) → IsInRange callers l → HasShape (word_of l) (spelling l)
-spelling-shape callers few (Sizes z) r = (refl, (decimal_nonempty z.callers (omega (arith, r.ranged.counts.callers.1)), (decimal_nonempty z.shards (omega (arith, r.ranged.counts.shards.1)), (decimal_nonempty z.buckets (omega (arith, r.ranged.counts.buckets.1)), (decimal_nonempty z.cells (omega (arith, r.ranged.counts.cells.1)), (decimal_nonempty z.c (omega (arith, r.ranged.amounts.c.most)), (decimal_nonempty z.mintime (omega (arith, r.ranged.amounts.mintime)), (decimal_nonempty z.dbuf_bytes (omega (arith, r.ranged.amounts.dbuf_bytes)), tt))))))))
-spelling-shape callers few (Declared p) r = (refl, (decimal_nonempty p.key.offset (omega (arith, r.offset)), (decimal_nonempty p.key.size (omega (arith, r.size)), (decimal_nonempty p.key.birth (omega (arith, r.birth)), ((let twice = length-encode_with lower_digits p.digest.0 in omega (arith, r.digest.sized)), tt)))))
-spelling-shape callers few (Operation (ops.Read n t x w)) r = (refl, (decimal_nonempty n (omega (arith, r.0)), (decimal_nonempty t (omega (arith, r.1)), (decimal_nonempty x (omega (arith, r.2)), (decimal_nonempty w.at (omega (arith, r.3)), (decimal_nonempty w.len (omega (arith, w.short)), tt))))))
-spelling-shape callers few (Operation (ops.Hold n t x)) r = (refl, (decimal_nonempty n (omega (arith, r.0)), (decimal_nonempty t (omega (arith, r.1)), (decimal_nonempty x (omega (arith, r.2)), tt))))
-spelling-shape callers few (Operation (ops.Drop n x)) r = (refl, (decimal_nonempty n (omega (arith, r.0)), (decimal_nonempty x (omega (arith, r.1)), tt)))
+spelling-shape : (callers shards : ℕ) → callers ≤ 16 → (l : Line) → IsInRange callers shards l → HasShape (word_of l) (spelling l)
+spelling-shape callers shards few (Sizes z) r = (refl, (decimal_nonempty z.callers (omega (arith, r.ranged.counts.callers.1)), (decimal_nonempty z.shards (omega (arith, r.ranged.counts.shards.1)), (decimal_nonempty z.buckets (omega (arith, r.ranged.counts.buckets.1)), (decimal_nonempty z.cells (omega (arith, r.ranged.counts.cells.1)), (decimal_nonempty z.c (omega (arith, r.ranged.amounts.c.most)), (decimal_nonempty z.mintime (omega (arith, r.ranged.amounts.mintime)), (decimal_nonempty z.dbuf_bytes (omega (arith, r.ranged.amounts.dbuf_bytes)), tt))))))))
+spelling-shape callers shards few (Declared p) r = (refl, (decimal_nonempty p.key.offset (omega (arith, r.offset)), (decimal_nonempty p.key.size (omega (arith, r.size)), (decimal_nonempty p.key.birth (omega (arith, r.birth)), ((let twice = length-encode_with lower_digits p.digest.0 in omega (arith, r.digest.sized)), tt)))))
+spelling-shape callers shards few (Operation (ops.Read n t x w)) r = (refl, (decimal_nonempty n (omega (arith, r.0)), (decimal_nonempty t (omega (arith, r.1)), (decimal_nonempty x (omega (arith, r.2)), (decimal_nonempty w.at (omega (arith, r.3)), (decimal_nonempty w.len (omega (arith, w.short)), tt))))))
+spelling-shape callers shards few (Operation (ops.Hold n t x)) r = (refl, (decimal_nonempty n (omega (arith, r.0)), (decimal_nonempty t (omega (arith, r.1)), (decimal_nonempty x (omega (arith, r.2)), tt))))
+spelling-shape callers shards few (Operation (ops.Drop n x)) r = (refl, (decimal_nonempty n (omega (arith, r.0)), (decimal_nonempty x (omega (arith, r.1)), tt)))
+spelling-shape callers shards few (Operation (ops.Get n t at w)) r = (refl, (decimal_nonempty n (omega (arith, r.0)), (decimal_nonempty t (omega (arith, r.1)), (decimal_nonempty at.object (omega (arith, r.2.object)), (decimal_nonempty at.block (omega (arith, r.2.block)), (decimal_nonempty w.at (omega (arith, r.3)), (decimal_nonempty w.len (omega (arith, w.short)), tt)))))))
+spelling-shape callers shards few (Operation (ops.Put n t at size fill)) r = (refl, (decimal_nonempty n (omega (arith, r.0)), (decimal_nonempty t (omega (arith, r.1)), (decimal_nonempty at.object (omega (arith, r.2.object)), (decimal_nonempty at.block (omega (arith, r.2.block)), (decimal_nonempty size (omega (arith, r.3.2)), ((let twice = length-encode_with lower_digits (fill ∷ []) in omega arith), tt)))))))
+spelling-shape callers shards few (Operation (ops.Patch n t at from bytes)) r = (refl, (decimal_nonempty n (omega (arith, r.0)), (decimal_nonempty t (omega (arith, r.1)), (decimal_nonempty at.object (omega (arith, r.2.object)), (decimal_nonempty at.block (omega (arith, r.2.block)), (decimal_nonempty from (omega (arith, r.3)), ((let twice = length-encode_with lower_digits bytes in omega (arith, r.4.some)), tt)))))))
+spelling-shape callers shards few (Operation (ops.Pin n t at)) r = (refl, (decimal_nonempty n (omega (arith, r.0)), (decimal_nonempty t (omega (arith, r.1)), (decimal_nonempty at.object (omega (arith, r.2.object)), (decimal_nonempty at.block (omega (arith, r.2.block)), tt)))))
+spelling-shape callers shards few (Operation (ops.Unpin n at)) r = (refl, (decimal_nonempty n (omega (arith, r.0)), (decimal_nonempty at.object (omega (arith, r.1.object)), (decimal_nonempty at.block (omega (arith, r.1.block)), tt))))
+spelling-shape callers shards few (Operation ops.Feed) r = (refl, tt)
+spelling-shape callers shards few (Operation (ops.Txg t)) r = (refl, (decimal_nonempty t (omega (arith, r)), tt))
+spelling-shape callers shards few (Operation (ops.Cap c)) r = (refl, (decimal_nonempty c (omega (arith, r.0.most)), tt))
 
 -- the fields of a line have its word's shape
 pub Say-shape : (config : Option Config) → callers_of config ≤ 16 → (fields : List (List ℕ)) (l : Line) (word : Word) → BeginsWith config fields word → Say config fields l → HasShape word fields
 Say-shape config few fields l word begins said =
     let same = begins-word config fields word l begins said.spelled.spelled in
-    rw (said.spelled.spelled, ← same) (spelling-shape (callers_of config) few l said.spelled.ranged)
+    rw (said.spelled.spelled, ← same) (spelling-shape (callers_of config) (shards_of config) few l said.spelled.ranged)
 
 misspelled-not : (config : Option Config) → callers_of config ≤ 16 → (fields : List (List ℕ)) (l : Line) (kind : Kind) → Say config fields l → IsMisspelled config fields kind → ⊥
 misspelled-not config few fields l kinds.First said m = m.1 said.word said.begins
@@ -89,21 +98,21 @@ misspelled-not config few fields l kinds.Order said m = m
 misspelled-not config few fields l kinds.Count said m = m
 misspelled-not config few fields l kinds.Length said m = m
 
-misplaced-not : (blocks ops : ℕ) (l : Line) (kind : Kind) → IsInOrder blocks ops l → HasRoom blocks ops l → IsMisplaced blocks ops l kind → ⊥
-misplaced-not blocks ops l kinds.Order ordered room m = m ordered
-misplaced-not blocks ops l kinds.Count ordered room m = m.1 room
-misplaced-not blocks ops l kinds.First ordered room m = m
-misplaced-not blocks ops l kinds.Word ordered room m = m
-misplaced-not blocks ops l kinds.Shape ordered room m = m
-misplaced-not blocks ops l kinds.Number ordered room m = m
-misplaced-not blocks ops l kinds.Length ordered room m = m
+misplaced-not : (seen : Seen) (l : Line) (kind : Kind) → IsInOrder seen l → HasRoom seen l → IsMisplaced seen l kind → ⊥
+misplaced-not seen l kinds.Order ordered room m = m ordered
+misplaced-not seen l kinds.Count ordered room m = m.1 room
+misplaced-not seen l kinds.First ordered room m = m
+misplaced-not seen l kinds.Word ordered room m = m
+misplaced-not seen l kinds.Shape ordered room m = m
+misplaced-not seen l kinds.Number ordered room m = m
+misplaced-not seen l kinds.Length ordered room m = m
 
 -- fields that are added have no fault
 Add-faultless : (before : Content) → FewCallers before → (fields : List (List ℕ)) (after : Content) (kind : Kind) → Add before fields after → HasFault before fields kind → ⊥
 Add-faultless before few fields after kind a (inl m) = misspelled-not before.config few fields a.line kind a.said m
 Add-faultless before few fields after kind a (inr m) =
     let same = Say-one before.config few fields a.line m.0 a.said m.1 in
-    misplaced-not (length before.blocks) (length before.ops) m.0 kind (rw same at a.ordered) (rw same at a.room) m.2
+    misplaced-not (seen_of before) m.0 kind (rw same at a.ordered) (rw same at a.room) m.2
 
 -- a line that is added has no fault
 pub Adds-faultless : (before : Content) → FewCallers before → (line : List ℕ) (after : Content) (kind : Kind) → Adds before line after → is_passed_over line ≡ false
@@ -158,7 +167,7 @@ Passes before fields zero = Unit {0}
 Passes before fields (suc zero) = (word : Word) × BeginsWith before.config fields word
 Passes before fields (suc (suc zero)) = (word : Word) × BeginsWith before.config fields word × HasShape word fields
 Passes before fields (suc (suc (suc zero))) = (line : Line) × Say before.config fields line
-Passes before fields (suc (suc (suc (suc zero)))) = (line : Line) × Say before.config fields line × IsInOrder (length before.blocks) (length before.ops) line
+Passes before fields (suc (suc (suc (suc zero)))) = (line : Line) × Say before.config fields line × IsInOrder (seen_of before) line
 Passes before fields (suc (suc (suc (suc (suc n))))) = ⊥
 
 -- how far fields with such a fault get

@@ -3,6 +3,7 @@ use Rattle.std.proofs.Common.{◌≡◌, ℕ, eqb, Bool, true, false, List, [], 
 use Rattle.blk_ptr.specs.declared.ptr.Ptr.{Ptr}
 use Rattle.arc_core.specs.declared.config.Config.{Config}
 use Rattle.trace_text.specs.declared.op.Op.TheVariants as ops
+use Rattle.dbuf_state.specs.declared.oid.Oid.{Oid}
 use Rattle.dbuf_state.specs.declared.window.Window.{Window}
 use Rattle.trace_text.specs.declared.words.Line.{Line}
 use Rattle.trace_text.specs.declared.words.Line.TheVariants.{Sizes, Declared, Operation}
@@ -23,7 +24,8 @@ spelled_in [] text = None
 spelled_in (word ∷ others) text = cond (same_text (text_of word) text) (Some word) (spelled_in others text)
 
 abbrev all_words : List Word
-all_words = words.Arc ∷ words.Block ∷ words.Read ∷ words.Hold ∷ words.Drop ∷ []
+all_words = words.Arc ∷ words.Block ∷ words.Read ∷ words.Hold ∷ words.Drop
+    ∷ words.Get ∷ words.Put ∷ words.Patch ∷ words.Pin ∷ words.Unpin ∷ words.Feed ∷ words.Txg ∷ words.Cap ∷ []
 
 -- each word is the first that is spelled as it is
 spelled_in-text : (word : Word) → spelled_in all_words (text_of word) ≡ Some word
@@ -32,6 +34,14 @@ spelled_in-text words.Block = refl
 spelled_in-text words.Read = refl
 spelled_in-text words.Hold = refl
 spelled_in-text words.Drop = refl
+spelled_in-text words.Get = refl
+spelled_in-text words.Put = refl
+spelled_in-text words.Patch = refl
+spelled_in-text words.Pin = refl
+spelled_in-text words.Unpin = refl
+spelled_in-text words.Feed = refl
+spelled_in-text words.Txg = refl
+spelled_in-text words.Cap = refl
 
 -- two words with one spelling are one
 pub text_of-injective : (v w : Word) → text_of v ≡ text_of w → v ≡ w
@@ -46,6 +56,14 @@ FormOf words.Block line = (p : Ptr) × (line ≡ Declared p)
 FormOf words.Read line = (n t x : ℕ) × (w : Window) × (line ≡ Operation (ops.Read n t x w))
 FormOf words.Hold line = (n t x : ℕ) × (line ≡ Operation (ops.Hold n t x))
 FormOf words.Drop line = (n x : ℕ) × (line ≡ Operation (ops.Drop n x))
+FormOf words.Get line = (n t : ℕ) × (at : Oid) × (w : Window) × (line ≡ Operation (ops.Get n t at w))
+FormOf words.Put line = (n t : ℕ) × (at : Oid) × (size fill : ℕ) × (line ≡ Operation (ops.Put n t at size fill))
+FormOf words.Patch line = (n t : ℕ) × (at : Oid) × (from : ℕ) × (bytes : List ℕ) × (line ≡ Operation (ops.Patch n t at from bytes))
+FormOf words.Pin line = (n t : ℕ) × (at : Oid) × (line ≡ Operation (ops.Pin n t at))
+FormOf words.Unpin line = (n : ℕ) × (at : Oid) × (line ≡ Operation (ops.Unpin n at))
+FormOf words.Feed line = (line ≡ Operation ops.Feed)
+FormOf words.Txg line = (t : ℕ) × (line ≡ Operation (ops.Txg t))
+FormOf words.Cap line = (c : ℕ) × (line ≡ Operation (ops.Cap c))
 
 form : (line : Line) → FormOf (word_of line) line
 form (Sizes z) = (z, refl)
@@ -53,19 +71,27 @@ form (Declared p) = (p, refl)
 form (Operation (ops.Read n t x w)) = (n, t, x, w, refl)
 form (Operation (ops.Hold n t x)) = (n, t, x, refl)
 form (Operation (ops.Drop n x)) = (n, x, refl)
+form (Operation (ops.Get n t at w)) = (n, t, at, w, refl)
+form (Operation (ops.Put n t at size fill)) = (n, t, at, size, fill, refl)
+form (Operation (ops.Patch n t at from bytes)) = (n, t, at, from, bytes, refl)
+form (Operation (ops.Pin n t at)) = (n, t, at, refl)
+form (Operation (ops.Unpin n at)) = (n, at, refl)
+form (Operation ops.Feed) = refl
+form (Operation (ops.Txg t)) = (t, refl)
+form (Operation (ops.Cap c)) = (c, refl)
 
 -- a line that begins with this word is of its form
 pub form-as : (word : Word) (line : Line) → word_of line ≡ word → FormOf word line
 form-as word line e = subst (λ w. FormOf w line) e (form line)
 
 -- what fields that begin with this word say, where they are a line
-pub record IsLineOf (callers : ℕ) (word : Word) (fields : List (List ℕ)) (line : Line) : Type 0 where
+pub record IsLineOf (callers shards : ℕ) (word : Word) (fields : List (List ℕ)) (line : Line) : Type 0 where
   pub form : FormOf word line
   pub after : fields ≡ fields_after line
-  pub ranged : IsInRange callers line
+  pub ranged : IsInRange callers shards line
 
-pub line-of : (callers : ℕ) (word : Word) (fields : List (List ℕ)) (line : Line) → Spell callers (text_of word ∷ fields) line → IsLineOf callers word fields line
-line-of callers word fields line s =
+pub line-of : (callers shards : ℕ) (word : Word) (fields : List (List ℕ)) (line : Line) → Spell callers shards (text_of word ∷ fields) line → IsLineOf callers shards word fields line
+line-of callers shards word fields line s =
     let e = s.spelled in
     let same : text_of (word_of line) ≡ text_of word = cc in
     record { form = form-as word line (text_of-injective (word_of line) word same); after = cc; ranged = s.ranged }

@@ -1,13 +1,17 @@
 -- What text is a trace, line by line, and for a text that is none the first line at fault.
-use Rattle.std.specs.Prelude.{All, filter, map, not, ◌≡◌, ℕ, ◌+◌, ◌^◌, ◌<◌, ◌≤◌, ◌==◌, ◌↔◌, ◌⊎◌, Bool, true, false, List, [], ◌∷◌, ◌++◌, length, take, codes, decimal, count_by, Option, Some, None, IsSome, IsNone, MatchBool}
+use Rattle.std.specs.Prelude.{All, filter, map, not, ◌≡◌, ℕ, ◌+◌, ◌*◌, ◌^◌, ◌<◌, ◌≤◌, ◌==◌, ◌↔◌, ◌⊎◌, Bool, true, false, List, [], ◌∷◌, ◌++◌, length, take, codes, decimal, count_by, Option, Some, None, IfSome, IsSome, IsNone, MatchBool}
 use Rattle.std.specs.List.{slice_split, AllByRecursion}
 use Rattle.hex.specs.Hex.{IsBytes, encode_lower}
 use Rattle.blk_ptr.specs.declared.digest.Digest.{Digest}
 use Rattle.blk_ptr.specs.declared.ptr.Ptr.{Ptr}
+use Rattle.blk_ptr.specs.Size.{IsBlockSize}
+use Rattle.dbuf_state.specs.declared.oid.Oid.{Oid}
+use Rattle.arc_lists.specs.Adapting.{IsCapacity}
 use Rattle.arc_core.specs.Config.{IsConfig}
 use Rattle.arc_core.specs.declared.config.Config.{Config}
 use Rattle.trace_text.specs.declared.op.Op.{Op}
 use Rattle.trace_text.specs.declared.op.Op.TheVariants as ops
+use Rattle.trace_text.specs.declared.words.Seen.{Seen}
 use Rattle.trace_text.specs.declared.words.Word.{Word}
 use Rattle.trace_text.specs.declared.words.Word.TheVariants as words
 use Rattle.trace_text.specs.declared.words.Line.{Line}
@@ -42,6 +46,14 @@ text_of words.Block = codes "block"
 text_of words.Read = codes "read"
 text_of words.Hold = codes "hold"
 text_of words.Drop = codes "drop"
+text_of words.Get = codes "get"
+text_of words.Put = codes "put"
+text_of words.Patch = codes "patch"
+text_of words.Pin = codes "pin"
+text_of words.Unpin = codes "unpin"
+text_of words.Feed = codes "feed"
+text_of words.Txg = codes "txg"
+text_of words.Cap = codes "cap"
 
 -- how many fields come after a word
 abbrev pub field_count : Word → ℕ
@@ -50,6 +62,14 @@ field_count words.Block = 4
 field_count words.Read = 5
 field_count words.Hold = 3
 field_count words.Drop = 2
+field_count words.Get = 6
+field_count words.Put = 6
+field_count words.Patch = 6
+field_count words.Pin = 4
+field_count words.Unpin = 3
+field_count words.Feed = 0
+field_count words.Txg = 1
+field_count words.Cap = 1
 
 -- the word of a line
 abbrev pub word_of : Line → Word
@@ -58,8 +78,16 @@ word_of (Declared p) = words.Block
 word_of (Operation (ops.Read n t x w)) = words.Read
 word_of (Operation (ops.Hold n t x)) = words.Hold
 word_of (Operation (ops.Drop n x)) = words.Drop
+word_of (Operation (ops.Get n t at w)) = words.Get
+word_of (Operation (ops.Put n t at size fill)) = words.Put
+word_of (Operation (ops.Patch n t at from bytes)) = words.Patch
+word_of (Operation (ops.Pin n t at)) = words.Pin
+word_of (Operation (ops.Unpin n at)) = words.Unpin
+word_of (Operation ops.Feed) = words.Feed
+word_of (Operation (ops.Txg t)) = words.Txg
+word_of (Operation (ops.Cap c)) = words.Cap
 
--- the fields after a line's word: decimal numbers with no leading zero, and a digest as lower-case hex
+-- the fields after a line's word: decimal numbers with no leading zero, and a digest and other bytes as lower-case hex
 abbrev pub fields_after : Line → List (List ℕ)
 fields_after (Sizes z) =
     decimal z.callers ∷ decimal z.shards ∷ decimal z.buckets ∷ decimal z.cells ∷ decimal z.c ∷ decimal z.mintime ∷ decimal z.dbuf_bytes ∷ []
@@ -67,6 +95,17 @@ fields_after (Declared p) = decimal p.key.offset ∷ decimal p.key.size ∷ deci
 fields_after (Operation (ops.Read n t x w)) = decimal n ∷ decimal t ∷ decimal x ∷ decimal w.at ∷ decimal w.len ∷ []
 fields_after (Operation (ops.Hold n t x)) = decimal n ∷ decimal t ∷ decimal x ∷ []
 fields_after (Operation (ops.Drop n x)) = decimal n ∷ decimal x ∷ []
+fields_after (Operation (ops.Get n t at w)) =
+    decimal n ∷ decimal t ∷ decimal at.object ∷ decimal at.block ∷ decimal w.at ∷ decimal w.len ∷ []
+fields_after (Operation (ops.Put n t at size fill)) =
+    decimal n ∷ decimal t ∷ decimal at.object ∷ decimal at.block ∷ decimal size ∷ encode_lower (fill ∷ []) ∷ []
+fields_after (Operation (ops.Patch n t at from bytes)) =
+    decimal n ∷ decimal t ∷ decimal at.object ∷ decimal at.block ∷ decimal from ∷ encode_lower bytes ∷ []
+fields_after (Operation (ops.Pin n t at)) = decimal n ∷ decimal t ∷ decimal at.object ∷ decimal at.block ∷ []
+fields_after (Operation (ops.Unpin n at)) = decimal n ∷ decimal at.object ∷ decimal at.block ∷ []
+fields_after (Operation ops.Feed) = []
+fields_after (Operation (ops.Txg t)) = decimal t ∷ []
+fields_after (Operation (ops.Cap c)) = decimal c ∷ []
 
 -- the fields of a line
 abbrev pub spelling : Line → List (List ℕ)
@@ -96,17 +135,36 @@ pub record IsDeclarable (ptr : Ptr) : Type 0 where
   pub birth : IsPlain ptr.key.birth
   pub digest : IsDigest ptr.digest
 
--- the ranges of an operation's numbers, where there are so many callers
-abbrev pub IsOperation : ℕ → Op → Type 0
-IsOperation callers (ops.Read n t x w) = (n < callers) × IsPlain t × IsPlain x × (w.at < 2 ^ 32)
-IsOperation callers (ops.Hold n t x) = (n < callers) × IsPlain t × IsPlain x
-IsOperation callers (ops.Drop n x) = (n < callers) × IsPlain x
+-- the ranges of the numbers of an object's block
+pub record IsOid (at : Oid) : Type 0 where
+  pub object : IsPlain at.object
+  pub block : IsPlain at.block
 
--- the numbers of a line are in their ranges, where there are so many callers
-abbrev pub IsInRange : ℕ → Line → Type 0
-IsInRange callers (Sizes z) = AreSizes z
-IsInRange callers (Declared p) = IsDeclarable p
-IsInRange callers (Operation op) = IsOperation callers op
+-- from 1 to 64 bytes
+pub record IsRun (run : List ℕ) : Type 0 where
+  pub some : 1 ≤ length run
+  pub few : length run ≤ 64
+  pub bytes : IsBytes run
+
+-- the ranges of an operation's numbers, where there are so many callers and shards
+abbrev pub IsOperation : (callers shards : ℕ) → Op → Type 0
+IsOperation callers shards (ops.Read n t x w) = (n < callers) × IsPlain t × IsPlain x × (w.at < 2 ^ 32)
+IsOperation callers shards (ops.Hold n t x) = (n < callers) × IsPlain t × IsPlain x
+IsOperation callers shards (ops.Drop n x) = (n < callers) × IsPlain x
+IsOperation callers shards (ops.Get n t at w) = (n < callers) × IsPlain t × IsOid at × (w.at < 2 ^ 32)
+IsOperation callers shards (ops.Put n t at size fill) = (n < callers) × IsPlain t × IsOid at × IsBlockSize size × (fill < 256)
+IsOperation callers shards (ops.Patch n t at from bytes) = (n < callers) × IsPlain t × IsOid at × (from < 2 ^ 32) × IsRun bytes
+IsOperation callers shards (ops.Pin n t at) = (n < callers) × IsPlain t × IsOid at
+IsOperation callers shards (ops.Unpin n at) = (n < callers) × IsOid at
+IsOperation callers shards ops.Feed = Unit {0}
+IsOperation callers shards (ops.Txg t) = IsPlain t
+IsOperation callers shards (ops.Cap c) = IsCapacity c × (shards * c ≤ 2 ^ 32)
+
+-- the numbers of a line are in their ranges, where there are so many callers and shards
+abbrev pub IsInRange : (callers shards : ℕ) → Line → Type 0
+IsInRange callers shards (Sizes z) = AreSizes z
+IsInRange callers shards (Declared p) = IsDeclarable p
+IsInRange callers shards (Operation op) = IsOperation callers shards op
 
 -- ---- what the lines say together
 
@@ -126,28 +184,53 @@ with_line before (Sizes z) = record before { config = Some z }
 with_line before (Declared p) = record before { blocks = before.blocks ++ p ∷ [] }
 with_line before (Operation op) = record before { ops = before.ops ++ op ∷ [] }
 
--- how many callers there are, once the `arc` line is read
+-- how many callers and shards there are, once the `arc` line is read
 abbrev pub callers_of : Option Config → ℕ
 callers_of None = 0
 callers_of (Some z) = z.callers
 
--- the number of the block that an operation names
-abbrev pub block_of : Op → ℕ
-block_of (ops.Read n t x w) = x
-block_of (ops.Hold n t x) = x
-block_of (ops.Drop n x) = x
+abbrev pub shards_of : Option Config → ℕ
+shards_of None = 0
+shards_of (Some z) = z.shards
 
--- the line may stand after so many blocks and operations: blocks before all operations, and operations on blocks that are declared
-abbrev pub IsInOrder : ℕ → ℕ → Line → Type 0
-IsInOrder blocks ops (Sizes z) = Unit {0}
-IsInOrder blocks ops (Declared p) = ops ≡ 0
-IsInOrder blocks ops (Operation op) = block_of op < blocks
+-- how much the lines so far say
+abbrev pub seen_of : Content → Seen
+seen_of said = record {
+  callers = callers_of said.config;
+  shards = shards_of said.config;
+  blocks = length said.blocks;
+  operations = length said.ops;
+}
 
--- after so many blocks and operations a trace may have one more line of this sort
-abbrev pub HasRoom : ℕ → ℕ → Line → Type 0
-HasRoom blocks ops (Sizes z) = Unit {0}
-HasRoom blocks ops (Declared p) = blocks < 100000
-HasRoom blocks ops (Operation op) = ops < 1000000
+-- the number of the block that an operation names, where it names one
+abbrev pub block_of : Op → Option ℕ
+block_of (ops.Read n t x w) = Some x
+block_of (ops.Hold n t x) = Some x
+block_of (ops.Drop n x) = Some x
+block_of (ops.Get n t at w) = None
+block_of (ops.Put n t at size fill) = None
+block_of (ops.Patch n t at from bytes) = None
+block_of (ops.Pin n t at) = None
+block_of (ops.Unpin n at) = None
+block_of ops.Feed = None
+block_of (ops.Txg t) = None
+block_of (ops.Cap c) = None
+
+-- the block that an operation names is one of so many
+abbrev pub IsOnDeclared : (blocks : ℕ) → Op → Type 0
+IsOnDeclared blocks op = IfSome (block_of op) (λ x. x < blocks)
+
+-- the line may stand behind lines that say so much: blocks before all operations, and operations on blocks that are declared
+abbrev pub IsInOrder : Seen → Line → Type 0
+IsInOrder seen (Sizes z) = Unit {0}
+IsInOrder seen (Declared p) = seen.operations ≡ 0
+IsInOrder seen (Operation op) = IsOnDeclared seen.blocks op
+
+-- behind lines that say so much a trace may have one more line of this sort
+abbrev pub HasRoom : Seen → Line → Type 0
+HasRoom seen (Sizes z) = Unit {0}
+HasRoom seen (Declared p) = seen.blocks < 100000
+HasRoom seen (Operation op) = seen.operations < 1000000
 
 -- the first line that counts begins with `arc`, and no other does
 abbrev pub MayBegin : Option Config → Word → Type 0
@@ -164,22 +247,22 @@ HasShape word [] = ⊥
 HasShape word (first ∷ fields) = (length fields ≡ field_count word) × AllByRecursion (λ field. 0 < length field) fields
 
 -- the fields spell this line, whose numbers are in their ranges
-pub record Spell (callers : ℕ) (fields : List (List ℕ)) (line : Line) : Type 0 where
+pub record Spell (callers shards : ℕ) (fields : List (List ℕ)) (line : Line) : Type 0 where
   pub spelled : fields ≡ spelling line
-  pub ranged : IsInRange callers line
+  pub ranged : IsInRange callers shards line
 
 -- the fields are this line, and its word may stand here
 pub record Say (config : Option Config) (fields : List (List ℕ)) (line : Line) : Type 0 where
   pub word : Word
   pub begins : BeginsWith config fields word
-  pub spelled : Spell (callers_of config) fields line
+  pub spelled : Spell (callers_of config) (shards_of config) fields line
 
 -- these fields are a line that may stand here
 pub record Add (before : Content) (fields : List (List ℕ)) (after : Content) : Type 0 where
   pub line : Line
   pub said : Say before.config fields line
-  pub ordered : IsInOrder (length before.blocks) (length before.ops) line
-  pub room : HasRoom (length before.blocks) (length before.ops) line
+  pub ordered : IsInOrder (seen_of before) line
+  pub room : HasRoom (seen_of before) line
   pub added : after ≡ with_line before line
 
 -- what is said before and after a line
@@ -204,21 +287,20 @@ IsMisspelled config fields kinds.Order = ⊥
 IsMisspelled config fields kinds.Count = ⊥
 IsMisspelled config fields kinds.Length = ⊥
 
--- the line may not stand after so many blocks and operations
-abbrev pub IsMisplaced : ℕ → ℕ → Line → Kind → Type 0
-IsMisplaced blocks ops line kinds.Order = IsInOrder blocks ops line → ⊥
-IsMisplaced blocks ops line kinds.Count = IsInOrder blocks ops line × (HasRoom blocks ops line → ⊥)
-IsMisplaced blocks ops line kinds.First = ⊥
-IsMisplaced blocks ops line kinds.Word = ⊥
-IsMisplaced blocks ops line kinds.Shape = ⊥
-IsMisplaced blocks ops line kinds.Number = ⊥
-IsMisplaced blocks ops line kinds.Length = ⊥
+-- the line may not stand behind lines that say so much
+abbrev pub IsMisplaced : Seen → Line → Kind → Type 0
+IsMisplaced seen line kinds.Order = IsInOrder seen line → ⊥
+IsMisplaced seen line kinds.Count = IsInOrder seen line × (HasRoom seen line → ⊥)
+IsMisplaced seen line kinds.First = ⊥
+IsMisplaced seen line kinds.Word = ⊥
+IsMisplaced seen line kinds.Shape = ⊥
+IsMisplaced seen line kinds.Number = ⊥
+IsMisplaced seen line kinds.Length = ⊥
 
 -- what is wrong with fields that come after what is said before
 abbrev pub HasFault : Content → List (List ℕ) → Kind → Type 0
 HasFault before fields kind =
-    IsMisspelled before.config fields kind
-    ⊎ ((line : Line) × Say before.config fields line × IsMisplaced (length before.blocks) (length before.ops) line kind)
+    IsMisspelled before.config fields kind ⊎ ((line : Line) × Say before.config fields line × IsMisplaced (seen_of before) line kind)
 
 -- the first line at fault, counted from 1, and what is wrong with it
 pub record IsFaulty (lines : List (List ℕ)) (number : ℕ) (kind : Kind) : Type 0 where
@@ -261,9 +343,9 @@ pub record IsTraceText (text : List ℕ) (trace : Trace) : Type 0 where
   pub short : length text ≤ longest_text
   pub said : AddAll nothing (lines_of text) (content_of trace)
 
--- an operation of a trace: its numbers are in their ranges, and its block is declared
+-- an operation of a trace: its numbers are in their ranges, and a block that it names is declared
 abbrev pub IsPossible : Config → List Ptr → Op → Type 0
-IsPossible sizes blocks op = IsOperation sizes.callers op × (block_of op < length blocks)
+IsPossible sizes blocks op = IsOperation sizes.callers sizes.shards op × IsOnDeclared (length blocks) op
 
 -- what every trace that is read has
 pub record IsFormed (trace : Trace) : Type 0 where

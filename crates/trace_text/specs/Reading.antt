@@ -1,9 +1,11 @@
 -- What the reader's own functions answer, in the words of the grammar.
-use Rattle.std.specs.Prelude.{◌≡◌, ◌≢◌, ℕ, ◌^◌, ◌/◌, ◌%◌, ◌<◌, ◌≤◌, List, ◌∷◌, Option, Some, None, Result, Ok, Err, decimal, false, length, slice_index, take}
+use Rattle.std.specs.Prelude.{◌≡◌, ◌≢◌, ℕ, ◌^◌, ◌/◌, ◌%◌, ◌<◌, ◌≤◌, Bool, true, false, List, [], ◌∷◌, Option, Some, None, Result, Ok, Err, decimal, length, slice_index, take}
 use Rattle.std.specs.Str.Parse.{AllDigits, digits_value}
 use Rattle.memchr.specs.Find.{Nowhere, Passes, is_byte}
-use Rattle.hex.specs.Hex.{encode_lower, lower_digits}
+use Rattle.hex.specs.Hex.{IsBytes, encode_lower, lower_digits}
 use Rattle.blk_ptr.specs.declared.digest.Digest.{Digest}
+use Rattle.blk_ptr.specs.Size.{IsBlockSize}
+use Rattle.dbuf_state.specs.declared.oid.Oid.{Oid}
 use Rattle.arc_core.specs.declared.config.Config.{Config}
 use Rattle.trace_text.specs.declared.fault.Kind.{Kind}
 use Rattle.trace_text.specs.declared.fault.Kind.TheVariants as kinds
@@ -16,7 +18,7 @@ use Rattle.trace_text.specs.declared.words.LineFault.{LineFault}
 use Rattle.trace_text.specs.declared.words.LineFault.TheVariants.{Wrong, NoMemory}
 use Rattle.trace_text.specs.declared.words.Seen.{Seen}
 use Rattle.trace_text.specs.declared.words.Word.{Word}
-use Rattle.trace_text.specs.Grammar.{Content, HasFault, HasRoom, IsDigest, IsFaulty, IsInOrder, IsMisspelled, MayBegin, Say, Spell, callers_of, fields_of, is_passed_over, text_of, with_line}
+use Rattle.trace_text.specs.Grammar.{Content, HasFault, HasRoom, IsDigest, IsFaulty, IsInOrder, IsMisspelled, IsOid, IsRun, MayBegin, Say, Spell, fields_of, is_passed_over, seen_of, text_of, with_line}
 
 -- a text that begins with no plus sign, and with no zero before another byte
 abbrev pub BeginsAsNumber : List ℕ → Type 0
@@ -63,6 +65,21 @@ abbrev pub IsByteRead : ℕ → ℕ → Option ℕ → Type 0
 IsByteRead high low (Some byte) = (byte < 256) × (high ≡ slice_index lower_digits (byte / 16)) × (low ≡ slice_index lower_digits (byte % 16))
 IsByteRead high low None = (byte : ℕ) → byte < 256 → high ≡ slice_index lower_digits (byte / 16) → low ≡ slice_index lower_digits (byte % 16) → ⊥
 
+-- the field spells bytes that fill so much room, or none
+abbrev pub IsRoomFilled : List ℕ → (room : ℕ) → List ℕ → Bool → Type 0
+IsRoomFilled field room bytes true = (field ≡ encode_lower bytes) × (length bytes ≡ room) × IsBytes bytes
+IsRoomFilled field room bytes false = (others : List ℕ) → length others ≡ room → IsBytes others → field ≡ encode_lower others → ⊥
+
+-- the field is a run of bytes, or it is none
+abbrev pub IsRunRead : List ℕ → Option (List ℕ) → Type 0
+IsRunRead field (Some bytes) = (field ≡ encode_lower bytes) × IsRun bytes
+IsRunRead field None = (bytes : List ℕ) → IsRun bytes → field ≡ encode_lower bytes → ⊥
+
+-- the field is a byte, or it is none
+abbrev pub IsFillRead : List ℕ → Option ℕ → Type 0
+IsFillRead field (Some byte) = (field ≡ encode_lower (byte ∷ [])) × (byte < 256)
+IsFillRead field None = (byte : ℕ) → byte < 256 → field ≡ encode_lower (byte ∷ []) → ⊥
+
 -- the field is a word, or it is none
 abbrev pub IsWordRead : List ℕ → Option Word → Type 0
 IsWordRead field (Some word) = field ≡ text_of word
@@ -86,33 +103,58 @@ TakesDigest old new (Ok digest) = (old ≡ encode_lower digest.0 ∷ new) × IsD
 TakesDigest old new (Err kind) =
     (kind ≡ kinds.Number) × ((digest : Digest) (rest : List (List ℕ)) → IsDigest digest → old ≡ encode_lower digest.0 ∷ rest → ⊥)
 
+-- the first field is a run of bytes and the others are left, or it is none
+abbrev pub TakesRun : List (List ℕ) → List (List ℕ) → Result (List ℕ) Kind → Type 0
+TakesRun old new (Ok bytes) = (old ≡ encode_lower bytes ∷ new) × IsRun bytes
+TakesRun old new (Err kind) =
+    (kind ≡ kinds.Number) × ((bytes : List ℕ) (rest : List (List ℕ)) → IsRun bytes → old ≡ encode_lower bytes ∷ rest → ⊥)
+
+-- the first field is a byte and the others are left, or it is none
+abbrev pub TakesByte : List (List ℕ) → List (List ℕ) → Result ℕ Kind → Type 0
+TakesByte old new (Ok byte) = (old ≡ encode_lower (byte ∷ []) ∷ new) × (byte < 256)
+TakesByte old new (Err kind) =
+    (kind ≡ kinds.Number) × ((byte : ℕ) (rest : List (List ℕ)) → byte < 256 → old ≡ encode_lower (byte ∷ []) ∷ rest → ⊥)
+
+-- the first two fields are an object and a block of it and the others are left, or they are none
+abbrev pub TakesOid : List (List ℕ) → List (List ℕ) → Result Oid Kind → Type 0
+TakesOid old new (Ok at) = (old ≡ decimal at.object ∷ decimal at.block ∷ new) × IsOid at
+TakesOid old new (Err kind) =
+    (kind ≡ kinds.Number) × ((at : Oid) (rest : List (List ℕ)) → IsOid at → old ≡ decimal at.object ∷ decimal at.block ∷ rest → ⊥)
+
+-- the first field is a size that a block may have and the others are left, or it is none
+abbrev pub TakesSize : List (List ℕ) → List (List ℕ) → Result ℕ Kind → Type 0
+TakesSize old new (Ok size) = (old ≡ decimal size ∷ new) × IsBlockSize size
+TakesSize old new (Err kind) =
+    (kind ≡ kinds.Number) × ((size : ℕ) (rest : List (List ℕ)) → IsBlockSize size → old ≡ decimal size ∷ rest → ⊥)
+
 -- the fields after this word are a line that may stand here, or why they are none
 abbrev pub IsFormRead : Seen → Word → List (List ℕ) → Result Line Kind → Type 0
-IsFormRead seen word fields (Ok line) = Spell seen.callers (text_of word ∷ fields) line × IsInOrder seen.blocks seen.operations line
-IsFormRead seen word fields (Err kinds.Number) = (line : Line) → Spell seen.callers (text_of word ∷ fields) line → ⊥
+IsFormRead seen word fields (Ok line) = Spell seen.callers seen.shards (text_of word ∷ fields) line × IsInOrder seen line
+IsFormRead seen word fields (Err kinds.Number) = (line : Line) → Spell seen.callers seen.shards (text_of word ∷ fields) line → ⊥
 IsFormRead seen word fields (Err kinds.Order) =
-    (line : Line) × Spell seen.callers (text_of word ∷ fields) line × (IsInOrder seen.blocks seen.operations line → ⊥)
+    (line : Line) × Spell seen.callers seen.shards (text_of word ∷ fields) line × (IsInOrder seen line → ⊥)
 IsFormRead seen word fields (Err kinds.First) = ⊥
 IsFormRead seen word fields (Err kinds.Word) = ⊥
 IsFormRead seen word fields (Err kinds.Shape) = ⊥
 IsFormRead seen word fields (Err kinds.Count) = ⊥
 IsFormRead seen word fields (Err kinds.Length) = ⊥
 
+-- the same, where memory may be refused
+abbrev pub IsLineFormRead : Seen → Word → List (List ℕ) → Result Line LineFault → Type 0
+IsLineFormRead seen word fields (Ok line) = IsFormRead seen word fields (Ok line)
+IsLineFormRead seen word fields (Err (Wrong kind)) = IsFormRead seen word fields (Err kind)
+IsLineFormRead seen word fields (Err NoMemory) = Unit {0}
+
 -- the first field is a word that may stand here, or why it is none
 abbrev pub IsBegun : Option Config → List ℕ → Result Word Kind → Type 0
 IsBegun config first (Ok word) = (first ≡ text_of word) × MayBegin config word
 IsBegun config first (Err kind) = (fields : List (List ℕ)) → IsMisspelled config (first ∷ fields) kind
 
--- what the lines so far say has so many callers, blocks and operations
-pub record IsSeenOf (before : Content) (seen : Seen) : Type 0 where
-  pub callers : seen.callers ≡ callers_of before.config
-  pub blocks : seen.blocks ≡ length before.blocks
-  pub operations : seen.operations ≡ length before.ops
-
 -- the fields are a line that may stand here, or why they are none
-abbrev pub IsLineRead : Content → List (List ℕ) → Result Line Kind → Type 0
-IsLineRead before fields (Ok line) = Say before.config fields line × IsInOrder (length before.blocks) (length before.ops) line
-IsLineRead before fields (Err kind) = HasFault before fields kind
+abbrev pub IsLineRead : Content → List (List ℕ) → Result Line LineFault → Type 0
+IsLineRead before fields (Ok line) = Say before.config fields line × IsInOrder (seen_of before) line
+IsLineRead before fields (Err (Wrong kind)) = HasFault before fields kind
+IsLineRead before fields (Err NoMemory) = Unit {0}
 
 -- why a line that counts is not added
 abbrev pub IsLineCause : Content → List ℕ → LineFault → Type 0
@@ -121,8 +163,8 @@ IsLineCause before line NoMemory = Unit {0}
 
 -- the line is added, or there is no room for it or no memory
 abbrev pub IsPlaced : Content → Line → Content → Result (Unit {0}) LineFault → Type 0
-IsPlaced before line after (Ok done) = HasRoom (length before.blocks) (length before.ops) line × (after ≡ with_line before line)
-IsPlaced before line after (Err (Wrong kind)) = (kind ≡ kinds.Count) × (HasRoom (length before.blocks) (length before.ops) line → ⊥)
+IsPlaced before line after (Ok done) = HasRoom (seen_of before) line × (after ≡ with_line before line)
+IsPlaced before line after (Err (Wrong kind)) = (kind ≡ kinds.Count) × (HasRoom (seen_of before) line → ⊥)
 IsPlaced before line after (Err NoMemory) = Unit {0}
 
 -- the same fault, with the number of its line

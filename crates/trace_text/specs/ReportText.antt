@@ -6,9 +6,9 @@ use Rattle.dbuf_state.specs.Windows.{shown_text}
 use Rattle.trace_text.specs.Counting.{counts_in}
 use Rattle.trace_text.specs.EndText.{count_words, end_lines}
 use Rattle.trace_text.specs.EventText.{history_lines}
-use Rattle.trace_text.specs.ReportWords.{served_word, refusal_text}
+use Rattle.trace_text.specs.ReportWords.{fed_words, served_word, refusal_text}
 use Rattle.trace_text.specs.declared.reply.Reply.{Reply}
-use Rattle.trace_text.specs.declared.reply.Reply.TheVariants.{Read, Kept, Dropped, Refused}
+use Rattle.trace_text.specs.declared.reply.Reply.TheVariants.{Read, Kept, Dropped, Got, Done, Fed, FedNone, Synced, Capped, Refused}
 use Rattle.trace_text.specs.declared.report.Report.{Report}
 
 -- what a reply's line says behind the operation's number
@@ -17,6 +17,13 @@ reply_text (Read served digest shown) =
     codes "ok " ++ served_word served ++ codes " " ++ encode_lower digest.0 ++ codes " " ++ shown_text shown
 reply_text (Kept served) = codes "held " ++ served_word served
 reply_text Dropped = codes "dropped"
+reply_text (Got size shown) = codes "got " ++ decimal size ++ codes " " ++ shown_text shown
+reply_text Done = codes "done"
+reply_text (Fed report) = codes "feed " ++ fed_words report
+reply_text FedNone = codes "feed none"
+reply_text (Synced group blocks bytes) =
+    codes "txg " ++ decimal group ++ codes " blocks " ++ decimal blocks ++ codes " bytes " ++ decimal bytes
+reply_text (Capped c) = codes "cap " ++ decimal c
 reply_text (Refused refusal) = codes "refused " ++ refusal_text refusal
 
 -- the lines of the replies, the first of which has this number

@@ -1,7 +1,7 @@
 //! A trace in the making: each line is taken in, or refused for its fault.
 ghost use Rattle.std.specs.Prelude.{◌≡◌, ◌≤◌, IfErr, MatchOption, None, OnOk, vec_len};
-ghost use Rattle.trace_text.specs.Grammar.{Adds, Content, content_of, fields_of, nothing};
-ghost use Rattle.trace_text.specs.Reading.{IsBegun, IsLineCause, IsLineRead, IsPlaced, IsSeenOf};
+ghost use Rattle.trace_text.specs.Grammar.{Adds, Content, content_of, fields_of, nothing, seen_of};
+ghost use Rattle.trace_text.specs.Reading.{IsBegun, IsLineCause, IsLineRead, IsPlaced};
 
 use crate::fault::Kind;
 use crate::fields::word_of;
@@ -63,28 +63,29 @@ impl Draft {
 
     /// How much the lines so far say.
     fn seen(&self) -> Seen
-        ensures { IsSeenOf self.now result }
+        ensures { result ≡ seen_of self.now }
     {
         Seen {
             callers: self.config.map_or(0, |sizes| sizes.callers),
+            shards: self.config.map_or(0, |sizes| sizes.shards),
             blocks: self.blocks.len() as u32,
             operations: self.operations.len() as u32,
         }
     }
 
     /// What a line that counts says.
-    fn line_of(&self, line: &[u8]) -> Result<Line, Kind>
+    fn line_of(&self, line: &[u8]) -> Result<Line, LineFault>
         ensures { IsLineRead self.now (fields_of line.now) result }
     {
         let mut fields = Parts::new(line, b' ');
         let first = fields.next().unwrap_or(b"");
         let word = begun(self.config, first)?;
-        let said = line_after(word, self.seen(), &mut fields);
-        // A line that says something has the shape of its word, so only one at fault is looked at once more.
-        if said.is_err() && !has_shape(word, line) {
-            return Err(Kind::Shape);
+        let alloc = *self.operations.allocator();
+        match line_after(alloc, word, self.seen(), &mut fields) {
+            // A line that says something has the shape of its word, so only one at fault is looked at once more.
+            Err(LineFault::Wrong(_)) if !has_shape(word, line) => Err(Kind::Shape.into()),
+            said => said,
         }
-        said
     }
 
     /// Adds what the line says. Of an `Err` no line follows.
@@ -95,7 +96,7 @@ impl Draft {
         if line.is_empty() || line[0] == b'#' {
             return Ok(());
         }
-        let said = self.line_of(line).map_err(LineFault::Wrong)?;
+        let said = self.line_of(line)?;
         self.push(said)
     }
 

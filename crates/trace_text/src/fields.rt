@@ -1,14 +1,18 @@
 //! The fields of a line, taken one after another as numbers in their ranges.
-ghost use Rattle.std.specs.Prelude.{◌≡◌, ◌≢◌, ◌<◌, ◌+◌, ◌*◌, ◌^◌, ◌↔◌, [], IsTrue, OnErr, OnOk};
+ghost use Rattle.std.specs.Prelude.{◌≡◌, ◌≢◌, ◌<◌, ◌+◌, ◌*◌, ◌^◌, ◌↔◌, [], IsTrue, OnErr, OnOk, length};
 ghost use Rattle.std.specs.Char.{digit_value};
 ghost use Rattle.std.specs.Option.{SomeIff};
 ghost use Rattle.std.specs.Str.Parse.{AllDigits, digits_value};
-ghost use Rattle.trace_text.specs.Reading.{BeginsAsNumber, IsByteRead, IsDigestRead, IsHexRead, IsNumberRead, IsWordRead, TakesBelow, TakesDigest, TakesNumber};
+ghost use Rattle.trace_text.specs.Reading.{BeginsAsNumber, IsByteRead, IsDigestRead, IsFillRead, IsHexRead, IsNumberRead, IsRoomFilled, IsRunRead, IsWordRead, TakesBelow, TakesByte, TakesDigest, TakesNumber, TakesOid, TakesRun, TakesSize};
 
 use crate::fault::Kind;
 use crate::parts::Parts;
 use crate::words::Word;
-use blk_ptr::Digest;
+use blk_ptr::{Digest, LARGEST_BLOCK, SECTOR};
+use dbuf_state::{MOST_SHOWN, Oid, Shown};
+
+/// The largest number of a trace that has no narrower range.
+pub(crate) const LARGEST_PLAIN: u64 = 1 << 62;
 
 /// The word that a field spells.
 pub(crate) fn word_of(field: &[u8]) -> Option<Word>
@@ -20,6 +24,14 @@ pub(crate) fn word_of(field: &[u8]) -> Option<Word>
         b"read" => Some(Word::Read),
         b"hold" => Some(Word::Hold),
         b"drop" => Some(Word::Drop),
+        b"get" => Some(Word::Get),
+        b"put" => Some(Word::Put),
+        b"patch" => Some(Word::Patch),
+        b"pin" => Some(Word::Pin),
+        b"unpin" => Some(Word::Unpin),
+        b"feed" => Some(Word::Feed),
+        b"txg" => Some(Word::Txg),
+        b"cap" => Some(Word::Cap),
         _ => None,
     }
 }
@@ -133,6 +145,89 @@ pub(crate) fn next_digest(fields: &mut Parts<'_>) -> Result<Digest, Kind>
 {
     let field = fields.next().ok_or(Kind::Number)?;
     digest(field).ok_or(Kind::Number)
+}
+
+/// The bytes that a field spells by lower-case hex digits, two for each, where there is just the room for them.
+fn spell_into(field: &[u8], room: &mut [u8]) -> bool
+    requires { length field.now ≡ 2 * length room.old }
+    ensures { IsRoomFilled field.now (length room.old) room.new result }
+{
+    for place in 0..room.len() {
+        let Some(byte) = byte_spelled(field[2 * place], field[2 * place + 1]) else {
+            return false;
+        };
+        room[place] = byte;
+    }
+    true
+}
+
+/// From 1 to 64 bytes that a field spells by lower-case hex digits, two for each.
+fn run(field: &[u8]) -> Option<Shown>
+    ensures { IsRunRead field.now result }
+{
+    if field.len() % 2 != 0 {
+        return None;
+    }
+    let len = field.len() / 2;
+    if len == 0 {
+        return None;
+    }
+    if len > MOST_SHOWN {
+        return None;
+    }
+    let mut room = [0u8; MOST_SHOWN];
+    if spell_into(field, &mut room[..len]) {
+        Some(Shown::of(&room[..len]))
+    } else {
+        None
+    }
+}
+
+/// The byte that a field spells by two lower-case hex digits.
+fn byte(field: &[u8]) -> Option<u8>
+    ensures { IsFillRead field.now result }
+{
+    if field.len() != 2 {
+        return None;
+    }
+    byte_spelled(field[0], field[1])
+}
+
+/// Takes the next field, where it is a run of bytes.
+pub(crate) fn next_run(fields: &mut Parts<'_>) -> Result<Shown, Kind>
+    ensures { TakesRun fields.old fields.new result }
+{
+    let field = fields.next().ok_or(Kind::Number)?;
+    run(field).ok_or(Kind::Number)
+}
+
+/// Takes the next field, where it is a byte.
+pub(crate) fn next_byte(fields: &mut Parts<'_>) -> Result<u8, Kind>
+    ensures { TakesByte fields.old fields.new result }
+{
+    let field = fields.next().ok_or(Kind::Number)?;
+    byte(field).ok_or(Kind::Number)
+}
+
+/// Takes the next two fields, where they are an object and a block of it.
+pub(crate) fn next_oid(fields: &mut Parts<'_>) -> Result<Oid, Kind>
+    ensures { TakesOid fields.old fields.new result }
+{
+    let object = next_number(fields, 0, LARGEST_PLAIN)?;
+    let block = next_number(fields, 0, LARGEST_PLAIN)?;
+    Ok(Oid { object, block })
+}
+
+/// Takes the next field, where it is a size that a block may have.
+pub(crate) fn next_size(fields: &mut Parts<'_>) -> Result<u32, Kind>
+    ensures { TakesSize fields.old fields.new result }
+{
+    let size = next_number(fields, SECTOR, LARGEST_BLOCK)?;
+    if size % SECTOR == 0 {
+        Ok(size as u32)
+    } else {
+        Err(Kind::Number)
+    }
 }
 
 /// Takes the next field, where it is a number below `limit`.

@@ -7,7 +7,7 @@ ghost use Rattle.trace_text.specs.declared.words.Word.TheVariants as words;
 
 use crate::bounds::DEFAULT_BOUNDS;
 use crate::fault::Kind;
-use crate::fields::{next_below, next_digest, next_number, no_more};
+use crate::fields::{LARGEST_PLAIN, next_below, next_digest, next_number, no_more};
 use crate::op::Op;
 use crate::parts::Parts;
 use crate::words::{Line, Seen};
@@ -15,15 +15,12 @@ use arc_core::Config;
 use blk_ptr::{Key, Ptr};
 use dbuf_state::Window;
 
-/// The largest number of a trace that has no narrower range.
-const LARGEST_PLAIN: u64 = 1 << 62;
-
 /// The largest number of bytes of a cache or a block, and of ticks of MINTIME.
 const LARGEST_SIZE: u64 = 1 << 32;
 
 /// The sizes of the cache: callers, shards, buckets, cells, `c`, MINTIME and the bytes of dbufs.
 pub(crate) fn sizes(seen: Seen, fields: &mut Parts<'_>) -> Result<Line, Kind>
-    ensures ok { IfOk result (λ line. Spell seen.callers (text_of words.Arc ∷ fields.old) line × IsInOrder seen.blocks seen.operations line) }
+    ensures ok { IfOk result (λ line. Spell seen.callers seen.shards (text_of words.Arc ∷ fields.old) line × IsInOrder seen line) }
     ensures err { length fields.old ≡ field_count words.Arc → IsFormRead seen words.Arc fields.old result }
 {
     let callers = next_number(fields, 1, 16)? as u32;
@@ -51,7 +48,7 @@ pub(crate) fn sizes(seen: Seen, fields: &mut Parts<'_>) -> Result<Line, Kind>
 
 /// A block pointer: offset, size, birth and digest.
 pub(crate) fn declared(seen: Seen, fields: &mut Parts<'_>) -> Result<Line, Kind>
-    ensures ok { IfOk result (λ line. Spell seen.callers (text_of words.Block ∷ fields.old) line × IsInOrder seen.blocks seen.operations line) }
+    ensures ok { IfOk result (λ line. Spell seen.callers seen.shards (text_of words.Block ∷ fields.old) line × IsInOrder seen line) }
     ensures err { length fields.old ≡ field_count words.Block → IsFormRead seen words.Block fields.old result }
 {
     let offset = next_number(fields, 0, LARGEST_PLAIN)?;
@@ -72,7 +69,7 @@ pub(crate) fn declared(seen: Seen, fields: &mut Parts<'_>) -> Result<Line, Kind>
 
 /// A read: caller, tick, block, and the window's start and length.
 pub(crate) fn read(seen: Seen, fields: &mut Parts<'_>) -> Result<Line, Kind>
-    ensures ok { IfOk result (λ line. Spell seen.callers (text_of words.Read ∷ fields.old) line × IsInOrder seen.blocks seen.operations line) }
+    ensures ok { IfOk result (λ line. Spell seen.callers seen.shards (text_of words.Read ∷ fields.old) line × IsInOrder seen line) }
     ensures err { length fields.old ≡ field_count words.Read → IsFormRead seen words.Read fields.old result }
 {
     let n = next_below(fields, seen.callers)?;
@@ -88,7 +85,7 @@ pub(crate) fn read(seen: Seen, fields: &mut Parts<'_>) -> Result<Line, Kind>
 
 /// A read that keeps the block: caller, tick and block.
 pub(crate) fn held(seen: Seen, fields: &mut Parts<'_>) -> Result<Line, Kind>
-    ensures ok { IfOk result (λ line. Spell seen.callers (text_of words.Hold ∷ fields.old) line × IsInOrder seen.blocks seen.operations line) }
+    ensures ok { IfOk result (λ line. Spell seen.callers seen.shards (text_of words.Hold ∷ fields.old) line × IsInOrder seen line) }
     ensures err { length fields.old ≡ field_count words.Hold → IsFormRead seen words.Hold fields.old result }
 {
     let n = next_below(fields, seen.callers)?;
@@ -101,7 +98,7 @@ pub(crate) fn held(seen: Seen, fields: &mut Parts<'_>) -> Result<Line, Kind>
 
 /// The end of such a read: caller and block.
 pub(crate) fn dropped(seen: Seen, fields: &mut Parts<'_>) -> Result<Line, Kind>
-    ensures ok { IfOk result (λ line. Spell seen.callers (text_of words.Drop ∷ fields.old) line × IsInOrder seen.blocks seen.operations line) }
+    ensures ok { IfOk result (λ line. Spell seen.callers seen.shards (text_of words.Drop ∷ fields.old) line × IsInOrder seen line) }
     ensures err { length fields.old ≡ field_count words.Drop → IsFormRead seen words.Drop fields.old result }
 {
     let n = next_below(fields, seen.callers)?;
@@ -109,6 +106,39 @@ pub(crate) fn dropped(seen: Seen, fields: &mut Parts<'_>) -> Result<Line, Kind>
     no_more(fields)?;
     let x = declared_block(seen, named)?;
     Ok(Line::Operation(Op::Drop { n, x }))
+}
+
+/// One feed of the cache device.
+pub(crate) fn fed(seen: Seen, fields: &mut Parts<'_>) -> Result<Line, Kind>
+    ensures ok { IfOk result (λ line. Spell seen.callers seen.shards (text_of words.Feed ∷ fields.old) line × IsInOrder seen line) }
+    ensures err { length fields.old ≡ field_count words.Feed → IsFormRead seen words.Feed fields.old result }
+{
+    no_more(fields)?;
+    Ok(Line::Operation(Op::Feed))
+}
+
+/// The end of a group: its tick.
+pub(crate) fn synced(seen: Seen, fields: &mut Parts<'_>) -> Result<Line, Kind>
+    ensures ok { IfOk result (λ line. Spell seen.callers seen.shards (text_of words.Txg ∷ fields.old) line × IsInOrder seen line) }
+    ensures err { length fields.old ≡ field_count words.Txg → IsFormRead seen words.Txg fields.old result }
+{
+    let t = next_number(fields, 0, LARGEST_PLAIN)?;
+    no_more(fields)?;
+    Ok(Line::Operation(Op::Txg { t }))
+}
+
+/// A new capacity of every shard, with which all shards together stay as small as the first line allows.
+pub(crate) fn capped(seen: Seen, fields: &mut Parts<'_>) -> Result<Line, Kind>
+    ensures ok { IfOk result (λ line. Spell seen.callers seen.shards (text_of words.Cap ∷ fields.old) line × IsInOrder seen line) }
+    ensures err { length fields.old ≡ field_count words.Cap → IsFormRead seen words.Cap fields.old result }
+{
+    let c = next_number(fields, 4096, LARGEST_SIZE)?;
+    no_more(fields)?;
+    let shards = u64::from(seen.shards);
+    if shards * c > LARGEST_SIZE {
+        return Err(Kind::Number);
+    }
+    Ok(Line::Operation(Op::Cap { c }))
 }
 
 /// The number of a block that an earlier line declares.

@@ -1,12 +1,15 @@
 //! Which lines of a text are passed over, and what the others are.
-ghost use Rattle.std.specs.Prelude.{◌≡◌, ◌↔◌, ◌∷◌, IfOk, IsTrue, length};
+ghost use Rattle.std.specs.Prelude.{◌≡◌, ◌≢◌, ◌↔◌, ◌∷◌, IfOk, IsTrue, length};
 ghost use Rattle.trace_text.specs.Grammar.{HasShape, IsInOrder, Spell, fields_of, field_count, text_of};
-ghost use Rattle.trace_text.specs.Reading.{IsFormRead};
+ghost use Rattle.trace_text.specs.Reading.{IsFormRead, IsLineFormRead};
+ghost use Rattle.trace_text.specs.declared.words.Word.TheVariants as words;
 
+use crate::dbuf_forms::{got, patched, pinned, put, unpinned};
 use crate::fault::Kind;
-use crate::forms::{declared, dropped, held, read, sizes};
+use crate::forms::{capped, declared, dropped, fed, held, read, sizes, synced};
 use crate::parts::Parts;
-use crate::words::{Line, Seen, Word};
+use crate::words::{Line, LineFault, Seen, Word};
+use std::alloc::Global;
 
 /// How many fields come after a word.
 fn fields_after(word: Word) -> usize
@@ -18,6 +21,12 @@ fn fields_after(word: Word) -> usize
         Word::Read => 5,
         Word::Hold => 3,
         Word::Drop => 2,
+        Word::Get | Word::Put | Word::Patch => 6,
+        Word::Pin => 4,
+        Word::Unpin => 3,
+        Word::Feed => 0,
+        Word::Txg => 1,
+        Word::Cap => 1,
     }
 }
 
@@ -40,8 +49,25 @@ pub(crate) fn has_shape(word: Word, line: &[u8]) -> bool
 }
 
 /// What the fields after a word say. What is told of fields that are too many or too few isn't their fault: that is the shape.
-pub(crate) fn line_after(word: Word, seen: Seen, fields: &mut Parts<'_>) -> Result<Line, Kind>
-    ensures ok { IfOk result (λ line. Spell seen.callers (text_of word ∷ fields.old) line × IsInOrder seen.blocks seen.operations line) }
+pub(crate) fn line_after(
+    alloc: Global,
+    word: Word,
+    seen: Seen,
+    fields: &mut Parts<'_>,
+) -> Result<Line, LineFault>
+    ensures ok { IfOk result (λ line. Spell seen.callers seen.shards (text_of word ∷ fields.old) line × IsInOrder seen line) }
+    ensures err { length fields.old ≡ field_count word → IsLineFormRead seen word fields.old result }
+{
+    match word {
+        Word::Patch => patched(alloc, seen, fields),
+        other => plain_after(other, seen, fields).map_err(LineFault::Wrong),
+    }
+}
+
+/// The same, of a word whose lines need no memory of their own.
+fn plain_after(word: Word, seen: Seen, fields: &mut Parts<'_>) -> Result<Line, Kind>
+    requires { word ≢ words.Patch }
+    ensures ok { IfOk result (λ line. Spell seen.callers seen.shards (text_of word ∷ fields.old) line × IsInOrder seen line) }
     ensures err { length fields.old ≡ field_count word → IsFormRead seen word fields.old result }
 {
     match word {
@@ -50,5 +76,13 @@ pub(crate) fn line_after(word: Word, seen: Seen, fields: &mut Parts<'_>) -> Resu
         Word::Read => read(seen, fields),
         Word::Hold => held(seen, fields),
         Word::Drop => dropped(seen, fields),
+        Word::Get => got(seen, fields),
+        Word::Put => put(seen, fields),
+        Word::Patch => unreachable!(),
+        Word::Pin => pinned(seen, fields),
+        Word::Unpin => unpinned(seen, fields),
+        Word::Feed => fed(seen, fields),
+        Word::Txg => synced(seen, fields),
+        Word::Cap => capped(seen, fields),
     }
 }

@@ -1,10 +1,11 @@
 //! What an operation is answered, and how that is printed.
 ghost use Rattle.std.specs.Prelude.{◌≡◌, Some};
-ghost use Rattle.trace_text.specs.ReportWords.{served_word};
+ghost use Rattle.trace_text.specs.ReportWords.{end_word, served_word};
 
 use arc_core::Served;
 use blk_ptr::{Digest, KeyFault};
-use dbuf_state::Shown;
+use dbuf_state::{Oid, Shown};
+use l2_dev::{FeedReport, FeedStop};
 use std::fmt;
 
 /// Why an operation was refused.
@@ -20,8 +21,12 @@ pub enum Refusal {
     NoMemory,
     /// The window ends at `end`, past the block's `size`.
     Range { end: u64, size: u64 },
+    /// The object map has no such block.
+    NoBlock(Oid),
     /// The caller keeps no read of this block.
     NoHold { block: u32 },
+    /// The caller has no pin of this block's dbuf.
+    NoPin(Oid),
 }
 
 impl fmt::Display for Refusal {
@@ -36,7 +41,9 @@ impl fmt::Display for Refusal {
             Refusal::Key(fault) => write!(f, "key {fault}"),
             Refusal::NoMemory => write!(f, "memory"),
             Refusal::Range { end, size } => write!(f, "window {end} {size}"),
+            Refusal::NoBlock(Oid { object, block }) => write!(f, "block {object} {block}"),
             Refusal::NoHold { block } => write!(f, "hold {block}"),
+            Refusal::NoPin(Oid { object, block }) => write!(f, "pin {object} {block}"),
         }
     }
 }
@@ -56,6 +63,27 @@ pub enum Reply {
     },
     /// The oldest kept read of the block was dropped.
     Dropped,
+    /// A block of an object: how many bytes it has, and those of the window.
+    Got {
+        size: u32,
+        shown: Shown,
+    },
+    /// A block was written, or its dbuf is kept or let go.
+    Done,
+    /// What a feed of the cache device did.
+    Fed(FeedReport),
+    /// There is no cache device that could be fed.
+    FedNone,
+    /// The dirty blocks of this group were written to the pool: how many there were, and their bytes.
+    Synced {
+        group: u64,
+        blocks: u32,
+        bytes: u64,
+    },
+    /// Every shard may cache so many bytes.
+    Capped {
+        c: u64,
+    },
     /// A refusal, which changed nothing.
     Refused(Refusal),
 }
@@ -74,8 +102,54 @@ impl fmt::Display for Reply {
             } => write!(f, "ok {} {digest} {shown}", word_of_served(*served)),
             Reply::Kept { served } => write!(f, "held {}", word_of_served(*served)),
             Reply::Dropped => write!(f, "dropped"),
+            Reply::Got { size, shown } => write!(f, "got {size} {shown}"),
+            Reply::Done => write!(f, "done"),
+            Reply::Fed(report) => write!(f, "feed {}", FedWords(*report)),
+            Reply::FedNone => write!(f, "feed none"),
+            Reply::Synced {
+                group,
+                blocks,
+                bytes,
+            } => write!(f, "txg {group} blocks {blocks} bytes {bytes}"),
+            Reply::Capped { c } => write!(f, "cap {c}"),
             Reply::Refused(refusal) => write!(f, "refused {refusal}"),
         }
+    }
+}
+
+/// What a feed did, as its line says it.
+#[derive(Clone, Copy)]
+struct FedWords(FeedReport);
+
+impl fmt::Display for FedWords {
+    ghost use Rattle.trace_text.specs.ReportWords.{fed_words};
+
+    ghost output = { λ words. Some (fed_words words.0) };
+
+    fn fmt<W: fmt::Write>(&self, f: &mut fmt::Formatter<W>) -> fmt::Result {
+        let FeedReport {
+            picked,
+            bytes,
+            written,
+            cleared,
+            end,
+        } = self.0;
+        write!(
+            f,
+            "picked {picked} bytes {bytes} written {written} cleared {cleared} {}",
+            word_of_end(end)
+        )
+    }
+}
+
+/// How a feed ended.
+fn word_of_end(end: FeedStop) -> &'static str
+    ensures { result.now ≡ end_word end }
+{
+    match end {
+        FeedStop::Done => "ok",
+        FeedStop::DevFault => "fault",
+        FeedStop::NoMemory => "memory",
     }
 }
 

@@ -1,12 +1,12 @@
 //! The words with which the lines of a trace begin.
 ghost use Rattle.std.specs.Prelude.{◌≡◌};
-ghost use Rattle.trace_text.specs.declared.words.LineFault.TheVariants.{NoMemory};
+ghost use Rattle.trace_text.specs.declared.words.LineFault.TheVariants.{NoMemory, Wrong};
 
 use crate::fault::Kind;
 use crate::op::Op;
 use arc_core::Config;
 use blk_ptr::Ptr;
-use std::alloc::AllocFailed;
+use std::alloc::{AllocError, AllocFailed};
 
 /// The words that a line may begin with.
 #[derive(Clone, Copy, Debug, PartialEq, Eq)]
@@ -16,10 +16,18 @@ pub(crate) enum Word {
     Read,
     Hold,
     Drop,
+    Get,
+    Put,
+    Patch,
+    Pin,
+    Unpin,
+    Feed,
+    Txg,
+    Cap,
 }
 
 /// What one line says.
-#[derive(Clone, Copy, Debug, PartialEq, Eq)]
+#[derive(Drop)]
 pub(crate) enum Line {
     /// The sizes of the cache.
     Sizes(Config),
@@ -43,10 +51,28 @@ pub(crate) enum LineFault {
 pub(crate) struct Seen {
     /// The number of callers.
     pub(crate) callers: u32,
+    /// The number of shards.
+    pub(crate) shards: u32,
     /// How many blocks are declared.
     pub(crate) blocks: u32,
     /// How many operations there are.
     pub(crate) operations: u32,
+}
+
+impl From<Kind> for LineFault {
+    ghost from_gives = { λ kind fault. fault ≡ Wrong kind };
+
+    fn from(kind: Kind) -> Self {
+        LineFault::Wrong(kind)
+    }
+}
+
+impl From<AllocError> for LineFault {
+    ghost from_gives = { λ _ fault. fault ≡ NoMemory };
+
+    fn from(_refused: AllocError) -> Self {
+        LineFault::NoMemory
+    }
 }
 
 impl<T: Drop> From<AllocFailed<T>> for LineFault {

@@ -11,6 +11,6 @@ returns-in_err-x-clause-err c = λ sized.
     let exit = err_from_is_err_and c.from_residual-in_err-x.result c.from_residual-in_err-x.ensures.1 in
     order-fault c.args.seen words.Drop c.args.fields.now _ exit.0 _ exit.1 exit.2 c.in_err-x.ensures.0
     (Operation (ops.Drop c.in_ok-n.n c.in_ok-named.named))
-    (drop-spelled c.args.seen.callers _ _ _ _ _ c.in_ok-no_more.ensures.ok c.in_ok-n.ensures.0 c.in_ok-named.ensures.0
+    (drop-spelled c.args.seen.callers c.args.seen.shards _ _ _ _ _ c.in_ok-no_more.ensures.ok c.in_ok-n.ensures.0 c.in_ok-named.ensures.0
     (c.in_ok-n.ensures.1, c.in_ok-named.ensures.2))
     (λ below. omega (arith, c.in_err-x.ensures.1))

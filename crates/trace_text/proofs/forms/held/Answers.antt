@@ -10,19 +10,19 @@ pub returns-in_err-t-clause-err : goal.returns-in_err-t-clause-err
 returns-in_err-t-clause-err c = λ sized.
     let exit = err_from_is_err_and c.from_residual-in_err-t.result c.from_residual-in_err-t.ensures.1 in
     number-fault c.args.seen words.Hold c.args.fields.now _ exit.0 _ exit.1 exit.2 c.in_err-t.ensures.0
-    (λ line said. let p = spell-hold c.args.seen.callers c.args.fields.now line said in c.in_err-t.ensures.1 p.1 _ (omega arith) p.5.1 (next-fields c.in_ok-n.ensures.0 p.4))
+    (λ line said. let p = spell-hold c.args.seen.callers c.args.seen.shards c.args.fields.now line said in c.in_err-t.ensures.1 p.1 _ (omega arith) p.5.1 (next-fields c.in_ok-n.ensures.0 p.4))
 
 pub returns-in_err-named-clause-err : goal.returns-in_err-named-clause-err
 returns-in_err-named-clause-err c = λ sized.
     let exit = err_from_is_err_and c.from_residual-in_err-named.result c.from_residual-in_err-named.ensures.1 in
     number-fault c.args.seen words.Hold c.args.fields.now _ exit.0 _ exit.1 exit.2 c.in_err-named.ensures.0
-    (λ line said. let p = spell-hold c.args.seen.callers c.args.fields.now line said in c.in_err-named.ensures.1 p.2 _ (omega arith) p.5.2 (next-fields c.in_ok-t.ensures.0 (next-fields c.in_ok-n.ensures.0 p.4)))
+    (λ line said. let p = spell-hold c.args.seen.callers c.args.seen.shards c.args.fields.now line said in c.in_err-named.ensures.1 p.2 _ (omega arith) p.5.2 (next-fields c.in_ok-t.ensures.0 (next-fields c.in_ok-n.ensures.0 p.4)))
 
 pub returns-in_err-x-clause-err : goal.returns-in_err-x-clause-err
 returns-in_err-x-clause-err c = λ sized.
     let exit = err_from_is_err_and c.from_residual-in_err-x.result c.from_residual-in_err-x.ensures.1 in
     order-fault c.args.seen words.Hold c.args.fields.now _ exit.0 _ exit.1 exit.2 c.in_err-x.ensures.0
     (Operation (ops.Hold c.in_ok-n.n c.in_ok-t.t c.in_ok-named.named))
-    (hold-spelled c.args.seen.callers _ _ _ _ _ _ _ c.in_ok-no_more.ensures.ok c.in_ok-n.ensures.0 c.in_ok-t.ensures.0 c.in_ok-named.ensures.0
+    (hold-spelled c.args.seen.callers c.args.seen.shards _ _ _ _ _ _ _ c.in_ok-no_more.ensures.ok c.in_ok-n.ensures.0 c.in_ok-t.ensures.0 c.in_ok-named.ensures.0
     (c.in_ok-n.ensures.1, c.in_ok-t.ensures.2, c.in_ok-named.ensures.2))
     (λ below. omega (arith, c.in_err-x.ensures.1))

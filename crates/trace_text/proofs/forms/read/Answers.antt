@@ -11,25 +11,25 @@ pub returns-in_err-t-clause-err : goal.returns-in_err-t-clause-err
 returns-in_err-t-clause-err c = λ sized.
     let exit = err_from_is_err_and c.from_residual-in_err-t.result c.from_residual-in_err-t.ensures.1 in
     number-fault c.args.seen words.Read c.args.fields.now _ exit.0 _ exit.1 exit.2 c.in_err-t.ensures.0
-    (λ line said. let p = spell-read c.args.seen.callers c.args.fields.now line said in c.in_err-t.ensures.1 p.1 _ (omega arith) p.6.1 (next-fields c.in_ok-n.ensures.0 p.5))
+    (λ line said. let p = spell-read c.args.seen.callers c.args.seen.shards c.args.fields.now line said in c.in_err-t.ensures.1 p.1 _ (omega arith) p.6.1 (next-fields c.in_ok-n.ensures.0 p.5))
 
 pub returns-in_err-named-clause-err : goal.returns-in_err-named-clause-err
 returns-in_err-named-clause-err c = λ sized.
     let exit = err_from_is_err_and c.from_residual-in_err-named.result c.from_residual-in_err-named.ensures.1 in
     number-fault c.args.seen words.Read c.args.fields.now _ exit.0 _ exit.1 exit.2 c.in_err-named.ensures.0
-    (λ line said. let p = spell-read c.args.seen.callers c.args.fields.now line said in c.in_err-named.ensures.1 p.2 _ (omega arith) p.6.2 (next-fields c.in_ok-t.ensures.0 (next-fields c.in_ok-n.ensures.0 p.5)))
+    (λ line said. let p = spell-read c.args.seen.callers c.args.seen.shards c.args.fields.now line said in c.in_err-named.ensures.1 p.2 _ (omega arith) p.6.2 (next-fields c.in_ok-t.ensures.0 (next-fields c.in_ok-n.ensures.0 p.5)))
 
 pub returns-in_err-at-clause-err : goal.returns-in_err-at-clause-err
 returns-in_err-at-clause-err c = λ sized.
     let exit = err_from_is_err_and c.from_residual-in_err-at.result c.from_residual-in_err-at.ensures.1 in
     number-fault c.args.seen words.Read c.args.fields.now _ exit.0 _ exit.1 exit.2 c.in_err-at.ensures.0
-    (λ line said. let p = spell-read c.args.seen.callers c.args.fields.now line said in c.in_err-at.ensures.1 p.3.at _ (omega arith) (omega (arith, p.6.3)) (next-fields c.in_ok-named.ensures.0 (next-fields c.in_ok-t.ensures.0 (next-fields c.in_ok-n.ensures.0 p.5))))
+    (λ line said. let p = spell-read c.args.seen.callers c.args.seen.shards c.args.fields.now line said in c.in_err-at.ensures.1 p.3.at _ (omega arith) (omega (arith, p.6.3)) (next-fields c.in_ok-named.ensures.0 (next-fields c.in_ok-t.ensures.0 (next-fields c.in_ok-n.ensures.0 p.5))))
 
 pub returns-in_err-len-clause-err : goal.returns-in_err-len-clause-err
 returns-in_err-len-clause-err c = λ sized.
     let exit = err_from_is_err_and c.from_residual-in_err-len.result c.from_residual-in_err-len.ensures.1 in
     number-fault c.args.seen words.Read c.args.fields.now _ exit.0 _ exit.1 exit.2 c.in_err-len.ensures.0
-    (λ line said. let p = spell-read c.args.seen.callers c.args.fields.now line said in c.in_err-len.ensures.1 p.3.len _ (omega arith) p.3.short (next-fields c.in_ok-at.ensures.0 (next-fields c.in_ok-named.ensures.0 (next-fields c.in_ok-t.ensures.0 (next-fields c.in_ok-n.ensures.0 p.5)))))
+    (λ line said. let p = spell-read c.args.seen.callers c.args.seen.shards c.args.fields.now line said in c.in_err-len.ensures.1 p.3.len _ (omega arith) p.3.short (next-fields c.in_ok-at.ensures.0 (next-fields c.in_ok-named.ensures.0 (next-fields c.in_ok-t.ensures.0 (next-fields c.in_ok-n.ensures.0 p.5)))))
 
 pub returns-in_err-x-clause-err : goal.returns-in_err-x-clause-err
 returns-in_err-x-clause-err c = λ sized.
@@ -37,7 +37,7 @@ returns-in_err-x-clause-err c = λ sized.
     let w : Window = record { at = c.in_ok-at.field-0; len = c.in_ok-len.field-0; short = c.in_ok-len.ensures.2 } in
     order-fault c.args.seen words.Read c.args.fields.now _ exit.0 _ exit.1 exit.2 c.in_err-x.ensures.0
     (Operation (ops.Read c.in_ok-n.n c.in_ok-t.t c.in_ok-named.named w))
-    (read-spelled c.args.seen.callers _ _ _ _ _ _ _ _ _ _ _ w refl refl c.in_ok-no_more.ensures.ok
+    (read-spelled c.args.seen.callers c.args.seen.shards _ _ _ _ _ _ _ _ _ _ _ w refl refl c.in_ok-no_more.ensures.ok
     c.in_ok-n.ensures.0 c.in_ok-t.ensures.0 c.in_ok-named.ensures.0 c.in_ok-at.ensures.0 c.in_ok-len.ensures.0
     (c.in_ok-n.ensures.1, c.in_ok-t.ensures.2, c.in_ok-named.ensures.2, omega (arith, c.in_ok-at.ensures.2)))
     (λ below. omega (arith, c.in_err-x.ensures.1))

@@ -1,0 +1,37 @@
+-- Why a source's text is not run.
+use Rattle.std.proofs.Common.{◌≡◌, true, ℕ, List, Result, Err, inl, inr, refl, ap, ◌∙◌, subst}
+use Rattle.std.specs.Prelude.{IfErr}
+use Rattle.std.specs.List.{list_any}
+use Rattle.trace_text.specs.Grammar.{IsCause, IsFirstFault, IsTraceText, longest_text}
+use Rattle.trace_text.specs.declared.fault.Kind.{Kind}
+use Rattle.trace_text.specs.declared.fault.Kind.TheVariants as kinds
+use Rattle.trace_text.specs.declared.fault.TraceFault.{TraceFault}
+use Rattle.trace_text.specs.declared.fault.TraceFault.TheVariants.{Bad}
+use Rattle.trace_text.specs.declared.trace.Trace.{Trace}
+use Rattle.trace_run.specs.Lines.{is_undone}
+use Rattle.trace_run.specs.Outcome.{IsBadTrace}
+use Rattle.trace_run.specs.States.{NoneFailed, StreamState}
+use Rattle.trace_run.specs.Stream.{Gives}
+
+-- an operation of its trace is not done yet
+pub undone-trace : (before after : StreamState) (text shown : List ℕ) (trace : Trace) (line : ℕ) → Gives before.told after.told longest_text text → NoneFailed before after
+    → shown ≡ text → IsTraceText shown trace → list_any is_undone trace.ops ≡ true → IsBadTrace before after line kinds.Word
+undone-trace before after text shown trace line given unfailed same is undone = record {
+  text = text;
+  given = given;
+  unfailed = unfailed;
+  fault = inr (record { trace = trace; is_trace = subst (λ (t : List ℕ). IsTraceText t trace) same is; undone = undone; unknown = refl });
+}
+
+-- it is no trace
+pub faulty-trace : (before after : StreamState) (text shown : List ℕ) (line : ℕ) (kind : Kind) (r : Result Trace TraceFault) (e : TraceFault) → Gives before.told after.told longest_text text
+    → NoneFailed before after → shown ≡ text → r ≡ Err e → e ≡ Bad line kind → IfErr r (IsCause shown) → IsBadTrace before after line kind
+faulty-trace before after text shown line kind r e given unfailed same is bad cause =
+    let whole : r ≡ Err (Bad line kind) = is ∙ ap (λ (f : TraceFault). let told : Result Trace TraceFault = Err f in told) bad in
+    let first : IsFirstFault shown line kind = subst (λ (x : Result Trace TraceFault). IfErr x (IsCause shown)) whole cause in
+    record {
+      text = text;
+      given = given;
+      unfailed = unfailed;
+      fault = inl (subst (λ (t : List ℕ). IsFirstFault t line kind) same first);
+    }

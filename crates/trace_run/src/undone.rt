@@ -1,0 +1,47 @@
+//! Traces with operations that the program doesn't do yet. They are refused before anything is run, as lines with an unknown word are.
+ghost use Rattle.std.specs.Prelude.{◌≡◌};
+ghost use Rattle.std.specs.List.{list_any};
+ghost use Rattle.trace_run.specs.Lines.{is_undone};
+
+use trace_text::Op;
+
+/// The words of these operations.
+const UNDONE: [&[u8]; 8] = [
+    b"get", b"put", b"patch", b"pin", b"unpin", b"feed", b"txg", b"cap",
+];
+
+/// Whether one of the operations is not done yet.
+pub(crate) fn has_undone(ops: &[Op]) -> bool
+    ensures { result ≡ list_any is_undone ops.now }
+{
+    ops.iter().any(is_undone)
+}
+
+/// Whether the operation is not done yet.
+fn is_undone(op: &Op) -> bool
+    ensures { result ≡ is_undone op.now }
+{
+    match op {
+        Op::Read { .. } | Op::Hold { .. } | Op::Drop { .. } => false,
+        _ => true,
+    }
+}
+
+/// The number of the first line behind the first of a trace's text that begins with the word of such an operation, counted from 1.
+pub(crate) fn first_undone(text: &[u8]) -> u32 {
+    let mut line: u32 = 1;
+    for place in 0..text.len() {
+        if text[place] == b'\n' {
+            line = line.saturating_add(1);
+            if begins_undone(&text[place + 1..]) {
+                return line;
+            }
+        }
+    }
+    line
+}
+
+/// Whether a text begins with the word of such an operation.
+fn begins_undone(text: &[u8]) -> bool {
+    UNDONE.iter().any(|word| text.starts_with(word))
+}
