@@ -1,0 +1,9 @@
+pub mod CellSteps
+pub mod Evictions
+pub mod HoldLists
+pub mod Mods
+pub mod Operations
+pub mod PartySteps
+pub mod PutSteps
+pub mod Puts
+pub mod Unholds

@@ -1,6 +1,14 @@
-//! What a cell of dbufs keeps of the shared cache.
+//! The dbufs of all cells over the shared cache: what a dbuf keeps of it, and the calls on a dbuf.
 #![tactic(auto)]
 
+mod evict;
 mod kept;
+mod place;
+mod putting;
+mod turn;
+mod unholding;
 
 pub use kept::{Cells, HeapCell, Kept};
+pub use place::cell_of;
+pub use putting::put;
+pub use unholding::unhold;

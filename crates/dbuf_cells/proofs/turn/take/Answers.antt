@@ -1,0 +1,14 @@
+use Rattle.dbuf_cells.proofs.PartySteps.{begins, takes-claims}
+use Rattle.dbuf_cells.proofs.turn.take.Goals as goal
+
+pub returns-clause-begins : goal.returns-clause-begins
+returns-clause-begins g c =
+    let t = c.take_cell.ensures.took in
+    begins c.args.arcs.now c.args.i c.requires.valid c.requires.range c.take_cell.result c.args.party.now c.take_cell.new.party c.requires.party c.requires.look
+    record { owners = t.0; knew = t.1; lost = t.2; free = t.3; took = t.4 }
+
+pub returns-clause-claims : goal.returns-clause-claims
+returns-clause-claims g c =
+    let t = c.take_cell.ensures.took in
+    takes-claims c.args.arcs.now c.args.i c.requires.valid c.requires.range c.take_cell.result c.args.party.now c.take_cell.new.party c.requires.party
+    record { owners = t.0; knew = t.1; lost = t.2; free = t.3; took = t.4 }

@@ -1,0 +1,25 @@
+use Rattle.std.proofs.Common.{sym, ap, ◌∙◌}
+use Rattle.std.specs.Option.{option_map_or}
+use Rattle.dbuf_state.specs.CellLog.{CellLog}
+use Rattle.dbuf_state.specs.Dbufs.{dbuf_at}
+use Rattle.dbuf_state.specs.declared.dbuf.Dbuf.{Dbuf}
+use Rattle.dbuf_state.specs.declared.state.DbState.TheVariants as state
+use Rattle.dbuf_cells.specs.declared.kept.Kept.{Kept}
+use Rattle.dbuf_cells.proofs.PartySteps.{as-given, finds-bringing}
+use Rattle.dbuf_cells.proofs.turn.try_at_rest.Goals as goal
+
+pub returns-in-Read-clause-none : goal.returns-in-Read-clause-none
+returns-in-Read-clause-none g c =
+    let b = c.take-cell.result in
+    finds-bringing c.args.arcs.now c.args.i c.args.at c.args.party.now c.give.new.party b c.in-Read.n
+    (ap (λ (x : CellLog Kept). option_map_or (λ (d : Dbuf Kept). d.state) (dbuf_at c.args.at x.dbufs) state.Uncached) (sym c.deref.ensures) ∙ (sym c.state.ensures.state ∙ c.in-Read.is))
+    (as-given c.args.arcs.now c.args.i c.args.party.now b b.value c.take-cell.new.party c.take-cell.ensures.begins c.give.new.party c.give.ensures.gives)
+
+pub returns-in-Read-clause-party : goal.returns-in-Read-clause-party
+returns-in-Read-clause-party g c = let b = c.take-cell.result in (as-given c.args.arcs.now c.args.i c.args.party.now b b.value c.take-cell.new.party c.take-cell.ensures.begins c.give.new.party c.give.ensures.gives).party
+
+pub returns-in-Read-clause-held : goal.returns-in-Read-clause-held
+returns-in-Read-clause-held g c = let b = c.take-cell.result in (as-given c.args.arcs.now c.args.i c.args.party.now b b.value c.take-cell.new.party c.take-cell.ensures.begins c.give.new.party c.give.ensures.gives).held
+
+pub returns-in-Read-clause-number : goal.returns-in-Read-clause-number
+returns-in-Read-clause-number g c = let b = c.take-cell.result in (as-given c.args.arcs.now c.args.i c.args.party.now b b.value c.take-cell.new.party c.take-cell.ensures.begins c.give.new.party c.give.ensures.gives).number

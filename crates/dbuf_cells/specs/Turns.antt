@@ -1,0 +1,128 @@
+-- A party takes a cell of dbufs, does things to it and makes events of shards meanwhile, and gives it back.
+use Rattle.std.specs.Prelude.{◌≡◌, ℕ, zero, suc, ◌⊎◌, List, [], ◌∷◌, ◌++◌, map, Some}
+use Rattle.std.specs.declared.alloc.Global.{Global}
+use Rattle.std.specs.declared.boxed.Box.{Box}
+use Rattle.blk_ptr.specs.declared.key.Key.{Key}
+use Rattle.blk_ptr.specs.declared.ptr.Ptr.{Ptr}
+use Rattle.arc_core.specs.Operations.{event_key}
+use Rattle.arc_core.specs.declared.config.Config.{Config}
+use Rattle.arc_core.specs.declared.event.Event.{Event}
+use Rattle.arc_core.specs.declared.event.Event.TheVariants.{Drop}
+use Rattle.turn_table.specs.Places.{Place, gave_back}
+use Rattle.arc_table.specs.Both.{Does, Takes}
+use Rattle.arc_table.specs.Geometry.{cell_number}
+use Rattle.arc_table.specs.Giving.{IsGivenCell}
+use Rattle.arc_table.specs.Items.{Meanings, meanings}
+use Rattle.arc_table.specs.Views.{after_cell}
+use Rattle.arc_table.specs.declared.item.Item.TheVariants as item
+use Rattle.arc_table.specs.declared.view.Known.{Known}
+use Rattle.dbuf_state.specs.CellLog.{CellLog}
+use Rattle.dbuf_state.specs.Dbufs.{DbufHas, dbuf_at}
+use Rattle.dbuf_state.specs.History.{Leads}
+use Rattle.dbuf_state.specs.Numbers.{claims_in, event_numbers, mapping_numbers, opening_numbers}
+use Rattle.dbuf_state.specs.Objects.{Evicting, Never}
+use Rattle.dbuf_state.specs.Outline.{Outline, after, after_all, mapped_at, outline_of}
+use Rattle.dbuf_state.specs.Soundness.{IsSound, holds_in, plain_cell}
+use Rattle.dbuf_state.specs.declared.event.CellEvent.{CellEvent}
+use Rattle.dbuf_state.specs.declared.event.CellEvent.TheVariants.{Evict}
+use Rattle.dbuf_state.specs.declared.oid.Oid.{Oid}
+use Rattle.dbuf_state.specs.declared.state.DbState.TheVariants as state
+use Rattle.dbuf_state.specs.declared.state.Mapped.TheVariants.{Clean}
+use Rattle.dbuf_cells.specs.Places.{cell_of}
+use Rattle.dbuf_cells.specs.Kept.{bytes_of, is_held, key_of}
+use Rattle.dbuf_cells.specs.declared.kept.Kept.{Kept}
+
+-- a cell on the heap
+abbrev pub OnHeap : Type 0
+OnHeap = Box (CellLog Kept) Global
+
+-- a party of the cache whose cells these are
+abbrev pub PartyPlace : Type 0
+PartyPlace = Place (Known OnHeap)
+
+-- the holds that a cell keeps
+abbrev pub holds_of : CellLog Kept → List Ptr
+holds_of c = holds_in key_of bytes_of is_held c.dbufs
+
+-- what a cell means to the shared cache
+abbrev pub dbuf_meanings : Meanings OnHeap
+dbuf_meanings = meanings
+    (λ b. holds_of b.value)
+    (λ b. map event_numbers b.value.history)
+    (λ b. opening_numbers b.value.limit b.value.opening)
+    (λ b n. mapping_numbers (claims_in n b.value.dbufs))
+    (λ b. IsSound b.value)
+
+-- the party took the bucket and the shard of a key, and gave both back without an event; so many times, with one key or another
+abbrev pub LooksTimes : Config → (times : ℕ) → PartyPlace → PartyPlace → Type 0
+LooksTimes g zero p q = q ≡ p
+LooksTimes g (suc times) p q = (k : Key) × (r : PartyPlace) × LooksTimes g times p r × Does dbuf_meanings g k [] r q
+
+abbrev pub Looks : Config → PartyPlace → PartyPlace → Type 0
+Looks g p q = (times : ℕ) × LooksTimes g times p q
+
+-- these events of shards were made, one after another, each by a call of its own; nothing else was done to shards but such looks
+abbrev pub MakesAll : Config → List Event → PartyPlace → PartyPlace → Type 0
+MakesAll g [] p q = Looks g p q
+MakesAll g (e ∷ es) p q = (k : Key) × (r : PartyPlace) × (s : PartyPlace) × Looks g p r × (event_key e ≡ Some k) × Does dbuf_meanings g k (e ∷ []) r s × MakesAll g es s q
+
+-- The party p took the cell i, which was so, and sound. With the cell in hand it did these things to it and made these events of shards, and it gave
+-- the cell back: it is q. The things done lead from what the cell was to what it is.
+pub record CellTurn (g : Config) (i : ℕ) (before : OnHeap) (news : List CellEvent) (es : List Event) (p q : PartyPlace) : Type 0 where
+  pub after : OnHeap
+  pub taken : PartyPlace
+  pub worked : PartyPlace
+  pub takes : Takes dbuf_meanings i (item.Cell before) p taken
+  pub makes : MakesAll g es taken worked
+  pub sound : IsSound before.value
+  pub history : after.value.history ≡ before.value.history ++ news
+  pub evicting : Evicting
+  pub bases : List (List ℕ)
+  pub leads : Leads (plain_cell sound.evicting before.value) news bases (plain_cell evicting after.value)
+  pub given : IsGivenCell dbuf_meanings worked.number i after worked.own
+  pub gave : q ≡ gave_back worked i (after_cell dbuf_meanings i (item.Cell after) worked.own)
+
+-- ---- waiting
+
+-- the party took the cell and found a number bringing the block's bytes, and gave the cell back as it was
+pub record FindsBringing (g : Config) (i : ℕ) (at : Oid) (p q : PartyPlace) : Type 0 where
+  pub before : OnHeap
+  pub turn : CellTurn g i before [] [] p q
+  pub owner : ℕ
+  pub reading : DbufHas (λ d. d.state ≡ state.Read owner) (dbuf_at at before.value.dbufs)
+
+-- so it was so many times, one after the other
+abbrev pub WaitsForDbuf : Config → (i : ℕ) → Oid → (times : ℕ) → PartyPlace → PartyPlace → Type 0
+WaitsForDbuf g i at zero p q = q ≡ p
+WaitsForDbuf g i at (suc times) p q = (r : PartyPlace) × WaitsForDbuf g i at times p r × FindsBringing g i at r q
+
+-- the party waited so often, and then, where the cell was so, this happened
+pub record OnceAtRest (g : Config) (at : Oid) (p q : PartyPlace) (Then : OnHeap → PartyPlace → PartyPlace → Type 0) : Type 0 where
+  pub times : ℕ
+  pub ready : PartyPlace
+  pub before : OnHeap
+  pub waits : WaitsForDbuf g (cell_of g.cells at) at times p ready
+  pub happens : Then before ready q
+
+-- ---- evictions
+
+-- what is mapped, cached and pinned in a cell
+abbrev pub outline_in : OnHeap → Outline
+outline_in b = outline_of (plain_cell Never b.value)
+
+-- with a cell's number c a hold on this key is dropped, or there was none, since the block was loose
+abbrev pub DropsAtMost : (c : ℕ) → Key → List Event → Type 0
+DropsAtMost c k es = (es ≡ []) ⊎ (es ≡ Drop c k ∷ [])
+
+-- From a cell of this outline on, the number n evicts these dbufs, and for each of them the hold that it kept is dropped.
+abbrev pub AreEvictions : (n c : ℕ) → Outline → List CellEvent → List Event → Type 0
+AreEvictions n c o [] es = es ≡ []
+AreEvictions n c o (e ∷ evs) es = (at : Oid) × (ptr : Ptr) × (drops : List Event) × (rest : List Event) × (e ≡ Evict n at) × (mapped_at at o ≡ Some (Clean ptr))
+    × (es ≡ drops ++ rest) × DropsAtMost c ptr.key drops × AreEvictions n c (after o e) evs rest
+
+-- A turn of a cell in which the party did these things and made these events, and then evicted what was over the limit
+pub record Operates (g : Config) (i : ℕ) (before : OnHeap) (own : List CellEvent) (es : List Event) (p q : PartyPlace) : Type 0 where
+  pub evictions : List CellEvent
+  pub drops : List Event
+  pub turn : CellTurn g i before (own ++ evictions) (es ++ drops) p q
+  pub evicted : AreEvictions p.number (cell_number g i) (after_all (outline_in before) own) evictions drops
