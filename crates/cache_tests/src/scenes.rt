@@ -4,6 +4,7 @@ ghost use Rattle.arc_examples.specs.Ready.{IsNew, IsReady};
 
 mod feeds;
 mod hands;
+mod joins;
 mod looks;
 mod picks;
 mod reads;
