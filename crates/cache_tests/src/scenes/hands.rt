@@ -1,5 +1,5 @@
 //! A block that a caller hands to a cell, and another one takes from there.
-ghost use Rattle.std.specs.Prelude.{◌≡◌, ◌+◌, length, IfOk, IfSome};
+ghost use Rattle.std.specs.Prelude.{◌≡◌, ◌+◌, length, IfOk, IfSome, IsTrue};
 ghost use Rattle.arc_core.specs.Config.{IsConfig};
 ghost use Rattle.arc_table.specs.Holding.{IsHeld};
 ghost use Rattle.arc_examples.specs.Ready.{AreNew, IsNew, IsReady, IsReadyAs};
@@ -151,6 +151,21 @@ fn take_over<R: Wait>(rt: &R, arcs: &Arcs<Keeper>, party: &mut Party<Keeper>) ->
     Some(bytes)
 }
 
+// The party takes the cell, gives up the hold that it keeps, whose bytes nobody needs, and gives it back: whether it kept one.
+fn let_go<R: Wait>(rt: &R, arcs: &Arcs<Keeper>, party: &mut Party<Keeper>) -> bool
+    requires ready { IsReady arcs.now party.old }
+    requires counts { (arcs.now.config.callers ≡ 2) × (arcs.now.config.cells ≡ 1) }
+    ensures { IsTrue result → IsReadyAs arcs.now party.old party.new }
+{
+    let Take::Taken(Keeper { hold: Some(hold) }) = arcs.try_take_cell(party, 0) else {
+        return false;
+    };
+    let hold = arcs.of_cell(hold, 0);
+    arcs.give_up(rt, party, hold);
+    arcs.give_cell(party, 0, Keeper { hold: None });
+    true
+}
+
 // Where a block came from, who had the cell when it was handed over, the bytes that were given up, and where it came from then.
 #[derive(Drop)]
 struct Told {
@@ -205,5 +220,48 @@ fn a_block_is_handed_to_a_cell_and_given_up_there(rt: HostRuntime) -> Result<(),
     assert!(rt; told.first == Served::Pool && told.owner == 0);
     assert!(rt; told.bytes.as_slice() == [0; 2048].as_slice());
     assert!(rt; told.again == Served::Pool);
+    Ok(())
+}
+
+// A block is read and handed to the cell by one caller, let go by the other, and read again: where it came from then.
+fn pass_away<R: Wait>(
+    rt: &R,
+    arcs: &Arcs<Keeper>,
+    one: &mut Party<Keeper>,
+    two: &mut Party<Keeper>,
+    pool: &mut MemPool,
+) -> Option<Served>
+    requires one { IsReady arcs.now one.old }
+    requires two { IsReady arcs.now two.old }
+    requires counts { (arcs.now.config.callers ≡ 2) × (arcs.now.config.cells ≡ 1) }
+{
+    let (hold, _) = get(rt, arcs, one, pool, 1)?;
+    let _owner = hand_over(rt, arcs, one, two, hold)?;
+    if !let_go(rt, arcs, two) {
+        return None;
+    }
+    let (_, again) = get(rt, arcs, one, pool, 2)?;
+    Some(again)
+}
+
+// The same on a new cache.
+fn row_away(rt: &impl Wait, alloc: Global) -> Result<Option<Served>, NoMemory> {
+    let (arcs, mut parties, mut pool) = made(alloc, &TWO)?;
+    let Some(_feeder) = last_of(&arcs, &mut parties) else {
+        return Ok(None);
+    };
+    let Some(mut two) = last_of(&arcs, &mut parties) else {
+        return Ok(None);
+    };
+    let Some(mut one) = last_of(&arcs, &mut parties) else {
+        return Ok(None);
+    };
+    Ok(pass_away(rt, &arcs, &mut one, &mut two, &mut pool))
+}
+
+#[test]
+fn a_cell_lets_go_of_a_block_without_a_copy(rt: HostRuntime) -> Result<(), Fail> {
+    let again = row_away(&rt, rt.alloc()).ok().ok_or("memory")?;
+    assert!(rt; again == Some(Served::Pool));
     Ok(())
 }
