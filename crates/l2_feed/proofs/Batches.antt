@@ -1,0 +1,116 @@
+-- What a batch comes to, by what its plan and its runs came to.
+use Rattle.std.proofs.Common.{◌≡◌, ◌⊎◌, ℕ, ◌+◌, ◌<◌, false, List, [], ◌∷◌, ◌++◌, length, Result, Ok, Err, inl, inr, refl, sym, ap, ◌∙◌, subst, arith, append-nil, length-append}
+use Rattle.std.specs.Prelude.{count_by, sum_by}
+use Rattle.std.specs.List.{filter}
+use Rattle.std.proofs.lemmas.List.{length-map}
+use Rattle.std.proofs.lemmas.List.Sums.{sum_by-append}
+use Rattle.blk_ptr.specs.declared.key.Key.{Key}
+use Rattle.arc_table.specs.declared.picks.Picked.{Picked as Block}
+use Rattle.l2_ring.specs.declared.live.Written.{Written}
+use Rattle.l2_ring.specs.Stays.{stays}
+use Rattle.l2_dev.specs.declared.fault.DevErr.{DevErr}
+use Rattle.l2_dev.specs.declared.fault.DevErr.TheVariants as err
+use Rattle.l2_dev.specs.declared.report.FeedReport.{FeedReport}
+use Rattle.l2_dev.specs.declared.report.FeedStop.{FeedStop}
+use Rattle.l2_dev.specs.declared.report.FeedStop.TheVariants as stop
+use Rattle.l2_dev.specs.Cursor.{CursorState}
+use Rattle.l2_feed.specs.Acts.{Act, Picked, keys_of}
+use Rattle.l2_feed.specs.Runs.{AreLeft, batch_len, bytes_of}
+use Rattle.l2_feed.specs.Shape.{HasBegun, HaveRun, IsUnwritten, IsWritten, stop_of, why_of}
+use Rattle.l2_feed.specs.Sums.{CountsMore, is_cleared, is_placed, picked_in}
+use Rattle.l2_feed.proofs.Counting.{cleared-append, cleared-none, left-none, picked-append, placed-append, runs-none}
+use Rattle.l2_feed.proofs.Lists.{bytes_keys}
+use Rattle.l2_feed.proofs.Writing.{leaves_some}
+
+-- ---- a plan that was not begun, or whose clears were refused
+
+abbrev failed : DevErr → Result (Unit {0}) DevErr
+failed e = Err e
+
+never : failed err.DevFault ≡ failed err.NoMemory → ⊥
+never is = cc
+
+unwritten : (fault : DevErr) (old new : CursorState) (blocks : List Block) (clears leaves : List Act) → failed fault ≡ failed err.NoMemory → new ≡ old → clears ≡ [] → AreLeft (why_of (stop_of fault)) blocks leaves
+    → IsUnwritten old new blocks clears leaves (stop_of fault)
+unwritten err.NoMemory old new blocks clears leaves is same none left = record { same = same; none = none; lefts = left; ended = refl }
+unwritten err.DevFault old new blocks clears leaves is same none left = absurd (never is)
+
+pub not_done : (fault : DevErr) → stop_of fault ≡ stop.Done → ⊥
+not_done err.NoMemory is = cc
+not_done err.DevFault is = cc
+
+pub batch_failed : (old new : CursorState) (blocks : List Block) (clears leaves : List Act) (fault : DevErr) → 0 < length blocks → HasBegun old new (batch_len blocks) clears (Err fault) → AreLeft (why_of (stop_of fault)) blocks leaves
+    → IsWritten old new blocks clears leaves (stop_of fault) ⊎ IsUnwritten old new blocks clears leaves (stop_of fault)
+batch_failed old new blocks clears leaves fault some (inl b) left = inr (unwritten fault old new blocks clears leaves b.2 b.0 b.1 left)
+batch_failed old new blocks clears leaves fault some (inr t) left = inl (record {
+  plan = t.plan;
+  plan_for = t.plan_for;
+  cleared = t.cleared;
+  refused = λ is. absurd (not_done fault is);
+  ran = record {
+    count = 0;
+    sets = [];
+    entries = [];
+    left = blocks;
+    runs = (refl, refl, refl);
+    leaves = leaves;
+    lefts = left;
+    settled = refl;
+    some = leaves_some fault blocks some;
+    live_is = t.live ∙ sym (append-nil (filter (stays t.plan) old.ring.live));
+    lap_is = t.numbers.lap;
+  };
+})
+
+pub batch_written : (old mid new : CursorState) (blocks : List Block) (clears settles : List Act) (u : Unit {0}) (end : FeedStop) → HasBegun old mid (batch_len blocks) clears (Ok u)
+    → HaveRun mid.ring.lap mid.ring.hand mid.ring.live new blocks settles end → IsWritten old new blocks clears settles end
+batch_written old mid new blocks clears settles u end (inl b) ran = let is = b.2 in cc
+batch_written old mid new blocks clears settles u end (inr t) ran = record {
+  plan = t.plan;
+  plan_for = t.plan_for;
+  cleared = t.cleared;
+  refused = λ is. t.opened.0;
+  ran = subst (λ (x : ℕ × ℕ × List Written). HaveRun x.0 x.1 x.2 new blocks settles end) (λ i. (t.numbers.lap i, t.numbers.hand i, t.live i)) ran;
+}
+
+-- ---- what they count
+
+pub clears_none : (old new : CursorState) (n : ℕ) (clears : List Act) (result : Result (Unit {0}) DevErr) → HasBegun old new n clears result → (picked_in clears ≡ []) × (count_by is_placed clears ≡ 0)
+clears_none old new n clears result (inl b) = (ap picked_in b.1, ap (count_by is_placed) b.1)
+clears_none old new n clears result (inr t) = cleared-none _ clears t.cleared
+
+pub runs_none : (lap hand : ℕ) (live : List Written) (new : CursorState) (blocks : List Block) (acts : List Act) (end : FeedStop) → HaveRun lap hand live new blocks acts end → (picked_in acts ≡ []) × (count_by is_cleared acts ≡ 0)
+runs_none lap hand live new blocks acts end h =
+    let a = runs-none lap hand h.count blocks h.sets h.entries h.left h.runs in
+    let b = left-none (why_of end) h.left h.leaves h.lefts in (
+      ap picked_in h.settled ∙ (picked-append h.sets h.leaves ∙ (ap (λ (l : List Key). l ++ picked_in h.leaves) a.0 ∙ b.0)),
+      (let x = a.1 in let y = b.1 in let e = cleared-append h.sets h.leaves in let s = ap (count_by is_cleared) h.settled in omega arith),
+    )
+
+pub batch_counts : (clears settles : List Act) (old new : FeedReport) → (picked_in clears ≡ []) × (count_by is_placed clears ≡ 0) → (picked_in settles ≡ []) × (count_by is_cleared settles ≡ 0)
+    → new.picked ≡ old.picked → new.bytes ≡ old.bytes → new.written ≡ old.written + count_by is_placed settles → new.cleared ≡ old.cleared + count_by is_cleared clears → CountsMore (clears ++ settles) old new
+batch_counts clears settles old new none other picked bytes written cleared =
+    let no : picked_in (clears ++ settles) ≡ [] = picked-append clears settles ∙ (ap (λ (l : List Key). l ++ picked_in settles) none.0 ∙ other.0) in
+    record {
+      picked = (let e = ap length no in let p = picked in omega arith);
+      bytes = (let e = ap (sum_by (λ (k : Key). k.size)) no in let b = bytes in omega arith);
+      written = (let e = placed-append clears settles in let z = none.1 in let w = written in omega arith);
+      cleared = (let e = cleared-append clears settles in let z = other.1 in let c = cleared in omega arith);
+    }
+
+pub none_counts : (act : Act) (report : FeedReport) → picked_in (act ∷ []) ≡ [] → is_placed act ≡ false → is_cleared act ≡ false → CountsMore (act ∷ []) report report
+none_counts act report none given taken = record {
+  picked = (let e = ap length none in omega arith);
+  bytes = (let e = ap (sum_by (λ (k : Key). k.size)) none in omega arith);
+  written = rw given (let e : report.written ≡ report.written + 0 = omega arith in e);
+  cleared = rw taken (let e : report.cleared ≡ report.cleared + 0 = omega arith in e);
+}
+
+pub picked_counts : (shard : ℕ) (blocks : List Block) (rest : List Act) (old mid new : FeedReport) → mid.picked ≡ old.picked + length blocks → mid.bytes ≡ old.bytes + bytes_of blocks → mid.written ≡ old.written → mid.cleared ≡ old.cleared
+    → CountsMore rest mid new → CountsMore (Picked shard (keys_of blocks) ∷ rest) old new
+picked_counts shard blocks rest old mid new picked bytes written cleared more = record {
+  picked = (let e = length-append (keys_of blocks) (picked_in rest) in let k = length-map blocks (λ (b : Block). b.key) in let m = more.picked in let p = picked in omega arith);
+  bytes = (let e = sum_by-append (λ (k : Key). k.size) (keys_of blocks) (picked_in rest) in let k = bytes_keys blocks in let m = more.bytes in let b = bytes in omega arith);
+  written = more.written ∙ ap (λ (n : ℕ). n + count_by is_placed rest) written;
+  cleared = more.cleared ∙ ap (λ (n : ℕ). n + count_by is_cleared rest) cleared;
+}

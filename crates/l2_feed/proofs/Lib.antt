@@ -1,0 +1,12 @@
+pub mod Lists
+pub mod Acted
+pub mod Settling
+pub mod Counting
+pub mod Loops
+pub mod Running
+pub mod Writing
+pub mod Beginning
+pub mod Picked
+pub mod Batches
+pub mod Shards
+pub mod Whole

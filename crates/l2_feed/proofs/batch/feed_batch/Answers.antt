@@ -1,0 +1,29 @@
+use Rattle.std.proofs.Common.{inl, refl, arith}
+use Rattle.arc_table.specs.Items.{meanings}
+use Rattle.l2_feed.proofs.Acted.{acts_append}
+use Rattle.l2_feed.proofs.Batches.{batch_counts, batch_failed, batch_written, clears_none, runs_none}
+use Rattle.l2_feed.proofs.Counting.{left-none}
+use Rattle.l2_feed.proofs.batch.feed_batch.Goals as goal
+
+pub returns-in-Err-clause-acts : goal.returns-in-Err-clause-acts
+returns-in-Err-clause-acts g c =
+    let e = c.in-Err.ensures.acts in
+    let l = c.leave_all.ensures.acts in
+    let n = left-none _ c.args.blocks.now l.0 l.2 in (
+      e.0,
+      l.0,
+      acts_append (meanings g.C.Keeps.holds g.C.Keeps.entries g.C.Keeps.opening g.C.Keeps.claims g.C.Keeps.sound) c.args.arcs.now.config e.0 l.0 c.args.party.now c.begin_batch-begun.new.party c.leave_all.new.party e.1 l.1,
+      batch_counts e.0 l.0 c.args.report.now _ (clears_none _ _ _ e.0 _ e.3) (n.0, n.1) refl refl (let z = n.2 in omega arith) e.2,
+      batch_failed c.args.l2.now.cursor c.begin_batch-begun.new.l2.cursor c.args.blocks.now e.0 l.0 c.in-Err.fault c.requires.some e.3 l.2,
+    )
+
+pub returns-clause-acts : goal.returns-clause-acts
+returns-clause-acts g c =
+    let e = c.in_default.ensures.acts in
+    let r = c.write_runs.ensures.acts in (
+      e.0,
+      r.0,
+      acts_append (meanings g.C.Keeps.holds g.C.Keeps.entries g.C.Keeps.opening g.C.Keeps.claims g.C.Keeps.sound) c.args.arcs.now.config e.0 r.0 c.args.party.now c.begin_batch-begun.new.party c.write_runs.new.party e.1 r.1,
+      batch_counts e.0 r.0 c.args.report.now _ (clears_none _ _ _ e.0 _ e.3) (runs_none _ _ _ _ c.args.blocks.now r.0 _ r.3) refl refl r.2 e.2,
+      inl (batch_written c.args.l2.now.cursor c.begin_batch-begun.new.l2.cursor c.write_runs.new.l2.cursor c.args.blocks.now e.0 r.0 _ _ e.3 r.3),
+    )

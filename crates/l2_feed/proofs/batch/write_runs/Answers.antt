@@ -1,0 +1,105 @@
+use Rattle.std.proofs.Common.{◌≡◌, ◌*◌, ◌<◌, ◌≤◌, ◌+◌, ◌++◌, ℕ, List, length, drop, take, refl, sym, ap, ◌∙◌, subst, arith}
+use Rattle.std.proofs.lemmas.List.{drop_all}
+use Rattle.arc_table.specs.declared.picks.Picked.{Picked as Block}
+use Rattle.arc_table.specs.Items.{meanings}
+use Rattle.l2_feed.specs.Ready.{IsFeeding}
+use Rattle.l2_feed.specs.Runs.{AreLeft, AreSet, AreWhole, HasWritten, bytes_of, most, runs_of}
+use Rattle.l2_log.specs.Rules.{log_len}
+use Rattle.l2_feed.specs.Shape.{stop_of, why_of}
+use Rattle.l2_feed.proofs.Writing.{length-take-drop, run_few, run_room, run_whole, run_feeding, runs_end, runs_start, runs_stop, runs_turn}
+use Rattle.l2_feed.proofs.batch.write_runs.Goals as goal
+
+pub loop-number-init : goal.loop-number-init
+loop-number-init g c = record {
+  size = refl;
+  faults = omega arith;
+  so = runs_start (meanings g.C.Keeps.holds g.C.Keeps.entries g.C.Keeps.opening g.C.Keeps.claims g.C.Keeps.sound) c.args.arcs.now c.args.blocks.now c.args.written.now c.args.l2.now.cursor c.args.party.now c.requires.none c.requires.ready c.requires.formed c.requires.room;
+}
+
+pub set_run-requires-clause-feeding : goal.set_run-requires-clause-feeding
+set_run-requires-clause-feeding g c =
+    let m = (meanings g.C.Keeps.holds g.C.Keeps.entries g.C.Keeps.opening g.C.Keeps.claims g.C.Keeps.sound) in
+    let below : c.loop-number.number < runs_of (length c.args.blocks.now) = (let t = c.loop-number-test.true in let e = c.runs_of-number-end.ensures in omega arith) in
+    let left : c.left_after-left.result.now ≡ drop (c.loop-number.number * most) c.args.blocks.now = c.left_after-left.ensures in
+    let run : c.run_of-run.result.now ≡ take most (drop (c.loop-number.number * most) c.args.blocks.now) = c.run_of-run.ensures ∙ ap (take most) left in (
+      c.requires.feeding.0,
+      drop most (drop (c.loop-number.number * most) c.args.blocks.now),
+      subst (λ (bs : List Block). IsFeeding c.args.arcs.now c.requires.feeding.0 (bs ++ drop most (drop (c.loop-number.number * most) c.args.blocks.now)) c.loop-number.party) (sym run)
+          (run_feeding m c.args.arcs.now c.args.blocks.now c.loop-number.number c.args.written.now c.loop-number.written c.args.l2.now.cursor c.loop-number.l2.cursor c.args.party.now c.loop-number.party below c.loop-number.invariant.so c.requires.feeding.0 c.requires.feeding.1),
+    )
+
+pub returns-in-Err-clause-acts : goal.returns-in-Err-clause-acts
+returns-in-Err-clause-acts g c =
+    let m = (meanings g.C.Keeps.holds g.C.Keeps.entries g.C.Keeps.opening g.C.Keeps.claims g.C.Keeps.sound) in
+    let below : c.loop-number.number < runs_of (length c.args.blocks.now) = (let t = c.loop-number-test.true in let e = c.runs_of-number-end.ensures in omega arith) in
+    let left : c.left_after-left.result.now ≡ drop (c.loop-number.number * most) c.args.blocks.now = c.left_after-left.ensures in
+    let run : c.run_of-run.result.now ≡ take most (drop (c.loop-number.number * most) c.args.blocks.now) = c.run_of-run.ensures ∙ ap (take most) left in
+    let l = c.leave_all.ensures.acts in
+    runs_stop m c.args.arcs.now c.args.blocks.now c.loop-number.number c.args.written.now c.loop-number.written c.args.l2.now.cursor c.loop-number.l2.cursor c.args.party.now c.loop-number.party below c.loop-number.invariant.so c.write_run.new.l2.cursor c.leave_all.new.party c.in-Err.fault l.0 c.in-Err.ensures.written l.1 (subst (λ (bs : List Block). AreLeft (why_of (stop_of c.in-Err.fault)) bs l.0) left l.2)
+
+pub loop-number-preserved : goal.loop-number-preserved
+loop-number-preserved g c =
+    let m = (meanings g.C.Keeps.holds g.C.Keeps.entries g.C.Keeps.opening g.C.Keeps.claims g.C.Keeps.sound) in
+    let below : c.loop-number.number < runs_of (length c.args.blocks.now) = (let t = c.loop-number-test.true in let e = c.runs_of-number-end.ensures in omega arith) in
+    let left : c.left_after-left.result.now ≡ drop (c.loop-number.number * most) c.args.blocks.now = c.left_after-left.ensures in
+    let run : c.run_of-run.result.now ≡ take most (drop (c.loop-number.number * most) c.args.blocks.now) = c.run_of-run.ensures ∙ ap (take most) left in
+    let w = c.in-Ok.ensures.written in
+    let s = c.set_run.ensures.acts in
+    record {
+      size = c.in-Ok.ensures.size ∙ c.loop-number.invariant.size;
+      faults = (let a = c.in-Ok.ensures.cause.kept in let b = c.loop-number.invariant.faults in omega arith);
+      so = runs_turn m c.args.arcs.now c.args.blocks.now c.loop-number.number c.args.written.now c.loop-number.written c.args.l2.now.cursor c.loop-number.l2.cursor c.args.party.now c.loop-number.party below c.loop-number.invariant.so c.write_run.new.l2.cursor c.set_run.new.party s.0 c.set_run.result
+          (subst (λ (bs : List Block). HasWritten bs c.loop-number.l2.cursor c.write_run.new.l2.cursor) run w.1) s.1
+          (subst (λ (x : ℕ × List Block). AreSet x.0 x.1 s.0) (λ i. (w.0 i, run i)) s.2) s.3 (let f = c.set_run.ensures.few in let e = ap length run in omega arith)
+          (λ turn behind f. c.set_run.ensures.feeding turn behind (subst (λ (bs : List Block). IsFeeding c.args.arcs.now turn (bs ++ behind) c.loop-number.party) (sym run) f));
+    }
+
+pub returns-clause-acts : goal.returns-clause-acts
+returns-clause-acts g c =
+    runs_end (meanings g.C.Keeps.holds g.C.Keeps.entries g.C.Keeps.opening g.C.Keeps.claims g.C.Keeps.sound) c.args.arcs.now c.args.blocks.now c.loop-number.number c.args.written.now c.loop-number.written c.args.l2.now.cursor c.loop-number.l2.cursor c.args.party.now c.loop-number.party
+    (drop_all (c.loop-number.number * most) c.args.blocks.now (let t = c.loop-number-test.false in let e = c.runs_of-number-end.ensures in omega arith)) c.loop-number.invariant.so
+
+pub write_run-requires-clause-few : goal.write_run-requires-clause-few
+write_run-requires-clause-few g c = λ _ _.
+    let m = (meanings g.C.Keeps.holds g.C.Keeps.entries g.C.Keeps.opening g.C.Keeps.claims g.C.Keeps.sound) in
+    let below : c.loop-number.number < runs_of (length c.args.blocks.now) = (let t = c.loop-number-test.true in let e = c.runs_of-number-end.ensures in omega arith) in
+    let left : c.left_after-left.result.now ≡ drop (c.loop-number.number * most) c.args.blocks.now = c.left_after-left.ensures in
+    let run : c.run_of-run.result.now ≡ take most (drop (c.loop-number.number * most) c.args.blocks.now) = c.run_of-run.ensures ∙ ap (take most) left in
+    subst (λ (bs : List Block). length bs ≤ most) (sym run) (run_few m c.args.arcs.now c.args.blocks.now c.loop-number.number c.args.written.now c.loop-number.written c.args.l2.now.cursor c.loop-number.l2.cursor c.args.party.now c.loop-number.party below c.loop-number.invariant.so)
+
+pub write_run-requires-clause-formed : goal.write_run-requires-clause-formed
+write_run-requires-clause-formed g c = λ _ _.
+    let m = (meanings g.C.Keeps.holds g.C.Keeps.entries g.C.Keeps.opening g.C.Keeps.claims g.C.Keeps.sound) in
+    let below : c.loop-number.number < runs_of (length c.args.blocks.now) = (let t = c.loop-number-test.true in let e = c.runs_of-number-end.ensures in omega arith) in
+    let left : c.left_after-left.result.now ≡ drop (c.loop-number.number * most) c.args.blocks.now = c.left_after-left.ensures in
+    let run : c.run_of-run.result.now ≡ take most (drop (c.loop-number.number * most) c.args.blocks.now) = c.run_of-run.ensures ∙ ap (take most) left in
+    subst AreWhole (sym run) (run_whole m c.args.arcs.now c.args.blocks.now c.loop-number.number c.args.written.now c.loop-number.written c.args.l2.now.cursor c.loop-number.l2.cursor c.args.party.now c.loop-number.party below c.loop-number.invariant.so)
+
+pub write_run-requires-clause-room : goal.write_run-requires-clause-room
+write_run-requires-clause-room g c = λ _ _.
+    let m = (meanings g.C.Keeps.holds g.C.Keeps.entries g.C.Keeps.opening g.C.Keeps.claims g.C.Keeps.sound) in
+    let below : c.loop-number.number < runs_of (length c.args.blocks.now) = (let t = c.loop-number-test.true in let e = c.runs_of-number-end.ensures in omega arith) in
+    let left : c.left_after-left.result.now ≡ drop (c.loop-number.number * most) c.args.blocks.now = c.left_after-left.ensures in
+    let run : c.run_of-run.result.now ≡ take most (drop (c.loop-number.number * most) c.args.blocks.now) = c.run_of-run.ensures ∙ ap (take most) left in
+    subst (λ (bs : List Block). c.loop-number.l2.cursor.ring.hand + (bytes_of bs + log_len) ≤ c.loop-number.l2.cursor.ring.evict) (sym run) (run_room m c.args.arcs.now c.args.blocks.now c.loop-number.number c.args.written.now c.loop-number.written c.args.l2.now.cursor c.loop-number.l2.cursor c.args.party.now c.loop-number.party below c.loop-number.invariant.so)
+
+pub set_run-requires-clause-few : goal.set_run-requires-clause-few
+set_run-requires-clause-few g c =
+    let m = (meanings g.C.Keeps.holds g.C.Keeps.entries g.C.Keeps.opening g.C.Keeps.claims g.C.Keeps.sound) in
+    let below : c.loop-number.number < runs_of (length c.args.blocks.now) = (let t = c.loop-number-test.true in let e = c.runs_of-number-end.ensures in omega arith) in
+    let left : c.left_after-left.result.now ≡ drop (c.loop-number.number * most) c.args.blocks.now = c.left_after-left.ensures in
+    let run : c.run_of-run.result.now ≡ take most (drop (c.loop-number.number * most) c.args.blocks.now) = c.run_of-run.ensures ∙ ap (take most) left in
+    subst (λ (bs : List Block). length bs ≤ most) (sym run) (run_few m c.args.arcs.now c.args.blocks.now c.loop-number.number c.args.written.now c.loop-number.written c.args.l2.now.cursor c.loop-number.l2.cursor c.args.party.now c.loop-number.party below c.loop-number.invariant.so)
+
+pub overflow_add-written : goal.overflow_add-written
+overflow_add-written g c =
+    let m = (meanings g.C.Keeps.holds g.C.Keeps.entries g.C.Keeps.opening g.C.Keeps.claims g.C.Keeps.sound) in
+    let below : c.loop-number.number < runs_of (length c.args.blocks.now) = (let t = c.loop-number-test.true in let e = c.runs_of-number-end.ensures in omega arith) in
+    let left : c.left_after-left.result.now ≡ drop (c.loop-number.number * most) c.args.blocks.now = c.left_after-left.ensures in
+    let run : c.run_of-run.result.now ≡ take most (drop (c.loop-number.number * most) c.args.blocks.now) = c.run_of-run.ensures ∙ ap (take most) left in
+    let few = c.set_run.ensures.few in
+    let e = ap length run in
+    let t = length-take-drop most (drop (c.loop-number.number * most) c.args.blocks.now) in
+    let n = c.loop-number.invariant.so.counted in
+    let all = c.requires.counted in
+    omega arith

@@ -1,0 +1,20 @@
+use Rattle.std.proofs.Common.{◌≡◌, ◌≤◌, List, vec_len}
+use Rattle.arc_table.specs.Items.{meanings}
+use Rattle.l2_dev.specs.declared.report.FeedStop.TheVariants as stop
+use Rattle.l2_feed.specs.Acts.{Act, DoesActs}
+use Rattle.l2_feed.specs.Ready.{IsDeviceReady, IsFeederReady}
+use Rattle.l2_feed.specs.Shape.{AreFed}
+use Rattle.l2_feed.specs.Sums.{HasRoom, IsSummary}
+use Rattle.l2_feed.proofs.feeding.feed.Given as goal
+
+abbrev pub invariant-loop-shard : goal.invariant-loop-shard
+invariant-loop-shard g l = record {
+  feeder : IsFeederReady l.arcs l.party;
+  device : IsDeviceReady l.arcs.config (g.D.CacheDev.size l.l2.dev) l.l2.cursor;
+  size : g.D.CacheDev.size l.l2.dev ≡ g.D.CacheDev.size l.fn.l2.dev;
+  faults : g.D.CacheDev.faults l.fn.l2.dev ≤ g.D.CacheDev.faults l.l2.dev;
+  room : HasRoom l.shard (vec_len l.dropped) l.report;
+  end : l.report.end ≡ stop.Done;
+  fed : (acts : List Act) × DoesActs (meanings g.C.Keeps.holds g.C.Keeps.entries g.C.Keeps.opening g.C.Keeps.claims g.C.Keeps.sound) l.arcs.config acts l.fn.party l.party
+      × IsSummary acts l.report × AreFed 0 l.shard l.fn.l2.cursor l.l2.cursor acts stop.Done;
+}

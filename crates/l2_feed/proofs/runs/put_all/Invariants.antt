@@ -1,0 +1,10 @@
+use Rattle.std.proofs.Common.{◌≡◌, ◌≤◌}
+use Rattle.l2_feed.proofs.Writing.{PutSo}
+use Rattle.l2_feed.proofs.runs.put_all.Given as goal
+
+abbrev pub invariant-loop-picked : goal.invariant-loop-picked
+invariant-loop-picked g l = record {
+  size : g.D.CacheDev.size l.l2.dev ≡ g.D.CacheDev.size l.fn.l2.dev;
+  faults : g.D.CacheDev.faults l.fn.l2.dev ≤ g.D.CacheDev.faults l.l2.dev;
+  so : PutSo l.run l.picked-index l.fn.l2.cursor l.l2.cursor;
+}

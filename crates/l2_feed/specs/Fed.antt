@@ -1,0 +1,19 @@
+-- What one feed did.
+use Rattle.std.specs.Prelude.{List}
+use Rattle.arc_core.specs.declared.config.Config.{Config}
+use Rattle.turn_table.specs.Places.{Place}
+use Rattle.arc_table.specs.declared.view.Known.{Known}
+use Rattle.arc_table.specs.Items.{Meanings}
+use Rattle.l2_dev.specs.declared.report.FeedReport.{FeedReport}
+use Rattle.l2_dev.specs.Cursor.{CursorState}
+use Rattle.l2_feed.specs.Acts.{Act, DoesActs}
+use Rattle.l2_feed.specs.Shape.{AreFed}
+use Rattle.l2_feed.specs.Sums.{IsSummary}
+
+-- The party p did these acts, one after another, and is q; the device had the one cursor, and has the other. The acts are those of shard by shard, up
+-- to the one where the feed ended, and the report is theirs.
+pub record HasFed {C : Type 0} (m : Meanings C) (g : Config) (old new : CursorState) (p q : Place (Known C)) (report : FeedReport) : Type 0 where
+  pub acts : List Act
+  pub did : DoesActs m g acts p q
+  pub fed : AreFed 0 g.shards old new acts report.end
+  pub sums : IsSummary acts report

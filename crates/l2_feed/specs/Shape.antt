@@ -1,0 +1,122 @@
+-- In which order a feed does what it does: shard by shard, and in each the picks, the places that are taken, and the picks' settling.
+use Rattle.std.specs.Prelude.{◌≡◌, ◌≢◌, ◌⊎◌, ℕ, zero, suc, ◌<◌, true, List, [], ◌∷◌, ◌++◌, length, map, Result, Ok, Err, OnOk}
+use Rattle.std.specs.List.{AllByRecursion, filter}
+use Rattle.blk_ptr.specs.declared.memory.NoMemory.{NoMemory}
+use Rattle.arc_core.specs.declared.event.Why.{Why}
+use Rattle.arc_core.specs.declared.event.Why.TheVariants as why
+use Rattle.arc_table.specs.declared.picks.Picked.{Picked as Block}
+use Rattle.l2_ring.specs.declared.live.Written.{Written}
+use Rattle.l2_ring.specs.declared.plan.Plan.{Plan}
+use Rattle.l2_ring.specs.Ring.{HasPlan, IsPlanFor}
+use Rattle.l2_ring.specs.Stays.{falls, live_of, stays}
+use Rattle.l2_dev.specs.declared.fault.DevErr.{DevErr}
+use Rattle.l2_dev.specs.declared.fault.DevErr.TheVariants as err
+use Rattle.l2_dev.specs.declared.report.FeedStop.{FeedStop}
+use Rattle.l2_dev.specs.declared.report.FeedStop.TheVariants as stop
+use Rattle.l2_dev.specs.Cursor.{CursorState}
+use Rattle.l2_feed.specs.Acts.{Act, Picked, Refused, Unpicked, keys_of}
+use Rattle.l2_feed.specs.Runs.{AreCleared, AreLeft, AreRuns, batch_len}
+
+-- for which reason a key is left where a feed ends so
+abbrev pub why_of : FeedStop → Why
+why_of stop.Done = why.Gone
+why_of stop.DevFault = why.Device
+why_of stop.NoMemory = why.Memory
+
+-- how a feed ends after this fault
+abbrev pub stop_of : DevErr → FeedStop
+stop_of err.DevFault = stop.DevFault
+stop_of err.NoMemory = stop.NoMemory
+
+-- memory was refused for taking a place
+abbrev pub IsRefusal : Act → Type 0
+IsRefusal (Refused k place) = Unit {0}
+IsRefusal _ = ⊥
+
+-- memory was refused for taking none of the places
+abbrev pub NoneRefused : List Act → Type 0
+NoneRefused = AllByRecursion (λ act. ¬ IsRefusal act)
+
+-- blocks are left exactly where a feed ends before its time
+abbrev pub LeavesSome : FeedStop → List Block → Type 0
+LeavesSome stop.Done left = left ≡ []
+LeavesSome _ left = 0 < length left
+
+-- A plan for n bytes was begun: it was taken, and the places of what it drops were asked back; at Ok none was refused, and blocks may be put. Or
+-- memory was refused for it, and nothing has changed.
+pub record TakesPlan (old new : CursorState) (n : ℕ) (acts : List Act) (result : Result (Unit {0}) DevErr) : Type 0 where
+  pub plan : Plan
+  pub plan_for : IsPlanFor old.ring n plan
+  pub numbers : HasPlan plan old.ring new.ring
+  pub live : new.ring.live ≡ filter (stays plan) old.ring.live
+  pub pending : new.pending ≡ []
+  pub cleared : AreCleared (map live_of (filter (falls plan) old.ring.live)) acts
+  pub opened : OnOk result (NoneRefused acts × (new.ready ≡ true))
+
+abbrev pub HasBegun : (old new : CursorState) → ℕ → List Act → Result (Unit {0}) DevErr → Type 0
+HasBegun old new n acts result = ((new ≡ old) × (acts ≡ []) × (result ≡ Err err.NoMemory)) ⊎ TakesPlan old new n acts result
+
+-- the first fault of a begin and of the clears behind it
+abbrev pub first_fault : Result (Unit {0}) DevErr → Result (Unit {0}) NoMemory → Result (Unit {0}) DevErr
+first_fault (Err fault) taken = Err fault
+first_fault (Ok u) (Err refused) = Err err.NoMemory
+first_fault (Ok u) (Ok v) = Ok u
+
+-- how a feed ends after this answer
+abbrev pub end_of : Result (Unit {0}) DevErr → FeedStop
+end_of (Ok u) = stop.Done
+end_of (Err fault) = stop_of fault
+
+-- So many runs of these blocks were committed and set, and the blocks that are left were left, for the reason of the end: these are the acts. What
+-- is live is what was live and the entries of the runs.
+pub record HaveRun (lap hand : ℕ) (live : List Written) (new : CursorState) (blocks : List Block) (acts : List Act) (end : FeedStop) : Type 0 where
+  pub count : ℕ
+  pub sets : List Act
+  pub entries : List Written
+  pub left : List Block
+  pub runs : AreRuns lap hand count blocks sets entries left
+  pub leaves : List Act
+  pub lefts : AreLeft (why_of end) left leaves
+  pub settled : acts ≡ sets ++ leaves
+  pub some : LeavesSome end left
+  pub live_is : new.ring.live ≡ live ++ entries
+  pub lap_is : new.ring.lap ≡ lap
+
+-- What became of a batch of these blocks: the plan for them was taken, and the places of what it drops were asked back; then the runs were written.
+pub record IsWritten (old new : CursorState) (blocks : List Block) (clears settles : List Act) (end : FeedStop) : Type 0 where
+  pub plan : Plan
+  pub plan_for : IsPlanFor old.ring (batch_len blocks) plan
+  pub cleared : AreCleared (map live_of (filter (falls plan) old.ring.live)) clears
+  pub refused : end ≡ stop.Done → NoneRefused clears
+  pub ran : HaveRun plan.lap plan.hand (filter (stays plan) old.ring.live) new blocks settles end
+
+-- Memory was refused for the plan: nothing of the device changed, and all blocks were left.
+pub record IsUnwritten (old new : CursorState) (blocks : List Block) (clears settles : List Act) (end : FeedStop) : Type 0 where
+  pub same : new ≡ old
+  pub none : clears ≡ []
+  pub lefts : AreLeft why.Memory blocks settles
+  pub ended : end ≡ stop.NoMemory
+
+-- a shard of which something was picked
+pub record FedBatch (shard : ℕ) (old new : CursorState) (acts : List Act) (end : FeedStop) : Type 0 where
+  pub blocks : List Block
+  pub some : 0 < length blocks
+  pub clears : List Act
+  pub settles : List Act
+  pub acts_are : acts ≡ Picked shard (keys_of blocks) ∷ (clears ++ settles)
+  pub written : IsWritten old new blocks clears settles end ⊎ IsUnwritten old new blocks clears settles end
+
+-- One shard was fed: nothing was picked, and the device is as it was; or memory was refused for picking, which ends the feed; or a batch was
+-- picked.
+abbrev pub FedShard : (shard : ℕ) → (old new : CursorState) → List Act → FeedStop → Type 0
+FedShard shard old new acts end =
+    ((acts ≡ Picked shard [] ∷ []) × (new ≡ old) × (end ≡ stop.Done))
+    ⊎ ((acts ≡ Unpicked shard ∷ []) × (new ≡ old) × (end ≡ stop.NoMemory))
+    ⊎ FedBatch shard old new acts end
+
+-- So many shards were fed from this one on, by rising number: each to its end, up to the one where the feed ended, behind which nothing was done.
+abbrev pub AreFed : (shard count : ℕ) → (old new : CursorState) → List Act → FeedStop → Type 0
+AreFed shard zero old new acts end = (acts ≡ []) × (new ≡ old) × (end ≡ stop.Done)
+AreFed shard (suc count) old new acts end =
+    ((end ≢ stop.Done) × FedShard shard old new acts end)
+    ⊎ ((first : List Act) × (more : List Act) × (between : CursorState) × (acts ≡ first ++ more) × FedShard shard old between first stop.Done × AreFed (suc shard) count between new more end)

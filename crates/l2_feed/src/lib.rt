@@ -1,0 +1,10 @@
+//! One feed of the cache device: blocks at the tails of the cache's lists are picked, written to the ring in runs, each with its log block behind it,
+//! and their keys get places (`l2arc_feed_thread` of OpenZFS's `arc.c`).
+#![tactic(auto)]
+
+mod batch;
+mod feeding;
+mod runs;
+mod settle;
+
+pub use feeding::feed;
