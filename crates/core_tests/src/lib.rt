@@ -3,12 +3,6 @@
 #![tactic(auto)]
 
 #[cfg(test)]
-mod links;
-#[cfg(test)]
-mod lists;
-#[cfg(test)]
-mod queue;
-#[cfg(test)]
-mod rows;
+mod memory;
 #[cfg(test)]
 mod shard;

@@ -1,5 +1,5 @@
 //! Which blocks a feed picks.
-use super::{BOUNDS, block, fetch, make};
+use super::{BOUNDS, block, fetch_quarters, make};
 use arc_core::{Event, Shard};
 use blk_ptr::Key;
 
@@ -8,19 +8,18 @@ fn is_next(shard: &mut Shard, event: Event, next: Option<Key>) -> bool {
     make(shard, event) && shard.candidate() == next
 }
 
-// A feed's walk goes past a passed key, and past a picked one.
+/// A feed's walk goes past a passed key, and past a picked one.
+fn passes_and_picks(shard: &mut Shard) -> bool {
+    let (a, b, c) = (block(1024, 0), block(1024, 1), block(1024, 2));
+    let (n, key, owner) = (1, a, 0);
+    fetch_quarters(shard, 3)
+        && is_next(shard, Event::Pass { n, key, owner }, Some(b))
+        && is_next(shard, Event::Pick { n, key: b }, Some(c))
+        && is_next(shard, Event::Pick { n, key: c }, None)
+}
+
 #[test]
 fn a_feed_passes_and_picks(rt: HostRuntime) {
     let mut shard = Shard::new(rt.alloc(), 4096, 0, BOUNDS);
-    let (a, b, c) = (block(512, 0), block(512, 1), block(512, 2));
-    let (n, key, owner) = (1, a, 0);
-    let seen = [
-        fetch(&mut shard, a, 1),
-        fetch(&mut shard, b, 1),
-        fetch(&mut shard, c, 1),
-        is_next(&mut shard, Event::Pass { n, key, owner }, Some(b)),
-        is_next(&mut shard, Event::Pick { n, key: b }, Some(c)),
-        is_next(&mut shard, Event::Pick { n, key: c }, None),
-    ];
-    assert!(rt; seen == [true; 6]);
+    assert!(rt; passes_and_picks(&mut shard));
 }
