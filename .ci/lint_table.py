@@ -1,0 +1,190 @@
+#!/usr/bin/env python3
+"""Runs a table over the built arc_lint: .ci/lint_table.py ARC_LINT ARC_TOOL.
+
+A row has what it shows, the words, the standard input, the exit status, and the lines of both outputs; of a text with a fault it has the line's
+number, the kind and what is shown of the line. Each text of a trace or of pages is given to arc_tool too, which must refuse exactly those with a fault.
+It prints each row that is wrong, and how many were right.
+"""
+import os
+import signal
+import resource
+import subprocess
+import sys
+import tempfile
+
+Z = '076a27c79e5ace2a3d47f9dd2e83e4ff6ea8872b3c2218f66c92b89b55f36560'  # of 512 zero bytes
+ARC = 'arc 1 1 16 1 4096 0 0\n'
+HEAD = f'{ARC}block 0 512 1 {Z}\n'
+SIZES = 'callers 1 shards 1 buckets 16 cells 1 c 4096 mintime 0 dbufs 0 write_max 8388608 headroom 2'
+LONGEST = 67_108_864
+# what is wanted, by the kind
+TRACE = {
+    'First': 'The first line that counts is the arc line: arc and seven numbers.',
+    'Word': 'There is one arc line, and any other line begins with another word that docs/FORMATS.md has.',
+    'Shape': 'A line has the fields that its word wants, with one space between each two and none at its end.',
+    'Number': 'A number is decimal with no sign and no leading zero, in the range of its field; a digest has 64 lower-case hexadecimal digits, a byte two.',
+    'Order': 'All block lines stand in front of the operations, and an operation names a block that one of them declares.',
+    'Count': 'A trace has at most 100,000 block lines and 1,000,000 operations.',
+    'Length': 'A trace has at most 67,108,864 bytes.',
+}
+PAGES = {
+    'Shape': 'A line is one page number, with no space.',
+    'Number': 'A page number is decimal with no sign and no leading zero, from 0 to 4,611,686,018,427,387,904.',
+    'Count': 'A list has at most 1,000,000 pages.',
+    'Length': 'A list of pages has at most 67,108,864 bytes.',
+}
+USAGE = 'arc_lint: usage: arc_lint [--pages] < FILE; arc_lint --help says more'
+NO_OUTPUT = 'arc_lint: the standard output could not be written'
+HELP = '''\
+Tells whether the standard input is a trace for arc_tool: what it declares, or its first line at fault.
+
+Usage: arc_lint [--pages] < FILE
+
+Options:
+      --pages    Reads a list of pages, as arc_tool's paper takes one, and no trace
+  -h, --help     Print help
+  -V, --version  Print version
+
+A trace gives 'ok' and what it declares. Of any other text three lines are told:
+the first line at fault by its number, with the kind of its fault; the line, cut
+to 200 bytes; and what is wanted there.
+
+Exit status:
+  0  The text is a trace, or a list of pages
+  2  A word is wrong
+  3  The text has a fault, which was told
+  4  The standard input could not be read
+  5  The standard output could not be written
+  7  There was too little memory
+'''.splitlines()
+
+# what it shows, the text, and what a trace declares or the line at fault, the kind and what is shown of the line
+TRACES = [
+    ('sizes alone', ARC, f'ok {SIZES} blocks 0 operations 0'),
+    ('an end without a newline', ARC[:-1], f'ok {SIZES} blocks 0 operations 0'),
+    ('comments and empty lines', f'# all\n\n{HEAD}#\nread 0 1 0 0 4\n\n', f'ok {SIZES} blocks 1 operations 1'),
+    ('each line', f'{HEAD}block 512 512 1 {Z}\nread 0 1 0 0 4\nhold 0 2 1\ndrop 0 1\n', f'ok {SIZES} blocks 2 operations 3'),
+    ('the largest numbers', 'arc 16 16 256 16 268435456 4294967296 4294967296\n',
+     'ok callers 16 shards 16 buckets 256 cells 16 c 268435456 mintime 4294967296 dbufs 4294967296 write_max 8388608 headroom 2 blocks 0 operations 0'),
+    ('no byte', '', (1, 'First', '')),
+    ('no line that counts', '# nothing\n\n', (1, 'First', '# nothing')),
+    ('another first line', f'# a pool\nblock 0 512 1 {Z}\n{ARC}', (2, 'First', f'block 0 512 1 {Z}')),
+    ('a space in front', f' {ARC}', (1, 'First', ' arc 1 1 16 1 4096 0 0')),
+    ('no word', f'{HEAD}Read 0 1 0 0 4\n', (3, 'Word', 'Read 0 1 0 0 4')),
+    ('a second arc line', f'{HEAD}{ARC}', (3, 'Word', ARC[:-1])),
+    ('a tab', f'{HEAD}read\t0 1 0 0 4\n', (3, 'Word', r'read\x090 1 0 0 4')),
+    ('too few fields', f'{HEAD}read 0 1 0 0\n', (3, 'Shape', 'read 0 1 0 0')),
+    ('an empty field', f'{HEAD}read 0 1  0 4\n', (3, 'Shape', 'read 0 1  0 4')),
+    ('a space at the end', 'arc 1 1 16 1 4096 0 0 \n', (1, 'Shape', 'arc 1 1 16 1 4096 0 0 ')),
+    ('a zero in front', f'{HEAD}read 0 01 0 0 4\n', (3, 'Number', 'read 0 01 0 0 4')),
+    ('a sign', f'{HEAD}read 0 +1 0 0 4\n', (3, 'Number', 'read 0 +1 0 0 4')),
+    ('a caller too many', f'{HEAD}read 1 1 0 0 4\n', (3, 'Number', 'read 1 1 0 0 4')),
+    ('a window too long', f'{HEAD}read 0 1 7 0 65\n', (3, 'Number', 'read 0 1 7 0 65')),
+    ('too small a cache', 'arc 1 1 16 1 4095 0 0\n', (1, 'Number', 'arc 1 1 16 1 4095 0 0')),
+    ('more than all shards may have', 'arc 1 2 16 1 2147483649 0 0', (1, 'Number', 'arc 1 2 16 1 2147483649 0 0')),
+    ('a digest in upper case', f'{ARC}block 0 512 1 {Z.upper()}\n', (2, 'Number', f'block 0 512 1 {Z.upper()}')),
+    ('lines that end by two characters', HEAD.replace('\n', '\r\n'), (1, 'Number', r'arc 1 1 16 1 4096 0 0\x0d')),
+    ('a block that no line declares', f'{HEAD}read 0 1 7 0 64\n', (3, 'Order', 'read 0 1 7 0 64')),
+    ('a block behind an operation', f'{HEAD}hold 0 1 0\nblock 0 512 1 {Z}\n', (4, 'Order', f'block 0 512 1 {Z}')),
+    ('the first of two faults', f'{HEAD}read 0 1\nread 0 1 7 0 64\n', (3, 'Shape', 'read 0 1')),
+    ('the last line, which has no newline', f'{HEAD}\n#\nhold 0', (5, 'Shape', 'hold 0')),
+    ('a backslash and bytes of no text', HEAD.encode() + b'a\\b\x00\x7f\xc3\xa9~ \n', (3, 'Word', r'a\x5cb\x00\x7f\xc3\xa9~ ')),
+    ('a line of 200 bytes', f'{HEAD}{"x" * 200}\n', (3, 'Word', 'x' * 200)),
+    ('a line of 201 bytes', f'{HEAD}{"x" * 200}y\n', (3, 'Word', 'x' * 200)),
+    ('all blocks', ARC + f'block 0 512 1 {Z}\n' * 100_000, f'ok {SIZES} blocks 100000 operations 0'),
+    ('a block too many', ARC + f'block 0 512 1 {Z}\n' * 100_001, (100_002, 'Count', f'block 0 512 1 {Z}')),
+    ('all operations', HEAD + 'drop 0 0\n' * 1_000_000, f'ok {SIZES} blocks 1 operations 1000000'),
+    ('an operation too many', HEAD + 'drop 0 0\n' * 1_000_001, (1_000_003, 'Count', 'drop 0 0')),
+    ('the longest text', HEAD + '#' * (LONGEST - len(HEAD)), f'ok {SIZES} blocks 1 operations 0'),
+    ('a byte too many', HEAD + '#' * (LONGEST + 1 - len(HEAD)), (3, 'Length', '#' * 200)),
+    ('a byte too many behind another fault', 'x\n' * (LONGEST // 2) + 'y', (LONGEST // 2 + 1, 'Length', 'y')),
+]
+LISTS = [
+    ('no page', '', 'ok pages 0'),
+    ('pages', '# two\n7\n\n4611686018427387904', 'ok pages 2'),
+    ('all pages', '1\n' * 1_000_000, 'ok pages 1000000'),
+    ('two numbers', '1\n1 2\n', (2, 'Shape', '1 2')),
+    ('a space', '1\n \n', (2, 'Shape', ' ')),
+    ('no number', 'one\n', (1, 'Number', 'one')),
+    ('a number too large', '0\n4611686018427387905\n', (2, 'Number', '4611686018427387905')),
+    ('a page too many', '1\n' * 1_000_001, (1_000_001, 'Count', '1')),
+    ('a byte too many', '#' * (LONGEST + 1), (1, 'Length', '#' * 200)),
+]
+# what it shows; the words; the text, or 'folder'; the exit status and the lines of both outputs; and what is special of the standard output
+PROGRAM = [
+    ('the help', ['--help'], '', 0, HELP, []),
+    ('the version', ['-V'], '', 0, ['arc_lint 0.1.0'], []),
+    ('the help to a full output', ['--help'], '', 5, [], [NO_OUTPUT], 'full'),
+    ('an unknown word', ['--page'], ARC, 2, [], [USAGE]),
+    ('a file', ['trace'], ARC, 2, [], [USAGE]),
+    ('a word twice', ['--pages', '--pages'], ARC, 2, [], [USAGE]),
+    ('a word that is no text', [b'\xff'], ARC, 2, [], [USAGE]),
+    ('a source that fails', [], 'folder', 4, [], ['arc_lint: the standard input could not be read']),
+    ('a full output', [], ARC, 5, [], [NO_OUTPUT], 'full'),
+    ('a closed output', [], ARC, 5, [], [NO_OUTPUT], 'closed'),
+    ('an output that takes a part', [], HEAD + 'x' * 100, 5, ['bad 3 Word', 'x' * 89], [NO_OUTPUT], 'cut'),
+    ('too little memory', [], '#' * LONGEST, 7, [], ['arc_lint: there was too little memory'], 'poor'),
+]
+
+
+def told(words, found, wanted):
+    if isinstance(found, str):
+        return words, 0, [found]
+    line, kind, shown = found
+    return words, 3, [f'bad {line} {kind}', shown, wanted[kind]]
+
+
+def rows():
+    for table, words, command, wanted in (TRACES, [], ['run'], TRACE), (LISTS, ['--pages'], ['paper', '1'], PAGES):
+        for name, text, found in table:
+            words, status, output = told(words, found, wanted)
+            yield name, words, text, status, output, [], None, command
+    for name, words, text, status, output, errors, *special in PROGRAM:
+        yield name, words, text, status, output, errors, special[0] if special else None, None
+
+
+def run(program, words, text, special=None):
+    def prepare():
+        if special == 'closed':
+            os.close(1)
+        if special == 'cut':
+            signal.signal(signal.SIGXFSZ, signal.SIG_IGN)
+            resource.setrlimit(resource.RLIMIT_FSIZE, (100, 100))
+        if special == 'poor':
+            resource.setrlimit(resource.RLIMIT_AS, (48 << 20, 48 << 20))
+    if text != 'folder':
+        with open('source', 'wb') as out:
+            out.write(text if isinstance(text, bytes) else text.encode())
+    stdin = os.open('folder' if text == 'folder' else 'source', os.O_RDONLY)
+    stdout = {'cut': 'cut', 'full': '/dev/full'}.get(special, 'out')
+    opened = os.open(stdout, os.O_WRONLY | os.O_CREAT | os.O_TRUNC)
+    ended = subprocess.run([program, *words], stdin=stdin, stdout=opened, stderr=subprocess.PIPE, preexec_fn=prepare, timeout=60)
+    os.close(stdin)
+    os.close(opened)
+    output = b'' if special == 'full' else open(stdout, 'rb').read()
+    return ended.returncode, output.decode().splitlines(), ended.stderr.decode().splitlines()
+
+
+def main():
+    lint, tool = map(os.path.abspath, sys.argv[1:3])
+    wrong = right = 0
+    with tempfile.TemporaryDirectory(prefix='arc_lint.') as work:
+        os.chdir(work)
+        os.mkdir('folder')
+        for name, words, text, status, output, errors, special, command in rows():
+            ours = run(lint, words, text, special)
+            refused = run(tool, ['-', '-', *command], text)[0] if command else None
+            if ours != (status, output, errors):
+                print(f'{name}: {words} ended with {str(ours)[:1000]}, not with {str((status, output, errors))[:1000]}')
+                wrong += 1
+            elif command and (refused == 3) != (status == 3):
+                print(f'{name}: {command} of arc_tool ended with {refused}')
+                wrong += 1
+            else:
+                right += 1
+        os.chdir('/')
+    print(f'lint: {right} rows right, {wrong} wrong')
+    sys.exit(wrong > 0)
+
+
+main()

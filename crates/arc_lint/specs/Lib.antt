@@ -1,0 +1,6 @@
+pub mod Answers
+pub mod Shown
+pub mod Stream
+pub mod Told
+pub mod Verdict
+pub mod Wanted

@@ -1,0 +1,30 @@
+-- The sentence that tells what is wanted of a line, by the kind of its fault.
+use Rattle.std.specs.Prelude.{ℕ, List, codes}
+use Rattle.trace_text.specs.declared.fault.Kind.{Kind}
+use Rattle.trace_text.specs.declared.fault.Kind.TheVariants as kinds
+use Rattle.arc_lint.specs.declared.verdict.Format.{Format}
+use Rattle.arc_lint.specs.declared.verdict.Format.TheVariants as formats
+
+-- of a trace
+abbrev pub trace_wanted : Kind → List ℕ
+trace_wanted kinds.First = codes "The first line that counts is the arc line: arc and seven numbers."
+trace_wanted kinds.Word = codes "There is one arc line, and any other line begins with another word that docs/FORMATS.md has."
+trace_wanted kinds.Shape = codes "A line has the fields that its word wants, with one space between each two and none at its end."
+trace_wanted kinds.Number = codes "A number is decimal with no sign and no leading zero, in the range of its field; a digest has 64 lower-case hexadecimal digits, a byte two."
+trace_wanted kinds.Order = codes "All block lines stand in front of the operations, and an operation names a block that one of them declares."
+trace_wanted kinds.Count = codes "A trace has at most 100,000 block lines and 1,000,000 operations."
+trace_wanted kinds.Length = codes "A trace has at most 67,108,864 bytes."
+
+-- of a list of pages, where no line has a fault of the kinds First, Word and Order
+abbrev pub pages_wanted : Kind → List ℕ
+pages_wanted kinds.First = codes "A line is one page number, with no space."
+pages_wanted kinds.Word = codes "A line is one page number, with no space."
+pages_wanted kinds.Shape = codes "A line is one page number, with no space."
+pages_wanted kinds.Number = codes "A page number is decimal with no sign and no leading zero, from 0 to 4,611,686,018,427,387,904."
+pages_wanted kinds.Order = codes "A line is one page number, with no space."
+pages_wanted kinds.Count = codes "A list has at most 1,000,000 pages."
+pages_wanted kinds.Length = codes "A list of pages has at most 67,108,864 bytes."
+
+abbrev pub wanted : Format → Kind → List ℕ
+wanted formats.Trace kind = trace_wanted kind
+wanted formats.Pages kind = pages_wanted kind
