@@ -113,6 +113,53 @@ Order|hold 0 1 4611686018427387904
 Order|drop 0 4294967296
 Order|hold 0 1 1
 Order|read 0 1 4611686018427387904 0 4
+Shape|cap
+Shape|cap 4096 0
+Shape|cap\u{20}
+Word|cap\t4096
+Number|cap 4095
+Number|cap 04096
+Number|cap 4294967297
+Number|cap 123456789012345678901234567890
+";
+
+/// The same, of blocks of objects, of feeds and of groups.
+const THIRD_OPERATIONS: &str = "\
+Shape|get 0 1 7 0 0
+Shape|put 0 1 7 0 512
+Shape|patch 0 1 7 0 0
+Shape|patch 0 1 7 0 0\u{20}
+Shape|pin 0 1 7 0 0
+Shape|unpin 0 7
+Shape|feed 1
+Shape|feed\u{20}
+Shape|txg
+Word|feeds
+Word|gets 0 1 7 0 0 0
+Number|get 1 1 7 0 0 0
+Number|get 0 4611686018427387905 7 0 0 0
+Number|get 0 1 4611686018427387905 0 0 0
+Number|get 0 1 7 4611686018427387905 0 0
+Number|get 0 1 7 0 4294967296 0
+Number|get 0 1 7 0 0 65
+Number|put 1 1 7 0 512 ab
+Number|put 0 1 7 0 0 ab
+Number|put 0 1 7 0 513 ab
+Number|put 0 1 7 0 16777728 ab
+Number|put 0 1 7 0 512 aB
+Number|put 0 1 7 0 512 a
+Number|put 0 1 7 0 512 abc
+Number|put 0 1 7 0 512 7
+Number|patch 1 1 7 0 0 00
+Number|patch 0 1 7 0 4294967296 00
+Number|patch 0 1 7 0 0 0
+Number|patch 0 1 7 0 0 0g
+Number|patch 0 1 7 0 0 0000000000000000000000000000000000000000000000000000000000000000000000000000000000000000000000000000000000000000000000000000000000
+Number|pin 1 1 7 0
+Number|pin 0 1 7 -1
+Number|unpin 1 7 0
+Number|unpin 0 x 0
+Number|txg 4611686018427387905
 ";
 
 /// The same, of blocks.
@@ -128,7 +175,7 @@ Number|block 0 512 1 076a27c79e5ace2a3d47f9dd2e83e4ff6ea8872b3c2218f66c92b89b55f
 #[test]
 fn faults_of_a_third_line(rt: HostRuntime) -> Result<(), Fail> {
     let before = format!(in rt.alloc(); "{SIZES}\n{BLOCK}\n")?;
-    for rows in [THIRD_LINES, THIRD_NUMBERS, THIRD_BLOCKS] {
+    for rows in [THIRD_LINES, THIRD_NUMBERS, THIRD_OPERATIONS, THIRD_BLOCKS] {
         assert_eq!(rt; wrong_row(rt.alloc(), before.as_str(), 3, rows)?, None);
     }
     Ok(())
@@ -140,6 +187,17 @@ read 0 0 0 0 0
 read 0 4611686018427387904 0 4294967295 64
 hold 0 4611686018427387904 0
 drop 0 0
+get 0 4611686018427387904 4611686018427387904 4611686018427387904 4294967295 64
+put 0 0 0 0 512 00
+put 0 1 7 0 16777216 ff
+patch 0 1 7 0 4294967295 a0
+patch 0 1 7 0 0 00000000000000000000000000000000000000000000000000000000000000000000000000000000000000000000000000000000000000000000000000000000
+pin 0 1 7 0
+unpin 0 7 0
+feed
+txg 4611686018427387904
+cap 4096
+cap 4294967296
 block 4611686018427387904 4294967296 4611686018427387904 076a27c79e5ace2a3d47f9dd2e83e4ff6ea8872b3c2218f66c92b89b55f36560
 block 1 0 0 ffffffffffffffffffffffffffffffffffffffffffffffffffffffffffffffff
 
@@ -220,6 +278,12 @@ fn faults_of_later_lines(rt: HostRuntime) -> Result<(), Fail> {
     let sixteen = "arc 16 1 1 1 4096 0 0\n";
     let past = "Number|read 16 1 0 0 0\nOrder|read 15 1 0 0 0";
     assert_eq!(rt; wrong_row(rt.alloc(), sixteen, 2, past)?, None);
+    let capped = "Number|cap 268435457\nOrder|read 0 1 0 0 0";
+    let all_shards = format!(in rt.alloc(); "arc 1 16 1 1 4096 0 0\ncap 268435456\n")?;
+    assert_eq!(rt;
+        wrong_row(rt.alloc(), all_shards.as_str(), 3, capped)?,
+        None
+    );
     let again = "arc 1 1 16 1 4096 0 0\n#\nfly";
     assert!(rt; fails_at(rt.alloc(), again, 3, "Word")?);
     Ok(())

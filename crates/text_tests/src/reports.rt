@@ -4,8 +4,8 @@ use blk_ptr::{Digest, Key, KeyFault};
 use std::alloc::{AllocError, Global};
 use std::test::Fail;
 use trace_text::{
-    Ends, Histories, History, Refusal, Replies, Reply, Report, Served, ShardEnd, Shown, counts_of,
-    report_text,
+    Ends, FeedReport, FeedStop, Histories, History, Oid, Refusal, Replies, Reply, Report, Served,
+    ShardEnd, Shown, counts_of, report_text,
 };
 
 const KEY: Key = Key {
@@ -93,6 +93,9 @@ fn lines_of_kept_reads(rt: HostRuntime) -> Result<(), Fail> {
     let kept = Reply::Kept { served };
     assert!(rt; has_words(rt.alloc(), kept, "held past")?);
     assert!(rt; has_words(rt.alloc(), Reply::Dropped, "dropped")?);
+    assert!(rt; has_words(rt.alloc(), Reply::Capped { c: 4096 }, "cap 4096")?);
+    assert!(rt; has_words(rt.alloc(), Reply::Done, "done")?);
+    assert!(rt; has_words(rt.alloc(), Reply::FedNone, "feed none")?);
     Ok(())
 }
 
@@ -100,6 +103,35 @@ fn lines_of_kept_reads(rt: HostRuntime) -> Result<(), Fail> {
 fn is_refused(alloc: Global, refusal: Refusal, words: &str) -> Result<bool, AllocError> {
     let all = format!(in alloc; "refused {words}")?;
     has_words(alloc, Reply::Refused(refusal), all.as_str())
+}
+
+#[test]
+fn lines_of_blocks_feeds_and_groups(rt: HostRuntime) -> Result<(), Fail> {
+    let shown = Shown::of(&[0, 171]);
+    let got = Reply::Got { size: 512, shown };
+    assert!(rt; has_words(rt.alloc(), got, "got 512 00ab")?);
+    let synced = Reply::Synced {
+        group: 1,
+        blocks: 2,
+        bytes: 1024,
+    };
+    assert!(rt; has_words(rt.alloc(), synced, "txg 1 blocks 2 bytes 1024")?);
+    for (end, word) in [
+        (FeedStop::Done, "ok"),
+        (FeedStop::DevFault, "fault"),
+        (FeedStop::NoMemory, "memory"),
+    ] {
+        let fed = Reply::Fed(FeedReport {
+            picked: 1,
+            bytes: 2048,
+            written: 1,
+            cleared: 0,
+            end,
+        });
+        let words = format!(in rt.alloc(); "feed picked 1 bytes 2048 written 1 cleared 0 {word}")?;
+        assert!(rt; has_words(rt.alloc(), fed, words.as_str())?);
+    }
+    Ok(())
 }
 
 #[test]
@@ -112,6 +144,12 @@ fn lines_of_refusals(rt: HostRuntime) -> Result<(), Fail> {
     };
     assert!(rt; is_refused(rt.alloc(), range, "window 513 512")?);
     assert!(rt; is_refused(rt.alloc(), Refusal::NoHold { block: 5 }, "hold 5")?);
+    let at = Oid {
+        object: 7,
+        block: 9,
+    };
+    assert!(rt; is_refused(rt.alloc(), Refusal::NoBlock(at), "block 7 9")?);
+    assert!(rt; is_refused(rt.alloc(), Refusal::NoPin(at), "pin 7 9")?);
     Ok(())
 }
 

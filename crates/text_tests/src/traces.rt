@@ -55,6 +55,26 @@ fn what_a_read_says(rt: HostRuntime) -> Result<(), Fail> {
 }
 
 #[test]
+fn what_a_patch_says(rt: HostRuntime) -> Result<(), Fail> {
+    let text = b"arc 1 1 16 1 4096 0 0\npatch 0 3 7 9 511 01ff";
+    let ops = read_trace(rt.alloc(), text)?.ops;
+    let op = ops.as_slice().get(0).ok_or("no patch")?;
+    let Op::Patch {
+        n,
+        t,
+        at,
+        from,
+        bytes,
+    } = op
+    else {
+        return Err("another operation")?;
+    };
+    assert!(rt; *n == 0 && *t == 3 && at.object == 7 && at.block == 9 && *from == 511);
+    assert!(rt; bytes.bytes() == [1, 255].as_slice());
+    Ok(())
+}
+
+#[test]
 fn a_generated_trace(rt: HostRuntime) -> Result<(), Fail> {
     let trace = gen_trace(rt.alloc(), 1, 8, 10)?;
     assert!(rt; trace.config.buckets == 256 && trace.config.c == 4096);
