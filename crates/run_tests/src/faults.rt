@@ -84,7 +84,7 @@ struct Row {
     reports: &'static [&'static str],
 }
 
-const ROWS: [Row; 5] = [
+const ROWS: [Row; 6] = [
     Row {
         shows: "the pool fails once",
         fail: &[0],
@@ -180,6 +180,21 @@ read 0 1 0 0 0
 shard 0 c 4096 p 2048 anon 0 mru 0 mrug 0 mfu 0 mfug 0 l2 0
 count hit 0 miss 0 past 0 pool 0 l2 0 pass 0 set 0
 end 6
+",
+        ],
+    },
+    Row {
+        shows: "a trace without an operation makes no fork, so none fails",
+        fail: &[0],
+        forks: &[],
+        trace: "arc 2 1 16 1 4096 0 0
+block 0 512 1 Z
+",
+        reports: &[
+            "arc 1
+shard 0 c 4096 p 2048 anon 0 mru 0 mrug 0 mfu 0 mfug 0 l2 0
+count hit 0 miss 0 past 0 pool 0 l2 0 pass 0 set 0
+end 0
 ",
         ],
     },
