@@ -1,0 +1,6 @@
+use Rattle.std.proofs.Common.{refl, arith}
+use Rattle.trace_run.proofs.StepLemmas.{leaves-same, leaves-then}
+use Rattle.trace_run.proofs.groups.all_groups.Goals as goal
+
+pub next_group-requires-clause-between : goal.next_group-requires-clause-between
+next_group-requires-clause-between g c κs within = (c.args.pool.now, c.loop.invariant.between)
