@@ -496,6 +496,130 @@ shard 1 c 4096 p 2048 anon 0 mru 512 mrug 0 mfu 0 mfug 0 l2 0
 count hit 2 miss 2 past 0 pool 2 l2 0 pass 0 set 0
 end 0
 ''']),
+    Row('a smaller capacity evicts, and what is read again is a ghost by then', ['run'], 5120, '''\
+arc 1 1 16 1 8192 0 0
+block 0 1024 1 Y
+block 1024 1024 1 Y
+block 2048 1024 1 Y
+block 3072 1024 1 Y
+block 4096 1024 1 Y
+read 0 1 0 0 0
+read 0 2 1 0 0
+read 0 3 2 0 0
+read 0 4 3 0 0
+read 0 5 4 0 0
+read 0 6 0 0 0
+cap 4096
+read 0 7 1 0 0
+''', 0, ['''\
+arc 1
+0 ok pool Y -
+1 ok pool Y -
+2 ok pool Y -
+3 ok pool Y -
+4 ok pool Y -
+5 ok hit Y -
+6 cap 4096
+7 ok pool Y -
+shard 0 c 4096 p 3840 anon 0 mru 3072 mrug 0 mfu 1024 mfug 1024 l2 0
+count hit 1 miss 6 past 0 pool 6 l2 0 pass 0 set 0
+end 0
+''']),
+    Row('what is held stays past a smaller capacity', ['run'], 6144, '''\
+arc 1 1 16 1 8192 0 0
+block 0 2048 1 X
+block 2048 2048 1 X
+block 4096 2048 1 X
+hold 0 1 0
+hold 0 2 1
+hold 0 3 2
+cap 4096
+''', 0, ['''\
+arc 1
+0 held pool
+1 held pool
+2 held pool
+3 cap 4096
+shard 0 c 4096 p 3840 anon 0 mru 6144 mrug 0 mfu 0 mfug 0 l2 0
+count hit 0 miss 3 past 0 pool 3 l2 0 pass 0 set 0
+end 0
+''']),
+    Row('capacities one after another', ['run', '--events'], 0, '''\
+arc 1 2 16 1 4096 0 0
+cap 5000
+cap 8192
+''', 0, ['''\
+arc 1
+0 cap 5000
+1 cap 8192
+e 0 0 resize 1 5000
+e 0 1 resize 1 8192
+e 1 0 resize 1 5000
+e 1 1 resize 1 8192
+shard 0 c 8192 p 2048 anon 0 mru 0 mrug 0 mfu 0 mfug 0 l2 0
+shard 1 c 8192 p 2048 anon 0 mru 0 mrug 0 mfu 0 mfug 0 l2 0
+count hit 0 miss 0 past 0 pool 0 l2 0 pass 0 set 0
+end 0
+''']),
+    Row('two callers, one in each group, with a capacity between', ['run', '--events'], 5120, '''\
+arc 2 1 16 1 8192 0 0
+block 0 1024 1 Y
+block 1024 1024 1 Y
+block 2048 1024 1 Y
+block 3072 1024 1 Y
+block 4096 1024 1 Y
+read 0 1 0 0 0
+read 0 2 1 0 0
+read 0 3 2 0 0
+read 0 4 3 0 0
+read 0 5 4 0 0
+hold 0 6 4
+cap 4096
+read 1 7 4 0 0
+read 1 8 0 0 0
+cap 8192
+drop 0 4
+''', 0, ['''\
+arc 1
+0 ok pool Y -
+1 ok pool Y -
+2 ok pool Y -
+3 ok pool Y -
+4 ok pool Y -
+5 held hit
+6 cap 4096
+7 ok hit Y -
+8 ok pool Y -
+9 cap 8192
+10 dropped
+e 0 0 miss 0 0 1024 1 1
+e 0 1 arrive 0 0 1024 1 Y pool
+e 0 2 drop 0 0 1024 1
+e 0 3 miss 0 1024 1024 1 2
+e 0 4 arrive 0 1024 1024 1 Y pool
+e 0 5 drop 0 1024 1024 1
+e 0 6 miss 0 2048 1024 1 3
+e 0 7 arrive 0 2048 1024 1 Y pool
+e 0 8 drop 0 2048 1024 1
+e 0 9 miss 0 3072 1024 1 4
+e 0 10 arrive 0 3072 1024 1 Y pool
+e 0 11 drop 0 3072 1024 1
+e 0 12 miss 0 4096 1024 1 5
+e 0 13 arrive 0 4096 1024 1 Y pool
+e 0 14 drop 0 4096 1024 1
+e 0 15 hit 0 4096 1024 1 6
+e 0 16 resize 2 4096
+e 0 17 hit 1 4096 1024 1 7
+e 0 18 drop 1 4096 1024 1
+e 0 19 miss 1 0 1024 1 8
+e 0 20 arrive 1 0 1024 1 Y pool
+e 0 21 drop 1 0 1024 1
+e 0 22 resize 2 8192
+e 0 23 drop 0 4096 1024 1
+shard 0 c 8192 p 3840 anon 0 mru 2048 mrug 1024 mfu 2048 mfug 0 l2 0
+count hit 2 miss 6 past 0 pool 6 l2 0 pass 0 set 0
+end 0
+''']),
     Row('the last bytes of a block whose bytes count up', ['run'], COUNTING, '''\
 arc 1 1 16 1 4096 0 4096
 block 0 512 1 N
@@ -558,7 +682,7 @@ REFUSED = [
     Row('a word that run has not', ['run', '--event'], 512, 'arc 1 1 16 1 4096 0 0\n', 2, ['']),
     Row('no block to read', ['gen', '1', '0', '10'], 512, '', 2, ['']),
     Row('no number of reads', ['gen', '1', '8'], 512, '', 2, ['']),
-    Row('a capacity that is not done yet', ['run'], 512, 'arc 1 1 16 1 4096 0 0\ncap 4096\n', 3, ['']),
+    Row('the end of a transaction group, which is not done yet', ['run'], 512, 'arc 1 1 16 1 4096 0 0\ntxg 1\n', 3, ['']),
     Row('a line that lacks a number', ['run'], 512, 'arc 1 1 16 1 4096 0 0\n# none\nread 0 1 0 0\n', 3, ['']),
 ]
 

@@ -84,7 +84,7 @@ struct Row {
     reports: &'static [&'static str],
 }
 
-const ROWS: [Row; 6] = [
+const ROWS: [Row; 8] = [
     Row {
         shows: "the pool fails once",
         fail: &[0],
@@ -195,6 +195,48 @@ block 0 512 1 Z
 shard 0 c 4096 p 2048 anon 0 mru 0 mrug 0 mfu 0 mfug 0 l2 0
 count hit 0 miss 0 past 0 pool 0 l2 0 pass 0 set 0
 end 0
+",
+        ],
+    },
+    Row {
+        shows: "the second group's last fork can't be made: the first group is answered, and the capacity behind it is given",
+        fail: &[3],
+        forks: &[],
+        trace: "arc 2 1 16 1 8192 0 0
+block 0 512 1 Z
+read 0 1 0 0 0
+cap 4096
+read 1 2 0 0 0
+",
+        reports: &[
+            "arc 1
+0 ok pool Z -
+1 cap 4096
+shard 0 c 4096 p 3840 anon 0 mru 512 mrug 0 mfu 0 mfug 0 l2 0
+count hit 0 miss 1 past 0 pool 1 l2 0 pass 0 set 0
+end 6
+",
+        ],
+    },
+    Row {
+        shows: "each group has forks of its own: the third is the first caller's in the second group",
+        fail: &[],
+        forks: &[&[1], &[], &[0]],
+        trace: "arc 2 1 16 1 8192 0 0
+block 0 512 1 Z
+block 512 512 1 Z
+read 0 1 0 0 0
+cap 4096
+read 0 2 1 0 0
+",
+        reports: &[
+            "arc 1
+0 ok pool Z -
+1 cap 4096
+2 refused pool
+shard 0 c 4096 p 3840 anon 0 mru 512 mrug 0 mfu 0 mfug 0 l2 0
+count hit 0 miss 2 past 0 pool 2 l2 0 pass 0 set 0
+end 1
 ",
         ],
     },

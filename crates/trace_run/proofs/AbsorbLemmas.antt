@@ -98,3 +98,10 @@ over-sum f (x ∷ xs) d = omega (arith, over-shift (length xs) (λ n. f (get_or 
 pub sum-few : {P : Type 0} (f : P → ℕ) (xs : List P) (d : P) → ((k : ℕ) → k < length xs → f (get_or xs k d) ≤ 2 ^ 32) → sum_by f xs ≤ length xs * 2 ^ 32
 sum-few f [] d each = omega arith
 sum-few f (x ∷ xs) d each = omega (arith, sum_by-cons f x xs, each 0 (omega arith), sum-few f xs d (λ k lt. each (suc k) (omega (arith, lt))))
+
+-- where each is at most so much
+pub over-few : (k : ℕ) (f : ℕ → ℕ) (most : ℕ) → ((n : ℕ) → n < k → f n ≤ most) → over_callers k f ≤ k * most
+over-few zero f most each = omega arith
+over-few (suc k) f most each =
+    let product : suc k * most ≡ k * most + most = omega arith in
+    omega (arith, product, over-few k f most (λ n lt. each n (omega (arith, lt))), each k (omega arith))

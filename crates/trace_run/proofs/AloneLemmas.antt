@@ -1,5 +1,5 @@
 -- The run of one caller over the shared cache: what its lines and the drops at the end made of each shard, and that this explains the replies.
-use Rattle.std.proofs.Common.{◌≡◌, ◌≢◌, ℕ, zero, suc, ◌+◌, ◌<◌, ◌≤◌, ◌==◌, ◌&&◌, cond, Bool, true, false, IsTrue, List, [], ◌∷◌, ◌++◌, length, map, get_or, Some, refl, sym, ap, ◌∙◌, subst, inl, inr, eq-eqb, arith}
+use Rattle.std.proofs.Common.{◌≡◌, ◌≢◌, ℕ, zero, suc, ◌+◌, ◌<◌, ◌≤◌, ◌==◌, ◌&&◌, cond, Bool, true, false, IsTrue, IfSome, List, [], ◌∷◌, ◌++◌, length, map, get_or, Some, refl, sym, ap, ◌∙◌, subst, inl, inr, eq-eqb, arith}
 use Rattle.std.specs.Prelude.{filter, slice_get, sum_by}
 use Rattle.std.specs.List.{AllByRecursion, range_with_len}
 use Rattle.std.proofs.lemmas.Bool.{eqb-true}
@@ -18,7 +18,6 @@ use Rattle.arc_core.specs.declared.event.Event.{Event}
 use Rattle.arc_core.specs.Operations.{Act, HoldEveryCallOnce, IsAtRest, Moment, Tell, acts_in, are_passes_placed, has_its_number, is_pool_read, moments, number_of, own_events, own_moments, pool_reads}
 use Rattle.arc_core.specs.PlainShard.{PlainShard}
 use Rattle.arc_core.specs.Replay.{is_legal_history, replay}
-use Rattle.arc_core.proofs.OwnEvents.{no-own-events}
 use Rattle.arc_core.specs.ShardLog.{ShardLog}
 use Rattle.turn_table.specs.Places.{Place, SomeHas}
 use Rattle.arc_table.specs.declared.view.Known.{Known}
@@ -28,21 +27,22 @@ use Rattle.arc_table.specs.Geometry.{parties_of}
 use Rattle.arc_table.specs.Items.{Meanings}
 use Rattle.arc_table.specs.TableLaws.{there}
 use Rattle.trace_text.specs.declared.op.Op.{Op}
+use Rattle.trace_text.specs.declared.op.Op.TheVariants as ops
 use Rattle.trace_text.specs.declared.reply.Reply.{Reply}
 use Rattle.trace_text.specs.declared.trace.Trace.{Trace}
 use Rattle.trace_text.specs.Grammar.{IsFormed}
 use Rattle.trace_run.specs.KeptReads.{KeptRead}
 use Rattle.trace_run.specs.declared.kept_blocks.KeptBlock.{KeptBlock}
-use Rattle.trace_run.specs.Acts.{acts_of_all, acts_of_caller, acts_of_callers, acts_of_drops}
+use Rattle.trace_run.specs.Acts.{acts_of_all, acts_of_caller, acts_of_callers, acts_of_drops, events_of_feeds}
 use Rattle.trace_run.specs.Alone.{RanAlone, ends_in, histories_of}
 use Rattle.trace_run.specs.CallerLines.{At, DidLines, at}
 use Rattle.trace_run.specs.Effects.{calls_of_all}
 use Rattle.trace_run.specs.Ends.{end_of, ends_of}
 use Rattle.arc_table.specs.Telling.{opening_of}
-use Rattle.trace_run.specs.Explaining.{EndsWith, Explain, drops_at_end, none_of_the_feeder}
+use Rattle.trace_run.specs.Explaining.{EndsWith, Explain, drops_at_end}
 use Rattle.trace_run.specs.KeptBlocks.{DroppedAlone, GivesAll, Stands, holds_in, read_of}
-use Rattle.trace_run.specs.Lines.{caller_of, is_in_shard, is_of_caller, replies_where, shard_of_line}
-use Rattle.trace_run.specs.OneCaller.{AreFoundAs, IsFoundAs, events_of, events_of_drops, kept_after, kept_after_all, one_caller_history}
+use Rattle.trace_run.specs.Lines.{caller_of, is_in_shard, is_of_caller, replies_where, shard_of_block, shard_of_line}
+use Rattle.trace_run.specs.OneCaller.{AreFoundAs, IsFoundAs, events_of_drops, kept_after, kept_after_all, one_caller_history, only_feeder}
 use Rattle.trace_run.specs.Opened.{HasJoined}
 use Rattle.trace_run.specs.OverShards.{AllLinesOver, AreNamed, events_over, kept_in_shard}
 use Rattle.trace_run.specs.PlainRun.{shards_after}
@@ -54,15 +54,16 @@ use Rattle.trace_run.proofs.CallerActLemmas.{callers-none}
 use Rattle.trace_run.proofs.GiveLemmas.{all-alone, all-number, all-told}
 use Rattle.trace_run.proofs.GroupCounts.{caller-reads, reads_by}
 use Rattle.trace_run.proofs.GroupLemmas.{lines-answers, lines-number}
-use Rattle.trace_run.proofs.HistoryLemmas.{IsReadEvent, read-number}
+use Rattle.trace_run.proofs.HistoryLemmas.{IsReadEvent, is_resize, read-number}
 use Rattle.trace_run.proofs.LinesLemmas.{lines-all, lines-answered, lines-calls, lines-found, lines-kept, lines-length, lines-named, lines-seen, lines-told}
 use Rattle.trace_run.proofs.NamedLemmas.{history-over, named-drops}
 use Rattle.trace_run.proofs.OpenLemmas.{joined-all, new-seen}
-use Rattle.trace_run.proofs.OverShardLemmas.{events-here, kept-else, kept-here, other-shard, same-shard}
+use Rattle.trace_run.proofs.OverShardLemmas.{kept-else, kept-here, there-else, there-here}
 use Rattle.arc_table.proofs.OwnLemmas.{no-own-moments}
-use Rattle.trace_run.proofs.ReportLemmas.{all-own, of-caller, one-acts, one-caller, possible-at, replies-all}
+use Rattle.trace_run.proofs.ReportLemmas.{all-own, one-caller, possible-at}
 use Rattle.trace_run.proofs.RestAlone.{all-there, alone-history, alone-legal, alone-now, alone-rests, alone-told}
-use Rattle.trace_run.proofs.TellLemmas.{IsMine, all-map, filter-all, mine-events, no-passes}
+use Rattle.trace_run.proofs.SoleLemmas.{sole-acts, sole-answers, sole-fed, sole-kept}
+use Rattle.trace_run.proofs.TellLemmas.{IsAloneEvent, IsAloneOp, all-map, alone-events, no-passes}
 
 -- ---- lists by their places
 
@@ -118,20 +119,18 @@ all-counted P each a (suc n) = (each a, all-counted P each (a + 1) n)
 
 -- ---- the operations are those of the one caller
 
-pub alone-ops : (trace : Trace) → IsFormed trace → trace.config.callers ≡ 1 → IsOfCaller 0 (length trace.blocks) trace.ops
-alone-ops trace formed one k op at =
-    let possible = possible-at trace.config trace.blocks trace.ops k op formed.ops at in
-    (one-caller trace.config trace.blocks op (omega arith) possible, possible.1)
+pub alone-ops : (trace : Trace) → IsFormed trace → trace.config.callers ≡ 1 → IsOfCaller 0 trace.ops
+alone-ops trace formed one k op at = one-caller trace.config trace.blocks op (omega (arith, one)) (possible-at trace.config trace.blocks trace.ops k op formed.ops at)
 
 -- ---- events of one number
 
--- each event that stands for a read of the pool is its number's
-mine-reads : (n : ℕ) (es : List Event) → AllByRecursion (IsMine n) es → reads_by n es ≡ pool_reads es
-mine-reads n [] all = refl
-mine-reads n (e ∷ es) all =
-    let his : (is_pool_read e && number_of e == n) ≡ is_pool_read e = with-true (is_pool_read e) (number_of e == n) (eq-eqb (number_of e) n all.0.0) in
-    let one : ◌≡◌ {A = ℕ} (cond (is_pool_read e && number_of e == n) 1 0) (cond (is_pool_read e) 1 0) = ap (λ (t : Bool). cond {A = ℕ} t 1 0) his in
-    omega (arith, sum_by-cons (λ (x : Event). cond (is_pool_read x && number_of x == n) 1 0) e es, sum_by-cons (λ (x : Event). cond (is_pool_read x) 1 0) e es, one, mine-reads n es all.1)
+-- each event that stands for a read of the pool is the one caller's
+mine-reads : (es : List Event) → AllByRecursion IsAloneEvent es → reads_by 0 es ≡ pool_reads es
+mine-reads [] all = refl
+mine-reads (e ∷ es) all =
+    let his : (is_pool_read e && number_of e == 0) ≡ is_pool_read e = his-read e all.0 in
+    let one : ◌≡◌ {A = ℕ} (cond (is_pool_read e && number_of e == 0) 1 0) (cond (is_pool_read e) 1 0) = ap (λ (t : Bool). cond {A = ℕ} t 1 0) his in
+    omega (arith, sum_by-cons (λ (x : Event). cond (is_pool_read x && number_of x == 0) 1 0) e es, sum_by-cons (λ (x : Event). cond (is_pool_read x) 1 0) e es, one, mine-reads es all.1)
   where
     with-true : (b t : Bool) → t ≡ true → (b && t) ≡ b
     with-true b t is = rw is (go b)
@@ -139,6 +138,10 @@ mine-reads n (e ∷ es) all =
         go : (b : Bool) → (b && true) ≡ b
         go true = refl
         go false = refl
+
+    his-read : (e : Event) → IsAloneEvent e → (is_pool_read e && number_of e == 0) ≡ is_pool_read e
+    his-read e (inl mine) = with-true (is_pool_read e) (number_of e == 0) (eq-eqb (number_of e) 0 mine.0)
+    his-read e (inr is) = rw is.1 refl
 
 same-sums : (f h : List Event → ℕ) (l : List ShardLog) → ((i : ℕ) (log : ShardLog) → get_elem? l i ≡ some log → f log.history ≡ h log.history)
     → sum_by f (map (λ (log : ShardLog). log.history) l) ≡ sum_by h (map (λ (log : ShardLog). log.history) l)
@@ -162,32 +165,35 @@ module _ (shards : ℕ) (blocks : List Ptr) (i : ℕ) where
   found-over s kept [] replies all = tt
   found-over s kept (op ∷ os) [] all = no-lines (s i) (kept_in_shard shards blocks i kept) (filter (is_in_shard shards blocks i) (op ∷ os))
   found-over s kept (op ∷ os) (reply ∷ replies) all =
-      let j : ℕ = shard_of_line shards blocks op in
-      let es : List Event = events_of blocks (s j) kept op reply in
-      let rest = found-over (shards_after s j es) (kept_after blocks op reply kept) os replies all.1 in
+      let rest = found-over (shards_after shards blocks s kept op reply) (kept_after blocks op reply kept) os replies all.1 in
+      let later : PlainShard × List KeptRead → Type 0 = λ x. AreFoundAs blocks x.0 x.1 (filter (is_in_shard shards blocks i) os) (replies_where (is_in_shard shards blocks i) os replies) in
       elim (cases_true (is_in_shard shards blocks i op)) [
         | inl in_it ↦
-            let same : j ≡ i = eqb-true j i in_it in
-            let events : es ≡ events_of blocks (s i) (kept_in_shard shards blocks i kept) op reply =
-            ap (λ (n : ℕ). events_of blocks (s n) kept op reply) same ∙ events-here shards blocks i (s i) op reply kept in_it in
             rw in_it (
-              subst (λ (n : ℕ). IsFoundAs blocks (s n) op reply) same all.0,
-              subst (λ (x : PlainShard × List KeptRead). AreFoundAs blocks x.0 x.1 (filter (is_in_shard shards blocks i) os) (replies_where (is_in_shard shards blocks i) os replies))
-                  (λ k. ((same-shard shards blocks i s j es in_it ∙ ap (replay (s i)) events) k, kept-here shards blocks i op reply kept in_it k)) rest,
+              found-here op s reply in_it all.0,
+              subst later (λ k. (replay (s i) (there-here shards blocks i (s i) op reply kept in_it k), kept-here shards blocks i op reply kept in_it k)) rest,
             )
-        | inr out ↦
-            rw out
-            (subst (λ (x : PlainShard × List KeptRead). AreFoundAs blocks x.0 x.1 (filter (is_in_shard shards blocks i) os) (replies_where (is_in_shard shards blocks i) os replies))
-            (λ k. (other-shard shards blocks i s j es out k, kept-else shards blocks i op reply kept out k)) rest)
+        | inr out ↦ rw out (subst later (λ k. (replay (s i) (there-else shards blocks i (s i) op reply kept out k), kept-else shards blocks i op reply kept out k)) rest)
       ]
+    where
+      -- a line on a block of the shard found it there
+      found-here : (op : Op) (s : ℕ → PlainShard) (reply : Reply) → is_in_shard shards blocks i op ≡ true → IsFoundAs blocks (s (shard_of_line shards blocks op)) op reply → IsFoundAs blocks (s i) op reply
+      found-here (ops.Read n t x window) s reply in_it found = subst (λ (j : ℕ). IsFoundAs blocks (s j) (ops.Read n t x window) reply) (eqb-true (shard_of_block shards blocks x) i in_it) found
+      found-here (ops.Hold n t x) s reply in_it found = subst (λ (j : ℕ). IsFoundAs blocks (s j) (ops.Hold n t x) reply) (eqb-true (shard_of_block shards blocks x) i in_it) found
+      found-here other s reply in_it found = tt
+
+-- each event of the one caller's is of reads, or a capacity that the feeder gives
+alone-read : (callers : ℕ) → callers ≡ 1 → (e : Event) → IsAloneEvent e → IsReadEvent callers e
+alone-read callers one e (inl his) = inl (omega (arith, his.0, one), his.1, his.2)
+alone-read callers one e (inr is) = inr (inr (ap number_of is.1 ∙ sym one, ap is_resize is.1))
 
 -- ---- the run
 
 module _ {C P : Type 0} (m : Meanings C) (cache : Cache) (pools : Ghosts P) (blocks : List Ptr) (os : List Op) (replies : List Reply) (before after : P)
     (p q r : Place (Known C)) (kept : List KeptBlock)
-    (one : cache.config.callers ≡ 1) (own : (k : ℕ) (op : Op) → slice_get os k ≡ Some op → caller_of op ≡ 0)
+    (one : cache.config.callers ≡ 1) (own : (k : ℕ) (op : Op) → slice_get os k ≡ Some op → IfSome (caller_of op) (λ n. n ≡ 0))
     (first : HasJoined cache (parties_of cache.config) p)
-    (worked : DidLines cache.config pools 0 blocks (filter (is_of_caller p.number) os) replies (at p [] before) (at q (map read_of kept) after))
+    (did : DidLines cache.config pools 0 blocks os replies (at p [] before) (at q (map read_of kept) after))
     (between : Stands cache q kept) (gives : GivesAll m cache.config kept q r) (last : Stands cache r []) where
   abbrev g : Config
   g = cache.config
@@ -201,14 +207,14 @@ module _ {C P : Type 0} (m : Meanings C) (cache : Cache) (pools : Ghosts P) (blo
   abbrev b : At C P
   b = at q (map read_of kept) after
 
-  all-his : AllByRecursion (λ op. caller_of op ≡ 0) os
-  all-his = all-own 0 os own
+  all-his : AllByRecursion IsAloneOp os
+  all-his = all-own IsAloneOp os own
 
-  his-are : filter (is_of_caller 0) os ≡ os
-  his-are = filter-all (is_of_caller 0) os (of-caller os all-his)
+  abbrev his : List Op
+  his = filter (is_of_caller 0) os
 
-  did : DidLines cache.config pools 0 blocks os replies a b
-  did = subst (λ (l : List Op). DidLines cache.config pools 0 blocks l replies a b) (ap (λ (n : ℕ). filter (is_of_caller n) os) first.number ∙ his-are) worked
+  abbrev to-him : List Reply
+  to-him = replies_where (is_of_caller 0) os replies
 
   same-count : length replies ≡ length os
   same-count = lines-length g pools 0 blocks os replies a b did
@@ -263,19 +269,29 @@ module _ {C P : Type 0} (m : Meanings C) (cache : Cache) (pools : Ghosts P) (blo
       the-history : l.history ≡ history_of i
       the-history = alone-history m cache r closed ends parties-r last dropped.all i l at_i ∙ all-seen i
 
-      mine : AllByRecursion (IsMine 0) l.history
-      mine = subst (AllByRecursion (IsMine 0)) (sym the-history)
-          (mine-events blocks 0 opening (filter (is_in_shard g.shards blocks i) os) (replies_where (is_in_shard g.shards blocks i) os replies)
-          (all-filtered (λ op. caller_of op ≡ 0) (is_in_shard g.shards blocks i) os all-his))
+      here : AllByRecursion IsAloneOp (filter (is_in_shard g.shards blocks i) os)
+      here = all-filtered IsAloneOp (is_in_shard g.shards blocks i) os all-his
+
+      mine : AllByRecursion IsAloneEvent l.history
+      mine = subst (AllByRecursion IsAloneEvent) (sym the-history)
+          (alone-events blocks opening (filter (is_in_shard g.shards blocks i) os) (replies_where (is_in_shard g.shards blocks i) os replies) here)
 
       reads : AllByRecursion (IsReadEvent g.callers) l.history
-      reads = all-map (IsMine 0) (IsReadEvent g.callers) l.history (λ e is. inl (let number = is.0 in let callers = one in omega arith, is.1, is.2)) mine
+      reads = all-map IsAloneEvent (IsReadEvent g.callers) l.history (λ e is. alone-read g.callers one e is) mine
+
+      -- the feeder made a Resize for each capacity, and nothing else
+      fed : i < g.shards → own_events g.callers l.history ≡ events_of_feeds g.callers os replies
+      fed below = subst (λ (n : ℕ). own_events n l.history ≡ events_of_feeds n os replies) (sym one) (ap (own_events only_feeder) the-history ∙ sole-fed blocks opening g.shards i os replies below here)
 
       numbers : AllByRecursion (λ e. IsTrue (has_its_number g.callers g.cells e)) l.history
       numbers = all-map (IsReadEvent g.callers) (λ e. IsTrue (has_its_number g.callers g.cells e)) l.history (λ e is. read-number g.callers g.cells e is) reads
 
-      no-others : (n : ℕ) → n ≢ 0 → own_moments n (moments opening l.history) ≡ []
-      no-others n differs = no-own-moments n opening l.history (λ y e is same. differs (sym same ∙ (all-then-at (IsMine 0) l.history mine y e is).0))
+      no-others : (n : ℕ) → n ≢ 0 → n ≢ g.callers → own_moments n (moments opening l.history) ≡ []
+      no-others n differs other = no-own-moments n opening l.history (λ y e is same. its-number n differs other e (all-then-at IsAloneEvent l.history mine y e is) same)
+        where
+          its-number : (n : ℕ) → n ≢ 0 → n ≢ g.callers → (e : Event) → IsAloneEvent e → number_of e ≢ n
+          its-number n differs other e (inl his) same = differs (sym same ∙ his.0)
+          its-number n differs other e (inr is) same = other (sym same ∙ (ap number_of is.1 ∙ sym one))
 
       rests : IsAtRest (replay opening l.history)
       rests = alone-rests m cache r closed ends parties-r last dropped.all i l at_i (λ n below. number-r ∙ omega (arith, below, one)) reads
@@ -288,21 +304,24 @@ module _ {C P : Type 0} (m : Meanings C) (cache : Cache) (pools : Ghosts P) (blo
     abbrev acts : List Act
     acts = acts_of_callers blocks g.callers os replies
 
-    told-all : IsTold g (acts_of_caller blocks 0 os replies) r
+    told-all : IsTold g (acts_of_caller blocks 0 his to-him) r
     told-all =
         let lines = lines-told g pools 0 blocks os replies a b did [] first.new.told in
         let then = all-told m cache kept q r between gives (acts_of_all blocks [] os replies) lines in
-        subst (λ (l : List Act). IsTold g l r) (λ h. acts_of_all blocks [] os replies ++ acts_of_drops (number-q h) (kept-is h)) then
+        subst (λ (l : List Act). IsTold g l r) (λ h. sole-acts blocks [] os replies same-count all-his h ++ acts_of_drops (number-q h) ((kept-is ∙ sole-kept blocks [] os replies same-count all-his) h)) then
+
+    all-acts : acts_of_callers blocks g.callers os replies ≡ acts_of_caller blocks 0 his to-him
+    all-acts = ap (λ (n : ℕ). acts_of_callers blocks n os replies) one
 
     tell-at : (shard n : ℕ) (l : ShardLog) → get_elem? closed.shards shard ≡ some l → n ≢ g.callers → Tell (acts_in (shard_of g.shards) shard n acts) (own_moments n (moments opening l.history))
     tell-at shard n l at_l differs = dite (ℕ_discrete n 0)
         (λ is.
         subst (λ (k : ℕ). Tell (acts_in (shard_of g.shards) shard k acts) (own_moments k (moments opening l.history))) (number-r ∙ sym is)
-        (subst (λ (xs : List Act). Tell (acts_in (shard_of g.shards) shard r.number xs) (own_moments r.number (moments opening l.history))) (sym (one-acts g.callers one blocks os replies same-count all-his))
-        (alone-told m cache r closed ends parties-r last dropped.all shard l at_l (acts_of_caller blocks 0 os replies) told-all)))
+        (subst (λ (xs : List Act). Tell (acts_in (shard_of g.shards) shard r.number xs) (own_moments r.number (moments opening l.history))) (sym all-acts)
+        (alone-told m cache r closed ends parties-r last dropped.all shard l at_l (acts_of_caller blocks 0 his to-him) told-all)))
         (λ other.
         let above : g.callers ≤ n = above-one n g.callers one other differs in
-        subst (λ (x : List Act × List Moment). Tell x.0 x.1) (λ h. (sym (callers-none (shard_of g.shards) shard blocks os replies g.callers n above) h, sym (no-others shard l at_l n other) h)) refl)
+        subst (λ (x : List Act × List Moment). Tell x.0 x.1) (λ h. (sym (callers-none (shard_of g.shards) shard blocks os replies g.callers n above) h, sym (no-others shard l at_l n other differs) h)) refl)
       where
         above-one : (n callers : ℕ) → callers ≡ 1 → n ≢ 0 → n ≢ callers → callers ≤ n
         above-one n callers one other differs = omega arith
@@ -313,31 +332,34 @@ module _ {C P : Type 0} (m : Meanings C) (cache : Cache) (pools : Ghosts P) (blo
     some-log : (shard : ℕ) → shard < length (histories_of closed) → (l : ShardLog) × (get_elem? closed.shards shard ≡ some l)
     some-log shard below = there closed.shards shard (subst (λ (n : ℕ). shard < n) (length-map closed.shards (λ (log : ShardLog). log.history)) below)
 
-    every-call : HoldEveryCallOnce g (shard_of g.shards) opening acts none_of_the_feeder (histories_of closed)
+    every-call : HoldEveryCallOnce g (shard_of g.shards) opening acts (λ shard. events_of_feeds g.callers os replies) (histories_of closed)
     every-call = record {
       told = λ shard n below differs.
           let l = some-log shard below in
           subst (λ (h : List Event). Tell (acts_in (shard_of g.shards) shard n acts) (own_moments n (moments opening h))) (sym (index-is shard l.0 l.1)) (tell-at shard n l.0 l.1 differs);
       fed = λ shard below.
           let l = some-log shard below in
-          let feeder : g.callers ≢ 0 = λ (none : g.callers ≡ 0). let callers = one in omega arith in
-          ap (own_events g.callers) (index-is shard l.0 l.1) ∙ no-own-events g.callers opening l.0.history (no-others shard l.0 l.1 g.callers feeder);
+          ap (own_events g.callers) (index-is shard l.0 l.1) ∙ fed shard l.0 l.1 (subst (λ (n : ℕ). shard < n) (length-map closed.shards (λ (log : ShardLog). log.history) ∙ ends.shards) below);
       numbers = all-mapped (λ (log : ShardLog). log.history) (λ history. AllByRecursion (λ e. IsTrue (has_its_number g.callers g.cells e)) history) closed.shards numbers;
-      passes = all-mapped (λ (log : ShardLog). log.history) (λ history. IsTrue (are_passes_placed history)) closed.shards (λ i l at_l. no-passes 0 l.history (mine i l at_l));
+      passes = all-mapped (λ (log : ShardLog). log.history) (λ history. IsTrue (are_passes_placed history)) closed.shards (λ i l at_l. no-passes l.history (mine i l at_l));
     }
 
     -- ---- the reads of the pool
 
+    his-answers : AreAnswered (pools.size before) (pools.told before) blocks [] his to-him × (calls_of_all replies ≡ calls_of_all to-him)
+    his-answers = sole-answers blocks (pools.size before) (pools.told before) [] os replies all-his (lines-answers g pools 0 blocks os replies a b did)
+
     counted-all : length (calls_of_all replies) ≡ sum_by pool_reads (histories_of closed)
     counted-all =
-        caller-reads g (pools.size before) (pools.told before) blocks 0 os replies (histories_of closed) last.valid
+        ap length his-answers.1
+        ∙ (caller-reads g (pools.size before) (pools.told before) blocks 0 os to-him (histories_of closed) last.valid
         (length-map closed.shards (λ (log : ShardLog). log.history) ∙ ends.shards)
-        (subst (λ (l : List Op). AreAnswered (pools.size before) (pools.told before) blocks [] l replies) (sym his-are) (lines-answers g pools 0 blocks os replies a b did))
+        his-answers.0
         (λ i h is.
         let l = unmapped (λ (log : ShardLog). log.history) closed.shards i h is in
-        subst (λ (x : ℕ × List Op × List Event). Tell (acts_in (shard_of g.shards) i x.0 (acts_of_caller blocks 0 x.1 replies)) (own_moments x.0 (moments opening x.2))) (λ z. (number-r z, sym his-are z, l.2 z))
-        (alone-told m cache r closed ends parties-r last dropped.all i l.0 l.1 (acts_of_caller blocks 0 os replies) told-all))
-        ∙ same-sums (reads_by 0) pool_reads closed.shards (λ i l at_l. mine-reads 0 l.history (mine i l at_l))
+        subst (λ (x : ℕ × List Event). Tell (acts_in (shard_of g.shards) i x.0 (acts_of_caller blocks 0 his to-him)) (own_moments x.0 (moments opening x.1))) (λ z. (number-r z, l.2 z))
+        (alone-told m cache r closed ends parties-r last dropped.all i l.0 l.1 (acts_of_caller blocks 0 his to-him) told-all))
+        ∙ same-sums (reads_by 0) pool_reads closed.shards (λ i l at_l. mine-reads l.history (mine i l at_l)))
 
     -- ---- all of it
 
@@ -347,9 +369,8 @@ module _ {C P : Type 0} (m : Meanings C) (cache : Cache) (pools : Ghosts P) (blo
     -- each history ends with the drops of what is kept
     drops-are : (i : ℕ) → events_of_drops q.number (holds_in g i (map read_of kept)) ≡ drops_at_end g blocks i g.callers os replies
     drops-are i =
-        (λ h. events_of_drops (number-q h) (holds_in g i (kept-is h)))
-        ∙ ((λ h. events_of_drops 0 (holds_in g i (kept_after_all blocks [] (sym his-are h) (sym (replies-all (is_of_caller 0) os replies same-count (of-caller os all-his)) h))))
-        ∙ ap (λ (n : ℕ). drops_at_end g blocks i n os replies) (sym one))
+        (λ h. events_of_drops (number-q h) (holds_in g i ((kept-is ∙ sole-kept blocks [] os replies same-count all-his) h)))
+        ∙ ap (λ (n : ℕ). drops_at_end g blocks i n os replies) (sym one)
 
     ends-at : (i : ℕ) (l : ShardLog) → get_elem? closed.shards i ≡ some l → EndsWith l.history (drops_at_end g blocks i g.callers os replies)
     ends-at i l at_i =
@@ -390,19 +411,19 @@ module _ {C P : Type 0} (m : Meanings C) (cache : Cache) (pools : Ghosts P) (blo
 module _ {C P : Type 0} (m : Meanings C) (cache : Cache) (pools : Ghosts P) (trace : Trace) (replies : List Reply) (before after : P) (p q r : Place (Known C)) (kept : List KeptBlock)
     (config : cache.config ≡ trace.config) (formed : IsFormed trace) (one : trace.config.callers ≡ 1)
     (first : HasJoined cache (parties_of cache.config) p)
-    (worked : DidLines cache.config pools 0 trace.blocks (filter (is_of_caller p.number) trace.ops) replies (at p [] before) (at q (map read_of kept) after))
+    (did : DidLines cache.config pools 0 trace.blocks trace.ops replies (at p [] before) (at q (map read_of kept) after))
     (between : Stands cache q kept) (gives : GivesAll m cache.config kept q r) (last : Stands cache r []) where
   callers : cache.config.callers ≡ 1
   callers = ap (λ (g : Config). g.callers) config ∙ one
 
-  own : (k : ℕ) (op : Op) → slice_get trace.ops k ≡ Some op → caller_of op ≡ 0
-  own k op at = (alone-ops trace formed one k op at).0
+  own : (k : ℕ) (op : Op) → slice_get trace.ops k ≡ Some op → IfSome (caller_of op) (λ n. n ≡ 0)
+  own = alone-ops trace formed one
 
   pub end-there : (n : ℕ) → n < parties_of cache.config → SomeHas n (r ∷ [])
-  end-there = may-end m cache pools trace.blocks trace.ops replies before after p q r kept callers own first worked between gives last
+  end-there = may-end m cache pools trace.blocks trace.ops replies before after p q r kept callers own first did between gives last
 
   pub ran-alone : (given : Cache) (ps : List (Place (Known C))) (closed : Ended C) → given ≡ cache → ps ≡ r ∷ [] → Ends m given ps closed → RanAlone pools before after trace replies closed
   ran-alone given ps closed same listed ends =
       subst (λ (g : Config). RanAlone pools before after (record { config = g; blocks = trace.blocks; ops = trace.ops }) replies closed) config
-      (ran m cache pools trace.blocks trace.ops replies before after p q r kept callers own first worked between gives last closed
+      (ran m cache pools trace.blocks trace.ops replies before after p q r kept callers own first did between gives last closed
       (subst (λ (x : Cache × List (Place (Known C))). Ends m x.0 x.1 closed) (λ i. (same i, listed i)) ends))

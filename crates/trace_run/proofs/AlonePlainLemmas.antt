@@ -1,15 +1,16 @@
 -- The lines of a caller that is alone, over a pool that tells its bytes: its report is that of the plain run, but that a cached block may be
 -- another content of its digest.
-use Rattle.std.proofs.Common.{◌≡◌, ℕ, ◌==◌, Bool, true, false, if◌then◌else◌, List, [], ◌∷◌, ◌++◌, length, drop, Option, Some, None, IfSome, refl, sym, subst, ◌∙◌, arith}
+use Rattle.std.proofs.Common.{◌≡◌, ℕ, Bool, true, false, if◌then◌else◌, List, [], ◌∷◌, ◌++◌, length, drop, Option, Some, None, IfSome, refl, sym, subst, ◌∙◌, arith}
 use Rattle.std.specs.List.{AllByRecursion}
+use Rattle.std.proofs.lemmas.Bool.{eqb-true}
 use Rattle.blk_ptr.specs.declared.ptr.Ptr.{Ptr}
 use Rattle.vdev_io.specs.declared.pool.Pool.{Ghosts}
 use Rattle.arc_core.specs.declared.config.Config.{Config}
-use Rattle.arc_core.specs.declared.event.Event.{Event}
 use Rattle.arc_core.specs.PlainShard.{PlainShard}
 use Rattle.arc_core.specs.Replay.{replay}
 use Rattle.vdev_io.specs.Calls.{Call}
 use Rattle.trace_text.specs.declared.op.Op.{Op}
+use Rattle.trace_text.specs.declared.op.Op.TheVariants as ops
 use Rattle.trace_text.specs.declared.reply.Reply.{Reply}
 use Rattle.trace_text.specs.declared.report.Report.{Report}
 use Rattle.trace_text.specs.declared.trace.Trace.{Trace}
@@ -18,7 +19,7 @@ use Rattle.trace_run.specs.Answering.{IsReadOfImage}
 use Rattle.trace_run.specs.CallerLines.{At, DidLine, DidLines}
 use Rattle.trace_run.specs.Effects.{calls_of, calls_of_all, effect_of}
 use Rattle.arc_table.specs.Telling.{opening_of}
-use Rattle.trace_run.specs.Lines.{shard_of_line}
+use Rattle.trace_run.specs.Lines.{is_in_shard, shard_of_block, shard_of_line}
 use Rattle.trace_run.specs.OneCaller.{events_of, kept_after}
 use Rattle.trace_run.specs.OverShards.{AllLinesOver}
 use Rattle.trace_run.specs.PlainReport.{ArePlainReplies, IsPlainReply, IsPlainReport}
@@ -50,10 +51,8 @@ module _ {C P : Type 0} (g : Config) (pools : Ghosts P) (device : ℕ) (blocks :
   lines-served (o ∷ os) (r ∷ rs) a b did alone size told =
       let next = did.0 in
       let one = did.1 in
-      let here : ℕ = shard_of_line g.shards blocks o in
-      let es : List Event = events_of blocks (now_of g here a.party) a.kept o r in
       let rest = lines-served os rs next b did.2 (all-then g pools device blocks a.party next.party one.did.all alone) (one.keeps.size ∙ size) (one.keeps.told ∙ told) in
-      let same : (λ (i : ℕ). now_of g i next.party) ≡ shards_after (λ i. now_of g i a.party) here es = λ h i. line-now g pools device blocks o r a next one alone i h in (
+      let same : (λ (i : ℕ). now_of g i next.party) ≡ shards_after g.shards blocks (λ i. now_of g i a.party) a.kept o r = λ h i. line-now g pools device blocks o r a next one alone i h in (
         line-served o r a next one alone size told,
         subst (λ (x : (ℕ → PlainShard) × List KeptRead). AllLinesOver (IsPlainlyServed image blocks) g.shards blocks x.0 x.1 os rs) (λ h. (same h, one.kept h)) rest,
       )
@@ -62,12 +61,25 @@ module _ {C P : Type 0} (g : Config) (pools : Ghosts P) (device : ℕ) (blocks :
 
 module _ (image : List ℕ) (shards : ℕ) (blocks : List Ptr) where
   -- each digest that a shard keeps is that of the told bytes, also after a line
-  told-shards : (s : ℕ → PlainShard) (j : ℕ) (es : List Event) → ((i : ℕ) → AreTold image (s i).entries) → AllByRecursion (Brings image) es → (i : ℕ) → AreTold image (shards_after s j es i).entries
-  told-shards s j es told brings i = go (i == j)
+  told-shards : (s : ℕ → PlainShard) (kept : List KeptRead) (o : Op) (r : Reply) → ((i : ℕ) → AreTold image (s i).entries)
+      → ((i : ℕ) → is_in_shard shards blocks i o ≡ true → AllByRecursion (Brings image) (events_of blocks (s i) kept o r)) → (i : ℕ) → AreTold image (shards_after shards blocks s kept o r i).entries
+  told-shards s kept o r told brings i = go (is_in_shard shards blocks i o) refl
     where
-      go : (t : Bool) → AreTold image (if t then replay (s i) es else s i).entries
-      go true = told-replay image (s i) es brings (told i)
-      go false = told i
+      go : (t : Bool) → is_in_shard shards blocks i o ≡ t → AreTold image (replay (s i) (if t then events_of blocks (s i) kept o r else [])).entries
+      go true is = told-replay image (s i) (events_of blocks (s i) kept o r) (brings i is) (told i)
+      go false is = told i
+
+  -- a line on a block of a shard brings nothing else there; a capacity brings nothing into any
+  brings-in : (s : ℕ → PlainShard) (kept : List KeptRead) (o : Op) (r : Reply) → IsPlainlyServed image blocks (s (shard_of_line shards blocks o)) kept o r → (i : ℕ) → is_in_shard shards blocks i o ≡ true
+      → AllByRecursion (Brings image) (events_of blocks (s i) kept o r)
+  brings-in s kept (ops.Read n t x window) r is i in_it = subst (λ (j : ℕ). AllByRecursion (Brings image) (events_of blocks (s j) kept (ops.Read n t x window) r)) (eqb-true (shard_of_block shards blocks x) i in_it)
+      (line-brings image blocks (s (shard_of_block shards blocks x)) kept (ops.Read n t x window) r is)
+  brings-in s kept (ops.Hold n t x) r is i in_it = subst (λ (j : ℕ). AllByRecursion (Brings image) (events_of blocks (s j) kept (ops.Hold n t x) r)) (eqb-true (shard_of_block shards blocks x) i in_it)
+      (line-brings image blocks (s (shard_of_block shards blocks x)) kept (ops.Hold n t x) r is)
+  brings-in s kept (ops.Drop n x) r is i in_it = subst (λ (j : ℕ). AllByRecursion (Brings image) (events_of blocks (s j) kept (ops.Drop n x) r)) (eqb-true (shard_of_block shards blocks x) i in_it)
+      (line-brings image blocks (s (shard_of_block shards blocks x)) kept (ops.Drop n x) r is)
+  brings-in s kept (ops.Cap c) r is i in_it = (tt, tt)
+  brings-in s kept other r is i in_it = tt
 
   pub plain-replies : (s : ℕ → PlainShard) (kept : List KeptRead) (os : List Op) (rs : List Reply) → length rs ≡ length os → ((i : ℕ) → AreTold image (s i).entries)
       → AllLinesOver (IsPlainlyServed image blocks) shards blocks s kept os rs → ArePlainReplies image blocks os (replies_to image shards blocks s kept os (calls_of_all rs)) rs
@@ -82,12 +94,12 @@ module _ (image : List ℕ) (shards : ℕ) (blocks : List Ptr) where
       let p : Reply = reply_to image blocks (s i) kept o call in
       let first : IsPlainReply image blocks o p r = line-plain image blocks (s i) kept o r call lines.0 (told i) (next-is own rest) in
       let alike : effect_of p ≡ effect_of r = (plain-alike image blocks o p r first).effect in
-      let events : events_of blocks (s i) kept o p ≡ events_of blocks (s i) kept o r = alike-events blocks (s i) kept o p r alike in
+      let after : shards_after shards blocks s kept o p ≡ shards_after shards blocks s kept o r =
+      λ h j. replay (s j) (if is_in_shard shards blocks j o then alike-events blocks (s j) kept o p r alike h else []) in
       let left : kept_after blocks o p kept ≡ kept_after blocks o r kept = alike-kept blocks kept o p r alike in
       let gone : drop (length (calls_of (effect_of p))) (own ++ rest) ≡ rest = (λ h. drop (length (calls_of (alike h))) (own ++ rest)) ∙ drop-front own rest in
-      let goes = plain-replies (shards_after s i (events_of blocks (s i) kept o r)) (kept_after blocks o r kept) os rs (omega arith)
-      (told-shards s i (events_of blocks (s i) kept o r) told (line-brings image blocks (s i) kept o r lines.0)) lines.1 in
-      (first, subst (λ (l : List Reply). ArePlainReplies image blocks os l rs) (sym (λ h. replies_to image shards blocks (shards_after s i (events h)) (left h) os (gone h))) goes)
+      let goes = plain-replies (shards_after shards blocks s kept o r) (kept_after blocks o r kept) os rs (omega arith) (told-shards s kept o r told (brings-in s kept o r lines.0)) lines.1 in
+      (first, subst (λ (l : List Reply). ArePlainReplies image blocks os l rs) (sym (λ h. replies_to image shards blocks (after h) (left h) os (gone h))) goes)
 
 -- ---- the report
 

@@ -1,5 +1,5 @@
 -- What one more operation and its reply add to those before.
-use Rattle.std.proofs.Common.{◌≡◌, ℕ, zero, suc, ◌+◌, ◌<◌, ◌==◌, ◌&&◌, cond, Bool, true, List, [], ◌∷◌, ◌++◌, length, take, Option, Some, refl, sym, ap, ◌∙◌, arith, inl, inr, add-one, length-append}
+use Rattle.std.proofs.Common.{◌≡◌, ℕ, zero, suc, ◌+◌, ◌<◌, ◌==◌, ◌&&◌, cond, Bool, true, IfSome, List, [], ◌∷◌, ◌++◌, length, take, Option, Some, refl, sym, ap, ◌∙◌, arith, inl, inr, add-one, length-append}
 use Rattle.std.proofs.lemmas.Bool.Decides.{nat_tests}
 use Rattle.std.specs.Prelude.{◌≢◌, if◌then◌else◌, count_by, slice_get}
 use Rattle.std.proofs.lemmas.Bool.{cases_lt}
@@ -149,7 +149,7 @@ drop_step n caller y x kept other same answer = absurd answer
 
 -- an operation and its reply change the kept reads by what they keep and drop
 one_step : (pool_len : ℕ) (image : Option (List ℕ)) (blocks : List Ptr) (caller : ℕ) (kept : List KeptRead) (o : Op) (r : Reply) (x : ℕ)
-    → caller_of o ≡ caller → AnswersNow pool_len image blocks kept o r
+    → IfSome (caller_of o) (λ n. n ≡ caller) → AnswersNow pool_len image blocks kept o r
     → kept_of_block x (kept_after blocks o r kept) + drops caller x o r ≡ kept_of_block x kept + keeps caller x o r
 one_step pool_len image blocks caller kept (ops.Read n t y w) r x same answer = refl
 one_step pool_len image blocks caller kept (ops.Hold n t y) r x same answer =
@@ -158,11 +158,12 @@ one_step pool_len image blocks caller kept (ops.Hold n t y) r x same answer =
 one_step pool_len image blocks caller kept (ops.Drop n y) r x same answer =
     let step = drop_step n caller y x kept r same answer in
     omega (arith, step)
+one_step pool_len image blocks caller kept (ops.Cap c) r x same answer = refl
 one_step pool_len image blocks caller kept other r x same answer = absurd answer
 
 pub more_tally : (pool_len : ℕ) (image : Option (List ℕ)) (blocks : List Ptr) (caller : ℕ) (ops : List Op) (replies : List Reply) (kept : List KeptRead) (o : Op) (r : Reply)
     → slice_get ops (length replies) ≡ Some o → IsTally caller (take (length replies) ops) replies kept
-    → caller_of o ≡ caller → AnswersNow pool_len image blocks kept o r
+    → IfSome (caller_of o) (λ n. n ≡ caller) → AnswersNow pool_len image blocks kept o r
     → IsTally caller (take (length replies + 1) ops) (replies ++ r ∷ []) (kept_after blocks o r kept)
 more_tally pool_len image blocks caller ops replies kept o r here tally same answer = record {
   each = λ x.
@@ -178,7 +179,7 @@ more_tally pool_len image blocks caller ops replies kept o r here tally same ans
 
 -- an answer by the counts is one by the operations and replies before it
 pub to_answer : (pool_len : ℕ) (image : Option (List ℕ)) (blocks : List Ptr) (caller : ℕ) (earlier : List Op) (replies : List Reply) (kept : List KeptRead) (o : Op) (r : Reply)
-    → IsTally caller earlier replies kept → caller_of o ≡ caller → AnswersNow pool_len image blocks kept o r
+    → IsTally caller earlier replies kept → IfSome (caller_of o) (λ n. n ≡ caller) → AnswersNow pool_len image blocks kept o r
     → Answers pool_len image blocks earlier replies o r
 to_answer pool_len image blocks caller earlier replies kept (ops.Read n t y w) r tally same answer = answer
 to_answer pool_len image blocks caller earlier replies kept (ops.Hold n t y) r tally same answer = answer

@@ -1,8 +1,9 @@
 -- The acts of all callers, seen from one of them: they are its own.
-use Rattle.std.proofs.Common.{◌≡◌, ◌≢◌, ℕ, zero, suc, ◌<◌, ◌≤◌, ◌==◌, false, List, [], ◌∷◌, ◌++◌, inl, inr, refl, sym, ap, ◌∙◌, arith, ne_eqb, append-nil}
+use Rattle.std.proofs.Common.{◌≡◌, ◌≢◌, ◌⊎◌, ℕ, zero, suc, ◌<◌, ◌≤◌, ◌==◌, true, false, IfSome, Option, Some, List, [], ◌∷◌, ◌++◌, inl, inr, refl, sym, ap, ◌∙◌, arith, eq-eqb, ne_eqb, append-nil, None}
 use Rattle.std.specs.Prelude.{filter}
+use Rattle.std.specs.Option.{option_map_or}
 use Rattle.std.specs.List.{AllByRecursion}
-use Rattle.std.proofs.lemmas.Bool.{eqb-true}
+use Rattle.std.proofs.lemmas.Bool.{eqb-true, false≢true}
 use Rattle.std.proofs.lemmas.List.Elements.{filter-append}
 use mathlib.Core.Logic.{dite}
 use native.Mathlib.Decide.{ℕ_discrete}
@@ -11,18 +12,45 @@ use Rattle.blk_ptr.specs.declared.key.Key.{Key}
 use Rattle.blk_ptr.specs.declared.ptr.Ptr.{Ptr}
 use Rattle.arc_core.specs.Operations.{Act, actor_of, acts_in}
 use Rattle.trace_text.specs.declared.op.Op.{Op}
+use Rattle.trace_text.specs.declared.op.Op.TheVariants as ops
 use Rattle.trace_text.specs.declared.reply.Reply.{Reply}
 use Rattle.trace_run.specs.Acts.{acts_of_caller, acts_of_callers}
 use Rattle.trace_run.specs.Lines.{caller_of, is_of_caller, replies_where}
 use Rattle.trace_run.proofs.TellLemmas.{act-caller}
 
 -- the lines of a caller are its own
-pub own-lines : (n : ℕ) (os : List Op) → AllByRecursion (λ op. caller_of op ≡ n) (filter (is_of_caller n) os)
+pub caller-is : (n : ℕ) (op : Op) → is_of_caller n op ≡ true → caller_of op ≡ Some n
+caller-is n (ops.Read m t x window) his = ap (λ (k : ℕ). Some k) (eqb-true m n his)
+caller-is n (ops.Hold m t x) his = ap (λ (k : ℕ). Some k) (eqb-true m n his)
+caller-is n (ops.Drop m x) his = ap (λ (k : ℕ). Some k) (eqb-true m n his)
+caller-is n other his = absurd (false≢true his)
+
+pub own-lines : (n : ℕ) (os : List Op) → AllByRecursion (λ op. caller_of op ≡ Some n) (filter (is_of_caller n) os)
 own-lines n [] = tt
 own-lines n (op ∷ os) = elim (cases_true (is_of_caller n op)) [
-  | inl his ↦ rw his (eqb-true (caller_of op) n his, own-lines n os)
+  | inl his ↦ rw his (caller-is n op his, own-lines n os)
   | inr other ↦ rw other (own-lines n os)
 ]
+
+-- which caller's it is, where it is one's
+pub his-is : (n m : ℕ) (op : Op) → caller_of op ≡ Some m → m ≡ n → is_of_caller n op ≡ true
+his-is n m op of same = ap (λ (o : Option ℕ). option_map_or (λ (k : ℕ). k == n) o false) of ∙ eq-eqb m n same
+
+pub other-is : (n m : ℕ) (op : Op) → caller_of op ≡ Some m → m ≢ n → is_of_caller n op ≡ false
+other-is n m op of differs = ap (λ (o : Option ℕ). option_map_or (λ (k : ℕ). k == n) o false) of ∙ ne_eqb m n differs
+
+-- an operation is a caller's, or gives a capacity
+pub line-kind : (op : Op) → ((n : ℕ) × (caller_of op ≡ Some n)) ⊎ (caller_of op ≡ None)
+line-kind (ops.Read n t x window) = inl (n, refl)
+line-kind (ops.Hold n t x) = inl (n, refl)
+line-kind (ops.Drop n x) = inl (n, refl)
+line-kind other = inr refl
+
+pub same-caller : (n : ℕ) (op : Op) → is_of_caller n op ≡ true → IfSome (caller_of op) (λ m. m ≡ n)
+same-caller n (ops.Read m t x window) his = eqb-true m n his
+same-caller n (ops.Hold m t x) his = eqb-true m n his
+same-caller n (ops.Drop m x) his = eqb-true m n his
+same-caller n other his = tt
 
 module _ (f : Key → ℕ) (shard : ℕ) where
   others-none : (k n : ℕ) (acts : List Act) → k ≢ n → AllByRecursion (λ act. actor_of act ≡ k) acts → acts_in f shard n acts ≡ []

@@ -1,9 +1,10 @@
 -- A closed cache explains the replies of its callers.
-use Rattle.std.proofs.Common.{◌≡◌, ◌≢◌, ℕ, zero, suc, ◌+◌, ◌<◌, ◌≤◌, Bool, true, false, cond, IsTrue, List, [], ◌∷◌, ◌++◌, append-nil, length, map, inl, inr, refl, sym, ap, ◌∙◌, subst, arith}
+use Rattle.std.proofs.Common.{◌≡◌, ◌≢◌, ℕ, zero, suc, ◌+◌, ◌<◌, Bool, true, false, cond, IsTrue, List, [], ◌∷◌, ◌++◌, append-nil, length, map, inl, inr, refl, sym, ap, ◌∙◌, subst, arith}
 use Rattle.std.specs.Prelude.{filter, slice_index_or, sum_by}
 use Rattle.std.specs.List.{AllByRecursion}
 use Rattle.std.proofs.lemmas.Bool.{cases_lt, false≢true}
 use Rattle.std.proofs.lemmas.List.{length-map}
+use Rattle.std.proofs.lemmas.List.Elements.{filter-append}
 use mathlib.Core.Option.{some, some-injective, some-ne-none}
 use lib.ListN.{get_elem?}
 use Rattle.arc_lists.proofs.Tables.{cases_true}
@@ -13,9 +14,11 @@ use Rattle.blk_ptr.specs.Hash.{shard_of}
 use Rattle.arc_core.specs.Config.{IsConfig}
 use Rattle.arc_core.specs.declared.config.Config.{Config}
 use Rattle.arc_core.specs.declared.event.Event.{Event}
-use Rattle.arc_core.specs.Operations.{Act, HoldEveryCallOnce, IsAtRest, Moment, Tell, acts_in, are_passes_placed, has_its_number, is_pass, moments, number_of, own_events, own_moments, pool_reads}
+use Rattle.arc_core.specs.Operations.{Act, HoldEveryCallOnce, IsAtRest, Moment, Tell, acts_in, are_passes_placed, has_its_number, is_pass, is_pool_read, moments, number_of, own_events, own_moments, pool_reads}
 use Rattle.arc_core.specs.Replay.{is_legal_history, replay}
-use Rattle.arc_core.proofs.OwnEvents.{no-own-events}
+use Rattle.arc_core.specs.declared.event.Event.TheVariants as event
+use Rattle.arc_core.specs.PlainShard.{PlainShard}
+use Rattle.arc_core.proofs.OwnEvents.{no-own-events, own-events-are}
 use Rattle.arc_core.specs.ShardLog.{ShardLog}
 use Rattle.turn_table.specs.Places.{Place, ShowAll, SomeHas}
 use Rattle.arc_table.specs.declared.about.About.{About}
@@ -26,20 +29,21 @@ use Rattle.arc_table.specs.Ended.{Ended, Ends}
 use Rattle.arc_table.specs.Geometry.{parties_of}
 use Rattle.arc_table.specs.Items.{Meanings}
 use Rattle.arc_table.specs.Logged.{IsSoundLog}
-use Rattle.arc_table.specs.TableLaws.{there}
+use Rattle.arc_table.specs.Fronts.{StartsWith}
+use Rattle.arc_table.specs.TableLaws.{there, within}
 use Rattle.trace_text.specs.declared.ends.ShardEnd.{ShardEnd}
 use Rattle.trace_text.specs.declared.op.Op.{Op}
+use Rattle.trace_text.specs.declared.op.Op.TheVariants as kinds
 use Rattle.trace_text.specs.declared.reply.Reply.{Reply}
-use Rattle.trace_run.specs.Acts.{acts_of_caller, acts_of_callers}
+use Rattle.trace_run.specs.Acts.{acts_of_caller, acts_of_callers, events_of_feeder, events_of_feeds}
 use Rattle.trace_run.specs.Ends.{end_of, ends_of}
 use Rattle.arc_table.specs.Telling.{opening_of}
-use Rattle.trace_run.specs.Explaining.{EndsWith, Explain, drops_at_end, none_of_the_feeder}
-use Rattle.trace_run.specs.KeptBlocks.{IsIdle, Stands, holds_in, is_ptr, times}
-use Rattle.trace_run.specs.KeptReads.{KeptRead}
+use Rattle.trace_run.specs.Explaining.{EndsWith, Explain, drops_at_end}
+use Rattle.trace_run.specs.KeptBlocks.{IsIdle, Stands, is_ptr, times}
 use Rattle.trace_run.specs.Lines.{is_of_caller, replies_where}
 use Rattle.trace_run.specs.Meeting.{IsLevel}
-use Rattle.trace_run.specs.OneCaller.{events_of_drops, kept_after_all}
 use Rattle.arc_table.specs.Seen.{HasSeenItsOwn, events_in, seen_of}
+use Rattle.arc_table.proofs.OwnLemmas.{no-own-moments}
 use Rattle.arc_table.proofs.SeenLemmas.{get-behind}
 use Rattle.trace_run.specs.Together.{over_callers, reads_of_caller}
 use Rattle.arc_table.specs.Told.{IsTold}
@@ -47,19 +51,20 @@ use Rattle.trace_run.proofs.CallerActLemmas.{callers-none, callers-own, own-line
 use Rattle.trace_run.proofs.CloseLemmas.{closed-finds, closed-legal, closed-now, closed-sound, closed-told}
 use Rattle.trace_run.proofs.EachLemmas.{AreLast, IsLast, closed-others, closed-placed, each-own}
 use Rattle.trace_run.proofs.GroupCounts.{IsReadOfCaller, all-reads, read-no-pass}
-use Rattle.trace_run.proofs.HistoryLemmas.{IsReadEvent, own-events, read-number, told-reads}
+use Rattle.trace_run.proofs.HistoryLemmas.{IsReadEvent, all-events, is_resize, own-events, read-number, told-reads}
 use Rattle.trace_run.proofs.KeptBlockLemmas.{is_ptr-same, times-cons}
 use Rattle.trace_run.proofs.PlacedLemmas.{all-by-place}
 use Rattle.trace_run.proofs.RestLemmas.{AreIdle, closed-rests, party-idle}
 use Rattle.trace_run.proofs.TellLemmas.{IsActOf, IsReadAct, acts-caller, all-append, all-map, is_of_reads}
 
--- what is so of a party at the end of a run: it has this number and has given all back, and what it did is told
-pub record HasEnded {C : Type 0} (g : Config) (acts : List Act) (n : ℕ) (p : Place (Known C)) : Type 0 where
+-- what is so of a party at the end of a run: it has this number and has given all back; what a caller did is told, and the feeder made these events
+pub record HasEnded {C : Type 0} (g : Config) (acts : List Act) (feeds : List Event) (n : ℕ) (p : Place (Known C)) : Type 0 where
   pub number : p.number ≡ n
   pub config : p.own.about.config ≡ g
   pub seen : HasSeenItsOwn g p
   pub idle : IsIdle p.own.ledger
-  pub told : IsTold g acts p
+  pub told : n < g.callers → IsTold g acts p
+  pub fed : n ≡ g.callers → (shard : ℕ) → shard < g.shards → own_events n (seen_of g shard p) ≡ feeds
 
 -- ---- a party by its own number alone: the closed cache asks for no more
 
@@ -114,6 +119,41 @@ callers-reads blocks (suc c) ops replies =
     all-append IsReadAct (acts_of_callers blocks c ops replies) _ (callers-reads blocks c ops replies)
     (all-map (IsActOf c) IsReadAct _ (λ act is. is.1) (acts-caller blocks c (filter (is_of_caller c) ops) (replies_where (is_of_caller c) ops replies) (own-lines c ops)))
 
+-- ---- what the feeder makes
+
+-- each is a new capacity
+fed-resizes : (n : ℕ) (os : List Op) (rs : List Reply) → AllByRecursion (λ e. is_resize e ≡ true) (events_of_feeds n os rs)
+fed-resizes n [] rs = tt
+fed-resizes n (o ∷ os) [] = tt
+fed-resizes n (o ∷ os) (r ∷ rs) = go o (fed-resizes n os rs)
+  where
+    go : (o : Op) → AllByRecursion (λ e. is_resize e ≡ true) (events_of_feeds n os rs) → AllByRecursion (λ e. is_resize e ≡ true) (events_of_feeder n o ++ events_of_feeds n os rs)
+    go (kinds.Cap c) rest = (refl, rest)
+    go other rest = rest
+
+resize-reads : (e : Event) → is_resize e ≡ true → is_pool_read e ≡ true → ⊥
+resize-reads (event.Resize n c) is read = false≢true read
+resize-reads (event.Pass n k owner) is read = false≢true is
+resize-reads (event.Hit n k t) is read = false≢true is
+resize-reads (event.Miss n k t) is read = false≢true is
+resize-reads (event.Arrive n k d from) is read = false≢true is
+resize-reads (event.Fail n k at) is read = false≢true is
+resize-reads (event.Drop n k) is read = false≢true is
+resize-reads (event.Past n k kept) is read = false≢true is
+resize-reads (event.Hand n k to) is read = false≢true is
+resize-reads (event.Insert n k d t) is read = false≢true is
+resize-reads (event.Release n k sole) is read = false≢true is
+resize-reads (event.Pick n k) is read = false≢true is
+resize-reads (event.FeedEnd n) is read = false≢true is
+resize-reads (event.Set n k place) is read = false≢true is
+resize-reads (event.Leave n k why) is read = false≢true is
+resize-reads (event.Clear n k) is read = false≢true is
+resize-reads (event.Restore n k place d) is read = false≢true is
+
+-- a number makes no events where none has it
+no-own : (n : ℕ) (s : PlainShard) (es : List Event) → ((y : ℕ) (e : Event) → get_elem? es y ≡ some e → number_of e ≢ n) → own_events n es ≡ []
+no-own n s es none = no-own-events n s es (no-own-moments n s es none)
+
 -- ---- lists of histories
 
 all-logs : (P : List Event → Type 0) (logs : List ShardLog) → ((i : ℕ) (l : ShardLog) → get_elem? logs i ≡ some l → P l.history) → AllByRecursion P (map (λ log. log.history) logs)
@@ -142,7 +182,7 @@ history-of (x ∷ xs) (suc i) h at = history-of xs i h at
 
 module _ {C : Type 0} (m : Meanings C) (cache : Cache) (valid : IsConfig cache.config) (blocks : List Ptr) (ops : List Op) (replies : List Reply) (ps : List (Place (Known C))) (e : Ended C) (ends : Ends m cache ps e)
     (long : length ps ≡ parties_of cache.config)
-    (ended : (n : ℕ) (p : Place (Known C)) → get_elem? ps n ≡ some p → HasEnded cache.config (acts_of_callers blocks cache.config.callers ops replies) n p) where
+    (ended : (n : ℕ) (p : Place (Known C)) → get_elem? ps n ≡ some p → HasEnded cache.config (acts_of_callers blocks cache.config.callers ops replies) (events_of_feeds cache.config.callers ops replies) n p) where
   abbrev settled : Config
   settled = cache.config
 
@@ -206,17 +246,35 @@ module _ {C : Type 0} (m : Meanings C) (cache : Cache) (valid : IsConfig cache.c
         closed-now m cache (bares settled ps) e bare-ends i l at (bare settled p.0) (shown-at settled ends.views ps 0 p.0 p.1 ends.shown, tt) refl refl tt h.config (seen-bare settled p.0 h.seen)
 
     -- what a party did stands in the history
-    pub told-at : (n : ℕ) → n < parties_of settled → Tell (acts_in shard i n acts) (own_moments n (moments (opening_of settled) l.history))
+    pub told-at : (n : ℕ) → n < settled.callers → Tell (acts_in shard i n acts) (own_moments n (moments (opening_of settled) l.history))
     told-at n below =
-        let p = party n below in
+        let p = party n (omega (arith, below)) in
         let h = ended n p.0 p.1 in
         subst (λ (x : ℕ). Tell (acts_in shard i x acts) (own_moments x (moments (opening_of settled) l.history))) h.number
-        (closed-told m cache (bares settled ps) e bare-ends i l at (bare settled p.0) (shown-at settled ends.views ps n p.0 p.1 ends.shown, tt) refl refl tt h.config (seen-bare settled p.0 h.seen) acts h.told)
+        (closed-told m cache (bares settled ps) e bare-ends i l at (bare settled p.0) (shown-at settled ends.views ps n p.0 p.1 ends.shown, tt) refl refl tt h.config (seen-bare settled p.0 h.seen) acts (h.told below))
 
-    -- the feeder did nothing
-    feeder-none : own_moments settled.callers (moments (opening_of settled) l.history) ≡ []
-    feeder-none = subst (λ (acts : List Act). Tell acts (own_moments settled.callers (moments (opening_of settled) l.history))) (callers-none shard i blocks ops replies settled.callers settled.callers (omega arith))
-        (told-at settled.callers (omega arith))
+    -- the feeder made its events and no others
+    feeder-fed : own_events settled.callers l.history ≡ events_of_feeds settled.callers ops replies
+    feeder-fed =
+        let p = party settled.callers (omega arith) in
+        let h = ended settled.callers p.0 p.1 in
+        let f = closed-finds m cache (bares settled ps) e bare-ends i l at (bare settled p.0) (shown-at settled ends.views ps settled.callers p.0 p.1 ends.shown, tt) refl refl tt h.config (seen-bare settled p.0 h.seen) in
+        let inside : i < settled.shards = subst (λ (k : ℕ). i < k) ends.shards (within e.shards i l at) in
+        ap (own_events settled.callers) f.whole
+        ∙ (filter-append _ (seen_of settled i p.0) f.rest
+        ∙ ((λ k. h.fed refl i inside k ++ no-own settled.callers (opening_of settled) f.rest (λ y ev there_is same. f.others y ev there_is (same ∙ sym h.number)) k)
+        ∙ append-nil (events_of_feeds settled.callers ops replies)))
+
+    -- what a party had seen stands first
+    pub history-starts : (n : ℕ) (p : Place (Known C)) → get_elem? ps n ≡ some p → StartsWith l.history (seen_of settled i p)
+    history-starts n p at_p =
+        let h = ended n p at_p in
+        let f = closed-finds m cache (bares settled ps) e bare-ends i l at (bare settled p) (shown-at settled ends.views ps n p at_p ends.shown, tt) refl refl tt h.config (seen-bare settled p h.seen) in
+        (f.rest, f.whole)
+
+    feeder-made : AllByRecursion (λ (n : Moment). is_resize n.event ≡ true) (own_moments settled.callers (moments (opening_of settled) l.history))
+    feeder-made = all-events (λ e. is_resize e ≡ true) (own_moments settled.callers (moments (opening_of settled) l.history))
+        (subst (AllByRecursion (λ e. is_resize e ≡ true)) (sym (own-events-are settled.callers (opening_of settled) l.history ∙ feeder-fed)) (fed-resizes settled.callers ops replies))
 
     caller-made : (x : ℕ) (ev : Event) → get_elem? l.history x ≡ some ev → number_of ev < parties_of settled → is_pass ev ≡ false → IsReadEvent settled.callers ev
     caller-made x ev here below none = elim (cases_lt (number_of ev) settled.callers) [
@@ -224,18 +282,18 @@ module _ {C : Type 0} (m : Meanings C) (cache : Cache) (valid : IsConfig cache.c
         caller,
         none,
         own-events (λ y. is_of_reads y ≡ true) (number_of ev) (opening_of settled) l.history
-            (told-reads (acts_in shard i (number_of ev) acts) _ (all-filter IsReadAct _ acts (callers-reads blocks settled.callers ops replies)) (told-at (number_of ev) below)) x ev here refl none,
+            (told-reads (acts_in shard i (number_of ev) acts) _ (all-filter IsReadAct _ acts (callers-reads blocks settled.callers ops replies)) (told-at (number_of ev) caller)) x ev here refl none,
       )
       | inr above ↦
           let feeder : number_of ev ≡ settled.callers = omega arith in
-          absurd (own-events (λ y. ⊥) settled.callers (opening_of settled) l.history (subst (AllByRecursion (λ (n : Moment). ⊥)) (sym feeder-none) tt) x ev here feeder none)
+          inr (inr (feeder, own-events (λ y. is_resize y ≡ true) settled.callers (opening_of settled) l.history feeder-made x ev here feeder none))
     ]
 
     event-is : (x : ℕ) (ev : Event) → get_elem? l.history x ≡ some ev → IsReadEvent settled.callers ev
     event-is x ev here =
         let own = each-own m cache e i l at (bares settled ps) bare-ends config all-have are-last x ev here in
         elim (cases_true (is_pass ev)) [
-          | inl pass ↦ inr (pass, own.party, own.named pass)
+          | inl pass ↦ inr (inl (pass, own.party, own.named pass))
           | inr none ↦ caller-made x ev here own.party none
         ]
 
@@ -250,23 +308,26 @@ module _ {C : Type 0} (m : Meanings C) (cache : Cache) (valid : IsConfig cache.c
 
     told-any : (n : ℕ) → n ≢ settled.callers → Tell (acts_in shard i n acts) (own_moments n (moments (opening_of settled) l.history))
     told-any n differs = elim (cases_lt n (parties_of settled)) [
-      | inl below ↦ told-at n below
+      | inl below ↦ told-at n (less n settled.callers below differs)
       | inr above ↦
           subst (λ (acts : List Act). Tell acts (own_moments n (moments (opening_of settled) l.history))) (sym (callers-none shard i blocks ops replies settled.callers n (omega arith)))
           (closed-others m cache e i l at (bares settled ps) bare-ends config all-have are-last n above)
     ]
+      where
+        less : (n c : ℕ) → n < c + 1 → n ≢ c → n < c
+        less n c below differs = omega arith
 
   abbrev histories : List (List Event)
   histories = map (λ (log : ShardLog). log.history) e.shards
 
-  every-call : HoldEveryCallOnce settled shard (opening_of settled) acts none_of_the_feeder (map (λ log. log.history) e.shards)
+  every-call : HoldEveryCallOnce settled shard (opening_of settled) acts (λ i. events_of_feeds settled.callers ops replies) (map (λ log. log.history) e.shards)
   every-call = record {
     told = λ i n inside differs.
         let h = log-at e.shards i inside in
         subst (λ (es : List Event). Tell (acts_in shard i n acts) (own_moments n (moments (opening_of settled) es))) (sym h.2) (told-any i h.0 h.1 n differs);
     fed = λ i inside.
         let h = log-at e.shards i inside in
-        ap (own_events settled.callers) h.2 ∙ no-own-events settled.callers (opening_of settled) h.0.history (feeder-none i h.0 h.1);
+        ap (own_events settled.callers) h.2 ∙ feeder-fed i h.0 h.1;
     numbers = all-logs (AllByRecursion (λ ev. IsTrue (has_its_number settled.callers settled.cells ev))) e.shards
         (λ i l at. all-map (IsReadEvent settled.callers) (λ ev. IsTrue (has_its_number settled.callers settled.cells ev)) l.history (λ ev is. read-number settled.callers settled.cells ev is) (only-reads i l at));
     passes = all-logs (λ h. IsTrue (are_passes_placed h)) e.shards (λ i l at. placed i l at);
@@ -320,12 +381,13 @@ module _ {C : Type 0} (m : Meanings C) (cache : Cache) (valid : IsConfig cache.c
       let log = history-of e.shards i h at in
       subst (λ (es : List Event). Tell (acts_in shard i n (acts_of_caller blocks n (filter (is_of_caller n) ops) (replies_where (is_of_caller n) ops replies))) (own_moments n (moments (opening_of settled) es))) log.2
       (subst (λ (acts : List Act). Tell acts (own_moments n (moments (opening_of settled) log.0.history))) (callers-own shard i blocks ops replies settled.callers n below)
-      (told-at i log.0 log.1 n (omega arith)))
+      (told-at i log.0 log.1 n below))
 
   -- an event that stands for a read of the pool is a caller's
   read-of-caller : (ev : Event) → IsReadEvent settled.callers ev → IsReadOfCaller settled.callers ev
   read-of-caller ev (inl of) read = of.0
-  read-of-caller ev (inr pass) read = absurd (false≢true (sym (read-no-pass ev read) ∙ pass.0))
+  read-of-caller ev (inr (inl pass)) read = absurd (false≢true (sym (read-no-pass ev read) ∙ pass.0))
+  read-of-caller ev (inr (inr cap)) read = absurd (resize-reads ev cap.1 read)
 
   pub callers-counted : over_callers settled.callers (λ n. reads_of_caller n histories) ≡ sum_by pool_reads histories
   callers-counted = all-reads settled.callers histories
@@ -347,48 +409,36 @@ module _ {C : Type 0} (cache : Cache) (blocks : List Ptr) (ops : List Op) (repli
   abbrev all-acts : List Act
   all-acts = acts_of_callers blocks cache.config.callers ops replies
 
-  ended-with : IsTold cache.config all-acts p → HasEnded cache.config all-acts n p
-  ended-with told = record { number = number; config = stands.of.config; seen = stands.seen; idle = stands-idle cache p stands; told = told }
+  abbrev all-feeds : List Event
+  all-feeds = events_of_feeds cache.config.callers ops replies
 
   -- a caller, by what its own lines and the end of the run do
   pub caller-ended : (own : List Reply) → n < cache.config.callers → replies_where (is_of_caller n) ops replies ≡ own
-      → IsTold cache.config (acts_of_caller blocks n (filter (is_of_caller n) ops) own) p → HasEnded cache.config all-acts n p
-  caller-ended own below is told = ended-with (λ shard.
-      let f : Key → ℕ = shard_of cache.config.shards in
-      let mine : List Reply → List Act = acts_of_caller blocks n (filter (is_of_caller n) ops) in
-      let same : acts_in f shard p.number all-acts ≡ acts_in f shard p.number (mine own) =
-      ap (λ (x : ℕ). acts_in f shard x all-acts) number
-      ∙ (callers-own f shard blocks ops replies cache.config.callers n below
-      ∙ (ap (λ (r : List Reply). acts_in f shard n (mine r)) is
-      ∙ ap (λ (x : ℕ). acts_in f shard x (mine own)) (sym number))) in
-      subst (λ (acts : List Act). Tell acts (own_moments p.number (moments (opening_of cache.config) (seen_of cache.config shard p)))) (sym same) (told shard))
+      → IsTold cache.config (acts_of_caller blocks n (filter (is_of_caller n) ops) own) p → HasEnded cache.config all-acts all-feeds n p
+  caller-ended own below is told = record {
+    number = number;
+    config = stands.of.config;
+    seen = stands.seen;
+    idle = stands-idle cache p stands;
+    told = λ _ shard.
+        let f : Key → ℕ = shard_of cache.config.shards in
+        let mine : List Reply → List Act = acts_of_caller blocks n (filter (is_of_caller n) ops) in
+        let same : acts_in f shard p.number all-acts ≡ acts_in f shard p.number (mine own) =
+        ap (λ (x : ℕ). acts_in f shard x all-acts) number
+        ∙ (callers-own f shard blocks ops replies cache.config.callers n below
+        ∙ (ap (λ (r : List Reply). acts_in f shard n (mine r)) is
+        ∙ ap (λ (x : ℕ). acts_in f shard x (mine own)) (sym number))) in
+        subst (λ (acts : List Act). Tell acts (own_moments p.number (moments (opening_of cache.config) (seen_of cache.config shard p)))) (sym same) (told shard);
+    fed = λ is_feeder. absurd (omega (arith, below, is_feeder));
+  }
 
-  -- the feeder, which did nothing
-  pub feeder-ended : cache.config.callers ≤ n → IsTold cache.config [] p → HasEnded cache.config all-acts n p
-  feeder-ended above told = ended-with (λ shard.
-      let f : Key → ℕ = shard_of cache.config.shards in
-      let none : acts_in f shard p.number all-acts ≡ [] = ap (λ (x : ℕ). acts_in f shard x all-acts) number ∙ callers-none f shard blocks ops replies cache.config.callers n above in
-      subst (λ (acts : List Act). Tell acts (own_moments p.number (moments (opening_of cache.config) (seen_of cache.config shard p)))) (sym none) (told shard))
-
--- where no operation was answered no caller did anything
-acts-none : (blocks : List Ptr) (n : ℕ) (os : List Op) → acts_of_caller blocks n os [] ≡ []
-acts-none blocks n [] = refl
-acts-none blocks n (op ∷ os) = refl
-
-replies-none : (test : Op → Bool) (os : List Op) → replies_where test os [] ≡ []
-replies-none test [] = refl
-replies-none test (op ∷ os) = refl
-
-kept-none : (blocks : List Ptr) (os : List Op) → kept_after_all blocks [] os [] ≡ []
-kept-none blocks [] = refl
-kept-none blocks (op ∷ os) = refl
-
-pub none-dropped : (g : Config) (blocks : List Ptr) (shard callers : ℕ) (ops : List Op) → drops_at_end g blocks shard callers ops [] ≡ []
-none-dropped g blocks shard zero ops = refl
-none-dropped g blocks shard (suc n) ops =
-    ap (λ (l : List Event). l ++ events_of_drops n (holds_in g shard (kept_after_all blocks [] (filter (is_of_caller n) ops) (replies_where (is_of_caller n) ops [])))) (none-dropped g blocks shard n ops)
-    ∙ ap (λ (l : List KeptRead). events_of_drops n (holds_in g shard l)) (ap (kept_after_all blocks [] (filter (is_of_caller n) ops)) (replies-none (is_of_caller n) ops) ∙ kept-none blocks (filter (is_of_caller n) ops))
-
-pub idle-told : {C : Type 0} (g : Config) (blocks : List Ptr) (ops : List Op) (n : ℕ) (p : Place (Known C)) → IsTold g [] p → IsTold g (acts_of_caller blocks n (filter (is_of_caller n) ops) (replies_where (is_of_caller n) ops [])) p
-idle-told g blocks ops n p told =
-    subst (λ (acts : List Act). IsTold g acts p) (sym (ap (acts_of_caller blocks n (filter (is_of_caller n) ops)) (replies-none (is_of_caller n) ops) ∙ acts-none blocks n (filter (is_of_caller n) ops))) told
+  -- the feeder, which made these events
+  pub feeder-ended : n ≡ cache.config.callers → ((shard : ℕ) → shard < cache.config.shards → own_events p.number (seen_of cache.config shard p) ≡ all-feeds) → HasEnded cache.config all-acts all-feeds n p
+  feeder-ended is fed = record {
+    number = number;
+    config = stands.of.config;
+    seen = stands.seen;
+    idle = stands-idle cache p stands;
+    told = λ below. absurd (omega (arith, below, is));
+    fed = λ _ shard below. ap (λ (k : ℕ). own_events k (seen_of cache.config shard p)) (sym number) ∙ fed shard below;
+  }

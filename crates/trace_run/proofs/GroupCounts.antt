@@ -210,6 +210,7 @@ module _ (len : ℕ) (image : Option (List ℕ)) (blocks : List Ptr) where
   stand-line kept (ops.Read n t x window) reply answer = rw answer.1 (stand-read n t answer.0 (effect_of reply))
   stand-line kept (ops.Hold n t x) reply answer = rw answer.1 (stand-hold n t answer.0 (effect_of reply))
   stand-line kept (ops.Drop n x) reply answer = stand-dropping n x (kept_of_block x kept) 0 kept reply answer
+  stand-line kept (ops.Cap c) reply answer = subst (λ (r : Reply). Stand [] (length (calls_of (effect_of r)))) (sym answer) (record { line = tt; count = refl })
   stand-line kept other reply answer = absurd answer
 
   stand-lines : (kept : List KeptRead) (os : List Op) (rs : List Reply) → AreAnswered len image blocks kept os rs → Stand (acts_of_all blocks kept os rs) (length (calls_of_all rs))

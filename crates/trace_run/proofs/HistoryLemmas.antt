@@ -1,5 +1,5 @@
 -- A history of reads and passes: nobody but callers holds anything behind it, and nothing is picked.
-use Rattle.std.proofs.Common.{◌≡◌, ◌⊎◌, ℕ, zero, suc, ◌+◌, ◌<◌, ◌≤◌, true, false, ◌==◌, nat_le, not, IsTrue, List, [], ◌∷◌, map, inl, inr, refl, sym, ap, ◌∙◌, subst, eq-eqb, ne_eqb, arith}
+use Rattle.std.proofs.Common.{◌≡◌, ◌⊎◌, ℕ, zero, suc, ◌+◌, ◌<◌, ◌≤◌, Bool, true, false, ◌==◌, nat_le, IsTrue, List, [], ◌∷◌, map, inl, inr, refl, sym, ap, ◌∙◌, subst, eq-eqb, ne_eqb, arith}
 use Rattle.std.specs.List.{AllByRecursion}
 use Rattle.std.proofs.lemmas.Bool.{false≢true}
 use Rattle.std.proofs.lemmas.Bool.Decides.{nat_tests}
@@ -14,22 +14,30 @@ use Rattle.arc_core.specs.declared.event.Event.TheVariants.{Pass, Hit, Miss, Arr
 use Rattle.arc_core.specs.declared.served.Served.{Served}
 use Rattle.arc_core.specs.declared.served.Served.TheVariants as served
 use Rattle.arc_core.specs.Changing.{gained, hold_for}
-use Rattle.arc_core.specs.Operations.{Act, AreEvents, Fails, GivesBack, IsServed, Keeps, Loads, MakesPrivate, Moment, Reads, RunsOut, RunsOutAtDbuf, Tell, Writes, has_its_number, is_of_feed, is_pass, moments, number_of, own_moments}
+use Rattle.arc_core.specs.Operations.{Act, AreEvents, Fails, GivesBack, IsServed, Keeps, Loads, MakesPrivate, Moment, Reads, RunsOut, RunsOutAtDbuf, Tell, Writes, has_its_number, is_pass, moments, number_of, own_moments}
 use Rattle.arc_core.specs.PlainShard.{PlainShard, count_of, numbers}
 use Rattle.arc_core.specs.Replay.{is_legal_history, replay}
 use Rattle.arc_core.specs.Sound.{IsSound}
 use Rattle.arc_core.specs.Step.{after, legal}
 use Rattle.arc_core.proofs.Counting.{counting}
+use Rattle.arc_core.specs.Rules.{resized}
 use Rattle.arc_core.proofs.Others.{frame-kept}
+use Rattle.arc_core.proofs.Frames.{frame-fitted}
 use Rattle.arc_core.proofs.Soundness.{IsSound-after}
 use Rattle.arc_table.specs.Seen.{pass_owner}
 use Rattle.trace_run.proofs.TellLemmas.{IsReadAct, all-append, caller-number, is_of_reads}
 
--- an event of a caller's reads; or a pass of a caller or the feeder that names another
+-- a new capacity
+abbrev pub is_resize : Event → Bool
+is_resize (Resize n c) = true
+is_resize _ = false
+
+-- an event of a caller's reads; or a pass of a caller or the feeder that names another; or a capacity that the feeder gives
 abbrev pub IsReadEvent : (callers : ℕ) → Event → Type 0
 IsReadEvent callers e =
     ((number_of e < callers) × (is_pass e ≡ false) × (is_of_reads e ≡ true))
     ⊎ ((is_pass e ≡ true) × (number_of e < callers + 1) × (pass_owner e < callers + 1))
+    ⊎ ((number_of e ≡ callers) × (is_resize e ≡ true))
 
 -- ---- what is held behind it
 
@@ -39,13 +47,17 @@ hold-other n m k j below = let other : (m == n) ≡ false = ne_eqb m n (λ e. ab
 -- a number that no caller has gains nothing
 none-gained : (callers m : ℕ) (j : Key) (e : Event) → callers ≤ m → IsReadEvent callers e → gained e m j ≡ 0
 none-gained callers m j (Hit n k t) above (inl of) = let below : n < m = omega (arith, of.0) in hold-other n m k j below
-none-gained callers m j (Hit n k t) above (inr pass) = absurd (false≢true pass.0)
+none-gained callers m j (Hit n k t) above (inr (inl pass)) = absurd (false≢true pass.0)
+none-gained callers m j (Hit n k t) above (inr (inr cap)) = absurd (false≢true cap.1)
 none-gained callers m j (Miss n k t) above (inl of) = let below : n < m = omega (arith, of.0) in hold-other n m k j below
-none-gained callers m j (Miss n k t) above (inr pass) = absurd (false≢true pass.0)
+none-gained callers m j (Miss n k t) above (inr (inl pass)) = absurd (false≢true pass.0)
+none-gained callers m j (Miss n k t) above (inr (inr cap)) = absurd (false≢true cap.1)
 none-gained callers m j (Insert n k d t) above (inl of) = absurd (false≢true of.2)
-none-gained callers m j (Insert n k d t) above (inr pass) = absurd (false≢true pass.0)
+none-gained callers m j (Insert n k d t) above (inr (inl pass)) = absurd (false≢true pass.0)
+none-gained callers m j (Insert n k d t) above (inr (inr cap)) = absurd (false≢true cap.1)
 none-gained callers m j (Hand n k to) above (inl of) = absurd (false≢true of.2)
-none-gained callers m j (Hand n k to) above (inr pass) = absurd (false≢true pass.0)
+none-gained callers m j (Hand n k to) above (inr (inl pass)) = absurd (false≢true pass.0)
+none-gained callers m j (Hand n k to) above (inr (inr cap)) = absurd (false≢true cap.1)
 none-gained callers m j (Pass n k owner) above is = refl
 none-gained callers m j (Arrive n k d from) above is = refl
 none-gained callers m j (Fail n k at) above is = refl
@@ -71,45 +83,82 @@ none-counted callers m j s (e ∷ es) above below sound lawful reads none =
 
 -- ---- what is picked
 
-none-fed : (callers : ℕ) (e : Event) → IsReadEvent callers e → is_of_feed e ≡ false
-none-fed callers (Pick n k) (inl of) = absurd (false≢true of.2)
-none-fed callers (Pick n k) (inr pass) = absurd (false≢true pass.0)
-none-fed callers (FeedEnd n) (inl of) = absurd (false≢true of.2)
-none-fed callers (FeedEnd n) (inr pass) = absurd (false≢true pass.0)
-none-fed callers (Set n k place) (inl of) = absurd (false≢true of.2)
-none-fed callers (Set n k place) (inr pass) = absurd (false≢true pass.0)
-none-fed callers (Leave n k why) (inl of) = absurd (false≢true of.2)
-none-fed callers (Leave n k why) (inr pass) = absurd (false≢true pass.0)
-none-fed callers (Clear n k) (inl of) = absurd (false≢true of.2)
-none-fed callers (Clear n k) (inr pass) = absurd (false≢true pass.0)
-none-fed callers (Restore n k place d) (inl of) = absurd (false≢true of.2)
-none-fed callers (Restore n k place d) (inr pass) = absurd (false≢true pass.0)
-none-fed callers (Resize n c) (inl of) = absurd (false≢true of.2)
-none-fed callers (Resize n c) (inr pass) = absurd (false≢true pass.0)
-none-fed callers (Pass n k owner) is = refl
-none-fed callers (Hit n k t) is = refl
-none-fed callers (Miss n k t) is = refl
-none-fed callers (Arrive n k d from) is = refl
-none-fed callers (Fail n k at) is = refl
-none-fed callers (Drop n k) is = refl
-none-fed callers (Past n k kept) is = refl
-none-fed callers (Hand n k to) is = refl
-none-fed callers (Insert n k d t) is = refl
-none-fed callers (Release n k sole) is = refl
+none-picked-by : (callers : ℕ) (s : PlainShard) (e : Event) → IsReadEvent callers e → s.picked ≡ [] → (after s e).picked ≡ []
+none-picked-by callers s (Pick n k) (inl of) none = absurd (false≢true of.2)
+none-picked-by callers s (Pick n k) (inr (inl pass)) none = absurd (false≢true pass.0)
+none-picked-by callers s (Pick n k) (inr (inr cap)) none = absurd (false≢true cap.1)
+none-picked-by callers s (FeedEnd n) (inl of) none = absurd (false≢true of.2)
+none-picked-by callers s (FeedEnd n) (inr (inl pass)) none = absurd (false≢true pass.0)
+none-picked-by callers s (FeedEnd n) (inr (inr cap)) none = absurd (false≢true cap.1)
+none-picked-by callers s (Set n k place) (inl of) none = absurd (false≢true of.2)
+none-picked-by callers s (Set n k place) (inr (inl pass)) none = absurd (false≢true pass.0)
+none-picked-by callers s (Set n k place) (inr (inr cap)) none = absurd (false≢true cap.1)
+none-picked-by callers s (Leave n k why) (inl of) none = absurd (false≢true of.2)
+none-picked-by callers s (Leave n k why) (inr (inl pass)) none = absurd (false≢true pass.0)
+none-picked-by callers s (Leave n k why) (inr (inr cap)) none = absurd (false≢true cap.1)
+none-picked-by callers s (Clear n k) (inl of) none = absurd (false≢true of.2)
+none-picked-by callers s (Clear n k) (inr (inl pass)) none = absurd (false≢true pass.0)
+none-picked-by callers s (Clear n k) (inr (inr cap)) none = absurd (false≢true cap.1)
+none-picked-by callers s (Restore n k place d) (inl of) none = absurd (false≢true of.2)
+none-picked-by callers s (Restore n k place d) (inr (inl pass)) none = absurd (false≢true pass.0)
+none-picked-by callers s (Restore n k place d) (inr (inr cap)) none = absurd (false≢true cap.1)
+none-picked-by callers s (Resize n c) is none = (frame-fitted (resized c s)).picked ∙ none
+none-picked-by callers s (Pass n k owner) is none = (frame-kept s (Pass n k owner)).picked refl ∙ none
+none-picked-by callers s (Hit n k t) is none = (frame-kept s (Hit n k t)).picked refl ∙ none
+none-picked-by callers s (Miss n k t) is none = (frame-kept s (Miss n k t)).picked refl ∙ none
+none-picked-by callers s (Arrive n k d from) is none = (frame-kept s (Arrive n k d from)).picked refl ∙ none
+none-picked-by callers s (Fail n k at) is none = (frame-kept s (Fail n k at)).picked refl ∙ none
+none-picked-by callers s (Drop n k) is none = (frame-kept s (Drop n k)).picked refl ∙ none
+none-picked-by callers s (Past n k kept) is none = (frame-kept s (Past n k kept)).picked refl ∙ none
+none-picked-by callers s (Hand n k to) is none = (frame-kept s (Hand n k to)).picked refl ∙ none
+none-picked-by callers s (Insert n k d t) is none = (frame-kept s (Insert n k d t)).picked refl ∙ none
+none-picked-by callers s (Release n k sole) is none = (frame-kept s (Release n k sole)).picked refl ∙ none
 
 pub none-picked : (callers : ℕ) (s : PlainShard) (es : List Event) → AllByRecursion (IsReadEvent callers) es → s.picked ≡ [] → (replay s es).picked ≡ []
 none-picked callers s [] reads none = none
-none-picked callers s (e ∷ es) reads none = none-picked callers (after s e) es reads.1 ((frame-kept s e).picked (ap not (none-fed callers e reads.0)) ∙ none)
+none-picked callers s (e ∷ es) reads none = none-picked callers (after s e) es reads.1 (none-picked-by callers s e reads.0 none)
 
 -- ---- the number of an event
 
 pub read-number : (callers cells : ℕ) (e : Event) → IsReadEvent callers e → IsTrue (has_its_number callers cells e)
 read-number callers cells e (inl of) = caller-number callers cells (number_of e) e of.0 (refl, of.1, of.2)
-read-number callers cells (Pass n k owner) (inr pass) =
+read-number callers cells (Pass n k owner) (inr (inl pass)) =
     let mine : nat_le n callers ≡ true = grind (arith, nat_tests, pass.1) in
     let other : nat_le owner callers ≡ true = grind (arith, nat_tests, pass.2) in
     both (nat_le n callers) (nat_le owner callers) mine other
-read-number callers cells e (inr pass) = absurd (false≢true pass.0)
+read-number callers cells (Resize n c) (inr (inr cap)) = eq-eqb n callers cap.0
+read-number callers cells (Hit n k t) (inr (inl pass)) = absurd (false≢true pass.0)
+read-number callers cells (Miss n k t) (inr (inl pass)) = absurd (false≢true pass.0)
+read-number callers cells (Arrive n k d from) (inr (inl pass)) = absurd (false≢true pass.0)
+read-number callers cells (Fail n k at) (inr (inl pass)) = absurd (false≢true pass.0)
+read-number callers cells (Drop n k) (inr (inl pass)) = absurd (false≢true pass.0)
+read-number callers cells (Past n k kept) (inr (inl pass)) = absurd (false≢true pass.0)
+read-number callers cells (Hand n k to) (inr (inl pass)) = absurd (false≢true pass.0)
+read-number callers cells (Insert n k d t) (inr (inl pass)) = absurd (false≢true pass.0)
+read-number callers cells (Release n k sole) (inr (inl pass)) = absurd (false≢true pass.0)
+read-number callers cells (Pick n k) (inr (inl pass)) = absurd (false≢true pass.0)
+read-number callers cells (FeedEnd n) (inr (inl pass)) = absurd (false≢true pass.0)
+read-number callers cells (Set n k place) (inr (inl pass)) = absurd (false≢true pass.0)
+read-number callers cells (Leave n k why) (inr (inl pass)) = absurd (false≢true pass.0)
+read-number callers cells (Clear n k) (inr (inl pass)) = absurd (false≢true pass.0)
+read-number callers cells (Restore n k place d) (inr (inl pass)) = absurd (false≢true pass.0)
+read-number callers cells (Resize n c) (inr (inl pass)) = absurd (false≢true pass.0)
+read-number callers cells (Hit n k t) (inr (inr cap)) = absurd (false≢true cap.1)
+read-number callers cells (Miss n k t) (inr (inr cap)) = absurd (false≢true cap.1)
+read-number callers cells (Arrive n k d from) (inr (inr cap)) = absurd (false≢true cap.1)
+read-number callers cells (Fail n k at) (inr (inr cap)) = absurd (false≢true cap.1)
+read-number callers cells (Drop n k) (inr (inr cap)) = absurd (false≢true cap.1)
+read-number callers cells (Past n k kept) (inr (inr cap)) = absurd (false≢true cap.1)
+read-number callers cells (Hand n k to) (inr (inr cap)) = absurd (false≢true cap.1)
+read-number callers cells (Insert n k d t) (inr (inr cap)) = absurd (false≢true cap.1)
+read-number callers cells (Release n k sole) (inr (inr cap)) = absurd (false≢true cap.1)
+read-number callers cells (Pick n k) (inr (inr cap)) = absurd (false≢true cap.1)
+read-number callers cells (FeedEnd n) (inr (inr cap)) = absurd (false≢true cap.1)
+read-number callers cells (Set n k place) (inr (inr cap)) = absurd (false≢true cap.1)
+read-number callers cells (Leave n k why) (inr (inr cap)) = absurd (false≢true cap.1)
+read-number callers cells (Clear n k) (inr (inr cap)) = absurd (false≢true cap.1)
+read-number callers cells (Restore n k place d) (inr (inr cap)) = absurd (false≢true cap.1)
+read-number callers cells (Pass n k owner) (inr (inr cap)) = absurd (false≢true cap.1)
 
 -- ---- the events of acts of reads
 
@@ -131,7 +180,7 @@ act-events (RunsOutAtDbuf n t ptr cell) es of is = absurd of
 act-events (MakesPrivate cell k) es of is = absurd of
 act-events (Writes cell t ptr) es of is = absurd of
 
-all-events : (P : Event → Type 0) (ms : List Moment) → AllByRecursion P (map (λ m. m.event) ms) → AllByRecursion (λ m. P m.event) ms
+pub all-events : (P : Event → Type 0) (ms : List Moment) → AllByRecursion P (map (λ m. m.event) ms) → AllByRecursion (λ m. P m.event) ms
 all-events P [] all = tt
 all-events P (m ∷ ms) all = (all.0, all-events P ms all.1)
 

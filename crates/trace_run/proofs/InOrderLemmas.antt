@@ -1,5 +1,5 @@
 -- The replies of several callers put together, one line after another from the last.
-use Rattle.std.proofs.Common.{◌≡◌, ◌≢◌, ℕ, zero, suc, ◌+◌, ◌<◌, List, [], ◌∷◌, ◌++◌, length, get_or, take, drop, Some, refl, sym, ap, ◌∙◌, arith, add-one, append-nil, append_assoc, length-append, eq-eqb, ne_eqb}
+use Rattle.std.proofs.Common.{◌≡◌, ◌≢◌, ℕ, zero, suc, ◌+◌, ◌<◌, List, [], ◌∷◌, ◌++◌, length, get_or, take, drop, Some, refl, sym, ap, ◌∙◌, arith, add-one, append-nil, append_assoc, length-append, false, true}
 use Rattle.std.proofs.Math.ListN.{set}
 use Rattle.std.proofs.Math.Seq.{drop-cons}
 use Rattle.std.specs.Prelude.{filter, slice_get}
@@ -13,6 +13,7 @@ use lib.ListN.{get_elem?}
 use Rattle.trace_text.specs.declared.op.Op.{Op}
 use Rattle.trace_text.specs.declared.reply.Reply.{Reply}
 use Rattle.trace_run.specs.InOrder.{AreInOrder, HaveReplies}
+use Rattle.trace_run.proofs.CallerActLemmas.{his-is, other-is}
 use Rattle.trace_run.specs.Lines.{caller_of, is_of_caller, replies_where}
 use Rattle.trace_run.proofs.AnswerLemmas.{take_one}
 
@@ -35,17 +36,17 @@ module _ {X : Type 0} where
 
 module _ (n : ℕ) (op : Op) where
   -- a line of the caller has the first of its replies, and another line has none of them
-  where-own : (ops : List Op) (r : Reply) (rs : List Reply) → caller_of op ≡ n → replies_where (is_of_caller n) (op ∷ ops) (r ∷ rs) ≡ r ∷ replies_where (is_of_caller n) ops rs
-  where-own ops r rs own = rw (eq-eqb (caller_of op) n own) refl
+  where-own : (ops : List Op) (r : Reply) (rs : List Reply) → is_of_caller n op ≡ true → replies_where (is_of_caller n) (op ∷ ops) (r ∷ rs) ≡ r ∷ replies_where (is_of_caller n) ops rs
+  where-own ops r rs own = rw own refl
 
-  where-other : (ops : List Op) (r : Reply) (rs : List Reply) → caller_of op ≢ n → replies_where (is_of_caller n) (op ∷ ops) (r ∷ rs) ≡ replies_where (is_of_caller n) ops rs
-  where-other ops r rs other = rw (ne_eqb (caller_of op) n other) refl
+  where-other : (ops : List Op) (r : Reply) (rs : List Reply) → is_of_caller n op ≡ false → replies_where (is_of_caller n) (op ∷ ops) (r ∷ rs) ≡ replies_where (is_of_caller n) ops rs
+  where-other ops r rs other = rw other refl
 
-  count-own : (ops : List Op) → caller_of op ≡ n → length (filter (is_of_caller n) (ops ++ op ∷ [])) ≡ length (filter (is_of_caller n) ops) + 1
-  count-own ops own = ap length (filter-append (is_of_caller n) ops (op ∷ [])) ∙ (length-append (filter (is_of_caller n) ops) (filter (is_of_caller n) (op ∷ [])) ∙ rw (eq-eqb (caller_of op) n own) refl)
+  count-own : (ops : List Op) → is_of_caller n op ≡ true → length (filter (is_of_caller n) (ops ++ op ∷ [])) ≡ length (filter (is_of_caller n) ops) + 1
+  count-own ops own = ap length (filter-append (is_of_caller n) ops (op ∷ [])) ∙ (length-append (filter (is_of_caller n) ops) (filter (is_of_caller n) (op ∷ [])) ∙ rw own refl)
 
-  count-other : (ops : List Op) → caller_of op ≢ n → length (filter (is_of_caller n) (ops ++ op ∷ [])) ≡ length (filter (is_of_caller n) ops)
-  count-other ops other = ap length (filter-append (is_of_caller n) ops (op ∷ []) ∙ rw (ne_eqb (caller_of op) n other) (append-nil (filter (is_of_caller n) ops)))
+  count-other : (ops : List Op) → is_of_caller n op ≡ false → length (filter (is_of_caller n) (ops ++ op ∷ [])) ≡ length (filter (is_of_caller n) ops)
+  count-other ops other = ap length (filter-append (is_of_caller n) ops (op ∷ []) ∙ rw other (append-nil (filter (is_of_caller n) ops)))
 
 -- ---- the replies that are placed
 
@@ -65,46 +66,46 @@ placed-none ops first has = record {
   own = λ n lt. let h = has.each n lt in ap length (at-of first n h.0 [] h.1).1 ∙ (h.2 ∙ ap (λ (l : List Op). length (filter (is_of_caller n) l)) (sym (take_all (length ops) ops (omega arith))));
 }
 
-module _ (ops : List Op) (first left : List (List Reply)) (k : ℕ) (placed : List Reply) (op : Op) (here : slice_get ops k ≡ Some op) (inside : caller_of op < length first) (are : ArePlaced ops first left (k + 1) placed) where
+module _ (ops : List Op) (first left : List (List Reply)) (k : ℕ) (placed : List Reply) (op : Op) (here : slice_get ops k ≡ Some op) (w : ℕ) (of : caller_of op ≡ Some w) (inside : w < length first) (are : ArePlaced ops first left (k + 1) placed) where
   -- the caller of the last line that has no reply yet has one left
-  pub one-left : length (get_or left (caller_of op) []) ≢ 0
+  pub one-left : length (get_or left w []) ≢ 0
   one-left none =
-      let own = are.own (caller_of op) inside in
-      let more = ap (λ (l : List Op). length (filter (is_of_caller (caller_of op)) l)) (take_one ops k op here) ∙ count-own (caller_of op) op (take k ops) refl in
+      let own = are.own w inside in
+      let more = ap (λ (l : List Op). length (filter (is_of_caller w) l)) (take_one ops k op here) ∙ count-own w op (take k ops) (his-is w w op of refl) in
       omega arith
 
   -- it is the line's
-  pub placed-more : (rest : List Reply) (r : Reply) → get_or left (caller_of op) [] ≡ rest ++ r ∷ [] → ArePlaced ops first (set left (caller_of op) rest) k (r ∷ placed)
+  pub placed-more : (rest : List Reply) (r : Reply) → get_or left w [] ≡ rest ++ r ∷ [] → ArePlaced ops first (set left w rest) k (r ∷ placed)
   placed-more rest r last = record {
     count = let c = are.count in omega arith;
-    lists = length-set left (caller_of op) rest ∙ are.lists;
-    parts = λ n lt. dite (ℕ_discrete (caller_of op) n)
+    lists = length-set left w rest ∙ are.lists;
+    parts = λ n lt. dite (ℕ_discrete w n)
         (λ mine.
-        let now : get_or (set left (caller_of op) rest) n [] ≡ rest = ap (λ (m : ℕ). get_or (set left (caller_of op) rest) m []) (sym mine) ∙ get_or-set_same left (caller_of op) rest [] within in
+        let now : get_or (set left w rest) n [] ≡ rest = ap (λ (m : ℕ). get_or (set left w rest) m []) (sym mine) ∙ get_or-set_same left w rest [] within in
         let was : get_or left n [] ≡ rest ++ r ∷ [] = ap (λ (m : ℕ). get_or left m []) (sym mine) ∙ last in
         are.parts n lt
         ∙ (ap (λ (l : List Reply). l ++ replies_where (is_of_caller n) (drop (k + 1) ops) placed) was
         ∙ (append_assoc rest (r ∷ []) (replies_where (is_of_caller n) (drop (k + 1) ops) placed)
-        ∙ ((λ i. sym now i ++ sym (where-own n op (drop (k + 1) ops) r placed mine) i)
-        ∙ ap (λ (l : List Op). get_or (set left (caller_of op) rest) n [] ++ replies_where (is_of_caller n) l (r ∷ placed)) (sym (drop_one ops k op here))))))
+        ∙ ((λ i. sym now i ++ sym (where-own n op (drop (k + 1) ops) r placed (his-is n w op of mine)) i)
+        ∙ ap (λ (l : List Op). get_or (set left w rest) n [] ++ replies_where (is_of_caller n) l (r ∷ placed)) (sym (drop_one ops k op here))))))
         (λ other.
         are.parts n lt
-        ∙ ((λ i. sym (get_or-set_other left (caller_of op) n rest [] (λ e. other (sym e))) i ++ sym (where-other n op (drop (k + 1) ops) r placed other) i)
-        ∙ ap (λ (l : List Op). get_or (set left (caller_of op) rest) n [] ++ replies_where (is_of_caller n) l (r ∷ placed)) (sym (drop_one ops k op here))));
+        ∙ ((λ i. sym (get_or-set_other left w n rest [] (λ e. other (sym e))) i ++ sym (where-other n op (drop (k + 1) ops) r placed (other-is n w op of other)) i)
+        ∙ ap (λ (l : List Op). get_or (set left w rest) n [] ++ replies_where (is_of_caller n) l (r ∷ placed)) (sym (drop_one ops k op here))));
     own = λ n lt.
         let was = are.own n lt ∙ ap (λ (l : List Op). length (filter (is_of_caller n) l)) (take_one ops k op here) in
-        dite (ℕ_discrete (caller_of op) n)
+        dite (ℕ_discrete w n)
         (λ mine.
-        let now : get_or (set left (caller_of op) rest) n [] ≡ rest = ap (λ (m : ℕ). get_or (set left (caller_of op) rest) m []) (sym mine) ∙ get_or-set_same left (caller_of op) rest [] within in
+        let now : get_or (set left w rest) n [] ≡ rest = ap (λ (m : ℕ). get_or (set left w rest) m []) (sym mine) ∙ get_or-set_same left w rest [] within in
         let long : length (get_or left n []) ≡ length (rest ++ r ∷ []) = ap (λ (m : ℕ). length (get_or left m [])) (sym mine) ∙ ap length last in
         let sum = length-append rest (r ∷ []) in
-        let count = count-own n op (take k ops) mine in
+        let count = count-own n op (take k ops) (his-is n w op of mine) in
         let same = ap length now in
         omega arith)
-        (λ other. ap length (get_or-set_other left (caller_of op) n rest [] (λ e. other (sym e))) ∙ (was ∙ count-other n op (take k ops) other));
+        (λ other. ap length (get_or-set_other left w n rest [] (λ e. other (sym e))) ∙ (was ∙ count-other n op (take k ops) (other-is n w op of other)));
   }
     where
-      within : caller_of op < length left
+      within : w < length left
       within = let l = are.lists in omega arith
 
 -- at last all are placed

@@ -5,6 +5,7 @@ pub mod AlonePlainLemmas
 pub mod AnswerLemmas
 pub mod CacheLemmas
 pub mod CallerActLemmas
+pub mod CapLemmas
 pub mod CellLemmas
 pub mod CloseLemmas
 pub mod DropLemmas
@@ -16,6 +17,7 @@ pub mod GiveLemmas
 pub mod GroupCounts
 pub mod GroupLemmas
 pub mod GroupRunLemmas
+pub mod GroupsLemmas
 pub mod HistoryLemmas
 pub mod InOrderLemmas
 pub mod KeptBlockLemmas
@@ -36,11 +38,15 @@ pub mod ReadLemmas
 pub mod ReadStands
 pub mod ReportLemmas
 pub mod ResidentLemmas
+pub mod ResizeAlone
+pub mod ResizeLemmas
 pub mod RestAlone
 pub mod RestLemmas
 pub mod RunLemmas
 pub mod ServeLemmas
+pub mod SoleLemmas
 pub mod SourceLemmas
+pub mod StepLemmas
 pub mod StreamLemmas
 pub mod TakenLemmas
 pub mod TellLemmas

@@ -1,9 +1,11 @@
 -- A caller's line over the shared cache, by what its read came to.
-use Rattle.std.proofs.Common.{◌≡◌, ◌≢◌, ℕ, List, [], ◌∷◌, ◌++◌, map, Option, Some, None, Result, Ok, Err, inl, inr, refl, sym, ap, ◌∙◌, subst, arith, append-nil}
+use Rattle.std.proofs.Common.{◌≡◌, ◌≢◌, ℕ, ◌==◌, nat_lt, Bool, if◌then◌else◌, List, [], ◌∷◌, ◌++◌, map, Option, Some, None, Result, Ok, Err, inl, inr, refl, sym, ap, ◌∙◌, subst, arith, append-nil, eq-eqb, ne_eqb}
 use Rattle.std.specs.Prelude.{IfOk, IfSome, slice_get}
 use Rattle.std.specs.Option.{option_map_or}
 use Rattle.std.proofs.lemmas.Bool.{eqb-true}
 use Rattle.std.proofs.lemmas.List.{map-append}
+use mathlib.Core.Logic.{dite}
+use native.Mathlib.Decide.{ℕ_discrete}
 use Rattle.arc_lists.proofs.Tables.{cases_true}
 use Rattle.blk_ptr.specs.declared.key.Key.{Key}
 use Rattle.blk_ptr.specs.declared.ptr.Ptr.{Ptr}
@@ -28,6 +30,7 @@ use Rattle.arc_table.specs.declared.view.Known.{Known}
 use Rattle.arc_table.specs.Both.{Does}
 use Rattle.arc_table.specs.Items.{Meanings}
 use Rattle.vdev_io.specs.Calls.{KeepsPool, MakesCalls, Call}
+use Rattle.trace_text.specs.Grammar.{block_of}
 use Rattle.trace_text.specs.declared.op.Op.{Op}
 use Rattle.trace_text.specs.declared.op.Op.TheVariants as ops
 use Rattle.trace_text.specs.declared.reply.Refusal.{Refusal}
@@ -37,14 +40,14 @@ use Rattle.trace_text.specs.declared.reply.Reply.TheVariants.{Dropped, Refused}
 use Rattle.trace_run.specs.KeptReads.{KeptRead}
 use Rattle.trace_run.specs.Access as access
 use Rattle.trace_run.specs.Access.{Access, events_of_answered, events_of_drop, held_key as access_key, source_of}
-use Rattle.trace_run.specs.Acts.{acts_of_drop, acts_of_dropping, acts_of_hold, acts_of_read}
+use Rattle.trace_run.specs.Acts.{acts_of, acts_of_drop, acts_of_dropping, acts_of_hold, acts_of_read}
 use Rattle.trace_run.specs.Answering.{KeepsImage, ReadsImage}
 use Rattle.trace_run.specs.Answers.{AnswersDrop, AnswersHold, AnswersRead}
 use Rattle.trace_run.specs.Effects.{Effect, Answered, GivenBack, PoolRefused, NoEffect, calls_of, effect_of}
-use Rattle.trace_run.specs.CallerLines.{DidLine, at}
+use Rattle.trace_run.specs.CallerLines.{DidLine, DidThere, at}
 use Rattle.trace_run.specs.KeptBlocks.{Drops, GivesBack, IsOwnedBy, held_key}
-use Rattle.trace_run.specs.Lines.{shard_of_line}
-use Rattle.trace_run.specs.OneCaller.{NamesSource, events_of_dropping, events_of_hold, events_of_read, is_of_block, kept_after, kept_after_drop, kept_after_hold, key_held_by, oldest_key, without_oldest}
+use Rattle.trace_run.specs.Lines.{is_in_shard, shard_of_block}
+use Rattle.trace_run.specs.OneCaller.{NamesSource, events_of, events_of_dropping, events_of_hold, events_of_read, events_there, is_of_block, kept_after, kept_after_drop, kept_after_hold, key_held_by, oldest_key, without_oldest}
 use Rattle.trace_run.specs.OverShards.{AreNamed, IsNamed}
 use Rattle.trace_run.specs.Reads.{CameFromPool, DidAct, DidActs, DidAnswer, DidRead, IsAlone, IsRefused, access_now, now_of}
 use Rattle.arc_table.specs.Seen.{AddsAll, HasSeenItsOwn, seen_of}
@@ -219,6 +222,33 @@ oldest-named blocks x (read ∷ reads) k all is = elim (cases_true (is_of_block 
   | inr other ↦ oldest-named blocks x reads k all.1 (rw other at is)
 ]
 
+-- ---- what a line on a block did, shard by shard
+
+module _ {C : Type 0} (g : Config) (device : ℕ) (blocks : List Ptr) (kept : List KeptRead) (op : Op) (reply : Reply) (x : ℕ) (on : block_of op ≡ Some x) (p q : Place (Known C)) where
+  abbrev its : ℕ
+  its = shard_of_block g.shards blocks x
+
+  in-it : (shard : ℕ) → is_in_shard g.shards blocks shard op ≡ (its == shard)
+  in-it shard = ap (λ (o : Option ℕ). option_map_or (λ (y : ℕ). shard_of_block g.shards blocks y == shard) o (nat_lt shard g.shards)) on
+
+  pub there-of : (acts : List Act) (es : List Event) → acts ≡ acts_of blocks kept op reply → es ≡ events_of blocks (now_of g its p) kept op reply → DidActs g device its acts es p q → DidThere g device blocks kept op reply p q
+  there-of acts es same_acts same_events did = record {
+    number = did.number;
+    told = λ before told. subst (λ (l : List Act). IsTold g (before ++ l) q) same_acts (did.told before told);
+    alone = λ alone shard.
+        let adds = did.alone alone in
+        let there : Bool → List Event = λ b. if b then events_of blocks (now_of g shard p) kept op reply else [] in
+        dite (ℕ_discrete its shard)
+        (λ is.
+        subst (λ (n : ℕ). seen_of g n q ≡ seen_of g n p ++ events_there g.shards blocks n (now_of g n p) kept op reply) is
+        (adds.here ∙ ap (λ (l : List Event). seen_of g its p ++ l) (same_events ∙ sym (ap (λ (b : Bool). if b then events_of blocks (now_of g its p) kept op reply else []) (in-it its ∙ eq-eqb its its refl)))))
+        (λ differs.
+        adds.others shard (λ e. differs (sym e))
+        ∙ (sym (append-nil (seen_of g shard p)) ∙ ap (λ (l : List Event). seen_of g shard p ++ l) (sym (ap there (in-it shard ∙ ne_eqb its shard differs)))));
+    all = did.all;
+    joined = λ his. did.joined;
+  }
+
 -- ---- the line of each operation
 
 -- what is so of a block's pointer over a pool that tells its bytes is so by the block's number
@@ -238,7 +268,8 @@ module _ {C P : Type 0} (g : Config) (pools : Ghosts P) (device : ℕ) (blocks :
       subst (λ (m : ℕ). DidLine g pools device blocks (ops.Read m t x window) reply (at p kept a) (at q kept b)) (sym his) (record {
         answer = (ptr, there, answer);
         kept = refl;
-        did = rw there did;
+        did = there-of g device blocks kept (ops.Read p.number t x window) reply x refl p q (acts_of_read p.number t ptr (effect_of reply))
+            (events_of_read p.number t (now_of g (shard_of_block g.shards blocks x) p) ptr (effect_of reply)) (rw there refl) (rw there refl) (rw there did);
         found = λ alone. rw there (found alone);
         range = λ came. told-here (pools.told a) (λ image ptr. ReadsImage image ptr window reply) (slice_get blocks x) there (range came);
         calls = calls;
@@ -256,7 +287,8 @@ module _ {C P : Type 0} (g : Config) (pools : Ghosts P) (device : ℕ) (blocks :
       subst (λ (m : ℕ). DidLine g pools device blocks (ops.Hold m t x) reply (at p kept a) (at q now b)) (sym his) (record {
         answer = (ptr, there, answer);
         kept = rw there is;
-        did = rw there did;
+        did = there-of g device blocks kept (ops.Hold p.number t x) reply x refl p q (acts_of_hold p.number t ptr (effect_of reply))
+            (events_of_hold p.number t (now_of g (shard_of_block g.shards blocks x) p) ptr (effect_of reply)) (rw there refl) (rw there refl) (rw there did);
         found = λ alone. rw there (found alone);
         range = λ came. told-here (pools.told a) (λ image ptr. KeepsImage image ptr reply) (slice_get blocks x) there (range came);
         calls = calls;
@@ -265,20 +297,20 @@ module _ {C P : Type 0} (g : Config) (pools : Ghosts P) (device : ℕ) (blocks :
 
   -- what is dropped is in the shard of the line's block
   drop-did : (n x : ℕ) (kept : List KeptRead) (o : Option Key) → oldest_key x kept ≡ o → AreNamed blocks kept → Drops g o p q
-      → DidActs g device (shard_of_line g.shards blocks (ops.Drop n x)) (acts_of_drop p.number o) (events_of_drop p.number o) p q
-  drop-did n x kept None is named drops = acts-none g device p q (shard_of_line g.shards blocks (ops.Drop n x)) drops
+      → DidActs g device (shard_of_block g.shards blocks x) (acts_of_drop p.number o) (events_of_drop p.number o) p q
+  drop-did n x kept None is named drops = acts-none g device p q (shard_of_block g.shards blocks x) drops
   drop-did n x kept (Some k) is named drops =
       let own = oldest-named blocks x kept k named is in
-      let here : shard_of g.shards k ≡ shard_of_line g.shards blocks (ops.Drop n x) =
+      let here : shard_of g.shards k ≡ shard_of_block g.shards blocks x =
       ap (shard_of g.shards) own.2 ∙ ap (λ (o : Option Ptr). option_map_or (λ (ptr : Ptr). shard_of g.shards ptr.key) o 0) (sym own.1) in
       subst (λ (shard : ℕ). DidActs g device shard (acts_of_drop p.number (Some k)) (events_of_drop p.number (Some k)) p q) here
       (record { number = drops.number; told = drops.told; alone = λ alone. drops.alone alone.all; all = drops.all; joined = drops.joined })
 
   drop-acts : (n x had gave : ℕ) (kept : List KeptRead) (reply : Reply) → AreNamed blocks kept → AnswersDrop had gave x reply → Drops g (oldest_key x kept) p q → (reply ≢ Dropped → oldest_key x kept ≡ None)
-      → DidActs g device (shard_of_line g.shards blocks (ops.Drop n x)) (acts_of_dropping p.number x kept (effect_of reply)) (events_of_dropping p.number x kept (effect_of reply)) p q
+      → DidActs g device (shard_of_block g.shards blocks x) (acts_of_dropping p.number x kept (effect_of reply)) (events_of_dropping p.number x kept (effect_of reply)) p q
   drop-acts n x had gave kept Dropped named answer drops none = drop-did n x kept (oldest_key x kept) refl named drops
   drop-acts n x had gave kept (Refused (refusals.NoHold block)) named answer drops none =
-      acts-none g device p q (shard_of_line g.shards blocks (ops.Drop n x)) (subst (λ (o : Option Key). Drops g o p q) (none (λ is. cc)) drops)
+      acts-none g device p q (shard_of_block g.shards blocks x) (subst (λ (o : Option Key). Drops g o p q) (none (λ is. cc)) drops)
   drop-acts n x had gave kept (Refused other) named answer drops none = absurd answer
   drop-acts n x had gave kept other named answer drops none = absurd answer
 
@@ -288,7 +320,7 @@ module _ {C P : Type 0} (g : Config) (pools : Ghosts P) (device : ℕ) (blocks :
       subst (λ (m : ℕ). DidLine g pools device blocks (ops.Drop m x) reply (at p kept a) (at q now a)) (sym his) (record {
         answer = answer;
         kept = is;
-        did = drop-acts p.number x (kept_of_block x kept) 0 kept reply named answer drops none;
+        did = there-of g device blocks kept (ops.Drop p.number x) reply x refl p q _ _ refl refl (drop-acts p.number x (kept_of_block x kept) 0 kept reply named answer drops none);
         found = λ alone. tt;
         range = λ came. told-all (pools.told a) (λ image. Unit {0}) (λ image. tt);
         calls = subst (λ (cs : List Call). MakesCalls pools cs a a) (sym calls) refl;

@@ -1,9 +1,7 @@
 -- A caller's lines over the shared cache: what all of them told, did and answered, one after another.
-use Rattle.std.proofs.Common.{◌≡◌, ◌≢◌, ℕ, suc, ◌+◌, ◌==◌, Bool, cond, if◌then◌else◌, List, [], ◌∷◌, ◌++◌, length, take, Option, Some, refl, sym, ap, ◌∙◌, subst, arith, append_assoc, append-nil, eq-eqb, ne_eqb, length-append}
+use Rattle.std.proofs.Common.{◌≡◌, ℕ, suc, ◌+◌, Bool, true, false, cond, IfSome, List, [], ◌∷◌, ◌++◌, length, take, Option, Some, refl, sym, ap, ◌∙◌, subst, arith, append_assoc, append-nil, length-append}
 use Rattle.std.specs.Prelude.{filter, slice_get}
 use Rattle.std.proofs.lemmas.List.Elements.{filter-append}
-use mathlib.Core.Logic.{dite}
-use native.Mathlib.Decide.{ℕ_discrete}
 use Rattle.blk_ptr.specs.declared.ptr.Ptr.{Ptr}
 use Rattle.vdev_io.specs.declared.pool.Pool.{Ghosts}
 use Rattle.arc_core.specs.declared.config.Config.{Config}
@@ -23,8 +21,8 @@ use Rattle.trace_run.specs.Answers.{AnswersAll}
 use Rattle.trace_run.specs.CallerLines.{At, DidLine, DidLines}
 use Rattle.trace_run.specs.Effects.{calls_of, calls_of_all, effect_of}
 use Rattle.arc_table.specs.Telling.{opening_of}
-use Rattle.trace_run.specs.Lines.{caller_of, is_of_caller, shard_of_line}
-use Rattle.trace_run.specs.OneCaller.{IsFoundAs, events_of, kept_after, kept_after_all}
+use Rattle.trace_run.specs.Lines.{caller_of, is_of_caller}
+use Rattle.trace_run.specs.OneCaller.{IsFoundAs, events_there, kept_after, kept_after_all}
 use Rattle.trace_run.specs.OverShards.{AllLinesOver, AreNamed, events_over}
 use Rattle.trace_run.specs.PlainRun.{shards_after}
 use Rattle.trace_run.specs.Reads.{IsAlone, now_of}
@@ -38,16 +36,16 @@ use Rattle.trace_run.proofs.RunLemmas.{calls-then}
 -- ---- which operations are a caller's
 
 -- one operation more, of this caller or of another
-pub his-more : (n : ℕ) (ops : List Op) (i : ℕ) (op : Op) → slice_get ops i ≡ Some op → caller_of op ≡ n → filter (is_of_caller n) (take (i + 1) ops) ≡ filter (is_of_caller n) (take i ops) ++ op ∷ []
+pub his-more : (n : ℕ) (ops : List Op) (i : ℕ) (op : Op) → slice_get ops i ≡ Some op → is_of_caller n op ≡ true → filter (is_of_caller n) (take (i + 1) ops) ≡ filter (is_of_caller n) (take i ops) ++ op ∷ []
 his-more n ops i op at his =
     ap (filter (is_of_caller n)) (take_one ops i op at)
-    ∙ (filter-append (is_of_caller n) (take i ops) (op ∷ []) ∙ ap (λ (b : Bool). filter (is_of_caller n) (take i ops) ++ cond b (op ∷ []) []) (eq-eqb (caller_of op) n his))
+    ∙ (filter-append (is_of_caller n) (take i ops) (op ∷ []) ∙ ap (λ (b : Bool). filter (is_of_caller n) (take i ops) ++ cond b (op ∷ []) []) his)
 
-pub others-more : (n : ℕ) (ops : List Op) (i : ℕ) (op : Op) → slice_get ops i ≡ Some op → caller_of op ≢ n → filter (is_of_caller n) (take (i + 1) ops) ≡ filter (is_of_caller n) (take i ops)
+pub others-more : (n : ℕ) (ops : List Op) (i : ℕ) (op : Op) → slice_get ops i ≡ Some op → is_of_caller n op ≡ false → filter (is_of_caller n) (take (i + 1) ops) ≡ filter (is_of_caller n) (take i ops)
 others-more n ops i op at other =
     ap (filter (is_of_caller n)) (take_one ops i op at)
     ∙ (filter-append (is_of_caller n) (take i ops) (op ∷ [])
-    ∙ (ap (λ (b : Bool). filter (is_of_caller n) (take i ops) ++ cond b (op ∷ []) []) (ne_eqb (caller_of op) n other) ∙ append-nil (filter (is_of_caller n) (take i ops))))
+    ∙ (ap (λ (b : Bool). filter (is_of_caller n) (take i ops) ++ cond b (op ∷ []) []) other ∙ append-nil (filter (is_of_caller n) (take i ops))))
 
 -- ---- lines one after another
 
@@ -120,25 +118,12 @@ module _ {C P : Type 0} (g : Config) (pools : Ghosts P) (device : ℕ) (blocks :
   lines-all (o ∷ os) [] a b did alone = absurd did
   lines-all (o ∷ os) (r ∷ rs) a b did alone = lines-all os rs did.0 b did.2 (all-then a.party did.0.party did.1.did.all alone)
 
-  -- what it has seen after one line
-  line-seen : (o : Op) (r : Reply) (a b : At C P) → DidLine g pools device blocks o r a b → IsAlone device a.party → (shard : ℕ)
-      → seen_of g shard b.party ≡ seen_of g shard a.party ++ (if shard == shard_of_line g.shards blocks o then events_of blocks (now_of g (shard_of_line g.shards blocks o) a.party) a.kept o r else [])
-  line-seen o r a b did alone shard =
-      let adds = did.did.alone alone in
-      let here : ℕ = shard_of_line g.shards blocks o in
-      dite (ℕ_discrete shard here)
-      (λ is. rw (eq-eqb shard here is) (subst (λ (n : ℕ). seen_of g n b.party ≡ seen_of g n a.party ++ events_of blocks (now_of g here a.party) a.kept o r) (sym is) adds.here))
-      (λ differs. rw (ne_eqb shard here differs) (adds.others shard differs ∙ sym (append-nil (seen_of g shard a.party))))
-
+  -- what it finds after one line
   pub line-now : (o : Op) (r : Reply) (a b : At C P) → DidLine g pools device blocks o r a b → IsAlone device a.party → (shard : ℕ)
-      → now_of g shard b.party ≡ shards_after (λ i. now_of g i a.party) (shard_of_line g.shards blocks o) (events_of blocks (now_of g (shard_of_line g.shards blocks o) a.party) a.kept o r) shard
+      → now_of g shard b.party ≡ shards_after g.shards blocks (λ i. now_of g i a.party) a.kept o r shard
   line-now o r a b did alone shard =
-      let adds = did.did.alone alone in
-      let here : ℕ = shard_of_line g.shards blocks o in
-      let es : List Event = events_of blocks (now_of g here a.party) a.kept o r in
-      dite (ℕ_discrete shard here)
-      (λ is. rw (eq-eqb shard here is) (subst (λ (n : ℕ). now_of g n b.party ≡ replay (now_of g n a.party) es) (sym is) (ap (replay (opening_of g)) adds.here ∙ replay-append (opening_of g) (seen_of g here a.party) es)))
-      (λ differs. rw (ne_eqb shard here differs) (ap (replay (opening_of g)) (adds.others shard differs)))
+      let es : List Event = events_there g.shards blocks shard (now_of g shard a.party) a.kept o r in
+      ap (replay (opening_of g)) (did.did.alone alone shard) ∙ replay-append (opening_of g) (seen_of g shard a.party) es
 
   -- it has seen the events of its lines more, in each shard
   pub lines-seen : (os : List Op) (rs : List Reply) (a b : At C P) → DidLines g pools device blocks os rs a b → IsAlone device a.party → (shard : ℕ)
@@ -149,15 +134,14 @@ module _ {C P : Type 0} (g : Config) (pools : Ghosts P) (device : ℕ) (blocks :
   lines-seen (o ∷ os) (r ∷ rs) a b did alone shard =
       let next = did.0 in
       let one = did.1 in
-      let here : ℕ = shard_of_line g.shards blocks o in
-      let es : List Event = events_of blocks (now_of g here a.party) a.kept o r in
+      let now : ℕ → PlainShard = λ i. now_of g i a.party in
       let rest = lines-seen os rs next b did.2 (all-then a.party next.party one.did.all alone) shard in
-      let same : (λ (i : ℕ). now_of g i next.party) ≡ shards_after (λ i. now_of g i a.party) here es = λ h i. line-now o r a next one alone i h in
-      let more : List Event = if shard == here then es else [] in
+      let same : (λ (i : ℕ). now_of g i next.party) ≡ shards_after g.shards blocks now a.kept o r = λ h i. line-now o r a next one alone i h in
+      let more : List Event = events_there g.shards blocks shard (now shard) a.kept o r in
       rest
       ∙ ((λ h. seen_of g shard next.party ++ events_over g.shards blocks (same h) (one.kept h) shard os rs)
-      ∙ (ap (λ (l : List Event). l ++ events_over g.shards blocks (shards_after (λ i. now_of g i a.party) here es) (kept_after blocks o r a.kept) shard os rs) (line-seen o r a next one alone shard)
-      ∙ append_assoc (seen_of g shard a.party) more (events_over g.shards blocks (shards_after (λ i. now_of g i a.party) here es) (kept_after blocks o r a.kept) shard os rs)))
+      ∙ (ap (λ (l : List Event). l ++ events_over g.shards blocks (shards_after g.shards blocks now a.kept o r) (kept_after blocks o r a.kept) shard os rs) (one.did.alone alone shard)
+      ∙ append_assoc (seen_of g shard a.party) more (events_over g.shards blocks (shards_after g.shards blocks now a.kept o r) (kept_after blocks o r a.kept) shard os rs)))
 
   -- each answered read names where its access found the bytes
   pub lines-found : (os : List Op) (rs : List Reply) (a b : At C P) → DidLines g pools device blocks os rs a b → IsAlone device a.party
@@ -168,16 +152,14 @@ module _ {C P : Type 0} (g : Config) (pools : Ghosts P) (device : ℕ) (blocks :
   lines-found (o ∷ os) (r ∷ rs) a b did alone =
       let next = did.0 in
       let one = did.1 in
-      let here : ℕ = shard_of_line g.shards blocks o in
-      let es : List Event = events_of blocks (now_of g here a.party) a.kept o r in
       let rest = lines-found os rs next b did.2 (all-then a.party next.party one.did.all alone) in
-      let same : (λ (i : ℕ). now_of g i next.party) ≡ shards_after (λ i. now_of g i a.party) here es = λ h i. line-now o r a next one alone i h in
+      let same : (λ (i : ℕ). now_of g i next.party) ≡ shards_after g.shards blocks (λ i. now_of g i a.party) a.kept o r = λ h i. line-now o r a next one alone i h in
       (one.found alone, subst (λ (x : (ℕ → PlainShard) × List KeptRead). AllLinesOver (λ s kept op reply. IsFoundAs blocks s op reply) g.shards blocks x.0 x.1 os rs) (λ h. (same h, one.kept h)) rest)
 
   -- ---- each has its answer
 
   -- the answers so far, and those to what is left
-  lines-each : (pool_len : ℕ) (image : Option (List ℕ)) (caller : ℕ) (all : List Op) → ((k : ℕ) (op : Op) → slice_get all k ≡ Some op → caller_of op ≡ caller)
+  lines-each : (pool_len : ℕ) (image : Option (List ℕ)) (caller : ℕ) (all : List Op) → ((k : ℕ) (op : Op) → slice_get all k ≡ Some op → IfSome (caller_of op) (λ n. n ≡ caller))
       → (done os : List Op) (replied rs : List Reply) (a b : At C P) → all ≡ done ++ os → length replied ≡ length done → pools.size a.pool ≡ pool_len → pools.told a.pool ≡ image
       → IsTally caller (take (length replied) all) replied a.kept → EachAnswers pool_len image blocks all replied → DidLines g pools device blocks os rs a b → EachAnswers pool_len image blocks all (replied ++ rs)
   lines-each pool_len image caller all own done [] replied [] a b is count size told tally each did = subst (EachAnswers pool_len image blocks all) (sym (append-nil replied)) each
@@ -188,7 +170,7 @@ module _ {C P : Type 0} (g : Config) (pools : Ghosts P) (device : ℕ) (blocks :
       let one = did.1 in
       let answer : AnswersNow pool_len image blocks a.kept o r = subst (λ (x : ℕ × Option (List ℕ)). AnswersNow x.0 x.1 blocks a.kept o r) (λ h. (size h, told h)) one.answer in
       let here : slice_get all (length replied) ≡ Some o = ap (λ (l : List Op). slice_get l (length replied)) is ∙ (ap (slice_get (done ++ o ∷ os)) count ∙ get-after done os o) in
-      let his : caller_of o ≡ caller = own (length replied) o here in
+      let his : IfSome (caller_of o) (λ n. n ≡ caller) = own (length replied) o here in
       let more : length replied + 1 ≡ length (replied ++ r ∷ []) = let l = length-append replied (r ∷ []) in omega arith in
       let now : EachAnswers pool_len image blocks all (replied ++ r ∷ []) = more_answers pool_len image blocks all replied o r here each (to_answer pool_len image blocks caller (take (length replied) all) replied a.kept o r tally his answer) in
       let tally_then : IsTally caller (take (length (replied ++ r ∷ [])) all) (replied ++ r ∷ []) next.kept =
@@ -198,7 +180,7 @@ module _ {C P : Type 0} (g : Config) (pools : Ghosts P) (device : ℕ) (blocks :
       (one.keeps.size ∙ size) (one.keeps.told ∙ told) tally_then now did.2)
 
   -- all lines of a caller that kept nothing
-  pub lines-answered : (caller : ℕ) (os : List Op) (rs : List Reply) (a b : At C P) → ((k : ℕ) (op : Op) → slice_get os k ≡ Some op → caller_of op ≡ caller) → a.kept ≡ []
+  pub lines-answered : (caller : ℕ) (os : List Op) (rs : List Reply) (a b : At C P) → ((k : ℕ) (op : Op) → slice_get os k ≡ Some op → IfSome (caller_of op) (λ n. n ≡ caller)) → a.kept ≡ []
       → DidLines g pools device blocks os rs a b → AnswersAll (pools.size a.pool) (pools.told a.pool) blocks os rs
   lines-answered caller os rs a b own none did = record {
     all = lines-length os rs a b did;

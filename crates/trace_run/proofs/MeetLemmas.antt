@@ -1,12 +1,15 @@
 -- What parties have seen once one has joined another: all that either had, and behind it no event of their own.
-use Rattle.std.proofs.Common.{◌≡◌, ◌≢◌, ℕ, zero, suc, ◌+◌, ◌<◌, ◌≤◌, List, [], ◌∷◌, ◌++◌, length, map, drop, refl, sym, ap, ◌∙◌, subst, inl, inr, arith, append-nil, append_assoc, length-append}
+use Rattle.std.proofs.Common.{◌≡◌, ◌≢◌, ℕ, zero, suc, ◌+◌, ◌<◌, ◌≤◌, List, [], ◌∷◌, ◌++◌, length, map, drop, refl, sym, ap, ◌∙◌, subst, inl, inr, arith, append-nil, append_assoc, length-append, ◌⊎◌}
 use Rattle.std.specs.List.{AllByRecursion}
 use mathlib.Core.Option.{some, some-injective, some-ne-none}
 use lib.ListN.{get_elem?}
 use Rattle.arc_core.specs.declared.config.Config.{Config}
 use Rattle.arc_core.specs.declared.event.Event.{Event}
-use Rattle.arc_core.specs.Operations.{Moment, moments, number_of, own_moments}
+use Rattle.arc_core.specs.Operations.{Act, Moment, Tell, acts_in, moments, number_of, own_events, own_moments}
 use Rattle.arc_core.specs.PlainShard.{PlainShard}
+use Rattle.arc_core.proofs.OwnEvents.{own-events-are}
+use Rattle.blk_ptr.specs.Hash.{shard_of}
+use Rattle.std.proofs.lemmas.Bool.{cases_lt}
 use Rattle.turn_table.proofs.Histories.{both_least, front_both}
 use Rattle.turn_table.specs.declared.standing.Kept.{Kept}
 use Rattle.turn_table.specs.Moments.{WasSo}
@@ -23,13 +26,15 @@ use Rattle.arc_table.specs.Items.{Meanings, lines_in}
 use Rattle.arc_table.specs.Logged.{HasPlace}
 use Rattle.arc_table.specs.Rule.{Pact}
 use Rattle.arc_table.specs.Scene.{Scene}
-use Rattle.arc_table.specs.Seen.{AllSeen, AreSeen, HasSeenItsOwn, events_in, turn_of}
+use Rattle.arc_table.specs.Seen.{AllSeen, AreSeen, HasSeenItsOwn, IsSeen, events_in, seen_of, turn_of}
 use Rattle.arc_table.specs.TableLaws.{get_front, starts_whole, within}
 use Rattle.arc_table.specs.Telling.{opening_of}
 use Rattle.arc_table.specs.Views.{after_learned}
 use Rattle.arc_table.proofs.OwnLemmas.{no-own-moments, own-append, seen-more}
 use Rattle.arc_table.proofs.SeenLemmas.{events-append, get-behind}
-use Rattle.trace_run.specs.Meeting.{AreLast, HasSameOwn, IsLevel, JoinAll, Joins, MayJoin, PartAll}
+use Rattle.arc_table.specs.declared.about.About.{About}
+use Rattle.trace_run.specs.declared.kept_blocks.KeptBlock.{KeptBlock}
+use Rattle.trace_run.specs.Meeting.{AreLast, HasLearned, HasParted, HasSameOwn, IsFed, IsLevel, JoinAll, Joins, MayJoin, PartAll, Waits}
 
 -- ---- lists that begin alike
 
@@ -45,8 +50,20 @@ shorter {A} (p ∷ ps) (q ∷ qs) (z ∷ zs) r s x y le =
     let t = shorter ps qs zs r s first second (omega (arith, le)) in
     (t.0, λ i. same i ∷ t.1 i)
 
+-- the same moments of a number have the same events
+pub same-own-events : (g : Config) (n : ℕ) (es fs : List Event) → own_moments n (moments (opening_of g) fs) ≡ own_moments n (moments (opening_of g) es) → own_events n fs ≡ own_events n es
+same-own-events g n es fs same = sym (own-events-are n (opening_of g) fs) ∙ (ap (map (λ (x : Moment). x.event)) same ∙ own-events-are n (opening_of g) es)
+
 pub starts-then : {A : Type 0} (c b a : List A) → StartsWith c b → StartsWith b a → StartsWith c a
 starts-then c b a outer inner = (inner.0 ++ outer.0, outer.1 ∙ (ap (λ l. l ++ outer.0) inner.1 ∙ append_assoc a inner.0 outer.0))
+
+-- a list that begins with another and is no longer is that one
+no-longer : {A : Type 0} (a b : List A) → StartsWith b a → length b ≤ length a → b ≡ a
+no-longer a b starts le = starts.1 ∙ (ap (λ l. a ++ l) (gone starts.0 (omega (arith, ap length starts.1, length-append a starts.0, le))) ∙ append-nil a)
+  where
+    gone : {A : Type 0} (l : List A) → length l ≡ 0 → l ≡ []
+    gone [] e = refl
+    gone (x ∷ xs) e = absurd (omega (arith, e))
 
 -- a fact of each event among lines
 events-each : (P : Event → Type 0) (ls : List Line) → ((y : ℕ) (e : Event) → get_elem? ls y ≡ some (line.Event e) → P e) → (y : ℕ) (e : Event) → get_elem? (events_in ls) y ≡ some e → P e
@@ -147,17 +164,65 @@ module _ {C : Type 0} (m : Meanings C) (g : Config) (r o : Place (Known C)) (w :
   pub same-joined : (k : Kept (Known C)) → get_elem? w.board.views k.number ≡ some k.view → AreSeen g k.number k.view.mine r.own.seen → HasSameOwn g k.number r.own.seen both
   same-joined k shown own i = same-moments m g before w k.number k.view shown r.own.seen own i (front_of (turn_of g i) both) (in-now (turn_of g i)) (grows-r (turn_of g i))
 
+-- where the party that joined has seen all lines that both made, and no other number is, nothing stands behind what it had seen
+module _ {C : Type 0} (m : Meanings C) (g : Config) (r o : Place (Known C)) (w : WasSo (Pact m) (met r o r.own)) (alone : o.joined ≡ [])
+    (all : (n : ℕ) → n < parties_of g → (n ≡ r.number) ⊎ (n ≡ o.number)) (config : r.own.about.config ≡ g)
+    (own : AreSeen g o.number o.own.mine o.own.seen) (other : AreSeen g r.number r.own.mine o.own.seen) where
+  abbrev at-join : Place (Known C)
+  at-join = met r o r.own
+
+  abbrev then-lines : ℕ → List Line
+  then-lines = lines m g at-join w
+
+  abbrev known-o : ℕ → List Line
+  known-o i = front_of (turn_of g i) o.own.seen
+
+  view-r : IsShown (scene m g at-join w) r.number r.own
+  view-r = w.held.attached.views r.number r.own w.stands.shows.0
+
+  view-o : IsShown (scene m g at-join w) o.number o.own
+  view-o = w.held.attached.views o.number o.own w.stands.shows.1.0
+
+  same-config : (scene m g at-join w).about.config ≡ g
+  same-config = ap (λ (a : About). a.config) (sym view-r.about) ∙ config
+
+  -- each line has a place that it had seen
+  seen-line : (i x : ℕ) → x < length (then-lines (turn_of g i)) → x < length (known-o i)
+  seen-line i x below =
+      let h = w.held.logged.places (turn_of g i) x below in
+      let party : (scene m g at-join w).owner (turn_of g i) x < parties_of g = subst (λ (c : Config). (scene m g at-join w).owner (turn_of g i) x < parties_of c) same-config h.party in
+      elim (all ((scene m g at-join w).owner (turn_of g i) x) party) [
+        | inl is ↦
+            let mine : get_elem? r.own.mine h.index ≡ some h.line = ap (λ (l : List Mine). get_elem? l h.index) view-r.mine ∙ (ap (λ (n : ℕ). get_elem? ((scene m g at-join w).mine n) h.index) (sym is) ∙ h.at) in
+            placed i x h.line h.place (other i h.index h.line mine h.turn)
+        | inr is ↦
+            let mine : get_elem? o.own.mine h.index ≡ some h.line = ap (λ (l : List Mine). get_elem? l h.index) view-o.mine ∙ (ap (λ (n : ℕ). get_elem? ((scene m g at-join w).mine n) h.index) (sym is) ∙ h.at) in
+            placed i x h.line h.place (own i h.index h.line mine h.turn)
+      ]
+    where
+      placed : {n : ℕ} (i x : ℕ) (a : Mine) → a.place ≡ x → IsSeen (parties_of g) n (known-o i) a.place → x < length (known-o i)
+      placed i x a is seen = subst (λ (k : ℕ). k < length (known-o i)) is (within (known-o i) a.place (line.Event seen.event) seen.there)
+
+  no-more : (i : ℕ) → length (then-lines (turn_of g i)) ≤ length (known-o i)
+  no-more i = elim (cases_lt (length (known-o i)) (length (then-lines (turn_of g i)))) [
+    | inl more ↦ absurd (omega (arith, seen-line i (length (known-o i)) more))
+    | inr le ↦ le
+  ]
+
+  -- so both have just that then
+  pub joined-front : (i : ℕ) → front_of (turn_of g i) (seen_by_both r.own.seen o.own.seen) ≡ known-o i
+  joined-front i =
+      let grown = grows-o m g r o w (turn_of g i) in
+      let inside = in-now m g r o w (turn_of g i) in
+      no-longer (known-o i) (front_of (turn_of g i) (seen_by_both r.own.seen o.own.seen)) grown
+      (omega (arith, no-more i, ap length inside.1, length-append (front_of (turn_of g i) (seen_by_both r.own.seen o.own.seen)) inside.0))
+
 -- ---- all others join
 
 -- what is kept of parties that joined by themselves, the first of them last
 abbrev pub joined_of : {C : Type 0} → List (Place (Known C)) → List (Kept (Known C))
 joined_of [] = []
 joined_of (o ∷ os) = kept o.number o.own 0 ∷ joined_of os
-
--- q has seen all that o had, and behind it no event of o's own
-pub record HasLearned {C : Type 0} (g : Config) (o q : Place (Known C)) : Type 0 where
-  pub starts : (i : ℕ) → StartsWith (front_of (turn_of g i) q.own.seen) (front_of (turn_of g i) o.own.seen)
-  pub own : HasSameOwn g o.number o.own.seen q.own.seen
 
 pub are-seen-more : (g : Config) (n : ℕ) (mines : List Mine) (s t : List (List Line)) → ((i : ℕ) → StartsWith (front_of (turn_of g i) t) (front_of (turn_of g i) s)) → AreSeen g n mines s → AreSeen g n mines t
 are-seen-more g n mines s t more seen i j a at is = seen-more (parties_of g) n (front_of (turn_of g i) t) (front_of (turn_of g i) s) a.place (more i) (seen i j a at is)
@@ -290,20 +355,83 @@ module _ {C : Type 0} where
   are-last [] = tt
   are-last (o ∷ os) = (refl, refl, are-last os)
 
--- a list that begins with another and is no longer is that one
-no-longer : {A : Type 0} (a b : List A) → StartsWith b a → length b ≤ length a → b ≡ a
-no-longer a b starts le = starts.1 ∙ (ap (λ l. a ++ l) (gone starts.0 (omega (arith, ap length starts.1, length-append a starts.0, le))) ∙ append-nil a)
-  where
-    gone : {A : Type 0} (l : List A) → length l ≡ 0 → l ≡ []
-    gone [] e = refl
-    gone (x ∷ xs) e = absurd (omega (arith, e))
-
 -- what a party has seen once it has parted from one that had seen more
 pub parted-front : (t : ℕ) (s u : List (List Line)) → StartsWith (front_of t u) (front_of t s) → front_of t (seen_by_both s u) ≡ front_of t u
 parted-front t s u starts = elim (front_both t s u) [
   | inl is ↦ is ∙ sym (no-longer (front_of t s) (front_of t u) starts (omega (arith, (both_least t s u).1, ap length is)))
   | inr is ↦ is
 ]
+
+-- what begins with lines begins with their events
+pub starts-events : (h f : List Line) → StartsWith h f → StartsWith (events_in h) (events_in f)
+starts-events h f starts = (events_in starts.0, ap events_in starts.1 ∙ events-append f starts.0)
+
+-- ---- another party parts from r, which has made since nothing of its number
+
+module _ {C : Type 0} (cache : Cache) (q r o : Place (Known C)) (learned : HasLearned cache.config o q) (of : IsPartyOf cache r)
+    (more : (i : ℕ) → StartsWith (front_of (turn_of cache.config i) r.own.seen) (front_of (turn_of cache.config i) q.own.seen))
+    (unmade : (shard : ℕ) → own_moments o.number (moments (opening_of cache.config) (seen_of cache.config shard r)) ≡ own_moments o.number (moments (opening_of cache.config) (seen_of cache.config shard q))) where
+  abbrev parting : Place (Known C)
+  parting = parted_from r o
+
+  abbrev r-front : ℕ → List Line
+  r-front i = front_of (turn_of cache.config i) r.own.seen
+
+  all-starts : (i : ℕ) → StartsWith (r-front i) (front_of (turn_of cache.config i) o.own.seen)
+  all-starts i = starts-then (r-front i) (front_of (turn_of cache.config i) q.own.seen) (front_of (turn_of cache.config i) o.own.seen) (more i) (learned.starts i)
+
+  x-front : (i : ℕ) → front_of (turn_of cache.config i) parting.own.seen ≡ r-front i
+  x-front i = parted-front (turn_of cache.config i) o.own.seen r.own.seen (all-starts i)
+
+  x-starts : (i : ℕ) → StartsWith (front_of (turn_of cache.config i) parting.own.seen) (front_of (turn_of cache.config i) o.own.seen)
+  x-starts i = subst (λ (l : List Line). StartsWith l (front_of (turn_of cache.config i) o.own.seen)) (sym (x-front i)) (all-starts i)
+
+  x-own : HasSameOwn cache.config o.number o.own.seen parting.own.seen
+  x-own shard = ap (λ (l : List Line). own_moments o.number (moments (opening_of cache.config) (events_in l))) (x-front shard) ∙ (unmade shard ∙ learned.own shard)
+
+  pub parted-then : HasParted cache r-front o parting
+  parted-then = record {
+    level = x-front;
+    number = refl;
+    alone = refl;
+    stands = λ kept stands. record {
+      valid = stands.valid;
+      of = record { row = of.row; config = stands.of.config };
+      free = refl;
+      cells = stands.cells;
+      idle = stands.idle;
+      unclaimed = stands.unclaimed;
+      seen = record { own = are-seen-more cache.config o.number o.own.mine o.own.seen parting.own.seen x-starts stands.seen.own; joined = tt };
+      apart = tt;
+      joined = tt;
+      owned = stands.owned;
+      listed = stands.listed;
+    };
+    own = x-own;
+    starts = λ shard. starts-events (front_of (turn_of cache.config shard) parting.own.seen) (front_of (turn_of cache.config shard) o.own.seen) (x-starts shard);
+  }
+
+-- a party that waits still does once it has parted
+pub parted-waits : {C : Type 0} (cache : Cache) (lines : ℕ → List Line) (old new : Place (Known C)) → HasParted cache lines old new → (n : ℕ) (acts : List Act) (kept : List KeptBlock) → Waits cache n acts kept old → Waits cache n acts kept new
+parted-waits cache lines old new parted n acts kept waits = record {
+  number = parted.number ∙ waits.number;
+  alone = parted.alone;
+  stands = parted.stands kept waits.stands;
+  told = λ shard. subst (λ (k : ℕ). Tell (acts_in (shard_of cache.config.shards) shard k acts) (own_moments k (moments (opening_of cache.config) (seen_of cache.config shard new)))) (sym parted.number)
+      (subst (Tell (acts_in (shard_of cache.config.shards) shard old.number acts)) (sym (parted.own shard)) (waits.told shard));
+}
+
+-- and the feeder's has made what it had
+pub parted-fed : {C : Type 0} (cache : Cache) (lines : ℕ → List Line) (old new : Place (Known C)) → HasParted cache lines old new → (fed since : (shard : ℕ) → List Event) → IsFed cache fed since old → IsFed cache fed since new
+parted-fed cache lines old new parted fed since is = record {
+  number = parted.number ∙ is.number;
+  alone = parted.alone;
+  stands = parted.stands [] is.stands;
+  fed = λ shard below.
+      ap (λ (k : ℕ). own_events k (seen_of cache.config shard new)) parted.number
+      ∙ (same-own-events cache.config old.number (seen_of cache.config shard old) (seen_of cache.config shard new) (parted.own shard) ∙ is.fed shard below);
+  since = λ shard. starts-then (seen_of cache.config shard new) (seen_of cache.config shard old) (since shard) (parted.starts shard) (is.since shard);
+}
 
 -- ---- lists by their ends
 

@@ -14,9 +14,9 @@ use Rattle.trace_text.specs.declared.reply.Reply.{Reply}
 use Rattle.trace_run.specs.KeptReads.{KeptRead}
 use Rattle.trace_run.specs.Access.{events_of_drop}
 use Rattle.trace_run.specs.KeptBlocks.{holds_in}
-use Rattle.trace_run.specs.Lines.{is_in_shard, replies_where}
+use Rattle.trace_run.specs.Lines.{is_in_shard, replies_where, shard_of_block}
 use Rattle.trace_run.specs.OneCaller.{events_of_all, events_of_drops, kept_after_all, one_caller_history}
-use Rattle.trace_run.specs.OverShards.{AreNamed, IsNamed, events_over, kept_in_shard, shard_of_block}
+use Rattle.trace_run.specs.OverShards.{AreNamed, IsNamed, events_over, kept_in_shard}
 use Rattle.trace_run.proofs.OverShardLemmas.{events-over, kept-over}
 
 module _ (g : Config) (blocks : List Ptr) (n shard : ℕ) where

@@ -1,9 +1,8 @@
 -- One caller's lines over several shards: each shard's history is that of the lines on its blocks.
-use Rattle.std.proofs.Common.{◌≡◌, ℕ, ◌==◌, Bool, true, false, List, [], ◌∷◌, ◌++◌, Option, Some, None, inl, inr, refl, ap, ◌∙◌, arith, append-nil}
+use Rattle.std.proofs.Common.{◌≡◌, ℕ, ◌==◌, Bool, true, false, if◌then◌else◌, List, [], ◌∷◌, ◌++◌, Option, Some, None, inl, inr, refl, ap, ◌∙◌, append-nil}
 use Rattle.std.specs.Prelude.{filter, find, slice_get, option_and_then}
 use Rattle.std.specs.Option.{option_map_or}
 use Rattle.std.proofs.lemmas.Bool.{eqb-true}
-use Rattle.std.proofs.lemmas.Bool.Decides.{nat_tests}
 use Rattle.std.proofs.lemmas.List.Elements.{filter-append}
 use Rattle.arc_lists.proofs.Tables.{cases_true}
 use Rattle.blk_ptr.specs.declared.ptr.Ptr.{Ptr}
@@ -16,9 +15,9 @@ use Rattle.trace_text.specs.declared.reply.Reply.{Reply}
 use Rattle.trace_run.specs.KeptReads.{KeptRead}
 use Rattle.trace_run.specs.Access.{events_of_drop}
 use Rattle.trace_run.specs.Effects.{Effect, Answered, GivenBack, PoolRefused, NoEffect, effect_of}
-use Rattle.trace_run.specs.Lines.{is_in_shard, replies_where, shard_of_line}
-use Rattle.trace_run.specs.OneCaller.{events_of, events_of_all, events_of_dropping, is_of_block, kept_after, kept_after_all, kept_after_drop, kept_after_hold, without_oldest}
-use Rattle.trace_run.specs.OverShards.{events_over, kept_in_shard, shard_of_block}
+use Rattle.trace_run.specs.Lines.{is_in_shard, replies_where, shard_of_block}
+use Rattle.trace_run.specs.OneCaller.{events_of, events_of_all, events_of_dropping, events_there, is_of_block, kept_after, kept_after_all, kept_after_drop, kept_after_hold, without_oldest}
+use Rattle.trace_run.specs.OverShards.{events_over, kept_in_shard}
 use Rattle.trace_run.specs.PlainRun.{shards_after}
 
 -- ---- the kept reads of one shard
@@ -122,18 +121,13 @@ module _ (shards : ℕ) (blocks : List Ptr) (i : ℕ) where
       go NoEffect = refl
   events-here s other reply kept is = refl
 
-  -- ---- the shards after a line
+  -- what a line makes in the shard, where it is done there or not
+  pub there-here : (s : PlainShard) (op : Op) (reply : Reply) (kept : List KeptRead) → is_in_shard shards blocks i op ≡ true
+      → events_there shards blocks i s kept op reply ≡ events_of blocks s (kept_in_shard shards blocks i kept) op reply
+  there-here s op reply kept is = ap (λ (b : Bool). if b then events_of blocks s kept op reply else []) is ∙ events-here s op reply kept is
 
-  pub same-shard : (s : ℕ → PlainShard) (j : ℕ) (es : List Event) → (j == i) ≡ true → shards_after s j es i ≡ replay (s i) es
-  same-shard s j es is =
-      let e : j ≡ i = eqb-true j i is in
-      let t : (i == j) ≡ true = grind (arith, nat_tests, e) in
-      rw t refl
-
-  pub other-shard : (s : ℕ → PlainShard) (j : ℕ) (es : List Event) → (j == i) ≡ false → shards_after s j es i ≡ s i
-  other-shard s j es is =
-      let t : (i == j) ≡ false = grind (arith, nat_tests, is) in
-      rw t refl
+  pub there-else : (s : PlainShard) (op : Op) (reply : Reply) (kept : List KeptRead) → is_in_shard shards blocks i op ≡ false → events_there shards blocks i s kept op reply ≡ []
+  there-else s op reply kept is = ap (λ (b : Bool). if b then events_of blocks s kept op reply else []) is
 
 -- ---- all lines, in one shard
 
@@ -149,26 +143,19 @@ module _ (shards : ℕ) (blocks : List Ptr) (i : ℕ) where
       nothing [] = refl
       nothing (o ∷ l) = refl
   events-over s kept (op ∷ os) (reply ∷ replies) =
-      let j = shard_of_line shards blocks op in
-      let es = events_of blocks (s j) kept op reply in
-      let rest = events-over (shards_after s j es) (kept_after blocks op reply kept) os replies in
+      let rest = events-over (shards_after shards blocks s kept op reply) (kept_after blocks op reply kept) os replies in
+      let all : PlainShard × List KeptRead → List Event = λ x. events_of_all blocks x.0 x.1 (filter (is_in_shard shards blocks i) os) (replies_where (is_in_shard shards blocks i) os replies) in
       elim (cases_true (is_in_shard shards blocks i op)) [
         | inl in_it ↦
-            let same : j ≡ i = eqb-true j i in_it in
-            let test : (i == j) ≡ true = grind (arith, nat_tests, same) in
-            let events : es ≡ events_of blocks (s i) (kept_in_shard shards blocks i kept) op reply =
-            ap (λ (n : ℕ). events_of blocks (s n) kept op reply) same ∙ events-here shards blocks i (s i) op reply kept in_it in
-            rw (test, in_it)
-            (ap (λ (l : List Event). es ++ l)
-            (rest ∙ ap (λ (x : PlainShard × List KeptRead). events_of_all blocks x.0 x.1 (filter (is_in_shard shards blocks i) os) (replies_where (is_in_shard shards blocks i) os replies))
-            (λ k. ((same-shard shards blocks i s j es in_it ∙ ap (replay (s i)) events) k, kept-here shards blocks i op reply kept in_it k)))
-            ∙ ap (λ (l : List Event). l ++ events_of_all blocks (replay (s i) (events_of blocks (s i) (kept_in_shard shards blocks i kept) op reply)) (kept_after blocks op reply (kept_in_shard shards blocks i kept))
-            (filter (is_in_shard shards blocks i) os) (replies_where (is_in_shard shards blocks i) os replies)) events)
+            let events = there-here shards blocks i (s i) op reply kept in_it in
+            (λ k. events k ++ rest k)
+            ∙ (ap (λ (x : PlainShard × List KeptRead). events_of blocks (s i) (kept_in_shard shards blocks i kept) op reply ++ all x) (λ k. (replay (s i) (events k), kept-here shards blocks i op reply kept in_it k))
+            ∙ rw in_it refl)
         | inr out ↦
-            let test : (i == j) ≡ false = grind (arith, nat_tests, out) in
-            rw (test, out)
-            (rest ∙ ap (λ (x : PlainShard × List KeptRead). events_of_all blocks x.0 x.1 (filter (is_in_shard shards blocks i) os) (replies_where (is_in_shard shards blocks i) os replies))
-            (λ k. (other-shard shards blocks i s j es out k, kept-else shards blocks i op reply kept out k)))
+            let none = there-else shards blocks i (s i) op reply kept out in
+            (λ k. none k ++ rest k)
+            ∙ (ap all (λ k. (replay (s i) (none k), kept-else shards blocks i op reply kept out k))
+            ∙ rw out refl)
       ]
 
   -- so are the reads that are kept

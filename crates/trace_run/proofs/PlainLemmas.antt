@@ -26,7 +26,7 @@ use Rattle.trace_run.specs.Answering.{IsReadOfImage, KeepsImage, ReadsImage}
 use Rattle.trace_run.specs.Answers.{AnswersDrop, AnswersHold, AnswersRead}
 use Rattle.trace_run.specs.Effects.{calls_from, calls_of, effect_of}
 use Rattle.trace_run.specs.Lines.{shard_of_line}
-use Rattle.trace_run.specs.OneCaller.{IsFoundAs, NamesSource, events_of, kept_after, oldest_kept}
+use Rattle.trace_run.specs.OneCaller.{IsFoundAs, NamesSource, kept_after, oldest_kept}
 use Rattle.trace_run.specs.PlainLines.{IsNext, IsPlainLine}
 use Rattle.trace_run.specs.PlainRun.{key_fault, next_call, refused_access, replies_to, reply_to, reply_to_drop, reply_to_hold, reply_to_read, shards_after}
 use Rattle.vdev_io.specs.Calls.{Failed, Gave, Call}
@@ -153,6 +153,7 @@ plain-line image blocks s kept (ops.Read n t x window) reply answer found read =
 plain-line image blocks s kept (ops.Hold n t x) reply answer found read = λ call next.
     rw answer.1 (plain-hold image s answer.0 reply call answer.2 (rw answer.1 at found) (rw answer.1 at read) next)
 plain-line image blocks s kept (ops.Drop n x) reply answer found read = λ call next. plain-drop x kept reply answer
+plain-line image blocks s kept (ops.Cap c) reply answer found read = λ call next. answer
 plain-line image blocks s kept other reply answer found read = absurd answer
 
 -- ---- all replies
@@ -186,10 +187,10 @@ plain-gives image shards blocks s kept (o ∷ os) calls all =
     let shard = shard_of_line shards blocks o in
     let next : Call → List Call → List Reply = λ call cs.
     let reply = reply_to image blocks (s shard) kept o call in
-    reply ∷ replies_to image shards blocks (shards_after s shard (events_of blocks (s shard) kept o reply)) (kept_after blocks o reply kept) os (drop (length (calls_of (effect_of reply))) cs) in
+    reply ∷ replies_to image shards blocks (shards_after shards blocks s kept o reply) (kept_after blocks o reply kept) os (drop (length (calls_of (effect_of reply))) cs) in
     let reply = reply_to image blocks (s shard) kept o Gave in
     let count = length (calls_of (effect_of reply)) in
-    let after = shards_after s shard (events_of blocks (s shard) kept o reply) in
+    let after = shards_after shards blocks s kept o reply in
     let left = kept_after blocks o reply kept in
     let gone : replies_to image shards blocks after left os (drop count calls) ≡ replies_to image shards blocks after left os (drop count []) =
     plain-gives image shards blocks after left os (drop count calls) (drop-gives count calls all)

@@ -116,6 +116,7 @@ module _ (image : List ℕ) where
       let range : CameFromPool (effect_of reply) → KeepsImage image is.answer.0 reply = rw at at is.range in
       rw at (hold-brings n t s is.answer.0 (effect_of reply) (rw at at is.found) (hold-came is.answer.0 reply is.answer.2 range))
   line-brings blocks s kept (ops.Drop n x) reply is = drop-brings n x kept (effect_of reply)
+  line-brings blocks s kept (ops.Cap c) reply is = (tt, tt)
   line-brings blocks s kept other reply is = tt
 
   -- ---- what a read shows
@@ -214,4 +215,5 @@ module _ (image : List ℕ) where
       let keeps : IsReadOfImage image blocks (ops.Hold n t x) reply = rw at (keeps-told s ptr reply is.answer.2 (rw at at is.found) told range) in
       plain-line image blocks s kept (ops.Hold n t x) reply is.answer is.found keeps call next
   line-plain blocks s kept (ops.Drop n x) reply call is told next = plain-line image blocks s kept (ops.Drop n x) reply is.answer is.found tt call next
+  line-plain blocks s kept (ops.Cap c) reply call is told next = is.answer
   line-plain blocks s kept other reply call is told next = absurd is.answer

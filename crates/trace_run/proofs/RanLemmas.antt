@@ -1,8 +1,9 @@
 -- What a run over the shared cache came to is what its report has to say.
-use Rattle.std.proofs.Common.{◌≡◌, ℕ, ◌+◌, ◌<◌, ◌≤◌, ◌^◌, Bool, false, List, [], ◌∷◌, length, Some, IfSome, refl, sym, ap, subst, ◌∙◌, arith}
+use Rattle.std.proofs.Common.{◌≡◌, ℕ, ◌+◌, ◌<◌, ◌≤◌, ◌^◌, Bool, true, false, List, [], ◌∷◌, length, Some, IfSome, refl, sym, ap, subst, ◌∙◌, arith}
 use Rattle.arc_core.specs.declared.event.Event.{Event}
 use Rattle.arc_table.specs.Ended.{Ended}
 use Rattle.trace_text.specs.Grammar.{IsFormed}
+use Rattle.trace_text.specs.declared.op.Op.{Op}
 use Rattle.trace_text.specs.declared.reply.Reply.{Reply}
 use Rattle.trace_text.specs.declared.report.Report.{Report}
 use Rattle.trace_text.specs.declared.trace.Trace.{Trace}
@@ -15,7 +16,7 @@ use Rattle.trace_run.specs.GroupRun.{RanTogether}
 use Rattle.trace_run.specs.Outcome.{IsRun}
 use Rattle.trace_run.specs.PlainReport.{IsPlainReport}
 use Rattle.trace_run.specs.PlainRun.{report_of, report_with}
-use Rattle.trace_run.specs.Together.{report_of_closed}
+use Rattle.trace_run.specs.Together.{WorkInGroups, groups_of, report_of_closed}
 use Rattle.trace_run.proofs.AlonePlainLemmas.{plain-alone}
 use Rattle.trace_run.proofs.ReportLemmas.{report-is}
 use Rattle.trace_run.proofs.RunLemmas.{calls-faults, calls-few, calls-reads, failed-all}
@@ -77,7 +78,15 @@ module _ {C P : Type 0} (pools : Ghosts P) (before after : P) (trace : Trace) (r
     reads = ran.reads;
     faults = ran.faults;
     alone = λ one. absurd (omega (arith, two, one));
-    together = λ _ some whole. ran.together some whole;
-    idle = ran.idle;
+    together = λ _. ran.together;
+    idle = λ none. let whole = no-fork none fork_failed refl in (
+      whole,
+      ran.together.whole whole ∙ subst (λ (os : List Op). WorkInGroups pools trace.config.callers (groups_of os replies) before ran.together.reached) none ran.together.groups,
+    );
     failed = ran.failed;
   }
+    where
+      -- no line, no group
+      no-fork : trace.ops ≡ [] → (b : Bool) → fork_failed ≡ b → fork_failed ≡ false
+      no-fork none false is = is
+      no-fork none true is = let some_of = (ran.failed is).1.some in absurd (omega (arith, some_of, ap length none))

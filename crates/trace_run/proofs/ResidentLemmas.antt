@@ -14,8 +14,8 @@ use Rattle.arc_core.specs.declared.event.Event.TheVariants.{Pass, Hit, Miss, Arr
 use Rattle.arc_core.specs.Changes.{changed, come, gone, off_sequence, one_less}
 use Rattle.arc_core.specs.PlainShard.{PlainShard, entry_key, entry_of, place_of, resident_digest}
 use Rattle.arc_core.specs.Replay.{replay}
-use Rattle.arc_core.specs.Rules.{dropped, evicted, evicted_entry, evicting, next_dropped, next_evicted, trimming, with_room, with_target_for}
-use Rattle.arc_core.specs.Step.{after, arrived, hit_entry, read_entry, taken_in}
+use Rattle.arc_core.specs.Rules.{dropped, evicted, evicted_entry, evicting, next_dropped, next_evicted, resized, trimming, with_room, with_target_for}
+use Rattle.arc_core.specs.Step.{after, arrived, fitted, hit_entry, read_entry, taken_in}
 use Rattle.arc_core.proofs.Accesses.{accessed-keeps}
 use Rattle.arc_core.proofs.EntriesAfter.{given_back-entries, hit-key}
 use Rattle.arc_core.proofs.Evictions.{at_head-entries}
@@ -29,7 +29,7 @@ module _ (image : List ℕ) where
   abbrev pub AreTold : List Entry → Type 0
   AreTold es = AllByRecursion IsToldEntry es
 
-  -- the event is one of a caller's reads or drops, and where it brings bytes, they have the digest of the told ones
+  -- the event is one of a caller's reads or drops, or a new capacity; and where it brings bytes, they have the digest of the told ones
   abbrev pub Brings : Event → Type 0
   Brings (Pass n k owner) = ⊥
   Brings (Hit n k t) = Unit {0}
@@ -47,7 +47,7 @@ module _ (image : List ℕ) where
   Brings (Leave n k why) = ⊥
   Brings (Clear n k) = ⊥
   Brings (Restore n k place d) = ⊥
-  Brings (Resize n c) = ⊥
+  Brings (Resize n c) = Unit {0}
 
   -- ---- an entry is changed, comes or goes
 
@@ -102,6 +102,9 @@ module _ (image : List ℕ) where
       let room : AreTold roomy.entries = told-evicting (length out.entries) e.key.size out (All-without entry_key IsToldEntry e.key s.entries told) in
       told-trimming (length (come e roomy).entries) (come e roomy) (All-with_item entry_key IsToldEntry e roomy.entries own room)
 
+  told-fitted : (s : PlainShard) → AreTold s.entries → AreTold (fitted s).entries
+  told-fitted s told = told-trimming _ (with_room 0 s) (told-evicting _ 0 s told)
+
   -- ---- an event, and a history
 
   pub told-after : (s : PlainShard) (e : Event) → Brings e → AreTold s.entries → AreTold (after s e).entries
@@ -123,7 +126,7 @@ module _ (image : List ℕ) where
   told-after s (Leave n k why) brings told = absurd brings
   told-after s (Clear n k) brings told = absurd brings
   told-after s (Restore n k place d) brings told = absurd brings
-  told-after s (Resize n c) brings told = absurd brings
+  told-after s (Resize n c) brings told = told-fitted (resized c s) told
 
   pub told-replay : (s : PlainShard) (es : List Event) → AllByRecursion Brings es → AreTold s.entries → AreTold (replay s es).entries
   told-replay s [] brings told = told

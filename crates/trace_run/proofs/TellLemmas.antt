@@ -1,5 +1,5 @@
 -- The events of one caller's history are its own, and so are its acts.
-use Rattle.std.proofs.Common.{◌≡◌, ℕ, ◌<◌, Bool, true, false, ◌||◌, nat_lt, IsTrue, List, [], ◌∷◌, ◌++◌, Option, Some, None, refl, sym, ap, subst, arith}
+use Rattle.std.proofs.Common.{◌≡◌, ◌⊎◌, ℕ, ◌<◌, Bool, true, false, ◌||◌, nat_lt, IsTrue, IfSome, List, [], ◌∷◌, ◌++◌, Option, Some, None, inl, inr, refl, sym, ap, subst, arith}
 use Rattle.std.specs.Prelude.{filter, slice_get}
 use Rattle.std.specs.List.{AllByRecursion}
 use Rattle.std.specs.Option.{option_map_or}
@@ -22,7 +22,7 @@ use Rattle.trace_run.specs.Access as access
 use Rattle.trace_run.specs.KeptReads.{KeptRead}
 use Rattle.trace_run.specs.Access.{Access, access_of, events_of_answered, events_of_drop, events_of_refused, held_key}
 use Rattle.trace_run.specs.Acts.{acts_of, acts_of_all, acts_of_caller, acts_of_drop, acts_of_dropping, acts_of_drops, acts_of_hold, acts_of_read}
-use Rattle.trace_run.specs.OneCaller.{events_of, events_of_all, events_of_dropping, events_of_drops, events_of_hold, events_of_read, kept_after, kept_after_all, oldest_key, one_caller_history}
+use Rattle.trace_run.specs.OneCaller.{events_of, events_of_all, events_of_dropping, events_of_drops, events_of_hold, events_of_read, kept_after, kept_after_all, oldest_key, one_caller_history, only_feeder}
 use Rattle.trace_run.specs.Effects.{Effect, Answered, GivenBack, PoolRefused, NoEffect, effect_of}
 use Rattle.trace_run.specs.Lines.{caller_of}
 
@@ -42,6 +42,9 @@ is_of_reads (event.Fail n k at) = true
 is_of_reads (event.Drop n k) = true
 is_of_reads (event.Past n k kept) = true
 is_of_reads _ = false
+
+pub some-number : (n m : ℕ) → ◌≡◌ {A = Option ℕ} (Some n) (Some m) → n ≡ m
+some-number n m is = cc
 
 abbrev pub IsMine : ℕ → Event → Type 0
 IsMine n e = (number_of e ≡ n) × (is_pass e ≡ false) × (is_of_reads e ≡ true)
@@ -90,26 +93,41 @@ mine-dropping n x kept GivenBack = mine-drop n (oldest_key x kept)
 mine-dropping n x kept (PoolRefused call) = tt
 mine-dropping n x kept NoEffect = tt
 
-mine-of : (blocks : List Ptr) (s : PlainShard) (kept : List KeptRead) (op : Op) (reply : Reply) → AllByRecursion (IsMine (caller_of op)) (events_of blocks s kept op reply)
-mine-of blocks s kept (ops.Read n t x window) reply = go (slice_get blocks x)
+pub mine-of : (blocks : List Ptr) (s : PlainShard) (kept : List KeptRead) (op : Op) (reply : Reply) (n : ℕ) → caller_of op ≡ Some n → AllByRecursion (IsMine n) (events_of blocks s kept op reply)
+mine-of blocks s kept (ops.Read n t x window) reply m his = subst (λ (k : ℕ). AllByRecursion (IsMine k) (events_of blocks s kept (ops.Read n t x window) reply)) (some-number n m his) (go (slice_get blocks x))
   where
     go : (o : Option Ptr) → AllByRecursion (IsMine n) (option_map_or (λ ptr. events_of_read n t s ptr (effect_of reply)) o [])
     go None = tt
     go (Some ptr) = mine-read n t s ptr (effect_of reply)
-mine-of blocks s kept (ops.Hold n t x) reply = go (slice_get blocks x)
+mine-of blocks s kept (ops.Hold n t x) reply m his = subst (λ (k : ℕ). AllByRecursion (IsMine k) (events_of blocks s kept (ops.Hold n t x) reply)) (some-number n m his) (go (slice_get blocks x))
   where
     go : (o : Option Ptr) → AllByRecursion (IsMine n) (option_map_or (λ ptr. events_of_hold n t s ptr (effect_of reply)) o [])
     go None = tt
     go (Some ptr) = mine-hold n t s ptr (effect_of reply)
-mine-of blocks s kept (ops.Drop n x) reply = mine-dropping n x kept (effect_of reply)
-mine-of blocks s kept other reply = tt
+mine-of blocks s kept (ops.Drop n x) reply m his = subst (λ (k : ℕ). AllByRecursion (IsMine k) (events_of blocks s kept (ops.Drop n x) reply)) (some-number n m his) (mine-dropping n x kept (effect_of reply))
+mine-of blocks s kept other reply m his = cc
 
-mine-all : (n : ℕ) (blocks : List Ptr) (s : PlainShard) (kept : List KeptRead) (os : List Op) (replies : List Reply) → AllByRecursion (λ op. caller_of op ≡ n) os
-    → AllByRecursion (IsMine n) (events_of_all blocks s kept os replies)
-mine-all n blocks s kept [] replies own = tt
-mine-all n blocks s kept (op ∷ os) [] own = tt
-mine-all n blocks s kept (op ∷ os) (reply ∷ replies) own =
-    all-append (IsMine n) (events_of blocks s kept op reply) _ (rw own.0 at (mine-of blocks s kept op reply)) (mine-all n blocks (replay s (events_of blocks s kept op reply)) (kept_after blocks op reply kept) os replies own.1)
+-- an event of the one caller, or a capacity that the feeder gives
+abbrev pub IsAloneEvent : Event → Type 0
+IsAloneEvent e = IsMine 0 e ⊎ ((c : ℕ) × (e ≡ event.Resize only_feeder c))
+
+-- the operation is the one caller's, where it is a caller's
+abbrev pub IsAloneOp : Op → Type 0
+IsAloneOp op = IfSome (caller_of op) (λ n. n ≡ 0)
+
+alone-of : (blocks : List Ptr) (s : PlainShard) (kept : List KeptRead) (op : Op) (reply : Reply) → IsAloneOp op → AllByRecursion IsAloneEvent (events_of blocks s kept op reply)
+alone-of blocks s kept (ops.Read n t x window) reply own = all-map (IsMine 0) IsAloneEvent _ (λ e is. inl is) (mine-of blocks s kept (ops.Read n t x window) reply 0 (ap (λ (k : ℕ). Some k) own))
+alone-of blocks s kept (ops.Hold n t x) reply own = all-map (IsMine 0) IsAloneEvent _ (λ e is. inl is) (mine-of blocks s kept (ops.Hold n t x) reply 0 (ap (λ (k : ℕ). Some k) own))
+alone-of blocks s kept (ops.Drop n x) reply own = all-map (IsMine 0) IsAloneEvent _ (λ e is. inl is) (mine-of blocks s kept (ops.Drop n x) reply 0 (ap (λ (k : ℕ). Some k) own))
+alone-of blocks s kept (ops.Cap c) reply own = (inr (c, refl), tt)
+alone-of blocks s kept other reply own = tt
+
+alone-all : (blocks : List Ptr) (s : PlainShard) (kept : List KeptRead) (os : List Op) (replies : List Reply) → AllByRecursion IsAloneOp os
+    → AllByRecursion IsAloneEvent (events_of_all blocks s kept os replies)
+alone-all blocks s kept [] replies own = tt
+alone-all blocks s kept (op ∷ os) [] own = tt
+alone-all blocks s kept (op ∷ os) (reply ∷ replies) own =
+    all-append IsAloneEvent (events_of blocks s kept op reply) _ (alone-of blocks s kept op reply own.0) (alone-all blocks (replay s (events_of blocks s kept op reply)) (kept_after blocks op reply kept) os replies own.1)
 
 pub mine-drops : (n : ℕ) (kept : List KeptRead) → AllByRecursion (IsMine n) (events_of_drops n kept)
 mine-drops n [] = tt
@@ -150,41 +168,42 @@ act-dropping n x kept GivenBack = act-drop n (oldest_key x kept)
 act-dropping n x kept (PoolRefused call) = tt
 act-dropping n x kept NoEffect = tt
 
-act-of : (blocks : List Ptr) (kept : List KeptRead) (op : Op) (reply : Reply) → AllByRecursion (IsActOf (caller_of op)) (acts_of blocks kept op reply)
-act-of blocks kept (ops.Read n t x window) reply = go (slice_get blocks x)
+act-of : (blocks : List Ptr) (kept : List KeptRead) (op : Op) (reply : Reply) (n : ℕ) → caller_of op ≡ Some n → AllByRecursion (IsActOf n) (acts_of blocks kept op reply)
+act-of blocks kept (ops.Read n t x window) reply m his = subst (λ (k : ℕ). AllByRecursion (IsActOf k) (acts_of blocks kept (ops.Read n t x window) reply)) (some-number n m his) (go (slice_get blocks x))
   where
     go : (o : Option Ptr) → AllByRecursion (IsActOf n) (option_map_or (λ ptr. acts_of_read n t ptr (effect_of reply)) o [])
     go None = tt
     go (Some ptr) = act-read n t ptr (effect_of reply)
-act-of blocks kept (ops.Hold n t x) reply = go (slice_get blocks x)
+act-of blocks kept (ops.Hold n t x) reply m his = subst (λ (k : ℕ). AllByRecursion (IsActOf k) (acts_of blocks kept (ops.Hold n t x) reply)) (some-number n m his) (go (slice_get blocks x))
   where
     go : (o : Option Ptr) → AllByRecursion (IsActOf n) (option_map_or (λ ptr. acts_of_hold n t ptr (effect_of reply)) o [])
     go None = tt
     go (Some ptr) = act-hold n t ptr (effect_of reply)
-act-of blocks kept (ops.Drop n x) reply = act-dropping n x kept (effect_of reply)
-act-of blocks kept other reply = tt
+act-of blocks kept (ops.Drop n x) reply m his = subst (λ (k : ℕ). AllByRecursion (IsActOf k) (acts_of blocks kept (ops.Drop n x) reply)) (some-number n m his) (act-dropping n x kept (effect_of reply))
+act-of blocks kept other reply m his = tt
 
-act-all : (n : ℕ) (blocks : List Ptr) (kept : List KeptRead) (os : List Op) (replies : List Reply) → AllByRecursion (λ op. caller_of op ≡ n) os
+act-all : (n : ℕ) (blocks : List Ptr) (kept : List KeptRead) (os : List Op) (replies : List Reply) → AllByRecursion (λ op. caller_of op ≡ Some n) os
     → AllByRecursion (IsActOf n) (acts_of_all blocks kept os replies)
 act-all n blocks kept [] replies own = tt
 act-all n blocks kept (op ∷ os) [] own = tt
 act-all n blocks kept (op ∷ os) (reply ∷ replies) own =
-    all-append (IsActOf n) (acts_of blocks kept op reply) _ (rw own.0 at (act-of blocks kept op reply)) (act-all n blocks (kept_after blocks op reply kept) os replies own.1)
+    all-append (IsActOf n) (acts_of blocks kept op reply) _ (act-of blocks kept op reply n own.0) (act-all n blocks (kept_after blocks op reply kept) os replies own.1)
 
 act-drops : (n : ℕ) (kept : List KeptRead) → AllByRecursion (IsActOf n) (acts_of_drops n kept)
 act-drops n [] = tt
 act-drops n (read ∷ reads) = all-append (IsActOf n) (acts_of_drop n read.held) _ (act-drop n read.held) (act-drops n reads)
 
-pub acts-caller : (blocks : List Ptr) (n : ℕ) (os : List Op) (replies : List Reply) → AllByRecursion (λ op. caller_of op ≡ n) os → AllByRecursion (IsActOf n) (acts_of_caller blocks n os replies)
+pub acts-caller : (blocks : List Ptr) (n : ℕ) (os : List Op) (replies : List Reply) → AllByRecursion (λ op. caller_of op ≡ Some n) os → AllByRecursion (IsActOf n) (acts_of_caller blocks n os replies)
 acts-caller blocks n os replies own = all-append (IsActOf n) (acts_of_all blocks [] os replies) _ (act-all n blocks [] os replies own) (act-drops n (kept_after_all blocks [] os replies))
 
-pub act-caller : (blocks : List Ptr) (n : ℕ) (os : List Op) (replies : List Reply) → AllByRecursion (λ op. caller_of op ≡ n) os → AllByRecursion (λ act. actor_of act ≡ n) (acts_of_caller blocks n os replies)
+pub act-caller : (blocks : List Ptr) (n : ℕ) (os : List Op) (replies : List Reply) → AllByRecursion (λ op. caller_of op ≡ Some n) os → AllByRecursion (λ act. actor_of act ≡ n) (acts_of_caller blocks n os replies)
 act-caller blocks n os replies own = all-map (IsActOf n) (λ act. actor_of act ≡ n) _ (λ act is. is.0) (acts-caller blocks n os replies own)
 
-pub mine-events : (blocks : List Ptr) (n : ℕ) (s : PlainShard) (os : List Op) (replies : List Reply) → AllByRecursion (λ op. caller_of op ≡ n) os
-    → AllByRecursion (IsMine n) (one_caller_history blocks n s os replies)
-mine-events blocks n s os replies own =
-    all-append (IsMine n) (events_of_all blocks s [] os replies) _ (mine-all n blocks s [] os replies own) (mine-drops n (kept_after_all blocks [] os replies))
+-- the history of the one caller has its own events, and the capacities that the feeder gives
+pub alone-events : (blocks : List Ptr) (s : PlainShard) (os : List Op) (replies : List Reply) → AllByRecursion IsAloneOp os → AllByRecursion IsAloneEvent (one_caller_history blocks 0 s os replies)
+alone-events blocks s os replies own =
+    all-append IsAloneEvent (events_of_all blocks s [] os replies) _ (alone-all blocks s [] os replies own)
+    (all-map (IsMine 0) IsAloneEvent _ (λ e is. inl is) (mine-drops 0 (kept_after_all blocks [] os replies)))
 
 -- ---- the numbers of events, and no passes
 
@@ -217,7 +236,12 @@ caller-number callers cells n e lt mine = go e mine.2 (subst (λ m. nat_lt m cal
     go (event.Restore n k place d) of lt = absurd (false≢true of)
     go (event.Resize n c) of lt = absurd (false≢true of)
 
+-- none of them is a pass
+pub alone-no-pass : (e : Event) → IsAloneEvent e → is_pass e ≡ false
+alone-no-pass e (inl mine) = mine.1
+alone-no-pass e (inr is) = ap is_pass is.1
+
 -- without passes each stands where it may
-pub no-passes : (n : ℕ) (es : List Event) → AllByRecursion (IsMine n) es → are_passes_placed es ≡ true
-no-passes n [] mine = refl
-no-passes n (e ∷ es) mine = rw mine.0.1 (no-passes n es mine.1)
+pub no-passes : (es : List Event) → AllByRecursion IsAloneEvent es → are_passes_placed es ≡ true
+no-passes [] all = refl
+no-passes (e ∷ es) all = rw (alone-no-pass e all.0) (no-passes es all.1)

@@ -5,7 +5,7 @@ use mathlib.Core.Option.{some, some-injective, some-ne-none}
 use lib.ListN.{get_elem?}
 use Rattle.arc_core.specs.declared.config.Config.{Config}
 use Rattle.arc_core.specs.declared.event.Event.{Event}
-use Rattle.arc_core.specs.Operations.{Act, Moment, Tell, acts_in, moments, own_moments}
+use Rattle.arc_core.specs.Operations.{Act, Moment, Tell, acts_in, moments, own_events, own_moments}
 use Rattle.arc_core.specs.PlainShard.{PlainShard}
 use Rattle.blk_ptr.specs.Hash.{shard_of}
 use Rattle.turn_table.specs.declared.standing.Kept.{Kept}
@@ -26,10 +26,10 @@ use Rattle.trace_run.specs.declared.kept_blocks.KeptBlock.{KeptBlock}
 use Rattle.trace_run.specs.Acts.{acts_of_drops}
 use Rattle.trace_run.specs.KeptBlocks.{AllQuiet, GivesAll, IsOwnedBy, Stands, holds_in, read_of, times}
 use Rattle.trace_run.specs.KeptReads.{KeptRead}
-use Rattle.trace_run.specs.Meeting.{AreLast, GaveBackJoined, HasParted, HasSameOwn, HaveParted, IsApart, IsLevel, JoinAll, MayJoin, PartAll, Waits}
+use Rattle.trace_run.specs.Meeting.{AreLast, GaveBackJoined, HasLearned, HaveParted, IsApart, IsFed, IsLevel, JoinAll, MayJoin, PartAll, Waits}
 use Rattle.trace_run.specs.OneCaller.{events_of_drops}
 use Rattle.trace_run.proofs.GiveLemmas.{all-alone, all-keep, all-number, all-stand, all-told}
-use Rattle.trace_run.proofs.MeetLemmas.{HasLearned, HaveJoined, all-parted, are-last, are-seen-more, have-joined, joined_of, left_alone, parted-front, parted_from, starts-then}
+use Rattle.trace_run.proofs.MeetLemmas.{HaveJoined, all-parted, are-last, have-joined, joined_of, left_alone, parted-then, parted_from, same-own-events, starts-events, starts-then}
 use Rattle.trace_run.proofs.TellLemmas.{IsMine, mine-drops}
 
 -- ---- numbers
@@ -77,7 +77,7 @@ module _ {C : Type 0} (m : Meanings C) (cache : Cache) (p : Place (Known C)) (ke
   abbrev g : Config
   g = cache.config
 
-  joined : HaveJoined m cache p others q
+  pub joined : HaveJoined m cache p others q
   joined = have-joined m cache p (may-join cache kept p stands alone) others q (all-may cache others apart) joins
 
   pub joined-stands : Stands cache q kept
@@ -95,7 +95,7 @@ module _ {C : Type 0} (m : Meanings C) (cache : Cache) (p : Place (Known C)) (ke
     listed = λ x. ap (λ (l : Ledger). times x l.holds) joined.ledger ∙ stands.listed x;
   }
 
-  joined-all : HasAll q
+  pub joined-all : HasAll q
   joined-all n below = has (everyone n (subst (λ (k : ℕ). n < k) (joined.parties ∙ count) below))
     where
       has : SomeHas n (p ∷ others) → HasNumber n q
@@ -125,74 +125,57 @@ module _ {C : Type 0} (m : Meanings C) (cache : Cache) (p : Place (Known C)) (ke
     abbrev lines : ℕ → List Line
     lines shard = front_of (turn_of g shard) r.own.seen
 
-    -- another party, once it has parted
-    module _ (o : Place (Known C)) (learned : HasLearned g o q) (other : o.number ≢ p.number) where
-      abbrev x : Place (Known C)
-      x = parted_from r o
-
-      front : (i : ℕ) → front_of (turn_of g i) x.own.seen ≡ lines i
-      front i = parted-front (turn_of g i) o.own.seen r.own.seen (starts-then (lines i) (front_of (turn_of g i) q.own.seen) (front_of (turn_of g i) o.own.seen) (more i) (learned.starts i))
-
-      starts : (i : ℕ) → StartsWith (front_of (turn_of g i) x.own.seen) (front_of (turn_of g i) o.own.seen)
-      starts i = subst (λ (l : List Line). StartsWith l (front_of (turn_of g i) o.own.seen)) (sym (front i))
-          (starts-then (lines i) (front_of (turn_of g i) q.own.seen) (front_of (turn_of g i) o.own.seen) (more i) (learned.starts i))
-
-      own : HasSameOwn g o.number o.own.seen x.own.seen
-      own shard =
-          let n : ℕ = o.number in
-          let s : PlainShard = opening_of g in
-          ap (λ (l : List Line). own_moments n (moments s (events_in l))) (front shard)
-          ∙ (ap (λ (es : List Event). own_moments n (moments s es)) (drops shard)
-          ∙ (other-drops p.number n s (seen_of g shard q) (holds_in g shard reads) (λ is. other (sym is)) ∙ learned.own shard))
-
-      parted-one : HasParted cache lines o x
-      parted-one = record {
-        level = front;
-        waits = λ n acts keeps waits. record {
-          number = waits.number;
-          alone = refl;
-          stands = record {
-            valid = waits.stands.valid;
-            of = record { row = after.of.row; config = waits.stands.of.config };
-            free = refl;
-            cells = waits.stands.cells;
-            idle = waits.stands.idle;
-            unclaimed = waits.stands.unclaimed;
-            seen = record { own = are-seen-more g o.number o.own.mine o.own.seen x.own.seen starts waits.stands.seen.own; joined = tt };
-            apart = tt;
-            joined = tt;
-            owned = waits.stands.owned;
-            listed = waits.stands.listed;
-          };
-          told = λ shard. subst (Tell (acts_in (shard_of g.shards) shard o.number acts)) (sym (own shard)) (waits.told shard);
-        };
-      }
+    -- the others, once they have parted
+    unmade : (o : Place (Known C)) → o.number ≢ p.number → (shard : ℕ)
+        → own_moments o.number (moments (opening_of g) (seen_of g shard r)) ≡ own_moments o.number (moments (opening_of g) (seen_of g shard q))
+    unmade o other shard =
+        ap (λ (es : List Event). own_moments o.number (moments (opening_of g) es)) (drops shard)
+        ∙ other-drops p.number o.number (opening_of g) (seen_of g shard q) (holds_in g shard reads) (λ is. other (sym is))
 
     all-parted-from : (os : List (Place (Known C))) → AllByRecursion (λ o. HasLearned g o q) os → AllByRecursion (λ o. o.number ≢ p.number) os → HaveParted cache lines os (map (parted_from r) os)
     all-parted-from [] learned others_differ = tt
-    all-parted-from (o ∷ os) learned others_differ = (parted-one o learned.0 others_differ.0, all-parted-from os learned.1 others_differ.1)
+    all-parted-from (o ∷ os) learned others_differ = (parted-then cache q r o learned.0 after.of more (unmade o others_differ.0), all-parted-from os learned.1 others_differ.1)
 
     -- the party itself
     abbrev last : Place (Known C)
     last = left_alone r
 
+    last-stands : Stands cache last []
+    last-stands = record {
+      valid = after.valid;
+      of = record { row = after.of.row; config = after.of.config };
+      free = after.free;
+      cells = after.cells;
+      idle = after.idle;
+      unclaimed = after.unclaimed;
+      seen = record { own = after.seen.own; joined = tt };
+      apart = tt;
+      joined = tt;
+      owned = tt;
+      listed = after.listed;
+    }
+
+    -- the feeder's, which kept nothing
+    last-fed : (fed since : (shard : ℕ) → List Event) → kept ≡ [] → IsFed cache fed since p → IsFed cache fed since last
+    last-fed fed since none is = record {
+      number = number ∙ is.number;
+      alone = refl;
+      stands = last-stands;
+      fed = λ shard below.
+          ap (λ (k : ℕ). own_events k (seen_of g shard r)) number
+          ∙ (ap (own_events p.number) (drops shard ∙ (ap (λ (l : List KeptBlock). seen_of g shard q ++ events_of_drops p.number (holds_in g shard (map read_of l))) none ∙ append-nil (seen_of g shard q)))
+          ∙ (same-own-events g p.number (seen_of g shard p) (seen_of g shard q) (joined.self.own shard) ∙ is.fed shard below));
+      since = λ shard.
+          starts-then (seen_of g shard r) (seen_of g shard p) (since shard)
+          (starts-events (lines shard) (front_of (turn_of g shard) p.own.seen) (starts-then (lines shard) (front_of (turn_of g shard) q.own.seen) (front_of (turn_of g shard) p.own.seen) (more shard) (joined.self.starts shard)))
+          (is.since shard);
+    }
+
     last-waits : (n : ℕ) (acts : List Act) → Waits cache n acts kept p → Waits cache n (acts ++ acts_of_drops n reads) [] last
     last-waits n acts waits = record {
       number = number ∙ waits.number;
       alone = refl;
-      stands = record {
-        valid = after.valid;
-        of = record { row = after.of.row; config = after.of.config };
-        free = after.free;
-        cells = after.cells;
-        idle = after.idle;
-        unclaimed = after.unclaimed;
-        seen = record { own = after.seen.own; joined = tt };
-        apart = tt;
-        joined = tt;
-        owned = tt;
-        listed = after.listed;
-      };
+      stands = last-stands;
       told = λ shard. subst (λ (k : ℕ). IsTold g (acts ++ acts_of_drops k reads) r) (joined.number ∙ waits.number)
           (all-told m cache kept q r joined-stands gives acts
           (λ s. subst (λ (k : ℕ). Tell (acts_in (shard_of g.shards) s k acts) (own_moments k (moments (opening_of g) (seen_of g s q)))) (sym joined.number)
@@ -212,6 +195,7 @@ module _ {C : Type 0} (m : Meanings C) (cache : Cache) (p : Place (Known C)) (ke
         parted = subst (HaveParted cache lines others) (sym parted.0) (all-parted-from others joined.all differ);
         level = subst (IsLevel g lines) (sym parted.1) (λ shard. refl);
         gave = λ n acts waits. subst (Waits cache n (acts ++ acts_of_drops n reads) []) (sym parted.1) (last-waits n acts waits);
+        fed = λ fed since none is. subst (IsFed cache fed since) (sym parted.1) (last-fed fed since none is);
         drops = λ before own rest shard. drops shard ∙ ap (λ (l : List Line). events_in l ++ events_of_drops p.number (holds_in g shard reads)) (joined.level before own rest shard);
       }
 

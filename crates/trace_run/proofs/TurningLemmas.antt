@@ -14,8 +14,9 @@ use Rattle.arc_table.specs.Seen.{events_in}
 use Rattle.trace_run.specs.declared.kept_blocks.KeptBlock.{KeptBlock}
 use Rattle.trace_run.specs.Acts.{acts_of_drops}
 use Rattle.trace_run.specs.KeptBlocks.{holds_in, read_of}
-use Rattle.trace_run.specs.Meeting.{AllGave, AreWaiting, FirstGaveBack, FirstMayGoOn, GaveBackJoined, HasParted, HaveGivenBack, HaveParted, IsApart, IsLevel, MayGoOn, Waits, drops_from}
+use Rattle.trace_run.specs.Meeting.{AllGave, AreWaiting, FirstGaveBack, FirstMayGoOn, GaveBackJoined, HasParted, HaveGivenBack, HaveParted, IsApart, IsFed, IsLevel, MayGoOn, Waits, drops_from}
 use Rattle.trace_run.specs.OneCaller.{events_of_drops}
+use Rattle.trace_run.proofs.MeetLemmas.{parted-fed, parted-waits}
 
 -- ---- the first of the parties
 
@@ -65,7 +66,7 @@ drops-last g shard n m (j ∷ ks) k is =
 number-there : (all gone : List (List KeptBlock)) (k : List KeptBlock) (ks : List (List KeptBlock)) → all ≡ gone ++ k ∷ ks → length all ≡ length gone + suc (length ks)
 number-there all gone k ks is = ap length is ∙ length-append gone (k ∷ ks)
 
-module _ {C : Type 0} (cache : Cache) (acts : ℕ → List Act) where
+module _ {C : Type 0} (cache : Cache) (acts : ℕ → List Act) (feeds since : (shard : ℕ) → List Event) where
   -- ---- callers that wait, by their numbers
 
   waiting-apart : (n : ℕ) (ks : List (List KeptBlock)) (ps : List (Place (Known C))) → AreWaiting cache acts n ks ps → AllByRecursion (IsApart cache) ps
@@ -131,7 +132,7 @@ module _ {C : Type 0} (cache : Cache) (acts : ℕ → List Act) where
   parted-waiting lines n ks (o ∷ os) [] parted waits = absurd parted
   parted-waiting lines n (k ∷ ks) [] [] parted waits = absurd waits
   parted-waiting lines n [] (o ∷ os) (x ∷ xs) parted waits = absurd waits
-  parted-waiting lines n (k ∷ ks) (o ∷ os) (x ∷ xs) parted waits = (parted.0.waits n (acts n) k waits.0, parted-waiting lines (suc n) ks os xs parted.1 waits.1)
+  parted-waiting lines n (k ∷ ks) (o ∷ os) (x ∷ xs) parted waits = (parted-waits cache lines o x parted.0 n (acts n) k waits.0, parted-waiting lines (suc n) ks os xs parted.1 waits.1)
 
   parted-gave : (lines : ℕ → List Line) (n : ℕ) (ks : List (List KeptBlock)) (os xs : List (Place (Known C))) → HaveParted cache lines os xs → AllGave cache acts n ks os → AllGave cache acts n ks xs
   parted-gave lines n [] [] [] parted gave = tt
@@ -139,7 +140,7 @@ module _ {C : Type 0} (cache : Cache) (acts : ℕ → List Act) where
   parted-gave lines n ks (o ∷ os) [] parted gave = absurd parted
   parted-gave lines n (k ∷ ks) [] [] parted gave = absurd gave
   parted-gave lines n [] (o ∷ os) (x ∷ xs) parted gave = absurd gave
-  parted-gave lines n (k ∷ ks) (o ∷ os) (x ∷ xs) parted gave = (parted.0.waits n (acts n ++ acts_of_drops n (map read_of k)) [] gave.0, parted-gave lines (suc n) ks os xs parted.1 gave.1)
+  parted-gave lines n (k ∷ ks) (o ∷ os) (x ∷ xs) parted gave = (parted-waits cache lines o x parted.0 n (acts n ++ acts_of_drops n (map read_of k)) [] gave.0, parted-gave lines (suc n) ks os xs parted.1 gave.1)
 
   parted-split : (lines : ℕ → List Line) (os : List (Place (Known C))) (o : Place (Known C)) (us xs : List (Place (Known C))) → HaveParted cache lines (os ++ o ∷ us) xs
       → (ys : List (Place (Known C))) × (y : Place (Known C)) × (zs : List (Place (Known C))) × (xs ≡ ys ++ y ∷ zs) × HaveParted cache lines os ys × HasParted cache lines o y × HaveParted cache lines us zs
@@ -161,7 +162,7 @@ module _ {C : Type 0} (cache : Cache) (acts : ℕ → List Act) where
     pub done : List (Place (Known C))
     pub are : ps ≡ waiting ++ feeder ∷ done
     pub waits : AreWaiting cache acts (length gone) left waiting
-    pub fed : Waits cache (length all) [] [] feeder
+    pub fed : IsFed cache feeds since feeder
     pub gave : AllGave cache acts 0 gone done
     pub first : ℕ → List Event
     pub lines : ℕ → List Line
@@ -173,7 +174,7 @@ module _ {C : Type 0} (cache : Cache) (acts : ℕ → List Act) where
 
   module _ (rows : cache.row.parties ≡ parties_of cache.config) where
     -- the feeder may begin, which keeps nothing
-    pub may-begin : (all : List (List KeptBlock)) (ps : List (Place (Known C))) (feeder : Place (Known C)) → length all ≡ cache.config.callers → AreWaiting cache acts 0 all ps → Waits cache cache.config.callers [] [] feeder → MayGoOn cache [] feeder ps
+    pub may-begin : (all : List (List KeptBlock)) (ps : List (Place (Known C))) (feeder : Place (Known C)) → length all ≡ cache.config.callers → AreWaiting cache acts 0 all ps → IsFed cache feeds since feeder → MayGoOn cache [] feeder ps
     may-begin all ps feeder count waits fed = record {
       stands = fed.stands;
       alone = fed.alone;
@@ -192,7 +193,7 @@ module _ {C : Type 0} (cache : Cache) (acts : ℕ → List Act) where
         waiting-below n m (k ∷ ks) [] below waits = absurd waits
         waiting-below n m (k ∷ ks) (p ∷ ps) below waits = ((λ is. let number = waits.0.number in absurd (omega (arith, is, number, below))), waiting-below (suc n) m ks ps (omega (arith, below)) waits.1)
 
-    pub begun : (all : List (List KeptBlock)) (ps : List (Place (Known C))) (feeder : Place (Known C)) (news : List (Place (Known C))) → length all ≡ cache.config.callers → AreWaiting cache acts 0 all ps → Waits cache cache.config.callers [] [] feeder
+    pub begun : (all : List (List KeptBlock)) (ps : List (Place (Known C))) (feeder : Place (Known C)) (news : List (Place (Known C))) → length all ≡ cache.config.callers → AreWaiting cache acts 0 all ps → IsFed cache feeds since feeder
         → GaveBackJoined cache feeder [] ps news → Turning all all news
     begun all ps feeder news count waits fed b = record {
       gone = [];
@@ -202,7 +203,7 @@ module _ {C : Type 0} (cache : Cache) (acts : ℕ → List Act) where
       done = [];
       are = b.are;
       waits = parted-waiting b.lines 0 all ps b.rest b.parted waits;
-      fed = subst (λ (n : ℕ). Waits cache n [] [] b.last) (sym count) (b.gave cache.config.callers [] fed);
+      fed = b.fed feeds since refl fed;
       gave = tt;
       first = λ shard. events_in (b.lines shard);
       lines = b.lines;
@@ -213,7 +214,7 @@ module _ {C : Type 0} (cache : Cache) (acts : ℕ → List Act) where
     -- the first that is left may give back
     module _ (all : List (List KeptBlock)) (k : List KeptBlock) (ks : List (List KeptBlock)) (count : length all ≡ cache.config.callers) where
       next-may : (p : Place (Known C)) (waiting : List (Place (Known C))) (gone : List (List KeptBlock)) (feeder : Place (Known C)) (done : List (Place (Known C))) → all ≡ gone ++ k ∷ ks → Waits cache (length gone) (acts (length gone)) k p
-          → AreWaiting cache acts (suc (length gone)) ks waiting → Waits cache (length all) [] [] feeder → AllGave cache acts 0 gone done → MayGoOn cache k p (waiting ++ feeder ∷ done)
+          → AreWaiting cache acts (suc (length gone)) ks waiting → IsFed cache feeds since feeder → AllGave cache acts 0 gone done → MayGoOn cache k p (waiting ++ feeder ∷ done)
       next-may p waiting gone feeder done is one waits fed gave = record {
         stands = one.stands;
         alone = one.alone;
@@ -231,7 +232,7 @@ module _ {C : Type 0} (cache : Cache) (acts : ℕ → List Act) where
         ];
         differ = all-append (λ o. o.number ≢ p.number) waiting (feeder ∷ done)
             (waiting-above (suc (length gone)) p.number ks waiting (omega (arith, one.number)) waits)
-            ((λ same. let a = fed.number in let b = one.number in let c = number-there all gone k ks is in absurd (omega (arith, same, a, b, c))), gave-below 0 p.number gone done (omega (arith, one.number)) gave);
+            ((λ same. let a = fed.number in let b = one.number in let c = number-there all gone k ks is in absurd (omega (arith, same, a, b, c, count))), gave-below 0 p.number gone done (omega (arith, one.number)) gave);
       }
 
       pub may-turn : (ps : List (Place (Known C))) → Turning all (k ∷ ks) ps → FirstMayGoOn cache k ps
@@ -242,7 +243,7 @@ module _ {C : Type 0} (cache : Cache) (acts : ℕ → List Act) where
           go (p ∷ waiting) waits = next-may p waiting t.gone t.feeder t.done t.parts waits.0 waits.1 t.fed t.gave
 
       next-then : (gone : List (List KeptBlock)) (p : Place (Known C)) (waiting : List (Place (Known C))) (feeder : Place (Known C)) (done news : List (Place (Known C))) (first : ℕ → List Event) (lines : ℕ → List Line)
-          → all ≡ gone ++ k ∷ ks → Waits cache (length gone) (acts (length gone)) k p → AreWaiting cache acts (suc (length gone)) ks waiting → Waits cache (length all) [] [] feeder → AllGave cache acts 0 gone done
+          → all ≡ gone ++ k ∷ ks → Waits cache (length gone) (acts (length gone)) k p → AreWaiting cache acts (suc (length gone)) ks waiting → IsFed cache feeds since feeder → AllGave cache acts 0 gone done
           → IsLevel cache.config lines p → AllByRecursion (IsLevel cache.config lines) (waiting ++ feeder ∷ done) → ((shard : ℕ) → events_in (lines shard) ≡ first shard ++ drops_from cache.config shard 0 gone)
           → GaveBackJoined cache p k (waiting ++ feeder ∷ done) news → Turning all ks news
       next-then gone p waiting feeder done news first lines is one waits fed gave own_level level drops b =
@@ -256,7 +257,7 @@ module _ {C : Type 0} (cache : Cache) (acts : ℕ → List Act) where
             done = h.2 ++ b.last ∷ [];
             are = b.are ∙ (ap (λ (l : List (Place (Known C))). l ++ b.last ∷ []) h.3 ∙ append_assoc h.0 (h.1 ∷ h.2) (b.last ∷ []));
             waits = subst (λ (n : ℕ). AreWaiting cache acts n ks h.0) (let n : suc number ≡ length (gone ++ k ∷ []) = omega (arith, length-append gone (k ∷ [])) in n) (parted-waiting b.lines (suc number) ks waiting h.0 h.4 waits);
-            fed = h.5.waits (length all) [] [] fed;
+            fed = parted-fed cache b.lines feeder h.1 h.5 feeds since fed;
             gave = gave-last 0 number gone h.2 k b.last (omega arith) (parted-gave b.lines 0 gone done h.2 h.6 gave) (b.gave number (acts number) one);
             first = first;
             lines = b.lines;
@@ -276,13 +277,13 @@ module _ {C : Type 0} (cache : Cache) (acts : ℕ → List Act) where
           go (p ∷ waiting) waits level gave = next-then t.gone p waiting t.feeder t.done news t.first t.lines t.parts waits.0 waits.1 t.fed t.gave level.0 level.1 t.drops gave
 
   -- the feeder's party goes behind the callers'
-  pub turned-all : (all : List (List KeptBlock)) (ps rest news : List (Place (Known C))) (feeder : Place (Known C)) → Turning all [] ps → feeder ≡ get_or ps 0 feeder → rest ≡ remove ps 0 → news ≡ rest ++ feeder ∷ [] → HaveGivenBack cache acts all news
+  pub turned-all : (all : List (List KeptBlock)) (ps rest news : List (Place (Known C))) (feeder : Place (Known C)) → Turning all [] ps → feeder ≡ get_or ps 0 feeder → rest ≡ remove ps 0 → news ≡ rest ++ feeder ∷ [] → HaveGivenBack cache acts feeds since all news
   turned-all all ps rest news feeder t first_is rest_are are = go t.waiting t.waits t.are
     where
       whole : t.gone ≡ all
       whole = sym (append-nil t.gone) ∙ sym t.parts
 
-      go : (waiting : List (Place (Known C))) → AreWaiting cache acts (length t.gone) [] waiting → ps ≡ waiting ++ t.feeder ∷ t.done → HaveGivenBack cache acts all news
+      go : (waiting : List (Place (Known C))) → AreWaiting cache acts (length t.gone) [] waiting → ps ≡ waiting ++ t.feeder ∷ t.done → HaveGivenBack cache acts feeds since all news
       go (p ∷ waiting) waits is = absurd waits
       go [] waits is =
           let f : feeder ≡ t.feeder = first_is ∙ ap (λ (l : List (Place (Known C))). get_or l 0 feeder) is in

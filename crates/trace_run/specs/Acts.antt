@@ -6,6 +6,8 @@ use Rattle.blk_ptr.specs.declared.ptr.Ptr.{Ptr}
 use Rattle.arc_core.specs.Operations.{Act, Reads, Keeps, GivesBack, Fails}
 use Rattle.trace_text.specs.declared.op.Op.{Op}
 use Rattle.trace_text.specs.declared.op.Op.TheVariants as ops
+use Rattle.arc_core.specs.declared.event.Event.{Event}
+use Rattle.arc_core.specs.declared.event.Event.TheVariants.{Resize}
 use Rattle.trace_text.specs.declared.reply.Reply.{Reply}
 use Rattle.trace_run.specs.KeptReads.{KeptRead}
 use Rattle.trace_run.specs.Effects.{Effect, Answered, GivenBack, PoolRefused, NoEffect, effect_of}
@@ -51,6 +53,10 @@ acts_of_all blocks kept (op ∷ ops) [] = []
 acts_of_all blocks kept (op ∷ ops) (reply ∷ replies) =
     acts_of blocks kept op reply ++ acts_of_all blocks (kept_after blocks op reply kept) ops replies
 
+-- a caller's own ones among all operations, by the replies to them
+abbrev pub acts_of_lines : List Ptr → List Op → (n : ℕ) → List Reply → List Act
+acts_of_lines blocks ops n replies = acts_of_all blocks [] (filter (is_of_caller n) ops) replies
+
 -- the drops at the end of the run, the oldest first
 abbrev pub acts_of_drops : (n : ℕ) → List KeptRead → List Act
 acts_of_drops n [] = []
@@ -59,6 +65,17 @@ acts_of_drops n (read ∷ reads) = acts_of_drop n read.held ++ acts_of_drops n r
 -- what a caller's own operations and the end of the run do
 abbrev pub acts_of_caller : List Ptr → (n : ℕ) → List Op → List Reply → List Act
 acts_of_caller blocks n ops replies = acts_of_all blocks [] ops replies ++ acts_of_drops n (kept_after_all blocks [] ops replies)
+
+-- the events that the number n makes in each shard for a line that is no caller's: a capacity is given to every shard
+abbrev pub events_of_feeder : (n : ℕ) → Op → List Event
+events_of_feeder n (ops.Cap c) = Resize n c ∷ []
+events_of_feeder n other = []
+
+-- and for all lines that were answered, in their order
+abbrev pub events_of_feeds : (n : ℕ) → List Op → List Reply → List Event
+events_of_feeds n [] replies = []
+events_of_feeds n (op ∷ ops) [] = []
+events_of_feeds n (op ∷ ops) (reply ∷ replies) = events_of_feeder n op ++ events_of_feeds n ops replies
 
 -- what the first so many callers do, each by its own lines and with its own kept reads
 abbrev pub acts_of_callers : List Ptr → (callers : ℕ) → List Op → List Reply → List Act

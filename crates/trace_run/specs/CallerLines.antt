@@ -1,7 +1,11 @@
 -- One caller's lines over the shared cache, one after another, with its own party and its own pool.
-use Rattle.std.specs.Prelude.{◌≡◌, ℕ, List, [], ◌∷◌, IfSome}
+use Rattle.std.specs.Prelude.{◌≡◌, ◌<◌, ◌≤◌, ℕ, List, [], ◌∷◌, ◌++◌, IfSome, IsSome}
 use Rattle.blk_ptr.specs.declared.ptr.Ptr.{Ptr}
 use Rattle.arc_core.specs.declared.config.Config.{Config}
+use Rattle.arc_core.specs.declared.event.Event.TheVariants.{Resize}
+use Rattle.arc_core.specs.Operations.{Act}
+use Rattle.arc_table.specs.Seen.{HasAll, seen_of}
+use Rattle.arc_table.specs.Told.{IsTold}
 use Rattle.vdev_io.specs.Calls.{KeepsPool, MakesCalls}
 use Rattle.arc_table.specs.declared.view.Known.{Known}
 use Rattle.turn_table.specs.Places.{Place}
@@ -12,9 +16,9 @@ use Rattle.trace_run.specs.KeptReads.{KeptRead}
 use Rattle.trace_run.specs.Acts.{acts_of}
 use Rattle.trace_run.specs.Answering.{IsReadOfImage}
 use Rattle.trace_run.specs.Effects.{calls_of, effect_of}
-use Rattle.trace_run.specs.Lines.{shard_of_line}
-use Rattle.trace_run.specs.OneCaller.{IsFoundAs, events_of, kept_after}
-use Rattle.trace_run.specs.Reads.{CameFromPool, DidActs, IsAlone, now_of}
+use Rattle.trace_run.specs.Lines.{caller_of, shard_of_line}
+use Rattle.trace_run.specs.OneCaller.{IsFoundAs, events_there, kept_after, only_feeder}
+use Rattle.trace_run.specs.Reads.{CameFromPool, IsAlone, now_of}
 use Rattle.trace_run.specs.Tally.{AnswersNow}
 
 -- a caller between its lines: its party, the reads that it keeps, and its pool
@@ -26,13 +30,30 @@ pub record At (C P : Type 0) : Type 0 where
 abbrev pub at : {C P : Type 0} → Place (Known C) → List KeptRead → P → At C P
 at party kept pool = record { party = party; kept = kept; pool = pool }
 
+-- The party did what a line asks, which was answered so: its own number has the line's acts more. A party that is alone has seen in each
+-- shard just the events that the line makes there more.
+pub record DidThere {C : Type 0} (g : Config) (device : ℕ) (blocks : List Ptr) (kept : List KeptRead) (op : Op) (reply : Reply) (p q : Place (Known C)) : Type 0 where
+  pub number : q.number ≡ p.number
+  pub told : (before : List Act) → IsTold g before p → IsTold g (before ++ acts_of blocks kept op reply) q
+  pub alone : IsAlone device p → (shard : ℕ) → seen_of g shard q ≡ seen_of g shard p ++ events_there g.shards blocks shard (now_of g shard p) kept op reply
+  pub all : HasAll p → HasAll q
+  -- a line of a caller leaves the parties that joined
+  pub joined : IsSome (caller_of op) → q.joined ≡ p.joined
+
+-- Every shard has this capacity from now on: the party, which is the one caller's, has seen a Resize of the feeder in each more.
+pub record HasResized {C : Type 0} (g : Config) (c : ℕ) (p q : Place (Known C)) : Type 0 where
+  pub number : q.number ≡ p.number
+  pub told : (before : List Act) → IsTold g before p → IsTold g before q
+  pub seen : (shard : ℕ) → shard < g.shards → seen_of g shard q ≡ seen_of g shard p ++ Resize only_feeder c ∷ []
+  pub beyond : (shard : ℕ) → g.shards ≤ shard → seen_of g shard q ≡ seen_of g shard p
+  pub all : HasAll p → HasAll q
+
 -- The line was answered so. Its acts are told, and a caller that is alone has seen just its events more; its pool was read as the reply says.
 -- Bytes that came from the pool in this call are those that it tells, where it does.
 pub record DidLine {C P : Type 0} (g : Config) (pools : Ghosts P) (device : ℕ) (blocks : List Ptr) (op : Op) (reply : Reply) (old new : At C P) : Type 0 where
   pub answer : AnswersNow (pools.size old.pool) (pools.told old.pool) blocks old.kept op reply
   pub kept : new.kept ≡ kept_after blocks op reply old.kept
-  pub did : DidActs g device (shard_of_line g.shards blocks op) (acts_of blocks old.kept op reply)
-      (events_of blocks (now_of g (shard_of_line g.shards blocks op) old.party) old.kept op reply) old.party new.party
+  pub did : DidThere g device blocks old.kept op reply old.party new.party
   pub found : IsAlone device old.party → IsFoundAs blocks (now_of g (shard_of_line g.shards blocks op) old.party) op reply
   pub range : CameFromPool (effect_of reply) → IfSome (pools.told old.pool) (λ image. IsReadOfImage image blocks op reply)
   pub calls : MakesCalls pools (calls_of (effect_of reply)) old.pool new.pool

@@ -1,7 +1,8 @@
 -- What callers that work at once are between the steps of their work.
-use Rattle.std.specs.Prelude.{◌≡◌, ℕ, suc, List, [], ◌∷◌, filter, map, IfOk, Vec, Ok}
+use Rattle.std.specs.Prelude.{◌≡◌, ℕ, suc, List, [], ◌∷◌, filter, map, IfOk, Vec, Ok, ◌++◌}
 use Rattle.std.specs.declared.alloc.Global.{Global}
 use Rattle.blk_ptr.specs.declared.ptr.Ptr.{Ptr}
+use Rattle.arc_core.specs.Operations.{Act}
 use Rattle.arc_table.specs.Cache.{Cache}
 use Rattle.vdev_io.specs.Calls.{MakesCalls}
 use Rattle.arc_table.specs.declared.view.Known.{Known}
@@ -17,6 +18,7 @@ use Rattle.trace_run.specs.Effects.{calls_of_all}
 use Rattle.trace_run.specs.KeptBlocks.{Stands, read_of}
 use Rattle.trace_run.specs.Lines.{is_of_caller}
 use Rattle.trace_run.specs.OneCaller.{kept_after_all}
+use Rattle.trace_run.specs.OverShards.{AreNamed}
 use Rattle.trace_run.specs.Tally.{AreAnswered}
 use Rattle.arc_table.specs.Told.{IsTold}
 
@@ -38,53 +40,53 @@ module _ {P : Type 0} (pools : Ghosts P) where
 -- ---- before the lines
 
 module _ {C : Type 0} where
-  -- a party before the lines of its caller, which has this number
-  pub record IsAtStart (cache : Cache) (n : ℕ) (p : Place (Known C)) : Type 0 where
+  -- a party before the lines of its caller, which has this number and keeps these reads
+  pub record IsAtStart (cache : Cache) (blocks : List Ptr) (n : ℕ) (kept : List KeptBlock) (p : Place (Known C)) : Type 0 where
     pub number : p.number ≡ n
     pub alone : p.joined ≡ []
-    pub stands : Stands cache p []
-    pub told : IsTold cache.config [] p
+    pub stands : Stands cache p kept
+    pub named : AreNamed blocks (map read_of kept)
 
   -- parties, by their numbers from this one on
-  abbrev pub AreAtStart : Cache → (n : ℕ) → List (Place (Known C)) → Type 0
-  AreAtStart cache n [] = Unit {0}
-  AreAtStart cache n (p ∷ ps) = IsAtStart cache n p × AreAtStart cache (suc n) ps
+  abbrev pub AreAtStart : Cache → List Ptr → (n : ℕ) → List (List KeptBlock) → List (Place (Known C)) → Type 0
+  AreAtStart cache blocks n [] [] = Unit {0}
+  AreAtStart cache blocks n (k ∷ ks) (p ∷ ps) = IsAtStart cache blocks n k p × AreAtStart cache blocks (suc n) ks ps
+  AreAtStart cache blocks n _ _ = ⊥
 
 module _ {C P : Type 0} where
-  -- a caller was made of this party and this fork, and keeps nothing
-  pub record IsEnlisted (p : Place (Known C)) (fork : P) (caller : Caller C P) : Type 0 where
+  -- a caller was made of this party, these reads and this fork
+  pub record IsEnlisted (p : Place (Known C)) (kept : List KeptBlock) (fork : P) (caller : Caller C P) : Type 0 where
     pub party : caller.party ≡ p
+    pub keeps : caller.kept ≡ kept
     pub pool : caller.pool ≡ fork
-    pub none : caller.kept ≡ []
 
-  -- these callers were made of these parties and forks
-  abbrev pub AreEnlisted : List (Place (Known C)) → List P → List (Caller C P) → Type 0
-  AreEnlisted [] [] [] = Unit {0}
-  AreEnlisted (p ∷ ps) (fork ∷ forks) (caller ∷ callers) = IsEnlisted p fork caller × AreEnlisted ps forks callers
-  AreEnlisted _ _ _ = ⊥
+  -- these callers were made of these parties, reads and forks
+  abbrev pub AreEnlisted : List (Place (Known C)) → List (List KeptBlock) → List P → List (Caller C P) → Type 0
+  AreEnlisted [] [] [] [] = Unit {0}
+  AreEnlisted (p ∷ ps) (k ∷ ks) (fork ∷ forks) (caller ∷ callers) = IsEnlisted p k fork caller × AreEnlisted ps ks forks callers
+  AreEnlisted _ _ _ _ = ⊥
 
   -- a caller that may begin
-  pub record IsReady (cache : Cache) (caller : Caller C P) : Type 0 where
+  pub record IsReady (cache : Cache) (blocks : List Ptr) (caller : Caller C P) : Type 0 where
     pub alone : caller.party.joined ≡ []
-    pub stands : Stands cache caller.party []
-    pub told : IsTold cache.config [] caller.party
-    pub none : caller.kept ≡ []
+    pub stands : Stands cache caller.party caller.kept
+    pub named : AreNamed blocks (map read_of caller.kept)
 
   -- ---- after the lines
 
-  -- A caller has done its lines, which were answered so, and keeps what they say. Its party has the number n, and its fork was as this one.
-  pub record HasDone (cache : Cache) (pools : Ghosts P) (blocks : List Ptr) (ops : List Op) (n : ℕ) (fork : P) (caller : Caller C P) (replies : List Reply) : Type 0 where
-    pub number : caller.party.number ≡ n
-    pub alone : caller.party.joined ≡ []
-    pub stands : Stands cache caller.party caller.kept
-    pub kept : map read_of caller.kept ≡ kept_after_all blocks [] (filter (is_of_caller n) ops) replies
-    pub told : IsTold cache.config (acts_of_all blocks [] (filter (is_of_caller n) ops) replies) caller.party
-    pub answers : AreAnswered (pools.size fork) (pools.told fork) blocks [] (filter (is_of_caller n) ops) replies
-    pub calls : MakesCalls pools (calls_of_all replies) fork caller.pool
+  -- A caller has done its lines, which were answered so, and keeps what they say. Before them it was as this one, with the number n.
+  pub record HasDone (cache : Cache) (pools : Ghosts P) (blocks : List Ptr) (ops : List Op) (n : ℕ) (old new : Caller C P) (replies : List Reply) : Type 0 where
+    pub number : new.party.number ≡ n
+    pub alone : new.party.joined ≡ []
+    pub stands : Stands cache new.party new.kept
+    pub kept : map read_of new.kept ≡ kept_after_all blocks (map read_of old.kept) (filter (is_of_caller n) ops) replies
+    pub told : (before : List Act) → IsTold cache.config before old.party → IsTold cache.config (before ++ acts_of_all blocks (map read_of old.kept) (filter (is_of_caller n) ops) replies) new.party
+    pub answers : AreAnswered (pools.size old.pool) (pools.told old.pool) blocks (map read_of old.kept) (filter (is_of_caller n) ops) replies
+    pub calls : MakesCalls pools (calls_of_all replies) old.pool new.pool
 
   -- so it was, where memory was enough
   pub record HasTried (cache : Cache) (pools : Ghosts P) (blocks : List Ptr) (ops : List Op) (old new : Caller C P) : Type 0 where
-    pub done : IfOk new.replies (λ replies. HasDone cache pools blocks ops old.party.number old.pool new replies.items)
+    pub done : IfOk new.replies (λ replies. HasDone cache pools blocks ops old.party.number old new replies.items)
 
   -- its lines were answered so
   pub record Replied (caller : Caller C P) (replies : List Reply) : Type 0 where

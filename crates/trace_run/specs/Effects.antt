@@ -15,7 +15,7 @@ pub data Effect : Type 0 where
   GivenBack : Effect
   -- the pool was asked for the bytes, and failed or gave other ones
   PoolRefused : Call → Effect
-  -- nothing was done
+  -- no read was made, and none given back
   NoEffect : Effect
 
 abbrev pub effect_of_refusal : Refusal → Effect

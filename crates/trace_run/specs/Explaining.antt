@@ -14,7 +14,7 @@ use Rattle.trace_text.specs.declared.op.Op.{Op}
 use Rattle.trace_text.specs.declared.reply.Reply.{Reply}
 use Rattle.trace_text.specs.declared.report.Report.{Report}
 use Rattle.trace_text.specs.declared.trace.Trace.{Trace}
-use Rattle.trace_run.specs.Acts.{acts_of_callers}
+use Rattle.trace_run.specs.Acts.{acts_of_callers, events_of_feeds}
 use Rattle.trace_run.specs.Effects.{calls_of_all}
 use Rattle.trace_run.specs.Ends.{ends_of}
 use Rattle.arc_table.specs.Telling.{opening_of}
@@ -24,10 +24,6 @@ use Rattle.trace_run.specs.OneCaller.{AreFoundAs, events_of_drops, kept_after_al
 use Rattle.trace_run.specs.PlainReport.{IsPlainReport}
 use Rattle.trace_run.specs.PlainRun.{report_of}
 use Rattle.vdev_io.specs.Calls.{MakesCalls, Call}
-
--- the feeder makes no event of any shard
-abbrev pub none_of_the_feeder : (shard : ℕ) → List Event
-none_of_the_feeder shard = []
 
 -- the drops at the end of a run in the shard of this number: what each caller still keeps there, by rising caller, the oldest first
 abbrev pub drops_at_end : Config → List Ptr → (shard callers : ℕ) → List Op → List Reply → List Event
@@ -48,9 +44,10 @@ pub record Explain (trace : Trace) (replies : List Reply) (shard_ends : List Sha
   -- its replay gives the shard's end, where nothing is held or being read, and there is no feed
   pub ends : shard_ends ≡ ends_of trace.config histories
   pub at_rest : AllByRecursion (λ history. IsAtRest (replay (opening_of trace.config) history)) histories
-  -- each call of each caller stands once in the history of its key's shard, in the order of the lines, and the feeder made no event
+  -- each call of each caller stands once in the history of its key's shard, in the order of the lines; the feeder made one Resize in each
+  -- for each capacity that the trace gives, in the order of the lines, and nothing else
   pub every_call : HoldEveryCallOnce trace.config (shard_of trace.config.shards) (opening_of trace.config)
-      (acts_of_callers trace.blocks trace.config.callers trace.ops replies) none_of_the_feeder histories
+      (acts_of_callers trace.blocks trace.config.callers trace.ops replies) (λ shard. events_of_feeds trace.config.callers trace.ops replies) histories
   -- each history ends with the drops at the end of the run
   pub ending : (shard : ℕ) → shard < length histories
       → EndsWith (slice_index_or histories shard []) (drops_at_end trace.config trace.blocks shard trace.config.callers trace.ops replies)

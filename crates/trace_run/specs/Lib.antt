@@ -10,6 +10,7 @@ pub mod Ends
 pub mod Explaining
 pub mod Group
 pub mod GroupRun
+pub mod Groups
 pub mod InOrder
 pub mod KeptBlocks
 pub mod KeptQueue

@@ -1,5 +1,5 @@
--- Which lines of a trace are one caller's, and which are on blocks of one shard.
-use Rattle.std.specs.Prelude.{ℕ, ◌==◌, Bool, true, false, if◌then◌else◌, List, [], ◌∷◌, option_and_then, slice_get}
+-- Which lines of a trace are one caller's, and which are done in one shard.
+use Rattle.std.specs.Prelude.{ℕ, ◌==◌, nat_lt, Bool, true, false, if◌then◌else◌, List, [], ◌∷◌, Option, Some, None, slice_get}
 use Rattle.std.specs.Option.{option_map_or}
 use Rattle.blk_ptr.specs.declared.ptr.Ptr.{Ptr}
 use Rattle.blk_ptr.specs.Hash.{shard_of}
@@ -8,31 +8,36 @@ use Rattle.trace_text.specs.declared.op.Op.TheVariants as ops
 use Rattle.trace_text.specs.declared.reply.Reply.{Reply}
 use Rattle.trace_text.specs.Grammar.{block_of}
 
--- the caller of an operation; the other operations are not done yet, and a trace that has one is refused
-abbrev pub caller_of : Op → ℕ
-caller_of (ops.Read n t x window) = n
-caller_of (ops.Hold n t x) = n
-caller_of (ops.Drop n x) = n
-caller_of other = 0
+-- the caller of an operation, where it is a caller's and done
+abbrev pub caller_of : Op → Option ℕ
+caller_of (ops.Read n t x window) = Some n
+caller_of (ops.Hold n t x) = Some n
+caller_of (ops.Drop n x) = Some n
+caller_of other = None
 
 -- the operation is none that the program does yet
 abbrev pub is_undone : Op → Bool
 is_undone (ops.Read n t x window) = false
 is_undone (ops.Hold n t x) = false
 is_undone (ops.Drop n x) = false
+is_undone (ops.Cap c) = false
 is_undone other = true
 
 -- the operation is this caller's
 abbrev pub is_of_caller : ℕ → Op → Bool
-is_of_caller n op = caller_of op == n
+is_of_caller n op = option_map_or (λ (m : ℕ). m == n) (caller_of op) false
 
--- the shard of the block that an operation names, of so many shards
+-- the shard of a block, of so many
+abbrev pub shard_of_block : (shards : ℕ) → List Ptr → (block : ℕ) → ℕ
+shard_of_block shards blocks block = option_map_or (λ (ptr : Ptr). shard_of shards ptr.key) (slice_get blocks block) 0
+
+-- the shard of the block that an operation names, of so many shards; 0 where it names none
 abbrev pub shard_of_line : (shards : ℕ) → List Ptr → Op → ℕ
-shard_of_line shards blocks op = option_map_or (λ (ptr : Ptr). shard_of shards ptr.key) (option_and_then (slice_get blocks) (block_of op)) 0
+shard_of_line shards blocks op = option_map_or (shard_of_block shards blocks) (block_of op) 0
 
--- the operation is on a block of this shard
+-- the operation is done in this shard: it is on a block of it, or names none and is done in each of so many
 abbrev pub is_in_shard : (shards : ℕ) → List Ptr → (shard : ℕ) → Op → Bool
-is_in_shard shards blocks shard op = shard_of_line shards blocks op == shard
+is_in_shard shards blocks shard op = option_map_or (λ (x : ℕ). shard_of_block shards blocks x == shard) (block_of op) (nat_lt shard shards)
 
 -- the replies to the operations that pass a test
 abbrev pub replies_where : (Op → Bool) → List Op → List Reply → List Reply

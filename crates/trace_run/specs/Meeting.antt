@@ -1,20 +1,21 @@
 -- How parties join one and part from it, what they have seen then, and how each in turn gives back what it keeps.
-use Rattle.std.specs.Prelude.{◌≡◌, ◌≢◌, ◌<◌, ℕ, suc, List, [], ◌∷◌, ◌++◌, length, map}
+use Rattle.std.specs.Prelude.{◌≡◌, ◌≢◌, ◌<◌, ◌≤◌, ℕ, suc, List, [], ◌∷◌, ◌++◌, map}
 use Rattle.std.specs.List.{AllByRecursion}
 use Rattle.arc_core.specs.declared.config.Config.{Config}
 use Rattle.arc_core.specs.declared.event.Event.{Event}
-use Rattle.arc_core.specs.Operations.{Act, moments, own_moments}
+use Rattle.arc_core.specs.declared.event.Event.TheVariants.{Resize}
+use Rattle.arc_core.specs.Operations.{Act, moments, own_events, own_moments}
 use Rattle.turn_table.specs.declared.standing.Kept.{Kept}
 use Rattle.turn_table.specs.Moments.{WasSo}
-use Rattle.turn_table.specs.Places.{Place, SomeHas, met, parted, stayed}
+use Rattle.turn_table.specs.Places.{Place, SomeHas, kept as as_kept, met, parted, stayed}
 use Rattle.arc_table.specs.declared.view.Known.{Known}
 use Rattle.arc_table.specs.declared.view.Line.{Line}
 use Rattle.arc_table.specs.Cache.{Cache, IsPartyOf}
-use Rattle.arc_table.specs.Fronts.{front_of}
+use Rattle.arc_table.specs.Fronts.{StartsWith, front_of}
 use Rattle.arc_table.specs.Geometry.{parties_of}
 use Rattle.arc_table.specs.Items.{Meanings}
 use Rattle.arc_table.specs.Rule.{Pact}
-use Rattle.arc_table.specs.Seen.{HasSeenItsOwn, events_in, turn_of}
+use Rattle.arc_table.specs.Seen.{AreSeen, HasSeenItsOwn, events_in, seen_of, turn_of}
 use Rattle.arc_table.specs.Telling.{opening_of}
 use Rattle.arc_table.specs.Told.{IsTold}
 use Rattle.arc_table.specs.Views.{after_learned}
@@ -83,10 +84,37 @@ module _ {C : Type 0} where
     pub stands : Stands cache p kept
     pub told : IsTold cache.config acts p
 
+  -- The feeder's party stands by itself and keeps nothing. These are the events of each shard that it made, and what it has seen begins with these.
+  pub record IsFed (cache : Cache) (feeds begun : (shard : ℕ) → List Event) (p : Place (Known C)) : Type 0 where
+    pub number : p.number ≡ cache.config.callers
+    pub alone : p.joined ≡ []
+    pub stands : Stands cache p []
+    pub fed : (shard : ℕ) → shard < cache.config.shards → own_events p.number (seen_of cache.config shard p) ≡ feeds shard
+    pub since : (shard : ℕ) → StartsWith (seen_of cache.config shard p) (begun shard)
+
+  -- q has seen all that o had, and behind it no event of o's own
+  pub record HasLearned (g : Config) (o q : Place (Known C)) : Type 0 where
+    pub starts : (i : ℕ) → StartsWith (front_of (turn_of g i) q.own.seen) (front_of (turn_of g i) o.own.seen)
+    pub own : HasSameOwn g o.number o.own.seen q.own.seen
+
+  -- The feeder's party, which is this one, has joined p and no other has. It keeps nothing.
+  pub record IsJoinedBy (cache : Cache) (o p : Place (Known C)) : Type 0 where
+    pub number : o.number ≡ cache.config.callers
+    pub stands : Stands cache o []
+    pub alone : o.joined ≡ []
+    pub joined : p.joined ≡ as_kept o.number o.own 0 ∷ []
+
+  abbrev pub HasFeeder : Cache → Place (Known C) → Type 0
+  HasFeeder cache p = (o : Place (Known C)) × IsJoinedBy cache o p
+
   -- What another party is once it has parted: it has its number, what it keeps and what it did, and has seen what all have.
   pub record HasParted (cache : Cache) (lines : ℕ → List Line) (old new : Place (Known C)) : Type 0 where
     pub level : IsLevel cache.config lines new
-    pub waits : (n : ℕ) (acts : List Act) (kept : List KeptBlock) → Waits cache n acts kept old → Waits cache n acts kept new
+    pub number : new.number ≡ old.number
+    pub alone : new.joined ≡ []
+    pub stands : (kept : List KeptBlock) → Stands cache old kept → Stands cache new kept
+    pub own : HasSameOwn cache.config old.number old.own.seen new.own.seen
+    pub starts : (shard : ℕ) → StartsWith (seen_of cache.config shard new) (seen_of cache.config shard old)
 
   abbrev pub HaveParted : Cache → (ℕ → List Line) → (olds news : List (Place (Known C))) → Type 0
   HaveParted cache lines [] [] = Unit {0}
@@ -103,6 +131,7 @@ module _ {C : Type 0} where
     pub parted : HaveParted cache lines others rest
     pub level : IsLevel cache.config lines last
     pub gave : (n : ℕ) (acts : List Act) → Waits cache n acts kept p → Waits cache n (acts ++ acts_of_drops n (map read_of kept)) [] last
+    pub fed : (fed since : (shard : ℕ) → List Event) → kept ≡ [] → IsFed cache fed since p → IsFed cache fed since last
     pub drops : (before : ℕ → List Line) → IsLevel cache.config before p → AllByRecursion (IsLevel cache.config before) others
         → (shard : ℕ) → events_in (lines shard) ≡ events_in (before shard) ++ events_of_drops p.number (holds_in cache.config shard (map read_of kept))
 
@@ -147,13 +176,36 @@ module _ {C : Type 0} where
 
   -- All callers gave back what they kept, by rising caller; the feeder's party stands behind theirs. All have seen the same: of each shard what was
   -- so before, and then their drops.
-  pub record HaveGivenBack (cache : Cache) (acts : ℕ → List Act) (kept : List (List KeptBlock)) (ps : List (Place (Known C))) : Type 0 where
+  pub record HaveGivenBack (cache : Cache) (acts : ℕ → List Act) (feeds since : (shard : ℕ) → List Event) (kept : List (List KeptBlock)) (ps : List (Place (Known C))) : Type 0 where
     pub callers : List (Place (Known C))
     pub feeder : Place (Known C)
     pub are : ps ≡ callers ++ feeder ∷ []
     pub gave : AllGave cache acts 0 kept callers
-    pub fed : Waits cache (length kept) [] [] feeder
+    pub fed : IsFed cache feeds since feeder
     pub first : ℕ → List Event
     pub lines : ℕ → List Line
     pub level : AllByRecursion (IsLevel cache.config lines) ps
     pub drops : (shard : ℕ) → events_in (lines shard) ≡ first shard ++ drops_from cache.config shard 0 kept
+
+-- ---- every shard has a capacity, while all callers have joined the feeder
+
+module _ {C : Type 0} where
+  -- While all others had joined it, the party gave every shard this capacity; then they parted. Each shard has one Resize behind all that anybody
+  -- had done, and all have seen it.
+  pub record Resized (cache : Cache) (c : ℕ) (p : Place (Known C)) (olds : List (Place (Known C))) (q : Place (Known C)) (news : List (Place (Known C))) : Type 0 where
+    pub lines : ℕ → List Line
+    pub parted : HaveParted cache lines olds news
+    pub level : IsLevel cache.config lines q
+    pub number : q.number ≡ p.number
+    pub alone : q.joined ≡ []
+    pub stands : Stands cache q []
+    pub front : ℕ → List Event
+    pub seen : (shard : ℕ) → shard < cache.config.shards → seen_of cache.config shard q ≡ front shard ++ Resize p.number c ∷ []
+    pub beyond : (shard : ℕ) → cache.config.shards ≤ shard → seen_of cache.config shard q ≡ front shard
+    -- the front has of each just what it had done
+    pub own : (shard : ℕ) → own_moments p.number (moments (opening_of cache.config) (front shard)) ≡ own_moments p.number (moments (opening_of cache.config) (seen_of cache.config shard p))
+    pub others : (shard : ℕ)
+        → AllByRecursion (λ o. own_moments o.number (moments (opening_of cache.config) (front shard)) ≡ own_moments o.number (moments (opening_of cache.config) (seen_of cache.config shard o))) olds
+    pub since : (shard : ℕ) → StartsWith (front shard) (seen_of cache.config shard p)
+    -- where one other party has seen all that both made, it is what that one had seen
+    pub one : (o : Place (Known C)) → olds ≡ o ∷ [] → AreSeen cache.config p.number p.own.mine o.own.seen → (shard : ℕ) → front shard ≡ seen_of cache.config shard o

@@ -6,6 +6,7 @@ use Rattle.std.specs.Option.{option_map_or}
 use Rattle.blk_ptr.specs.declared.key.Key.{Key}
 use Rattle.blk_ptr.specs.declared.ptr.Ptr.{Ptr}
 use Rattle.arc_core.specs.declared.event.Event.{Event}
+use Rattle.arc_core.specs.declared.event.Event.TheVariants as event
 use Rattle.arc_core.specs.declared.served.Served.{Served}
 use Rattle.arc_core.specs.declared.served.Served.TheVariants as served
 use Rattle.arc_core.specs.PlainShard.{PlainShard}
@@ -85,12 +86,21 @@ events_of_dropping n block kept GivenBack = events_of_drop n (oldest_key block k
 events_of_dropping n block kept (PoolRefused call) = []
 events_of_dropping n block kept NoEffect = []
 
+-- the number of the feeder, where there is one caller
+abbrev pub only_feeder : ℕ
+only_feeder = 1
+
 -- the events of an operation with this reply, where these reads are kept
 abbrev pub events_of : List Ptr → PlainShard → List KeptRead → Op → Reply → List Event
 events_of blocks s kept (ops.Read n t x window) reply = option_map_or (λ ptr. events_of_read n t s ptr (effect_of reply)) (slice_get blocks x) []
 events_of blocks s kept (ops.Hold n t x) reply = option_map_or (λ ptr. events_of_hold n t s ptr (effect_of reply)) (slice_get blocks x) []
 events_of blocks s kept (ops.Drop n x) reply = events_of_dropping n x kept (effect_of reply)
+events_of blocks s kept (ops.Cap c) reply = event.Resize only_feeder c ∷ []
 events_of blocks s kept other reply = []
+
+-- those that it makes in the shard of this number
+abbrev pub events_there : (shards : ℕ) → List Ptr → (shard : ℕ) → PlainShard → List KeptRead → Op → Reply → List Event
+events_there shards blocks shard s kept op reply = if is_in_shard shards blocks shard op then events_of blocks s kept op reply else []
 
 -- An answered read names where its access found the bytes, and one that the pool refused had to ask the pool.
 abbrev pub NamesSource : Access → Effect → Type 0
@@ -144,7 +154,7 @@ one_caller_history blocks n opening ops replies =
 
 -- ---- several shards
 
--- the history of each shard, by its number: that of the lines on its blocks
+-- the history of each shard, by its number: that of the lines that are done there
 abbrev pub one_caller_histories : (shards : ℕ) → List Ptr → (n : ℕ) → PlainShard → List Op → List Reply → List (List Event)
 one_caller_histories shards blocks n opening ops replies =
     map (λ (shard : ℕ). one_caller_history blocks n opening (filter (is_in_shard shards blocks shard) ops) (replies_where (is_in_shard shards blocks shard) ops replies))

@@ -1,5 +1,5 @@
 -- What a run answers, status by status.
-use Rattle.std.specs.Prelude.{◌≡◌, ◌≢◌, ◌⊎◌, ℕ, ◌+◌, ◌*◌, ◌^◌, ◌<◌, ◌≤◌, List, [], Option, Some, None, is_some, map, replicate, sum_by, Bool, true, false}
+use Rattle.std.specs.Prelude.{◌≡◌, ◌⊎◌, ℕ, ◌+◌, ◌*◌, ◌^◌, ◌<◌, ◌≤◌, List, [], Option, Some, None, is_some, map, replicate, sum_by, Bool, true, false}
 use Rattle.std.specs.Bool.{OnFalse}
 use Rattle.std.specs.List.{list_any, range_with_len}
 use Rattle.std.specs.Io.KnownBytes.{Appends}
@@ -26,7 +26,7 @@ use Rattle.trace_run.specs.Lines.{is_undone}
 use Rattle.trace_run.specs.PlainRun.{report_of}
 use Rattle.trace_run.specs.States.{Handed, NoneFailed, OneFailed, StreamState}
 use Rattle.trace_run.specs.Stream.{Gives, AppendsFront, TakesAtMost}
-use Rattle.trace_run.specs.Together.{RunsTogether, TellsClosed, answered_ops, faults_told, report_status}
+use Rattle.trace_run.specs.Together.{RunsTogether, StopsAtGroup, TellsClosed, answered_ops, faults_told, report_status}
 use Rattle.trace_run.specs.Words.{IsCommand, IsFirstWrong}
 
 -- The words are a command, and this is what it did; or they are none, and their first wrong word is told.
@@ -64,9 +64,9 @@ pub record IsBadTrace (before after : StreamState) (line : ℕ) (kind : Kind) : 
 
 -- Each operation that was answered has its answer, and the histories, which are those of the closed cache, explain the replies and the reads of
 -- the pool; its faults rose by one for each reply that says so, and by one more where a fork failed, where each count had room. With one
--- caller the report is a plain function; with several, each reads the pool through a fork of its own.
+-- caller the report is a plain function; with several, each reads the pool through forks of its own, one for each group.
 pub record IsRun {C P : Type 0} (pool : Ghosts P) (before after : P) (trace : Trace) (fork_failed : Bool) (closed : Ended C) (report : Report) : Type 0 where
-  pub answers : AnswersAll (pool.size before) (pool.told before) trace.blocks (answered_ops trace fork_failed) report.replies
+  pub answers : AnswersAll (pool.size before) (pool.told before) trace.blocks (answered_ops trace fork_failed report.replies) report.replies
   pub explained : Explain trace report.replies report.ends report.histories
   pub tells : TellsClosed closed report
   -- the shared cache was made with the trace's numbers
@@ -74,15 +74,17 @@ pub record IsRun {C P : Type 0} (pool : Ghosts P) (before after : P) (trace : Tr
   pub reads : pool.reads before < 2 ^ 63 → pool.reads after ≡ pool.reads before + sum_by pool_reads report.histories
   pub faults : pool.faults before < 2 ^ 63 → pool.faults after ≡ pool.faults before + faults_told fork_failed report.replies
   pub alone : trace.config.callers ≡ 1 → (fork_failed ≡ false) × RunsAlone pool before after trace report
-  pub together : 2 ≤ trace.config.callers → trace.ops ≢ [] → fork_failed ≡ false → RunsTogether pool before after trace report
+  pub together : 2 ≤ trace.config.callers → RunsTogether pool before after trace fork_failed report
   -- a trace without an operation has no work: no fork is made for it, and the pool is as it was
   pub idle : trace.ops ≡ [] → (fork_failed ≡ false) × (after ≡ before)
-  pub failed : fork_failed ≡ true → Rose (pool.faults before) (pool.faults after)
+  -- a fork failed as a group began, which has no reply then
+  pub failed : fork_failed ≡ true → Rose (pool.faults before) (pool.faults after) × StopsAtGroup trace report.replies
 
--- The report is that of a run of the trace that the source gave.
+-- The report is that of a run of the trace that the source gave, all of whose operations the program does.
 pub record IsReport {C P : Type 0} (pool : Ghosts P) (before after : Handed P) (closed : Ended C) (report : Report) : Type 0 where
   pub trace : Trace
   pub read : WasRead before.source after.source trace
+  pub done : list_any is_undone trace.ops ≡ false
   pub fork_failed : Bool
   pub run : IsRun pool before.pool after.pool trace fork_failed closed report
   pub status : report.status ≡ report_status fork_failed report.replies

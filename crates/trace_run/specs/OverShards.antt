@@ -1,16 +1,14 @@
--- One caller's lines over several shards, one after another, each in the shard of its block.
-use Rattle.std.specs.Prelude.{◌≡◌, ℕ, ◌==◌, if◌then◌else◌, List, [], ◌∷◌, ◌++◌, filter, slice_get, Some, IfSome}
+-- One caller's lines over several shards, one after another, each in the shard of its block or in all.
+use Rattle.std.specs.Prelude.{◌≡◌, ℕ, ◌==◌, List, [], ◌∷◌, ◌++◌, filter, slice_get, Some, IfSome}
 use Rattle.std.specs.List.{AllByRecursion}
-use Rattle.std.specs.Option.{option_map_or}
 use Rattle.blk_ptr.specs.declared.ptr.Ptr.{Ptr}
-use Rattle.blk_ptr.specs.Hash.{shard_of}
 use Rattle.arc_core.specs.declared.event.Event.{Event}
 use Rattle.arc_core.specs.PlainShard.{PlainShard}
 use Rattle.trace_text.specs.declared.op.Op.{Op}
 use Rattle.trace_text.specs.declared.reply.Reply.{Reply}
 use Rattle.trace_run.specs.KeptReads.{KeptRead}
-use Rattle.trace_run.specs.Lines.{shard_of_line}
-use Rattle.trace_run.specs.OneCaller.{events_of, kept_after}
+use Rattle.trace_run.specs.Lines.{shard_of_block, shard_of_line}
+use Rattle.trace_run.specs.OneCaller.{events_there, kept_after}
 use Rattle.trace_run.specs.PlainRun.{shards_after}
 
 -- a fact of each operation and its reply, with the shard of its block and the kept reads that they found, of so many shards
@@ -19,21 +17,15 @@ AllLinesOver fact shards blocks s kept [] replies = Unit {0}
 AllLinesOver fact shards blocks s kept (op ∷ ops) [] = Unit {0}
 AllLinesOver fact shards blocks s kept (op ∷ ops) (reply ∷ replies) =
     fact (s (shard_of_line shards blocks op)) kept op reply
-    × AllLinesOver fact shards blocks
-    (shards_after s (shard_of_line shards blocks op) (events_of blocks (s (shard_of_line shards blocks op)) kept op reply)) (kept_after blocks op reply kept) ops replies
+    × AllLinesOver fact shards blocks (shards_after shards blocks s kept op reply) (kept_after blocks op reply kept) ops replies
 
 -- the events that they make in the shard of this number
 abbrev pub events_over : (shards : ℕ) → List Ptr → (ℕ → PlainShard) → List KeptRead → (shard : ℕ) → List Op → List Reply → List Event
 events_over shards blocks s kept shard [] replies = []
 events_over shards blocks s kept shard (op ∷ ops) [] = []
 events_over shards blocks s kept shard (op ∷ ops) (reply ∷ replies) =
-    (if shard == shard_of_line shards blocks op then events_of blocks (s (shard_of_line shards blocks op)) kept op reply else [])
-    ++ events_over shards blocks
-    (shards_after s (shard_of_line shards blocks op) (events_of blocks (s (shard_of_line shards blocks op)) kept op reply)) (kept_after blocks op reply kept) shard ops replies
-
--- the shard of a block, of so many
-abbrev pub shard_of_block : (shards : ℕ) → List Ptr → (block : ℕ) → ℕ
-shard_of_block shards blocks block = option_map_or (λ (ptr : Ptr). shard_of shards ptr.key) (slice_get blocks block) 0
+    events_there shards blocks shard (s shard) kept op reply
+    ++ events_over shards blocks (shards_after shards blocks s kept op reply) (kept_after blocks op reply kept) shard ops replies
 
 -- the kept reads of blocks of this shard
 abbrev pub kept_in_shard : (shards : ℕ) → List Ptr → (shard : ℕ) → List KeptRead → List KeptRead

@@ -10,7 +10,6 @@ use Rattle.blk_ptr.specs.Key.{end_of as end_of_key}
 use Rattle.blk_ptr.specs.Order.{digest_eq}
 use Rattle.blk_ptr.specs.Ptr.{range_of, sha256_of}
 use Rattle.blk_ptr.specs.Size.{is_block_size_of, sector}
-use Rattle.arc_core.specs.declared.event.Event.{Event}
 use Rattle.arc_core.specs.PlainShard.{PlainShard}
 use Rattle.arc_core.specs.Replay.{replay}
 use Rattle.trace_text.specs.declared.op.Op.{Op}
@@ -18,7 +17,7 @@ use Rattle.trace_text.specs.declared.op.Op.TheVariants as ops
 use Rattle.trace_text.specs.declared.reply.Refusal.{Refusal}
 use Rattle.trace_text.specs.declared.reply.Refusal.TheVariants.{PoolFault, Mismatch, Key as RefusedKey, Range, NoHold}
 use Rattle.trace_text.specs.declared.reply.Reply.{Reply}
-use Rattle.trace_text.specs.declared.reply.Reply.TheVariants.{Read, Kept, Dropped, Refused}
+use Rattle.trace_text.specs.declared.reply.Reply.TheVariants.{Read, Kept, Dropped, Capped, Refused}
 use Rattle.trace_text.specs.declared.report.Report.{Report}
 use Rattle.trace_text.specs.declared.trace.Trace.{Trace}
 use Rattle.dbuf_state.specs.declared.window.Window.{Window}
@@ -30,7 +29,7 @@ use Rattle.trace_run.specs.Effects.{calls_of, effect_of}
 use Rattle.trace_run.specs.Ends.{ends_of}
 use Rattle.arc_table.specs.Telling.{opening_of}
 use Rattle.trace_run.specs.Lines.{shard_of_line}
-use Rattle.trace_run.specs.OneCaller.{events_of, kept_after, oldest_kept, one_caller_histories}
+use Rattle.trace_run.specs.OneCaller.{events_there, kept_after, oldest_kept, one_caller_histories}
 use Rattle.vdev_io.specs.Calls.{Call, Gave, Failed}
 
 -- ---- the reply to one operation
@@ -88,6 +87,7 @@ abbrev pub reply_to : (image : List ℕ) → List Ptr → PlainShard → List Ke
 reply_to image blocks s kept (ops.Read n t x window) call = option_map_or (λ ptr. reply_to_read image s ptr window call) (slice_get blocks x) Dropped
 reply_to image blocks s kept (ops.Hold n t x) call = option_map_or (λ ptr. reply_to_hold image s ptr call) (slice_get blocks x) Dropped
 reply_to image blocks s kept (ops.Drop n x) call = reply_to_drop x kept
+reply_to image blocks s kept (ops.Cap c) call = Capped c
 reply_to image blocks s kept other call = Dropped
 
 -- ---- the replies to all operations
@@ -97,17 +97,15 @@ abbrev pub next_call : List Call → Call
 next_call [] = Gave
 next_call (call ∷ calls) = call
 
--- all shards, once the one of this number has made these events
-abbrev pub shards_after : (ℕ → PlainShard) → ℕ → List Event → ℕ → PlainShard
-shards_after s shard events i = if i == shard then replay (s i) events else s i
+-- all shards, once an operation with this reply is done where these reads are kept
+abbrev pub shards_after : (shards : ℕ) → List Ptr → (ℕ → PlainShard) → List KeptRead → Op → Reply → ℕ → PlainShard
+shards_after shards blocks s kept op reply shard = replay (s shard) (events_there shards blocks shard (s shard) kept op reply)
 
 abbrev pub replies_to : (image : List ℕ) → (shards : ℕ) → List Ptr → (ℕ → PlainShard) → List KeptRead → List Op → List Call → List Reply
 replies_to image shards blocks s kept [] calls = []
 replies_to image shards blocks s kept (op ∷ ops) calls =
-    let shard = shard_of_line shards blocks op in
-    let reply = reply_to image blocks (s shard) kept op (next_call calls) in
-    reply ∷ replies_to image shards blocks (shards_after s shard (events_of blocks (s shard) kept op reply)) (kept_after blocks op reply kept) ops
-    (drop (length (calls_of (effect_of reply))) calls)
+    let reply = reply_to image blocks (s (shard_of_line shards blocks op)) kept op (next_call calls) in
+    reply ∷ replies_to image shards blocks (shards_after shards blocks s kept op reply) (kept_after blocks op reply kept) ops (drop (length (calls_of (effect_of reply))) calls)
 
 -- ---- the report
 

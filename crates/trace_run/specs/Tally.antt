@@ -1,10 +1,11 @@
 -- How many reads of each block a caller keeps.
-use Rattle.std.specs.Prelude.{◌≡◌, ℕ, ◌+◌, List, [], ◌∷◌, Option, Some, count_by, slice_get}
+use Rattle.std.specs.Prelude.{◌≡◌, ℕ, ◌+◌, List, [], ◌∷◌, Option, Some, IfSome, count_by, slice_get}
 use Rattle.blk_ptr.specs.declared.ptr.Ptr.{Ptr}
 use Rattle.trace_text.specs.declared.op.Op.{Op}
 use Rattle.trace_text.specs.declared.op.Op.TheVariants as ops
 use Rattle.trace_text.specs.Grammar.{IsOnDeclared}
 use Rattle.trace_text.specs.declared.reply.Reply.{Reply}
+use Rattle.trace_text.specs.declared.reply.Reply.TheVariants.{Capped}
 use Rattle.trace_run.specs.KeptReads.{KeptRead}
 use Rattle.trace_run.specs.Answers.{AnswersRead, AnswersHold, AnswersDrop, kept_reads, dropped_reads}
 use Rattle.trace_run.specs.Lines.{caller_of}
@@ -21,6 +22,7 @@ AnswersNow pool_len image blocks kept (ops.Read n t x window) reply =
 AnswersNow pool_len image blocks kept (ops.Hold n t x) reply =
     (ptr : Ptr) × (slice_get blocks x ≡ Some ptr) × AnswersHold pool_len image ptr reply
 AnswersNow pool_len image blocks kept (ops.Drop n x) reply = AnswersDrop (kept_of_block x kept) 0 x reply
+AnswersNow pool_len image blocks kept (ops.Cap c) reply = reply ≡ Capped c
 AnswersNow pool_len image blocks kept other reply = ⊥
 
 -- the kept reads are those that this caller has kept and not dropped
@@ -35,10 +37,10 @@ AreAnswered pool_len image blocks kept (op ∷ ops) [] = ⊥
 AreAnswered pool_len image blocks kept (op ∷ ops) (reply ∷ replies) =
     AnswersNow pool_len image blocks kept op reply × AreAnswered pool_len image blocks (kept_after blocks op reply kept) ops replies
 
--- each operation that names a block names one that is declared, of so many
+-- each operation is on a block that is declared, of so many, or on none
 abbrev pub AreDeclared : ℕ → List Op → Type 0
 AreDeclared blocks ops = (k : ℕ) (op : Op) → slice_get ops k ≡ Some op → IsOnDeclared blocks op
 
--- each operation is of this caller, on a block that is declared
-abbrev pub IsOfCaller : ℕ → ℕ → List Op → Type 0
-IsOfCaller caller blocks ops = (k : ℕ) (op : Op) → slice_get ops k ≡ Some op → (caller_of op ≡ caller) × IsOnDeclared blocks op
+-- each operation that is a caller's is this caller's
+abbrev pub IsOfCaller : ℕ → List Op → Type 0
+IsOfCaller caller ops = (k : ℕ) (op : Op) → slice_get ops k ≡ Some op → IfSome (caller_of op) (λ n. n ≡ caller)

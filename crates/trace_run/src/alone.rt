@@ -1,35 +1,143 @@
 //! The run of a trace with one caller over the shared cache.
-ghost use Rattle.std.specs.Prelude.{◌≡◌, IfOk, false};
+ghost use Rattle.std.specs.Prelude.{◌≡◌, ℕ, IfOk, List, false, map};
+ghost use Rattle.arc_lists.specs.Adapting.{IsCapacity};
 ghost use Rattle.arc_table.specs.Geometry.{parties_of};
 ghost use Rattle.vdev_io.specs.Calls.{KeepsPool};
-ghost use Rattle.trace_text.specs.Grammar.{IsFormed};
+ghost use Rattle.trace_text.specs.Grammar.{IsFormed, IsOperation};
+ghost use Rattle.trace_run.specs.declared.kept_blocks.KeptBlock.{KeptBlock};
 ghost use Rattle.trace_run.specs.Alone.{RanAlone};
+ghost use Rattle.trace_run.specs.CallerLines.{DidLines, HasResized, at};
+ghost use Rattle.trace_run.specs.KeptBlocks.{Stands, read_of};
+ghost use Rattle.trace_run.specs.Meeting.{HasFeeder};
 ghost use Rattle.trace_run.specs.Opened.{AreOpened, HasJoined};
 ghost use Rattle.trace_run.specs.Openings.{HaveBegunEmpty};
+ghost use Rattle.trace_run.specs.OverShards.{AreNamed};
 
 use crate::kept_blocks::{KeptBlocks, give_back_all};
-use crate::lines::all_lines;
+use crate::lines::{is_of_caller, line};
 use crate::opening::open_cache;
 use crate::ran::Ran;
+use crate::resizing::resize_joined;
 use arc_core::Keeps;
 use arc_table::Party;
 use blk_ptr::NoMemory;
 use dbuf_cells::{Cells, HeapCell};
 use std::alloc::Global;
 use std::sync::Wait;
-use trace_text::Trace;
+use trace_text::{Op, Reply, Trace};
 use vdev_io::{Gate, NoCache, Pool};
 
 /// The party of the one caller, which the feeder's has joined.
 fn only_party(arcs: &Cells, mut parties: Vec<Party<HeapCell>>) -> Party<HeapCell>
     requires one { arcs.now.config.callers ≡ 1 }
     requires opened { AreOpened arcs.now parties.items }
-    ensures { HasJoined arcs.now (parties_of arcs.now.config) result }
+    ensures joined { HasJoined arcs.now (parties_of arcs.now.config) result }
+    ensures feeder { HasFeeder arcs.now result }
 {
     let feeder = parties.remove(1);
     let mut party = parties.remove(0);
     arcs.join(&mut party, feeder);
     party
+}
+
+/// Gives every shard this capacity. The feeder does it: it parts from the caller's party, which joins it for that time, and then joins that party
+/// again.
+fn resize_alone(
+    alloc: Global,
+    rt: &impl Wait,
+    arcs: &Cells,
+    mut party: Party<HeapCell>,
+    c: u64,
+) -> Result<Party<HeapCell>, NoMemory>
+    requires one { arcs.now.config.callers ≡ 1 }
+    requires number { party.number ≡ 0 }
+    requires stands { (kept : List KeptBlock) × Stands arcs.now party kept }
+    requires joined { HasFeeder arcs.now party }
+    requires rows { arcs.now.row.parties ≡ parties_of arcs.now.config }
+    requires capacity { IsCapacity c }
+    ensures stands { (kept : List KeptBlock) → Stands arcs.now party kept → IfOk result (λ q. Stands arcs.now q kept) }
+    ensures joined { IfOk result (HasFeeder arcs.now) }
+    ensures did { IfOk result (HasResized arcs.now.config c party) }
+{
+    let feeder = arcs.part(&mut party, 1);
+    let callers = vec![in alloc; party]?;
+    let (feeder, mut callers) = resize_joined(alloc, rt, arcs, feeder, callers, c)?;
+    let Some(mut party) = callers.pop() else {
+        unreachable!()
+    };
+    arcs.join(&mut party, feeder);
+    Ok(party)
+}
+
+/// Does a line that is no caller's.
+fn other_line(
+    alloc: Global,
+    rt: &impl Wait,
+    arcs: &Cells,
+    party: Party<HeapCell>,
+    op: &Op,
+) -> Result<(Party<HeapCell>, Reply), NoMemory>
+    requires one { arcs.now.config.callers ≡ 1 }
+    requires number { party.number ≡ 0 }
+    requires stands { (kept : List KeptBlock) × Stands arcs.now party kept }
+    requires joined { HasFeeder arcs.now party }
+    requires rows { arcs.now.row.parties ≡ parties_of arcs.now.config }
+    requires possible { IsOperation arcs.now.config.callers arcs.now.config.shards op.now }
+    ensures stands { (kept : List KeptBlock) → Stands arcs.now party kept → IfOk result (λ r. Stands arcs.now r.0 kept) }
+    ensures joined { IfOk result (λ r. HasFeeder arcs.now r.0) }
+    ensures did { IfOk result (λ r. (c : ℕ) × (op.now ≡ Op.Cap c) × (r.1 ≡ Reply.Capped c) × HasResized arcs.now.config c party r.0) }
+{
+    // A trace with a line that is not done yet is refused before it is run.
+    let Op::Cap { c } = *op else {
+        return Err(NoMemory);
+    };
+    let party = resize_alone(alloc, rt, arcs, party, c)?;
+    Ok((party, Reply::Capped { c }))
+}
+
+/// Does all lines of a trace of one caller, one after another, over the pool that is handed in.
+fn lines_alone<P: Pool, G: Gate>(
+    alloc: Global,
+    rt: &impl Wait,
+    arcs: &Cells,
+    trace: &Trace,
+    party: Party<HeapCell>,
+    kept: &mut KeptBlocks,
+    pool: &mut P,
+    gate: &G,
+) -> Result<(Party<HeapCell>, Vec<Reply>), NoMemory>
+    requires formed { IsFormed trace.now }
+    requires config { arcs.now.config ≡ trace.now.config }
+    requires one { trace.now.config.callers ≡ 1 }
+    requires rows { arcs.now.row.parties ≡ parties_of arcs.now.config }
+    requires number { party.number ≡ 0 }
+    requires stands { Stands arcs.now party kept.old }
+    requires named { AreNamed trace.now.blocks (map read_of kept.old) }
+    requires joined { HasFeeder arcs.now party }
+    ensures stands { IfOk result (λ r. Stands arcs.now r.0 kept.new) }
+    ensures did { IfOk result (λ r. DidLines arcs.now.config P.Pool 0 trace.now.blocks trace.now.ops r.1.items
+        (at party (map read_of kept.old) pool.old) (at r.0 (map read_of kept.new) pool.new)) }
+    ensures pool { KeepsPool P.Pool pool.old pool.new }
+{
+    let caller = party.number();
+    let mut party = party;
+    let mut device = NoCache::new();
+    let mut replies = Vec::new(alloc);
+    let blocks = trace.blocks.as_slice();
+    let ops = trace.ops.as_slice();
+    for (number, op) in ops.iter().enumerate() {
+        if !is_of_caller(op, caller) {
+            let (after, reply) = other_line(alloc, rt, arcs, party, op)?;
+            party = after;
+            replies.push(reply)?;
+            continue;
+        }
+        gate.before(caller, number as u32);
+        let reply = line(rt, arcs, &mut party, kept, pool, &mut device, blocks, op)?;
+        gate.after(caller, number as u32);
+        replies.push(reply)?;
+    }
+    Ok((party, replies))
 }
 
 /// Runs a trace of one caller: its lines, one after another, over the pool that is handed in.
@@ -48,23 +156,9 @@ pub(crate) fn run_alone<P: Pool, G: Gate>(
     ensures pool { KeepsPool P.Pool pool.old pool.new }
 {
     let (arcs, parties) = open_cache(alloc, trace)?;
-    let mut party = only_party(&arcs, parties);
+    let party = only_party(&arcs, parties);
     let mut kept = KeptBlocks::new(alloc);
-    let blocks = trace.blocks.as_slice();
-    let ops = trace.ops.as_slice();
-    let mut device = NoCache::new();
-    let replies = all_lines(
-        alloc,
-        rt,
-        &arcs,
-        &mut party,
-        &mut kept,
-        pool,
-        &mut device,
-        blocks,
-        ops,
-        gate,
-    )?;
+    let (mut party, replies) = lines_alone(alloc, rt, &arcs, trace, party, &mut kept, pool, gate)?;
     give_back_all(rt, &arcs, &mut party, kept);
     let closed = arcs.close(vec![in alloc; party]?)?;
     Ok(Ran {

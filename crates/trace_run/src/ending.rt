@@ -4,8 +4,9 @@ ghost use Rattle.std.specs.Prelude.{◌≡◌, ℕ, [], IfOk, List, map, vec_len
 ghost use Rattle.std.specs.List.{AllByRecursion};
 ghost use Rattle.arc_table.specs.Geometry.{parties_of};
 ghost use Rattle.arc_table.specs.Items.{meanings};
+ghost use Rattle.arc_core.specs.declared.event.Event.{Event};
 ghost use Rattle.arc_core.specs.Operations.{Act};
-ghost use Rattle.trace_run.specs.Meeting.{AreLast, AreWaiting, FirstGaveBack, FirstMayGoOn, GaveBackJoined, HaveGivenBack, JoinAll, MayGoOn, MayJoin, MayPart, PartAll, Waits};
+ghost use Rattle.trace_run.specs.Meeting.{AreLast, AreWaiting, FirstGaveBack, FirstMayGoOn, GaveBackJoined, HaveGivenBack, IsFed, JoinAll, MayGoOn, MayJoin, MayPart, PartAll};
 
 use crate::kept_blocks::{KeptBlocks, give_back_all};
 use arc_core::Keeps;
@@ -15,7 +16,10 @@ use std::alloc::Global;
 use std::sync::Wait;
 
 /// The numbers of parties, in their order.
-fn numbers_of<C: Keeps>(alloc: Global, parties: &[Party<C>]) -> Result<Vec<u32>, NoMemory>
+pub(crate) fn numbers_of<C: Keeps>(
+    alloc: Global,
+    parties: &[Party<C>],
+) -> Result<Vec<u32>, NoMemory>
     ensures { IfOk result (λ numbers. numbers.items ≡ map (λ p. p.number) parties.now) }
 {
     let mut numbers = Vec::new(alloc);
@@ -26,7 +30,7 @@ fn numbers_of<C: Keeps>(alloc: Global, parties: &[Party<C>]) -> Result<Vec<u32>,
 }
 
 /// All these parties join `party`, the first of them last.
-fn join_all<C: Keeps>(arcs: &Arcs<C>, party: &mut Party<C>, mut others: Vec<Party<C>>)
+pub(crate) fn join_all<C: Keeps>(arcs: &Arcs<C>, party: &mut Party<C>, mut others: Vec<Party<C>>)
     requires party { MayJoin arcs.now party.old }
     requires others { AllByRecursion (MayJoin arcs.now) others.items }
     ensures { JoinAll (meanings C.holds C.entries C.opening C.claims C.sound) others.items party.old party.new }
@@ -37,7 +41,7 @@ fn join_all<C: Keeps>(arcs: &Arcs<C>, party: &mut Party<C>, mut others: Vec<Part
 }
 
 /// The parties of these numbers, which joined `party`, part from it.
-fn part_all<C: Keeps>(
+pub(crate) fn part_all<C: Keeps>(
     alloc: Global,
     arcs: &Arcs<C>,
     party: &mut Party<C>,
@@ -102,8 +106,9 @@ pub(crate) fn all_give_back<C: Keeps>(
     requires parties { arcs.now.row.parties ≡ parties_of arcs.now.config }
     requires count { vec_len kept ≡ arcs.now.config.callers }
     requires callers { (acts : ℕ → List Act) × AreWaiting arcs.now acts 0 kept.items callers.items }
-    requires feeder { Waits arcs.now arcs.now.config.callers [] [] feeder }
-    ensures { IfOk result (λ parties. (acts : ℕ → List Act) → AreWaiting arcs.now acts 0 kept.items callers.items → HaveGivenBack arcs.now acts kept.items parties.items) }
+    requires feeder { (feeds since : (shard : ℕ) → List Event) × IsFed arcs.now feeds since feeder }
+    ensures { IfOk result (λ parties. (acts : ℕ → List Act) → AreWaiting arcs.now acts 0 kept.items callers.items
+        → (feeds since : (shard : ℕ) → List Event) → IsFed arcs.now feeds since feeder → HaveGivenBack arcs.now acts feeds since kept.items parties.items) }
 {
     let mut parties = give_back_joined(alloc, rt, arcs, feeder, KeptBlocks::new(alloc), callers)?;
     for reads in kept {

@@ -3,7 +3,7 @@ ghost use Rattle.std.specs.Prelude.{All, ◌≡◌, ◌<◌, ◌≤◌, ◌+◌,
 ghost use Rattle.std.specs.List.{AllByRecursion, AllZip};
 ghost use Rattle.vdev_io.specs.Calls.{KeepsPool};
 ghost use Rattle.trace_text.specs.declared.reply.Reply.{Reply};
-ghost use Rattle.vdev_io.specs.Faults.{CountsIoFault, Rose};
+ghost use Rattle.vdev_io.specs.Faults.{CountsIoFault, Rose, last_count};
 ghost use Rattle.vdev_io.specs.declared.fault.IoFault.{IoFault};
 ghost use Rattle.trace_run.specs.Callers.{Absorbs, AbsorbsAll, AreAtStart, AreEnlisted, HasTried, HaveComeBack, IsReady, Replied};
 ghost use Rattle.trace_run.specs.Group.{HaveWorked, IsFork, LeavesPool};
@@ -75,9 +75,10 @@ pub(crate) fn forks<P: Pool>(alloc: Global, pool: &mut P, callers: u32) -> Resul
     ensures count { IfOk result (λ forks. vec_len forks ≡ callers) }
     ensures pool { LeavesPool P.Pool pool.old pool.new }
     ensures keeps { OnOk result (KeepsPool P.Pool pool.old pool.new) }
-    ensures reads { P.reads pool.old < 2 ^ 63 → P.reads pool.new ≡ P.reads pool.old }
+    ensures unread { OnOk result (P.reads pool.new ≡ P.reads pool.old) }
+    ensures reads { P.reads pool.old ≤ last_count → P.reads pool.new ≡ P.reads pool.old }
     ensures unfailed { OnOk result (P.faults pool.new ≡ P.faults pool.old) }
-    ensures failed { IsErrOf result IoFault.Failed → P.faults pool.old < 2 ^ 63 → P.faults pool.new ≡ P.faults pool.old + 1 }
+    ensures failed { IsErrOf result IoFault.Failed → P.faults pool.old < last_count → P.faults pool.new ≡ P.faults pool.old + 1 }
     ensures rose { IsErrOf result IoFault.Failed → Rose (P.faults pool.old) (P.faults pool.new) }
 {
     let mut forks = Vec::new(alloc);
@@ -90,24 +91,30 @@ pub(crate) fn forks<P: Pool>(alloc: Global, pool: &mut P, callers: u32) -> Resul
     Ok(forks)
 }
 
-/// Makes a caller of each party and its fork.
+/// Makes a caller of each party, the reads that it keeps, and its fork.
 fn enlist<C: Keeps, P: Pool>(
     alloc: Global,
     parties: Vec<Party<C>>,
+    kept: Vec<KeptBlocks>,
     forks: Vec<P>,
 ) -> Result<Vec<Caller<C, P>>, NoMemory>
-    requires { vec_len forks ≡ vec_len parties }
-    ensures { IfOk result (λ callers. AreEnlisted parties.items forks.items callers.items) }
+    requires kept { vec_len kept ≡ vec_len parties }
+    requires forks { vec_len forks ≡ vec_len parties }
+    ensures { IfOk result (λ callers. AreEnlisted parties.items kept.items forks.items callers.items) }
 {
     let mut callers = Vec::with_capacity(alloc, parties.len())?;
+    let mut kept = kept.into_iter();
     let mut forks = forks.into_iter();
     for party in parties {
+        let Some(reads) = kept.next() else {
+            unreachable!()
+        };
         let Some(pool) = forks.next() else {
             unreachable!()
         };
         callers.push(Caller {
             party,
-            kept: KeptBlocks::new(alloc),
+            kept: reads,
             pool,
             replies: Ok(Vec::new(alloc)),
         })?;
@@ -123,11 +130,12 @@ fn work<C: Keeps, P: Pool, G: Gate>(
     caller: &mut Caller<C, P>,
     blocks: &[Ptr],
     ops: &[Op],
+    first: u32,
     gate: &G,
 )
-    requires ready { IsReady arcs.now caller.old }
+    requires ready { IsReady arcs.now blocks.now caller.old }
     requires declared { AreDeclared (length blocks.now) ops.now }
-    requires few { length ops.now < 2 ^ 32 }
+    requires few { first + length ops.now < 2 ^ 32 }
     ensures { HasTried arcs.now P.Pool blocks.now ops.now caller.old caller.new }
 {
     caller.replies = all_lines(
@@ -140,6 +148,7 @@ fn work<C: Keeps, P: Pool, G: Gate>(
         &mut NoCache::new(),
         blocks,
         ops,
+        first,
         gate,
     );
 }
@@ -152,17 +161,18 @@ fn work_all<R: Threads + Wait + Sync, C: Keeps + Send, P: Pool, G: Gate>(
     callers: &mut [Caller<C, P>],
     blocks: &[Ptr],
     ops: &[Op],
+    first: u32,
     gate: &G,
 )
-    requires ready { All (IsReady arcs.now) callers.old }
+    requires ready { All (IsReady arcs.now blocks.now) callers.old }
     requires declared { AreDeclared (length blocks.now) ops.now }
-    requires few { length ops.now < 2 ^ 32 }
+    requires few { first + length ops.now < 2 ^ 32 }
     ensures { AllZip (HasTried arcs.now P.Pool blocks.now ops.now) callers.old callers.new }
 {
     let each = |_: usize, caller: &mut Caller<C, P>|
-        requires { IsReady arcs.now caller.old × AreDeclared (length blocks.now) ops.now × (length ops.now < 2 ^ 32) }
+        requires { IsReady arcs.now blocks.now caller.old × AreDeclared (length blocks.now) ops.now × (first + length ops.now < 2 ^ 32) }
         ensures { HasTried arcs.entry.now P.Pool blocks.entry.now ops.entry.now caller.old caller.new }
-    { work(alloc, rt, arcs, caller, blocks, ops, gate) };
+    { work(alloc, rt, arcs, caller, blocks, ops, first, gate) };
     thread::for_each_mut(rt, callers, MOST_CALLERS, &each);
 }
 
@@ -217,29 +227,31 @@ fn take_all_back<C: Keeps, P: Pool>(
     Ok(worked)
 }
 
-/// Lets callers work at once, each by its own lines of a trace, with its own party and its own fork of the pool. Then the pool takes their forks
-/// back, by their numbers.
+/// Lets callers work at once, each by its own lines among these, with its own party, the reads that it keeps and its own fork of the pool. Then
+/// the pool takes their forks back, by their numbers. The first of the lines has this number in the trace.
 pub(crate) fn run_group<R: Threads + Wait + Sync, C: Keeps + Send, P: Pool, G: Gate>(
     alloc: Global,
     rt: &R,
     arcs: &Arcs<C>,
     parties: Vec<Party<C>>,
+    kept: Vec<KeptBlocks>,
     forks: Vec<P>,
     pool: &mut P,
     blocks: &[Ptr],
     ops: &[Op],
+    first: u32,
     gate: &G,
 ) -> Result<Worked<C>, NoMemory>
-    requires parties { AreAtStart arcs.now 0 parties.items }
+    requires parties { AreAtStart arcs.now blocks.now 0 kept.items parties.items }
     requires forks { AllByRecursion (IsFork P.Pool pool.old) forks.items }
     requires same { vec_len forks ≡ vec_len parties }
-    requires callers { vec_len parties ≤ 16 }
     requires declared { AreDeclared (length blocks.now) ops.now }
-    requires few { length ops.now < 2 ^ 32 }
-    ensures worked { IfOk result (λ worked. HaveWorked arcs.now P.Pool blocks.now ops.now (vec_len parties) pool.old pool.new (map (λ v. v.items) worked.replies.items) worked.kept.items worked.parties.items) }
+    requires few { first + length ops.now < 2 ^ 32 }
+    ensures worked { IfOk result (λ worked. HaveWorked arcs.now P.Pool blocks.now ops.now (vec_len parties) pool.old pool.new (map (λ v. v.items) worked.replies.items)
+        kept.items parties.items worked.kept.items worked.parties.items) }
     ensures pool { LeavesPool P.Pool pool.old pool.new }
 {
-    let mut callers = enlist(alloc, parties, forks)?;
-    work_all(alloc, rt, arcs, &mut callers, blocks, ops, gate);
+    let mut callers = enlist(alloc, parties, kept, forks)?;
+    work_all(alloc, rt, arcs, &mut callers, blocks, ops, first, gate);
     take_all_back(alloc, callers, pool)
 }

@@ -7,7 +7,8 @@ use blk_ptr::NoMemory;
 use std::alloc::Global;
 use trace_text::{Op, Reply};
 
-/// Puts the callers' replies together, one for each operation. Each caller's are those to its own operations, in their order.
+/// Puts the callers' replies together, one for each operation, where each is a caller's. Each caller's are those to its own operations, in their
+/// order.
 pub(crate) fn in_order(
     alloc: Global,
     ops: &[Op],
@@ -18,8 +19,10 @@ pub(crate) fn in_order(
 {
     let mut merged = Vec::new(alloc);
     for number in (0..ops.len()).rev() {
-        let caller = caller_of(&ops[number]) as usize;
-        let Some(reply) = replies[caller].pop() else {
+        let Some(caller) = caller_of(&ops[number]) else {
+            unreachable!()
+        };
+        let Some(reply) = replies[caller as usize].pop() else {
             unreachable!()
         };
         merged.push(reply)?;

@@ -1,5 +1,5 @@
 //! One caller's lines over the shared cache.
-ghost use Rattle.std.specs.Prelude.{◌≡◌, ◌≢◌, ◌<◌, ◌^◌, [], IfOk, IfSome, List, None, OnErr, filter, length, map};
+ghost use Rattle.std.specs.Prelude.{◌≡◌, ◌≢◌, ◌<◌, ◌+◌, ◌^◌, [], IfOk, IfSome, List, None, OnErr, filter, length, map, true};
 ghost use Rattle.blk_ptr.specs.Hash.{shard_of};
 ghost use Rattle.vdev_io.specs.Calls.{KeepsPool, MakesCalls};
 ghost use Rattle.trace_run.specs.Acts.{acts_of_hold, acts_of_read};
@@ -152,7 +152,7 @@ fn drop_line<C: Keeps>(
 }
 
 /// Answers one operation of a caller.
-fn line<C: Keeps, P: Pool, D: CacheDev>(
+pub(crate) fn line<C: Keeps, P: Pool, D: CacheDev>(
     rt: &impl Wait,
     arcs: &Arcs<C>,
     party: &mut Party<C>,
@@ -163,7 +163,7 @@ fn line<C: Keeps, P: Pool, D: CacheDev>(
     op: &Op,
 ) -> Result<Reply, NoMemory>
     requires stands { Stands arcs.now party.old kept.old }
-    requires own { caller_of op.now ≡ party.old.number }
+    requires own { is_of_caller party.old.number op.now ≡ true }
     requires declared { IsOnDeclared (length blocks.now) op.now }
     requires named { AreNamed blocks.now (map read_of kept.old) }
     ensures stands { IfOk result (λ reply. Stands arcs.now party.new kept.new) }
@@ -190,22 +190,33 @@ fn line<C: Keeps, P: Pool, D: CacheDev>(
             )
         }
         Op::Drop { x, .. } => Ok(drop_line(rt, arcs, party, kept, x)),
-        // Not done yet: a trace with such a line is refused before it is run.
+        // A trace with a line that is not done yet is refused before it is run, and a capacity is no caller's.
         _ => Err(NoMemory),
     }
 }
 
-/// The caller of an operation. The other operations are not done yet.
-pub(crate) fn caller_of(op: &Op) -> u32
+/// The caller of an operation, where it is a caller's.
+pub(crate) fn caller_of(op: &Op) -> Option<u32>
     ensures { result ≡ caller_of op.now }
 {
     match *op {
-        Op::Read { n, .. } | Op::Hold { n, .. } | Op::Drop { n, .. } => n,
-        _ => 0,
+        Op::Read { n, .. } | Op::Hold { n, .. } | Op::Drop { n, .. } => Some(n),
+        _ => None,
     }
 }
 
-/// Answers those of a trace's operations that are this caller's, in their order, each between the gate's calls with its number in the trace.
+/// Whether an operation is this caller's.
+pub(crate) fn is_of_caller(op: &Op, caller: u32) -> bool
+    ensures { result ≡ is_of_caller caller op.now }
+{
+    match *op {
+        Op::Read { n, .. } | Op::Hold { n, .. } | Op::Drop { n, .. } => n == caller,
+        _ => false,
+    }
+}
+
+/// Answers those of these operations that are this caller's, in their order, each between the gate's calls with its number in the trace, where
+/// the first of them has this one.
 pub(crate) fn all_lines<C: Keeps, P: Pool, D: CacheDev, G: Gate>(
     alloc: Global,
     rt: &impl Wait,
@@ -216,12 +227,13 @@ pub(crate) fn all_lines<C: Keeps, P: Pool, D: CacheDev, G: Gate>(
     device: &mut D,
     blocks: &[Ptr],
     ops: &[Op],
+    first: u32,
     gate: &G,
 ) -> Result<Vec<Reply>, NoMemory>
     requires stands { Stands arcs.now party.old kept.old }
     requires declared { AreDeclared (length blocks.now) ops.now }
     requires named { AreNamed blocks.now (map read_of kept.old) }
-    requires few { length ops.now < 2 ^ 32 }
+    requires few { first + length ops.now < 2 ^ 32 }
     ensures stands { IfOk result (λ replies. Stands arcs.now party.new kept.new) }
     ensures did { IfOk result (λ replies. DidLines arcs.now.config P.Pool (D.size device.old) blocks.now (filter (is_of_caller party.old.number) ops.now) replies.items
         (at party.old (map read_of kept.old) pool.old) (at party.new (map read_of kept.new) pool.new)) }
@@ -231,12 +243,13 @@ pub(crate) fn all_lines<C: Keeps, P: Pool, D: CacheDev, G: Gate>(
     let caller = party.number();
     let mut replies = Vec::new(alloc);
     for (number, op) in ops.iter().enumerate() {
-        if caller_of(op) != caller {
+        if !is_of_caller(op, caller) {
             continue;
         }
-        gate.before(caller, number as u32);
+        let number = first + number as u32;
+        gate.before(caller, number);
         let reply = line(rt, arcs, party, kept, pool, device, blocks, op)?;
-        gate.after(caller, number as u32);
+        gate.after(caller, number);
         replies.push(reply)?;
     }
     Ok(replies)

@@ -1,6 +1,8 @@
 //! The top call: from the words and the source to the report on the sink.
 ghost use Rattle.std.specs.Prelude.{◌≡◌, ◌<◌, ◌^◌, IfOk, IfErr, IfSome, None, false, is_some, ◌+◌};
+ghost use Rattle.std.specs.List.{list_any};
 ghost use Rattle.trace_text.specs.Grammar.{IsFormed, longest_text};
+ghost use Rattle.trace_run.specs.Lines.{is_undone};
 ghost use Rattle.trace_run.specs.Stream.{TakesAtMost};
 ghost use Rattle.trace_run.specs.Outcome.{AnswersWords, AnswersSource, AnswersSink, Does, DoesRun, IfReported, IfUsage, IsDelivered, IsGenReport, IsGenStatus, IsReadStatus, IsReportStatus, WasRead, has_report};
 ghost use Rattle.trace_run.specs.Group.{LeavesPool};
@@ -138,6 +140,7 @@ fn read_source<S: Source>(alloc: Global, source: &mut S) -> Result<Trace, Status
     ensures took { TakesAtMost (S.left source.old) (S.left source.new) (longest_text + 1) }
     ensures read { IfOk result (WasRead (source_state S.Source source.old) (source_state S.Source source.new)) }
     ensures formed { IfOk result IsFormed }
+    ensures done { IfOk result (λ trace. list_any is_undone trace.ops ≡ false) }
     ensures err { IfErr result (AnswersSource (source_state S.Source source.old) (source_state S.Source source.new)) }
     ensures which { IfErr result IsReadStatus }
 {

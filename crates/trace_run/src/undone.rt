@@ -6,9 +6,7 @@ ghost use Rattle.trace_run.specs.Lines.{is_undone};
 use trace_text::Op;
 
 /// The words of these operations.
-const UNDONE: [&[u8]; 8] = [
-    b"get", b"put", b"patch", b"pin", b"unpin", b"feed", b"txg", b"cap",
-];
+const UNDONE: [&[u8]; 7] = [b"get", b"put", b"patch", b"pin", b"unpin", b"feed", b"txg"];
 
 /// Whether one of the operations is not done yet.
 pub(crate) fn has_undone(ops: &[Op]) -> bool
@@ -22,7 +20,7 @@ fn is_undone(op: &Op) -> bool
     ensures { result ≡ is_undone op.now }
 {
     match op {
-        Op::Read { .. } | Op::Hold { .. } | Op::Drop { .. } => false,
+        Op::Read { .. } | Op::Hold { .. } | Op::Drop { .. } | Op::Cap { .. } => false,
         _ => true,
     }
 }

@@ -8,7 +8,7 @@ use Rattle.trace_run.specs.Callers.{AbsorbsAll, HasTried, HaveComeBack, IsReady}
 use Rattle.trace_run.specs.Group.{HaveWorked}
 use Rattle.trace_run.specs.declared.group.Caller.{Caller}
 use Rattle.trace_run.proofs.AbsorbLemmas.{absorbed-leaves}
-use Rattle.trace_run.proofs.GroupLemmas.{enlisted-ready, have-worked}
+use Rattle.trace_run.proofs.GroupLemmas.{enlisted-ready, have-worked, start-length}
 use Rattle.trace_run.proofs.group.run_group.Goals as goal
 
 -- what a slice of a whole vector leaves there
@@ -17,9 +17,9 @@ written n news olds is = ap (λ (k : ℕ). take k (news ++ drop (length news) ol
 
 pub work_all-requires-clause-ready : goal.work_all-requires-clause-ready
 work_all-requires-clause-ready g c = λ k lives i d lt.
-    all-at (IsReady c.args.arcs.now) c.deref_mut.result.now i d
-    (subst (AllByRecursion (IsReady c.args.arcs.now)) (sym c.deref_mut.ensures.value)
-    (enlisted-ready c.args.arcs.now g.P.Pool c.args.blocks.now c.args.ops.now c.args.pool.now c.args.parties.items c.args.forks.items c.in_ok-callers.callers.items c.requires.parties c.requires.forks c.in_ok-callers.ensures)) lt
+    all-at (IsReady c.args.arcs.now c.args.blocks.now) c.deref_mut.result.now i d
+    (subst (AllByRecursion (IsReady c.args.arcs.now c.args.blocks.now)) (sym c.deref_mut.ensures.value)
+    (enlisted-ready c.args.arcs.now g.P.Pool c.args.blocks.now c.args.ops.now c.args.pool.now c.args.parties.items c.args.kept.items c.args.forks.items c.in_ok-callers.callers.items c.requires.parties c.requires.forks c.in_ok-callers.ensures)) lt
 
 pub returns-clause-worked : goal.returns-clause-worked
 returns-clause-worked g c =
@@ -31,13 +31,20 @@ returns-clause-worked g c =
     let many : length c.args.parties.items ≡ c.args.parties.len = let o = c.args.parties.ok in omega arith in
     IfOk-weaker c.take_all_back.result
     (λ worked. HaveComeBack (take c.in_ok-callers.callers.len (news ++ drop (length news) c.in_ok-callers.callers.items)) (map (λ (v : Vec Reply Global). v.items) worked.replies.items) worked.parties.items worked.kept.items)
-    (λ worked. HaveWorked c.args.arcs.now g.P.Pool c.args.blocks.now c.args.ops.now c.args.parties.len c.args.pool.now c.take_all_back.new.pool (map (λ (v : Vec Reply Global). v.items) worked.replies.items) worked.kept.items worked.parties.items)
+    (λ worked. HaveWorked c.args.arcs.now g.P.Pool c.args.blocks.now c.args.ops.now c.args.parties.len c.args.pool.now c.take_all_back.new.pool (map (λ (v : Vec Reply Global). v.items) worked.replies.items) c.args.kept.items c.args.parties.items worked.kept.items worked.parties.items)
     (λ worked came.
-    subst (λ (n : ℕ). HaveWorked c.args.arcs.now g.P.Pool c.args.blocks.now c.args.ops.now n c.args.pool.now c.take_all_back.new.pool (map (λ (v : Vec Reply Global). v.items) worked.replies.items) worked.kept.items worked.parties.items) many
-    (have-worked c.args.arcs.now g.P.Pool c.args.blocks.now c.args.ops.now c.args.pool.now c.take_all_back.new.pool c.args.parties.items c.args.forks.items c.in_ok-callers.callers.items news
-    (map (λ (v : Vec Reply Global). v.items) worked.replies.items) worked.kept.items worked.parties.items c.requires.parties c.requires.forks (let few = c.requires.callers in omega arith) c.requires.few c.in_ok-callers.ensures tried absorbs
+    subst (λ (n : ℕ). HaveWorked c.args.arcs.now g.P.Pool c.args.blocks.now c.args.ops.now n c.args.pool.now c.take_all_back.new.pool (map (λ (v : Vec Reply Global). v.items) worked.replies.items) c.args.kept.items c.args.parties.items worked.kept.items worked.parties.items) many
+    (have-worked c.args.arcs.now g.P.Pool c.args.blocks.now c.args.ops.now c.args.pool.now c.take_all_back.new.pool c.args.parties.items c.args.kept.items c.args.forks.items c.in_ok-callers.callers.items news
+    (map (λ (v : Vec Reply Global). v.items) worked.replies.items) worked.kept.items worked.parties.items c.requires.parties c.requires.forks c.in_ok-callers.ensures tried absorbs
     (subst (λ (l : List (Caller g.row.C.Denot g.row.P.Denot)). HaveComeBack l (map (λ (v : Vec Reply Global). v.items) worked.replies.items) worked.parties.items worked.kept.items) same came)))
     c.take_all_back.ensures.came
 
 pub returns-clause-pool : goal.returns-clause-pool
 returns-clause-pool g c = absorbed-leaves g.P.Pool (map (λ caller. caller.pool) (take c.in_ok-callers.callers.len (c.work_all.new.callers ++ drop (length c.work_all.new.callers) c.in_ok-callers.callers.items))) c.args.pool.now c.take_all_back.new.pool c.take_all_back.ensures.absorbs
+
+pub enlist-requires-clause-kept : goal.enlist-requires-clause-kept
+enlist-requires-clause-kept g c κs within =
+    let same = start-length c.args.arcs.now c.args.blocks.now 0 c.args.kept.items c.args.parties.items c.requires.parties in
+    let a = c.args.kept.ok.0 in
+    let b = c.args.parties.ok.0 in
+    omega (arith, same, a, b)

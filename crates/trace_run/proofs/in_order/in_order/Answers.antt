@@ -1,4 +1,4 @@
-use Rattle.std.proofs.Common.{◌≡◌, ℕ, ◌+◌, ◌-◌, ◌<◌, ◌≤◌, ◌++◌, ◌∷◌, [], List, Some, Vec, Global, vec_len, length, map, get_or, reverse, refl, sym, ap, ◌∙◌, subst, arith}
+use Rattle.std.proofs.Common.{◌≡◌, ℕ, ◌+◌, ◌-◌, ◌<◌, ◌≤◌, ◌++◌, ◌∷◌, [], List, Some, None, Vec, Global, vec_len, length, map, get_or, reverse, refl, sym, ap, ◌∙◌, subst, arith}
 use Rattle.std.proofs.Math.ListN.{set}
 use Rattle.std.specs.Prelude.{slice_get}
 use Rattle.std.proofs.lemmas.List.{get_or-map, length-map, map-set, reverse-append}
@@ -7,6 +7,7 @@ use Rattle.trace_text.specs.declared.op.Op.{Op}
 use Rattle.trace_text.specs.declared.reply.Reply.{Reply}
 use Rattle.trace_run.specs.Lines.{caller_of}
 use Rattle.trace_run.proofs.InOrderLemmas.{ArePlaced, one-left, placed-all, placed-more, placed-none}
+use Rattle.trace_run.proofs.TellLemmas.{some-number}
 use Rattle.trace_run.proofs.in_order.in_order.Goals as goal
 
 abbrev lists : List (Vec Reply Global) → List (List Reply)
@@ -18,31 +19,38 @@ at-op ops lines op some_of few is = slice_get_read ops (length ops) (lines - 1) 
 
 -- its caller's list
 module _ (ops : List Op) (first : List (List Reply)) (left : List (Vec Reply Global)) (lines : ℕ) (placed : List Reply) (op : Op) (some_of : 0 < lines) (here : slice_get ops (lines - 1) ≡ Some op)
-    (inside : caller_of op < length first) (are : ArePlaced ops first (lists left) lines placed) (caller : ℕ) (is : caller ≡ caller_of op) where
+    (own : (n : ℕ) × (caller_of op ≡ Some n) × (n < length first)) (are : ArePlaced ops first (lists left) lines placed) (caller : ℕ) (of : caller_of op ≡ Some caller) where
+  inside : caller < length first
+  inside = let same = some-number own.0 caller (sym own.1 ∙ of) in let below = own.2 in omega arith
+
   within : caller < length left
-  within = let a = are.lists in let b = length-map left (λ (rs : Vec Reply Global). rs.items) in omega arith
+  within = let a = are.lists in let b = length-map left (λ (rs : Vec Reply Global). rs.items) in let c = inside in omega arith
 
   are-then : ArePlaced ops first (lists left) (lines - 1 + 1) placed
   are-then = let one : lines ≡ lines - 1 + 1 = omega arith in subst (λ (n : ℕ). ArePlaced ops first (lists left) n placed) one are
 
-  its-list : (rs : Vec Reply Global) → rs ≡ get_or left caller rs → get_or (lists left) (caller_of op) [] ≡ rs.items
-  its-list rs at = ap (λ (n : ℕ). get_or (lists left) n []) (sym is) ∙ (get_or-map (λ (rs : Vec Reply Global). rs.items) left caller rs [] within ∙ ap (λ (x : Vec Reply Global). x.items) (sym at))
+  its-list : (rs : Vec Reply Global) → rs ≡ get_or left caller rs → get_or (lists left) caller [] ≡ rs.items
+  its-list rs at = get_or-map (λ (rs : Vec Reply Global). rs.items) left caller rs [] within ∙ ap (λ (x : Vec Reply Global). x.items) (sym at)
 
   its-more : (rs rest : Vec Reply Global) (r : Reply) (merged more : List Reply) → rs ≡ get_or left caller rs → rs.items ≡ rest.items ++ r ∷ [] → placed ≡ reverse merged → more ≡ merged ++ r ∷ []
       → ArePlaced ops first (lists (set left caller rest)) (lines - 1) (reverse more)
   its-more rs rest r merged more at last same pushed =
       subst (λ (x : List (List Reply) × List Reply). ArePlaced ops first x.0 (lines - 1) x.1)
       (λ i. (
-        (ap (λ (n : ℕ). set (lists left) n rest.items) (sym is) ∙ sym (map-set (λ (rs : Vec Reply Global). rs.items) left caller rest)) i,
+        sym (map-set (λ (rs : Vec Reply Global). rs.items) left caller rest) i,
         (ap (λ (l : List Reply). r ∷ l) same ∙ (sym (reverse-append merged (r ∷ [])) ∙ ap reverse (sym pushed))) i,
       ))
-      (placed-more ops first (lists left) (lines - 1) placed op here inside are-then rest.items r (its-list rs at ∙ last))
+      (placed-more ops first (lists left) (lines - 1) placed op here caller of inside are-then rest.items r (its-list rs at ∙ last))
 
   its-one : (rs : Vec Reply Global) → rs ≡ get_or left caller rs → vec_len rs ≡ 0 → ⊥
   its-one rs at none =
       let len = rs.ok.0 in
       let long = ap length (its-list rs at) in
-      one-left ops first (lists left) (lines - 1) placed op here inside are-then (omega arith)
+      one-left ops first (lists left) (lines - 1) placed op here caller of inside are-then (omega arith)
+
+-- a line is some caller's
+no-caller : (op : Op) (n : ℕ) → caller_of op ≡ Some n → caller_of op ≡ None → ⊥
+no-caller op n of none = cc
 
 none-more : (ops : List Op) (first left : List (List Reply)) (lines : ℕ) (placed : List Reply) → lines ≤ 0 → ArePlaced ops first left lines placed → ArePlaced ops first left 0 placed
 none-more ops first left lines placed none are = let zero_left : lines ≡ 0 = omega arith in subst (λ (n : ℕ). ArePlaced ops first left n placed) zero_left are
@@ -53,20 +61,26 @@ loop-number-init c = rw c.new-merged.ensures.items (placed-none c.args.ops.now _
 pub index_mut-requires : goal.index_mut-requires
 index_mut-requires c =
     let here : slice_get c.args.ops.now (c.loop-number.number - 1) ≡ Some c.index-ops-number.result = at-op c.args.ops.now c.loop-number.number c.index-ops-number.result c.loop-number-test.true c.loop-number.auto.number c.index-ops-number.is in
-    let inside = within c.args.ops.now _ c.loop-number.replies.items c.loop-number.number _ _ c.loop-number-test.true here (c.requires.own _ _ here) c.loop-number.invariant c.caller_of-caller.result c.caller_of-caller.ensures in
+    let inside = within c.args.ops.now _ c.loop-number.replies.items c.loop-number.number _ _ c.loop-number-test.true here (c.requires.own _ _ here) c.loop-number.invariant c.in-Some.caller (sym c.caller_of.ensures ∙ c.in-Some.is) in
     let len = c.loop-number.replies.ok.0 in
     omega arith
 
 pub unreachable-requires : goal.unreachable-requires
 unreachable-requires c =
     let here : slice_get c.args.ops.now (c.loop-number.number - 1) ≡ Some c.index-ops-number.result = at-op c.args.ops.now c.loop-number.number c.index-ops-number.result c.loop-number-test.true c.loop-number.auto.number c.index-ops-number.is in
-    its-one c.args.ops.now _ c.loop-number.replies.items c.loop-number.number _ _ c.loop-number-test.true here (c.requires.own _ _ here) c.loop-number.invariant c.caller_of-caller.result c.caller_of-caller.ensures c.index_mut.result.now c.index_mut.ensures.value c.in_default.ensures.cases.0
+    let own = c.requires.own _ _ here in
+    no-caller c.index-ops-number.result own.0 own.1 (sym c.in_default.ensures)
+
+pub unreachable-requires-in_default-pop : goal.unreachable-requires-in_default-pop
+unreachable-requires-in_default-pop c =
+    let here : slice_get c.args.ops.now (c.loop-number.number - 1) ≡ Some c.index-ops-number.result = at-op c.args.ops.now c.loop-number.number c.index-ops-number.result c.loop-number-test.true c.loop-number.auto.number c.index-ops-number.is in
+    its-one c.args.ops.now _ c.loop-number.replies.items c.loop-number.number _ _ c.loop-number-test.true here (c.requires.own _ _ here) c.loop-number.invariant c.in-Some.caller (sym c.caller_of.ensures ∙ c.in-Some.is) c.index_mut.result.now c.index_mut.ensures.value c.in_default-pop.ensures.cases.0
 
 pub loop-number-preserved : goal.loop-number-preserved
 loop-number-preserved c =
     let here : slice_get c.args.ops.now (c.loop-number.number - 1) ≡ Some c.index-ops-number.result = at-op c.args.ops.now c.loop-number.number c.index-ops-number.result c.loop-number-test.true c.loop-number.auto.number c.index-ops-number.is in
-    its-more c.args.ops.now _ c.loop-number.replies.items c.loop-number.number _ _ c.loop-number-test.true here (c.requires.own _ _ here) c.loop-number.invariant c.caller_of-caller.result c.caller_of-caller.ensures c.index_mut.result.now
-    c.pop.new.self c.in-Some.reply c.loop-number.merged.items c.push.new.self.items c.index_mut.ensures.value c.in-Some.ensures.items refl c.in_ok-push.ensures.items
+    its-more c.args.ops.now _ c.loop-number.replies.items c.loop-number.number _ _ c.loop-number-test.true here (c.requires.own _ _ here) c.loop-number.invariant c.in-Some.caller (sym c.caller_of.ensures ∙ c.in-Some.is) c.index_mut.result.now
+    c.pop.new.self c.in-Some-pop.reply c.loop-number.merged.items c.push.new.self.items c.index_mut.ensures.value c.in-Some-pop.ensures.items refl c.in_ok-push.ensures.items
 
 pub returns : goal.returns
 returns c = rw c.reverse.ensures.items (placed-all c.args.ops.now _ _ _ (none-more c.args.ops.now _ _ c.loop-number.number _ c.loop-number-test.false c.loop-number.invariant))

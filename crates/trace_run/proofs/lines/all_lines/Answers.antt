@@ -1,11 +1,11 @@
-use Rattle.std.proofs.Common.{◌≡◌, ◌≢◌, ℕ, ◌≤◌, List, Some, map, take, take_all, length, refl, sym, ◌∙◌, subst, arith}
+use Rattle.std.proofs.Common.{◌≡◌, ℕ, ◌≤◌, true, false, List, Some, map, take, take_all, length, refl, sym, ap, ◌∙◌, subst, arith}
 use Rattle.std.specs.Prelude.{filter, slice_get}
 use Rattle.std.proofs.lemmas.Option.{slice_get_read}
 use Rattle.trace_text.specs.declared.op.Op.{Op}
 use Rattle.trace_text.specs.declared.reply.Reply.{Reply}
 use Rattle.trace_run.specs.CallerLines.{DidLine, DidLines, at}
 use Rattle.trace_run.specs.KeptBlocks.{read_of}
-use Rattle.trace_run.specs.Lines.{caller_of, is_of_caller}
+use Rattle.trace_run.specs.Lines.{is_of_caller}
 use Rattle.trace_run.proofs.LinesLemmas.{his-more, line-named, lines-more, others-more}
 use Rattle.trace_run.proofs.RunLemmas.{keeps-then}
 use Rattle.trace_run.proofs.lines.all_lines.Goals as goal
@@ -16,15 +16,15 @@ line-requires-clause-declared g c = λ _ _.
     c.requires.declared c.loop-number.number c.index-ops-number.result here
 
 -- a line of another caller
-pub loop-number-preserved-then-caller_of-caller : goal.loop-number-preserved-then-caller_of-caller
-loop-number-preserved-then-caller_of-caller g c =
+pub loop-number-preserved-then-not-is_of_caller : goal.loop-number-preserved-then-not-is_of_caller
+loop-number-preserved-then-not-is_of_caller g c =
     let size : ℕ = g.D.CacheDev.size c.args.device.now in
     let was = c.loop-number.invariant in
     let ops = c.args.ops.now in
     let n = c.args.party.now.number in
     let op = c.index-ops-number.result in
     let here : slice_get ops c.loop-number.number ≡ Some op = slice_get_read _ _ _ _ refl c.loop-number-test.true c.index-ops-number.is in
-    let other : caller_of op ≢ n = λ is. c.if-caller_of-caller.true (c.caller_of.ensures ∙ (is ∙ sym c.number-caller.ensures)) in
+    let other : is_of_caller n op ≡ false = ap (λ (k : ℕ). is_of_caller k op) (sym c.number-caller.ensures) ∙ (sym c.is_of_caller.ensures ∙ c.if-not-is_of_caller.true) in
     record {
       stands = was.stands;
       named = was.named;
@@ -50,7 +50,7 @@ loop-number-preserved g c =
     let reply = c.in_ok-reply.reply in
     let replies = c.loop-number.replies.items in
     let here : slice_get ops c.loop-number.number ≡ Some op = slice_get_read _ _ _ _ refl c.loop-number-test.true c.index-ops-number.is in
-    let his : caller_of op ≡ n = sym c.caller_of.ensures ∙ (c.if-caller_of-caller.false ∙ c.number-caller.ensures) in
+    let his : is_of_caller n op ≡ true = ap (λ (k : ℕ). is_of_caller k op) (sym c.number-caller.ensures) ∙ (sym c.is_of_caller.ensures ∙ c.if-not-is_of_caller.false) in
     let start = at c.args.party.now (map read_of c.args.kept.now) c.args.pool.now in
     let before = at c.loop-number.party (map read_of c.loop-number.kept) c.loop-number.pool in
     let after = at c.line.new.party (map read_of c.line.new.kept) c.line.new.pool in
@@ -71,3 +71,8 @@ returns-clause-did g c =
     subst (λ (os : List Op). DidLines c.args.arcs.now.config g.P.Pool (g.D.CacheDev.size c.args.device.now) c.args.blocks.now (filter (is_of_caller c.args.party.now.number) os) c.loop-number.replies.items
     (at c.args.party.now (map read_of c.args.kept.now) c.args.pool.now) (at c.loop-number.party (map read_of c.loop-number.kept) c.loop-number.pool))
     (take_all c.loop-number.number c.args.ops.now long) c.loop-number.invariant.did
+
+-- the next line is this caller's
+pub line-requires-clause-own : goal.line-requires-clause-own
+line-requires-clause-own g c = λ _ _.
+    ap (λ (k : ℕ). is_of_caller k c.index-ops-number.result) (c.loop-number.invariant.number ∙ sym c.number-caller.ensures) ∙ (sym c.is_of_caller.ensures ∙ c.if-not-is_of_caller.false)

@@ -3,6 +3,7 @@ use Rattle.std.specs.Prelude.{IfOk}
 use Rattle.trace_text.specs.declared.op.Op.{Op}
 use Rattle.trace_run.specs.CallerLines.{DidLine, at}
 use Rattle.trace_run.specs.KeptBlocks.{read_of}
+use Rattle.trace_run.proofs.CallerActLemmas.{same-caller}
 use Rattle.trace_run.proofs.LineLemmas.{drop-line, hold-line, read-line}
 use Rattle.trace_run.proofs.RunLemmas.{got}
 use Rattle.trace_run.proofs.lines.line.Goals as goal
@@ -14,7 +15,7 @@ returns-in-Read-clause-did g c =
     let b = c.read_line.new.pool in
     subst (λ (op : Op). IfOk c.read_line.result (λ reply. DidLine c.args.arcs.now.config g.P.Pool (g.D.CacheDev.size c.args.device.now) c.args.blocks.now op reply (at c.args.party.now kept c.args.pool.now) (at q kept b))) (sym c.in-Read.is)
     (read-line c.args.arcs.now.config g.P.Pool (g.D.CacheDev.size c.args.device.now) c.args.blocks.now c.args.party.now q c.args.pool.now b c.in-Read.n c.in-Read.t c.in-Read.x c.in-Read.w _ kept c.read_line.result
-    (rw c.in-Read.is at c.requires.own) (got c.args.blocks.now c.in-Read.x _ (rw c.in-Read.is at c.requires.declared))
+    (rw c.in-Read.is at (same-caller c.args.party.now.number c.args.op.now c.requires.own)) (got c.args.blocks.now c.in-Read.x _ (rw c.in-Read.is at c.requires.declared))
     c.read_line.ensures.answer c.read_line.ensures.did c.read_line.ensures.found c.read_line.ensures.range c.read_line.ensures.calls c.read_line.ensures.pool)
 
 pub returns-in-Hold-clause-did : goal.returns-in-Hold-clause-did
@@ -25,7 +26,7 @@ returns-in-Hold-clause-did g c =
     let b = c.hold_line.new.pool in
     subst (λ (op : Op). IfOk c.hold_line.result (λ reply. DidLine c.args.arcs.now.config g.P.Pool (g.D.CacheDev.size c.args.device.now) c.args.blocks.now op reply (at c.args.party.now kept c.args.pool.now) (at q now b))) (sym c.in-Hold.is)
     (hold-line c.args.arcs.now.config g.P.Pool (g.D.CacheDev.size c.args.device.now) c.args.blocks.now c.args.party.now q c.args.pool.now b c.in-Hold.n c.in-Hold.t c.in-Hold.x _ kept now c.hold_line.result
-    (rw c.in-Hold.is at c.requires.own) (got c.args.blocks.now c.in-Hold.x _ (rw c.in-Hold.is at c.requires.declared))
+    (rw c.in-Hold.is at (same-caller c.args.party.now.number c.args.op.now c.requires.own)) (got c.args.blocks.now c.in-Hold.x _ (rw c.in-Hold.is at c.requires.declared))
     c.hold_line.ensures.answer c.hold_line.ensures.kept c.hold_line.ensures.did c.hold_line.ensures.found c.hold_line.ensures.range c.hold_line.ensures.calls c.hold_line.ensures.pool)
 
 pub returns-in-Drop-clause-did : goal.returns-in-Drop-clause-did
@@ -35,5 +36,5 @@ returns-in-Drop-clause-did g c =
     let q = c.drop_line.new.party in
     subst (λ (op : Op). DidLine c.args.arcs.now.config g.P.Pool (g.D.CacheDev.size c.args.device.now) c.args.blocks.now op c.drop_line.result (at c.args.party.now kept c.args.pool.now) (at q now c.args.pool.now)) (sym c.in-Drop.is)
     (drop-line c.args.arcs.now.config g.P.Pool (g.D.CacheDev.size c.args.device.now) c.args.blocks.now c.args.party.now q c.args.pool.now c.args.pool.now c.in-Drop.n c.in-Drop.x kept now c.drop_line.result
-    (rw c.in-Drop.is at c.requires.own) c.requires.named
+    (rw c.in-Drop.is at (same-caller c.args.party.now.number c.args.op.now c.requires.own)) c.requires.named
     c.drop_line.ensures.answer c.drop_line.ensures.kept c.drop_line.ensures.drops c.drop_line.ensures.none c.drop_line.ensures.calls)

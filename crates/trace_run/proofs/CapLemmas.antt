@@ -1,0 +1,67 @@
+-- One caller's line that gives a capacity is a line like any other; and the feeder's party stays joined behind each line.
+use Rattle.std.proofs.Common.{◌≡◌, ℕ, nat_lt, Bool, true, false, if◌then◌else◌, List, [], ◌∷◌, ◌++◌, inl, inr, refl, sym, ap, ◌∙◌, subst, arith, append-nil}
+use Rattle.std.specs.Prelude.{IsSome}
+use Rattle.std.proofs.lemmas.Bool.{cases_lt, false≢true}
+use Rattle.std.proofs.lemmas.Bool.Decides.{nat_tests}
+use Rattle.blk_ptr.specs.declared.ptr.Ptr.{Ptr}
+use Rattle.arc_core.specs.declared.config.Config.{Config}
+use Rattle.arc_core.specs.declared.event.Event.TheVariants.{Resize}
+use Rattle.arc_core.specs.Operations.{Act}
+use Rattle.turn_table.specs.Places.{Place}
+use Rattle.arc_table.specs.declared.view.Known.{Known}
+use Rattle.arc_table.specs.Cache.{Cache}
+use Rattle.arc_table.specs.Seen.{seen_of}
+use Rattle.arc_table.specs.Told.{IsTold}
+use Rattle.trace_text.specs.declared.op.Op.{Op}
+use Rattle.trace_text.specs.declared.op.Op.TheVariants as ops
+use Rattle.trace_text.specs.declared.reply.Reply.{Reply}
+use Rattle.trace_text.specs.declared.reply.Reply.TheVariants.{Capped}
+use Rattle.vdev_io.specs.declared.pool.Pool.{Ghosts}
+use Rattle.trace_run.specs.KeptReads.{KeptRead}
+use Rattle.trace_run.specs.CallerLines.{At, DidLine, DidThere, HasResized, at}
+use Rattle.trace_run.specs.Lines.{caller_of, is_of_caller}
+use Rattle.trace_run.specs.Meeting.{HasFeeder}
+use Rattle.trace_run.specs.OneCaller.{only_feeder}
+
+module _ {C P : Type 0} (g : Config) (pools : Ghosts P) (device : ℕ) (blocks : List Ptr) (p q : Place (Known C)) (kept : List KeptRead) (a : P) where
+  cap-there : (c : ℕ) → HasResized g c p q → DidThere g device blocks kept (ops.Cap c) (Capped c) p q
+  cap-there c r = record {
+    number = r.number;
+    told = λ before told. subst (λ (l : List Act). IsTold g l q) (sym (append-nil before)) (r.told before told);
+    alone = λ alone shard. elim (cases_lt shard g.shards) [
+      | inl below ↦
+          let here : nat_lt shard g.shards ≡ true = grind (arith, nat_tests, below) in
+          r.seen shard below ∙ ap (λ (b : Bool). seen_of g shard p ++ (if b then Resize only_feeder c ∷ [] else [])) (sym here)
+      | inr beyond ↦
+          let out : nat_lt shard g.shards ≡ false = grind (arith, nat_tests, beyond) in
+          r.beyond shard beyond ∙ (sym (append-nil (seen_of g shard p)) ∙ ap (λ (b : Bool). seen_of g shard p ++ (if b then Resize only_feeder c ∷ [] else [])) (sym out))
+    ];
+    all = r.all;
+    joined = λ his. absurd (false≢true his);
+  }
+
+  cap-line : (c : ℕ) → HasResized g c p q → DidLine g pools device blocks (ops.Cap c) (Capped c) (at p kept a) (at q kept a)
+  cap-line c r = record {
+    answer = refl;
+    kept = refl;
+    did = cap-there c r;
+    found = λ alone. tt;
+    range = λ came. absurd came;
+    calls = refl;
+    keeps = record { size = refl; told = refl; faults = omega arith };
+  }
+
+  pub capped-line : (op : Op) (reply : Reply) → (c : ℕ) × (op ≡ ops.Cap c) × (reply ≡ Capped c) × HasResized g c p q → DidLine g pools device blocks op reply (at p kept a) (at q kept a)
+  capped-line op reply did = subst (λ (x : Op × Reply). DidLine g pools device blocks x.0 x.1 (at p kept a) (at q kept a)) (λ i. (sym did.1 i, sym did.2 i)) (cap-line did.0 did.3)
+
+his-some : (n : ℕ) (op : Op) → is_of_caller n op ≡ true → IsSome (caller_of op)
+his-some n (ops.Read m t x window) his = refl
+his-some n (ops.Hold m t x) his = refl
+his-some n (ops.Drop m x) his = refl
+his-some n other his = absurd (false≢true his)
+
+-- the feeder's party is still joined behind a caller's own line
+pub feeder-after : {C P : Type 0} (cache : Cache) (pools : Ghosts P) (device n : ℕ) (blocks : List Ptr) (op : Op) (reply : Reply) (b c : At C P) → is_of_caller n op ≡ true
+    → DidLine cache.config pools device blocks op reply b c → HasFeeder cache b.party → HasFeeder cache c.party
+feeder-after cache pools device n blocks op reply b c his did feeder =
+    (feeder.0, record { number = feeder.1.number; stands = feeder.1.stands; alone = feeder.1.alone; joined = did.did.joined (his-some n op his) ∙ feeder.1.joined })

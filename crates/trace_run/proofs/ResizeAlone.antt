@@ -1,0 +1,202 @@
+-- One caller gives every shard a new capacity: its party joins the feeder's for that time, and behind it the feeder's joins again.
+use Rattle.std.proofs.Common.{◌≡◌, ◌≢◌, ℕ, ◌<◌, List, [], ◌∷◌, ◌++◌, length, length-append, refl, sym, ap, ◌∙◌, subst, inl, inr, arith}
+use Rattle.std.specs.List.{AllByRecursion}
+use Rattle.std.proofs.lemmas.Bool.{cases_lt}
+use Rattle.std.proofs.lemmas.List.{nil_from_length}
+use Rattle.blk_ptr.specs.Hash.{shard_of}
+use Rattle.arc_core.specs.declared.config.Config.{Config}
+use Rattle.arc_core.specs.declared.event.Event.TheVariants.{Resize}
+use Rattle.arc_core.specs.Operations.{Tell, acts_in, moments, own_moments}
+use Rattle.turn_table.specs.declared.standing.Kept.{Kept}
+use Rattle.turn_table.specs.Places.{IsLast, Place, SomeHas, parted, rest_of, stayed}
+use Rattle.turn_table.proofs.Histories.{front_both}
+use Rattle.arc_table.specs.declared.view.Known.{Known}
+use Rattle.arc_table.specs.declared.view.Line.{Line}
+use Rattle.arc_table.specs.Cache.{Cache, IsPartyOf}
+use Rattle.arc_table.specs.Geometry.{parties_of}
+use Rattle.arc_table.specs.Items.{Meanings}
+use Rattle.arc_table.specs.Seen.{AllSeen, AreSeen, IsSeen, events_in, seen_of, turn_of}
+use Rattle.arc_table.specs.Telling.{opening_of}
+use Rattle.arc_table.specs.Views.{after_learned}
+use Rattle.trace_run.specs.declared.kept_blocks.KeptBlock.{KeptBlock}
+use Rattle.trace_run.specs.CallerLines.{HasResized}
+use Rattle.trace_run.specs.KeptBlocks.{Stands}
+use Rattle.trace_run.specs.Meeting.{HasFeeder, HasParted, IsApart, IsJoinedBy, IsLevel, JoinAll, Joins, MayGoOn, Resized}
+use Rattle.trace_run.proofs.GroupsLemmas.{parted-length}
+use Rattle.trace_run.proofs.MeetLemmas.{HaveJoined, left_alone, parted_from}
+use Rattle.trace_run.proofs.TurnLemmas.{joined, joined-all, joined-stands}
+
+module _ {C : Type 0} (cache : Cache) (c : ℕ) (p : Place (Known C)) (one : cache.config.callers ≡ 1) (number : p.number ≡ 0) (rows : cache.row.parties ≡ parties_of cache.config) (feeder : HasFeeder cache p) where
+  abbrev g : Config
+  g = cache.config
+
+  abbrev o : Place (Known C)
+  o = feeder.0
+
+  by : IsJoinedBy cache o p
+  by = feeder.1
+
+  o-number : o.number ≡ 1
+  o-number = by.number ∙ one
+
+  -- the feeder's party and the caller's, once they have parted
+  abbrev f1 : Place (Known C)
+  f1 = parted_from p o
+
+  abbrev p1 : Place (Known C)
+  p1 = left_alone p
+
+  pub parts-f : (f : Place (Known C)) → f ≡ parted (λ w. after_learned w p.own) p p.joined → f ≡ f1
+  parts-f f is = is ∙ ap (λ (ks : List (Kept (Known C))). parted (λ w. after_learned w p.own) p ks) by.joined
+
+  pub stays-p : (x : Place (Known C)) → x ≡ stayed p → x ≡ p1
+  stays-p x is = is ∙ (λ i. record { table = p.table; parties = p.parties; number = p.number; own = p.own; joined = rest_of (by.joined i); held = p.held })
+
+  pub part-last : IsLast 1 p.joined
+  part-last = subst (IsLast 1) (sym by.joined) o-number
+
+  module _ (had : List KeptBlock) (stands : Stands cache p had) where
+    feeder-seen : AreSeen g o.number o.own.mine p.own.seen
+    feeder-seen = (subst (λ (ks : List (Kept (Known C))). AllSeen g ks p.own.seen) by.joined stands.seen.joined).0
+
+    f1-seen : AreSeen g o.number o.own.mine f1.own.seen
+    f1-seen i j a at is = elim (front_both (turn_of g i) o.own.seen p.own.seen) [
+      | inl here ↦ subst (λ (l : List Line). IsSeen (parties_of g) o.number l a.place) (sym here) (by.stands.seen.own i j a at is)
+      | inr here ↦ subst (λ (l : List Line). IsSeen (parties_of g) o.number l a.place) (sym here) (feeder-seen i j a at is)
+    ]
+
+    f1-stands : Stands cache f1 []
+    f1-stands = record {
+      valid = stands.valid;
+      of = record { row = stands.of.row; config = by.stands.of.config };
+      free = refl;
+      cells = by.stands.cells;
+      idle = by.stands.idle;
+      unclaimed = by.stands.unclaimed;
+      seen = record { own = f1-seen; joined = tt };
+      apart = tt;
+      joined = tt;
+      owned = tt;
+      listed = by.stands.listed;
+    }
+
+    p1-stands : Stands cache p1 had
+    p1-stands = record {
+      valid = stands.valid;
+      of = record { row = stands.of.row; config = stands.of.config };
+      free = stands.free;
+      cells = stands.cells;
+      idle = stands.idle;
+      unclaimed = stands.unclaimed;
+      seen = record { own = stands.seen.own; joined = tt };
+      apart = tt;
+      joined = tt;
+      owned = stands.owned;
+      listed = stands.listed;
+    }
+
+    -- there are just two numbers
+    both-have : (a b : Place (Known C)) → a.number ≡ 0 → b.number ≡ 1 → (n : ℕ) → n < parties_of g → SomeHas n (a ∷ b ∷ [])
+    both-have a b zero_is one_is n below = elim (cases_lt n 1) [
+      | inl low ↦ inl (inl (zero_is ∙ omega (arith, low)))
+      | inr high ↦ inr (inl (inl (one_is ∙ omega (arith, high, below, one))))
+    ]
+
+    swapped : (a b : Place (Known C)) (n : ℕ) → SomeHas n (a ∷ b ∷ []) → SomeHas n (b ∷ a ∷ [])
+    swapped a b n (inl first) = inr (inl first)
+    swapped a b n (inr (inl second)) = inl second
+    swapped a b n (inr (inr never)) = absurd never
+
+    pub may-resize-alone : MayGoOn cache [] f1 (p1 ∷ [])
+    may-resize-alone = record {
+      stands = f1-stands;
+      alone = refl;
+      count = stands.of.row.1 ∙ rows;
+      apart = ((had, p1-stands, refl), tt);
+      everyone = λ n below. swapped p1 f1 n (both-have p1 f1 number o-number n below);
+      differ = ((λ is. absurd (omega (arith, is, number, o-number))), tt);
+    }
+
+    -- so it is with what parting gave
+    pub may-resize-as : (f x : Place (Known C)) (l : List (Place (Known C))) → f ≡ parted (λ w. after_learned w p.own) p p.joined → x ≡ stayed p → l ≡ x ∷ [] → MayGoOn cache [] f l
+    may-resize-as f x l is_f is_x is_l =
+        subst (λ (y : Place (Known C) × List (Place (Known C))). MayGoOn cache [] y.0 y.1) (λ i. (sym (parts-f f is_f) i, (sym (ap (λ (z : Place (Known C)). z ∷ []) (stays-p x is_x)) ∙ sym is_l) i)) may-resize-alone
+
+    -- and the caller's party is the one that comes back
+    pub resized-as : (f x f2 p2 : Place (Known C)) (l l2 rest : List (Place (Known C))) → f ≡ parted (λ w. after_learned w p.own) p p.joined → x ≡ stayed p → l ≡ x ∷ [] → Resized cache c f l f2 l2 → l2 ≡ rest ++ p2 ∷ []
+        → Resized cache c f1 (p1 ∷ []) f2 (p2 ∷ [])
+    resized-as f x f2 p2 l l2 rest is_f is_x is_l r is =
+        let here : Resized cache c f1 (p1 ∷ []) f2 l2 =
+        subst (λ (y : Place (Known C) × List (Place (Known C))). Resized cache c y.0 y.1 f2 l2) (λ i. (parts-f f is_f i, (is_l ∙ ap (λ (z : Place (Known C)). z ∷ []) (stays-p x is_x)) i)) r in
+        let long : length l2 ≡ 1 = parted-length cache here.lines (p1 ∷ []) l2 here.parted in
+        let none : rest ≡ [] = nil_from_length rest (omega (arith, long, ap length is, length-append rest (p2 ∷ []))) in
+        subst (Resized cache c f1 (p1 ∷ []) f2) (is ∙ ap (λ (k : List (Place (Known C))). k ++ p2 ∷ []) none) here
+
+    -- the feeder's may join it then
+    module _ (f2 p2 : Place (Known C)) (r : Resized cache c f1 (p1 ∷ []) f2 (p2 ∷ [])) where
+      pub again-row : IsPartyOf cache p2 × IsPartyOf cache f2
+      again-row = ((r.parted.0.stands had p1-stands).of, r.stands.of)
+
+      pub again-free : (p2.held ≡ []) × (f2.held ≡ [])
+      again-free = ((r.parted.0.stands had p1-stands).free, r.stands.free)
+
+    -- behind it
+    module _ (m : Meanings C) (f2 p2 q : Place (Known C)) (r : Resized cache c f1 (p1 ∷ []) f2 (p2 ∷ [])) (joins : Joins m f2 p2 q) where
+      p2-parted : HasParted cache r.lines p1 p2
+      p2-parted = r.parted.0
+
+      p2-stands : Stands cache p2 had
+      p2-stands = p2-parted.stands had p1-stands
+
+      p2-number : p2.number ≡ 0
+      p2-number = p2-parted.number ∙ number
+
+      f2-number : f2.number ≡ 1
+      f2-number = r.number ∙ o-number
+
+      apart2 : AllByRecursion (IsApart cache) (f2 ∷ [])
+      apart2 = (([], r.stands, r.alone), tt)
+
+      differ2 : AllByRecursion (λ x. x.number ≢ p2.number) (f2 ∷ [])
+      differ2 = ((λ is. absurd (omega (arith, is, p2-number, f2-number))), tt)
+
+      all-joins : JoinAll m (f2 ∷ []) p2 q
+      all-joins = (p2, refl, joins)
+
+      count2 : p2.parties ≡ parties_of g
+      count2 = p2-stands.of.row.1 ∙ rows
+
+      have2 : HaveJoined m cache p2 (f2 ∷ []) q
+      have2 = joined m cache p2 had (f2 ∷ []) p2-stands p2-parted.alone apart2 (both-have p2 f2 p2-number f2-number) count2 differ2 q all-joins
+
+      pub again-stands : Stands cache q had
+      again-stands = joined-stands m cache p2 had (f2 ∷ []) p2-stands p2-parted.alone apart2 (both-have p2 f2 p2-number f2-number) count2 differ2 q all-joins
+
+      pub again-feeder : HasFeeder cache q
+      again-feeder = (f2, record { number = r.number ∙ by.number; stands = r.stands; alone = r.alone; joined = have2.joined })
+
+      q-level : IsLevel g r.lines q
+      q-level = have2.level r.lines p2-parted.level (r.level, tt)
+
+      -- it has seen what the feeder has
+      q-sees : (shard : ℕ) → seen_of g shard q ≡ seen_of g shard f2
+      q-sees shard = ap events_in (q-level shard ∙ sym (r.level shard))
+
+      front-is : (shard : ℕ) → r.front shard ≡ seen_of g shard p
+      front-is shard = r.one p1 refl feeder-seen shard
+
+      same-own : (shard : ℕ) → own_moments p.number (moments (opening_of g) (seen_of g shard q)) ≡ own_moments p.number (moments (opening_of g) (seen_of g shard p))
+      same-own shard =
+          subst (λ (n : ℕ). own_moments n (moments (opening_of g) (seen_of g shard q)) ≡ own_moments n (moments (opening_of g) (seen_of g shard p2))) p2-parted.number (have2.self.own shard)
+          ∙ p2-parted.own shard
+
+      pub alone-resized : HasResized g c p q
+      alone-resized = record {
+        number = have2.number ∙ p2-parted.number;
+        told = λ before told shard.
+            subst (λ (n : ℕ). Tell (acts_in (shard_of g.shards) shard n before) (own_moments n (moments (opening_of g) (seen_of g shard q)))) (sym (have2.number ∙ p2-parted.number))
+            (subst (Tell (acts_in (shard_of g.shards) shard p.number before)) (sym (same-own shard)) (told shard));
+        seen = λ shard below. q-sees shard ∙ (r.seen shard below ∙ (λ i. front-is shard i ++ Resize (o-number i) c ∷ []));
+        beyond = λ shard beyond. q-sees shard ∙ (r.beyond shard beyond ∙ front-is shard);
+        all = λ all. joined-all m cache p2 had (f2 ∷ []) p2-stands p2-parted.alone apart2 (both-have p2 f2 p2-number f2-number) count2 differ2 q all-joins;
+      }

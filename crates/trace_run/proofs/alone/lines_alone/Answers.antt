@@ -1,0 +1,68 @@
+use Rattle.std.proofs.Common.{◌≡◌, ℕ, true, List, Some, map, take, refl, sym, ap, ◌∙◌, subst}
+use Rattle.std.specs.Prelude.{slice_get}
+use Rattle.std.proofs.lemmas.Option.{slice_get_read}
+use Rattle.blk_ptr.specs.declared.ptr.Ptr.{Ptr}
+use Rattle.trace_text.specs.declared.op.Op.{Op}
+use Rattle.trace_text.specs.declared.reply.Reply.{Reply}
+use Rattle.trace_run.specs.CallerLines.{DidLine, DidLines, at}
+use Rattle.trace_run.specs.KeptBlocks.{read_of}
+use Rattle.trace_run.specs.Lines.{is_of_caller}
+use Rattle.trace_run.proofs.AnswerLemmas.{take_one}
+use Rattle.trace_run.proofs.CapLemmas.{capped-line, feeder-after}
+use Rattle.trace_run.proofs.LinesLemmas.{line-named, lines-more}
+use Rattle.trace_run.proofs.RunLemmas.{keeps-then}
+use Rattle.trace_run.proofs.alone.lines_alone.Goals as goal
+
+-- a line that is no caller's
+pub loop-number-preserved-then-not-is_of_caller : goal.loop-number-preserved-then-not-is_of_caller
+loop-number-preserved-then-not-is_of_caller g c =
+    let config = c.args.arcs.now.config in
+    let was = c.loop-number.invariant in
+    let blocks = c.args.trace.now.blocks in
+    let ops = c.args.trace.now.ops in
+    let op = c.index-ops-number.result in
+    let reply = c.in_ok-after.reply in
+    let replies = c.loop-number.replies.items in
+    let kept = map read_of c.loop-number.kept in
+    let here : slice_get ops c.loop-number.number ≡ Some op =
+    ap (λ (l : List Op). slice_get l c.loop-number.number) (sym c.as_slice-ops.ensures) ∙ slice_get_read _ _ _ _ refl c.loop-number-test.true c.index-ops-number.is in
+    let start = at c.args.party (map read_of c.args.kept.now) c.args.pool.now in
+    let before = at c.loop-number.party kept c.loop-number.pool in
+    let after = at c.in_ok-after.after kept c.loop-number.pool in
+    let one : DidLine config g.P.Pool 0 blocks op reply before after = capped-line config g.P.Pool 0 blocks c.loop-number.party c.in_ok-after.after kept c.loop-number.pool op reply c.in_ok-after.ensures.did in
+    record {
+      stands = c.in_ok-after.ensures.stands c.loop-number.kept was.stands;
+      named = was.named;
+      number = one.did.number ∙ was.number;
+      joined = c.in_ok-after.ensures.joined;
+      did = subst (λ (x : List Op × List Reply). DidLines config g.P.Pool 0 blocks x.0 x.1 start after) (λ i. (sym (take_one ops c.loop-number.number op here) i, sym c.in_ok-push.ensures.items i))
+          (lines-more config g.P.Pool 0 blocks (take c.loop-number.number ops) replies op reply start before after was.did one);
+      keeps = was.keeps;
+    }
+
+-- the caller's own line
+pub loop-number-preserved : goal.loop-number-preserved
+loop-number-preserved g c =
+    let config = c.args.arcs.now.config in
+    let was = c.loop-number.invariant in
+    let blocks = c.args.trace.now.blocks in
+    let ops = c.args.trace.now.ops in
+    let op = c.index-ops-number.result in
+    let reply = c.in_ok-reply.reply in
+    let replies = c.loop-number.replies.items in
+    let here : slice_get ops c.loop-number.number ≡ Some op =
+    ap (λ (l : List Op). slice_get l c.loop-number.number) (sym c.as_slice-ops.ensures) ∙ slice_get_read _ _ _ _ refl c.loop-number-test.true c.index-ops-number.is in
+    let his : is_of_caller 0 op ≡ true = ap (λ (k : ℕ). is_of_caller k op) (sym (c.number-caller.ensures ∙ c.requires.number)) ∙ (sym c.is_of_caller.ensures ∙ c.if-not-is_of_caller.false) in
+    let start = at c.args.party (map read_of c.args.kept.now) c.args.pool.now in
+    let before = at c.loop-number.party (map read_of c.loop-number.kept) c.loop-number.pool in
+    let after = at c.line.new.party (map read_of c.line.new.kept) c.line.new.pool in
+    let one : DidLine config g.P.Pool 0 blocks op reply before after = subst (λ (bs : List Ptr). DidLine config g.P.Pool 0 bs op reply before after) c.as_slice-blocks.ensures c.in_ok-reply.ensures.did in
+    record {
+      stands = c.in_ok-reply.ensures.stands;
+      named = line-named config g.P.Pool 0 blocks op reply before after was.named one;
+      number = one.did.number ∙ was.number;
+      joined = feeder-after c.args.arcs.now g.P.Pool 0 0 blocks op reply before after his one was.joined;
+      did = subst (λ (x : List Op × List Reply). DidLines config g.P.Pool 0 blocks x.0 x.1 start after) (λ i. (sym (take_one ops c.loop-number.number op here) i, sym c.in_ok-push-2.ensures.items i))
+          (lines-more config g.P.Pool 0 blocks (take c.loop-number.number ops) replies op reply start before after was.did one);
+      keeps = keeps-then g.P.Pool c.args.pool.now c.loop-number.pool c.line.new.pool was.keeps c.in_ok-reply.ensures.pool;
+    }

@@ -1,0 +1,13 @@
+use Rattle.std.proofs.Common.{◌-◌, length, vec_len}
+use Rattle.trace_run.specs.Group.{LeavesPool}
+use Rattle.trace_run.specs.Groups.{AreBetween}
+use Rattle.trace_run.proofs.groups.all_groups.Given as goal
+
+abbrev pub invariant-loop-alloc : goal.invariant-loop-alloc
+invariant-loop-alloc g l = record {
+  between : AreBetween l.arcs g.P.Pool l.trace l.fn.pool l.pool l.replies.items l.crew;
+  leaves : LeavesPool g.P.Pool l.fn.pool l.pool;
+}
+
+abbrev pub decreases-loop-alloc : goal.decreases-loop-alloc
+decreases-loop-alloc g l = length l.trace.ops - vec_len l.replies

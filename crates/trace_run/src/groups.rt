@@ -1,0 +1,279 @@
+//! Several callers, group by group: the lines of a group at once, and then the line that ends it.
+ghost use Rattle.std.specs.Prelude.{◌≡◌, ℕ, ◌<◌, ◌≤◌, ◌+◌, ◌^◌, ◌++◌, ◌∷◌, [], IfOk, List, OnOk, Some, false, length, slice_get, true, vec_len};
+ghost use Rattle.std.specs.List.{AllByRecursion};
+ghost use Rattle.arc_table.specs.Geometry.{parties_of};
+ghost use Rattle.trace_text.specs.Grammar.{IsFormed, IsOperation};
+ghost use Rattle.trace_text.specs.declared.op.Op.{Op};
+ghost use Rattle.trace_text.specs.declared.reply.Reply.{Reply};
+ghost use Rattle.trace_run.specs.Callers.{AreAtStart};
+ghost use Rattle.trace_run.specs.Group.{IsFork, LeavesPool};
+ghost use Rattle.trace_run.specs.Groups.{AreBetween, AreOfCallers, DidEndLine, DidLinesAtOnce, AreDone, KeepNothing, StepsOn};
+ghost use Rattle.trace_run.specs.Meeting.{MayGoOn};
+ghost use Rattle.trace_run.specs.Tally.{AreDeclared};
+ghost use Rattle.trace_run.specs.Together.{BeginsGroup, ends_group};
+
+use crate::group::{Worked, forks, run_group};
+use crate::in_order::in_order;
+use crate::kept_blocks::KeptBlocks;
+use crate::resizing::resize_joined;
+use arc_core::Keeps;
+use arc_table::{Arcs, Party};
+use blk_ptr::{NoMemory, Ptr};
+use std::alloc::Global;
+use std::sync::Wait;
+use std::thread::Threads;
+use trace_text::{Op, Reply, Trace};
+use vdev_io::{Gate, IoFault, Pool};
+
+/// Several callers between two groups.
+#[derive(Drop)]
+pub(crate) struct Crew<C: Keeps> {
+    /// The feeder's party.
+    pub(crate) feeder: Party<C>,
+    /// The callers' parties, by their numbers.
+    pub(crate) parties: Vec<Party<C>>,
+    /// The reads that each still keeps.
+    pub(crate) kept: Vec<KeptBlocks>,
+}
+
+/// What several callers came to by the groups of a trace.
+#[derive(Drop)]
+pub(crate) struct Came<C: Keeps> {
+    /// The callers behind the last group that was done.
+    pub(crate) crew: Crew<C>,
+    /// The replies to the lines that were answered, in their order.
+    pub(crate) replies: Vec<Reply>,
+    /// Whether a fork of the pool failed, which ended the run before the next group.
+    pub(crate) fork_failed: bool,
+}
+
+/// No reads for each of so many callers.
+fn none_kept(alloc: Global, callers: usize) -> Result<Vec<KeptBlocks>, NoMemory>
+    ensures none { IfOk result (λ kept. KeepNothing kept.items) }
+    ensures count { IfOk result (λ kept. vec_len kept ≡ callers) }
+{
+    let mut kept = Vec::new(alloc);
+    for _ in 0..callers {
+        kept.push(KeptBlocks::new(alloc))?;
+    }
+    Ok(kept)
+}
+
+/// The callers of a new cache, by its parties, of which the feeder's is the last.
+pub(crate) fn crew_of<C: Keeps>(
+    alloc: Global,
+    mut parties: Vec<Party<C>>,
+) -> Result<Crew<C>, NoMemory>
+    requires { 0 < vec_len parties }
+    ensures parties { IfOk result (λ crew. parties.items ≡ crew.parties.items ++ crew.feeder ∷ []) }
+    ensures none { IfOk result (λ crew. KeepNothing crew.kept.items) }
+    ensures count { IfOk result (λ crew. vec_len crew.kept ≡ vec_len crew.parties) }
+{
+    let Some(feeder) = parties.pop() else {
+        unreachable!()
+    };
+    let kept = none_kept(alloc, parties.len())?;
+    Ok(Crew {
+        feeder,
+        parties,
+        kept,
+    })
+}
+
+/// Whether a line ends its group.
+fn ends_group(op: &Op) -> bool
+    ensures { result ≡ ends_group op.now }
+{
+    match *op {
+        Op::Read { .. } | Op::Hold { .. } | Op::Drop { .. } => false,
+        _ => true,
+    }
+}
+
+/// The number of the first of these lines from this one on that ends its group, or how many lines there are.
+fn group_end(ops: &[Op], from: usize) -> usize
+    requires { from ≤ length ops.now }
+    ensures range { (from ≤ result) × (result ≤ length ops.now) }
+    ensures inside { (k : ℕ) (op : Op) → from ≤ k → k < result → slice_get ops.now k ≡ Some op → ends_group op ≡ false }
+    ensures end { (op : Op) → slice_get ops.now result ≡ Some op → ends_group op ≡ true }
+{
+    for to in from..ops.len() {
+        if ends_group(&ops[to]) {
+            return to;
+        }
+    }
+    ops.len()
+}
+
+/// The callers do the lines of a group at once, each on its fork of the pool. The replies, in the order of the lines, come behind those so far.
+fn lines_at_once<R: Threads + Wait + Sync, C: Keeps + Send, P: Pool, G: Gate>(
+    alloc: Global,
+    rt: &R,
+    arcs: &Arcs<C>,
+    crew: Crew<C>,
+    forks: Vec<P>,
+    pool: &mut P,
+    blocks: &[Ptr],
+    ops: &[Op],
+    first: u32,
+    gate: &G,
+) -> Result<(Crew<C>, Vec<Reply>), NoMemory>
+    requires start { AreAtStart arcs.now blocks.now 0 crew.kept.items crew.parties.items }
+    requires forks { AllByRecursion (IsFork P.Pool pool.old) forks.items }
+    requires same { vec_len forks ≡ vec_len crew.parties }
+    requires declared { AreDeclared (length blocks.now) ops.now }
+    requires callers { AreOfCallers (vec_len crew.parties) ops.now }
+    requires few { first + length ops.now < 2 ^ 32 }
+    ensures did { IfOk result (λ done. DidLinesAtOnce arcs.now P.Pool blocks.now ops.now pool.old pool.new crew done.0 done.1.items) }
+    ensures pool { LeavesPool P.Pool pool.old pool.new }
+{
+    let Crew {
+        feeder,
+        parties,
+        kept,
+    } = crew;
+    let worked = run_group(
+        alloc, rt, arcs, parties, kept, forks, pool, blocks, ops, first, gate,
+    )?;
+    let Worked {
+        parties,
+        kept,
+        replies,
+    } = worked;
+    let replies = in_order(alloc, ops, replies)?;
+    let crew = Crew {
+        feeder,
+        parties,
+        kept,
+    };
+    Ok((crew, replies))
+}
+
+/// Does the line that ends a group, once all callers have come back.
+fn end_line<C: Keeps>(
+    alloc: Global,
+    rt: &impl Wait,
+    arcs: &Arcs<C>,
+    crew: Crew<C>,
+    op: &Op,
+) -> Result<(Crew<C>, Reply), NoMemory>
+    requires may { MayGoOn arcs.now [] crew.feeder crew.parties.items }
+    requires feeder { crew.feeder.number ≡ arcs.now.config.callers }
+    requires possible { IsOperation arcs.now.config.callers arcs.now.config.shards op.now }
+    ensures { IfOk result (λ done. DidEndLine arcs.now op.now crew done.0 done.1) }
+{
+    let Crew {
+        feeder,
+        parties,
+        kept,
+    } = crew;
+    // A trace with a line that is not done yet is refused before it is run.
+    let Op::Cap { c } = *op else {
+        return Err(NoMemory);
+    };
+    let (feeder, parties) = resize_joined(alloc, rt, arcs, feeder, parties, c)?;
+    let crew = Crew {
+        feeder,
+        parties,
+        kept,
+    };
+    Ok((crew, Reply::Capped { c }))
+}
+
+/// Puts replies behind others.
+fn append(replies: &mut Vec<Reply>, more: Vec<Reply>) -> Result<(), NoMemory>
+    ensures { OnOk result (replies.new.items ≡ replies.old.items ++ more.items) }
+{
+    for reply in more {
+        replies.push(reply)?;
+    }
+    Ok(())
+}
+
+/// Does the next group of a trace, whose lines before it are answered: its lines at once, and then the line that ends it. False where a fork of
+/// the pool failed: then none of it is begun.
+fn next_group<R: Threads + Wait + Sync, C: Keeps + Send, P: Pool, G: Gate>(
+    alloc: Global,
+    rt: &R,
+    arcs: &Arcs<C>,
+    trace: &Trace,
+    crew: Crew<C>,
+    replies: &mut Vec<Reply>,
+    pool: &mut P,
+    gate: &G,
+) -> Result<(Crew<C>, bool), NoMemory>
+    requires formed { IsFormed trace.now }
+    requires config { arcs.now.config ≡ trace.now.config }
+    requires rows { arcs.now.row.parties ≡ parties_of arcs.now.config }
+    requires between { (start : P) × AreBetween arcs.now P.Pool trace.now start pool.old replies.old.items crew }
+    requires more { vec_len replies.old < length trace.now.ops }
+    ensures steps { (start : P) → AreBetween arcs.now P.Pool trace.now start pool.old replies.old.items crew
+        → IfOk result (λ done. StepsOn arcs.now P.Pool trace.now start pool.old pool.new replies.old.items replies.new.items done.1 crew done.0) }
+    ensures pool { LeavesPool P.Pool pool.old pool.new }
+{
+    let blocks = trace.blocks.as_slice();
+    let ops = trace.ops.as_slice();
+    let first = replies.len();
+    let to = group_end(ops, first);
+    let forks = match forks(alloc, pool, trace.config.callers) {
+        Ok(forks) => forks,
+        Err(IoFault::Failed) => return Ok((crew, false)),
+        Err(IoFault::NoMemory) => return Err(NoMemory),
+    };
+    let (crew, answered) = lines_at_once(
+        alloc,
+        rt,
+        arcs,
+        crew,
+        forks,
+        pool,
+        blocks,
+        &ops[first..to],
+        first as u32,
+        gate,
+    )?;
+    append(replies, answered)?;
+    let Some(op) = ops.get(to) else {
+        return Ok((crew, true));
+    };
+    let (crew, reply) = end_line(alloc, rt, arcs, crew, op)?;
+    replies.push(reply)?;
+    Ok((crew, true))
+}
+
+/// Does all groups of a trace, one after another, up to one for which a fork of the pool fails.
+pub(crate) fn all_groups<R: Threads + Wait + Sync, C: Keeps + Send, P: Pool, G: Gate>(
+    alloc: Global,
+    rt: &R,
+    arcs: &Arcs<C>,
+    trace: &Trace,
+    crew: Crew<C>,
+    pool: &mut P,
+    gate: &G,
+) -> Result<Came<C>, NoMemory>
+    requires formed { IsFormed trace.now }
+    requires config { arcs.now.config ≡ trace.now.config }
+    requires rows { arcs.now.row.parties ≡ parties_of arcs.now.config }
+    requires between { AreBetween arcs.now P.Pool trace.now pool.old pool.old [] crew }
+    ensures stopped { IfOk result (λ came. AreDone arcs.now P.Pool trace.now pool.old pool.new came.fork_failed came.replies.items came.crew) }
+    ensures pool { LeavesPool P.Pool pool.old pool.new }
+{
+    let mut crew = crew;
+    let mut replies = Vec::new(alloc);
+    while replies.len() < trace.ops.as_slice().len() {
+        let (after, done) = next_group(alloc, rt, arcs, trace, crew, &mut replies, pool, gate)?;
+        crew = after;
+        if !done {
+            return Ok(Came {
+                crew,
+                replies,
+                fork_failed: true,
+            });
+        }
+    }
+    Ok(Came {
+        crew,
+        replies,
+        fork_failed: false,
+    })
+}
