@@ -52,6 +52,7 @@ use Rattle.trace_run.specs.Lines.{caller_of, is_of_caller, replies_where}
 use Rattle.trace_run.specs.Opened.{AreOpened, IsOpened}
 use Rattle.trace_run.specs.Tally.{AreAnswered, AreDeclared}
 use Rattle.trace_run.specs.Together.{over_callers, reads_of_caller, replies_of_caller}
+use Rattle.trace_run.proofs.MappedLemmas.{explain-mapped}
 use Rattle.trace_run.proofs.EndLemmas.{HasEnded, caller-ended, caller-told, callers-counted, closed-level, explains, feeder-ended, idle-told, none-dropped}
 use Rattle.trace_run.proofs.GroupCounts.{caller-reads, over-add, over-one, over-same, over-zero}
 use Rattle.trace_run.proofs.RunLemmas.{calls-faults, calls-few, calls-reads, failed-all}
@@ -149,7 +150,7 @@ module _ {C : Type 0} (m : Meanings C) (cache : Cache) (valid : IsConfig cache.c
       less : (n c : ℕ) → n < c + 1 → n ≢ c → n < c
       less n c below differs = omega arith
 
-  pub none-explains : Explain (record { config = cache.config; blocks = blocks; ops = os }) [] (ends_in closed) (histories_of closed)
+  pub none-explains : Explain (record { config = cache.config; blocks = blocks; objects = []; ops = os }) [] (ends_in closed) (histories_of closed)
   none-explains = explains m cache valid blocks os [] ps closed ends opened.count none-ended
       (λ i l at. (l.history, sym (append-nil l.history) ∙ ap (λ (es : List Event). l.history ++ es) (sym (none-dropped cache.config blocks i cache.config.callers os))))
 
@@ -313,7 +314,7 @@ module _ {C P : Type 0} (cache : Cache) (pools : Ghosts P) (blocks : List Ptr) (
               (drops-are cache.config blocks i 0 kept os merged kept-at ∙ ap (λ (c : ℕ). drops_at_end cache.config blocks i c os merged) z)),
         )
 
-        pub worked-explains : Explain (record { config = cache.config; blocks = blocks; ops = os }) merged (ends_in closed) (histories_of closed)
+        pub worked-explains : Explain (record { config = cache.config; blocks = blocks; objects = []; ops = os }) merged (ends_in closed) (histories_of closed)
         worked-explains = explains m cache valid blocks os merged all closed ends all-count worked-ended ends-at
 
         pub worked-others : over_callers cache.config.callers (λ n. reads_of_caller n (histories_of closed)) ≡ sum_by pool_reads (histories_of closed)
@@ -328,8 +329,9 @@ module _ {C P : Type 0} (cache : Cache) (pools : Ghosts P) (blocks : List Ptr) (
 
 -- the configuration of the cache is the trace's
 explained-as : (trace : Trace) (g : Config) (replies : List Reply) (ends : List ShardEnd) (histories : List (List Event)) → g ≡ trace.config
-    → Explain (record { config = g; blocks = trace.blocks; ops = trace.ops }) replies ends histories → Explain trace replies ends histories
-explained-as trace g replies ends histories is explained = subst (λ (c : Config). Explain (record { config = c; blocks = trace.blocks; ops = trace.ops }) replies ends histories) is explained
+    → Explain (record { config = g; blocks = trace.blocks; objects = []; ops = trace.ops }) replies ends histories → Explain trace replies ends histories
+explained-as trace g replies ends histories is explained =
+    explain-mapped trace replies ends histories (subst (λ (c : Config). Explain (record { config = c; blocks = trace.blocks; objects = []; ops = trace.ops }) replies ends histories) is explained)
 
 pub none-explained : {C : Type 0} (m : Meanings C) (cache : Cache) (trace : Trace) → cache.config ≡ trace.config → IsConfig cache.config → (ps : List (Place (Known C))) → AreOpened cache ps → (closed : Ended C) → Ends m cache ps closed
     → Explain trace [] (ends_in closed) (histories_of closed)

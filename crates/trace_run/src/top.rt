@@ -147,7 +147,7 @@ fn read_source<S: Source>(alloc: Global, source: &mut S) -> Result<Trace, Status
         Err(ReadAllFault::NoMemory) => return Err(Status::NoMemory),
     };
     match read_trace(alloc, &text) {
-        Ok(trace) if has_undone(trace.ops.as_slice()) => Err(Status::BadTrace {
+        Ok(trace) if has_undone(&trace) => Err(Status::BadTrace {
             line: first_undone(&text),
             kind: Kind::Word,
         }),
