@@ -22,10 +22,10 @@ sizes_words config = spaced (
     ∷ codes "c" ∷ decimal config.c ∷ codes "mintime" ∷ decimal config.mintime ∷ codes "dbufs" ∷ decimal config.dbuf_bytes
     ∷ codes "write_max" ∷ decimal config.bounds.write_max ∷ codes "headroom" ∷ decimal config.bounds.headroom ∷ [])
 
--- the sizes, and how many blocks and operations there are
+-- the sizes, and how many blocks, mapped blocks of objects and operations there are
 abbrev pub declared_words : Declared → List ℕ
 declared_words declared = spaced (
-    sizes_words declared.config ∷ codes "blocks" ∷ decimal declared.blocks ∷ codes "operations" ∷ decimal declared.ops ∷ [])
+    sizes_words declared.config ∷ codes "blocks" ∷ decimal declared.blocks ∷ codes "objects" ∷ decimal declared.objects ∷ codes "operations" ∷ decimal declared.ops ∷ [])
 
 abbrev pub trace_text : Declared → List ℕ
 trace_text declared = codes "ok " ++ declared_words declared ++ codes "\n"

@@ -15,6 +15,7 @@ pub record Declares (text : List ℕ) (declared : Declared) : Type 0 where
   pub read : IsTraceText text trace
   pub config : declared.config ≡ trace.config
   pub blocks : declared.blocks ≡ length trace.blocks
+  pub objects : declared.objects ≡ length trace.objects
   pub ops : declared.ops ≡ length trace.ops
 
 -- the text is a list of so many pages

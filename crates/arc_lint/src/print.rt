@@ -79,9 +79,14 @@ impl fmt::Display for Declared {
         let Declared {
             config,
             blocks,
+            objects,
             ops,
         } = *self;
-        write!(f, "{} blocks {blocks} operations {ops}", SizesWords(config))
+        write!(
+            f,
+            "{} blocks {blocks} objects {objects} operations {ops}",
+            SizesWords(config)
+        )
     }
 }
 

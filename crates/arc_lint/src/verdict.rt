@@ -24,6 +24,8 @@ pub(crate) struct Declared {
     pub(crate) config: Config,
     /// How many blocks there are.
     pub(crate) blocks: usize,
+    /// How many blocks of objects are mapped.
+    pub(crate) objects: usize,
     /// How many operations there are.
     pub(crate) ops: usize,
 }
@@ -57,6 +59,7 @@ fn trace_verdict(alloc: Global, text: &[u8]) -> Result<Verdict, NoMemory>
         Ok(trace) => Ok(Verdict::Trace(Declared {
             config: trace.config,
             blocks: trace.blocks.len(),
+            objects: trace.objects.len(),
             ops: trace.ops.len(),
         })),
         Err(TraceFault::Bad { line, kind }) => Ok(Verdict::Bad { line, kind }),

@@ -113,6 +113,16 @@ Order|hold 0 1 4611686018427387904
 Order|drop 0 4294967296
 Order|hold 0 1 1
 Order|read 0 1 4611686018427387904 0 4
+Shape|object
+Shape|object 7 0
+Shape|object 7 0 0 0
+Word|objects 7 0 0
+Number|object 4611686018427387905 0 0
+Number|object 7 4611686018427387905 0
+Number|object 7 0 4611686018427387905
+Number|object 07 0 0
+Order|object 7 0 1
+Order|object 7 0 4611686018427387904
 Shape|cap
 Shape|cap 4096 0
 Shape|cap\u{20}
@@ -198,6 +208,8 @@ feed
 txg 4611686018427387904
 cap 4096
 cap 4294967296
+object 7 0 0
+object 4611686018427387904 4611686018427387904 0
 block 4611686018427387904 4294967296 4611686018427387904 076a27c79e5ace2a3d47f9dd2e83e4ff6ea8872b3c2218f66c92b89b55f36560
 block 1 0 0 ffffffffffffffffffffffffffffffffffffffffffffffffffffffffffffffff
 
@@ -289,8 +301,30 @@ fn faults_of_later_lines(rt: HostRuntime) -> Result<(), Fail> {
     Ok(())
 }
 
+/// Lines behind three mappings, and what is wrong with them.
+const LATE_OBJECTS: &str = "\
+Order|object 7 0 0
+Order|object 8 0 0
+Order|object 8 0 1
+Number|object 7 0 4611686018427387905
+Shape|object 7 0
+";
+
+#[test]
+fn objects_that_are_mapped(rt: HostRuntime) -> Result<(), Fail> {
+    let mapped = "object 7 0 0\nobject 7 1 0\nobject 8 0 0";
+    let before = format!(in rt.alloc(); "{SIZES}\n{BLOCK}\n{mapped}\n")?;
+    assert_eq!(rt;
+        wrong_row(rt.alloc(), before.as_str(), 6, LATE_OBJECTS)?,
+        None
+    );
+    Ok(())
+}
+
 /// Lines behind an operation, and what is wrong with them.
 const LATE_BLOCKS: &str = "\
+Order|object 7 0 0
+Number|object 7 0 4611686018427387905
 Order|block 0 512 1 076a27c79e5ace2a3d47f9dd2e83e4ff6ea8872b3c2218f66c92b89b55f36560
 Number|block 0 512 1 0
 Shape|block 0 512 1

@@ -3,11 +3,13 @@ use std::alloc::Global;
 use std::test::Fail;
 use trace_text::{Op, Trace, TraceFault, gen_trace, read_trace};
 
-/// Sizes, a block, and an operation of each kind, with lines that are passed over.
+/// Sizes, a block, two mappings of it, and an operation of each kind, with lines that are passed over.
 const TEXT: &str = "\
 # sizes
 arc 1 1 16 1 4096 0 4096
 block 0 512 1 076a27c79e5ace2a3d47f9dd2e83e4ff6ea8872b3c2218f66c92b89b55f36560
+object 7 1 0
+object 7 0 0
 
 hold 0 1 0
 #
@@ -51,6 +53,15 @@ fn what_a_read_says(rt: HostRuntime) -> Result<(), Fail> {
         return Err("another operation")?;
     };
     assert!(rt; *n == 0 && *t == 2 && *x == 0 && w.at == 508 && w.len == 4);
+    Ok(())
+}
+
+#[test]
+fn what_the_objects_say(rt: HostRuntime) -> Result<(), Fail> {
+    let objects = trace_of(rt.alloc())?.objects;
+    assert_eq!(rt; objects.len(), 2);
+    let mapping = objects.get(0).ok_or("no mapping")?;
+    assert!(rt; mapping.at.object == 7 && mapping.at.block == 1 && mapping.block == 0);
     Ok(())
 }
 

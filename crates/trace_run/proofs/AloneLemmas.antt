@@ -50,6 +50,7 @@ use Rattle.trace_run.specs.Reads.{IsAlone, now_of}
 use Rattle.arc_table.specs.Seen.{HasAll, seen_of}
 use Rattle.trace_run.specs.Tally.{AreAnswered, IsOfCaller}
 use Rattle.arc_table.specs.Told.{IsTold}
+use Rattle.trace_run.proofs.MappedLemmas.{ran-mapped}
 use Rattle.trace_run.proofs.CallerActLemmas.{callers-none}
 use Rattle.trace_run.proofs.GiveLemmas.{all-alone, all-number, all-told}
 use Rattle.trace_run.proofs.GroupCounts.{caller-reads, reads_by}
@@ -364,7 +365,7 @@ module _ {C P : Type 0} (m : Meanings C) (cache : Cache) (pools : Ghosts P) (blo
     -- ---- all of it
 
     abbrev trace : Trace
-    trace = record { config = cache.config; blocks = blocks; ops = os }
+    trace = record { config = cache.config; blocks = blocks; objects = []; ops = os }
 
     -- each history ends with the drops of what is kept
     drops-are : (i : ℕ) → events_of_drops q.number (holds_in g i (map read_of kept)) ≡ drops_at_end g blocks i g.callers os replies
@@ -424,6 +425,7 @@ module _ {C P : Type 0} (m : Meanings C) (cache : Cache) (pools : Ghosts P) (tra
 
   pub ran-alone : (given : Cache) (ps : List (Place (Known C))) (closed : Ended C) → given ≡ cache → ps ≡ r ∷ [] → Ends m given ps closed → RanAlone pools before after trace replies closed
   ran-alone given ps closed same listed ends =
-      subst (λ (g : Config). RanAlone pools before after (record { config = g; blocks = trace.blocks; ops = trace.ops }) replies closed) config
+      ran-mapped pools before after trace replies closed
+      (subst (λ (g : Config). RanAlone pools before after (record { config = g; blocks = trace.blocks; objects = []; ops = trace.ops }) replies closed) config
       (ran m cache pools trace.blocks trace.ops replies before after p q r kept callers own first did between gives last closed
-      (subst (λ (x : Cache × List (Place (Known C))). Ends m x.0 x.1 closed) (λ i. (same i, listed i)) ends))
+      (subst (λ (x : Cache × List (Place (Known C))). Ends m x.0 x.1 closed) (λ i. (same i, listed i)) ends)))

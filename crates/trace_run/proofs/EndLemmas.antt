@@ -364,7 +364,7 @@ module _ {C : Type 0} (m : Meanings C) (cache : Cache) (valid : IsConfig cache.c
   at-end i = drops_at_end settled blocks i settled.callers ops replies
 
   pub explains : ((i : ℕ) (l : ShardLog) → get_elem? e.shards i ≡ some l → EndsWith l.history (at-end i))
-      → Explain (record { config = settled; blocks = blocks; ops = ops }) replies (map (λ log. end_of log.now) e.shards) (map (λ log. log.history) e.shards)
+      → Explain (record { config = settled; blocks = blocks; objects = []; ops = ops }) replies (map (λ log. end_of log.now) e.shards) (map (λ log. log.history) e.shards)
   explains ends_so = record {
     shards = length-map e.shards (λ (log : ShardLog). log.history) ∙ ends.shards;
     legal = all-logs (λ h. IsTrue (is_legal_history (opening_of settled) h)) e.shards (λ i l at. legal i l at);

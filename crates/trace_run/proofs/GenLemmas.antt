@@ -11,6 +11,7 @@ use Rattle.blk_ptr.specs.declared.key.KeyFault.TheVariants as fault
 use Rattle.blk_ptr.specs.declared.ptr.Ptr.{Ptr}
 use Rattle.blk_ptr.specs.Key.{IsFirstFault}
 use Rattle.blk_ptr.specs.Ptr.{IsOf, range_of}
+use Rattle.trace_text.specs.declared.mapping.Mapping.{Mapping}
 use Rattle.trace_text.specs.declared.op.Op.{Op}
 use Rattle.trace_text.specs.declared.op.Op.TheVariants as ops
 use Rattle.trace_text.specs.declared.reply.Reply.{Reply}
@@ -186,9 +187,10 @@ made-plain seed blocks ops trace image plain report made is =
 
 pub made-trace : (seed blocks ops : ℕ) (trace : Trace) → IsGenerated seed blocks ops trace → trace ≡ generated seed blocks ops
 made-trace seed blocks ops trace made =
-    let first : Trace = record { config = generated_sizes blocks; blocks = trace.blocks; ops = trace.ops } in
+    let first : Trace = record { config = generated_sizes blocks; blocks = trace.blocks; objects = trace.objects; ops = trace.ops } in
     ap (λ (c : Config). record first { config = c }) made.config
     ∙ ap (λ (bs : List Ptr). record first { blocks = bs }) made.blocks
+    ∙ ap (λ (ms : List Mapping). record (generated seed blocks ops) { objects = ms; ops = trace.ops }) made.objects
     ∙ ap (λ (os : List Op). record (generated seed blocks ops) { ops = os }) made.ops
 
 pub made-report : (seed blocks ops : ℕ) (trace : Trace) (image : List ℕ) (calls : List Call) → trace ≡ generated seed blocks ops → AllGive calls

@@ -60,6 +60,7 @@ use Rattle.trace_run.proofs.EndLemmas.{HasEnded, caller-ended, caller-told, call
 use Rattle.trace_run.proofs.GroupCounts.{caller-reads, over-add, over-one, over-same, over-zero}
 use Rattle.trace_run.proofs.GroupsLemmas.{acts-append, are-cut-more, cut-prefix, feeds-append, get-left, groups-prefix, kept-append, some-same, where-append}
 use Rattle.trace_run.proofs.LineLemmas.{named-after}
+use Rattle.trace_run.proofs.MappedLemmas.{explain-mapped}
 use Rattle.trace_run.proofs.MeetLemmas.{starts-then}
 use Rattle.trace_run.proofs.RunLemmas.{calls-few}
 use Rattle.trace_run.proofs.TellLemmas.{some-number}
@@ -322,7 +323,7 @@ module _ {C : Type 0} (cache : Cache) (len : ℕ) (image : Option (List ℕ)) (b
             (drops-are cache.config blocks i 0 crew.kept.items os rs kept-at ∙ ap (λ (c : ℕ). drops_at_end cache.config blocks i c os rs) z)),
       )
 
-      pub come-explains : Explain (record { config = cache.config; blocks = blocks; ops = os }) rs (ends_in closed) (histories_of closed)
+      pub come-explains : Explain (record { config = cache.config; blocks = blocks; objects = []; ops = os }) rs (ends_in closed) (histories_of closed)
       come-explains = explains m cache valid blocks os rs all closed ends all-count come-ended ends-at
 
       pub come-others : over_callers cache.config.callers (λ n. reads_of_caller n (histories_of closed)) ≡ sum_by pool_reads (histories_of closed)
@@ -460,7 +461,7 @@ module _ (blocks : List Ptr) (os more : List Op) (rs : List Reply) (same : lengt
 -- so the histories explain the replies to all lines
 explained-more : (config : Config) (blocks : List Ptr) (os more : List Op) (rs : List Reply) (ends : List ShardEnd) (histories : List (List Event)) → length rs ≡ length os
     → ((n : ℕ) → n < config.callers → length (replies_of_caller n os rs) ≡ length (filter (is_of_caller n) os))
-    → Explain (record { config = config; blocks = blocks; ops = os }) rs ends histories → Explain (record { config = config; blocks = blocks; ops = os ++ more }) rs ends histories
+    → Explain (record { config = config; blocks = blocks; objects = []; ops = os }) rs ends histories → Explain (record { config = config; blocks = blocks; objects = []; ops = os ++ more }) rs ends histories
 explained-more config blocks os more rs ends histories same long e = record {
   shards = e.shards;
   legal = e.legal;
@@ -507,8 +508,9 @@ module _ {C P : Type 0} (m : Meanings C) (cache : Cache) (pools : Ghosts P) (bef
   explained : Explain trace rs (ends_in closed) (histories_of closed)
   explained =
       let e = come-explains cache (pools.size before) (pools.told before) trace.blocks os rs crew come h.parties gave m valid closed h.ends in
-      subst (λ (x : Config × List Op). Explain (record { config = x.0; blocks = trace.blocks; ops = x.1 }) rs (ends_in closed) (histories_of closed)) (λ i. (config i, whole-ops i))
-      (explained-more cache.config trace.blocks os more rs (ends_in closed) (histories_of closed) come.long long-each e)
+      explain-mapped trace rs (ends_in closed) (histories_of closed)
+      (subst (λ (x : Config × List Op). Explain (record { config = x.0; blocks = trace.blocks; objects = []; ops = x.1 }) rs (ends_in closed) (histories_of closed)) (λ i. (config i, whole-ops i))
+      (explained-more cache.config trace.blocks os more rs (ends_in closed) (histories_of closed) come.long long-each e))
 
   all-reads-are : over_callers callers (λ n. length (calls_of_all (replies_of_caller n os rs))) ≡ sum_by pool_reads (histories_of closed)
   all-reads-are =

@@ -10,6 +10,7 @@ pub mod CellLemmas
 pub mod CloseLemmas
 pub mod DropLemmas
 pub mod EachLemmas
+pub mod MappedLemmas
 pub mod EndLemmas
 pub mod GenLemmas
 pub mod GetLemmas

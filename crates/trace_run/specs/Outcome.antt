@@ -1,7 +1,7 @@
 -- What a run answers, status by status.
 use Rattle.std.specs.Prelude.{◌≡◌, ◌⊎◌, ℕ, ◌+◌, ◌*◌, ◌^◌, ◌<◌, ◌≤◌, List, [], Option, Some, None, is_some, map, replicate, sum_by, Bool, true, false}
 use Rattle.std.specs.Bool.{OnFalse}
-use Rattle.std.specs.List.{list_any, range_with_len}
+use Rattle.std.specs.List.{range_with_len}
 use Rattle.std.specs.Io.KnownBytes.{Appends}
 use Rattle.vdev_io.specs.Faults.{Rose}
 use Rattle.trace_text.specs.Grammar.{IsTraceText, IsFirstFault, longest_text}
@@ -22,7 +22,7 @@ use Rattle.arc_table.specs.Ended.{Ended}
 use Rattle.trace_text.specs.Generator.{generated_block, generated_read, generated_sizes}
 use Rattle.trace_run.specs.Answers.{AnswersAll}
 use Rattle.trace_run.specs.Explaining.{Explain, RunsAlone}
-use Rattle.trace_run.specs.Lines.{is_undone}
+use Rattle.trace_run.specs.Lines.{has_undone}
 use Rattle.trace_run.specs.PlainRun.{report_of}
 use Rattle.trace_run.specs.States.{Handed, NoneFailed, OneFailed, StreamState}
 use Rattle.trace_run.specs.Stream.{Gives, AppendsFront, TakesAtMost}
@@ -47,11 +47,11 @@ pub record WasRead (before after : StreamState) (trace : Trace) : Type 0 where
   pub unfailed : NoneFailed before after
   pub is_trace : IsTraceText text trace
 
--- The text is a trace, and an operation of it is none that the program does yet: that is told as an unknown word is.
+-- The text is a trace, and it has a line that the program does not do yet, a mapping or an operation: that is told as an unknown word is.
 pub record IsUndone (text : List ℕ) (kind : Kind) : Type 0 where
   pub trace : Trace
   pub is_trace : IsTraceText text trace
-  pub undone : list_any is_undone trace.ops ≡ true
+  pub undone : has_undone trace ≡ true
   pub unknown : kind ≡ kinds.Word
 
 -- The source was read, to its end or past the longest text, by calls of which none failed, and this is the first fault of what it gave, or
@@ -80,11 +80,11 @@ pub record IsRun {C P : Type 0} (pool : Ghosts P) (before after : P) (trace : Tr
   -- a fork failed as a group began, which has no reply then
   pub failed : fork_failed ≡ true → Rose (pool.faults before) (pool.faults after) × StopsAtGroup trace report.replies
 
--- The report is that of a run of the trace that the source gave, all of whose operations the program does.
+-- The report is that of a run of the trace that the source gave, all of whose lines the program does.
 pub record IsReport {C P : Type 0} (pool : Ghosts P) (before after : Handed P) (closed : Ended C) (report : Report) : Type 0 where
   pub trace : Trace
   pub read : WasRead before.source after.source trace
-  pub done : list_any is_undone trace.ops ≡ false
+  pub done : has_undone trace ≡ false
   pub fork_failed : Bool
   pub run : IsRun pool before.pool after.pool trace fork_failed closed report
   pub status : report.status ≡ report_status fork_failed report.replies
@@ -95,6 +95,7 @@ abbrev pub generated : (seed blocks ops : ℕ) → Trace
 generated seed blocks ops = record {
   config = generated_sizes blocks;
   blocks = map generated_block (range_with_len 0 blocks);
+  objects = [];
   ops = map (generated_read seed blocks) (range_with_len 0 ops);
 }
 

@@ -1,8 +1,7 @@
 //! The top call: from the words and the source to the report on the sink.
 ghost use Rattle.std.specs.Prelude.{◌≡◌, ◌<◌, ◌^◌, IfOk, IfErr, IfSome, None, false, is_some, ◌+◌};
-ghost use Rattle.std.specs.List.{list_any};
 ghost use Rattle.trace_text.specs.Grammar.{IsFormed, longest_text};
-ghost use Rattle.trace_run.specs.Lines.{is_undone};
+ghost use Rattle.trace_run.specs.Lines.{has_undone};
 ghost use Rattle.trace_run.specs.Stream.{TakesAtMost};
 ghost use Rattle.trace_run.specs.Outcome.{AnswersWords, AnswersSource, AnswersSink, Does, DoesRun, IfReported, IfUsage, IsDelivered, IsGenReport, IsGenStatus, IsReadStatus, IsReportStatus, WasRead, has_report};
 ghost use Rattle.trace_run.specs.Group.{LeavesPool};
@@ -140,7 +139,7 @@ fn read_source<S: Source>(alloc: Global, source: &mut S) -> Result<Trace, Status
     ensures took { TakesAtMost (S.left source.old) (S.left source.new) (longest_text + 1) }
     ensures read { IfOk result (WasRead (source_state S.Source source.old) (source_state S.Source source.new)) }
     ensures formed { IfOk result IsFormed }
-    ensures done { IfOk result (λ trace. list_any is_undone trace.ops ≡ false) }
+    ensures done { IfOk result (λ trace. has_undone trace ≡ false) }
     ensures err { IfErr result (AnswersSource (source_state S.Source source.old) (source_state S.Source source.new)) }
     ensures which { IfErr result IsReadStatus }
 {
@@ -150,7 +149,7 @@ fn read_source<S: Source>(alloc: Global, source: &mut S) -> Result<Trace, Status
         Err(ReadAllFault::NoMemory) => return Err(Status::NoMemory),
     };
     match read_trace(alloc, &text) {
-        Ok(trace) if has_undone(trace.ops.as_slice()) => Err(Status::BadTrace {
+        Ok(trace) if has_undone(&trace) => Err(Status::BadTrace {
             line: first_undone(&text),
             kind: Kind::Word,
         }),

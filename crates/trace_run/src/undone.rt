@@ -1,15 +1,24 @@
-//! Traces with operations that the program doesn't do yet. They are refused before anything is run, as lines with an unknown word are.
+//! Traces with lines that the program doesn't do yet. They are refused before anything is run, as lines with an unknown word are.
 ghost use Rattle.std.specs.Prelude.{◌≡◌};
 ghost use Rattle.std.specs.List.{list_any};
-ghost use Rattle.trace_run.specs.Lines.{is_undone};
+ghost use Rattle.trace_run.specs.Lines.{has_undone, is_undone};
 
-use trace_text::Op;
+use trace_text::{Op, Trace};
 
-/// The words of these operations.
-const UNDONE: [&[u8]; 7] = [b"get", b"put", b"patch", b"pin", b"unpin", b"feed", b"txg"];
+/// The words of these lines.
+const UNDONE: [&[u8]; 8] = [
+    b"object", b"get", b"put", b"patch", b"pin", b"unpin", b"feed", b"txg",
+];
+
+/// Whether a line of the trace is not done yet.
+pub(crate) fn has_undone(trace: &Trace) -> bool
+    ensures { result ≡ has_undone trace.now }
+{
+    !trace.objects.is_empty() || has_undone_op(trace.ops.as_slice())
+}
 
 /// Whether one of the operations is not done yet.
-pub(crate) fn has_undone(ops: &[Op]) -> bool
+fn has_undone_op(ops: &[Op]) -> bool
     ensures { result ≡ list_any is_undone ops.now }
 {
     ops.iter().any(is_undone)
@@ -25,7 +34,7 @@ fn is_undone(op: &Op) -> bool
     }
 }
 
-/// The number of the first line behind the first of a trace's text that begins with the word of such an operation, counted from 1.
+/// The number of the first line behind the first of a trace's text that begins with the word of such a line, counted from 1.
 pub(crate) fn first_undone(text: &[u8]) -> u32 {
     let mut line: u32 = 1;
     for place in 0..text.len() {
@@ -39,7 +48,7 @@ pub(crate) fn first_undone(text: &[u8]) -> u32 {
     line
 }
 
-/// Whether a text begins with the word of such an operation.
+/// Whether a text begins with the word of such a line.
 fn begins_undone(text: &[u8]) -> bool {
     UNDONE.iter().any(|word| text.starts_with(word))
 }

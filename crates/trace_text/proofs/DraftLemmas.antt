@@ -28,7 +28,7 @@ begun-fault before line first rest config r e kind is same parts known fault = r
 line-fault : (before : Content) (word : Word) (rest : List (List ℕ)) (e : LineFault) → MayBegin before.config word → HasShape word (text_of word ∷ rest)
     → IsLineFormRead (seen_of before) word rest (Err e) → IsLineRead before (text_of word ∷ rest) (Err e)
 line-fault before word rest (Wrong kinds.Number) may shape form = inl (word, (refl, may), shape, λ line said. form line said.spelled)
-line-fault before word rest (Wrong kinds.Order) may shape form = inr (form.0, record { word = word; begins = (refl, may); spelled = form.1 }, form.2)
+line-fault before word rest (Wrong kinds.Order) may shape form = inr (form.0, record { word = word; begins = (refl, may); spelled = form.1 }, λ stands. form.2 stands.0)
 line-fault before word rest (Wrong other) may shape form = absurd form
 line-fault before word rest NoMemory may shape form = tt
 

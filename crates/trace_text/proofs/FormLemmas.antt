@@ -7,17 +7,18 @@ use Rattle.blk_ptr.specs.declared.ptr.Ptr.{Ptr}
 use Rattle.arc_core.specs.declared.config.Config.{Config}
 use Rattle.trace_text.specs.declared.fault.Kind.{Kind}
 use Rattle.trace_text.specs.declared.fault.Kind.TheVariants as kinds
+use Rattle.trace_text.specs.declared.mapping.Mapping.{Mapping}
 use Rattle.trace_text.specs.declared.op.Op.TheVariants as ops
 use Rattle.dbuf_state.specs.declared.oid.Oid.{Oid}
 use Rattle.dbuf_state.specs.declared.window.Window.{Window}
 use Rattle.trace_text.specs.declared.words.Line.{Line}
-use Rattle.trace_text.specs.declared.words.Line.TheVariants.{Sizes, Declared, Operation}
+use Rattle.trace_text.specs.declared.words.Line.TheVariants.{Sizes, Declared, Mapped, Operation}
 use Rattle.trace_text.specs.declared.words.LineFault.{LineFault}
 use Rattle.trace_text.specs.declared.words.LineFault.TheVariants.{Wrong}
 use Rattle.trace_text.specs.declared.words.Seen.{Seen}
 use Rattle.trace_text.specs.declared.words.Word.{Word}
 use Rattle.trace_text.specs.declared.words.Word.TheVariants as words
-use Rattle.trace_text.specs.Grammar.{AreSizes, IsDeclarable, IsInOrder, IsOperation, Spell, fields_after, text_of}
+use Rattle.trace_text.specs.Grammar.{AreSizes, IsDeclarable, IsInOrder, IsMappable, IsOperation, Spell, fields_after, text_of}
 use Rattle.trace_text.specs.Reading.{IsFormRead, IsLineFormRead}
 use Rattle.trace_text.proofs.WordLemmas.{line-of}
 
@@ -31,6 +32,11 @@ pub spell-block : (callers shards : ℕ) (fields : List (List ℕ)) (line : Line
     → (p : Ptr) × (line ≡ Declared p) × (fields ≡ fields_after (Declared p)) × IsDeclarable p
 spell-block callers shards fields line s =
     let l = line-of callers shards words.Block fields line s in (l.form.0, l.form.1, rw l.form.1 at l.after, rw l.form.1 at l.ranged)
+
+pub spell-object : (callers shards : ℕ) (fields : List (List ℕ)) (line : Line) → Spell callers shards (text_of words.Object ∷ fields) line
+    → (m : Mapping) × (line ≡ Mapped m) × (fields ≡ fields_after (Mapped m)) × IsMappable m
+spell-object callers shards fields line s =
+    let l = line-of callers shards words.Object fields line s in (l.form.0, l.form.1, rw l.form.1 at l.after, rw l.form.1 at l.ranged)
 
 pub spell-read : (callers shards : ℕ) (fields : List (List ℕ)) (line : Line) → Spell callers shards (text_of words.Read ∷ fields) line
     → (n t x : ℕ) × (w : Window) × (line ≡ Operation (ops.Read n t x w))
@@ -152,6 +158,13 @@ pub drop-spelled : (callers shards : ℕ) (f0 f1 f2 : List (List ℕ)) (n x : �
 drop-spelled callers shards f0 f1 f2 n x left e0 e1 ranged =
     let all : f0 ≡ decimal n ∷ decimal x ∷ [] = e0 ∙ ap (λ f. decimal n ∷ f) (e1 ∙ ap (λ f. decimal x ∷ f) left) in
     record { spelled = ap (λ f. text_of words.Drop ∷ f) all; ranged = ranged }
+
+pub object-spelled : (callers shards : ℕ) (f0 f1 f2 : List (List ℕ)) (m : Mapping) → f2 ≡ []
+    → f0 ≡ decimal m.at.object ∷ decimal m.at.block ∷ f1 → f1 ≡ decimal m.block ∷ f2
+    → IsMappable m → Spell callers shards (text_of words.Object ∷ f0) (Mapped m)
+object-spelled callers shards f0 f1 f2 m left e0 e1 ranged =
+    let all : f0 ≡ fields_after (Mapped m) = e0 ∙ ap (λ f. decimal m.at.object ∷ decimal m.at.block ∷ f) (e1 ∙ ap (λ f. decimal m.block ∷ f) left) in
+    record { spelled = ap (λ f. text_of words.Object ∷ f) all; ranged = ranged }
 
 pub block-spelled : (callers shards : ℕ) (f0 f1 f2 f3 f4 : List (List ℕ)) (p : Ptr) → f4 ≡ []
     → f0 ≡ decimal p.key.offset ∷ f1 → f1 ≡ decimal p.key.size ∷ f2 → f2 ≡ decimal p.key.birth ∷ f3 → f3 ≡ encode_lower p.digest.0 ∷ f4

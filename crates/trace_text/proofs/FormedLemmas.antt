@@ -1,20 +1,22 @@
 -- What every trace that is read has.
-use Rattle.std.proofs.Common.{◌≡◌, ℕ, ◌≤◌, ◌↔◌, Bool, true, false, not, List, [], ◌∷◌, ◌++◌, length, map, filter, Option, Some, None, refl, ap, ◌∙◌, sym, arith, length-append, append_assoc, cond}
+use Rattle.std.proofs.Common.{◌≡◌, ℕ, ◌≤◌, ◌↔◌, Bool, true, false, not, List, [], ◌∷◌, ◌++◌, inl, inr, length, map, filter, Option, Some, None, refl, ap, ◌∙◌, sym, arith, length-append, append_assoc, cond}
 use Rattle.std.proofs.lemmas.List.{append-nil, map-append}
 use Rattle.std.specs.Prelude.{All, IfSome, IsNone, MatchBool}
 use Rattle.std.proofs.lemmas.Bool.{false≢true}
 use Rattle.std.proofs.lemmas.List.Elements.{All-nil, All-push}
 use Rattle.blk_ptr.specs.declared.ptr.Ptr.{Ptr}
 use Rattle.arc_core.specs.declared.config.Config.{Config}
+use Rattle.trace_text.specs.declared.mapping.Mapping.{Mapping}
 use Rattle.trace_text.specs.declared.op.Op.{Op}
 use Rattle.trace_text.specs.declared.op.Op.TheVariants as ops
 use Rattle.trace_text.specs.declared.trace.Trace.{Trace}
 use Rattle.trace_text.specs.declared.words.Line.{Line}
-use Rattle.trace_text.specs.declared.words.Line.TheVariants.{Sizes, Declared, Operation}
+use Rattle.trace_text.specs.declared.words.Line.TheVariants.{Sizes, Declared, Mapped, Operation}
 use Rattle.trace_text.specs.declared.words.Word.{Word}
 use Rattle.trace_text.specs.declared.words.Word.TheVariants as words
+use Rattle.trace_text.proofs.TakenLemmas.{mapped-push}
 use Rattle.trace_text.proofs.WordLemmas.{begins-word}
-use Rattle.trace_text.specs.Grammar.{Add, AddAll, Adds, AreSizes, BeginsWith, Content, HasRoom, IsDeclarable, IsFormed, IsInOrder, IsOnDeclared, IsOperation, IsTraceText, Say, callers_of, content_of, counted_fields, fields_of, is_passed_over, lines_in, lines_of, nothing, seen_of, shards_of, spelling, with_line, word_of}
+use Rattle.trace_text.specs.Grammar.{Add, AddAll, Adds, AreApart, AreDeclared, AreSizes, BeginsWith, Content, HasRoom, IsDeclarable, IsFormed, IsMapped, IsMappingOn, IsOnDeclared, IsOperation, IsTraceText, IsWritten, MayStand, Say, callers_of, content_of, counted_fields, fields_of, is_passed_over, lines_of, nothing, seen_of, shards_of, spelling, with_line, word_of}
 
 -- an operation that is possible where there are so many callers, shards and blocks
 abbrev Possible : (callers shards blocks : ℕ) → Op → Type 0
@@ -23,20 +25,28 @@ Possible callers shards blocks op = IsOperation callers shards op × IsOnDeclare
 -- what is said is formed
 pub record Sound (said : Content) : Type 0 where
   pub no_blocks : IsNone said.config → length said.blocks ≡ 0
+  pub no_objects : IsNone said.config → length said.objects ≡ 0
   pub no_ops : IsNone said.config → length said.ops ≡ 0
   pub config : IfSome said.config AreSizes
   pub blocks : All IsDeclarable said.blocks
   pub few_blocks : length said.blocks ≤ 100000
+  pub objects : All (IsMappingOn (length said.blocks)) said.objects
+  pub few_objects : length said.objects ≤ 100000
+  pub apart : AreApart said.objects
   pub ops : All (Possible (callers_of said.config) (shards_of said.config) (length said.blocks)) said.ops
   pub few_ops : length said.ops ≤ 1000000
 
 pub Sound-nothing : Sound nothing
 Sound-nothing = record {
   no_blocks = λ h. refl;
+  no_objects = λ h. refl;
   no_ops = λ h. refl;
   config = tt;
   blocks = All-nil IsDeclarable;
   few_blocks = omega arith;
+  objects = All-nil (IsMappingOn 0);
+  few_objects = omega arith;
+  apart = tt;
   ops = All-nil (Possible 0 0 0);
   few_ops = omega arith;
 }
@@ -58,17 +68,36 @@ is-none : (config : Option Config) (fields : List (List ℕ)) (z : Config) (said
 is-none config fields z said =
     (may-begin config fields said.word said.begins).0 (sym (begins-word config fields said.word (Sizes z) said.begins said.spelled.spelled))
 
+-- a mapping on so many blocks is one on more
+more-blocks : (mappings : List Mapping) (few more : ℕ) → few ≤ more → All (IsMappingOn few) mappings → All (IsMappingOn more) mappings
+more-blocks mappings few more le all = λ k d lt. let one = all k d lt in (one.0, omega (arith, one.1))
+
+-- one more mapping, of a block that none of the others maps
+apart-push : (mappings : List Mapping) (m : Mapping) → AreApart mappings → (IsMapped m.at mappings → ⊥) → AreApart (mappings ++ m ∷ [])
+apart-push [] m apart new = (λ none. none, tt)
+apart-push (first ∷ mappings) m apart new = (
+  λ there. elim (mapped-push mappings m first.at there) [
+    | inl before ↦ apart.0 before
+    | inr same ↦ new (inl (sym same))
+  ],
+  apart-push mappings m apart.1 (λ there. new (inr there)),
+)
+
 -- one more line
 Sound-line : (before : Content) (fields : List (List ℕ)) (l : Line) → Sound before → Say before.config fields l
-    → IsInOrder (seen_of before) l → HasRoom (seen_of before) l → Sound (with_line before l)
+    → MayStand before l → HasRoom (seen_of before) l → Sound (with_line before l)
 Sound-line before fields (Sizes z) s said ordered room =
     let none = is-none before.config fields z said in
     record {
       no_blocks = λ h. s.no_blocks none;
+      no_objects = λ h. s.no_objects none;
       no_ops = λ h. s.no_ops none;
       config = said.spelled.ranged;
       blocks = s.blocks;
       few_blocks = s.few_blocks;
+      objects = s.objects;
+      few_objects = s.few_objects;
+      apart = s.apart;
       ops = no-ops (Possible z.callers z.shards (length before.blocks)) before.ops (s.no_ops none);
       few_ops = s.few_ops;
     }
@@ -76,22 +105,45 @@ Sound-line before fields (Declared p) s said ordered room =
     let more = length-append before.blocks (p ∷ []) in
     record {
       no_blocks = λ none. absurd (not-none before.config fields (Declared p) said (λ e. cc) none);
+      no_objects = s.no_objects;
       no_ops = s.no_ops;
       config = s.config;
       blocks = All-push IsDeclarable before.blocks p s.blocks said.spelled.ranged;
       few_blocks = omega arith;
-      ops = no-ops (Possible (callers_of before.config) (shards_of before.config) (length (before.blocks ++ p ∷ []))) before.ops ordered;
+      objects = more-blocks before.objects (length before.blocks) (length (before.blocks ++ p ∷ [])) (omega arith) s.objects;
+      few_objects = s.few_objects;
+      apart = s.apart;
+      ops = no-ops (Possible (callers_of before.config) (shards_of before.config) (length (before.blocks ++ p ∷ []))) before.ops ordered.0;
+      few_ops = s.few_ops;
+    }
+Sound-line before fields (Mapped m) s said ordered room =
+    let more = length-append before.objects (m ∷ []) in
+    record {
+      no_blocks = s.no_blocks;
+      no_objects = λ none. absurd (not-none before.config fields (Mapped m) said (λ e. cc) none);
+      no_ops = s.no_ops;
+      config = s.config;
+      blocks = s.blocks;
+      few_blocks = s.few_blocks;
+      objects = All-push (IsMappingOn (length before.blocks)) before.objects m s.objects (said.spelled.ranged.at, ordered.0.1);
+      few_objects = omega arith;
+      apart = apart-push before.objects m s.apart ordered.1;
+      ops = s.ops;
       few_ops = s.few_ops;
     }
 Sound-line before fields (Operation op) s said ordered room =
     let more = length-append before.ops (op ∷ []) in
     record {
       no_blocks = s.no_blocks;
+      no_objects = s.no_objects;
       no_ops = λ none. absurd (not-none before.config fields (Operation op) said (later op) none);
       config = s.config;
       blocks = s.blocks;
       few_blocks = s.few_blocks;
-      ops = All-push (Possible (callers_of before.config) (shards_of before.config) (length before.blocks)) before.ops op s.ops (said.spelled.ranged, ordered);
+      objects = s.objects;
+      few_objects = s.few_objects;
+      apart = s.apart;
+      ops = All-push (Possible (callers_of before.config) (shards_of before.config) (length before.blocks)) before.ops op s.ops (said.spelled.ranged, ordered.0);
       few_ops = omega arith;
     }
   where
@@ -123,56 +175,109 @@ Sound-all (line ∷ lines) before after s a = Sound-all lines a.0 after (Sound-a
 pub IsFormed-trace : (text : List ℕ) (trace : Trace) → IsTraceText text trace → IsFormed trace
 IsFormed-trace text trace t =
     let s = Sound-all (lines_of text) nothing (content_of trace) Sound-nothing t.said in
-    record { config = s.config; blocks = s.blocks; few_blocks = s.few_blocks; ops = s.ops; few_ops = s.few_ops }
+    record { config = s.config; blocks = s.blocks; few_blocks = s.few_blocks; objects = s.objects; few_objects = s.few_objects; apart = s.apart; ops = s.ops; few_ops = s.few_ops }
 
--- ---- a trace's lines that count spell its sizes, its blocks and its operations
+-- ---- a trace's lines that count spell its sizes, its blocks and objects, and its operations
 
 abbrev sizes_in : Option Config → List Line
 sizes_in None = []
 sizes_in (Some z) = Sizes z ∷ []
 
--- the lines of what is said
-abbrev pub lines_said : Content → List Line
-lines_said said = sizes_in said.config ++ (map Declared said.blocks ++ map Operation said.ops)
+-- the lines that count so far are those of what is said
+record Written (counted : List (List (List ℕ))) (said : Content) : Type 0 where
+  declared : List Line
+  are_declared : AreDeclared declared said.blocks said.objects
+  spelled : counted ≡ map spelling (sizes_in said.config ++ (declared ++ map Operation said.ops))
 
-no-blocks : (blocks : List Ptr) → length blocks ≡ 0 → blocks ≡ []
-no-blocks [] h = refl
-no-blocks (p ∷ blocks) h = absurd (omega arith)
-
-no-operations : (operations : List Op) → length operations ≡ 0 → operations ≡ []
-no-operations [] h = refl
-no-operations (op ∷ operations) h = absurd (omega arith)
+none-of : {X : Type 0} (xs : List X) → length xs ≡ 0 → xs ≡ []
+none-of [] h = refl
+none-of (x ∷ xs) h = absurd (omega arith)
 
 sizes-none : (config : Option Config) → IsNone config → sizes_in config ≡ []
 sizes-none None h = refl
 sizes-none (Some z) h = absurd (false≢true (sym h))
 
--- a line comes last of what is said
-lines_said-line : (before : Content) (fields : List (List ℕ)) (l : Line) → Sound before → Say before.config fields l
-    → IsInOrder (seen_of before) l → lines_said (with_line before l) ≡ lines_said before ++ l ∷ []
-lines_said-line before fields (Sizes z) s said ordered =
+declared-none : (lines : List Line) → AreDeclared lines [] [] → lines ≡ []
+declared-none [] a = refl
+declared-none (Declared p ∷ lines) a = absurd (let e = ap length a.1 in omega (arith, e))
+declared-none (Mapped m ∷ lines) a = absurd (let e = ap length a.1 in omega (arith, e))
+declared-none (Sizes z ∷ lines) a = absurd a
+declared-none (Operation op ∷ lines) a = absurd a
+
+block-declared : (lines : List Line) (blocks : List Ptr) (objects : List Mapping) (p : Ptr) → AreDeclared lines blocks objects → AreDeclared (lines ++ Declared p ∷ []) (blocks ++ p ∷ []) objects
+block-declared [] blocks objects p a = ([], ap (λ bs. bs ++ p ∷ []) a.0, (refl, a.1))
+block-declared (Declared q ∷ lines) blocks objects p a = (a.0 ++ p ∷ [], ap (λ bs. bs ++ p ∷ []) a.1, block-declared lines a.0 objects p a.2)
+block-declared (Mapped m ∷ lines) blocks objects p a = (a.0, a.1, block-declared lines blocks a.0 p a.2)
+block-declared (Sizes z ∷ lines) blocks objects p a = absurd a
+block-declared (Operation op ∷ lines) blocks objects p a = absurd a
+
+object-declared : (lines : List Line) (blocks : List Ptr) (objects : List Mapping) (m : Mapping) → AreDeclared lines blocks objects → AreDeclared (lines ++ Mapped m ∷ []) blocks (objects ++ m ∷ [])
+object-declared [] blocks objects m a = ([], ap (λ ms. ms ++ m ∷ []) a.1, (a.0, refl))
+object-declared (Declared q ∷ lines) blocks objects m a = (a.0, a.1, object-declared lines a.0 objects m a.2)
+object-declared (Mapped n ∷ lines) blocks objects m a = (a.0 ++ m ∷ [], ap (λ ms. ms ++ m ∷ []) a.1, object-declared lines blocks a.0 m a.2)
+object-declared (Sizes z ∷ lines) blocks objects m a = absurd a
+object-declared (Operation op ∷ lines) blocks objects m a = absurd a
+
+-- the spelling of one line more
+spelled-push : (lines : List Line) (l : Line) (counted : List (List (List ℕ))) (fields : List (List ℕ)) → counted ≡ map spelling lines → fields ≡ spelling l
+    → counted ++ fields ∷ [] ≡ map spelling (lines ++ l ∷ [])
+spelled-push lines l counted fields is same = rw (is, same, map-append spelling lines (l ∷ [])) refl
+
+-- one more line that counts
+Written-line : (counted : List (List (List ℕ))) (before : Content) (fields : List (List ℕ)) (l : Line) → Sound before → Say before.config fields l
+    → MayStand before l → Written counted before → Written (counted ++ fields ∷ []) (with_line before l)
+Written-line counted before fields (Sizes z) s said ordered w =
     let none = is-none before.config fields z said in
-    rw (no-blocks before.blocks (s.no_blocks none), no-operations before.ops (s.no_ops none), sizes-none before.config none) refl
-lines_said-line before fields (Declared p) s said ordered =
-    rw (no-operations before.ops ordered, map-append Declared before.blocks (p ∷ [])) (simp (append_assoc, append-nil))
-lines_said-line before fields (Operation op) s said ordered = rw (map-append Operation before.ops (op ∷ [])) (simp append_assoc)
+    let few : AreDeclared w.declared [] [] = rw (← none-of before.blocks (s.no_blocks none), ← none-of before.objects (s.no_objects none)) (w.are_declared) in
+    let empty = declared-none w.declared few in
+    let nothing_yet : counted ≡ [] = w.spelled ∙ rw (sizes-none before.config none, empty, none-of before.ops (s.no_ops none)) refl in
+    record {
+      declared = w.declared;
+      are_declared = w.are_declared;
+      spelled = rw (nothing_yet, empty, none-of before.ops (s.no_ops none)) (ap (λ f. f ∷ []) said.spelled.spelled);
+    }
+Written-line counted before fields (Declared p) s said ordered w =
+    let none = none-of before.ops ordered.0 in
+    record {
+      declared = w.declared ++ Declared p ∷ [];
+      are_declared = block-declared w.declared before.blocks before.objects p w.are_declared;
+      spelled = spelled-push (sizes_in before.config ++ (w.declared ++ map Operation before.ops)) (Declared p) counted fields w.spelled said.spelled.spelled
+          ∙ ap (map spelling) (rw none (simp (append_assoc, append-nil)));
+    }
+Written-line counted before fields (Mapped m) s said ordered w =
+    let none = none-of before.ops ordered.0.0 in
+    record {
+      declared = w.declared ++ Mapped m ∷ [];
+      are_declared = object-declared w.declared before.blocks before.objects m w.are_declared;
+      spelled = spelled-push (sizes_in before.config ++ (w.declared ++ map Operation before.ops)) (Mapped m) counted fields w.spelled said.spelled.spelled
+          ∙ ap (map spelling) (rw none (simp (append_assoc, append-nil)));
+    }
+Written-line counted before fields (Operation op) s said ordered w = record {
+  declared = w.declared;
+  are_declared = w.are_declared;
+  spelled = spelled-push (sizes_in before.config ++ (w.declared ++ map Operation before.ops)) (Operation op) counted fields w.spelled said.spelled.spelled
+      ∙ ap (map spelling) (rw (map-append Operation before.ops (op ∷ [])) (simp append_assoc));
+}
 
 -- each line that counts is one more line of what is said
-lines_said-all : (lines : List (List ℕ)) (before after : Content) → Sound before → AddAll before lines after
-    → map spelling (lines_said before) ++ counted_fields lines ≡ map spelling (lines_said after)
-lines_said-all [] before after s a = append-nil (map spelling (lines_said before)) ∙ ap (λ said. map spelling (lines_said said)) (sym a)
-lines_said-all (line ∷ lines) before after s a = by (lines_said-all lines a.0 after (Sound-adds before a.0 line s a.1) a.2) (is_passed_over line) a.1
+Written-all : (lines : List (List ℕ)) (counted : List (List (List ℕ))) (before after : Content) → Sound before → Written counted before → AddAll before lines after
+    → Written (counted ++ counted_fields lines) after
+Written-all [] counted before after s w a = rw (append-nil counted, a) w
+Written-all (line ∷ lines) counted before after s w a =
+    let sound = Sound-adds before a.0 line s a.1 in
+    by (λ front written. Written-all lines front a.0 after sound written a.2) (is_passed_over line) a.1
   where
-    by : map spelling (lines_said a.0) ++ counted_fields lines ≡ map spelling (lines_said after) → (passed : Bool) → MatchBool passed (a.0 ≡ before) (Add before (fields_of line) a.0)
-        → map spelling (lines_said before) ++ map fields_of (cond (not passed) (line ∷ filter (λ x. not (is_passed_over x)) lines) (filter (λ x. not (is_passed_over x)) lines)) ≡ map spelling (lines_said after)
-    by rest true same = ap (λ said. map spelling (lines_said said) ++ counted_fields lines) (sym same) ∙ rest
+    by : ((front : List (List (List ℕ))) → Written front a.0 → Written (front ++ counted_fields lines) after) → (passed : Bool)
+        → MatchBool passed (a.0 ≡ before) (Add before (fields_of line) a.0)
+        → Written (counted ++ map fields_of (cond (not passed) (line ∷ filter (λ x. not (is_passed_over x)) lines) (filter (λ x. not (is_passed_over x)) lines))) after
+    by rest true same = rest counted (rw same w)
     by rest false added =
-        let one = lines_said-line before (fields_of line) added.line s added.said added.ordered in
-        let last : map spelling (lines_said a.0) ≡ map spelling (lines_said before) ++ fields_of line ∷ [] =
-        ap (λ said. map spelling (lines_said said)) added.added ∙ ap (map spelling) one ∙ map-append spelling (lines_said before) (added.line ∷ [])
-        ∙ ap (λ fields. map spelling (lines_said before) ++ fields ∷ []) (sym added.said.spelled.spelled) in
-        sym (append_assoc (map spelling (lines_said before)) (fields_of line ∷ []) (counted_fields lines)) ∙ ap (λ fields. fields ++ counted_fields lines) (sym last) ∙ rest
+        let one : Written (counted ++ fields_of line ∷ []) a.0 = rw (added.added) (Written-line counted before (fields_of line) added.line s added.said added.ordered w) in
+        rw (← append_assoc counted (fields_of line ∷ []) (counted_fields lines)) (rest (counted ++ fields_of line ∷ []) one)
 
--- a trace's lines that count are the spellings of its sizes, its blocks and its operations
-pub counted_fields-trace : (text : List ℕ) (trace : Trace) → IsTraceText text trace → counted_fields (lines_of text) ≡ map spelling (lines_in trace)
-counted_fields-trace text trace t = lines_said-all (lines_of text) nothing (content_of trace) Sound-nothing t.said
+-- a trace's lines that count are the spellings of its sizes, its blocks and objects, and its operations
+pub IsWritten-trace : (text : List ℕ) (trace : Trace) → IsTraceText text trace → IsWritten (counted_fields (lines_of text)) trace
+IsWritten-trace text trace t =
+    let start : Written [] nothing = record { declared = []; are_declared = (refl, refl); spelled = refl } in
+    let w = Written-all (lines_of text) [] nothing (content_of trace) Sound-nothing start t.said in
+    record { declared = w.declared; are_declared = w.are_declared; spelled = w.spelled }

@@ -2,6 +2,7 @@
 use Rattle.std.proofs.Common.{◌≡◌, ℕ, zero, suc, ◌+◌, ◌/◌, ◌%◌, ◌<◌, ◌≤◌, List, [], ◌∷◌, ◌++◌, length, get_or, map, refl, ap, sym, ◌∙◌, arith, add-one}
 use Rattle.std.specs.Prelude.{All}
 use Rattle.std.specs.List.{range_with_len}
+use Rattle.std.proofs.lemmas.List.Elements.{All-nil}
 use Rattle.std.proofs.lemmas.List.FromFn.{get_or-map-range_with_len, length-map-range_with_len, map-range_with_len_more}
 use Rattle.std.specs.Int.{to_be_bytes, w32}
 use Rattle.std.specs.Prelude.{replicate}
@@ -13,7 +14,7 @@ use Rattle.trace_text.specs.declared.op.Op.TheVariants.{Read}
 use Rattle.trace_text.specs.declared.trace.Trace.{Trace}
 use Rattle.dbuf_state.specs.declared.window.Window.{Window}
 use Rattle.trace_text.specs.Generator.{IsGenerated, draw, empty_window, generated_block, generated_read, generated_sizes, next_draw, zero_digest}
-use Rattle.trace_text.specs.Grammar.{AreSizes, IsDeclarable, IsDigest, IsFormed, IsPossible}
+use Rattle.trace_text.specs.Grammar.{AreSizes, IsDeclarable, IsDigest, IsFormed, IsMappingOn, IsPossible}
 use Rattle.trace_text.proofs.SameLemmas.{window-same}
 
 -- one more of a list that is made from its places
@@ -77,6 +78,9 @@ IsFormed-generated seed blocks count trace some few short g =
       config = rw g.config (sizes-ranged blocks few);
       blocks = All-made IsDeclarable generated_block trace.blocks blocks g.blocks (λ i lt. record { offset = omega arith; size = omega arith; birth = omega arith; digest = IsDigest-zero });
       few_blocks = omega arith;
+      objects = rw (g.objects) (All-nil (IsMappingOn (length trace.blocks)));
+      few_objects = rw (g.objects) (omega arith);
+      apart = rw (g.objects) tt;
       ops = All-made (IsPossible trace.config trace.blocks) (generated_read seed blocks) trace.ops count g.ops (λ i lt. drawn i lt (ap (λ (sizes : Config). sizes.callers) g.config) many);
       few_ops = omega (arith, ap length g.ops, length-map-range_with_len (generated_read seed blocks) 0 count);
     }

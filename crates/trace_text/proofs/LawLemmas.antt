@@ -11,12 +11,11 @@ use Rattle.trace_text.specs.declared.fault.Kind.TheVariants as kinds
 use Rattle.trace_text.specs.declared.op.Op.TheVariants as ops
 use Rattle.trace_text.specs.declared.trace.Trace.{Trace}
 use Rattle.trace_text.specs.declared.words.Line.{Line}
-use Rattle.trace_text.specs.declared.words.Line.TheVariants.{Sizes, Declared, Operation}
-use Rattle.trace_text.specs.declared.words.Seen.{Seen}
+use Rattle.trace_text.specs.declared.words.Line.TheVariants.{Sizes, Declared, Mapped, Operation}
 use Rattle.trace_text.specs.declared.words.Word.{Word}
 use Rattle.trace_text.proofs.WordLemmas.{begins-word, word-one}
 use Rattle.trace_text.proofs.SameLemmas.{spelling-injective}
-use Rattle.trace_text.specs.Grammar.{Add, AddAll, Adds, BeginsWith, Content, HasFault, HasRoom, HasShape, IsFaulty, IsFirstFault, IsInOrder, IsInRange, IsMisplaced, IsMisspelled, IsTraceText, Say, SaysNothing, callers_of, content_of, fields_of, is_passed_over, lines_of, nothing, seen_of, shards_of, spelling, with_line, word_of}
+use Rattle.trace_text.specs.Grammar.{Add, AddAll, Adds, BeginsWith, Content, HasFault, HasRoom, HasShape, IsFaulty, IsFirstFault, IsInRange, IsMisplaced, IsMisspelled, IsTraceText, MayStand, Say, SaysNothing, callers_of, content_of, fields_of, is_passed_over, lines_of, nothing, seen_of, shards_of, spelling, with_line, word_of}
 
 -- ---- what is said is determined
 
@@ -44,6 +43,7 @@ Adds-one before few line x y a b = by (is_passed_over line) a b
 with_line-few : (before : Content) (l : Line) → FewCallers before → IsInRange (callers_of before.config) (shards_of before.config) l → FewCallers (with_line before l)
 with_line-few before (Sizes z) few ranged = ranged.ranged.counts.callers.1
 with_line-few before (Declared p) few ranged = few
+with_line-few before (Mapped m) few ranged = few
 with_line-few before (Operation op) few ranged = few
 
 -- no line makes more callers
@@ -71,6 +71,7 @@ AddAll-one before few (line ∷ lines) x y a b =
 spelling-shape : (callers shards : ℕ) → callers ≤ 16 → (l : Line) → IsInRange callers shards l → HasShape (word_of l) (spelling l)
 spelling-shape callers shards few (Sizes z) r = (refl, (decimal_nonempty z.callers (omega (arith, r.ranged.counts.callers.1)), (decimal_nonempty z.shards (omega (arith, r.ranged.counts.shards.1)), (decimal_nonempty z.buckets (omega (arith, r.ranged.counts.buckets.1)), (decimal_nonempty z.cells (omega (arith, r.ranged.counts.cells.1)), (decimal_nonempty z.c (omega (arith, r.ranged.amounts.c.most)), (decimal_nonempty z.mintime (omega (arith, r.ranged.amounts.mintime)), (decimal_nonempty z.dbuf_bytes (omega (arith, r.ranged.amounts.dbuf_bytes)), tt))))))))
 spelling-shape callers shards few (Declared p) r = (refl, (decimal_nonempty p.key.offset (omega (arith, r.offset)), (decimal_nonempty p.key.size (omega (arith, r.size)), (decimal_nonempty p.key.birth (omega (arith, r.birth)), ((let twice = length-encode_with lower_digits p.digest.0 in omega (arith, r.digest.sized)), tt)))))
+spelling-shape callers shards few (Mapped m) r = (refl, (decimal_nonempty m.at.object (omega (arith, r.at.object)), (decimal_nonempty m.at.block (omega (arith, r.at.block)), (decimal_nonempty m.block (omega (arith, r.block)), tt))))
 spelling-shape callers shards few (Operation (ops.Read n t x w)) r = (refl, (decimal_nonempty n (omega (arith, r.0)), (decimal_nonempty t (omega (arith, r.1)), (decimal_nonempty x (omega (arith, r.2)), (decimal_nonempty w.at (omega (arith, r.3)), (decimal_nonempty w.len (omega (arith, w.short)), tt))))))
 spelling-shape callers shards few (Operation (ops.Hold n t x)) r = (refl, (decimal_nonempty n (omega (arith, r.0)), (decimal_nonempty t (omega (arith, r.1)), (decimal_nonempty x (omega (arith, r.2)), tt))))
 spelling-shape callers shards few (Operation (ops.Drop n x)) r = (refl, (decimal_nonempty n (omega (arith, r.0)), (decimal_nonempty x (omega (arith, r.1)), tt)))
@@ -98,21 +99,21 @@ misspelled-not config few fields l kinds.Order said m = m
 misspelled-not config few fields l kinds.Count said m = m
 misspelled-not config few fields l kinds.Length said m = m
 
-misplaced-not : (seen : Seen) (l : Line) (kind : Kind) → IsInOrder seen l → HasRoom seen l → IsMisplaced seen l kind → ⊥
-misplaced-not seen l kinds.Order ordered room m = m ordered
-misplaced-not seen l kinds.Count ordered room m = m.1 room
-misplaced-not seen l kinds.First ordered room m = m
-misplaced-not seen l kinds.Word ordered room m = m
-misplaced-not seen l kinds.Shape ordered room m = m
-misplaced-not seen l kinds.Number ordered room m = m
-misplaced-not seen l kinds.Length ordered room m = m
+misplaced-not : (before : Content) (l : Line) (kind : Kind) → MayStand before l → HasRoom (seen_of before) l → IsMisplaced before l kind → ⊥
+misplaced-not before l kinds.Order ordered room m = m ordered
+misplaced-not before l kinds.Count ordered room m = m.1 room
+misplaced-not before l kinds.First ordered room m = m
+misplaced-not before l kinds.Word ordered room m = m
+misplaced-not before l kinds.Shape ordered room m = m
+misplaced-not before l kinds.Number ordered room m = m
+misplaced-not before l kinds.Length ordered room m = m
 
 -- fields that are added have no fault
 Add-faultless : (before : Content) → FewCallers before → (fields : List (List ℕ)) (after : Content) (kind : Kind) → Add before fields after → HasFault before fields kind → ⊥
 Add-faultless before few fields after kind a (inl m) = misspelled-not before.config few fields a.line kind a.said m
 Add-faultless before few fields after kind a (inr m) =
     let same = Say-one before.config few fields a.line m.0 a.said m.1 in
-    misplaced-not (seen_of before) m.0 kind (rw same at a.ordered) (rw same at a.room) m.2
+    misplaced-not before m.0 kind (rw same at a.ordered) (rw same at a.room) m.2
 
 -- a line that is added has no fault
 pub Adds-faultless : (before : Content) → FewCallers before → (line : List ℕ) (after : Content) (kind : Kind) → Adds before line after → is_passed_over line ≡ false
@@ -157,7 +158,7 @@ pub trace-one : (text : List ℕ) (one other : Trace) → IsTraceText text one �
 trace-one text one other p q =
     let same = AddAll-one nothing (omega arith) (lines_of text) (content_of one) (content_of other) p.said q.said in
     let config : one.config ≡ other.config = let known = ap (λ (said : Content). said.config) same in cc in
-    λ i. record { config = config i; blocks = (same i).blocks; ops = (same i).ops }
+    λ i. record { config = config i; blocks = (same i).blocks; objects = (same i).objects; ops = (same i).ops }
 
 -- ---- there is one first fault
 
@@ -167,7 +168,7 @@ Passes before fields zero = Unit {0}
 Passes before fields (suc zero) = (word : Word) × BeginsWith before.config fields word
 Passes before fields (suc (suc zero)) = (word : Word) × BeginsWith before.config fields word × HasShape word fields
 Passes before fields (suc (suc (suc zero))) = (line : Line) × Say before.config fields line
-Passes before fields (suc (suc (suc (suc zero)))) = (line : Line) × Say before.config fields line × IsInOrder (seen_of before) line
+Passes before fields (suc (suc (suc (suc zero)))) = (line : Line) × Say before.config fields line × MayStand before line
 Passes before fields (suc (suc (suc (suc (suc n))))) = ⊥
 
 -- how far fields with such a fault get

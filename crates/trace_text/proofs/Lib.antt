@@ -8,6 +8,7 @@ pub mod HexFieldLemmas
 pub mod DraftLemmas
 pub mod LinesLemmas
 pub mod PageLemmas
+pub mod TakenLemmas
 pub mod SameLemmas
 pub mod LawLemmas
 pub mod FormedLemmas

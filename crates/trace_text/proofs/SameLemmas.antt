@@ -4,16 +4,17 @@ use Rattle.std.proofs.Math.Bridge.{le_prop}
 use Rattle.std.proofs.lemmas.Fmt.{decimal_injective}
 use Rattle.blk_ptr.specs.declared.ptr.Ptr.{Ptr}
 use Rattle.arc_core.specs.declared.config.Config.{Config}
+use Rattle.trace_text.specs.declared.mapping.Mapping.{Mapping}
 use Rattle.trace_text.specs.declared.op.Op.{Op}
 use Rattle.trace_text.specs.declared.op.Op.TheVariants as ops
 use Rattle.dbuf_state.specs.declared.oid.Oid.{Oid}
 use Rattle.dbuf_state.specs.declared.window.Window.{Window}
 use Rattle.trace_text.specs.declared.words.Line.{Line}
-use Rattle.trace_text.specs.declared.words.Line.TheVariants.{Sizes, Declared, Operation}
+use Rattle.trace_text.specs.declared.words.Line.TheVariants.{Sizes, Declared, Mapped, Operation}
 use Rattle.trace_text.specs.declared.words.Word.TheVariants as words
 use Rattle.trace_text.proofs.DigestLemmas.{byte-injective, digest-injective, run-injective}
 use Rattle.trace_text.proofs.WordLemmas.{FormOf, form-as, same-word}
-use Rattle.trace_text.specs.Grammar.{AreSizes, IsDeclarable, IsInRange, IsOperation, spelling, word_of}
+use Rattle.trace_text.specs.Grammar.{AreSizes, IsDeclarable, IsInRange, IsMappable, IsOperation, spelling, word_of}
 
 abbrev window : (at len : ℕ) → len ≤ 64 → Window
 window at len short = record { at = at; len = len; short = short }
@@ -53,6 +54,14 @@ same-block a b p q e = ap Declared (ptr-same a b
     (decimal_injective a.key.size b.key.size (omega (arith, p.size)) (omega (arith, q.size)) (ap (λ f. get_or f 2 []) e))
     (decimal_injective a.key.birth b.key.birth (omega (arith, p.birth)) (omega (arith, q.birth)) (ap (λ f. get_or f 3 []) e))
     (digest-injective a.digest b.digest p.digest q.digest (ap (λ f. get_or f 4 []) e)))
+
+same-object : (a b : Mapping) → IsMappable a → IsMappable b → spelling (Mapped a) ≡ spelling (Mapped b) → Mapped a ≡ Mapped b
+same-object a b p q e =
+    let at = oid-same a.at b.at
+    (decimal_injective a.at.object b.at.object (omega (arith, p.at.object)) (omega (arith, q.at.object)) (ap (λ f. get_or f 1 []) e))
+    (decimal_injective a.at.block b.at.block (omega (arith, p.at.block)) (omega (arith, q.at.block)) (ap (λ f. get_or f 2 []) e)) in
+    let block = decimal_injective a.block b.block (omega (arith, p.block)) (omega (arith, q.block)) (ap (λ f. get_or f 3 []) e) in
+    λ i. Mapped (record { at = at i; block = block i })
 
 same-operation : (callers shards : ℕ) → callers < 2 ^ 64 → (op : Op) (m : Line) → IsOperation callers shards op → IsInRange callers shards m → FormOf (word_of (Operation op)) m
     → spelling (Operation op) ≡ spelling m → Operation op ≡ m
@@ -146,5 +155,8 @@ spelling-injective callers shards few (Sizes a) m p q e =
 spelling-injective callers shards few (Declared a) m p q e =
     let f = form-as words.Block m (same-word m (Declared a) (sym e)) in
     same-block a f.0 p (rw f.1 at q) (rw f.1 at e) ∙ sym f.1
+spelling-injective callers shards few (Mapped a) m p q e =
+    let f = form-as words.Object m (same-word m (Mapped a) (sym e)) in
+    same-object a f.0 p (rw f.1 at q) (rw f.1 at e) ∙ sym f.1
 spelling-injective callers shards few (Operation op) m p q e =
     same-operation callers shards few op m p q (form-as (word_of (Operation op)) m (same-word m (Operation op) (sym e))) e

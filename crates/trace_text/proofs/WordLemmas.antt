@@ -2,11 +2,12 @@
 use Rattle.std.proofs.Common.{◌≡◌, ℕ, eqb, Bool, true, false, List, [], ◌∷◌, Option, Some, None, refl, ap, ◌∙◌, sym, subst, cond}
 use Rattle.blk_ptr.specs.declared.ptr.Ptr.{Ptr}
 use Rattle.arc_core.specs.declared.config.Config.{Config}
+use Rattle.trace_text.specs.declared.mapping.Mapping.{Mapping}
 use Rattle.trace_text.specs.declared.op.Op.TheVariants as ops
 use Rattle.dbuf_state.specs.declared.oid.Oid.{Oid}
 use Rattle.dbuf_state.specs.declared.window.Window.{Window}
 use Rattle.trace_text.specs.declared.words.Line.{Line}
-use Rattle.trace_text.specs.declared.words.Line.TheVariants.{Sizes, Declared, Operation}
+use Rattle.trace_text.specs.declared.words.Line.TheVariants.{Sizes, Declared, Mapped, Operation}
 use Rattle.trace_text.specs.declared.words.Word.{Word}
 use Rattle.trace_text.specs.declared.words.Word.TheVariants as words
 use Rattle.trace_text.specs.Grammar.{BeginsWith, IsInRange, Spell, fields_after, spelling, text_of, word_of}
@@ -24,13 +25,14 @@ spelled_in [] text = None
 spelled_in (word ∷ others) text = cond (same_text (text_of word) text) (Some word) (spelled_in others text)
 
 abbrev all_words : List Word
-all_words = words.Arc ∷ words.Block ∷ words.Read ∷ words.Hold ∷ words.Drop
+all_words = words.Arc ∷ words.Block ∷ words.Object ∷ words.Read ∷ words.Hold ∷ words.Drop
     ∷ words.Get ∷ words.Put ∷ words.Patch ∷ words.Pin ∷ words.Unpin ∷ words.Feed ∷ words.Txg ∷ words.Cap ∷ []
 
 -- each word is the first that is spelled as it is
 spelled_in-text : (word : Word) → spelled_in all_words (text_of word) ≡ Some word
 spelled_in-text words.Arc = refl
 spelled_in-text words.Block = refl
+spelled_in-text words.Object = refl
 spelled_in-text words.Read = refl
 spelled_in-text words.Hold = refl
 spelled_in-text words.Drop = refl
@@ -53,6 +55,7 @@ text_of-injective v w e =
 abbrev pub FormOf : Word → Line → Type 0
 FormOf words.Arc line = (z : Config) × (line ≡ Sizes z)
 FormOf words.Block line = (p : Ptr) × (line ≡ Declared p)
+FormOf words.Object line = (m : Mapping) × (line ≡ Mapped m)
 FormOf words.Read line = (n t x : ℕ) × (w : Window) × (line ≡ Operation (ops.Read n t x w))
 FormOf words.Hold line = (n t x : ℕ) × (line ≡ Operation (ops.Hold n t x))
 FormOf words.Drop line = (n x : ℕ) × (line ≡ Operation (ops.Drop n x))
@@ -68,6 +71,7 @@ FormOf words.Cap line = (c : ℕ) × (line ≡ Operation (ops.Cap c))
 form : (line : Line) → FormOf (word_of line) line
 form (Sizes z) = (z, refl)
 form (Declared p) = (p, refl)
+form (Mapped m) = (m, refl)
 form (Operation (ops.Read n t x w)) = (n, t, x, w, refl)
 form (Operation (ops.Hold n t x)) = (n, t, x, refl)
 form (Operation (ops.Drop n x)) = (n, x, refl)

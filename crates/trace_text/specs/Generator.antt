@@ -1,5 +1,5 @@
 -- The traces that the generator makes: reads of drawn blocks over a pool of zero bytes.
-use Rattle.std.specs.Prelude.{◌≡◌, ℕ, zero, suc, ◌+◌, ◌*◌, ◌/◌, ◌%◌, ◌^◌, map, max, replicate}
+use Rattle.std.specs.Prelude.{◌≡◌, ℕ, zero, suc, [], ◌+◌, ◌*◌, ◌/◌, ◌%◌, ◌^◌, map, max, replicate}
 use Rattle.std.specs.List.{range_with_len}
 use Rattle.std.proofs.Common.{lit≤}
 use Rattle.blk_ptr.specs.Ptr.{sha256_of}
@@ -56,4 +56,5 @@ generated_sizes blocks = record {
 pub record IsGenerated (seed block_count op_count : ℕ) (trace : Trace) : Type 0 where
   pub config : trace.config ≡ generated_sizes block_count
   pub blocks : trace.blocks ≡ map generated_block (range_with_len 0 block_count)
+  pub objects : trace.objects ≡ []
   pub ops : trace.ops ≡ map (generated_read seed block_count) (range_with_len 0 op_count)

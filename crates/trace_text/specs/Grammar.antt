@@ -9,13 +9,14 @@ use Rattle.dbuf_state.specs.declared.oid.Oid.{Oid}
 use Rattle.arc_lists.specs.Adapting.{IsCapacity}
 use Rattle.arc_core.specs.Config.{IsConfig}
 use Rattle.arc_core.specs.declared.config.Config.{Config}
+use Rattle.trace_text.specs.declared.mapping.Mapping.{Mapping}
 use Rattle.trace_text.specs.declared.op.Op.{Op}
 use Rattle.trace_text.specs.declared.op.Op.TheVariants as ops
 use Rattle.trace_text.specs.declared.words.Seen.{Seen}
 use Rattle.trace_text.specs.declared.words.Word.{Word}
 use Rattle.trace_text.specs.declared.words.Word.TheVariants as words
 use Rattle.trace_text.specs.declared.words.Line.{Line}
-use Rattle.trace_text.specs.declared.words.Line.TheVariants.{Sizes, Declared, Operation}
+use Rattle.trace_text.specs.declared.words.Line.TheVariants.{Sizes, Declared, Mapped, Operation}
 use Rattle.trace_text.specs.declared.fault.Kind.{Kind}
 use Rattle.trace_text.specs.declared.fault.Kind.TheVariants as kinds
 use Rattle.trace_text.specs.declared.fault.TraceFault.{TraceFault}
@@ -43,6 +44,7 @@ is_passed_over (b ∷ line) = b == 35
 abbrev pub text_of : Word → List ℕ
 text_of words.Arc = codes "arc"
 text_of words.Block = codes "block"
+text_of words.Object = codes "object"
 text_of words.Read = codes "read"
 text_of words.Hold = codes "hold"
 text_of words.Drop = codes "drop"
@@ -59,6 +61,7 @@ text_of words.Cap = codes "cap"
 abbrev pub field_count : Word → ℕ
 field_count words.Arc = 7
 field_count words.Block = 4
+field_count words.Object = 3
 field_count words.Read = 5
 field_count words.Hold = 3
 field_count words.Drop = 2
@@ -75,6 +78,7 @@ field_count words.Cap = 1
 abbrev pub word_of : Line → Word
 word_of (Sizes z) = words.Arc
 word_of (Declared p) = words.Block
+word_of (Mapped m) = words.Object
 word_of (Operation (ops.Read n t x w)) = words.Read
 word_of (Operation (ops.Hold n t x)) = words.Hold
 word_of (Operation (ops.Drop n x)) = words.Drop
@@ -92,6 +96,7 @@ abbrev pub fields_after : Line → List (List ℕ)
 fields_after (Sizes z) =
     decimal z.callers ∷ decimal z.shards ∷ decimal z.buckets ∷ decimal z.cells ∷ decimal z.c ∷ decimal z.mintime ∷ decimal z.dbuf_bytes ∷ []
 fields_after (Declared p) = decimal p.key.offset ∷ decimal p.key.size ∷ decimal p.key.birth ∷ encode_lower p.digest.0 ∷ []
+fields_after (Mapped m) = decimal m.at.object ∷ decimal m.at.block ∷ decimal m.block ∷ []
 fields_after (Operation (ops.Read n t x w)) = decimal n ∷ decimal t ∷ decimal x ∷ decimal w.at ∷ decimal w.len ∷ []
 fields_after (Operation (ops.Hold n t x)) = decimal n ∷ decimal t ∷ decimal x ∷ []
 fields_after (Operation (ops.Drop n x)) = decimal n ∷ decimal x ∷ []
@@ -140,6 +145,11 @@ pub record IsOid (at : Oid) : Type 0 where
   pub object : IsPlain at.object
   pub block : IsPlain at.block
 
+-- the ranges of a mapping's numbers; whether its block is declared goes by the lines before it
+pub record IsMappable (mapping : Mapping) : Type 0 where
+  pub at : IsOid mapping.at
+  pub block : IsPlain mapping.block
+
 -- from 1 to 64 bytes
 pub record IsRun (run : List ℕ) : Type 0 where
   pub some : 1 ≤ length run
@@ -164,6 +174,7 @@ IsOperation callers shards (ops.Cap c) = IsCapacity c × (shards * c ≤ 2 ^ 32)
 abbrev pub IsInRange : (callers shards : ℕ) → Line → Type 0
 IsInRange callers shards (Sizes z) = AreSizes z
 IsInRange callers shards (Declared p) = IsDeclarable p
+IsInRange callers shards (Mapped m) = IsMappable m
 IsInRange callers shards (Operation op) = IsOperation callers shards op
 
 -- ---- what the lines say together
@@ -172,16 +183,18 @@ IsInRange callers shards (Operation op) = IsOperation callers shards op
 pub record Content : Type 0 where
   pub config : Option Config
   pub blocks : List Ptr
+  pub objects : List Mapping
   pub ops : List Op
 
 -- what no line says
 abbrev pub nothing : Content
-nothing = record { config = None; blocks = []; ops = [] }
+nothing = record { config = None; blocks = []; objects = []; ops = [] }
 
 -- what is said once this line is read too
 abbrev pub with_line : Content → Line → Content
 with_line before (Sizes z) = record before { config = Some z }
 with_line before (Declared p) = record before { blocks = before.blocks ++ p ∷ [] }
+with_line before (Mapped m) = record before { objects = before.objects ++ m ∷ [] }
 with_line before (Operation op) = record before { ops = before.ops ++ op ∷ [] }
 
 -- how many callers and shards there are, once the `arc` line is read
@@ -199,6 +212,7 @@ seen_of said = record {
   callers = callers_of said.config;
   shards = shards_of said.config;
   blocks = length said.blocks;
+  objects = length said.objects;
   operations = length said.ops;
 }
 
@@ -220,16 +234,34 @@ block_of (ops.Cap c) = None
 abbrev pub IsOnDeclared : (blocks : ℕ) → Op → Type 0
 IsOnDeclared blocks op = IfSome (block_of op) (λ x. x < blocks)
 
--- the line may stand behind lines that say so much: blocks before all operations, and operations on blocks that are declared
+-- the line may stand behind lines that say so much: blocks and objects before all operations, and what names a block behind the line of the block
 abbrev pub IsInOrder : Seen → Line → Type 0
 IsInOrder seen (Sizes z) = Unit {0}
 IsInOrder seen (Declared p) = seen.operations ≡ 0
+IsInOrder seen (Mapped m) = (seen.operations ≡ 0) × (m.block < seen.blocks)
 IsInOrder seen (Operation op) = IsOnDeclared seen.blocks op
+
+-- this block of an object is mapped by one of these
+abbrev pub IsMapped : Oid → List Mapping → Type 0
+IsMapped at [] = ⊥
+IsMapped at (m ∷ mappings) = (m.at ≡ at) ⊎ IsMapped at mappings
+
+-- the line doesn't map a block that is mapped already
+abbrev pub IsNew : List Mapping → Line → Type 0
+IsNew mappings (Sizes z) = Unit {0}
+IsNew mappings (Declared p) = Unit {0}
+IsNew mappings (Mapped m) = IsMapped m.at mappings → ⊥
+IsNew mappings (Operation op) = Unit {0}
+
+-- the line may stand behind what is said
+abbrev pub MayStand : Content → Line → Type 0
+MayStand before line = IsInOrder (seen_of before) line × IsNew before.objects line
 
 -- behind lines that say so much a trace may have one more line of this sort
 abbrev pub HasRoom : Seen → Line → Type 0
 HasRoom seen (Sizes z) = Unit {0}
 HasRoom seen (Declared p) = seen.blocks < 100000
+HasRoom seen (Mapped m) = seen.objects < 100000
 HasRoom seen (Operation op) = seen.operations < 1000000
 
 -- the first line that counts begins with `arc`, and no other does
@@ -261,7 +293,7 @@ pub record Say (config : Option Config) (fields : List (List ℕ)) (line : Line)
 pub record Add (before : Content) (fields : List (List ℕ)) (after : Content) : Type 0 where
   pub line : Line
   pub said : Say before.config fields line
-  pub ordered : IsInOrder (seen_of before) line
+  pub ordered : MayStand before line
   pub room : HasRoom (seen_of before) line
   pub added : after ≡ with_line before line
 
@@ -287,20 +319,20 @@ IsMisspelled config fields kinds.Order = ⊥
 IsMisspelled config fields kinds.Count = ⊥
 IsMisspelled config fields kinds.Length = ⊥
 
--- the line may not stand behind lines that say so much
-abbrev pub IsMisplaced : Seen → Line → Kind → Type 0
-IsMisplaced seen line kinds.Order = IsInOrder seen line → ⊥
-IsMisplaced seen line kinds.Count = IsInOrder seen line × (HasRoom seen line → ⊥)
-IsMisplaced seen line kinds.First = ⊥
-IsMisplaced seen line kinds.Word = ⊥
-IsMisplaced seen line kinds.Shape = ⊥
-IsMisplaced seen line kinds.Number = ⊥
-IsMisplaced seen line kinds.Length = ⊥
+-- the line may not stand behind what is said
+abbrev pub IsMisplaced : Content → Line → Kind → Type 0
+IsMisplaced before line kinds.Order = MayStand before line → ⊥
+IsMisplaced before line kinds.Count = MayStand before line × (HasRoom (seen_of before) line → ⊥)
+IsMisplaced before line kinds.First = ⊥
+IsMisplaced before line kinds.Word = ⊥
+IsMisplaced before line kinds.Shape = ⊥
+IsMisplaced before line kinds.Number = ⊥
+IsMisplaced before line kinds.Length = ⊥
 
 -- what is wrong with fields that come after what is said before
 abbrev pub HasFault : Content → List (List ℕ) → Kind → Type 0
 HasFault before fields kind =
-    IsMisspelled before.config fields kind ⊎ ((line : Line) × Say before.config fields line × IsMisplaced (seen_of before) line kind)
+    IsMisspelled before.config fields kind ⊎ ((line : Line) × Say before.config fields line × IsMisplaced before line kind)
 
 -- the first line at fault, counted from 1, and what is wrong with it
 pub record IsFaulty (lines : List (List ℕ)) (number : ℕ) (kind : Kind) : Type 0 where
@@ -336,7 +368,7 @@ pub record IsTooLong (text : List ℕ) (number : ℕ) (kind : Kind) : Type 0 whe
 
 -- what a trace says
 abbrev pub content_of : Trace → Content
-content_of trace = record { config = Some trace.config; blocks = trace.blocks; ops = trace.ops }
+content_of trace = record { config = Some trace.config; blocks = trace.blocks; objects = trace.objects; ops = trace.ops }
 
 -- the text is this trace: its lines say, one after the other, what the trace says and no more
 pub record IsTraceText (text : List ℕ) (trace : Trace) : Type 0 where
@@ -347,11 +379,23 @@ pub record IsTraceText (text : List ℕ) (trace : Trace) : Type 0 where
 abbrev pub IsPossible : Config → List Ptr → Op → Type 0
 IsPossible sizes blocks op = IsOperation sizes.callers sizes.shards op × IsOnDeclared (length blocks) op
 
+-- a mapping of a trace: its numbers are in their ranges, and its block is one of so many
+abbrev pub IsMappingOn : (blocks : ℕ) → Mapping → Type 0
+IsMappingOn blocks mapping = IsOid mapping.at × (mapping.block < blocks)
+
+-- no block is mapped twice
+abbrev pub AreApart : List Mapping → Type 0
+AreApart [] = Unit {0}
+AreApart (m ∷ mappings) = (IsMapped m.at mappings → ⊥) × AreApart mappings
+
 -- what every trace that is read has
 pub record IsFormed (trace : Trace) : Type 0 where
   pub config : AreSizes trace.config
   pub blocks : All IsDeclarable trace.blocks
   pub few_blocks : length trace.blocks ≤ 100000
+  pub objects : All (IsMappingOn (length trace.blocks)) trace.objects
+  pub few_objects : length trace.objects ≤ 100000
+  pub apart : AreApart trace.objects
   pub ops : All (IsPossible trace.config trace.blocks) trace.ops
   pub few_ops : length trace.ops ≤ 1000000
 
@@ -359,9 +403,19 @@ pub record IsFormed (trace : Trace) : Type 0 where
 abbrev pub counted_fields : List (List ℕ) → List (List (List ℕ))
 counted_fields lines = map fields_of (filter (λ line. not (is_passed_over line)) lines)
 
--- the lines of a trace: its sizes, its blocks and its operations
-abbrev pub lines_in : Trace → List Line
-lines_in trace = Sizes trace.config ∷ (map Declared trace.blocks ++ map Operation trace.ops)
+-- the lines are those of these blocks and mappings, each in their order, and no others
+abbrev pub AreDeclared : List Line → List Ptr → List Mapping → Type 0
+AreDeclared [] blocks objects = (blocks ≡ []) × (objects ≡ [])
+AreDeclared (Declared p ∷ lines) blocks objects = (rest : List Ptr) × (blocks ≡ p ∷ rest) × AreDeclared lines rest objects
+AreDeclared (Mapped m ∷ lines) blocks objects = (rest : List Mapping) × (objects ≡ m ∷ rest) × AreDeclared lines blocks rest
+AreDeclared (Sizes z ∷ lines) blocks objects = ⊥
+AreDeclared (Operation op ∷ lines) blocks objects = ⊥
+
+-- these fields are the lines of the trace: its sizes, its blocks and objects, and its operations
+pub record IsWritten (counted : List (List (List ℕ))) (trace : Trace) : Type 0 where
+  pub declared : List Line
+  pub are_declared : AreDeclared declared trace.blocks trace.objects
+  pub spelled : counted ≡ map spelling (Sizes trace.config ∷ (declared ++ map Operation trace.ops))
 
 -- the first fault of a text
 abbrev pub IsFirstFault : List ℕ → ℕ → Kind → Type 0

@@ -9,3 +9,4 @@ pub mod Reading
 pub mod ReportText
 pub mod ReportWords
 pub mod SizesText
+pub mod Taken

@@ -18,7 +18,7 @@ use Rattle.trace_text.specs.declared.words.LineFault.{LineFault}
 use Rattle.trace_text.specs.declared.words.LineFault.TheVariants.{Wrong, NoMemory}
 use Rattle.trace_text.specs.declared.words.Seen.{Seen}
 use Rattle.trace_text.specs.declared.words.Word.{Word}
-use Rattle.trace_text.specs.Grammar.{Content, HasFault, HasRoom, IsDigest, IsFaulty, IsInOrder, IsMisspelled, IsOid, IsRun, MayBegin, Say, Spell, fields_of, is_passed_over, seen_of, text_of, with_line}
+use Rattle.trace_text.specs.Grammar.{Content, HasFault, HasRoom, IsDigest, IsFaulty, IsInOrder, IsMisplaced, IsMisspelled, IsNew, IsOid, IsRun, MayBegin, Say, Spell, fields_of, is_passed_over, seen_of, text_of, with_line}
 
 -- a text that begins with no plus sign, and with no zero before another byte
 abbrev pub BeginsAsNumber : List ℕ → Type 0
@@ -161,10 +161,10 @@ abbrev pub IsLineCause : Content → List ℕ → LineFault → Type 0
 IsLineCause before line (Wrong kind) = (is_passed_over line ≡ false) × HasFault before (fields_of line) kind
 IsLineCause before line NoMemory = Unit {0}
 
--- the line is added, or there is no room for it or no memory
+-- the line is added, or what is wrong with it where it is in order, or there is no memory
 abbrev pub IsPlaced : Content → Line → Content → Result (Unit {0}) LineFault → Type 0
-IsPlaced before line after (Ok done) = HasRoom (seen_of before) line × (after ≡ with_line before line)
-IsPlaced before line after (Err (Wrong kind)) = (kind ≡ kinds.Count) × (HasRoom (seen_of before) line → ⊥)
+IsPlaced before line after (Ok done) = IsNew before.objects line × HasRoom (seen_of before) line × (after ≡ with_line before line)
+IsPlaced before line after (Err (Wrong kind)) = IsInOrder (seen_of before) line → IsMisplaced before line kind
 IsPlaced before line after (Err NoMemory) = Unit {0}
 
 -- the same fault, with the number of its line

@@ -8,12 +8,29 @@ use crate::fault::Kind;
 use crate::fields::{
     LARGEST_PLAIN, next_below, next_byte, next_number, next_oid, next_run, next_size, no_more,
 };
+use crate::forms::declared_block;
+use crate::mapping::Mapping;
 use crate::op::Op;
 use crate::parts::Parts;
 use crate::run::Run;
 use crate::words::{Line, LineFault, Seen};
 use dbuf_state::Window;
 use std::alloc::Global;
+
+/// A block of an object that is mapped: object, block of it, and declared block.
+pub(crate) fn mapped(seen: Seen, fields: &mut Parts<'_>) -> Result<Line, Kind>
+    ensures ok { IfOk result (λ line. Spell seen.callers seen.shards (text_of words.Object ∷ fields.old) line × IsInOrder seen line) }
+    ensures err { length fields.old ≡ field_count words.Object → IsFormRead seen words.Object fields.old result }
+{
+    let at = next_oid(fields)?;
+    let named = next_number(fields, 0, LARGEST_PLAIN)?;
+    no_more(fields)?;
+    if seen.operations != 0 {
+        return Err(Kind::Order);
+    }
+    let block = declared_block(seen, named)?;
+    Ok(Line::Mapped(Mapping { at, block }))
+}
 
 /// A look at a block: caller, tick, object, block, and the window's start and length.
 pub(crate) fn got(seen: Seen, fields: &mut Parts<'_>) -> Result<Line, Kind>

@@ -1,12 +1,13 @@
 //! A trace in the making: each line is taken in, or refused for its fault.
-ghost use Rattle.std.specs.Prelude.{◌≡◌, ◌≤◌, IfErr, MatchOption, None, OnOk, vec_len};
+ghost use Rattle.std.specs.Prelude.{◌≡◌, ◌≤◌, IfErr, MatchOption, None, OnOk, length, vec_len};
 ghost use Rattle.trace_text.specs.Grammar.{Adds, Content, content_of, fields_of, nothing, seen_of};
 ghost use Rattle.trace_text.specs.Reading.{IsBegun, IsLineCause, IsLineRead, IsPlaced};
 
 use crate::fault::Kind;
 use crate::fields::word_of;
-use crate::items::{Blocks, Ops};
+use crate::items::{Blocks, Objects, Ops};
 use crate::line::{has_shape, line_after};
+use crate::mappings::Mappings;
 use crate::op::Op;
 use crate::parts::Parts;
 use crate::trace::Trace;
@@ -19,6 +20,9 @@ use std::marker::Model;
 /// The most block lines of a trace.
 const MOST_BLOCKS: usize = 100_000;
 
+/// The most mappings of a trace.
+const MOST_OBJECTS: usize = 100_000;
+
 /// The most operations of a trace.
 const MOST_OPERATIONS: usize = 1_000_000;
 
@@ -27,15 +31,16 @@ const MOST_OPERATIONS: usize = 1_000_000;
 pub(crate) struct Draft {
     config: Option<Config>,
     blocks: Vec<Ptr>,
+    objects: Mappings,
     operations: Vec<Op>,
 }
 
 impl Model for Draft {
     ghost Value = { Content };
 
-    ghost view = { λ draft. record { config = draft.config; blocks = draft.blocks.items; ops = draft.operations.items } };
+    ghost view = { λ draft. record { config = draft.config; blocks = draft.blocks.items; objects = draft.objects; ops = draft.operations.items } };
 
-    ghost invariant = { λ draft. (vec_len draft.blocks ≤ 100000) × (vec_len draft.operations ≤ 1000000) };
+    ghost invariant = { λ draft. (vec_len draft.blocks ≤ 100000) × (length draft.objects ≤ 100000) × (vec_len draft.operations ≤ 1000000) };
 }
 
 /// The word that a line begins with, where it may stand here: `arc` first, and the others after it.
@@ -57,6 +62,7 @@ impl Draft {
         Draft {
             config: None,
             blocks: Vec::new(alloc),
+            objects: Mappings::new(alloc),
             operations: Vec::new(alloc),
         }
     }
@@ -69,6 +75,7 @@ impl Draft {
             callers: self.config.map_or(0, |sizes| sizes.callers),
             shards: self.config.map_or(0, |sizes| sizes.shards),
             blocks: self.blocks.len() as u32,
+            objects: self.objects.len() as u32,
             operations: self.operations.len() as u32,
         }
     }
@@ -100,7 +107,7 @@ impl Draft {
         self.push(said)
     }
 
-    /// Adds a line that may stand here, where there is room.
+    /// Adds a line that is in order, where it maps no block again and there is room.
     fn push(&mut self, said: Line) -> Result<(), LineFault>
         ensures { IsPlaced self.old said self.new result }
     {
@@ -111,6 +118,15 @@ impl Draft {
                     return Err(LineFault::Wrong(Kind::Count));
                 }
                 self.blocks.push(ptr)?;
+            }
+            Line::Mapped(mapping) => {
+                if self.objects.has(mapping.at) {
+                    return Err(LineFault::Wrong(Kind::Order));
+                }
+                if self.objects.len() == MOST_OBJECTS {
+                    return Err(LineFault::Wrong(Kind::Count));
+                }
+                self.objects.push(mapping)?;
             }
             Line::Operation(operation) => {
                 if self.operations.len() == MOST_OPERATIONS {
@@ -129,11 +145,13 @@ impl Draft {
         let Draft {
             config,
             blocks,
+            objects,
             operations,
         } = self;
         Some(Trace {
             config: config?,
             blocks: Blocks::from_vec(blocks),
+            objects: Objects::from_vec(objects.into_vec()),
             ops: Ops::from_vec(operations),
         })
     }

@@ -21,6 +21,7 @@ pub(crate) fn word_of(field: &[u8]) -> Option<Word>
     match field {
         b"arc" => Some(Word::Arc),
         b"block" => Some(Word::Block),
+        b"object" => Some(Word::Object),
         b"read" => Some(Word::Read),
         b"hold" => Some(Word::Hold),
         b"drop" => Some(Word::Drop),

@@ -142,7 +142,7 @@ pub(crate) fn capped(seen: Seen, fields: &mut Parts<'_>) -> Result<Line, Kind>
 }
 
 /// The number of a block that an earlier line declares.
-fn declared_block(seen: Seen, named: u64) -> Result<u32, Kind>
+pub(crate) fn declared_block(seen: Seen, named: u64) -> Result<u32, Kind>
     ensures { MatchResult result
         (λ x. (x ≡ named) × (named < seen.blocks))
         (λ kind. (kind ≡ Kind.Order) × (seen.blocks ≤ named)) }

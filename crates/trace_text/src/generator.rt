@@ -5,7 +5,7 @@ ghost use Rattle.trace_text.specs.Generator.{IsGenerated, next_draw, generated_b
 ghost use Rattle.trace_text.specs.Grammar.{IsFormed};
 
 use crate::bounds::DEFAULT_BOUNDS;
-use crate::items::{Blocks, Ops};
+use crate::items::{Blocks, Objects, Ops};
 use crate::op::Op;
 use crate::trace::Trace;
 use arc_core::Config;
@@ -52,6 +52,7 @@ fn generated(alloc: Global, seed: u32, blocks: u32, ops: u32) -> Result<Trace, A
     Ok(Trace {
         config,
         blocks: Blocks::from_vec(zero_blocks(alloc, blocks)?),
+        objects: Objects::from_vec(Vec::new(alloc)),
         ops: Ops::from_vec(drawn_reads(alloc, seed, blocks, ops)?),
     })
 }

@@ -4,6 +4,7 @@ ghost use Rattle.std.specs.Arc.{arc_value};
 ghost use Rattle.trace_text.specs.Owned.{history_at};
 
 use crate::ends::ShardEnd;
+use crate::mapping::Mapping;
 use crate::op::Op;
 use crate::reply::Reply;
 use arc_core::{Event, Shard};
@@ -20,6 +21,9 @@ pub struct Items<T> {
 
 /// The block pointers of a trace, in the order of their lines.
 pub type Blocks = Items<Ptr>;
+
+/// The mappings of a trace, in the order of their lines.
+pub type Objects = Items<Mapping>;
 
 /// The operations of a trace, in the order of their lines.
 pub type Ops = Items<Op>;

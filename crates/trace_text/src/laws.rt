@@ -1,6 +1,6 @@
 //! What a text is and is not, told as laws of the grammar.
-ghost use Rattle.std.specs.Prelude.{◌≡◌, ℕ, List, map};
-ghost use Rattle.trace_text.specs.Grammar.{IsFirstFault, IsTraceText, counted_fields, lines_in, lines_of, spelling};
+ghost use Rattle.std.specs.Prelude.{◌≡◌, ℕ, List};
+ghost use Rattle.trace_text.specs.Grammar.{IsFirstFault, IsTraceText, IsWritten, counted_fields, lines_of};
 ghost use Rattle.trace_text.specs.declared.fault.Kind.{Kind};
 ghost use Rattle.trace_text.specs.declared.trace.Trace.{Trace};
 
@@ -9,10 +9,10 @@ pub fn one_trace()
     ensures { (text : List ℕ) (one other : Trace) → IsTraceText text one → IsTraceText text other → one ≡ other }
 {}
 
-/// The lines of a trace's text that aren't passed over are the spellings of its sizes, its blocks and its operations, in
-/// this order.
+/// The lines of a trace's text that aren't passed over are the spellings of its sizes, then of its blocks and objects,
+/// and then of its operations. The lines of blocks and of objects stand in any order among each other.
 pub fn written_lines()
-    ensures { (text : List ℕ) (trace : Trace) → IsTraceText text trace → counted_fields (lines_of text) ≡ map spelling (lines_in trace) }
+    ensures { (text : List ℕ) (trace : Trace) → IsTraceText text trace → IsWritten (counted_fields (lines_of text)) trace }
 {}
 
 /// A text with a first fault is no trace, and has no other first fault. So a reader names a fault only outside the grammar,

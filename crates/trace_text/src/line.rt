@@ -4,7 +4,7 @@ ghost use Rattle.trace_text.specs.Grammar.{HasShape, IsInOrder, Spell, fields_of
 ghost use Rattle.trace_text.specs.Reading.{IsFormRead, IsLineFormRead};
 ghost use Rattle.trace_text.specs.declared.words.Word.TheVariants as words;
 
-use crate::dbuf_forms::{got, patched, pinned, put, unpinned};
+use crate::dbuf_forms::{got, mapped, patched, pinned, put, unpinned};
 use crate::fault::Kind;
 use crate::forms::{capped, declared, dropped, fed, held, read, sizes, synced};
 use crate::parts::Parts;
@@ -18,6 +18,7 @@ fn fields_after(word: Word) -> usize
     match word {
         Word::Arc => 7,
         Word::Block => 4,
+        Word::Object => 3,
         Word::Read => 5,
         Word::Hold => 3,
         Word::Drop => 2,
@@ -73,6 +74,7 @@ fn plain_after(word: Word, seen: Seen, fields: &mut Parts<'_>) -> Result<Line, K
     match word {
         Word::Arc => sizes(seen, fields),
         Word::Block => declared(seen, fields),
+        Word::Object => mapped(seen, fields),
         Word::Read => read(seen, fields),
         Word::Hold => held(seen, fields),
         Word::Drop => dropped(seen, fields),

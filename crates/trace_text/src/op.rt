@@ -59,7 +59,7 @@ pub enum Op {
     },
     /// One feed of the cache device (`l2arc_feed_thread` of `arc.c`).
     Feed,
-    /// The group ends, and its dirty blocks are written to the pool at tick `t` (`spa_sync`).
+    /// The group ends, and all dirty blocks are written to the pool at tick `t` (`spa_sync`).
     Txg {
         t: u64,
     },

@@ -13,7 +13,7 @@ use std::alloc::Global;
 /// The most bytes of a text.
 pub const LONGEST_TEXT: usize = 67_108_864;
 
-/// Reads a trace, which for now has one caller and one shard. Its text and its faults are those of `specs/Grammar.antt`:
+/// Reads a trace. Its text and its faults are those of `specs/Grammar.antt`:
 /// an `Ok` is the one trace that the text is, and a `Bad` names the first line at fault and what is wrong with it.
 /// Each line is split once, as its fields are read, and none is copied. Only one at fault is split once more, for its shape.
 pub fn read_trace(alloc: Global, bytes: &[u8]) -> Result<Trace, TraceFault>

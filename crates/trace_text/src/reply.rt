@@ -74,7 +74,7 @@ pub enum Reply {
     Fed(FeedReport),
     /// There is no cache device that could be fed.
     FedNone,
-    /// The dirty blocks of this group were written to the pool: how many there were, and their bytes.
+    /// All dirty blocks were written to the pool at the end of this group: how many there were, and their bytes.
     Synced {
         group: u64,
         blocks: u32,
@@ -84,7 +84,7 @@ pub enum Reply {
     Capped {
         c: u64,
     },
-    /// A refusal, which changed nothing.
+    /// The operation was refused. The cache may have changed all the same: a read that the pool refused had made room first.
     Refused(Refusal),
 }
 

@@ -1,4 +1,4 @@
-use crate::items::{Blocks, Ops};
+use crate::items::{Blocks, Objects, Ops};
 use arc_core::Config;
 
 /// What a trace's text says.
@@ -8,6 +8,8 @@ pub struct Trace {
     pub config: Config,
     /// The block pointers, which operations name by their number from 0.
     pub blocks: Blocks,
+    /// The blocks of objects, and which block pointer each is at the start. None is mapped twice.
+    pub objects: Objects,
     /// The operations.
     pub ops: Ops,
 }

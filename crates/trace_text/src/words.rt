@@ -3,9 +3,11 @@ ghost use Rattle.std.specs.Prelude.{◌≡◌};
 ghost use Rattle.trace_text.specs.declared.words.LineFault.TheVariants.{NoMemory, Wrong};
 
 use crate::fault::Kind;
+use crate::mapping::Mapping;
 use crate::op::Op;
 use arc_core::Config;
 use blk_ptr::Ptr;
+use key_table::NoMemory;
 use std::alloc::{AllocError, AllocFailed};
 
 /// The words that a line may begin with.
@@ -13,6 +15,7 @@ use std::alloc::{AllocError, AllocFailed};
 pub(crate) enum Word {
     Arc,
     Block,
+    Object,
     Read,
     Hold,
     Drop,
@@ -33,6 +36,8 @@ pub(crate) enum Line {
     Sizes(Config),
     /// A block is declared.
     Declared(Ptr),
+    /// A block of an object is mapped.
+    Mapped(Mapping),
     /// An operation.
     Operation(Op),
 }
@@ -55,6 +60,8 @@ pub(crate) struct Seen {
     pub(crate) shards: u32,
     /// How many blocks are declared.
     pub(crate) blocks: u32,
+    /// How many blocks of objects are mapped.
+    pub(crate) objects: u32,
     /// How many operations there are.
     pub(crate) operations: u32,
 }
@@ -71,6 +78,14 @@ impl From<AllocError> for LineFault {
     ghost from_gives = { λ _ fault. fault ≡ NoMemory };
 
     fn from(_refused: AllocError) -> Self {
+        LineFault::NoMemory
+    }
+}
+
+impl From<NoMemory> for LineFault {
+    ghost from_gives = { λ _ fault. fault ≡ NoMemory };
+
+    fn from(_refused: NoMemory) -> Self {
         LineFault::NoMemory
     }
 }

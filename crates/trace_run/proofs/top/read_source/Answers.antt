@@ -1,6 +1,4 @@
-use Rattle.std.proofs.Common.{ap, sym, ◌∙◌}
-use Rattle.std.specs.List.{list_any}
-use Rattle.trace_run.specs.Lines.{is_undone}
+use Rattle.std.proofs.Common.{sym, ◌∙◌}
 use Rattle.trace_run.specs.States.{source_state}
 use Rattle.trace_run.proofs.SourceLemmas.{faulty-trace, undone-trace}
 use Rattle.trace_run.proofs.top.read_source.Goals as goal
@@ -9,7 +7,7 @@ pub returns-in-Ok-read_trace-clause-err : goal.returns-in-Ok-read_trace-clause-e
 returns-in-Ok-read_trace-clause-err g c =
     undone-trace (source_state g.S.Source c.args.source.now) (source_state g.S.Source c.read_all.new.source) c.in-Ok.text.items c.deref.result.now c.in-Ok-read_trace.trace c.first_undone.result
     c.in-Ok.ensures.ok c.in-Ok.ensures.faults c.deref.ensures.value c.in-Ok-read_trace.ensures.read
-    (ap (list_any is_undone) (sym c.as_slice.ensures) ∙ (sym c.has_undone.ensures ∙ c.if-has_undone.true))
+    (sym c.has_undone.ensures ∙ c.if-has_undone.true)
 
 pub returns-in-Err-Bad-clause-err : goal.returns-in-Err-Bad-clause-err
 returns-in-Err-Bad-clause-err g c =
