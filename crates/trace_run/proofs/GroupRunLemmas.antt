@@ -72,7 +72,7 @@ module _ (trace : Trace) (formed : IsFormed trace) where
   caller-below (ops.Read n t x w) possible = possible.0.0
   caller-below (ops.Hold n t x) possible = possible.0.0
   caller-below (ops.Drop n x) possible = possible.0.0
-  caller-below other possible = omega (arith, formed.config.ranged.counts.callers.0)
+  caller-below other possible = omega (arith, formed.config.counts.callers.0)
 
   pub all-callers : (k : ℕ) (op : Op) → slice_get trace.ops k ≡ Some op → caller_of op < trace.config.callers
   all-callers k op at = caller-below op (possible-at k op at)

@@ -60,7 +60,7 @@ returns-clause-ran g c =
     let count : vec_len c.take_feeder-feeder.new.parties ≡ c.args.arcs.config.callers = omega (arith, c.take_feeder-feeder.new.parties.ok.0, callers-count c.args.arcs c.args.parties.items c.take_feeder-feeder.new.parties.items c.take_feeder-feeder.result c.requires.opened c.take_feeder-feeder.ensures) in
     let worked = worked-as c.args.arcs _ _ _ _ _ _ _ _ _ _ _ _ c.as_slice-blocks.ensures c.as_slice-ops.ensures count c.in_ok-worked.ensures.worked in
     let gone = c.in_ok-parties.ensures (lines-acts _ _ _ _ _ _ _ _ _ worked) (worked-wait _ _ _ _ _ _ _ _ _ worked) in
-    let valid = subst IsConfig (sym c.requires.config) c.requires.formed.config.ranged in
+    let valid = subst IsConfig (sym c.requires.config) c.requires.formed.config in
     let own : List (List Reply) = map (λ (v : Vec Reply Global). v.items) c.in_ok-worked.worked.replies.items in
     let ordered = subst (λ (os : List Op). AreInOrder os own c.in_ok-replies.replies.items) c.as_slice-ops.ensures c.in_ok-replies.ensures in
     ran-group _ c.args.arcs c.args.trace.now c.requires.config valid _ _ _ own c.in_ok-worked.worked.kept.items c.in_ok-worked.worked.parties.items c.in_ok-parties.parties.items worked gone c.in_ok-replies.replies.items ordered
