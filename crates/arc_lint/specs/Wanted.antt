@@ -11,7 +11,7 @@ trace_wanted kinds.First = codes "The first line that counts is the arc line: ar
 trace_wanted kinds.Word = codes "There is one arc line, and any other line begins with another word that docs/FORMATS.md has."
 trace_wanted kinds.Shape = codes "A line has the fields that its word wants, with one space between each two and none at its end."
 trace_wanted kinds.Number = codes "A number is decimal with no sign and no leading zero, in the range of its field; a digest has 64 lower-case hexadecimal digits, a byte two."
-trace_wanted kinds.Order = codes "All block and object lines stand in front of the operations, a line names a block that an earlier line declares, and no line maps an object's block that is mapped already."
+trace_wanted kinds.Order = codes "All l2, block and object lines stand in front of the operations, there is at most one l2 line, a line names a block that an earlier line declares, and no line maps an object's block that is mapped already."
 trace_wanted kinds.Count = codes "A trace has at most 100,000 block lines, 100,000 object lines and 1,000,000 operations."
 trace_wanted kinds.Length = codes "A trace has at most 67,108,864 bytes."
 

@@ -28,7 +28,7 @@ fn trace_wanted(kind: Kind) -> &'static str
         Kind::Number =>
             "A number is decimal with no sign and no leading zero, in the range of its field; a digest has 64 lower-case hexadecimal digits, a byte two.",
         Kind::Order =>
-            "All block and object lines stand in front of the operations, a line names a block that an earlier line declares, and no line maps an object's block that is mapped already.",
+            "All l2, block and object lines stand in front of the operations, there is at most one l2 line, a line names a block that an earlier line declares, and no line maps an object's block that is mapped already.",
         Kind::Count =>
             "A trace has at most 100,000 block lines, 100,000 object lines and 1,000,000 operations.",
         Kind::Length => "A trace has at most 67,108,864 bytes.",

@@ -113,6 +113,13 @@ Order|hold 0 1 4611686018427387904
 Order|drop 0 4294967296
 Order|hold 0 1 1
 Order|read 0 1 4611686018427387904 0 4
+Shape|l2
+Shape|l2 512
+Shape|l2 512 2 0
+Number|l2 511 2
+Number|l2 4294967297 2
+Number|l2 512 0
+Number|l2 512 65
 Shape|object
 Shape|object 7 0
 Shape|object 7 0 0 0
@@ -208,6 +215,8 @@ feed
 txg 4611686018427387904
 cap 4096
 cap 4294967296
+l2 512 1
+l2 4294967296 64
 object 7 0 0
 object 4611686018427387904 4611686018427387904 0
 block 4611686018427387904 4294967296 4611686018427387904 076a27c79e5ace2a3d47f9dd2e83e4ff6ea8872b3c2218f66c92b89b55f36560
@@ -301,8 +310,10 @@ fn faults_of_later_lines(rt: HostRuntime) -> Result<(), Fail> {
     Ok(())
 }
 
-/// Lines behind three mappings, and what is wrong with them.
+/// Lines behind the bounds and three mappings, and what is wrong with them.
 const LATE_OBJECTS: &str = "\
+Order|l2 8388608 2
+Number|l2 8388608 65
 Order|object 7 0 0
 Order|object 8 0 0
 Order|object 8 0 1
@@ -312,10 +323,10 @@ Shape|object 7 0
 
 #[test]
 fn objects_that_are_mapped(rt: HostRuntime) -> Result<(), Fail> {
-    let mapped = "object 7 0 0\nobject 7 1 0\nobject 8 0 0";
+    let mapped = "l2 8388608 2\nobject 7 0 0\nobject 7 1 0\nobject 8 0 0";
     let before = format!(in rt.alloc(); "{SIZES}\n{BLOCK}\n{mapped}\n")?;
     assert_eq!(rt;
-        wrong_row(rt.alloc(), before.as_str(), 6, LATE_OBJECTS)?,
+        wrong_row(rt.alloc(), before.as_str(), 7, LATE_OBJECTS)?,
         None
     );
     Ok(())
@@ -323,6 +334,7 @@ fn objects_that_are_mapped(rt: HostRuntime) -> Result<(), Fail> {
 
 /// Lines behind an operation, and what is wrong with them.
 const LATE_BLOCKS: &str = "\
+Order|l2 512 1
 Order|object 7 0 0
 Number|object 7 0 4611686018427387905
 Order|block 0 512 1 076a27c79e5ace2a3d47f9dd2e83e4ff6ea8872b3c2218f66c92b89b55f36560

@@ -351,7 +351,7 @@ module _ {C P : Type 0} (cache : Cache) (pools : Ghosts P) (trace : Trace) (form
   did-these = subst (λ (x : List Ptr × List Op × ℕ). DidLinesAtOnce cache pools x.0 (slice_range x.1 x.2 end) from to old new ss) (λ i. (is_bs i, is_os i, is_first i)) did
 
   few-callers : cache.config.callers ≤ 16
-  few-callers = subst (λ (g : Config). g.callers ≤ 16) (sym config) formed.config.ranged.counts.callers.1
+  few-callers = subst (λ (g : Config). g.callers ≤ 16) (sym config) formed.config.counts.callers.1
 
   own : AreOfCallers cache.config.callers qs
   own = subst (λ (g : Config). AreOfCallers g.callers qs) (sym config)

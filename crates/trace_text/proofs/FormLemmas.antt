@@ -4,6 +4,8 @@ use Rattle.std.specs.Prelude.{decimal}
 use Rattle.std.proofs.lemmas.Fmt.{decimal_injective}
 use Rattle.hex.specs.Hex.{encode_lower}
 use Rattle.blk_ptr.specs.declared.ptr.Ptr.{Ptr}
+use Rattle.arc_core.specs.Config.{AreBounds}
+use Rattle.arc_core.specs.declared.config.Bounds.{Bounds}
 use Rattle.arc_core.specs.declared.config.Config.{Config}
 use Rattle.trace_text.specs.declared.fault.Kind.{Kind}
 use Rattle.trace_text.specs.declared.fault.Kind.TheVariants as kinds
@@ -12,7 +14,7 @@ use Rattle.trace_text.specs.declared.op.Op.TheVariants as ops
 use Rattle.dbuf_state.specs.declared.oid.Oid.{Oid}
 use Rattle.dbuf_state.specs.declared.window.Window.{Window}
 use Rattle.trace_text.specs.declared.words.Line.{Line}
-use Rattle.trace_text.specs.declared.words.Line.TheVariants.{Sizes, Declared, Mapped, Operation}
+use Rattle.trace_text.specs.declared.words.Line.TheVariants.{Sizes, Limited, Declared, Mapped, Operation}
 use Rattle.trace_text.specs.declared.words.LineFault.{LineFault}
 use Rattle.trace_text.specs.declared.words.LineFault.TheVariants.{Wrong}
 use Rattle.trace_text.specs.declared.words.Seen.{Seen}
@@ -27,6 +29,11 @@ pub spell-arc : (callers shards : ℕ) (fields : List (List ℕ)) (line : Line) 
     → (z : Config) × (line ≡ Sizes z) × (fields ≡ fields_after (Sizes z)) × AreSizes z
 spell-arc callers shards fields line s =
     let l = line-of callers shards words.Arc fields line s in (l.form.0, l.form.1, rw l.form.1 at l.after, rw l.form.1 at l.ranged)
+
+pub spell-l2 : (callers shards : ℕ) (fields : List (List ℕ)) (line : Line) → Spell callers shards (text_of words.L2 ∷ fields) line
+    → (b : Bounds) × (line ≡ Limited b) × (fields ≡ fields_after (Limited b)) × AreBounds b
+spell-l2 callers shards fields line s =
+    let l = line-of callers shards words.L2 fields line s in (l.form.0, l.form.1, rw l.form.1 at l.after, rw l.form.1 at l.ranged)
 
 pub spell-block : (callers shards : ℕ) (fields : List (List ℕ)) (line : Line) → Spell callers shards (text_of words.Block ∷ fields) line
     → (p : Ptr) × (line ≡ Declared p) × (fields ≡ fields_after (Declared p)) × IsDeclarable p
@@ -158,6 +165,13 @@ pub drop-spelled : (callers shards : ℕ) (f0 f1 f2 : List (List ℕ)) (n x : �
 drop-spelled callers shards f0 f1 f2 n x left e0 e1 ranged =
     let all : f0 ≡ decimal n ∷ decimal x ∷ [] = e0 ∙ ap (λ f. decimal n ∷ f) (e1 ∙ ap (λ f. decimal x ∷ f) left) in
     record { spelled = ap (λ f. text_of words.Drop ∷ f) all; ranged = ranged }
+
+pub l2-spelled : (callers shards : ℕ) (f0 f1 f2 : List (List ℕ)) (b : Bounds) → f2 ≡ []
+    → f0 ≡ decimal b.write_max ∷ f1 → f1 ≡ decimal b.headroom ∷ f2
+    → AreBounds b → Spell callers shards (text_of words.L2 ∷ f0) (Limited b)
+l2-spelled callers shards f0 f1 f2 b left e0 e1 ranged =
+    let all : f0 ≡ fields_after (Limited b) = e0 ∙ ap (λ f. decimal b.write_max ∷ f) (e1 ∙ ap (λ f. decimal b.headroom ∷ f) left) in
+    record { spelled = ap (λ f. text_of words.L2 ∷ f) all; ranged = ranged }
 
 pub object-spelled : (callers shards : ℕ) (f0 f1 f2 : List (List ℕ)) (m : Mapping) → f2 ≡ []
     → f0 ≡ decimal m.at.object ∷ decimal m.at.block ∷ f1 → f1 ≡ decimal m.block ∷ f2

@@ -75,7 +75,7 @@ pub IsFormed-generated : (seed blocks count : ℕ) (trace : Trace) → 1 ≤ blo
 IsFormed-generated seed blocks count trace some few short g =
     let many = ap length g.blocks ∙ length-map-range_with_len generated_block 0 blocks in
     record {
-      config = rw g.config (sizes-ranged blocks few);
+      config = rw g.config (sizes-ranged blocks few).ranged;
       blocks = All-made IsDeclarable generated_block trace.blocks blocks g.blocks (λ i lt. record { offset = omega arith; size = omega arith; birth = omega arith; digest = IsDigest-zero });
       few_blocks = omega arith;
       objects = rw (g.objects) (All-nil (IsMappingOn (length trace.blocks)));

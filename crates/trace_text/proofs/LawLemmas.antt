@@ -5,17 +5,18 @@ use Rattle.std.specs.Prelude.{IsNone, IsSome, MatchBool}
 use Rattle.std.proofs.lemmas.Fmt.{decimal_nonempty}
 use Rattle.hex.specs.Hex.{lower_digits}
 use Rattle.hex.proofs.HexLemmas.{length-encode_with}
+use Rattle.arc_core.specs.declared.config.Bounds.{Bounds}
 use Rattle.arc_core.specs.declared.config.Config.{Config}
 use Rattle.trace_text.specs.declared.fault.Kind.{Kind}
 use Rattle.trace_text.specs.declared.fault.Kind.TheVariants as kinds
 use Rattle.trace_text.specs.declared.op.Op.TheVariants as ops
 use Rattle.trace_text.specs.declared.trace.Trace.{Trace}
 use Rattle.trace_text.specs.declared.words.Line.{Line}
-use Rattle.trace_text.specs.declared.words.Line.TheVariants.{Sizes, Declared, Mapped, Operation}
+use Rattle.trace_text.specs.declared.words.Line.TheVariants.{Sizes, Limited, Declared, Mapped, Operation}
 use Rattle.trace_text.specs.declared.words.Word.{Word}
 use Rattle.trace_text.proofs.WordLemmas.{begins-word, word-one}
 use Rattle.trace_text.proofs.SameLemmas.{spelling-injective}
-use Rattle.trace_text.specs.Grammar.{Add, AddAll, Adds, BeginsWith, Content, HasFault, HasRoom, HasShape, IsFaulty, IsFirstFault, IsInRange, IsMisplaced, IsMisspelled, IsTraceText, MayStand, Say, SaysNothing, callers_of, content_of, fields_of, is_passed_over, lines_of, nothing, seen_of, shards_of, spelling, with_line, word_of}
+use Rattle.trace_text.specs.Grammar.{Add, AddAll, Adds, BeginsWith, Content, HasFault, HasRoom, HasShape, IsFaulty, IsFirstFault, IsInRange, IsMisplaced, IsMisspelled, IsTraceText, MayStand, Say, SaysNothing, callers_of, content_of, fields_of, is_passed_over, lines_of, nothing, seen_of, shards_of, spelling, with_bounds, with_line, word_of}
 
 -- ---- what is said is determined
 
@@ -40,8 +41,13 @@ Adds-one before few line x y a b = by (is_passed_over line) a b
     by true a b = a ∙ sym b
     by false a b = Add-one before few (fields_of line) x y a b
 
+callers-bounds : (config : Option Config) (b : Bounds) → callers_of config ≤ 16 → callers_of (with_bounds config b) ≤ 16
+callers-bounds None b few = few
+callers-bounds (Some z) b few = few
+
 with_line-few : (before : Content) (l : Line) → FewCallers before → IsInRange (callers_of before.config) (shards_of before.config) l → FewCallers (with_line before l)
 with_line-few before (Sizes z) few ranged = ranged.ranged.counts.callers.1
+with_line-few before (Limited b) few ranged = callers-bounds before.config b few
 with_line-few before (Declared p) few ranged = few
 with_line-few before (Mapped m) few ranged = few
 with_line-few before (Operation op) few ranged = few
@@ -70,6 +76,7 @@ AddAll-one before few (line ∷ lines) x y a b =
 
 spelling-shape : (callers shards : ℕ) → callers ≤ 16 → (l : Line) → IsInRange callers shards l → HasShape (word_of l) (spelling l)
 spelling-shape callers shards few (Sizes z) r = (refl, (decimal_nonempty z.callers (omega (arith, r.ranged.counts.callers.1)), (decimal_nonempty z.shards (omega (arith, r.ranged.counts.shards.1)), (decimal_nonempty z.buckets (omega (arith, r.ranged.counts.buckets.1)), (decimal_nonempty z.cells (omega (arith, r.ranged.counts.cells.1)), (decimal_nonempty z.c (omega (arith, r.ranged.amounts.c.most)), (decimal_nonempty z.mintime (omega (arith, r.ranged.amounts.mintime)), (decimal_nonempty z.dbuf_bytes (omega (arith, r.ranged.amounts.dbuf_bytes)), tt))))))))
+spelling-shape callers shards few (Limited b) r = (refl, (decimal_nonempty b.write_max (omega (arith, r.write_max.1)), (decimal_nonempty b.headroom (omega (arith, r.headroom.1)), tt)))
 spelling-shape callers shards few (Declared p) r = (refl, (decimal_nonempty p.key.offset (omega (arith, r.offset)), (decimal_nonempty p.key.size (omega (arith, r.size)), (decimal_nonempty p.key.birth (omega (arith, r.birth)), ((let twice = length-encode_with lower_digits p.digest.0 in omega (arith, r.digest.sized)), tt)))))
 spelling-shape callers shards few (Mapped m) r = (refl, (decimal_nonempty m.at.object (omega (arith, r.at.object)), (decimal_nonempty m.at.block (omega (arith, r.at.block)), (decimal_nonempty m.block (omega (arith, r.block)), tt))))
 spelling-shape callers shards few (Operation (ops.Read n t x w)) r = (refl, (decimal_nonempty n (omega (arith, r.0)), (decimal_nonempty t (omega (arith, r.1)), (decimal_nonempty x (omega (arith, r.2)), (decimal_nonempty w.at (omega (arith, r.3)), (decimal_nonempty w.len (omega (arith, w.short)), tt))))))
@@ -145,9 +152,9 @@ trace-faultless text trace number kind t (inl long) = omega (arith, t.short, lon
 trace-faultless text trace number kind t (inr f) = by f.1
   where
     by : (IsFaulty (lines_of text) number kind ⊎ SaysNothing (lines_of text) number kind) → ⊥
-    by (inl faulty) = AddAll-faultless (lines_of text) (content_of trace) number kind t.said faulty
+    by (inl faulty) = AddAll-faultless (lines_of text) (content_of trace t.limited) number kind t.said faulty
     by (inr none) =
-        let same = AddAll-one nothing (omega arith) (lines_of text) (content_of trace) none.said t.said none.leads in
+        let same = AddAll-one nothing (omega arith) (lines_of text) (content_of trace t.limited) none.said t.said none.leads in
         let P : Option Config → Type 0 = λ config. IsNone config in
         let joined : Some trace.config ≡ none.said.config = ap (λ (said : Content). said.config) same in
         let known : IsNone (Some trace.config) = subst P (sym joined) none.unsized in
@@ -156,7 +163,7 @@ trace-faultless text trace number kind t (inr f) = by f.1
 -- a text is one trace
 pub trace-one : (text : List ℕ) (one other : Trace) → IsTraceText text one → IsTraceText text other → one ≡ other
 trace-one text one other p q =
-    let same = AddAll-one nothing (omega arith) (lines_of text) (content_of one) (content_of other) p.said q.said in
+    let same = AddAll-one nothing (omega arith) (lines_of text) (content_of one p.limited) (content_of other q.limited) p.said q.said in
     let config : one.config ≡ other.config = let known = ap (λ (said : Content). said.config) same in cc in
     λ i. record { config = config i; blocks = (same i).blocks; objects = (same i).objects; ops = (same i).ops }
 

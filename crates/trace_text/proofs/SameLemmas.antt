@@ -3,6 +3,8 @@ use Rattle.std.proofs.Common.{◌≡◌, ℕ, ◌<◌, ◌≤◌, ◌^◌, [], r
 use Rattle.std.proofs.Math.Bridge.{le_prop}
 use Rattle.std.proofs.lemmas.Fmt.{decimal_injective}
 use Rattle.blk_ptr.specs.declared.ptr.Ptr.{Ptr}
+use Rattle.arc_core.specs.Config.{AreBounds}
+use Rattle.arc_core.specs.declared.config.Bounds.{Bounds}
 use Rattle.arc_core.specs.declared.config.Config.{Config}
 use Rattle.trace_text.specs.declared.mapping.Mapping.{Mapping}
 use Rattle.trace_text.specs.declared.op.Op.{Op}
@@ -10,7 +12,7 @@ use Rattle.trace_text.specs.declared.op.Op.TheVariants as ops
 use Rattle.dbuf_state.specs.declared.oid.Oid.{Oid}
 use Rattle.dbuf_state.specs.declared.window.Window.{Window}
 use Rattle.trace_text.specs.declared.words.Line.{Line}
-use Rattle.trace_text.specs.declared.words.Line.TheVariants.{Sizes, Declared, Mapped, Operation}
+use Rattle.trace_text.specs.declared.words.Line.TheVariants.{Sizes, Limited, Declared, Mapped, Operation}
 use Rattle.trace_text.specs.declared.words.Word.TheVariants as words
 use Rattle.trace_text.proofs.DigestLemmas.{byte-injective, digest-injective, run-injective}
 use Rattle.trace_text.proofs.WordLemmas.{FormOf, form-as, same-word}
@@ -47,6 +49,12 @@ same-sizes a b p q e = ap Sizes (config-same a b
     (decimal_injective a.mintime b.mintime (omega (arith, p.ranged.amounts.mintime)) (omega (arith, q.ranged.amounts.mintime)) (ap (λ f. get_or f 6 []) e))
     (decimal_injective a.dbuf_bytes b.dbuf_bytes (omega (arith, p.ranged.amounts.dbuf_bytes)) (omega (arith, q.ranged.amounts.dbuf_bytes)) (ap (λ f. get_or f 7 []) e))
     (p.write_max ∙ sym q.write_max) (p.headroom ∙ sym q.headroom))
+
+same-bounds : (a b : Bounds) → AreBounds a → AreBounds b → spelling (Limited a) ≡ spelling (Limited b) → Limited a ≡ Limited b
+same-bounds a b p q e =
+    let e1 = decimal_injective a.write_max b.write_max (omega (arith, p.write_max.1)) (omega (arith, q.write_max.1)) (ap (λ f. get_or f 1 []) e) in
+    let e2 = decimal_injective a.headroom b.headroom (omega (arith, p.headroom.1)) (omega (arith, q.headroom.1)) (ap (λ f. get_or f 2 []) e) in
+    λ i. Limited (record { write_max = e1 i; headroom = e2 i })
 
 same-block : (a b : Ptr) → IsDeclarable a → IsDeclarable b → spelling (Declared a) ≡ spelling (Declared b) → Declared a ≡ Declared b
 same-block a b p q e = ap Declared (ptr-same a b
@@ -152,6 +160,9 @@ pub spelling-injective : (callers shards : ℕ) → callers < 2 ^ 64 → (l m : 
 spelling-injective callers shards few (Sizes a) m p q e =
     let f = form-as words.Arc m (same-word m (Sizes a) (sym e)) in
     same-sizes a f.0 p (rw f.1 at q) (rw f.1 at e) ∙ sym f.1
+spelling-injective callers shards few (Limited a) m p q e =
+    let f = form-as words.L2 m (same-word m (Limited a) (sym e)) in
+    same-bounds a f.0 p (rw f.1 at q) (rw f.1 at e) ∙ sym f.1
 spelling-injective callers shards few (Declared a) m p q e =
     let f = form-as words.Block m (same-word m (Declared a) (sym e)) in
     same-block a f.0 p (rw f.1 at q) (rw f.1 at e) ∙ sym f.1

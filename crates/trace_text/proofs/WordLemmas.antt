@@ -1,13 +1,14 @@
 -- A line is told by its word, and a word by its whole spelling.
 use Rattle.std.proofs.Common.{◌≡◌, ℕ, eqb, Bool, true, false, List, [], ◌∷◌, Option, Some, None, refl, ap, ◌∙◌, sym, subst, cond}
 use Rattle.blk_ptr.specs.declared.ptr.Ptr.{Ptr}
+use Rattle.arc_core.specs.declared.config.Bounds.{Bounds}
 use Rattle.arc_core.specs.declared.config.Config.{Config}
 use Rattle.trace_text.specs.declared.mapping.Mapping.{Mapping}
 use Rattle.trace_text.specs.declared.op.Op.TheVariants as ops
 use Rattle.dbuf_state.specs.declared.oid.Oid.{Oid}
 use Rattle.dbuf_state.specs.declared.window.Window.{Window}
 use Rattle.trace_text.specs.declared.words.Line.{Line}
-use Rattle.trace_text.specs.declared.words.Line.TheVariants.{Sizes, Declared, Mapped, Operation}
+use Rattle.trace_text.specs.declared.words.Line.TheVariants.{Sizes, Limited, Declared, Mapped, Operation}
 use Rattle.trace_text.specs.declared.words.Word.{Word}
 use Rattle.trace_text.specs.declared.words.Word.TheVariants as words
 use Rattle.trace_text.specs.Grammar.{BeginsWith, IsInRange, Spell, fields_after, spelling, text_of, word_of}
@@ -25,12 +26,13 @@ spelled_in [] text = None
 spelled_in (word ∷ others) text = cond (same_text (text_of word) text) (Some word) (spelled_in others text)
 
 abbrev all_words : List Word
-all_words = words.Arc ∷ words.Block ∷ words.Object ∷ words.Read ∷ words.Hold ∷ words.Drop
+all_words = words.Arc ∷ words.L2 ∷ words.Block ∷ words.Object ∷ words.Read ∷ words.Hold ∷ words.Drop
     ∷ words.Get ∷ words.Put ∷ words.Patch ∷ words.Pin ∷ words.Unpin ∷ words.Feed ∷ words.Txg ∷ words.Cap ∷ []
 
 -- each word is the first that is spelled as it is
 spelled_in-text : (word : Word) → spelled_in all_words (text_of word) ≡ Some word
 spelled_in-text words.Arc = refl
+spelled_in-text words.L2 = refl
 spelled_in-text words.Block = refl
 spelled_in-text words.Object = refl
 spelled_in-text words.Read = refl
@@ -54,6 +56,7 @@ text_of-injective v w e =
 -- what a line with this word says
 abbrev pub FormOf : Word → Line → Type 0
 FormOf words.Arc line = (z : Config) × (line ≡ Sizes z)
+FormOf words.L2 line = (b : Bounds) × (line ≡ Limited b)
 FormOf words.Block line = (p : Ptr) × (line ≡ Declared p)
 FormOf words.Object line = (m : Mapping) × (line ≡ Mapped m)
 FormOf words.Read line = (n t x : ℕ) × (w : Window) × (line ≡ Operation (ops.Read n t x w))
@@ -70,6 +73,7 @@ FormOf words.Cap line = (c : ℕ) × (line ≡ Operation (ops.Cap c))
 
 form : (line : Line) → FormOf (word_of line) line
 form (Sizes z) = (z, refl)
+form (Limited b) = (b, refl)
 form (Declared p) = (p, refl)
 form (Mapped m) = (m, refl)
 form (Operation (ops.Read n t x w)) = (n, t, x, w, refl)

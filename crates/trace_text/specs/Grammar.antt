@@ -7,7 +7,8 @@ use Rattle.blk_ptr.specs.declared.ptr.Ptr.{Ptr}
 use Rattle.blk_ptr.specs.Size.{IsBlockSize}
 use Rattle.dbuf_state.specs.declared.oid.Oid.{Oid}
 use Rattle.arc_lists.specs.Adapting.{IsCapacity}
-use Rattle.arc_core.specs.Config.{IsConfig}
+use Rattle.arc_core.specs.Config.{AreBounds, IsConfig}
+use Rattle.arc_core.specs.declared.config.Bounds.{Bounds}
 use Rattle.arc_core.specs.declared.config.Config.{Config}
 use Rattle.trace_text.specs.declared.mapping.Mapping.{Mapping}
 use Rattle.trace_text.specs.declared.op.Op.{Op}
@@ -16,7 +17,7 @@ use Rattle.trace_text.specs.declared.words.Seen.{Seen}
 use Rattle.trace_text.specs.declared.words.Word.{Word}
 use Rattle.trace_text.specs.declared.words.Word.TheVariants as words
 use Rattle.trace_text.specs.declared.words.Line.{Line}
-use Rattle.trace_text.specs.declared.words.Line.TheVariants.{Sizes, Declared, Mapped, Operation}
+use Rattle.trace_text.specs.declared.words.Line.TheVariants.{Sizes, Limited, Declared, Mapped, Operation}
 use Rattle.trace_text.specs.declared.fault.Kind.{Kind}
 use Rattle.trace_text.specs.declared.fault.Kind.TheVariants as kinds
 use Rattle.trace_text.specs.declared.fault.TraceFault.{TraceFault}
@@ -43,6 +44,7 @@ is_passed_over (b ∷ line) = b == 35
 -- the spelling of a word
 abbrev pub text_of : Word → List ℕ
 text_of words.Arc = codes "arc"
+text_of words.L2 = codes "l2"
 text_of words.Block = codes "block"
 text_of words.Object = codes "object"
 text_of words.Read = codes "read"
@@ -60,6 +62,7 @@ text_of words.Cap = codes "cap"
 -- how many fields come after a word
 abbrev pub field_count : Word → ℕ
 field_count words.Arc = 7
+field_count words.L2 = 2
 field_count words.Block = 4
 field_count words.Object = 3
 field_count words.Read = 5
@@ -77,6 +80,7 @@ field_count words.Cap = 1
 -- the word of a line
 abbrev pub word_of : Line → Word
 word_of (Sizes z) = words.Arc
+word_of (Limited b) = words.L2
 word_of (Declared p) = words.Block
 word_of (Mapped m) = words.Object
 word_of (Operation (ops.Read n t x w)) = words.Read
@@ -95,6 +99,7 @@ word_of (Operation (ops.Cap c)) = words.Cap
 abbrev pub fields_after : Line → List (List ℕ)
 fields_after (Sizes z) =
     decimal z.callers ∷ decimal z.shards ∷ decimal z.buckets ∷ decimal z.cells ∷ decimal z.c ∷ decimal z.mintime ∷ decimal z.dbuf_bytes ∷ []
+fields_after (Limited b) = decimal b.write_max ∷ decimal b.headroom ∷ []
 fields_after (Declared p) = decimal p.key.offset ∷ decimal p.key.size ∷ decimal p.key.birth ∷ encode_lower p.digest.0 ∷ []
 fields_after (Mapped m) = decimal m.at.object ∷ decimal m.at.block ∷ decimal m.block ∷ []
 fields_after (Operation (ops.Read n t x w)) = decimal n ∷ decimal t ∷ decimal x ∷ decimal w.at ∷ decimal w.len ∷ []
@@ -126,6 +131,10 @@ IsPlain n = n ≤ 2 ^ 62
 pub record IsDigest (digest : Digest) : Type 0 where
   pub sized : length digest.0 ≡ 32
   pub bytes : IsBytes digest.0
+
+-- the bounds of a feed where no line gives them
+abbrev pub usual_bounds : Bounds
+usual_bounds = record { write_max = 8388608; headroom = 2 }
 
 -- the sizes of a cache that an `arc` line may give, with the usual bounds of a feed
 pub record AreSizes (sizes : Config) : Type 0 where
@@ -173,6 +182,7 @@ IsOperation callers shards (ops.Cap c) = IsCapacity c × (shards * c ≤ 2 ^ 32)
 -- the numbers of a line are in their ranges, where there are so many callers and shards
 abbrev pub IsInRange : (callers shards : ℕ) → Line → Type 0
 IsInRange callers shards (Sizes z) = AreSizes z
+IsInRange callers shards (Limited b) = AreBounds b
 IsInRange callers shards (Declared p) = IsDeclarable p
 IsInRange callers shards (Mapped m) = IsMappable m
 IsInRange callers shards (Operation op) = IsOperation callers shards op
@@ -182,17 +192,25 @@ IsInRange callers shards (Operation op) = IsOperation callers shards op
 -- what the lines so far say
 pub record Content : Type 0 where
   pub config : Option Config
+  -- whether a line gave the bounds of a feed
+  pub limited : Bool
   pub blocks : List Ptr
   pub objects : List Mapping
   pub ops : List Op
 
 -- what no line says
 abbrev pub nothing : Content
-nothing = record { config = None; blocks = []; objects = []; ops = [] }
+nothing = record { config = None; limited = false; blocks = []; objects = []; ops = [] }
+
+-- the sizes with these bounds of a feed
+abbrev pub with_bounds : Option Config → Bounds → Option Config
+with_bounds None b = None
+with_bounds (Some z) b = Some (record z { bounds = b })
 
 -- what is said once this line is read too
 abbrev pub with_line : Content → Line → Content
 with_line before (Sizes z) = record before { config = Some z }
+with_line before (Limited b) = record before { config = with_bounds before.config b; limited = true }
 with_line before (Declared p) = record before { blocks = before.blocks ++ p ∷ [] }
 with_line before (Mapped m) = record before { objects = before.objects ++ m ∷ [] }
 with_line before (Operation op) = record before { ops = before.ops ++ op ∷ [] }
@@ -211,6 +229,7 @@ abbrev pub seen_of : Content → Seen
 seen_of said = record {
   callers = callers_of said.config;
   shards = shards_of said.config;
+  limited = said.limited;
   blocks = length said.blocks;
   objects = length said.objects;
   operations = length said.ops;
@@ -234,9 +253,10 @@ block_of (ops.Cap c) = None
 abbrev pub IsOnDeclared : (blocks : ℕ) → Op → Type 0
 IsOnDeclared blocks op = IfSome (block_of op) (λ x. x < blocks)
 
--- the line may stand behind lines that say so much: blocks and objects before all operations, and what names a block behind the line of the block
+-- the line may stand behind lines that say so much: bounds once, bounds, blocks and objects before all operations, and what names a block behind the line of the block
 abbrev pub IsInOrder : Seen → Line → Type 0
 IsInOrder seen (Sizes z) = Unit {0}
+IsInOrder seen (Limited b) = (seen.operations ≡ 0) × (seen.limited ≡ false)
 IsInOrder seen (Declared p) = seen.operations ≡ 0
 IsInOrder seen (Mapped m) = (seen.operations ≡ 0) × (m.block < seen.blocks)
 IsInOrder seen (Operation op) = IsOnDeclared seen.blocks op
@@ -249,6 +269,7 @@ IsMapped at (m ∷ mappings) = (m.at ≡ at) ⊎ IsMapped at mappings
 -- the line doesn't map a block that is mapped already
 abbrev pub IsNew : List Mapping → Line → Type 0
 IsNew mappings (Sizes z) = Unit {0}
+IsNew mappings (Limited b) = Unit {0}
 IsNew mappings (Declared p) = Unit {0}
 IsNew mappings (Mapped m) = IsMapped m.at mappings → ⊥
 IsNew mappings (Operation op) = Unit {0}
@@ -260,6 +281,7 @@ MayStand before line = IsInOrder (seen_of before) line × IsNew before.objects l
 -- behind lines that say so much a trace may have one more line of this sort
 abbrev pub HasRoom : Seen → Line → Type 0
 HasRoom seen (Sizes z) = Unit {0}
+HasRoom seen (Limited b) = Unit {0}
 HasRoom seen (Declared p) = seen.blocks < 100000
 HasRoom seen (Mapped m) = seen.objects < 100000
 HasRoom seen (Operation op) = seen.operations < 1000000
@@ -366,14 +388,15 @@ pub record IsTooLong (text : List ℕ) (number : ℕ) (kind : Kind) : Type 0 whe
   pub holds : number ≡ count_by (λ b. b == 10) (take longest_text text) + 1
   pub too_long : kind ≡ kinds.Length
 
--- what a trace says
-abbrev pub content_of : Trace → Content
-content_of trace = record { config = Some trace.config; blocks = trace.blocks; objects = trace.objects; ops = trace.ops }
+-- what a trace says, where a line gives the bounds of a feed or none does
+abbrev pub content_of : Trace → (limited : Bool) → Content
+content_of trace limited = record { config = Some trace.config; limited = limited; blocks = trace.blocks; objects = trace.objects; ops = trace.ops }
 
 -- the text is this trace: its lines say, one after the other, what the trace says and no more
 pub record IsTraceText (text : List ℕ) (trace : Trace) : Type 0 where
+  pub limited : Bool
   pub short : length text ≤ longest_text
-  pub said : AddAll nothing (lines_of text) (content_of trace)
+  pub said : AddAll nothing (lines_of text) (content_of trace limited)
 
 -- an operation of a trace: its numbers are in their ranges, and a block that it names is declared
 abbrev pub IsPossible : Config → List Ptr → Op → Type 0
@@ -390,7 +413,7 @@ AreApart (m ∷ mappings) = (IsMapped m.at mappings → ⊥) × AreApart mapping
 
 -- what every trace that is read has
 pub record IsFormed (trace : Trace) : Type 0 where
-  pub config : AreSizes trace.config
+  pub config : IsConfig trace.config
   pub blocks : All IsDeclarable trace.blocks
   pub few_blocks : length trace.blocks ≤ 100000
   pub objects : All (IsMappingOn (length trace.blocks)) trace.objects
@@ -403,18 +426,26 @@ pub record IsFormed (trace : Trace) : Type 0 where
 abbrev pub counted_fields : List (List ℕ) → List (List (List ℕ))
 counted_fields lines = map fields_of (filter (λ line. not (is_passed_over line)) lines)
 
--- the lines are those of these blocks and mappings, each in their order, and no others
-abbrev pub AreDeclared : List Line → List Ptr → List Mapping → Type 0
-AreDeclared [] blocks objects = (blocks ≡ []) × (objects ≡ [])
-AreDeclared (Declared p ∷ lines) blocks objects = (rest : List Ptr) × (blocks ≡ p ∷ rest) × AreDeclared lines rest objects
-AreDeclared (Mapped m ∷ lines) blocks objects = (rest : List Mapping) × (objects ≡ m ∷ rest) × AreDeclared lines blocks rest
-AreDeclared (Sizes z ∷ lines) blocks objects = ⊥
-AreDeclared (Operation op ∷ lines) blocks objects = ⊥
+-- the lines are those of these bounds, where there are some, of these blocks and of these mappings, each in their order, and no others
+abbrev pub AreDeclared : List Line → Option Bounds → List Ptr → List Mapping → Type 0
+AreDeclared [] given blocks objects = (given ≡ None) × (blocks ≡ []) × (objects ≡ [])
+AreDeclared (Limited b ∷ lines) given blocks objects = (given ≡ Some b) × AreDeclared lines None blocks objects
+AreDeclared (Declared p ∷ lines) given blocks objects = (rest : List Ptr) × (blocks ≡ p ∷ rest) × AreDeclared lines given rest objects
+AreDeclared (Mapped m ∷ lines) given blocks objects = (rest : List Mapping) × (objects ≡ m ∷ rest) × AreDeclared lines given blocks rest
+AreDeclared (Sizes z ∷ lines) given blocks objects = ⊥
+AreDeclared (Operation op ∷ lines) given blocks objects = ⊥
 
--- these fields are the lines of the trace: its sizes, its blocks and objects, and its operations
+-- the bounds of a feed that a line gives, or the usual ones
+abbrev pub bounds_given : Option Bounds → Bounds
+bounds_given None = usual_bounds
+bounds_given (Some b) = b
+
+-- these fields are the lines of the trace: its sizes, its bounds of a feed where a line gives them, its blocks and objects, and its operations
 pub record IsWritten (counted : List (List (List ℕ))) (trace : Trace) : Type 0 where
   pub declared : List Line
-  pub are_declared : AreDeclared declared trace.blocks trace.objects
+  pub given : Option Bounds
+  pub bounds : trace.config.bounds ≡ bounds_given given
+  pub are_declared : AreDeclared declared given trace.blocks trace.objects
   pub spelled : counted ≡ map spelling (Sizes trace.config ∷ (declared ++ map Operation trace.ops))
 
 -- the first fault of a text

@@ -1,6 +1,6 @@
 //! A trace in the making: each line is taken in, or refused for its fault.
 ghost use Rattle.std.specs.Prelude.{◌≡◌, ◌≤◌, IfErr, MatchOption, None, OnOk, length, vec_len};
-ghost use Rattle.trace_text.specs.Grammar.{Adds, Content, content_of, fields_of, nothing, seen_of};
+ghost use Rattle.trace_text.specs.Grammar.{Adds, Content, content_of, fields_of, nothing, seen_of, with_bounds};
 ghost use Rattle.trace_text.specs.Reading.{IsBegun, IsLineCause, IsLineRead, IsPlaced};
 
 use crate::fault::Kind;
@@ -12,7 +12,7 @@ use crate::op::Op;
 use crate::parts::Parts;
 use crate::trace::Trace;
 use crate::words::{Line, LineFault, Seen, Word};
-use arc_core::Config;
+use arc_core::{Bounds, Config};
 use blk_ptr::Ptr;
 use std::alloc::Global;
 use std::marker::Model;
@@ -30,6 +30,8 @@ const MOST_OPERATIONS: usize = 1_000_000;
 #[derive(Drop)]
 pub(crate) struct Draft {
     config: Option<Config>,
+    // Whether a line gave the bounds of a feed.
+    limited: bool,
     blocks: Vec<Ptr>,
     objects: Mappings,
     operations: Vec<Op>,
@@ -38,7 +40,7 @@ pub(crate) struct Draft {
 impl Model for Draft {
     ghost Value = { Content };
 
-    ghost view = { λ draft. record { config = draft.config; blocks = draft.blocks.items; objects = draft.objects; ops = draft.operations.items } };
+    ghost view = { λ draft. record { config = draft.config; limited = draft.limited; blocks = draft.blocks.items; objects = draft.objects; ops = draft.operations.items } };
 
     ghost invariant = { λ draft. (vec_len draft.blocks ≤ 100000) × (length draft.objects ≤ 100000) × (vec_len draft.operations ≤ 1000000) };
 }
@@ -54,6 +56,16 @@ fn begun(config: Option<Config>, first: &[u8]) -> Result<Word, Kind>
     }
 }
 
+/// The sizes with these bounds of a feed.
+fn with_bounds(config: Option<Config>, bounds: Bounds) -> Option<Config>
+    ensures { result ≡ with_bounds config bounds }
+{
+    match config {
+        Some(config) => Some(Config { bounds, ..config }),
+        None => None,
+    }
+}
+
 impl Draft {
     /// What no line says.
     pub(crate) fn new(alloc: Global) -> Draft
@@ -61,6 +73,7 @@ impl Draft {
     {
         Draft {
             config: None,
+            limited: false,
             blocks: Vec::new(alloc),
             objects: Mappings::new(alloc),
             operations: Vec::new(alloc),
@@ -74,6 +87,7 @@ impl Draft {
         Seen {
             callers: self.config.map_or(0, |sizes| sizes.callers),
             shards: self.config.map_or(0, |sizes| sizes.shards),
+            limited: self.limited,
             blocks: self.blocks.len() as u32,
             objects: self.objects.len() as u32,
             operations: self.operations.len() as u32,
@@ -113,6 +127,10 @@ impl Draft {
     {
         match said {
             Line::Sizes(config) => self.config = Some(config),
+            Line::Limited(bounds) => {
+                self.config = with_bounds(self.config, bounds);
+                self.limited = true;
+            }
             Line::Declared(ptr) => {
                 if self.blocks.len() == MOST_BLOCKS {
                     return Err(LineFault::Wrong(Kind::Count));
@@ -140,10 +158,11 @@ impl Draft {
 
     /// The trace that the lines say, or None where they have no sizes.
     pub(crate) fn into_trace(self) -> Option<Trace>
-        ensures { MatchOption result (self.config ≡ None) (λ trace. self ≡ content_of trace) }
+        ensures { MatchOption result (self.config ≡ None) (λ trace. self ≡ content_of trace self.limited) }
     {
         let Draft {
             config,
+            limited: _,
             blocks,
             objects,
             operations,

@@ -10,7 +10,7 @@ pub enum Kind {
     Shape,
     /// A field isn't spelled as a number or a digest must be, or is outside its range.
     Number,
-    /// A block is declared or mapped after an operation, a line names a block that no earlier line declares, or a line maps
+    /// Bounds are given twice, or bounds, a block or an object come after an operation, a line names a block that no earlier line declares, or a line maps
     /// a block of an object that an earlier line maps.
     Order,
     /// There is one line more than a trace may have of its sort.

@@ -20,6 +20,7 @@ pub(crate) fn word_of(field: &[u8]) -> Option<Word>
 {
     match field {
         b"arc" => Some(Word::Arc),
+        b"l2" => Some(Word::L2),
         b"block" => Some(Word::Block),
         b"object" => Some(Word::Object),
         b"read" => Some(Word::Read),

@@ -11,8 +11,8 @@ use crate::fields::{LARGEST_PLAIN, next_below, next_digest, next_number, no_more
 use crate::op::Op;
 use crate::parts::Parts;
 use crate::words::{Line, Seen};
-use arc_core::Config;
-use blk_ptr::{Key, Ptr};
+use arc_core::{Bounds, Config};
+use blk_ptr::{Key, Ptr, SECTOR};
 use dbuf_state::Window;
 
 /// The largest number of bytes of a cache or a block, and of ticks of MINTIME.
@@ -43,6 +43,26 @@ pub(crate) fn sizes(seen: Seen, fields: &mut Parts<'_>) -> Result<Line, Kind>
         mintime,
         dbuf_bytes,
         bounds: DEFAULT_BOUNDS,
+    }))
+}
+
+/// The bounds of a feed: the most bytes that it writes, and its headroom.
+pub(crate) fn limited(seen: Seen, fields: &mut Parts<'_>) -> Result<Line, Kind>
+    ensures ok { IfOk result (λ line. Spell seen.callers seen.shards (text_of words.L2 ∷ fields.old) line × IsInOrder seen line) }
+    ensures err { length fields.old ≡ field_count words.L2 → IsFormRead seen words.L2 fields.old result }
+{
+    let write_max = next_number(fields, SECTOR, LARGEST_SIZE)?;
+    let headroom = next_number(fields, 1, 64)?;
+    no_more(fields)?;
+    if seen.operations != 0 {
+        return Err(Kind::Order);
+    }
+    if seen.limited {
+        return Err(Kind::Order);
+    }
+    Ok(Line::Limited(Bounds {
+        write_max,
+        headroom,
     }))
 }
 

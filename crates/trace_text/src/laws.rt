@@ -9,8 +9,8 @@ pub fn one_trace()
     ensures { (text : List ℕ) (one other : Trace) → IsTraceText text one → IsTraceText text other → one ≡ other }
 {}
 
-/// The lines of a trace's text that aren't passed over are the spellings of its sizes, then of its blocks and objects,
-/// and then of its operations. The lines of blocks and of objects stand in any order among each other.
+/// The lines of a trace's text that aren't passed over are the spellings of its sizes, then of its bounds of a feed where a
+/// line gives them, of its blocks and of its objects, in any order among each other, and then of its operations.
 pub fn written_lines()
     ensures { (text : List ℕ) (trace : Trace) → IsTraceText text trace → IsWritten (counted_fields (lines_of text)) trace }
 {}

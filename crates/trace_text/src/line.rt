@@ -6,7 +6,7 @@ ghost use Rattle.trace_text.specs.declared.words.Word.TheVariants as words;
 
 use crate::dbuf_forms::{got, mapped, patched, pinned, put, unpinned};
 use crate::fault::Kind;
-use crate::forms::{capped, declared, dropped, fed, held, read, sizes, synced};
+use crate::forms::{capped, declared, dropped, fed, held, limited, read, sizes, synced};
 use crate::parts::Parts;
 use crate::words::{Line, LineFault, Seen, Word};
 use std::alloc::Global;
@@ -17,6 +17,7 @@ fn fields_after(word: Word) -> usize
 {
     match word {
         Word::Arc => 7,
+        Word::L2 => 2,
         Word::Block => 4,
         Word::Object => 3,
         Word::Read => 5,
@@ -73,6 +74,7 @@ fn plain_after(word: Word, seen: Seen, fields: &mut Parts<'_>) -> Result<Line, K
 {
     match word {
         Word::Arc => sizes(seen, fields),
+        Word::L2 => limited(seen, fields),
         Word::Block => declared(seen, fields),
         Word::Object => mapped(seen, fields),
         Word::Read => read(seen, fields),

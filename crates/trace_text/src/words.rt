@@ -5,7 +5,7 @@ ghost use Rattle.trace_text.specs.declared.words.LineFault.TheVariants.{NoMemory
 use crate::fault::Kind;
 use crate::mapping::Mapping;
 use crate::op::Op;
-use arc_core::Config;
+use arc_core::{Bounds, Config};
 use blk_ptr::Ptr;
 use key_table::NoMemory;
 use std::alloc::{AllocError, AllocFailed};
@@ -14,6 +14,7 @@ use std::alloc::{AllocError, AllocFailed};
 #[derive(Clone, Copy, Debug, PartialEq, Eq)]
 pub(crate) enum Word {
     Arc,
+    L2,
     Block,
     Object,
     Read,
@@ -34,6 +35,8 @@ pub(crate) enum Word {
 pub(crate) enum Line {
     /// The sizes of the cache.
     Sizes(Config),
+    /// The bounds of a feed.
+    Limited(Bounds),
     /// A block is declared.
     Declared(Ptr),
     /// A block of an object is mapped.
@@ -58,6 +61,8 @@ pub(crate) struct Seen {
     pub(crate) callers: u32,
     /// The number of shards.
     pub(crate) shards: u32,
+    /// Whether the bounds of a feed are given.
+    pub(crate) limited: bool,
     /// How many blocks are declared.
     pub(crate) blocks: u32,
     /// How many blocks of objects are mapped.

@@ -19,6 +19,6 @@ returns-clause-run g c =
       | else-trace-eq1+in_ok-ran-2 w ↦
           let did = w.in_ok-ran-2.ran in
           rw (w.ran-is, w.pool-is) (together-run g.P.Pool c.args.pool.now w.run_together.new.pool trace did.replies.items did.closed did.fork_failed
-          (omega (arith, c.requires.config.ranged.counts.callers.0, w.if-trace-eq1.false)) w.in_ok-ran-2.ensures.ran)
+          (omega (arith, c.requires.config.counts.callers.0, w.if-trace-eq1.false)) w.in_ok-ran-2.ensures.ran)
     ] in
     (ran.fork_failed, rw (told.report, told.closed) run, rw told.report refl)

@@ -28,4 +28,4 @@ close_crew-requires-clause-callers g c =
 pub returns-clause-ran : goal.returns-clause-ran
 returns-clause-ran g c =
     let config = c.in_ok-arcs.ensures.config in
-    group-together _ c.in_ok-arcs.arcs g.P.Pool c.args.pool.now c.all_groups.new.pool c.args.trace.now c.requires config (subst IsConfig (sym config) c.requires.config.ranged) _ _ _ c.in_ok-crew-2.ensures.stopped c.in_ok-closed.closed c.in_ok-closed.ensures.closed
+    group-together _ c.in_ok-arcs.arcs g.P.Pool c.args.pool.now c.all_groups.new.pool c.args.trace.now c.requires config (subst IsConfig (sym config) c.requires.config) _ _ _ c.in_ok-crew-2.ensures.stopped c.in_ok-closed.closed c.in_ok-closed.ensures.closed
