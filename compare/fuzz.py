@@ -37,6 +37,8 @@ def trace(rng):
     callers, shards = rng.choice([1, 1, 2, 2, 3, 4, 16]), rng.choice([1, 1, 2, 3, 16])
     capacity = rng.choice([4096, 4096, 4096, 5000, 6144, 8192, 2**32 // shards])
     lines = [f'arc {callers} {shards} {rng.choice([1, 16, 256])} 1 {capacity} {rng.choice([0, 0, 3, 2**32])} 4096']
+    if rng.random() < 0.1:
+        lines.append(rng.choice(['l2 512 1', 'l2 8388608 2', 'l2 4294967296 64']))
     blocks = rng.randrange(1, 24)
     lines += [block(rng) for _ in range(blocks)]
     tick = 0

@@ -1,5 +1,5 @@
 -- What is promised of a run doesn't go by the mappings of its trace: a trace that has one is refused, since the program doesn't do them yet.
-use Rattle.std.proofs.Common.{ℕ, List, []}
+use Rattle.std.proofs.Common.{List, []}
 use Rattle.arc_core.specs.declared.event.Event.{Event}
 use Rattle.arc_table.specs.Ended.{Ended}
 use Rattle.trace_text.specs.declared.ends.ShardEnd.{ShardEnd}
