@@ -86,7 +86,7 @@ dropped_was plan k x (w ∷ ws) dropped = elim (cases_true (stays plan w)) [
 -- ---- the acts of a batch
 
 -- the place was taken, or it was not there, or memory was refused for taking it
-abbrev WasAsked : Key → ℕ → List Act → Type 0
+abbrev pub WasAsked : Key → ℕ → List Act → Type 0
 WasAsked k x acts = (IsAmongActs (Cleared k x) acts ⊎ IsAmongActs (Absent k x) acts) ⊎ IsAmongActs (Refused k x) acts
 
 asked_more : (k : Key) (x : ℕ) (a : Act) (acts : List Act) → WasAsked k x acts → WasAsked k x (a ∷ acts)
@@ -95,7 +95,7 @@ asked_more k x a acts (inl (inr among)) = inl (inr (inr among))
 asked_more k x a acts (inr among) = inr (inr among)
 
 -- each dropped place was asked back
-asked_back : (k : Key) (x : ℕ) (ls : List Live) (acts : List Act) → AreCleared ls acts → IsDropped k x ls → WasAsked k x acts
+pub asked_back : (k : Key) (x : ℕ) (ls : List Live) (acts : List Act) → AreCleared ls acts → IsDropped k x ls → WasAsked k x acts
 asked_back k x [] [] are dropped = absurd dropped
 asked_back k x (l ∷ ls) (Cleared j y ∷ acts) are (inl is) = inl (inl (inl (λ i. Cleared ((are.0.0 ∙ is.0) i) ((are.0.1 ∙ is.1) i))))
 asked_back k x (l ∷ ls) (Absent j y ∷ acts) are (inl is) = inl (inr (inl (λ i. Absent ((are.0.0 ∙ is.0) i) ((are.0.1 ∙ is.1) i))))
@@ -125,7 +125,7 @@ clears_give_none k x (l ∷ ls) (Unpicked s ∷ acts) are among = are
 clears_give_none k x (l ∷ ls) (Placed j y ∷ acts) are among = are
 clears_give_none k x (l ∷ ls) (Left j w ∷ acts) are among = are
 
-lefts_give_none : (reason : Why) (k : Key) (x : ℕ) (bs : List Block) (acts : List Act) → AreLeft reason bs acts → IsAmongActs (Placed k x) acts → ⊥
+pub lefts_give_none : (reason : Why) (k : Key) (x : ℕ) (bs : List Block) (acts : List Act) → AreLeft reason bs acts → IsAmongActs (Placed k x) acts → ⊥
 lefts_give_none reason k x [] [] are among = among
 lefts_give_none reason k x (b ∷ bs) (Left j w ∷ acts) are (inl is) = cc
 lefts_give_none reason k x (b ∷ bs) (Left j w ∷ acts) are (inr among) = lefts_give_none reason k x bs acts are.1 among
@@ -139,14 +139,14 @@ lefts_give_none reason k x (b ∷ bs) (Refused j y ∷ acts) are among = are
 lefts_give_none reason k x (b ∷ bs) (Placed j y ∷ acts) are among = are
 
 -- the key and the place of an act that gives one
-abbrev none_key : Key
+abbrev pub none_key : Key
 none_key = record { offset = 0; size = 0; birth = 0 }
 
-abbrev key_in : Act → Key
+abbrev pub key_in : Act → Key
 key_in (Placed k x) = k
 key_in _ = none_key
 
-abbrev place_in : Act → ℕ
+abbrev pub place_in : Act → ℕ
 place_in (Placed k x) = x
 place_in _ = 0
 

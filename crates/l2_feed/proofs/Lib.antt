@@ -16,5 +16,6 @@ pub mod Taking
 pub mod Keeping
 pub mod Owning
 pub mod Again
+pub mod Newest
 pub mod Telling
 pub mod Whole

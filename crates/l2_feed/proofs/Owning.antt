@@ -37,13 +37,13 @@ row_key lap place k x [] live = live
 row_key lap place k x (b ∷ bs) (inl is) = inl is.0
 row_key lap place k x (b ∷ bs) (inr live) = inr (row_key lap (place + b.key.size) k x bs live)
 
-key_front : (k : Key) (n : ℕ) (bs : List Block) → IsAmongKeys k (keys_of (take n bs)) → IsAmongKeys k (keys_of bs)
+pub key_front : (k : Key) (n : ℕ) (bs : List Block) → IsAmongKeys k (keys_of (take n bs)) → IsAmongKeys k (keys_of bs)
 key_front k zero bs among = absurd among
 key_front k (suc n) [] among = among
 key_front k (suc n) (b ∷ bs) (inl is) = inl is
 key_front k (suc n) (b ∷ bs) (inr among) = inr (key_front k n bs among)
 
-key_behind : (k : Key) (n : ℕ) (bs : List Block) → IsAmongKeys k (keys_of (drop n bs)) → IsAmongKeys k (keys_of bs)
+pub key_behind : (k : Key) (n : ℕ) (bs : List Block) → IsAmongKeys k (keys_of (drop n bs)) → IsAmongKeys k (keys_of bs)
 key_behind k zero bs among = among
 key_behind k (suc n) [] among = among
 key_behind k (suc n) (b ∷ bs) among = inr (key_behind k n bs among)

@@ -25,6 +25,7 @@ use Rattle.l2_feed.specs.Shape.{AreFed, FedShard, IsUnwritten, IsWritten, stop_o
 use Rattle.l2_feed.specs.Sums.{CountsMore, IsSummary, picked_in}
 use Rattle.l2_feed.proofs.Again.{fed_again}
 use Rattle.l2_feed.proofs.Keeping.{fed_kept}
+use Rattle.l2_feed.proofs.Newest.{fed_newest}
 use Rattle.l2_feed.proofs.Owning.{fed_owns}
 use Rattle.l2_feed.proofs.Stepped.{Knows}
 use Rattle.l2_feed.proofs.Taking.{acts_stay}
@@ -57,6 +58,7 @@ has_fed m cache old new acts p q report ready did fed sums =
       fed = fed;
       sums = sums;
       kept = fed_kept m cache.config 0 cache.config.shards old new acts report.end p q knows did fed;
+      newest = fed_newest m cache.config 0 cache.config.shards old new acts report.end p q knows did fed;
       own = (fed_owns m cache.config 0 cache.config.shards old new acts report.end p q knows did fed).1;
       again = fed_again m cache.config 0 cache.config.shards old new acts report.end p q knows did fed;
     }

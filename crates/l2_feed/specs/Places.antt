@@ -35,6 +35,19 @@ WasGiven before acts k x = IsLive k x before ⊎ IsAmongActs (Placed k x) acts
 abbrev pub KeepsPlaces : {C : Type 0} → Config → List Act → (before after : List Written) → Place (Known C) → Type 0
 KeepsPlaces g acts before after q = (k : Key) (x : ℕ) → WasGiven before acts k x → place_seen g q k ≡ Some x → IsLive k x after ⊎ IsAmongActs (Refused k x) acts
 
+-- the place is live for the key, and no newer one is
+abbrev pub IsNewest : Key → (place : ℕ) → List Written → Type 0
+IsNewest k x [] = ⊥
+IsNewest k x (w ∷ ws) = IsNewest k x ws ⊎ (((w.live.key ≡ k) × (w.live.place ≡ x)) × ((y : ℕ) → ¬ IsLive k y ws))
+
+-- the place was the newest live one of the key before, or the feed gave it to it
+abbrev pub WasNewest : List Written → List Act → Key → ℕ → Type 0
+WasNewest before acts k x = IsNewest k x before ⊎ IsAmongActs (Placed k x) acts
+
+-- the same of the newest live place of each key: it is the newest one still
+abbrev pub KeepsNewest : {C : Type 0} → Config → List Act → (before after : List Written) → Place (Known C) → Type 0
+KeepsNewest g acts before after q = (k : Key) (x : ℕ) → WasNewest before acts k x → place_seen g q k ≡ Some x → IsNewest k x after ⊎ IsAmongActs (Refused k x) acts
+
 -- each place that was taken was live for its key before, or the feed had given it to it
 abbrev pub TakesOwn : List Act → (before : List Written) → Type 0
 TakesOwn acts before = (k : Key) (x : ℕ) → IsAmongActs (Cleared k x) acts → WasGiven before acts k x
