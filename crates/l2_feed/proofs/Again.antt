@@ -1,5 +1,5 @@
 -- That a place which a feed took is live for its key again only where the key was picked behind that.
-use Rattle.std.proofs.Common.{◌≡◌, ◌≢◌, ◌⊎◌, ℕ, zero, suc, ◌+◌, ◌<◌, ◌≤◌, Bool, true, false, not, List, [], ◌∷◌, ◌++◌, length, map, Some, None, inl, inr, refl, sym, ap, ◌∙◌, subst, ⊎_elim, arith}
+use Rattle.std.proofs.Common.{◌≡◌, ◌⊎◌, ℕ, zero, suc, ◌<◌, ◌≤◌, Bool, true, not, List, [], ◌∷◌, ◌++◌, map, Some, inl, inr, refl, sym, ap, ◌∙◌, subst, ⊎_elim}
 use Rattle.std.specs.List.{AllByRecursion, filter}
 use Rattle.std.proofs.lemmas.Bool.{false≢true}
 use Rattle.std.proofs.lemmas.List.Elements.{recursion_from_All}
@@ -7,10 +7,8 @@ use Rattle.arc_lists.proofs.Tables.{cases_true}
 use Rattle.blk_ptr.specs.declared.key.Key.{Key}
 use Rattle.arc_core.specs.declared.config.Config.{Config}
 use Rattle.turn_table.specs.Places.{Place}
-use Rattle.arc_table.specs.declared.picks.Picked.{Picked as Block}
 use Rattle.arc_table.specs.declared.view.Known.{Known}
 use Rattle.arc_table.specs.Items.{Meanings}
-use Rattle.l2_ring.specs.declared.live.Live.{Live}
 use Rattle.l2_ring.specs.declared.live.Written.{Written}
 use Rattle.l2_ring.specs.declared.plan.Plan.{Plan}
 use Rattle.l2_ring.specs.RangeLaws.{HaveOneRange, fall_together}

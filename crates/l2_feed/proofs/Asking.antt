@@ -1,13 +1,12 @@
 -- Which calls of the device a feed makes: one part behind another, and what `begin`, `put` and `commit` tell of theirs.
-use Rattle.std.proofs.Common.{◌≡◌, ◌⊎◌, List, [], ◌∷◌, ◌++◌, Result, Ok, Err, inl, inr, refl, sym, ap, ◌∙◌, subst}
-use Rattle.std.specs.Prelude.{IsErrOf, MatchResult}
+use Rattle.std.proofs.Common.{◌≡◌, List, [], ◌++◌, Result, Ok, Err, inl, inr, refl}
+use Rattle.std.specs.Prelude.{IsErrOf}
 use Rattle.blk_ptr.specs.declared.memory.NoMemory.{NoMemory}
 use Rattle.vdev_io.specs.declared.device.CacheDev.{Ghosts}
-use Rattle.vdev_io.specs.Calls.{Asked, MakesAll, MakesAsked, MakesUpTo}
+use Rattle.vdev_io.specs.Calls.{Asked}
 use Rattle.vdev_io.proofs.CallLemmas.{all_behind, up_to_behind}
 use Rattle.l2_dev.specs.declared.fault.DevErr.{DevErr}
 use Rattle.l2_dev.specs.declared.fault.DevErr.TheVariants as err
-use Rattle.l2_dev.specs.declared.report.FeedStop.{FeedStop}
 use Rattle.l2_dev.specs.Asking.{AsksFor, BeginAsks, CommitAsks, header_calls, log_calls}
 use Rattle.l2_dev.specs.Cursor.{CursorState}
 use Rattle.l2_feed.specs.Crashes.{AllDone, AsksSo, FeedAsks, LastFailed}

@@ -1,13 +1,10 @@
 -- That a feed keeps a promise of every crash: each call of the device does, one after another.
-use Rattle.std.proofs.Common.{◌≡◌, ◌⊎◌, ℕ, ◌+◌, ◌<◌, ◌≤◌, List, [], ◌∷◌, ◌++◌, Bool, Option, Result, Ok, Err, inl, inr, refl, sym, ap, ◌∙◌, subst, arith}
-use Rattle.std.specs.Prelude.{IsErrOf, MatchResult}
-use Rattle.std.specs.List.{AllByRecursion}
+use Rattle.std.proofs.Common.{◌≡◌, ℕ, List, [], ◌∷◌, Bool, Option, Result, Ok, Err, inl, inr, refl, sym, subst}
+use Rattle.std.specs.Prelude.{IsErrOf}
 use Rattle.blk_ptr.specs.declared.key.Key.{Key}
 use Rattle.blk_ptr.specs.declared.memory.NoMemory.{NoMemory}
-use Rattle.l2_ring.specs.Ring.{last_lap}
 use Rattle.l2_dev.specs.declared.fault.DevErr.{DevErr}
 use Rattle.l2_dev.specs.declared.fault.DevErr.TheVariants as err
-use Rattle.l2_dev.specs.declared.report.FeedStop.{FeedStop}
 use Rattle.l2_dev.specs.Calls.{BeginKeeps, CommitKeeps, PutKeeps, forgotten, put_entry, with_put}
 use Rattle.l2_dev.specs.Cursor.{CursorState, numbers_from}
 use Rattle.l2_dev.specs.Promise.{KeepsPromise, Promise}

@@ -1,11 +1,10 @@
 -- That a feed keeps what it must of the places on the device: shard by shard, and over all of them.
-use Rattle.std.proofs.Common.{◌≡◌, ◌≢◌, ◌⊎◌, ℕ, zero, suc, ◌+◌, ◌<◌, Bool, true, false, not, List, [], ◌∷◌, ◌++◌, length, map, take, drop, Some, None, inl, inr, refl, sym, ap, ◌∙◌, subst, ⊎_elim}
+use Rattle.std.proofs.Common.{◌≡◌, ◌⊎◌, ℕ, zero, suc, ◌+◌, List, [], ◌∷◌, ◌++◌, map, take, drop, Some, inl, inr, refl, sym, ap, ◌∙◌, subst, ⊎_elim}
 use Rattle.std.specs.List.{filter}
 use Rattle.arc_lists.proofs.Tables.{cases_true}
 use Rattle.blk_ptr.specs.declared.key.Key.{Key}
 use Rattle.arc_core.specs.declared.config.Config.{Config}
 use Rattle.arc_core.specs.declared.event.Why.{Why}
-use Rattle.arc_core.specs.declared.event.Why.TheVariants as why
 use Rattle.turn_table.specs.Places.{Place}
 use Rattle.arc_table.specs.declared.picks.Picked.{Picked as Block}
 use Rattle.arc_table.specs.declared.view.Known.{Known}
@@ -18,12 +17,12 @@ use Rattle.l2_ring.specs.Stays.{falls, live_of, stays}
 use Rattle.l2_dev.specs.declared.report.FeedStop.{FeedStop}
 use Rattle.l2_dev.specs.declared.report.FeedStop.TheVariants as stop
 use Rattle.l2_dev.specs.Cursor.{CursorState}
-use Rattle.l2_feed.specs.Acts.{Act, Absent, Cleared, DoesActs, Left, Picked, Placed, Refused, Unpicked, keys_of}
-use Rattle.l2_feed.specs.Places.{IsAmongActs, IsAmongKeys, IsLive, KeepsPlaces, TakesOwn, WasGiven, place_seen}
+use Rattle.l2_feed.specs.Acts.{Act, Absent, Cleared, DoesActs, Left, Picked, Placed, Refused, Unpicked}
+use Rattle.l2_feed.specs.Places.{IsAmongActs, IsLive, KeepsPlaces, WasGiven, place_seen}
 use Rattle.l2_feed.specs.Runs.{AreCleared, AreLeft, AreRuns, AreSet, bytes_of, most, row_of}
 use Rattle.l2_feed.specs.Shape.{AreFed, FedBatch, FedShard, IsUnwritten, IsWritten}
 use Rattle.l2_feed.proofs.Stepped.{Knows}
-use Rattle.l2_feed.proofs.Taking.{act_knows, acts_away, acts_had, acts_knows, acts_takes, picked_none}
+use Rattle.l2_feed.proofs.Taking.{acts_away, acts_knows, acts_takes}
 
 -- ---- lists
 

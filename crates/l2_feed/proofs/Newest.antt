@@ -1,5 +1,5 @@
 -- That a place which is the newest live one of its key stays so: shard by shard, and over all of them.
-use Rattle.std.proofs.Common.{◌≡◌, ◌≢◌, ◌⊎◌, ℕ, zero, suc, ◌+◌, ◌<◌, Bool, true, false, not, IsTrue, List, [], ◌∷◌, ◌++◌, is_some, length, map, take, drop, Some, None, inl, inr, refl, sym, ap, ◌∙◌, subst, ⊎_elim}
+use Rattle.std.proofs.Common.{◌≡◌, ◌⊎◌, ℕ, zero, suc, ◌+◌, not, IsTrue, List, [], ◌∷◌, ◌++◌, is_some, map, take, drop, Some, inl, inr, refl, sym, ap, ◌∙◌, subst, ⊎_elim}
 use Rattle.std.specs.List.{filter}
 use Rattle.std.proofs.lemmas.Bool.{false≢true}
 use Rattle.arc_lists.proofs.Standing.{and_left, and_right}
@@ -19,14 +19,13 @@ use Rattle.arc_table.specs.Listing.{picks_of}
 use Rattle.arc_table.specs.Picking.{ArePicksOf, nth_shard_turn}
 use Rattle.arc_table.proofs.PickLaws.{few_picks}
 use Rattle.l2_log.specs.Rules.{log_len}
-use Rattle.l2_ring.specs.declared.live.Live.{Live}
 use Rattle.l2_ring.specs.declared.live.Written.{Written}
 use Rattle.l2_ring.specs.declared.plan.Plan.{Plan}
 use Rattle.l2_ring.specs.Stays.{falls, live_of, stays}
 use Rattle.l2_dev.specs.declared.report.FeedStop.{FeedStop}
 use Rattle.l2_dev.specs.declared.report.FeedStop.TheVariants as stop
 use Rattle.l2_dev.specs.Cursor.{CursorState}
-use Rattle.l2_feed.specs.Acts.{Act, Absent, Cleared, DoesAct, DoesActs, Left, Picked, Placed, Refused, Unpicked, keys_of}
+use Rattle.l2_feed.specs.Acts.{Act, Absent, Cleared, DoesActs, Left, Picked, Placed, Refused, Unpicked, keys_of}
 use Rattle.l2_feed.specs.Places.{IsAmongActs, IsAmongKeys, IsLive, IsNewest, KeepsNewest, WasNewest, place_seen}
 use Rattle.l2_feed.specs.Runs.{AreRuns, AreSet, bytes_of, most, row_of}
 use Rattle.l2_feed.specs.Shape.{AreFed, FedBatch, FedShard, IsUnwritten, IsWritten}

@@ -1,5 +1,5 @@
 -- That a feed takes just such places as were live before it, or as it gave itself.
-use Rattle.std.proofs.Common.{◌≡◌, ◌≢◌, ◌⊎◌, ℕ, zero, suc, ◌+◌, ◌<◌, true, false, List, [], ◌∷◌, ◌++◌, length, map, take, drop, Some, None, inl, inr, refl, sym, ap, ◌∙◌, subst, ⊎_elim, arith, cond}
+use Rattle.std.proofs.Common.{◌≡◌, ◌⊎◌, ℕ, zero, suc, ◌+◌, List, [], ◌∷◌, ◌++◌, map, take, drop, Some, inl, inr, sym, ap, ◌∙◌, subst, ⊎_elim, arith, cond}
 use Rattle.std.specs.Prelude.{count_by}
 use Rattle.std.proofs.lemmas.List.Sums.{sum_by-cons}
 use Rattle.std.specs.List.{filter}
@@ -15,7 +15,7 @@ use Rattle.l2_ring.specs.Stays.{falls, live_of, stays}
 use Rattle.l2_dev.specs.declared.report.FeedStop.{FeedStop}
 use Rattle.l2_dev.specs.declared.report.FeedStop.TheVariants as stop
 use Rattle.l2_dev.specs.Cursor.{CursorState}
-use Rattle.l2_feed.specs.Acts.{Act, Absent, Cleared, DoesAct, DoesActs, Left, Picked, Placed, Refused, Unpicked, keys_of}
+use Rattle.l2_feed.specs.Acts.{Act, Absent, Cleared, DoesActs, Left, Picked, Placed, Refused, Unpicked, keys_of}
 use Rattle.l2_feed.specs.Places.{IsAmongActs, IsAmongKeys, IsLive, TakesOwn, WasGiven, place_seen}
 use Rattle.l2_feed.specs.Runs.{AreCleared, AreRuns, bytes_of, most, row_of}
 use Rattle.l2_log.specs.Rules.{log_len}

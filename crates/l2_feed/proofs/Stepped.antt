@@ -1,6 +1,5 @@
 -- What each call of a feed finds of a shard and makes there; and what that does to the places on the device.
-use Rattle.std.proofs.Common.{◌≡◌, ◌≢◌, ◌⊎◌, ℕ, zero, suc, Bool, true, false, not, IsTrue, List, [], ◌∷◌, ◌++◌, Option, Some, None, inl, inr, refl, sym, ap, ◌∙◌, subst, ⊎_elim}
-use Rattle.std.specs.Prelude.{◌&&◌}
+use Rattle.std.proofs.Common.{◌≡◌, ℕ, suc, false, not, IsTrue, List, [], ◌∷◌, ◌++◌, Some, None, inl, refl, sym, ap, ◌∙◌, subst, ⊎_elim}
 use mathlib.Core.Option.{some}
 use mathlib.Core.Logic.{dite}
 use native.Mathlib.Decide.{ℕ_discrete}
@@ -41,7 +40,7 @@ use Rattle.arc_table.proofs.FeedMade.{feeds_made, picks_made}
 use Rattle.arc_table.proofs.HandHeads.{config_then, shard_then}
 use Rattle.arc_table.proofs.MadeLemmas.{does-made}
 use Rattle.arc_table.proofs.OwnLemmas.{made-sees}
-use Rattle.arc_table.proofs.Reached.{SameButNotes, Took, loses_same, sound_log, took_is}
+use Rattle.arc_table.proofs.Reached.{SameButNotes, loses_same, sound_log}
 use Rattle.arc_table.proofs.SeenLemmas.{events-map}
 use Rattle.l2_feed.specs.Places.{place_seen}
 

@@ -1,6 +1,6 @@
 -- What each act does to the places on the device, and a list of acts.
-use Rattle.std.proofs.Common.{◌≡◌, ◌≢◌, ◌⊎◌, ℕ, zero, suc, ◌<◌, Bool, true, false, not, IsTrue, List, [], ◌∷◌, ◌++◌, length, map, Option, Some, None, inl, inr, refl, sym, ap, ◌∙◌, subst, ⊎_elim, eq-eqb, arith}
-use Rattle.std.specs.Prelude.{if◌then◌else◌, ◌==◌, ◌+◌}
+use Rattle.std.proofs.Common.{◌≡◌, ◌≢◌, ◌⊎◌, ℕ, zero, suc, Bool, true, false, not, List, [], ◌∷◌, ◌++◌, Option, Some, None, inl, inr, refl, sym, ap, ◌∙◌, subst, ⊎_elim, eq-eqb, arith}
+use Rattle.std.specs.Prelude.{if◌then◌else◌, ◌==◌}
 use Rattle.std.specs.Option.{option_and_then, option_map, option_map_or}
 use Rattle.std.proofs.lemmas.Bool.{eqb-true, false≢true}
 use mathlib.Core.Option.{some, some-injective, some-ne-none}
@@ -21,22 +21,18 @@ use Rattle.arc_core.specs.declared.event.Event.{Event}
 use Rattle.arc_core.specs.declared.event.Event.TheVariants as event
 use Rattle.arc_core.specs.declared.event.Why.{Why}
 use Rattle.arc_core.specs.Places.{gives_place}
-use Rattle.arc_core.specs.PlainShard.{PlainShard, entry_of, place_of}
-use Rattle.arc_core.specs.Replay.{is_legal_history, replay}
+use Rattle.arc_core.specs.PlainShard.{entry_of, place_of}
+use Rattle.arc_core.specs.Replay.{replay}
 use Rattle.arc_core.specs.Step.{after, legal}
 use Rattle.arc_core.proofs.Others.{own-entry}
 use Rattle.turn_table.specs.Places.{Place}
-use Rattle.arc_table.specs.declared.feeds.Cleared.TheVariants as answer
-use Rattle.arc_table.specs.declared.front.Front.{Front}
 use Rattle.arc_table.specs.declared.picks.Picked.{Picked as Block}
 use Rattle.arc_table.specs.declared.view.Known.{Known}
-use Rattle.arc_table.specs.declared.view.Line.TheVariants as line
 use Rattle.arc_table.specs.Both.{Does}
-use Rattle.arc_table.specs.Feeding.{has_place}
 use Rattle.arc_table.specs.Geometry.{shard_turn}
 use Rattle.arc_table.specs.Items.{Meanings}
 use Rattle.arc_table.specs.Listing.{picks_of}
-use Rattle.arc_table.specs.Picking.{ArePicks, ArePicksOf, Feeds, nth_shard_turn}
+use Rattle.arc_table.specs.Picking.{ArePicks, ArePicksOf, nth_shard_turn}
 use Rattle.arc_table.specs.Seen.{events_in, turn_of}
 use Rattle.arc_table.specs.Telling.{opening_of}
 use Rattle.arc_table.proofs.PickLaws.{few_picks}
