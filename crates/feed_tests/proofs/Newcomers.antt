@@ -1,7 +1,6 @@
 -- The parties of a new cache of one caller: its feeder is ready for a feed.
-use Rattle.std.proofs.Common.{◌≡◌, ℕ, zero, suc, ◌+◌, ◌<◌, List, inl, inr, [], ◌∷◌, ◌++◌, refl, sym, ap, ◌∙◌, subst, arith}
+use Rattle.std.proofs.Common.{◌≡◌, ℕ, zero, suc, ◌<◌, List, inl, inr, [], ◌∷◌, ◌++◌, refl, sym, ap, ◌∙◌, subst, arith}
 use mathlib.Core.Option.{some-ne-none}
-use Rattle.turn_table.specs.Board.{IsAmong}
 use Rattle.turn_table.specs.Places.{Place, SomeHas, newcomers}
 use Rattle.turn_table.specs.Places as places
 use Rattle.arc_table.specs.declared.about.About.{About}

@@ -1,4 +1,4 @@
-use Rattle.std.proofs.Common.{◌*◌, ◌-◌, ◌≤◌, ap, arith}
+use Rattle.std.proofs.Common.{ap, arith}
 use Rattle.arc_core.specs.declared.config.Config.{Config}
 use Rattle.l2_ring.specs.Ring.{RingState}
 use Rattle.feed_tests.proofs.scene.opened.Goals as goal
