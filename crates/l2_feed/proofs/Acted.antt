@@ -11,7 +11,7 @@ use Rattle.arc_table.specs.Cache.{Cache}
 use Rattle.arc_table.specs.Geometry.{parties_of}
 use Rattle.arc_table.specs.Items.{Meanings}
 use Rattle.arc_table.specs.Listing.{IsFeederOf}
-use Rattle.arc_table.specs.Seen.{AreOwn}
+use Rattle.arc_table.specs.Seen.{AreOwnBy, IsNumberOrCell}
 use Rattle.arc_table.proofs.Afterwards.{does_stays, stays_free, stays_party}
 use Rattle.arc_table.proofs.MadeLemmas.{does-made}
 use Rattle.arc_table.proofs.OwnLemmas.{made-sees}
@@ -34,7 +34,7 @@ module _ {C : Type 0} (m : Meanings C) (cache : Cache) where
   abbrev g : Config
   g = cache.config
 
-  pub does_on : (k : Key) (es : List Event) (p q : Place (Known C)) → IsFeederOn cache p → AreOwn (parties_of cache.config) p.number es → Does m cache.config k es p q → IsFeederOn cache q
+  pub does_on : (k : Key) (es : List Event) (p q : Place (Known C)) → IsFeederOn cache p → AreOwnBy (IsNumberOrCell cache.config) (parties_of cache.config) p.number es → Does m cache.config k es p q → IsFeederOn cache q
   does_on k es p q on own d =
       let s = does_stays m g on.valid k es p q on.of.config d in
       record {

@@ -1,13 +1,10 @@
 -- What a batch comes to, by what its plan and its runs came to.
-use Rattle.std.proofs.Common.{◌≡◌, ◌⊎◌, ℕ, ◌+◌, ◌<◌, false, List, [], ◌∷◌, ◌++◌, length, Result, Ok, Err, inl, inr, refl, sym, ap, ◌∙◌, subst, arith, append-nil, length-append}
+use Rattle.std.proofs.Common.{◌≡◌, ◌⊎◌, ℕ, ◌+◌, ◌<◌, false, List, [], ◌∷◌, ◌++◌, length, Result, Ok, Err, inl, inr, refl, sym, ap, ◌∙◌, arith, append-nil, length-append}
 use Rattle.std.specs.Prelude.{count_by, sum_by}
-use Rattle.std.specs.List.{filter}
 use Rattle.std.proofs.lemmas.List.{length-map}
 use Rattle.std.proofs.lemmas.List.Sums.{sum_by-append}
 use Rattle.blk_ptr.specs.declared.key.Key.{Key}
 use Rattle.arc_table.specs.declared.picks.Picked.{Picked as Block}
-use Rattle.l2_ring.specs.declared.live.Written.{Written}
-use Rattle.l2_ring.specs.Stays.{stays}
 use Rattle.l2_dev.specs.declared.fault.DevErr.{DevErr}
 use Rattle.l2_dev.specs.declared.fault.DevErr.TheVariants as err
 use Rattle.l2_dev.specs.declared.report.FeedReport.{FeedReport}
@@ -20,6 +17,7 @@ use Rattle.l2_feed.specs.Shape.{HasBegun, HaveRun, IsUnwritten, IsWritten, stop_
 use Rattle.l2_feed.specs.Sums.{CountsMore, is_cleared, is_placed, picked_in}
 use Rattle.l2_feed.proofs.Counting.{cleared-append, cleared-none, left-none, picked-append, placed-append, runs-none}
 use Rattle.l2_feed.proofs.Lists.{bytes_keys}
+use Rattle.l2_feed.proofs.Running.{no_runs}
 use Rattle.l2_feed.proofs.Writing.{leaves_some}
 
 -- ---- a plan that was not begun, or whose clears were refused
@@ -43,10 +41,12 @@ pub batch_failed : (old new : CursorState) (blocks : List Block) (clears leaves 
     → IsWritten old new blocks clears leaves (stop_of fault) ⊎ IsUnwritten old new blocks clears leaves (stop_of fault)
 batch_failed old new blocks clears leaves fault some (inl b) left = inr (unwritten fault old new blocks clears leaves b.2 b.0 b.1 left)
 batch_failed old new blocks clears leaves fault some (inr t) left = inl (record {
-  plan = t.plan;
-  plan_for = t.plan_for;
+  sound = t.sound;
+  placed = t.placed;
+  begun = new;
+  planned = t.planned;
   cleared = t.cleared;
-  refused = λ is. absurd (not_done fault is);
+  refused = inr (refl, not_done fault);
   ran = record {
     count = 0;
     sets = [];
@@ -57,20 +57,25 @@ batch_failed old new blocks clears leaves fault some (inr t) left = inl (record 
     lefts = left;
     settled = refl;
     some = leaves_some fault blocks some;
-    live_is = t.live ∙ sym (append-nil (filter (stays t.plan) old.ring.live));
-    lap_is = t.numbers.lap;
+    live_is = sym (append-nil new.ring.live);
+    numbers = record { end = refl; hand = sym (no_runs new.ring.hand blocks); evict = refl; top = refl; lap = refl };
+    base = t.planned.base ∙ sym t.planned.numbers.hand;
+    logs = refl;
+    pending = t.planned.pending;
   };
 })
 
 pub batch_written : (old mid new : CursorState) (blocks : List Block) (clears settles : List Act) (u : Unit {0}) (end : FeedStop) → HasBegun old mid (batch_len blocks) clears (Ok u)
-    → HaveRun mid.ring.lap mid.ring.hand mid.ring.live new blocks settles end → IsWritten old new blocks clears settles end
+    → HaveRun mid new blocks settles end → IsWritten old new blocks clears settles end
 batch_written old mid new blocks clears settles u end (inl b) ran = let is = b.2 in cc
 batch_written old mid new blocks clears settles u end (inr t) ran = record {
-  plan = t.plan;
-  plan_for = t.plan_for;
+  sound = t.sound;
+  placed = t.placed;
+  begun = mid;
+  planned = t.planned;
   cleared = t.cleared;
-  refused = λ is. t.opened.0;
-  ran = subst (λ (x : ℕ × ℕ × List Written). HaveRun x.0 x.1 x.2 new blocks settles end) (λ i. (t.numbers.lap i, t.numbers.hand i, t.live i)) ran;
+  ran = ran;
+  refused = inl t.opened.0;
 }
 
 -- ---- what they count
@@ -79,9 +84,9 @@ pub clears_none : (old new : CursorState) (n : ℕ) (clears : List Act) (result 
 clears_none old new n clears result (inl b) = (ap picked_in b.1, ap (count_by is_placed) b.1)
 clears_none old new n clears result (inr t) = cleared-none _ clears t.cleared
 
-pub runs_none : (lap hand : ℕ) (live : List Written) (new : CursorState) (blocks : List Block) (acts : List Act) (end : FeedStop) → HaveRun lap hand live new blocks acts end → (picked_in acts ≡ []) × (count_by is_cleared acts ≡ 0)
-runs_none lap hand live new blocks acts end h =
-    let a = runs-none lap hand h.count blocks h.sets h.entries h.left h.runs in
+pub runs_none : (old new : CursorState) (blocks : List Block) (acts : List Act) (end : FeedStop) → HaveRun old new blocks acts end → (picked_in acts ≡ []) × (count_by is_cleared acts ≡ 0)
+runs_none old new blocks acts end h =
+    let a = runs-none old.ring.lap old.ring.hand h.count blocks h.sets h.entries h.left h.runs in
     let b = left-none (why_of end) h.left h.leaves h.lefts in (
       ap picked_in h.settled ∙ (picked-append h.sets h.leaves ∙ (ap (λ (l : List Key). l ++ picked_in h.leaves) a.0 ∙ b.0)),
       (let x = a.1 in let y = b.1 in let e = cleared-append h.sets h.leaves in let s = ap (count_by is_cleared) h.settled in omega arith),
@@ -107,7 +112,7 @@ none_counts act report none given taken = record {
 }
 
 pub picked_counts : (shard : ℕ) (blocks : List Block) (rest : List Act) (old mid new : FeedReport) → mid.picked ≡ old.picked + length blocks → mid.bytes ≡ old.bytes + bytes_of blocks → mid.written ≡ old.written → mid.cleared ≡ old.cleared
-    → CountsMore rest mid new → CountsMore (Picked shard (keys_of blocks) ∷ rest) old new
+    → CountsMore rest mid new → CountsMore (Picked shard blocks ∷ rest) old new
 picked_counts shard blocks rest old mid new picked bytes written cleared more = record {
   picked = (let e = length-append (keys_of blocks) (picked_in rest) in let k = length-map blocks (λ (b : Block). b.key) in let m = more.picked in let p = picked in omega arith);
   bytes = (let e = sum_by-append (λ (k : Key). k.size) (keys_of blocks) (picked_in rest) in let k = bytes_keys blocks in let m = more.bytes in let b = bytes in omega arith);

@@ -10,8 +10,8 @@ use Rattle.arc_table.specs.declared.picks.Picked.{Picked as Block}
 use Rattle.l2_ring.specs.declared.live.Live.{Live}
 use Rattle.l2_ring.specs.declared.plan.Plan.{Plan}
 use Rattle.l2_ring.specs.RangeLaws.{plans_are_one}
-use Rattle.l2_ring.specs.Ring.{IsPlanFor}
-use Rattle.l2_ring.specs.Stays.{falls, live_of}
+use Rattle.l2_ring.specs.Ring.{IsPlanFor, IsSound, numbers_of}
+use Rattle.l2_ring.specs.Stays.{AreLive, falls, live_of}
 use Rattle.l2_dev.specs.declared.fault.DevErr.{DevErr}
 use Rattle.l2_dev.specs.declared.fault.DevErr.TheVariants as err
 use Rattle.l2_dev.specs.Cursor.{CursorState}
@@ -40,7 +40,7 @@ pub record Begins (old new : CursorState) (n : ℕ) (had dropped : List Live) (r
   pub planned : (¬ IsErrOf result err.NoMemory) → HasPlanned n old new
   pub drops : (¬ IsErrOf result err.NoMemory) → (plan : Plan) × IsPlanFor old.ring n plan × (dropped ≡ had ++ map live_of (filter (falls plan) old.ring.live))
 
-module _ (old new : CursorState) (n : ℕ) (had dropped : List Live) (acts : List Act) (cleared : AreCleared (drop (length had) dropped) acts) where
+module _ (old new : CursorState) (n : ℕ) (had dropped : List Live) (acts : List Act) (sound : IsSound old.ring) (placed : AreLive (numbers_of old.ring) old.ring.live) (cleared : AreCleared (drop (length had) dropped) acts) where
   takes : (result final : Result (Unit {0}) DevErr) → ¬ IsErrOf result err.NoMemory → Begins old new n had dropped result → OnOk final (NoneRefused acts × (new.ready ≡ true)) → TakesPlan old new n acts final
   takes result final ok b opened =
       let h = b.planned ok in
@@ -48,11 +48,9 @@ module _ (old new : CursorState) (n : ℕ) (had dropped : List Live) (acts : Lis
       let same : d.0 ≡ h.plan = plans_are_one old.ring n d.0 h.plan d.1 h.plan_for in
       let whole : dropped ≡ had ++ map live_of (filter (falls h.plan) old.ring.live) = subst (λ (p : Plan). dropped ≡ had ++ map live_of (filter (falls p) old.ring.live)) same d.2 in
       record {
-        plan = h.plan;
-        plan_for = h.plan_for;
-        numbers = h.numbers;
-        live = h.live;
-        pending = h.pending;
+        sound = sound;
+        placed = placed;
+        planned = h;
         cleared = subst (λ (ls : List Live). AreCleared ls acts) (ap (λ (ls : List Live). drop (length had) ls) whole ∙ drop-append_seam had (map live_of (filter (falls h.plan) old.ring.live))) cleared;
         opened = opened;
       }

@@ -8,14 +8,14 @@ use Rattle.arc_table.specs.declared.picks.Picked.{Picked as Block}
 use Rattle.l2_ring.specs.declared.live.Live.{Live}
 use Rattle.l2_ring.specs.declared.live.Written.{Written}
 use Rattle.l2_dev.specs.declared.report.FeedReport.{FeedReport}
-use Rattle.l2_feed.specs.Acts.{Act, Absent, Cleared, Left, Picked, Placed, Refused, Unpicked}
+use Rattle.l2_feed.specs.Acts.{Act, Absent, Cleared, Left, Picked, Placed, Refused, Unpicked, keys_of}
 use Rattle.l2_log.specs.Rules.{log_len}
 use Rattle.l2_feed.specs.Runs.{AreCleared, AreLeft, AreRuns, AreSet, bytes_of, most}
 use Rattle.l2_feed.specs.Sums.{CountsMore, is_cleared, is_placed, picked_in}
 
 pub picked-append : (a b : List Act) → picked_in (a ++ b) ≡ picked_in a ++ picked_in b
 picked-append [] b = refl
-picked-append (Picked shard keys ∷ a) b = ap (λ (l : List Key). keys ++ l) (picked-append a b) ∙ sym (append_assoc keys (picked_in a) (picked_in b))
+picked-append (Picked shard blocks ∷ a) b = ap (λ (l : List Key). keys_of blocks ++ l) (picked-append a b) ∙ sym (append_assoc (keys_of blocks) (picked_in a) (picked_in b))
 picked-append (Unpicked shard ∷ a) b = picked-append a b
 picked-append (Cleared k x ∷ a) b = picked-append a b
 picked-append (Absent k x ∷ a) b = picked-append a b

@@ -9,4 +9,13 @@ pub mod Beginning
 pub mod Picked
 pub mod Batches
 pub mod Shards
+pub mod Asking
+pub mod Crashing
+pub mod Stepped
+pub mod Taking
+pub mod Keeping
+pub mod Owning
+pub mod Again
+pub mod Newest
+pub mod Telling
 pub mod Whole

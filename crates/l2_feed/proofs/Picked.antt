@@ -1,5 +1,5 @@
 -- What the feeder is once it has picked, and what it has picked.
-use Rattle.std.proofs.Common.{◌≡◌, ℕ, ◌+◌, ◌<◌, ◌≤◌, List, [], ◌∷◌, ◌++◌, refl, sym, ap, ◌∙◌, subst, arith, eq-eqb, Bool, if◌then◌else◌}
+use Rattle.std.proofs.Common.{◌≡◌, ℕ, ◌+◌, ◌<◌, ◌≤◌, List, [], ◌∷◌, ◌++◌, inl, refl, sym, ap, ◌∙◌, subst, arith, eq-eqb, Bool, if◌then◌else◌}
 use Rattle.std.specs.Prelude.{sum_by}
 use Rattle.std.proofs.lemmas.List.Sums.{sum_by-cons}
 use mathlib.Core.Logic.{dite}
@@ -32,11 +32,11 @@ use Rattle.arc_table.proofs.HandHeads.{config_then}
 use Rattle.arc_table.proofs.OwnLemmas.{made-sees}
 use Rattle.arc_table.proofs.PickLaws.{few_picks}
 use Rattle.arc_table.proofs.PicksAfter.{feeds_picks}
-use Rattle.arc_table.proofs.ReadMoments.{own-none}
 use Rattle.arc_table.proofs.Reached.{SameButNotes, loses_same, took_is}
 use Rattle.l2_feed.specs.Ready.{IsFeederReady, IsFeeding}
 use Rattle.l2_feed.specs.Runs.{AreWhole, bytes_of}
 use Rattle.l2_feed.proofs.Lists.{bytes_cons}
+use Rattle.l2_feed.proofs.Settling.{own_no_event}
 
 -- ---- the blocks
 
@@ -89,7 +89,7 @@ module _ {C : Type 0} (m : Meanings C) (cache : Cache) (shard : ℕ) (p q : Plac
   pub unpicked_ready : Feeds m g turn [] p q → IsFeederReady cache q
   unpicked_ready f =
       let s = feeds_stays m g turn [] p q f in
-      let made = feeds_made m g shard [] p q ready.on.of.config ready.on.seen f (own-none p.number) in
+      let made = feeds_made m g shard [] p q ready.on.of.config ready.on.seen f (own_no_event g p.number) in
       record {
         on = record {
           valid = ready.on.valid;
@@ -112,7 +112,7 @@ module _ {C : Type 0} (m : Meanings C) (cache : Cache) (shard : ℕ) (p q : Plac
     picked_feeding =
         let es : List Event = a.picks ++ FeedEnd p.number ∷ [] in
         let s = feeds_stays m g turn es p q a.feeds in
-        let made = picks_made m g shard p q (parties es a.feeds) ready.on.of.config ready.on.seen refl a.picks a.scan a.feeds a.others in
+        let made = picks_made m g shard p q (parties es a.feeds) ready.on.of.config ready.on.seen (inl refl) a.picks a.scan a.feeds a.others in
         record {
           on = record {
             valid = ready.on.valid;

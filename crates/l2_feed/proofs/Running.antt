@@ -9,14 +9,24 @@ use Rattle.l2_log.specs.Rules.{log_len, ring_start}
 use Rattle.l2_ring.specs.declared.live.Written.{Written}
 use Rattle.l2_ring.specs.Ring.{IsRoom, IsSound, RingState}
 use Rattle.l2_feed.specs.Acts.{Act}
-use Rattle.l2_feed.specs.Runs.{AreRuns, AreSet, AreWhole, batch_len, bytes_of, most, row_of}
-use Rattle.l2_feed.proofs.Lists.{bytes_cons, formed_is}
+use Rattle.l2_feed.specs.Runs.{AreRuns, AreSet, AreWhole, batch_len, bytes_of, most, row_of, run_place}
+use Rattle.l2_feed.proofs.Lists.{bytes_cons, bytes_split, formed_is}
 
 module _ {X : Type 0} where
   pub drop_more : (n m : ℕ) (xs : List X) → drop m (drop n xs) ≡ drop (n + m) xs
   drop_more zero m xs = ap (λ (k : ℕ). drop k xs) (let e : m ≡ 0 + m = omega arith in e)
   drop_more (suc n) m [] = drop-nil m ∙ sym (drop-nil (suc n + m))
   drop_more (suc n) m (x ∷ xs) = drop_more n m xs ∙ ap (λ (k : ℕ). drop k (x ∷ xs)) (let e : suc (n + m) ≡ suc n + m = omega arith in e)
+
+-- ---- where the runs lie
+
+-- the first run lies at the hand
+pub no_runs : (hand : ℕ) (bs : List Block) → run_place hand 0 bs ≡ hand
+no_runs hand bs = omega arith
+
+-- what is behind so many runs, and what is before it, is all
+pub runs_behind : (hand count : ℕ) (bs : List Block) → run_place hand count bs + bytes_of (drop (count * most) bs) ≡ hand + (bytes_of bs + log_len * count)
+runs_behind hand count bs = let e = bytes_split (count * most) bs in omega arith
 
 -- ---- one run
 

@@ -1,14 +1,17 @@
 -- What the feeder lists as picked, as keys are settled one after another and places are taken.
-use Rattle.std.proofs.Common.{◌≡◌, ℕ, Bool, true, false, IsTrue, List, [], ◌∷◌, is_some, refl, sym, ap, ◌∙◌, subst}
+use Rattle.std.proofs.Common.{◌≡◌, ℕ, Bool, true, false, IsTrue, List, [], ◌∷◌, inl, is_some, refl, sym, ap, ◌∙◌, subst}
+use mathlib.Core.Option.{some-ne-none}
 use Rattle.blk_ptr.specs.declared.key.Key.{Key}
 use Rattle.blk_ptr.specs.Order.{key_eq}
 use Rattle.blk_ptr.proofs.Keys.{key_eq-same}
 use Rattle.arc_core.specs.declared.config.Config.{Config}
 use Rattle.arc_core.specs.declared.entry.Picked.{Picked as Pick_of}
+use Rattle.arc_core.specs.declared.event.Event.{Event}
 use Rattle.arc_core.specs.declared.event.Event.TheVariants as event
 use Rattle.arc_core.specs.declared.event.Why.{Why}
 use Rattle.arc_core.specs.declared.event.Why.TheVariants as why
 use Rattle.arc_core.specs.Changes.{pick_of, without_pick}
+use Rattle.arc_core.specs.Operations.{is_pass, number_of}
 use Rattle.turn_table.specs.Places.{Place}
 use Rattle.arc_table.specs.declared.feeds.Cleared.{Cleared}
 use Rattle.arc_table.specs.declared.feeds.Cleared.TheVariants as cleared
@@ -17,14 +20,23 @@ use Rattle.arc_table.specs.declared.view.Known.{Known}
 use Rattle.arc_table.specs.Both.{Does}
 use Rattle.arc_table.specs.Cache.{Cache}
 use Rattle.arc_table.specs.Feeding.{AnswersClear, AnswersSet, IsPicked, Leaves}
-use Rattle.arc_table.specs.Geometry.{shard_turn}
+use Rattle.arc_table.specs.Geometry.{parties_of, shard_turn}
 use Rattle.arc_table.specs.Items.{Meanings}
 use Rattle.arc_table.specs.Listing.{PicksAre, picks_of}
+use Rattle.arc_table.specs.Seen.{AreOwnBy, IsNumberOrCell}
 use Rattle.arc_table.specs.Picking.{ArePicksOf}
 use Rattle.arc_table.proofs.PicksAfter.{clear_picks, leave_picks, same_picks, set_picks}
-use Rattle.arc_table.proofs.ReadMoments.{own-none, own-single}
+use Rattle.arc_table.proofs.ReadMoments.{own-single-by}
 use Rattle.l2_feed.specs.Ready.{IsFeederOn, IsFeeding}
 use Rattle.l2_feed.proofs.Acted.{does_on, feeder_of}
+
+-- ---- whose events they are
+
+pub own_event : (g : Config) (n : ℕ) (e : Event) → number_of e ≡ n → is_pass e ≡ false → AreOwnBy (IsNumberOrCell g) (parties_of g) n (e ∷ [])
+own_event g n e number pass = own-single-by (IsNumberOrCell g) n e (inl number) pass
+
+pub own_no_event : (g : Config) (n : ℕ) → AreOwnBy (IsNumberOrCell g) (parties_of g) n []
+own_no_event g n z e at = absurd (some-ne-none e (sym at))
 
 -- ---- the first of the picks
 
@@ -63,15 +75,15 @@ module _ {C : Type 0} (cache : Cache) (turn : ℕ) (b : Block) (bs : List Block)
 module _ {C : Type 0} (m : Meanings C) (cache : Cache) (turn : ℕ) (b : Block) (bs : List Block) (p q : Place (Known C)) (f : IsFeeding cache turn (b ∷ bs) p) where
   pub left_one : (reason : Why) → Leaves m cache.config b.key reason p q → IsFeeding cache turn bs q
   left_one reason l = settled_one cache turn b bs p f q
-      (does_on m cache b.key (event.Leave p.number b.key l.0 ∷ []) p q f.on (own-single p.number (event.Leave p.number b.key l.0) refl refl) l.2)
+      (does_on m cache b.key (event.Leave p.number b.key l.0 ∷ []) p q f.on (own_event cache.config p.number (event.Leave p.number b.key l.0) refl refl) l.2)
       (leave_picks m cache.config b.key p q (feeder_of cache p f.on) reason l)
 
   pub set_one : (place : ℕ) (result : Bool) → AnswersSet m cache.config b.key place p q result → IsFeeding cache turn bs q
   set_one place true d = settled_one cache turn b bs p f q
-      (does_on m cache b.key (event.Set p.number b.key place ∷ []) p q f.on (own-single p.number (event.Set p.number b.key place) refl refl) d)
+      (does_on m cache b.key (event.Set p.number b.key place ∷ []) p q f.on (own_event cache.config p.number (event.Set p.number b.key place) refl refl) d)
       (set_picks m cache.config b.key p q (feeder_of cache p f.on) place true d)
   set_one place false d = settled_one cache turn b bs p f q
-      (does_on m cache b.key (event.Leave p.number b.key why.Gone ∷ []) p q f.on (own-single p.number (event.Leave p.number b.key why.Gone) refl refl) d)
+      (does_on m cache b.key (event.Leave p.number b.key why.Gone ∷ []) p q f.on (own_event cache.config p.number (event.Leave p.number b.key why.Gone) refl refl) d)
       (set_picks m cache.config b.key p q (feeder_of cache p f.on) place false d)
 
 -- ---- one place taken
@@ -86,10 +98,10 @@ module _ {C : Type 0} (cache : Cache) (p q : Place (Known C)) where
 
 module _ {C : Type 0} (m : Meanings C) (cache : Cache) (k : Key) (p q : Place (Known C)) (on : IsFeederOn cache p) where
   pub kept_none : Does m cache.config k [] p q → IsFeederOn cache q
-  kept_none d = does_on m cache k [] p q on (own-none p.number) d
+  kept_none d = does_on m cache k [] p q on (own_no_event cache.config p.number) d
 
   pub kept_clear : (place : ℕ) (result : Cleared) → AnswersClear m cache.config k place p q result → IsFeederOn cache q
-  kept_clear place (cleared.Done) d = does_on m cache k (event.Clear p.number k ∷ []) p q on (own-single p.number (event.Clear p.number k) refl refl) d.0
+  kept_clear place (cleared.Done) d = does_on m cache k (event.Clear p.number k ∷ []) p q on (own_event cache.config p.number (event.Clear p.number k) refl refl) d.0
   kept_clear place (cleared.Not front) d = kept_none d.0
 
   pub none_feeding : Does m cache.config k [] p q → (turn : ℕ) (bs : List Block) → IsFeeding cache turn bs p → IsFeeding cache turn bs q

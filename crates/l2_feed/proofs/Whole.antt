@@ -1,6 +1,7 @@
 -- What one feed did, put together.
-use Rattle.std.proofs.Common.{◌≡◌, List, ◌++◌, length, ap, ◌∙◌, arith, length-append}
-use Rattle.std.specs.Prelude.{sum_by}
+use Rattle.std.proofs.Common.{◌≡◌, ◌⊎◌, ℕ, ◌+◌, ◌<◌, ◌≤◌, List, ◌++◌, length, inl, inr, refl, ap, ◌∙◌, subst, arith, length-append}
+use Rattle.std.proofs.lemmas.Bool.{cases_lt}
+use Rattle.std.specs.Prelude.{IsErrOf, Err, sum_by}
 use Rattle.std.proofs.lemmas.List.Sums.{sum_by-append}
 use Rattle.blk_ptr.specs.declared.key.Key.{Key}
 use Rattle.turn_table.specs.Places.{Place}
@@ -8,12 +9,28 @@ use Rattle.arc_table.specs.declared.view.Known.{Known}
 use Rattle.arc_table.specs.Cache.{Cache}
 use Rattle.arc_table.specs.Items.{Meanings}
 use Rattle.l2_dev.specs.declared.report.FeedReport.{FeedReport}
+use Rattle.vdev_io.specs.Faults.{Rose}
+use Rattle.l2_dev.specs.declared.fault.DevErr.{DevErr}
+use Rattle.l2_dev.specs.declared.fault.DevErr.TheVariants as err
+use Rattle.l2_dev.specs.declared.report.FeedStop.{FeedStop}
+use Rattle.l2_dev.specs.declared.report.FeedStop.TheVariants as stop
 use Rattle.l2_dev.specs.Cursor.{CursorState}
+use Rattle.l2_ring.specs.declared.plan.Plan.{Plan}
+use Rattle.l2_ring.specs.Ring.{IsPlanFor, last_lap}
 use Rattle.l2_feed.specs.Acts.{Act, DoesActs}
 use Rattle.l2_feed.specs.Fed.{HasFed}
 use Rattle.l2_feed.specs.Ready.{IsFeederReady}
-use Rattle.l2_feed.specs.Shape.{AreFed}
+use Rattle.l2_feed.specs.Runs.{batch_len}
+use Rattle.l2_feed.specs.Shape.{AreFed, FedShard, IsUnwritten, IsWritten, stop_of}
 use Rattle.l2_feed.specs.Sums.{CountsMore, IsSummary, picked_in}
+use Rattle.l2_feed.proofs.Again.{fed_again}
+use Rattle.l2_feed.proofs.Keeping.{fed_kept}
+use Rattle.l2_feed.proofs.Newest.{fed_newest}
+use Rattle.l2_feed.proofs.Owning.{fed_owns}
+use Rattle.l2_feed.proofs.Stepped.{Knows}
+use Rattle.l2_feed.proofs.Taking.{acts_stay}
+use Rattle.l2_feed.proofs.Telling.{acts_told}
+use Rattle.arc_table.proofs.Afterwards.{Stays}
 use Rattle.l2_feed.proofs.Counting.{cleared-append, picked-append, placed-append}
 
 pub sums_more : (acts more : List Act) (old new : FeedReport) → IsSummary acts old → CountsMore more old new → IsSummary (acts ++ more) new
@@ -30,9 +47,39 @@ sums_same acts old new was picked bytes written cleared = record { picked = pick
 pub has_fed : {C : Type 0} (m : Meanings C) (cache : Cache) (old new : CursorState) (acts : List Act) (p q : Place (Known C)) (report : FeedReport) → IsFeederReady cache p → DoesActs m cache.config acts p q
     → AreFed 0 cache.config.shards old new acts report.end → IsSummary acts report → HasFed m cache.config old new p q report
 has_fed m cache old new acts p q report ready did fed sums =
+    let knows : Knows cache.config p = record { valid = ready.on.valid; config = ready.on.of.config; feeder = ready.on.feeder; seen = ready.on.seen } in
+    let stays : Stays p q = acts_stay m cache.config acts p q knows did in
     record {
       acts = acts;
       did = did;
+      told = acts_told m cache.config acts p q knows did;
+      held = stays.held;
+      joined = stays.joined;
       fed = fed;
       sums = sums;
+      kept = fed_kept m cache.config 0 cache.config.shards old new acts report.end p q knows did fed;
+      newest = fed_newest m cache.config 0 cache.config.shards old new acts report.end p q knows did fed;
+      own = (fed_owns m cache.config 0 cache.config.shards old new acts report.end p q knows did fed).1;
+      again = fed_again m cache.config 0 cache.config.shards old new acts report.end p q knows did fed;
     }
+
+-- the lap stood below its last value before, where it does so afterwards
+pub lap_before : (shard : ℕ) (old new : CursorState) (acts : List Act) (end : FeedStop) → FedShard shard old new acts end → new.ring.lap < last_lap → old.ring.lap < last_lap
+lap_before shard old new acts end (inl f) below = subst (λ (c : CursorState). c.ring.lap < last_lap) f.1 below
+lap_before shard old new acts end (inr (inl f)) below = subst (λ (c : CursorState). c.ring.lap < last_lap) f.1 below
+lap_before shard old new acts end (inr (inr f)) below = go f.written
+  where
+    plan_lap : (plan : Plan) → IsPlanFor old.ring (batch_len f.blocks) plan → plan.lap < last_lap → old.ring.lap < last_lap
+    plan_lap plan is less = elim (cases_lt old.ring.end (old.ring.hand + batch_len f.blocks)) [
+      | inl far ↦ let e = ap (λ (x : Plan). x.lap) (is.wrapped far) in omega arith
+      | inr near ↦ let e = ap (λ (x : Plan). x.lap) (is.straight near) in omega arith
+    ]
+
+    go : IsWritten old new f.blocks f.clears f.settles end ⊎ IsUnwritten old new f.blocks f.clears f.settles end → old.ring.lap < last_lap
+    go (inl w) = plan_lap w.planned.plan w.planned.plan_for (let a = w.planned.numbers.lap in let b = w.ran.numbers.lap in omega arith)
+    go (inr u) = subst (λ (c : CursorState). c.ring.lap < last_lap) u.same below
+
+-- a fault of the device that ends a feed rose in it
+pub fault_rose : (fault : DevErr) (a b c : ℕ) → a ≤ b → (IsErrOf {T = Unit {0}} (Err fault) err.DevFault → Rose b c) → stop_of fault ≡ stop.DevFault → Rose a c
+fault_rose err.DevFault a b c less rose is = let r = rose refl in omega arith
+fault_rose err.NoMemory a b c less rose is = cc

@@ -1,7 +1,7 @@
 -- What is so as the blocks of a run are put, and as run after run is written and set.
-use Rattle.std.proofs.Common.{◌≡◌, ℕ, zero, suc, ◌+◌, ◌*◌, ◌<◌, ◌≤◌, true, List, [], ◌∷◌, ◌++◌, length, get_or, drop, take, map, Some, refl, sym, ap, ◌∙◌, subst, arith, append_assoc, append-nil}
+use Rattle.std.proofs.Common.{◌≡◌, ℕ, zero, suc, ◌+◌, ◌*◌, ◌<◌, ◌≤◌, true, List, [], ◌∷◌, ◌++◌, length, get_or, drop, take, map, Option, Some, refl, sym, ap, ◌∙◌, subst, arith, add-one, append_assoc, append-nil}
 use Rattle.std.specs.Prelude.{count_by}
-use Rattle.std.proofs.lemmas.List.{length-drop, map-append, take-append-drop}
+use Rattle.std.proofs.lemmas.List.{length-drop, length-map, map-append, take-append-drop}
 use Rattle.blk_ptr.specs.Ptr.{sha256_of}
 use Rattle.turn_table.specs.Places.{Place}
 use Rattle.arc_table.specs.declared.picks.Picked.{Picked as Block}
@@ -10,23 +10,26 @@ use Rattle.arc_table.specs.Cache.{Cache}
 use Rattle.arc_table.specs.Items.{Meanings}
 use Rattle.l2_log.specs.Rules.{log_len}
 use Rattle.l2_log.specs.declared.entry.Entry.{Entry}
+use Rattle.l2_log.specs.declared.log_block.LogBlock.{LogBlock}
 use Rattle.l2_log.specs.declared.pointer.LogPtr.{LogPtr}
 use Rattle.l2_ring.specs.declared.live.Written.{Written}
+use Rattle.l2_ring.specs.Ring.{HasPlan, numbers_of, with_hand}
 use Rattle.l2_dev.specs.declared.fault.DevErr.{DevErr}
 use Rattle.l2_dev.specs.declared.fault.DevErr.TheVariants as err
 use Rattle.l2_dev.specs.declared.report.FeedStop.TheVariants as stop
+use Rattle.l2_dev.specs.Calls.{HasCommitWritten}
 use Rattle.l2_dev.specs.Cursor.{CursorState}
-use Rattle.l2_dev.specs.Planned.{HasPushed, HasSettled, IsForgotten}
+use Rattle.l2_dev.specs.Planned.{HasPushed, HasSettled, IsBlockOf, IsForgotten}
 use Rattle.l2_dev.specs.Restoring.{written_in}
 use Rattle.l2_feed.specs.Acts.{Act, DoesActs}
 use Rattle.l2_feed.specs.Ready.{IsFeeding}
-use Rattle.l2_feed.specs.Runs.{AreLeft, AreRuns, AreSet, AreWhole, HasLost, HasPut, HasWritten, bytes_of, most, row_of, runs_of}
+use Rattle.l2_feed.specs.Runs.{AreLeft, AreLogs, AreRuns, AreSet, AreWhole, HasPut, HasWritten, IsLogOf, bytes_of, most, row_of, run_place, runs_of}
 use Rattle.l2_feed.specs.Shape.{HaveRun, LeavesSome, stop_of, why_of}
 use Rattle.l2_feed.specs.Sums.{is_placed}
 use Rattle.l2_feed.proofs.Acted.{acts_append}
 use Rattle.l2_feed.proofs.Counting.{left-none, placed-append}
 use Rattle.l2_feed.proofs.Lists.{bytes_cons, bytes_split, drop_one}
-use Rattle.l2_feed.proofs.Running.{drop_more, runs_step}
+use Rattle.l2_feed.proofs.Running.{drop_more, no_runs, runs_behind, runs_step}
 
 -- ---- the blocks of one run
 
@@ -37,8 +40,12 @@ length-last (y ∷ xs) x = let e = length-last xs x in omega arith
 pub record PutSo (run : List Block) (i : ℕ) (old now : CursorState) : Type 0 where
   pub end : now.ring.end ≡ old.ring.end
   pub evict : now.ring.evict ≡ old.ring.evict
+  pub top : now.ring.top ≡ old.ring.top
   pub lap : now.ring.lap ≡ old.ring.lap
   pub live : now.ring.live ≡ old.ring.live
+  pub base : now.base ≡ old.base
+  pub newest : now.newest ≡ old.newest
+  pub second : now.second ≡ old.second
   pub ready : now.ready ≡ true
   pub hand : now.ring.hand + bytes_of (drop i run) ≡ old.ring.hand + bytes_of run
   pub many : length now.pending ≡ i
@@ -49,8 +56,12 @@ pub put_start : (run : List Block) (old : CursorState) → old.ready ≡ true �
 put_start run old ready none whole = record {
   end = refl;
   evict = refl;
+  top = refl;
   lap = refl;
   live = refl;
+  base = refl;
+  newest = refl;
+  second = refl;
   ready = ready;
   hand = refl;
   many = ap length none;
@@ -81,8 +92,12 @@ module _ (run : List Block) (i : ℕ) (d : Block) (old now : CursorState) (below
       record {
         end = pushed.end ∙ so.end;
         evict = pushed.evict ∙ so.evict;
+        top = pushed.top ∙ so.top;
         lap = pushed.lap ∙ so.lap;
         live = pushed.live ∙ so.live;
+        base = pushed.base ∙ so.base;
+        newest = pushed.newest ∙ so.newest;
+        second = pushed.second ∙ so.second;
         ready = pushed.ready ∙ so.ready;
         hand = (let e = next_room in omega arith);
         many = (let e = ap length pushed.pending in let m = so.many in let l = length-last now.pending entry in omega arith);
@@ -95,32 +110,89 @@ module _ (run : List Block) (i : ℕ) (d : Block) (old now : CursorState) (below
             ∙ (ap (λ (bs : List Block). map (written_in lap) now.pending ++ row_of lap now.ring.hand bs) (sym next) ∙ so.pending))));
       }
 
+length_row : (lap place : ℕ) (bs : List Block) → length (row_of lap place bs) ≡ length bs
+length_row lap place [] = refl
+length_row lap place (b ∷ bs) = let e = length_row lap (place + b.key.size) bs in omega arith
+
 pub put_end : (run : List Block) (i : ℕ) (old now : CursorState) → drop i run ≡ [] → PutSo run i old now → HasPut run old now
-put_end run i old now none so = record {
-  end = so.end;
-  evict = so.evict;
-  lap = so.lap;
-  hand = (let e = ap bytes_of none in let h = so.hand in omega arith);
-  live = so.live;
-  pending =
-      sym (append-nil (map (written_in old.ring.lap) now.pending))
-      ∙ (ap (λ (bs : List Block). map (written_in old.ring.lap) now.pending ++ row_of old.ring.lap now.ring.hand bs) (sym none) ∙ so.pending);
-  ready = so.ready;
+put_end run i old now none so =
+    let told : map (written_in old.ring.lap) now.pending ≡ row_of old.ring.lap old.ring.hand run =
+    sym (append-nil (map (written_in old.ring.lap) now.pending))
+    ∙ (ap (λ (bs : List Block). map (written_in old.ring.lap) now.pending ++ row_of old.ring.lap now.ring.hand bs) (sym none) ∙ so.pending) in
+    record {
+      end = so.end;
+      evict = so.evict;
+      top = so.top;
+      lap = so.lap;
+      hand = (let e = ap bytes_of none in let h = so.hand in omega arith);
+      live = so.live;
+      base = so.base;
+      newest = so.newest;
+      second = so.second;
+      many = sym (length-map now.pending (written_in old.ring.lap)) ∙ (ap length told ∙ length_row old.ring.lap old.ring.hand run);
+      pending = told;
+      ready = so.ready;
+    }
+
+-- what is forgotten of a run is forgotten of the cursor before it
+pub put_lost : (run : List Block) (i : ℕ) (old now new : CursorState) → PutSo run i old now → IsForgotten now new → IsForgotten old new
+put_lost run i old now new so f = record {
+  pending = f.pending;
+  hand = f.hand ∙ so.base;
+  end = f.end ∙ so.end;
+  evict = f.evict ∙ so.evict;
+  top = f.top ∙ so.top;
+  lap = f.lap ∙ so.lap;
+  live = f.live ∙ so.live;
+  base = f.base ∙ so.base;
+  newest = f.newest ∙ so.newest;
+  second = f.second ∙ so.second;
+  ready = f.ready;
 }
 
-pub put_lost : (run : List Block) (i : ℕ) (old now new : CursorState) → PutSo run i old now → IsForgotten now new → HasLost old new
-put_lost run i old now new so f = record { end = f.end ∙ so.end; lap = f.lap ∙ so.lap; live = f.live ∙ so.live; pending = f.pending }
+pub commit_lost : (run : List Block) (old now new : CursorState) → HasPut run old now → IsForgotten now new → IsForgotten old new
+commit_lost run old now new so f = record {
+  pending = f.pending;
+  hand = f.hand ∙ so.base;
+  end = f.end ∙ so.end;
+  evict = f.evict ∙ so.evict;
+  top = f.top ∙ so.top;
+  lap = f.lap ∙ so.lap;
+  live = f.live ∙ so.live;
+  base = f.base ∙ so.base;
+  newest = f.newest ∙ so.newest;
+  second = f.second ∙ so.second;
+  ready = f.ready;
+}
 
-pub commit_lost : (run : List Block) (old now new : CursorState) → HasPut run old now → IsForgotten now new → HasLost old new
-commit_lost run old now new so f = record { end = f.end ∙ so.end; lap = f.lap ∙ so.lap; live = f.live ∙ so.live; pending = f.pending }
+-- the log block of a commit is that of the run
+log_is : (run : List Block) (old now : CursorState) (bytes : List ℕ) (ptr : LogPtr) (block : LogBlock) → HasPut run old now → IsBlockOf now bytes ptr block → IsLogOf old.ring.lap old.ring.hand old.second run ptr
+log_is run old now bytes ptr block so b = record {
+  bytes = bytes;
+  block = block;
+  written = b.bytes_of;
+  version = b.version;
+  lap = b.lap ∙ so.lap;
+  prev = b.prev ∙ so.second;
+  entries = ap (map (written_in old.ring.lap)) b.entries ∙ so.pending;
+  place = b.place ∙ so.hand;
+  count = b.count ∙ so.many;
+  digest = b.digest;
+}
 
-pub committed : (run : List Block) (old now new : CursorState) (ptr : LogPtr) → HasPut run old now → HasSettled ptr now new → HasWritten run old new
-committed run old now new ptr so s = record {
+pub committed : (run : List Block) (old now new : CursorState) (ptr : LogPtr) (before told : Option (List ℕ)) → HasPut run old now → HasSettled ptr now new → HasCommitWritten before told now ptr → HasWritten run old new
+committed run old now new ptr before told so s w = record {
   end = s.end ∙ so.end;
   evict = s.evict ∙ so.evict;
+  top = s.top ∙ so.top;
   lap = s.lap ∙ so.lap;
   hand = (let h = s.hand in let g = so.hand in omega arith);
   live = s.live ∙ (λ z. so.live z ++ (ap (λ (n : ℕ). map (written_in n) now.pending) so.lap ∙ so.pending) z);
+  base = s.base;
+  ptr = ptr;
+  log = log_is run old now w.0 ptr w.1 so w.4;
+  newest = s.newest;
+  second = s.second ∙ so.newest;
   pending = s.pending;
   ready = s.ready ∙ so.ready;
 }
@@ -153,12 +225,19 @@ pub leaves_some : (fault : DevErr) (left : List Block) → 0 < length left → L
 leaves_some err.DevFault left some = some
 leaves_some err.NoMemory left some = some
 
+add-zero : (n : ℕ) → n ≡ n + 0
+add-zero n = omega arith
+
 module _ {C : Type 0} (m : Meanings C) (cache : Cache) where
   pub record RunsSo (blocks : List Block) (i written now : ℕ) (old new : CursorState) (p q : Place (Known C)) : Type 0 where
     pub feeding : (turn : ℕ) → IsFeeding cache turn blocks p → IsFeeding cache turn (drop (i * most) blocks) q
     pub end : new.ring.end ≡ old.ring.end
     pub evict : new.ring.evict ≡ old.ring.evict
+    pub top : new.ring.top ≡ old.ring.top
     pub lap : new.ring.lap ≡ old.ring.lap
+    pub hand : new.ring.hand ≡ run_place old.ring.hand i blocks
+    pub base : new.base ≡ new.ring.hand
+    pub logs : AreLogs old.ring.lap old.ring.hand blocks i (old.newest, old.second) (new.newest, new.second)
     pub pending : new.pending ≡ []
     pub ready : new.ready ≡ true
     pub whole : AreWhole (drop (i * most) blocks)
@@ -168,13 +247,17 @@ module _ {C : Type 0} (m : Meanings C) (cache : Cache) where
         × ((n : ℕ) (more : List Act) (behind : List Written) (left : List Block) → AreRuns old.ring.lap new.ring.hand n (drop (i * most) blocks) more behind left
         → AreRuns old.ring.lap old.ring.hand (i + n) blocks (acts ++ more) (entries ++ behind) left)
 
-  pub runs_start : (blocks : List Block) (written : ℕ) (old : CursorState) (p : Place (Known C)) → old.pending ≡ [] → old.ready ≡ true → AreWhole blocks
+  pub runs_start : (blocks : List Block) (written : ℕ) (old : CursorState) (p : Place (Known C)) → old.base ≡ old.ring.hand → old.pending ≡ [] → old.ready ≡ true → AreWhole blocks
       → old.ring.hand + (bytes_of blocks + log_len * runs_of (length blocks)) ≤ old.ring.evict → RunsSo blocks 0 written written old old p p
-  runs_start blocks written old p pending ready whole room = record {
+  runs_start blocks written old p base pending ready whole room = record {
     feeding = λ turn f. f;
     end = refl;
     evict = refl;
+    top = refl;
     lap = refl;
+    hand = sym (no_runs old.ring.hand blocks);
+    base = base;
+    logs = refl;
     pending = pending;
     ready = ready;
     whole = whole;
@@ -232,7 +315,17 @@ module _ {C : Type 0} (m : Meanings C) (cache : Cache) where
           feeding = λ turn f. subst (λ (bs : List Block). IsFeeding cache turn bs q) beyond (feeds turn (drop most rest) (subst (λ (bs : List Block). IsFeeding cache turn bs r) (sym (take-append-drop most rest)) (so.feeding turn f)));
           end = wrote.end ∙ so.end;
           evict = wrote.evict ∙ so.evict;
+          top = wrote.top ∙ so.top;
           lap = wrote.lap ∙ so.lap;
+          hand = (let a = runs_behind old.ring.hand i blocks in let b = runs_behind old.ring.hand (i + 1) blocks in let e = bytes_split most rest in let f = ap bytes_of beyond in let h = so.hand in let w = wrote.hand in omega arith);
+          base = wrote.base;
+          logs = subst (λ (n : ℕ). AreLogs old.ring.lap old.ring.hand blocks n (old.newest, old.second) (new.newest, new.second)) (sym (add-one i)) (
+            (mid.newest, mid.second),
+            wrote.ptr,
+            so.logs,
+            subst (λ (x : ℕ × ℕ). IsLogOf x.0 x.1 mid.second run wrote.ptr) (λ z. (so.lap z, so.hand z)) wrote.log,
+            (λ z. (wrote.newest z, wrote.second z)),
+          );
           pending = wrote.pending;
           ready = wrote.ready;
           whole = subst AreWhole beyond (whole_behind most rest so.whole);
@@ -255,8 +348,8 @@ module _ {C : Type 0} (m : Meanings C) (cache : Cache) where
         }
 
     -- where the run is lost, it and all behind it are left
-    pub runs_stop : (new : CursorState) (q : Place (Known C)) (fault : DevErr) (leaves : List Act) → HasLost mid new → DoesActs m cache.config leaves r q → AreLeft (why_of (stop_of fault)) rest leaves
-        → (acts : List Act) × DoesActs m cache.config acts p q × (now ≡ written + count_by is_placed acts) × HaveRun old.ring.lap old.ring.hand old.ring.live new blocks acts (stop_of fault)
+    pub runs_stop : (new : CursorState) (q : Place (Known C)) (fault : DevErr) (leaves : List Act) → IsForgotten mid new → DoesActs m cache.config leaves r q → AreLeft (why_of (stop_of fault)) rest leaves
+        → (acts : List Act) × DoesActs m cache.config acts p q × (now ≡ written + count_by is_placed acts) × HaveRun old new blocks acts (stop_of fault)
     runs_stop new q fault leaves lost did left =
         let acts = so.did.0 in
         let entries = so.did.1 in (
@@ -274,13 +367,23 @@ module _ {C : Type 0} (m : Meanings C) (cache : Cache) where
             settled = ap (λ (l : List Act). l ++ leaves) (sym (append-nil acts));
             some = leaves_some fault rest rest_some;
             live_is = lost.live ∙ (so.did.4 ∙ ap (λ (ws : List Written). old.ring.live ++ ws) (sym (append-nil entries)));
-            lap_is = lost.lap ∙ so.lap;
+            numbers = subst (λ (n : ℕ). HasPlan (with_hand (numbers_of old.ring) (run_place old.ring.hand n blocks)) old.ring new.ring) (add-zero i) (record {
+              end = lost.end ∙ so.end;
+              hand = lost.hand ∙ (so.base ∙ so.hand);
+              evict = lost.evict ∙ so.evict;
+              top = lost.top ∙ so.top;
+              lap = lost.lap ∙ so.lap;
+            });
+            base = lost.base ∙ sym lost.hand;
+            logs = subst (λ (n : ℕ). AreLogs old.ring.lap old.ring.hand blocks n (old.newest, old.second) (new.newest, new.second)) (add-zero i)
+                (subst (λ (x : Option LogPtr × Option LogPtr). AreLogs old.ring.lap old.ring.hand blocks i (old.newest, old.second) x) (λ z. (sym lost.newest z, sym lost.second z)) so.logs);
+            pending = lost.pending;
           },
         )
 
   -- all runs were written
   pub runs_end : (blocks : List Block) (i written now : ℕ) (old new : CursorState) (p q : Place (Known C)) → drop (i * most) blocks ≡ [] → RunsSo blocks i written now old new p q
-      → (acts : List Act) × DoesActs m cache.config acts p q × (now ≡ written + count_by is_placed acts) × HaveRun old.ring.lap old.ring.hand old.ring.live new blocks acts stop.Done
+      → (acts : List Act) × DoesActs m cache.config acts p q × (now ≡ written + count_by is_placed acts) × HaveRun old new blocks acts stop.Done
   runs_end blocks i written now old new p q none so =
       let acts = so.did.0 in
       let entries = so.did.1 in (
@@ -298,6 +401,9 @@ module _ {C : Type 0} (m : Meanings C) (cache : Cache) where
           settled = sym (append-nil (acts ++ []) ∙ append-nil acts);
           some = refl;
           live_is = so.did.4 ∙ ap (λ (ws : List Written). old.ring.live ++ ws) (sym (append-nil entries));
-          lap_is = so.lap;
+          numbers = subst (λ (n : ℕ). HasPlan (with_hand (numbers_of old.ring) (run_place old.ring.hand n blocks)) old.ring new.ring) (add-zero i) (record { end = so.end; hand = so.hand; evict = so.evict; top = so.top; lap = so.lap });
+          base = so.base;
+          logs = subst (λ (n : ℕ). AreLogs old.ring.lap old.ring.hand blocks n (old.newest, old.second) (new.newest, new.second)) (add-zero i) so.logs;
+          pending = so.pending;
         },
       )

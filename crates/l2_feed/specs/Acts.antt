@@ -15,8 +15,8 @@ use Rattle.arc_table.specs.Items.{Meanings}
 use Rattle.arc_table.specs.Picking.{Feeds, PicksAll, nth_shard_turn}
 
 pub data Act : Type 0 where
-  -- these keys of the shard were picked, one after another, until there was none to pick: the feed's picks and its end there
-  Picked : (shard : ℕ) → List Key → Act
+  -- these blocks of the shard were picked, one after another, until there was none to pick: the feed's picks and its end there
+  Picked : (shard : ℕ) → List Block → Act
   -- memory was refused for picking, and nothing was picked
   Unpicked : (shard : ℕ) → Act
   -- the key had this place on the device, and lost it
@@ -37,7 +37,7 @@ keys_of blocks = map (λ b. b.key) blocks
 module _ {C : Type 0} (m : Meanings C) where
   -- the party p did this with the cache, by one call, and is q
   abbrev pub DoesAct : Config → Act → Place (Known C) → Place (Known C) → Type 0
-  DoesAct g (Picked shard keys) p q = (old : List Block) × (new : List Block) × (a : PicksAll m g (nth_shard_turn g shard) p q old new) × (keys_of a.gained ≡ keys)
+  DoesAct g (Picked shard blocks) p q = (old : List Block) × (new : List Block) × (a : PicksAll m g (nth_shard_turn g shard) p q old new) × (a.gained ≡ blocks)
   DoesAct g (Unpicked shard) p q = Feeds m g (nth_shard_turn g shard) [] p q
   DoesAct g (Cleared k place) p q = AnswersClear m g k place p q cleared.Done
   DoesAct g (Absent k place) p q = (front : Front) × AnswersClear m g k place p q (cleared.Not front)

@@ -1,5 +1,5 @@
 -- What one feed did.
-use Rattle.std.specs.Prelude.{List}
+use Rattle.std.specs.Prelude.{◌≡◌, List}
 use Rattle.arc_core.specs.declared.config.Config.{Config}
 use Rattle.turn_table.specs.Places.{Place}
 use Rattle.arc_table.specs.declared.view.Known.{Known}
@@ -7,13 +7,24 @@ use Rattle.arc_table.specs.Items.{Meanings}
 use Rattle.l2_dev.specs.declared.report.FeedReport.{FeedReport}
 use Rattle.l2_dev.specs.Cursor.{CursorState}
 use Rattle.l2_feed.specs.Acts.{Act, DoesActs}
+use Rattle.l2_feed.specs.Places.{GivesAgain, KeepsNewest, KeepsPlaces, TakesOwn}
+use Rattle.l2_feed.specs.Told.{AreTold}
 use Rattle.l2_feed.specs.Shape.{AreFed}
 use Rattle.l2_feed.specs.Sums.{IsSummary}
 
 -- The party p did these acts, one after another, and is q; the device had the one cursor, and has the other. The acts are those of shard by shard, up
--- to the one where the feed ended, and the report is theirs.
+-- to the one where the feed ended, and the report is theirs. They stand in what the party has seen of the shards; it holds the turns that it held, and
+-- keeps the parties that it joined. A place that the feed found or gave, and that the key has, is live for it still, and is the newest one still where
+-- it was. None was taken but such, and one that was taken is live again only behind a new pick.
 pub record HasFed {C : Type 0} (m : Meanings C) (g : Config) (old new : CursorState) (p q : Place (Known C)) (report : FeedReport) : Type 0 where
   pub acts : List Act
   pub did : DoesActs m g acts p q
+  pub told : AreTold g acts p q
+  pub held : q.held ≡ p.held
+  pub joined : q.joined ≡ p.joined
   pub fed : AreFed 0 g.shards old new acts report.end
   pub sums : IsSummary acts report
+  pub kept : KeepsPlaces g acts old.ring.live new.ring.live q
+  pub newest : KeepsNewest g acts old.ring.live new.ring.live q
+  pub own : TakesOwn acts old.ring.live
+  pub again : GivesAgain acts new.ring.live

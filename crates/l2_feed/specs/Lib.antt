@@ -3,4 +3,7 @@ pub mod Ready
 pub mod Runs
 pub mod Sums
 pub mod Shape
+pub mod Places
+pub mod Told
+pub mod Crashes
 pub mod Fed

@@ -10,18 +10,18 @@ use Rattle.arc_table.specs.Feeding.{IsFeeder}
 use Rattle.arc_table.specs.Listing.{picks_of}
 use Rattle.arc_table.specs.Looking.{HasNoLook}
 use Rattle.arc_table.specs.Picking.{ArePicksOf}
-use Rattle.arc_table.specs.Seen.{HasSeenItsOwn}
+use Rattle.arc_table.specs.Seen.{HasSeenBy, IsNumberOrCell}
 use Rattle.l2_log.specs.Rules.{ring_start}
 use Rattle.l2_dev.specs.Cursor.{CursorState}
 
 module _ {C : Type 0} where
-  -- the party is the feeder of the cache, has no open look, and has seen all that it made
+  -- the party is the feeder of the cache, has no open look, and has seen all that it made, under its own number or a cell's
   pub record IsFeederOn (cache : Cache) (p : Place (Known C)) : Type 0 where
     pub valid : IsConfig cache.config
     pub of : IsPartyOf cache p
     pub feeder : IsFeeder cache p
     pub look : HasNoLook cache p
-    pub seen : HasSeenItsOwn cache.config p
+    pub seen : HasSeenBy (IsNumberOrCell cache.config) cache.config p
 
   -- and has no unsettled pick
   pub record IsFeederReady (cache : Cache) (p : Place (Known C)) : Type 0 where

@@ -1,11 +1,14 @@
 -- How the picked blocks of one shard are written: in runs, each with its log block behind it, and how their keys are settled.
-use Rattle.std.specs.Prelude.{◌≡◌, ◌⊎◌, ℕ, zero, suc, ◌+◌, ◌-◌, ◌*◌, ◌/◌, ◌<◌, List, [], ◌∷◌, ◌++◌, length, map, sum_by, take, drop, true, IsTrue, Some}
+use Rattle.std.specs.Prelude.{◌≡◌, ◌⊎◌, ℕ, zero, suc, ◌+◌, ◌-◌, ◌*◌, ◌/◌, ◌<◌, List, [], ◌∷◌, ◌++◌, length, map, sum_by, take, drop, true, IsTrue, Option, Some}
 use Rattle.std.specs.List.{AllByRecursion}
 use Rattle.blk_ptr.specs.Key.{is_well_formed}
 use Rattle.blk_ptr.specs.Ptr.{sha256_of}
 use Rattle.arc_core.specs.declared.event.Why.{Why}
 use Rattle.arc_core.specs.declared.event.Why.TheVariants as why
 use Rattle.arc_table.specs.declared.picks.Picked.{Picked as Block}
+use Rattle.l2_log.specs.declared.log_block.LogBlock.{LogBlock}
+use Rattle.l2_log.specs.declared.pointer.LogPtr.{LogPtr}
+use Rattle.l2_log.specs.LogBytes.{IsLogBlock}
 use Rattle.l2_log.specs.Rules.{log_len, most_with}
 use Rattle.l2_ring.specs.declared.live.Live.{Live}
 use Rattle.l2_ring.specs.declared.live.Written.{Written}
@@ -34,6 +37,24 @@ abbrev pub row_of : (lap place : ℕ) → List Block → List Written
 row_of lap place [] = []
 row_of lap place (b ∷ bs) = record { live = record { key = b.key; place = place; digest = Some (sha256_of b.block.value) }; lap = lap } ∷ row_of lap (place + b.key.size) bs
 
+-- where the run of this number lies, if the first one lies at the hand: the runs before it are full, and each has its log block behind it
+abbrev pub run_place : (hand number : ℕ) → List Block → ℕ
+run_place hand number blocks = hand + (bytes_of (take (number * most) blocks) + log_len * number)
+
+-- the pointer to the log block of a run that lies at this place, in the lap of this number: it tells of the run's entries, stands behind them, and goes on at the log block
+-- before the last one
+pub record IsLogOf (number at : ℕ) (second : Option LogPtr) (run : List Block) (ptr : LogPtr) : Type 0 where
+  pub bytes : List ℕ
+  pub block : LogBlock
+  pub written : IsLogBlock bytes block
+  pub version : block.version ≡ 2
+  pub lap : block.lap ≡ number
+  pub prev : block.prev ≡ second
+  pub entries : map (written_in number) block.entries ≡ row_of number at run
+  pub place : ptr.place ≡ at + bytes_of run
+  pub count : ptr.count ≡ length run
+  pub digest : ptr.digest ≡ sha256_of bytes
+
 -- each block has the size of its key, whose numbers are in their ranges
 abbrev pub AreWhole : List Block → Type 0
 AreWhole = AllByRecursion (λ b. IsTrue (is_well_formed b.key) × (length b.block.value ≡ b.key.size))
@@ -42,28 +63,32 @@ AreWhole = AllByRecursion (λ b. IsTrue (is_well_formed b.key) × (length b.bloc
 pub record HasPut (run : List Block) (old new : CursorState) : Type 0 where
   pub end : new.ring.end ≡ old.ring.end
   pub evict : new.ring.evict ≡ old.ring.evict
+  pub top : new.ring.top ≡ old.ring.top
   pub lap : new.ring.lap ≡ old.ring.lap
   pub hand : new.ring.hand ≡ old.ring.hand + bytes_of run
   pub live : new.ring.live ≡ old.ring.live
+  pub base : new.base ≡ old.base
+  pub newest : new.newest ≡ old.newest
+  pub second : new.second ≡ old.second
+  pub many : length new.pending ≡ length run
   pub pending : map (written_in old.ring.lap) new.pending ≡ row_of old.ring.lap old.ring.hand run
   pub ready : new.ready ≡ true
 
--- a run was committed: its blocks lie at the hand, its log block stands behind them, and its entries are live
+-- a run was committed: its blocks lie at the hand, its log block stands behind them and is the newest one, and its entries are live
 pub record HasWritten (run : List Block) (old new : CursorState) : Type 0 where
   pub end : new.ring.end ≡ old.ring.end
   pub evict : new.ring.evict ≡ old.ring.evict
+  pub top : new.ring.top ≡ old.ring.top
   pub lap : new.ring.lap ≡ old.ring.lap
   pub hand : new.ring.hand ≡ old.ring.hand + (bytes_of run + log_len)
   pub live : new.ring.live ≡ old.ring.live ++ row_of old.ring.lap old.ring.hand run
+  pub base : new.base ≡ new.ring.hand
+  pub ptr : LogPtr
+  pub log : IsLogOf old.ring.lap old.ring.hand old.second run ptr
+  pub newest : new.newest ≡ Some ptr
+  pub second : new.second ≡ old.newest
   pub pending : new.pending ≡ []
   pub ready : new.ready ≡ true
-
--- nothing of a run counts: what is live is as before, and nothing is pending
-pub record HasLost (old new : CursorState) : Type 0 where
-  pub end : new.ring.end ≡ old.ring.end
-  pub lap : new.ring.lap ≡ old.ring.lap
-  pub live : new.ring.live ≡ old.ring.live
-  pub pending : new.pending ≡ []
 
 -- The keys of blocks that lie side by side from this place on were settled in their order: each got its own place, or was left since its entry
 -- was gone.
@@ -95,3 +120,9 @@ AreRuns lap hand (suc count) blocks acts entries left =
     let run = take most blocks in
     (0 < length blocks) × (sets : List Act) × (more : List Act) × (behind : List Written) × (acts ≡ sets ++ more) × (entries ≡ row_of lap hand run ++ behind)
     × AreSet hand run sets × AreRuns lap (hand + (bytes_of run + log_len)) count (drop most blocks) more behind left
+
+-- Each of so many runs of these blocks has its log block, whose pointer is the newest one behind it: so the two pointers went from these to those.
+abbrev pub AreLogs : (lap hand : ℕ) → List Block → (count : ℕ) → (old new : Option LogPtr × Option LogPtr) → Type 0
+AreLogs lap hand blocks zero old new = new ≡ old
+AreLogs lap hand blocks (suc count) old new = (was : Option LogPtr × Option LogPtr) × (ptr : LogPtr) × AreLogs lap hand blocks count old was
+    × IsLogOf lap (run_place hand count blocks) was.1 (take most (drop (count * most) blocks)) ptr × (new ≡ (Some ptr, was.0))

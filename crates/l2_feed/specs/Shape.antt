@@ -6,16 +6,16 @@ use Rattle.arc_core.specs.declared.event.Why.{Why}
 use Rattle.arc_core.specs.declared.event.Why.TheVariants as why
 use Rattle.arc_table.specs.declared.picks.Picked.{Picked as Block}
 use Rattle.l2_ring.specs.declared.live.Written.{Written}
-use Rattle.l2_ring.specs.declared.plan.Plan.{Plan}
-use Rattle.l2_ring.specs.Ring.{HasPlan, IsPlanFor}
-use Rattle.l2_ring.specs.Stays.{falls, live_of, stays}
+use Rattle.l2_ring.specs.Ring.{HasPlan, IsSound, numbers_of, with_hand}
+use Rattle.l2_ring.specs.Stays.{AreLive, falls, live_of}
 use Rattle.l2_dev.specs.declared.fault.DevErr.{DevErr}
 use Rattle.l2_dev.specs.declared.fault.DevErr.TheVariants as err
 use Rattle.l2_dev.specs.declared.report.FeedStop.{FeedStop}
 use Rattle.l2_dev.specs.declared.report.FeedStop.TheVariants as stop
 use Rattle.l2_dev.specs.Cursor.{CursorState}
-use Rattle.l2_feed.specs.Acts.{Act, Picked, Refused, Unpicked, keys_of}
-use Rattle.l2_feed.specs.Runs.{AreCleared, AreLeft, AreRuns, batch_len}
+use Rattle.l2_dev.specs.Planned.{HasPlanned}
+use Rattle.l2_feed.specs.Acts.{Act, Picked, Refused, Unpicked}
+use Rattle.l2_feed.specs.Runs.{AreCleared, AreLeft, AreLogs, AreRuns, batch_len, run_place}
 
 -- for which reason a key is left where a feed ends so
 abbrev pub why_of : FeedStop → Why
@@ -45,12 +45,10 @@ LeavesSome _ left = 0 < length left
 -- A plan for n bytes was begun: it was taken, and the places of what it drops were asked back; at Ok none was refused, and blocks may be put. Or
 -- memory was refused for it, and nothing has changed.
 pub record TakesPlan (old new : CursorState) (n : ℕ) (acts : List Act) (result : Result (Unit {0}) DevErr) : Type 0 where
-  pub plan : Plan
-  pub plan_for : IsPlanFor old.ring n plan
-  pub numbers : HasPlan plan old.ring new.ring
-  pub live : new.ring.live ≡ filter (stays plan) old.ring.live
-  pub pending : new.pending ≡ []
-  pub cleared : AreCleared (map live_of (filter (falls plan) old.ring.live)) acts
+  pub sound : IsSound old.ring
+  pub placed : AreLive (numbers_of old.ring) old.ring.live
+  pub planned : HasPlanned n old new
+  pub cleared : AreCleared (map live_of (filter (falls planned.plan) old.ring.live)) acts
   pub opened : OnOk result (NoneRefused acts × (new.ready ≡ true))
 
 abbrev pub HasBegun : (old new : CursorState) → ℕ → List Act → Result (Unit {0}) DevErr → Type 0
@@ -68,27 +66,33 @@ end_of (Ok u) = stop.Done
 end_of (Err fault) = stop_of fault
 
 -- So many runs of these blocks were committed and set, and the blocks that are left were left, for the reason of the end: these are the acts. What
--- is live is what was live and the entries of the runs.
-pub record HaveRun (lap hand : ℕ) (live : List Written) (new : CursorState) (blocks : List Block) (acts : List Act) (end : FeedStop) : Type 0 where
+-- is live is what was live and the entries of the runs, the hand stands behind them, and nothing else of the ring has changed.
+pub record HaveRun (old new : CursorState) (blocks : List Block) (acts : List Act) (end : FeedStop) : Type 0 where
   pub count : ℕ
   pub sets : List Act
   pub entries : List Written
   pub left : List Block
-  pub runs : AreRuns lap hand count blocks sets entries left
+  pub runs : AreRuns old.ring.lap old.ring.hand count blocks sets entries left
   pub leaves : List Act
   pub lefts : AreLeft (why_of end) left leaves
   pub settled : acts ≡ sets ++ leaves
   pub some : LeavesSome end left
-  pub live_is : new.ring.live ≡ live ++ entries
-  pub lap_is : new.ring.lap ≡ lap
+  pub live_is : new.ring.live ≡ old.ring.live ++ entries
+  pub numbers : HasPlan (with_hand (numbers_of old.ring) (run_place old.ring.hand count blocks)) old.ring new.ring
+  pub base : new.base ≡ new.ring.hand
+  pub logs : AreLogs old.ring.lap old.ring.hand blocks count (old.newest, old.second) (new.newest, new.second)
+  pub pending : new.pending ≡ []
 
--- What became of a batch of these blocks: the plan for them was taken, and the places of what it drops were asked back; then the runs were written.
+-- What became of a batch of these blocks: the plan for them was taken, and the places of what it drops were asked back; then the runs were written,
+-- none of them where memory was refused for taking a place.
 pub record IsWritten (old new : CursorState) (blocks : List Block) (clears settles : List Act) (end : FeedStop) : Type 0 where
-  pub plan : Plan
-  pub plan_for : IsPlanFor old.ring (batch_len blocks) plan
-  pub cleared : AreCleared (map live_of (filter (falls plan) old.ring.live)) clears
-  pub refused : end ≡ stop.Done → NoneRefused clears
-  pub ran : HaveRun plan.lap plan.hand (filter (stays plan) old.ring.live) new blocks settles end
+  pub sound : IsSound old.ring
+  pub placed : AreLive (numbers_of old.ring) old.ring.live
+  pub begun : CursorState
+  pub planned : HasPlanned (batch_len blocks) old begun
+  pub cleared : AreCleared (map live_of (filter (falls planned.plan) old.ring.live)) clears
+  pub ran : HaveRun begun new blocks settles end
+  pub refused : NoneRefused clears ⊎ ((ran.count ≡ 0) × (end ≢ stop.Done))
 
 -- Memory was refused for the plan: nothing of the device changed, and all blocks were left.
 pub record IsUnwritten (old new : CursorState) (blocks : List Block) (clears settles : List Act) (end : FeedStop) : Type 0 where
@@ -103,7 +107,7 @@ pub record FedBatch (shard : ℕ) (old new : CursorState) (acts : List Act) (end
   pub some : 0 < length blocks
   pub clears : List Act
   pub settles : List Act
-  pub acts_are : acts ≡ Picked shard (keys_of blocks) ∷ (clears ++ settles)
+  pub acts_are : acts ≡ Picked shard blocks ∷ (clears ++ settles)
   pub written : IsWritten old new blocks clears settles end ⊎ IsUnwritten old new blocks clears settles end
 
 -- One shard was fed: nothing was picked, and the device is as it was; or memory was refused for picking, which ends the feed; or a batch was

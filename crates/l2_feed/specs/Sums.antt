@@ -2,12 +2,12 @@
 use Rattle.std.specs.Prelude.{◌≡◌, ℕ, ◌+◌, ◌*◌, ◌^◌, ◌≤◌, Bool, true, false, List, [], ◌∷◌, ◌++◌, length, count_by, sum_by}
 use Rattle.blk_ptr.specs.declared.key.Key.{Key}
 use Rattle.l2_dev.specs.declared.report.FeedReport.{FeedReport}
-use Rattle.l2_feed.specs.Acts.{Act, Cleared, Picked, Placed}
+use Rattle.l2_feed.specs.Acts.{Act, Cleared, Picked, Placed, keys_of}
 
 -- the keys that were picked, in the order of their picks
 abbrev pub picked_in : List Act → List Key
 picked_in [] = []
-picked_in (Picked shard keys ∷ acts) = keys ++ picked_in acts
+picked_in (Picked shard blocks ∷ acts) = keys_of blocks ++ picked_in acts
 picked_in (_ ∷ acts) = picked_in acts
 
 abbrev pub is_placed : Act → Bool

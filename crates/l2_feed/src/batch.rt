@@ -5,6 +5,8 @@ ghost use Rattle.arc_table.specs.declared.picks.Picked.{Picked as Block};
 ghost use Rattle.l2_dev.specs.Calls.{HasDevCause};
 ghost use Rattle.l2_dev.specs.declared.fault.DevErr.TheVariants as err;
 ghost use Rattle.l2_feed.specs.Acts.{Act, DoesActs};
+ghost use Rattle.l2_feed.specs.Crashes.{AsksSo, KeepsSo};
+ghost use Rattle.l2_ring.specs.Ring.{last_lap};
 ghost use Rattle.l2_feed.specs.Ready.{IsDeviceReady, IsFeederReady, IsFeeding};
 ghost use Rattle.l2_feed.specs.Runs.{AreWhole, batch_len, bytes_of, most, runs_of};
 ghost use Rattle.l2_feed.specs.Shape.{FedShard, HasBegun, HaveRun, IsUnwritten, IsWritten, end_of, first_fault};
@@ -100,6 +102,8 @@ fn begin_batch<C: Keeps, D: CacheDev>(
     ensures feeding { (turn : ℕ) → IsFeeding arcs.now turn blocks.now party.old → IsFeeding arcs.now turn blocks.now party.new }
     ensures size { D.size l2.new.dev ≡ D.size l2.old.dev }
     ensures cause { HasDevCause (D.faults l2.old.dev) (D.faults l2.new.dev) result }
+    ensures asks { AsksSo D.CacheDev l2.old.dev l2.new.dev result }
+    ensures crash { l2.new.cursor.ring.lap < last_lap → KeepsSo D.told D.has_sectors D.may_leave l2.old.dev l2.new.dev l2.old.cursor l2.new.cursor result }
     ensures counted { cleared.new ≤ vec_len dropped.new }
     ensures acts { (acts : List Act) × DoesActs (meanings C.holds C.entries C.opening C.claims C.sound) arcs.now.config acts party.old party.new × (cleared.new ≡ cleared.old + count_by is_cleared acts)
         × HasBegun l2.old.cursor l2.new.cursor (batch_len blocks.now) acts result }
@@ -126,6 +130,7 @@ fn write_runs<C: Keeps, D: CacheDev>(
     requires whole { l2.old.cursor.ring.end ≤ D.size l2.old.dev }
     requires ready { l2.old.cursor.ready ≡ true }
     requires none { l2.old.cursor.pending ≡ [] }
+    requires based { l2.old.cursor.base ≡ l2.old.cursor.ring.hand }
     requires formed { AreWhole blocks.now }
     requires few { length blocks.now < 2 ^ 32 }
     requires room { l2.old.cursor.ring.hand + batch_len blocks.now ≤ l2.old.cursor.ring.evict }
@@ -133,10 +138,12 @@ fn write_runs<C: Keeps, D: CacheDev>(
     ensures feeding { (turn : ℕ) → IsFeeding arcs.now turn blocks.now party.old → IsFeeding arcs.now turn [] party.new }
     ensures size { D.size l2.new.dev ≡ D.size l2.old.dev }
     ensures cause { HasDevCause (D.faults l2.old.dev) (D.faults l2.new.dev) result }
+    ensures asks { AsksSo D.CacheDev l2.old.dev l2.new.dev result }
+    ensures crash { KeepsSo D.told D.has_sectors D.may_leave l2.old.dev l2.new.dev l2.old.cursor l2.new.cursor result }
     ensures ends { (l2.new.cursor.ring.end ≡ l2.old.cursor.ring.end) × (l2.new.cursor.pending ≡ []) }
     ensures counted { written.new ≤ written.old + length blocks.now }
     ensures acts { (acts : List Act) × DoesActs (meanings C.holds C.entries C.opening C.claims C.sound) arcs.now.config acts party.old party.new × (written.new ≡ written.old + count_by is_placed acts)
-        × HaveRun l2.old.cursor.ring.lap l2.old.cursor.ring.hand l2.old.cursor.ring.live l2.new.cursor blocks.now acts (end_of result) }
+        × HaveRun l2.old.cursor l2.new.cursor blocks.now acts (end_of result) }
 {
     for number in 0..runs_of(blocks.len()) {
         let left = left_after(blocks, number);
@@ -174,6 +181,8 @@ fn feed_batch<C: Keeps, D: CacheDev>(
     ensures feeding { (turn : ℕ) → IsFeeding arcs.now turn blocks.now party.old → IsFeeding arcs.now turn [] party.new }
     ensures size { D.size l2.new.dev ≡ D.size l2.old.dev }
     ensures cause { HasDevCause (D.faults l2.old.dev) (D.faults l2.new.dev) result }
+    ensures asks { AsksSo D.CacheDev l2.old.dev l2.new.dev result }
+    ensures crash { l2.new.cursor.ring.lap < last_lap → KeepsSo D.told D.has_sectors D.may_leave l2.old.dev l2.new.dev l2.old.cursor l2.new.cursor result }
     ensures ends { (l2.new.cursor.ring.end ≡ l2.old.cursor.ring.end) × (l2.new.cursor.pending ≡ []) }
     ensures cleared { report.new.cleared ≤ vec_len dropped.new }
     ensures written { report.new.written ≤ report.old.written + length blocks.now }
@@ -218,6 +227,8 @@ pub(crate) fn feed_shard<C: Keeps, D: CacheDev>(
     ensures device { IsDeviceReady arcs.now.config (D.size l2.new.dev) l2.new.cursor }
     ensures size { D.size l2.new.dev ≡ D.size l2.old.dev }
     ensures cause { HasDevCause (D.faults l2.old.dev) (D.faults l2.new.dev) result }
+    ensures asks { AsksSo D.CacheDev l2.old.dev l2.new.dev result }
+    ensures crash { l2.new.cursor.ring.lap < last_lap → KeepsSo D.told D.has_sectors D.may_leave l2.old.dev l2.new.dev l2.old.cursor l2.new.cursor result }
     ensures room { HasRoom (shard + 1) (vec_len dropped.new) report.new }
     ensures end { report.new.end ≡ report.old.end }
     ensures fed { (acts : List Act) × DoesActs (meanings C.holds C.entries C.opening C.claims C.sound) arcs.now.config acts party.old party.new × CountsMore acts report.old report.new × FedShard shard l2.old.cursor l2.new.cursor acts (end_of result) }

@@ -2,7 +2,9 @@
 ghost use Rattle.std.specs.Prelude.{◌≡◌, ◌+◌, ◌<◌, ◌≤◌, ◌^◌, [], OnErr, OnOk, MatchResult, length, true};
 ghost use Rattle.l2_log.specs.Rules.{log_len};
 ghost use Rattle.l2_dev.specs.Calls.{HasDevCause};
-ghost use Rattle.l2_feed.specs.Runs.{AreWhole, HasLost, HasPut, HasWritten, bytes_of, most};
+ghost use Rattle.l2_dev.specs.Planned.{IsForgotten};
+ghost use Rattle.l2_feed.specs.Crashes.{AsksSo, KeepsSo};
+ghost use Rattle.l2_feed.specs.Runs.{AreWhole, HasPut, HasWritten, bytes_of, most};
 
 use arc_table::Picked;
 use l2_dev::{DevErr, L2Dev};
@@ -18,7 +20,9 @@ fn put_all<D: CacheDev>(l2: &mut L2Dev<D>, run: &[Picked]) -> Result<(), DevErr>
     requires room { l2.old.cursor.ring.hand + (bytes_of run.now + log_len) ≤ l2.old.cursor.ring.evict }
     ensures size { D.size l2.new.dev ≡ D.size l2.old.dev }
     ensures cause { HasDevCause (D.faults l2.old.dev) (D.faults l2.new.dev) result }
-    ensures put { MatchResult result (λ _. HasPut run.now l2.old.cursor l2.new.cursor) (λ _. HasLost l2.old.cursor l2.new.cursor) }
+    ensures asks { AsksSo D.CacheDev l2.old.dev l2.new.dev result }
+    ensures crash { KeepsSo D.told D.has_sectors D.may_leave l2.old.dev l2.new.dev l2.old.cursor l2.new.cursor result }
+    ensures put { MatchResult result (λ _. HasPut run.now l2.old.cursor l2.new.cursor) (λ _. IsForgotten l2.old.cursor l2.new.cursor) }
 {
     for picked in run {
         l2.put(picked.key, &picked.block)?;
@@ -37,7 +41,9 @@ pub(crate) fn write_run<D: CacheDev>(l2: &mut L2Dev<D>, run: &[Picked]) -> Resul
     requires room { l2.old.cursor.ring.hand + (bytes_of run.now + log_len) ≤ l2.old.cursor.ring.evict }
     ensures size { D.size l2.new.dev ≡ D.size l2.old.dev }
     ensures cause { HasDevCause (D.faults l2.old.dev) (D.faults l2.new.dev) result }
-    ensures written { MatchResult result (λ place. (place ≡ l2.old.cursor.ring.hand) × HasWritten run.now l2.old.cursor l2.new.cursor) (λ _. HasLost l2.old.cursor l2.new.cursor) }
+    ensures asks { AsksSo D.CacheDev l2.old.dev l2.new.dev result }
+    ensures crash { KeepsSo D.told D.has_sectors D.may_leave l2.old.dev l2.new.dev l2.old.cursor l2.new.cursor result }
+    ensures written { MatchResult result (λ place. (place ≡ l2.old.cursor.ring.hand) × HasWritten run.now l2.old.cursor l2.new.cursor) (λ _. IsForgotten l2.old.cursor l2.new.cursor) }
     ensures fits { l2.old.cursor.ring.hand + bytes_of run.now < 2 ^ 64 }
 {
     let place = l2.ring().hand();

@@ -1,6 +1,8 @@
 use Rattle.std.proofs.Common.{inl, refl, arith}
 use Rattle.arc_table.specs.Items.{meanings}
 use Rattle.l2_feed.proofs.Acted.{acts_append}
+use Rattle.l2_feed.proofs.Asking.{asks_then}
+use Rattle.l2_feed.proofs.Crashing.{keeps_then}
 use Rattle.l2_feed.proofs.Batches.{batch_counts, batch_failed, batch_written, clears_none, runs_none}
 use Rattle.l2_feed.proofs.Counting.{left-none}
 use Rattle.l2_feed.proofs.batch.feed_batch.Goals as goal
@@ -24,6 +26,22 @@ returns-clause-acts g c =
       e.0,
       r.0,
       acts_append (meanings g.C.Keeps.holds g.C.Keeps.entries g.C.Keeps.opening g.C.Keeps.claims g.C.Keeps.sound) c.args.arcs.now.config e.0 r.0 c.args.party.now c.begin_batch-begun.new.party c.write_runs.new.party e.1 r.1,
-      batch_counts e.0 r.0 c.args.report.now _ (clears_none _ _ _ e.0 _ e.3) (runs_none _ _ _ _ c.args.blocks.now r.0 _ r.3) refl refl r.2 e.2,
+      batch_counts e.0 r.0 c.args.report.now _ (clears_none _ _ _ e.0 _ e.3) (runs_none _ _ c.args.blocks.now r.0 _ r.3) refl refl r.2 e.2,
       inl (batch_written c.args.l2.now.cursor c.begin_batch-begun.new.l2.cursor c.write_runs.new.l2.cursor c.args.blocks.now e.0 r.0 _ _ e.3 r.3),
     )
+
+pub returns-in-Err-clause-asks : goal.returns-in-Err-clause-asks
+returns-in-Err-clause-asks g c = c.in-Err.ensures.asks
+
+pub returns-in-Err-clause-crash : goal.returns-in-Err-clause-crash
+returns-in-Err-clause-crash g c = c.in-Err.ensures.crash
+
+pub returns-clause-asks : goal.returns-clause-asks
+returns-clause-asks g c = asks_then g.D.CacheDev c.args.l2.now.dev c.begin_batch-begun.new.l2.dev c.write_runs.new.l2.dev c.write_runs.result c.in_default.ensures.asks c.write_runs.ensures.asks
+
+pub returns-clause-crash : goal.returns-clause-crash
+returns-clause-crash g c below =
+    let d = g.D.CacheDev in
+    let lap = c.write_runs.ensures.acts.3.numbers.lap in
+    keeps_then d.told d.has_sectors d.may_leave c.args.l2.now.dev c.begin_batch-begun.new.l2.dev c.write_runs.new.l2.dev c.args.l2.now.cursor c.begin_batch-begun.new.l2.cursor c.write_runs.new.l2.cursor c.write_runs.result
+    (c.in_default.ensures.crash (omega arith)) c.write_runs.ensures.crash

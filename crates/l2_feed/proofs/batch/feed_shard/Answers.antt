@@ -4,7 +4,7 @@ use Rattle.arc_table.specs.Items.{meanings}
 use Rattle.arc_table.specs.Listing.{picks_of}
 use Rattle.arc_table.specs.Picking.{PicksAll, nth_shard_turn}
 use Rattle.l2_dev.specs.declared.report.FeedReport.{FeedReport}
-use Rattle.l2_feed.specs.Acts.{Picked, Unpicked, keys_of}
+use Rattle.l2_feed.specs.Acts.{Picked, Unpicked}
 use Rattle.l2_feed.specs.Ready.{IsFeeding}
 use Rattle.l2_feed.proofs.Batches.{none_counts, picked_counts}
 use Rattle.l2_feed.proofs.Beginning.{few_blocks}
@@ -39,7 +39,7 @@ returns-then-is_empty-clause-fed g c =
     let a : PicksAll m cache.config turn p q [] c.as_slice-picked.result.now = subst (λ (x : List Block × List Block). PicksAll m cache.config turn p q x.0 x.1) (λ i. (c.new-blocks.ensures.items i, sym c.as_slice-picked.ensures.value i)) c.in-Ok.ensures.ok in
     let f = picked_feeding m cache c.args.shard p q c.requires.shard c.requires.feeder c.as_slice-picked.result.now a in
     let none = empty_is c.as_slice-picked.result.now (sym c.is_empty.ensures ∙ c.if-is_empty.true) in
-    (Picked c.args.shard [] ∷ [], (q, ([], c.as_slice-picked.result.now, a, ap keys_of (sym a.out ∙ none)), refl), none_counts (Picked c.args.shard []) c.args.report.now refl refl refl, inl (refl, refl, refl))
+    (Picked c.args.shard [] ∷ [], (q, ([], c.as_slice-picked.result.now, a, sym a.out ∙ none), refl), none_counts (Picked c.args.shard []) c.args.report.now refl refl refl, inl (refl, refl, refl))
 
 pub bytes_of-bytes-requires : goal.bytes_of-bytes-requires
 bytes_of-bytes-requires g c =
@@ -214,11 +214,10 @@ returns-clause-fed g c =
     let a : PicksAll m cache.config turn p q [] c.as_slice-picked.result.now = subst (λ (x : List Block × List Block). PicksAll m cache.config turn p q x.0 x.1) (λ i. (c.new-blocks.ensures.items i, sym c.as_slice-picked.ensures.value i)) c.in-Ok.ensures.ok in
     let f = picked_feeding m cache c.args.shard p q c.requires.shard c.requires.feeder c.as_slice-picked.result.now a in
     let e = c.feed_batch.ensures.acts in
-    let keys = keys_of c.as_slice-picked.result.now in
     let r = c.args.report.now in
     let mid : FeedReport = record { picked = r.picked + length c.as_slice-picked.result.now; bytes = r.bytes + c.bytes_of-bytes.result; written = r.written; cleared = r.cleared; end = r.end } in (
-      Picked c.args.shard keys ∷ (e.0 ++ e.1),
-      (q, ([], c.as_slice-picked.result.now, a, ap keys_of (sym a.out)), e.2),
+      Picked c.args.shard c.as_slice-picked.result.now ∷ (e.0 ++ e.1),
+      (q, ([], c.as_slice-picked.result.now, a, sym a.out), e.2),
       picked_counts c.args.shard c.as_slice-picked.result.now (e.0 ++ e.1) c.args.report.now mid c.feed_batch.new.report refl (ap (λ (n : ℕ). c.args.report.now.bytes + n) c.bytes_of-bytes.ensures) refl refl e.3,
       inr (inr record {
         blocks = c.as_slice-picked.result.now;

@@ -6,6 +6,8 @@ use Rattle.l2_feed.specs.Ready.{IsFeeding}
 use Rattle.l2_feed.specs.Runs.{AreLeft, AreSet, AreWhole, HasWritten, bytes_of, most, runs_of}
 use Rattle.l2_log.specs.Rules.{log_len}
 use Rattle.l2_feed.specs.Shape.{stop_of, why_of}
+use Rattle.l2_feed.proofs.Asking.{done_then, fault_then, no_calls}
+use Rattle.l2_feed.proofs.Crashing.{own_start, own_then, some_then}
 use Rattle.l2_feed.proofs.Writing.{length-take-drop, run_few, run_room, run_whole, run_feeding, runs_end, runs_start, runs_stop, runs_turn}
 use Rattle.l2_feed.proofs.batch.write_runs.Goals as goal
 
@@ -13,7 +15,9 @@ pub loop-number-init : goal.loop-number-init
 loop-number-init g c = record {
   size = refl;
   faults = omega arith;
-  so = runs_start (meanings g.C.Keeps.holds g.C.Keeps.entries g.C.Keeps.opening g.C.Keeps.claims g.C.Keeps.sound) c.args.arcs.now c.args.blocks.now c.args.written.now c.args.l2.now.cursor c.args.party.now c.requires.none c.requires.ready c.requires.formed c.requires.room;
+  asks = no_calls g.D.CacheDev c.args.l2.now.dev;
+  crash = own_start g.D.CacheDev.told g.D.CacheDev.has_sectors g.D.CacheDev.may_leave c.args.l2.now.dev c.args.l2.now.cursor;
+  so = runs_start (meanings g.C.Keeps.holds g.C.Keeps.entries g.C.Keeps.opening g.C.Keeps.claims g.C.Keeps.sound) c.args.arcs.now c.args.blocks.now c.args.written.now c.args.l2.now.cursor c.args.party.now c.requires.based c.requires.none c.requires.ready c.requires.formed c.requires.room;
 }
 
 pub set_run-requires-clause-feeding : goal.set_run-requires-clause-feeding
@@ -48,6 +52,8 @@ loop-number-preserved g c =
     record {
       size = c.in-Ok.ensures.size ∙ c.loop-number.invariant.size;
       faults = (let a = c.in-Ok.ensures.cause.kept in let b = c.loop-number.invariant.faults in omega arith);
+      asks = done_then g.D.CacheDev c.args.l2.now.dev c.loop-number.l2.dev c.write_run.new.l2.dev c.loop-number.invariant.asks c.in-Ok.ensures.asks;
+      crash = own_then g.D.CacheDev.told g.D.CacheDev.has_sectors g.D.CacheDev.may_leave c.args.l2.now.dev c.loop-number.l2.dev c.write_run.new.l2.dev c.args.l2.now.cursor c.loop-number.l2.cursor c.write_run.new.l2.cursor c.loop-number.invariant.crash c.in-Ok.ensures.crash;
       so = runs_turn m c.args.arcs.now c.args.blocks.now c.loop-number.number c.args.written.now c.loop-number.written c.args.l2.now.cursor c.loop-number.l2.cursor c.args.party.now c.loop-number.party below c.loop-number.invariant.so c.write_run.new.l2.cursor c.set_run.new.party s.0 c.set_run.result
           (subst (λ (bs : List Block). HasWritten bs c.loop-number.l2.cursor c.write_run.new.l2.cursor) run w.1) s.1
           (subst (λ (x : ℕ × List Block). AreSet x.0 x.1 s.0) (λ i. (w.0 i, run i)) s.2) s.3 (let f = c.set_run.ensures.few in let e = ap length run in omega arith)
@@ -103,3 +109,10 @@ overflow_add-written g c =
     let n = c.loop-number.invariant.so.counted in
     let all = c.requires.counted in
     omega arith
+
+pub returns-in-Err-clause-asks : goal.returns-in-Err-clause-asks
+returns-in-Err-clause-asks g c = fault_then g.D.CacheDev ℕ (Unit {0}) c.args.l2.now.dev c.loop-number.l2.dev c.write_run.new.l2.dev c.in-Err.fault c.loop-number.invariant.asks c.in-Err.ensures.asks
+
+pub returns-in-Err-clause-crash : goal.returns-in-Err-clause-crash
+returns-in-Err-clause-crash g c =
+    some_then g.D.CacheDev.told g.D.CacheDev.has_sectors g.D.CacheDev.may_leave c.args.l2.now.dev c.loop-number.l2.dev c.write_run.new.l2.dev c.args.l2.now.cursor c.loop-number.l2.cursor c.write_run.new.l2.cursor c.loop-number.invariant.crash c.in-Err.ensures.crash

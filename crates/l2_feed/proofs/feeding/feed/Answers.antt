@@ -7,7 +7,10 @@ use Rattle.l2_feed.specs.Shape.{AreFed, stop_of}
 use Rattle.l2_feed.proofs.Acted.{acts_append}
 use Rattle.l2_feed.proofs.Batches.{not_done}
 use Rattle.l2_feed.proofs.Shards.{fed_last, fed_stop}
-use Rattle.l2_feed.proofs.Whole.{has_fed, sums_more, sums_same}
+use Rattle.l2_feed.specs.Crashes.{FeedAsks, FeedKeeps}
+use Rattle.l2_feed.proofs.Asking.{done_then, fault_then, feed_asked}
+use Rattle.l2_feed.proofs.Crashing.{feed_keeps, own_then, some_then}
+use Rattle.l2_feed.proofs.Whole.{fault_rose, has_fed, lap_before, sums_more, sums_same}
 use Rattle.l2_feed.proofs.feeding.feed.Goals as goal
 
 pub returns-in-Err-clause-fed : goal.returns-in-Err-clause-fed
@@ -34,6 +37,7 @@ loop-shard-preserved g c =
     let cache = c.args.arcs.now in
     let s : ℕ = c.loop-shard.shard in
     let was = c.loop-shard.invariant in
+    let d = g.D.CacheDev in
     let i = c.in_default.ensures in
     let f = was.fed in
     let e = i.fed in
@@ -43,8 +47,12 @@ loop-shard-preserved g c =
       device = i.device;
       size = i.size ∙ was.size;
       faults = (let a = i.cause.kept in let b = was.faults in omega arith);
+      asks = done_then d c.args.l2.now.dev c.loop-shard.l2.dev c.feed_shard-fed.new.l2.dev was.asks i.asks;
+      crash = λ below. own_then d.told d.has_sectors d.may_leave c.args.l2.now.dev c.loop-shard.l2.dev c.feed_shard-fed.new.l2.dev c.args.l2.now.cursor c.loop-shard.l2.cursor c.feed_shard-fed.new.l2.cursor
+          (was.crash (lap_before s c.loop-shard.l2.cursor c.feed_shard-fed.new.l2.cursor e.0 stop.Done e.3 below)) (i.crash below);
       room = i.room;
       end = i.end ∙ was.end;
+      few = (let t = c.loop-shard-test.true in let k = ap (λ (x : Config). x.shards) c.config.ensures in omega arith);
       fed = (
         f.0 ++ e.0,
         acts_append m cache.config f.0 e.0 c.args.party.now c.loop-shard.party c.feed_shard-fed.new.party f.1 e.1,
@@ -52,3 +60,39 @@ loop-shard-preserved g c =
         subst (λ (n : ℕ). AreFed 0 n c.args.l2.now.cursor c.feed_shard-fed.new.l2.cursor (f.0 ++ e.0) stop.Done) (sym (add-one s)) (fed_last 0 s s c.args.l2.now.cursor c.loop-shard.l2.cursor c.feed_shard-fed.new.l2.cursor f.0 e.0 at f.3 e.3),
       );
     }
+
+pub returns-in-Err-clause-asks : goal.returns-in-Err-clause-asks
+returns-in-Err-clause-asks g c =
+    let d = g.D.CacheDev in
+    subst (FeedAsks d c.args.l2.now.dev c.feed_shard-fed.new.l2.dev) (sym c.stop_of-report.ensures)
+    (feed_asked d c.args.l2.now.dev c.feed_shard-fed.new.l2.dev c.in-Err.fault (fault_then d (Unit {0}) (Unit {0}) c.args.l2.now.dev c.loop-shard.l2.dev c.feed_shard-fed.new.l2.dev c.in-Err.fault c.loop-shard.invariant.asks c.in-Err.ensures.asks))
+
+pub returns-in-Err-clause-crash : goal.returns-in-Err-clause-crash
+returns-in-Err-clause-crash g c below =
+    let d = g.D.CacheDev in
+    let e = c.in-Err.ensures.fed in
+    subst (FeedKeeps d.told d.has_sectors d.may_leave c.args.l2.now.dev c.feed_shard-fed.new.l2.dev c.args.l2.now.cursor c.feed_shard-fed.new.l2.cursor) (sym c.stop_of-report.ensures)
+    (feed_keeps d.told d.has_sectors d.may_leave c.args.l2.now.dev c.feed_shard-fed.new.l2.dev c.args.l2.now.cursor c.feed_shard-fed.new.l2.cursor c.in-Err.fault
+    (some_then d.told d.has_sectors d.may_leave c.args.l2.now.dev c.loop-shard.l2.dev c.feed_shard-fed.new.l2.dev c.args.l2.now.cursor c.loop-shard.l2.cursor c.feed_shard-fed.new.l2.cursor
+    (c.loop-shard.invariant.crash (lap_before c.loop-shard.shard c.loop-shard.l2.cursor c.feed_shard-fed.new.l2.cursor e.0 (stop_of c.in-Err.fault) e.3 below)) (c.in-Err.ensures.crash below)))
+
+pub returns-in-Err-clause-cause : goal.returns-in-Err-clause-cause
+returns-in-Err-clause-cause g c =
+    λ is. fault_rose c.in-Err.fault (g.D.CacheDev.faults c.args.l2.now.dev) (g.D.CacheDev.faults c.loop-shard.l2.dev) (g.D.CacheDev.faults c.feed_shard-fed.new.l2.dev) c.loop-shard.invariant.faults c.in-Err.ensures.cause.rose (sym c.stop_of-report.ensures ∙ is)
+
+pub returns-clause-crash : goal.returns-clause-crash
+returns-clause-crash g c =
+    λ below. let d = g.D.CacheDev in
+    subst (FeedKeeps d.told d.has_sectors d.may_leave c.args.l2.now.dev c.loop-shard.l2.dev c.args.l2.now.cursor c.loop-shard.l2.cursor) (sym c.loop-shard.invariant.end) (c.loop-shard.invariant.crash below)
+
+pub returns-clause-fed : goal.returns-clause-fed
+returns-clause-fed g c =
+    let m = (meanings g.C.Keeps.holds g.C.Keeps.entries g.C.Keeps.opening g.C.Keeps.claims g.C.Keeps.sound) in
+    let cache = c.args.arcs.now in
+    let old = c.args.l2.now.cursor in
+    let new = c.loop-shard.l2.cursor in
+    let was = c.loop-shard.invariant in
+    let f = was.fed in
+    let all : c.loop-shard.shard ≡ cache.config.shards = (let t = c.loop-shard-test.false in let k = ap (λ (x : Config). x.shards) c.config.ensures in let b = was.few in omega arith) in
+    has_fed m cache old new f.0 c.args.party.now c.loop-shard.party c.loop-shard.report c.requires.feeder f.1
+    (subst (λ (x : ℕ × FeedStop). AreFed 0 x.0 old new f.0 x.1) (λ i. (all i, sym was.end i)) f.3) f.2

@@ -1,0 +1,69 @@
+//! Feeds whose numbers were computed by hand.
+use super::scene::*;
+use l2_dev::{FeedReport, FeedStop};
+use std::test::Fail;
+
+/// What a feed of so many blocks of this size reports that cleared so many places.
+fn report(blocks: u32, size: u64, cleared: u64) -> FeedReport {
+    FeedReport {
+        picked: blocks,
+        bytes: u64::from(blocks).wrapping_mul(size),
+        written: blocks,
+        cleared,
+        end: FeedStop::Done,
+    }
+}
+
+#[test]
+fn a_block_that_was_read_is_fed(rt: HostRuntime) -> Result<(), Fail> {
+    let alloc = rt.alloc();
+    let numbers = config(1, 4096, 131_072);
+    let device = memory(alloc, 266_240, &[])?;
+    let mut scene = opened(alloc, &numbers, 16_384, device)?;
+    assert!(rt; read_all(&rt, alloc, &mut scene, 1, 2048)?);
+    assert!(rt; fed(&rt, alloc, &mut scene) == report(1, 2048, 0));
+    assert!(rt; places(alloc, &scene)?.as_slice() == [4096].as_slice());
+    Ok(())
+}
+
+#[test]
+fn a_feed_of_nothing_writes_nothing(rt: HostRuntime) -> Result<(), Fail> {
+    let alloc = rt.alloc();
+    let numbers = config(2, 4096, 131_072);
+    let device = memory(alloc, 266_240, &[])?;
+    let mut scene = opened(alloc, &numbers, 16_384, device)?;
+    assert!(rt; fed(&rt, alloc, &mut scene) == report(0, 512, 0));
+    let bytes = scene.l2.device().bytes();
+    assert!(rt; bytes.iter().take(512).all(|byte| *byte == 0));
+    Ok(())
+}
+
+#[test]
+fn the_fourth_feed_begins_the_next_lap(rt: HostRuntime) -> Result<(), Fail> {
+    let alloc = rt.alloc();
+    let numbers = config(1, 4096, 131_072);
+    let device = memory(alloc, 266_240, &[])?;
+    let mut scene = opened(alloc, &numbers, 16_384, device)?;
+    assert!(rt; fed_one_by_one(&rt, alloc, &mut scene, 3)? == 3);
+    let fourth = ptr(alloc, 3, 512)?;
+    assert!(rt; read(&rt, &mut scene, &fourth, 4));
+    assert!(rt; fed(&rt, alloc, &mut scene) == report(1, 512, 1));
+    assert!(rt; places(alloc, &scene)?.as_slice() == [70_144, 136_192, 4096].as_slice());
+    assert!(rt; scene.l2.ring().lap() == 2);
+    assert!(rt; scene.l2.ring().top() == 202_240);
+    Ok(())
+}
+
+#[test]
+fn a_batch_of_two_runs(rt: HostRuntime) -> Result<(), Fail> {
+    let alloc = rt.alloc();
+    let numbers = config(1, 1_048_576, 524_288);
+    let device = memory(alloc, 1_056_768, &[])?;
+    let mut scene = opened(alloc, &numbers, 524_288, device)?;
+    assert!(rt; read_all(&rt, alloc, &mut scene, 682, 512)?);
+    assert!(rt; fed(&rt, alloc, &mut scene) == report(682, 512, 0));
+    let places = places(alloc, &scene)?;
+    assert!(rt; places.get(680).copied() == Some(352_256));
+    assert!(rt; places.get(681).copied() == Some(418_304));
+    Ok(())
+}
