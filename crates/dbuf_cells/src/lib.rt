@@ -2,12 +2,15 @@
 #![tactic(auto)]
 
 mod evict;
+mod getting;
 mod kept;
+mod loading;
 mod place;
 mod putting;
 mod turn;
 mod unholding;
 
+pub use getting::{get, hold};
 pub use kept::{Cells, HeapCell, Kept};
 pub use place::cell_of;
 pub use putting::put;
