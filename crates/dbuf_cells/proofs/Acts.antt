@@ -211,8 +211,8 @@ is-read-fault (read.Key why) = tt
 
 module _ {P D : Type 0} (pools : PoolGhosts P) (devices : DeviceGhosts D) (g : Config) (i : ℕ) (at : Oid) (tick : ℕ) (before now : Outside P D) (cell : OnHeap) (p r : PartyPlace) where
   pub fails-read : (why : DbufFault) → FailsToLoad pools devices g i at tick before now cell p r why → IsReadFault why
-  fails-read why (refused ptr cause back mid reads turn is) = subst IsReadFault (sym is) (is-read-fault cause)
-  fails-read why (no_memory ptr read back mid free reads turn drops is) = subst IsReadFault (sym is) tt
+  fails-read why (refused ptr cause back mid reads turn unmarked is) = subst IsReadFault (sym is) (is-read-fault cause)
+  fails-read why (no_memory ptr read back mid free reads turn unmarked drops is) = subst IsReadFault (sym is) tt
 
   pub refuses-get : (w : Window) (why : DbufFault) → IsReadFault why → EndsInside pools devices g i at tick before now (w.at + w.len) cell → Refuses pools devices g i at tick before now cell p r why
       → Gets pools devices g i at tick before now w cell p r (Err why)

@@ -41,7 +41,7 @@ use Rattle.dbuf_state.specs.declared.window.Window.{Window}
 use Rattle.dbuf_state.proofs.FitLemmas.{from-has}
 use Rattle.dbuf_state.proofs.HandLemmas.{plain-dbuf-is}
 use Rattle.dbuf_state.proofs.OutlineLemmas.{cell-is-in-outline}
-use Rattle.dbuf_cells.specs.Bringing.{Claims, DropsRead, Reads, handed, here, loaded, no_memory, refused}
+use Rattle.dbuf_cells.specs.Bringing.{Claims, DropsRead, Reads, handed, here, loaded, no_memory, refused, IsUnmarked}
 use Rattle.dbuf_cells.specs.InHand.{AsTaken, Gives, HasGiven}
 use Rattle.dbuf_cells.specs.Loading.{EndsKept, EndsLoad, EndsUnkept, HasBrought, HasFailed, IsBrought, IsBroughtBy, IsLoaded, IsReadOf, IsToLoad, mapped_in}
 use Rattle.dbuf_cells.specs.Turns.{OnHeap, PartyPlace, dbuf_meanings, outline_in}
@@ -201,18 +201,18 @@ module _ {P D : Type 0} (pools : PoolGhosts P) (devices : DeviceGhosts D) (cache
           answers = answer-moves e.mid.value result.value at ptr (brought-clean back.number at ptr e.mid.value.dbufs e.brought) (loaded-clean at ptr result.value.dbufs e.kept.there);
         }
 
-    pub brought-not : (read : Read) → AnswersRead dbuf_meanings pools devices cache.config ptr tick before now marked back (Ok read) → (why : DbufFault) (r : PartyPlace) → EndsUnkept cache i read back why r
+    pub brought-not : (read : Read) → AnswersRead dbuf_meanings pools devices cache.config ptr tick before now marked back (Ok read) → (why : DbufFault) (r : PartyPlace) → EndsUnkept cache i at read back why r
         → HasFailed pools devices cache i at tick before now cell p r why
     brought-not read a why r e = record {
-      fails = no_memory ptr read back e.mid e.free (reads (Ok read) a) e.given.turn e.drops e.is;
+      fails = no_memory ptr read back e.mid e.free (reads (Ok read) a) e.given.turn e.unmarked e.drops e.is;
       party = e.party;
       held = e.held ∙ back-free (Ok read) a;
     }
 
-    pub brought-refused : (cause : ReadFault) → AnswersRead dbuf_meanings pools devices cache.config ptr tick before now marked back (Err cause) → (why : DbufFault) (r : PartyPlace) → why ≡ fault_of cause → (mid : OnHeap) → HasGiven cache i back mid [] [] r
+    pub brought-refused : (cause : ReadFault) → AnswersRead dbuf_meanings pools devices cache.config ptr tick before now marked back (Err cause) → (why : DbufFault) (r : PartyPlace) → why ≡ fault_of cause → (mid : OnHeap) → HasGiven cache i back mid [] [] r → IsUnmarked i at r
         → HasFailed pools devices cache i at tick before now cell p r why
-    brought-refused cause a why r is mid given = record {
-      fails = refused ptr cause back mid (reads (Err cause) a) given.turn is;
+    brought-refused cause a why r is mid given unmarked = record {
+      fails = refused ptr cause back mid (reads (Err cause) a) given.turn unmarked is;
       party = given.party;
       held = given.held ∙ back-free (Err cause) a;
     }

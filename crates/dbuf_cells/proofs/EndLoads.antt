@@ -1,5 +1,5 @@
 -- The second turn of a load: what was read is the cell's, or it was given back.
-use Rattle.std.proofs.Common.{◌≡◌, ℕ, [], refl, sym, ◌∙◌, subst}
+use Rattle.std.proofs.Common.{◌≡◌, ℕ, IsTrue, [], refl, sym, ◌∙◌, subst}
 use Rattle.blk_ptr.specs.declared.ptr.Ptr.{Ptr}
 use Rattle.turn_table.specs.Board.{IsAmong}
 use Rattle.arc_table.specs.Cache.{Cache}
@@ -7,14 +7,17 @@ use Rattle.arc_table.specs.Looking.{HasNoLook}
 use Rattle.arc_table.specs.declared.read.Read.{Read}
 use Rattle.arc_table.proofs.Afterwards.{stays_party}
 use Rattle.dbuf_state.specs.CellLog.{CellLog}
+use Rattle.dbuf_state.specs.Dbufs.{dbuf_oid}
+use Rattle.dbuf_state.specs.Oids.{is_distinct}
 use Rattle.dbuf_state.specs.declared.fault.DbufFault.TheVariants as fault
 use Rattle.dbuf_state.specs.declared.oid.Oid.{Oid}
 use Rattle.dbuf_cells.specs.Bringing.{DropsRead}
-use Rattle.dbuf_cells.specs.InHand.{AsTaken, Gives, HasGiven, MayGive}
+use Rattle.dbuf_cells.specs.InHand.{AsTaken, ClaimsAre, Gives, HasGiven, MayGive}
 use Rattle.dbuf_cells.specs.Loading.{EndsKept, EndsUnkept, HasUnread, IsBroughtBy, IsReadOf, Keeps, SomeTaken}
 use Rattle.dbuf_cells.specs.Turns.{OnHeap, PartyPlace}
 use Rattle.dbuf_cells.specs.declared.kept.Kept.{Kept}
 use Rattle.dbuf_cells.proofs.Bringings.{brought-clean, drops-stays, in-outline, mapped-clean, read-still}
+use Rattle.dbuf_cells.proofs.Loads.{is-unmarked}
 use Rattle.dbuf_cells.proofs.PartySteps.{as-given, as-may-give}
 
 -- who holds no turn has no open look
@@ -40,7 +43,7 @@ module _ (cache : Cache) (i : ℕ) (at : Oid) (ptr : Ptr) (read : Read) (p : Par
     kept = keeps p mid taken-old;
   }
 
-  module _ (back : Read) (now : CellLog Kept) (r : PartyPlace) (u : HasUnread cache i ptr read back old now q r) where
+  module _ (back : Read) (now : CellLog Kept) (r : PartyPlace) (u : HasUnread cache i at ptr read back old now q r) where
     unread-taken : AsTaken cache i p mid now r
     unread-taken = u.taken p mid taken-old
 
@@ -54,13 +57,14 @@ module _ (cache : Cache) (i : ℕ) (at : Oid) (ptr : Ptr) (read : Read) (p : Par
       pub unread-read : s.own.ledger.holds ≡ r.own.ledger.holds → IsReadOf ptr s back
       unread-read holds = read-still ptr r s back (unread-given.number ∙ sym unread-taken.hand.party.number) holds u.of
 
-      pub ends-unkept : (e : PartyPlace) → DropsRead cache.config back s e → EndsUnkept cache i read p fault.NoMemory e
-      ends-unkept e drops =
+      pub ends-unkept : IsTrue (is_distinct dbuf_oid now.dbufs) → ClaimsAre i s.number now s → (e : PartyPlace) → DropsRead cache.config back s e → EndsUnkept cache i at read p fault.NoMemory e
+      ends-unkept once claims e drops =
           let stays = drops-stays cache.config unread-taken.hand.party.valid back s e unread-given.party.config drops in
           record {
             mid = mid;
             free = s;
             given = unread-given;
+            unmarked = is-unmarked i s.number at now s once claims u.uncached;
             drops = subst (λ (x : Read). DropsRead cache.config x s e) u.same drops;
             is = refl;
             party = stays_party cache s e stays unread-given.party;

@@ -57,7 +57,7 @@ use Rattle.dbuf_cells.specs.declared.kept.Kept.TheVariants.{Held, Loose}
 use Rattle.dbuf_cells.proofs.CellSteps.{done-more}
 use Rattle.dbuf_cells.proofs.Evictions.{has-of, is-dbuf}
 use Rattle.dbuf_cells.proofs.HoldLists.{first-or-later, one-more}
-use Rattle.dbuf_cells.proofs.Loads.{cached-claim, others-mark, put-among, put-count, is-reading, reads-nothing, unmarked-as}
+use Rattle.dbuf_cells.proofs.Loads.{cached-claim, others-mark, put-among, put-count, is-reading, is-unread, reads-nothing, unmarked-as}
 use Rattle.dbuf_cells.proofs.Operations.{as-taken-room, plain-test}
 use Rattle.dbuf_cells.proofs.PartySteps.{among-held, taken-looks, taken-more}
 
@@ -264,12 +264,13 @@ module _ (cache : Cache) (i : ℕ) (at : Oid) (ptr : Ptr) (q r : PartyPlace) (ol
         there = subst (λ (x : CellLog Kept). IsLoaded at ptr x.dbufs) (sym is) (is-loaded q.number (length roomy.history + 1) at ptr k roomy.dbufs brought-roomy);
       }
 
-  pub unreads-now : (back : Read) (now : CellLog Kept) → SomeTaken cache i old q → HandsOn cache.config i ptr read q r (Err back) → now ≡ record roomy { dbufs = with_dbuf at unread roomy.dbufs } → HasUnread cache i ptr read back old now q r
+  pub unreads-now : (back : Read) (now : CellLog Kept) → SomeTaken cache i old q → HandsOn cache.config i ptr read q r (Err back) → now ≡ record roomy { dbufs = with_dbuf at unread roomy.dbufs } → HasUnread cache i at ptr read back old now q r
   unreads-now back now some hands is =
       let b = read-back cache i ptr q r some.0 some.1 old read back some.2 of hands in
       record {
         same = b.0;
         of = b.1;
+        uncached = subst (λ (x : CellLog Kept). DbufHas (λ d. d.state ≡ state.Uncached) (dbuf_at at x.dbufs)) (sym is) (is-unread q.number at ptr roomy.dbufs brought-roomy);
         taken = λ p before t.
             let u = as-taken-room cache i p before old roomy q t log in
             let l = looked cache i ptr q r p before roomy read back u hands in

@@ -32,12 +32,12 @@ use Rattle.dbuf_state.specs.declared.state.Mapped.{Mapped}
 use Rattle.dbuf_state.specs.declared.state.Mapped.TheVariants as mapped
 use Rattle.dbuf_state.specs.declared.state.Mapping.{Mapping}
 use Rattle.dbuf_state.proofs.CallerLemmas.{clean-in, clean-ptr}
-use Rattle.dbuf_state.proofs.FitLemmas.{all-found}
+use Rattle.dbuf_state.proofs.FitLemmas.{all-found, from-has}
 use Rattle.dbuf_state.proofs.HandLemmas.{claimed-is-read, claims-change, claims-stay, holds-change, holds-stay, rest-stays}
 use Rattle.dbuf_state.proofs.IndexLemmas.{and-both, and-parts, bool_cases}
 use Rattle.dbuf_state.proofs.NumberLemmas.{mappings-read}
 use Rattle.dbuf_state.proofs.StepLemmas.{reading-alike, unread-alike}
-use Rattle.dbuf_cells.specs.Bringing.{Claims}
+use Rattle.dbuf_cells.specs.Bringing.{Claims, IsUnmarked}
 use Rattle.dbuf_cells.specs.InHand.{AsTaken, ClaimsAre, Gives, InHand, IsAtRest, MayGive}
 use Rattle.dbuf_cells.specs.Loading.{IsBroughtBy, IsToLoad, mapped_in, to_load}
 use Rattle.dbuf_cells.specs.Kept.{bytes_of, is_held, key_of}
@@ -258,3 +258,21 @@ pub unmarked-as : (cache : Cache) (i : ℕ) (p : PartyPlace) (before : OnHeap) (
     → c ≡ record old { dbufs = with_dbuf at unread old.dbufs } → AsTaken cache i p before c q
 unmarked-as cache i p before now old c q at ptr t same brought is =
     subst (λ (x : CellLog Kept). AsTaken cache i p before x q) (sym (is ∙ ap (λ (x : CellLog Kept). record x { dbufs = with_dbuf at unread x.dbufs }) same)) (unmarked cache i p before now q t at ptr brought)
+
+-- a dbuf whose mark was taken back, and what its party claims then
+unread-has : (at : Oid) (ds : List (Dbuf Kept)) → DbufHas (λ d. Unit {0}) (dbuf_at at ds) → DbufHas (λ d. d.state ≡ state.Uncached) (dbuf_at at (with_dbuf at unread ds))
+unread-has at [] h = absurd h
+unread-has at (x ∷ ds) h = elim (bool_cases (oid_eq at x.at)) [
+  | inl here ↦ rw (here, here) refl
+  | inr far ↦ let rest = unread-has at ds (rw far at h) in rw (far, far) rest
+]
+
+pub is-unread : (n : ℕ) (at : Oid) (ptr : Ptr) (ds : List (Dbuf Kept)) → IsBroughtBy n at ptr ds → DbufHas (λ d. d.state ≡ state.Uncached) (dbuf_at at (with_dbuf at unread ds))
+is-unread n at ptr ds brought = unread-has at ds (from-has (λ d. (d.content ≡ Clean ptr) × (d.state ≡ state.Read n)) (λ d. Unit {0}) (λ d b. tt) at ds brought)
+
+pub is-unmarked : (i n : ℕ) (at : Oid) (c : CellLog Kept) (p : PartyPlace) → IsTrue (is_distinct dbuf_oid c.dbufs) → ClaimsAre i n c p → DbufHas (λ d. d.state ≡ state.Uncached) (dbuf_at at c.dbufs) → IsUnmarked i at p
+is-unmarked i n at c p once are uncached ptr claims = go (dbuf_at at c.dbufs) (claimed-mark i n at ptr c p once are claims) uncached
+  where
+    go : (o : Option (Dbuf Kept)) → DbufHas (λ d. (d.content ≡ Clean ptr) × (d.state ≡ state.Read n)) o → DbufHas (λ d. d.state ≡ state.Uncached) o → ⊥
+    go None b u = b
+    go (Some d) b u = let clash : state.Read n ≡ state.Uncached = sym b.1 ∙ u in cc

@@ -31,6 +31,10 @@ pub record Claims (i : ℕ) (at : Oid) (ptr : Ptr) (p : PartyPlace) : Type 0 whe
   pub back : List Mapping
   pub listed : list_at i p.own.ledger.claims ≡ mapping_numbers (front ++ record { at = at; ptr = ptr } ∷ back)
 
+-- the party claims no bytes of the block: its mark there is gone
+abbrev pub IsUnmarked : (i : ℕ) → Oid → PartyPlace → Type 0
+IsUnmarked i at p = (ptr : Ptr) → ¬ Claims i at ptr p
+
 -- what a read gave goes to the cell c: a hold by a Hand, and a block that was read past the cache without an event
 abbrev pub handed : (n c : ℕ) → Read → List Event
 handed n c (gave.Held hold from) = Hand n hold.key c ∷ []
@@ -62,6 +66,6 @@ module _ {P D : Type 0} (pools : PoolGhosts P) (devices : DeviceGhosts D) (g : C
   -- Nothing was brought: the read was refused, and the mark taken back in a second turn. Or memory was refused behind the read: the mark was
   -- taken back, and then what was read given back.
   pub data FailsToLoad (cell : OnHeap) (p q : PartyPlace) (why : DbufFault) : Type 0 where
-    refused : (ptr : Ptr) (cause : ReadFault) (back : PartyPlace) (mid : OnHeap) → Reads ptr cell p back (Err cause) → CellTurn g i mid [] [] back q → why ≡ fault_of cause → FailsToLoad cell p q why
-    no_memory : (ptr : Ptr) (read : Read) (back : PartyPlace) (mid : OnHeap) (free : PartyPlace) → Reads ptr cell p back (Ok read) → CellTurn g i mid [] [] back free → DropsRead g read free q → why ≡ fault.NoMemory
+    refused : (ptr : Ptr) (cause : ReadFault) (back : PartyPlace) (mid : OnHeap) → Reads ptr cell p back (Err cause) → CellTurn g i mid [] [] back q → IsUnmarked i at q → why ≡ fault_of cause → FailsToLoad cell p q why
+    no_memory : (ptr : Ptr) (read : Read) (back : PartyPlace) (mid : OnHeap) (free : PartyPlace) → Reads ptr cell p back (Ok read) → CellTurn g i mid [] [] back free → IsUnmarked i at free → DropsRead g read free q → why ≡ fault.NoMemory
         → FailsToLoad cell p q why

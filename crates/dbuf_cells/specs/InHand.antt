@@ -37,6 +37,7 @@ use Rattle.dbuf_state.specs.declared.state.DbState.TheVariants as state
 use Rattle.dbuf_state.specs.declared.state.Mapped.{Mapped}
 use Rattle.dbuf_state.specs.declared.state.Mapped.TheVariants as mapped
 use Rattle.dbuf_cells.specs.Kept.{bytes_of, key_of}
+pub use Rattle.dbuf_cells.specs.Turns.{IsAtRest}
 use Rattle.dbuf_cells.specs.Turns.{AreEvictions, CellTurn, MakesAll, OnHeap, PartyPlace, WaitsForDbuf, dbuf_meanings, holds_of}
 use Rattle.dbuf_cells.specs.declared.kept.Kept.{Kept}
 use Rattle.dbuf_cells.specs.declared.kept.Kept.TheVariants.{Held, Loose}
@@ -136,10 +137,6 @@ pub record AsTaken (cache : Cache) (i : ℕ) (p : PartyPlace) (before : OnHeap) 
   pub evicting : Evicting
   pub hand : InHand cache i p before evicting [] [] now q
   pub settled : IsTrue (not (is_due (plain_cell evicting now)))
-
--- nobody brings the block's bytes just now
-abbrev pub IsAtRest : Oid → List (Dbuf Kept) → Type 0
-IsAtRest at ds = (n : ℕ) → option_map_or (λ d. d.state) (dbuf_at at ds) state.Uncached ≢ state.Read n
 
 -- what the party claims of the cell i, by what it lists, is what the number n claims of a cell that is so
 abbrev pub ClaimsAre : (i n : ℕ) → CellLog Kept → PartyPlace → Type 0

@@ -37,7 +37,7 @@ use Rattle.dbuf_state.specs.declared.state.DbState.TheVariants as state
 use Rattle.dbuf_state.specs.declared.state.Mapped.{Mapped}
 use Rattle.dbuf_state.specs.declared.state.Mapped.TheVariants as mapped
 use Rattle.dbuf_state.specs.declared.window.Window.{Window}
-use Rattle.dbuf_cells.specs.Bringing.{Brings, DropsRead, FailsToLoad, handed}
+use Rattle.dbuf_cells.specs.Bringing.{Brings, DropsRead, FailsToLoad, IsUnmarked, handed}
 use Rattle.dbuf_cells.specs.InHand.{AsTaken, HasGiven, InHand, IsRoomier}
 use Rattle.dbuf_cells.specs.Turns.{OnHeap, Operates, PartyPlace, dbuf_meanings, holds_of, outline_in}
 use Rattle.dbuf_cells.specs.declared.kept.Kept.{Kept}
@@ -113,9 +113,10 @@ abbrev pub Keeps : Cache → (i : ℕ) → Oid → Ptr → Read → (old now : C
 Keeps cache i at ptr read old now q r = (p : PartyPlace) (before : OnHeap) → AsTaken cache i p before old q → HasKept cache i at ptr p before read now r
 
 -- the mark was taken back, and what was read is the party's still
-pub record HasUnread (cache : Cache) (i : ℕ) (ptr : Ptr) (read back : Read) (old now : CellLog Kept) (q r : PartyPlace) : Type 0 where
+pub record HasUnread (cache : Cache) (i : ℕ) (at : Oid) (ptr : Ptr) (read back : Read) (old now : CellLog Kept) (q r : PartyPlace) : Type 0 where
   pub same : back ≡ read
   pub of : IsReadOf ptr r back
+  pub uncached : DbufHas (λ d. d.state ≡ state.Uncached) (dbuf_at at now.dbufs)
   pub taken : (p : PartyPlace) (before : OnHeap) → AsTaken cache i p before old q → AsTaken cache i p before now r
 
 -- ---- the end of a load
@@ -128,10 +129,11 @@ pub record EndsKept (cache : Cache) (i : ℕ) (at : Oid) (ptr : Ptr) (read : Rea
   pub kept : HasKept cache i at ptr p mid read cell.value q
 
 -- memory was refused: the mark was taken back, and then what was read given back
-pub record EndsUnkept (cache : Cache) (i : ℕ) (read : Read) (p : PartyPlace) (why : DbufFault) (q : PartyPlace) : Type 0 where
+pub record EndsUnkept (cache : Cache) (i : ℕ) (at : Oid) (read : Read) (p : PartyPlace) (why : DbufFault) (q : PartyPlace) : Type 0 where
   pub mid : OnHeap
   pub free : PartyPlace
   pub given : HasGiven cache i p mid [] [] free
+  pub unmarked : IsUnmarked i at free
   pub drops : DropsRead cache.config read free q
   pub is : why ≡ fault.NoMemory
   pub party : IsPartyOf cache q
@@ -139,7 +141,7 @@ pub record EndsUnkept (cache : Cache) (i : ℕ) (read : Read) (p : PartyPlace) (
 
 abbrev pub EndsLoad : Cache → (i : ℕ) → Oid → Ptr → Read → (p q : PartyPlace) → Result OnHeap DbufFault → Type 0
 EndsLoad cache i at ptr read p q (Ok cell) = EndsKept cache i at ptr read p cell q
-EndsLoad cache i at ptr read p q (Err why) = EndsUnkept cache i read p why q
+EndsLoad cache i at ptr read p q (Err why) = EndsUnkept cache i at read p why q
 
 -- ---- a block whose bytes are there
 

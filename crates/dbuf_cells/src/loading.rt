@@ -9,7 +9,7 @@ ghost use Rattle.arc_table.specs.Looking.{HasNoLook};
 ghost use Rattle.arc_table.specs.Reading.{KeepsDevice, outside};
 ghost use Rattle.vdev_io.specs.Calls.{KeepsPool};
 ghost use Rattle.dbuf_state.specs.InHand.{are_at_rest};
-ghost use Rattle.dbuf_cells.specs.Bringing.{Claims, DropsRead};
+ghost use Rattle.dbuf_cells.specs.Bringing.{Claims, DropsRead, IsUnmarked};
 ghost use Rattle.dbuf_cells.specs.InHand.{AsTaken, Gives, HasGiven, IsAtRest, IsRoomier, MayGive};
 ghost use Rattle.dbuf_cells.specs.Loading.{BringsAlone, EndsLoad, HandsOn, HasUnread, IsBroughtBy, IsReadOf, IsToLoad, Keeps, SomeTaken, TakenAlone, mapped_in, to_load};
 ghost use Rattle.dbuf_cells.specs.Turns.{OnHeap};
@@ -74,7 +74,8 @@ fn end_unread(arcs: &Cells, rt: &impl Wait, party: &mut Party<HeapCell>, i: u32,
     requires valid { IsConfig arcs.now.config }
     requires range { IsCell arcs.now.config i }
     requires claims { Claims i at ptr party.old }
-    ensures { (mid : OnHeap) × HasGiven arcs.now i party.old mid [] [] party.new }
+    ensures turn { (mid : OnHeap) × HasGiven arcs.now i party.old mid [] [] party.new }
+    ensures unmarked { IsUnmarked i at party.new }
 {
     let mut cell = retake(arcs, rt, party, i, at, ptr);
     cell.unread(at);
@@ -140,7 +141,7 @@ fn keep_read(
     requires reading { IsBroughtBy party.old.number at ptr.now cell.old.dbufs }
     requires read { IsReadOf ptr.now party.old read }
     ensures ok { OnOk result (Keeps arcs.now i at ptr.now read cell.old cell.new party.old party.new) }
-    ensures err { IfErr result (λ back. HasUnread arcs.now i ptr.now read back cell.old cell.new party.old party.new) }
+    ensures err { IfErr result (λ back. HasUnread arcs.now i at ptr.now read back cell.old cell.new party.old party.new) }
 {
     told(cell);
     match hand_on(arcs, rt, party, i, cell, ptr, read) {

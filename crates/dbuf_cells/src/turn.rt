@@ -49,6 +49,7 @@ pub(crate) fn give(arcs: &Cells, party: &mut Party<HeapCell>, i: u32, cell: Heap
     ensures gives { Gives arcs.now i cell.value party.old party.new }
     ensures claims { ClaimsAre i party.new.number cell.value party.new }
     ensures owned { party.new.own.ledger.holds ≡ party.old.own.ledger.holds }
+    ensures once { IsTrue (is_distinct dbuf_oid cell.value.dbufs) }
 {
     told(&cell);
     arcs.give_cell(party, i, cell);

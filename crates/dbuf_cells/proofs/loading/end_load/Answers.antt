@@ -54,4 +54,4 @@ pub returns-in-Err : goal.returns-in-Err
 returns-in-Err g c =
     let k = c.retake-cell in
     ends-unkept c.args.arcs.now c.args.i c.args.at c.args.ptr.now c.args.read c.args.party.now k.result k.new.party c.deref_mut.result.now c.deref_mut.ensures.value k.ensures.begins k.ensures.reading
-    c.in-Err.read c.keep_read.new.cell c.keep_read.new.party c.in-Err.ensures.err c.give.new.party c.give.ensures.gives c.drop_read.new.party c.drop_read.ensures
+    c.in-Err.read c.keep_read.new.cell c.keep_read.new.party c.in-Err.ensures.err c.give.new.party c.give.ensures.gives c.give.ensures.once c.give.ensures.claims c.drop_read.new.party c.drop_read.ensures

@@ -1,7 +1,8 @@
-use Rattle.std.proofs.Common.{true, ap, subst}
+use Rattle.std.proofs.Common.{IsTrue, true, ap, subst}
 use Rattle.std.specs.List.{AllByRecursion}
 use Rattle.dbuf_state.specs.CellLog.{CellLog}
-use Rattle.dbuf_state.specs.Dbufs.{IsFit}
+use Rattle.dbuf_state.specs.Dbufs.{IsFit, dbuf_oid}
+use Rattle.dbuf_state.specs.Oids.{is_distinct}
 use Rattle.dbuf_state.proofs.HandLemmas.{fit-keeps}
 use Rattle.dbuf_cells.specs.Kept.{bytes_of, key_of}
 use Rattle.dbuf_cells.specs.Turns.{PartyPlace}
@@ -37,3 +38,6 @@ returns-clause-claims c =
 
 pub returns-clause-owned : goal.returns-clause-owned
 returns-clause-owned c = ap (λ (x : PartyPlace). x.own.ledger.holds) c.give_cell.ensures
+
+pub returns-clause-once : goal.returns-clause-once
+returns-clause-once c = subst (λ (x : CellLog Kept). IsTrue (is_distinct dbuf_oid x.dbufs)) c.deref.ensures c.told.ensures.once
