@@ -1,6 +1,7 @@
 pub mod Acts
 pub mod Bringings
 pub mod CellSteps
+pub mod Copies
 pub mod EndLoads
 pub mod Evictions
 pub mod HoldLists
@@ -9,6 +10,7 @@ pub mod Loads
 pub mod Mods
 pub mod Operations
 pub mod PartySteps
+pub mod Patches
 pub mod PutSteps
 pub mod Puts
 pub mod ReadLemmas

@@ -1,7 +1,6 @@
 -- A cell in hand: what was done to it since it was taken, and what is so of the party that has it.
 use Rattle.std.specs.Prelude.{◌≡◌, ◌≢◌, ℕ, ◌+◌, ◌≤◌, true, false, length, replicate, IfNone, IfSome, not, IsTrue, List, [], ◌∷◌, ◌++◌, Bool, Option, Some, None, count_by}
 use Rattle.std.specs.List.{AllByRecursion}
-use Rattle.std.specs.Option.{option_map_or}
 use Rattle.arc_core.specs.Config.{IsConfig}
 use Rattle.arc_core.specs.declared.config.Config.{Config}
 use Rattle.arc_core.specs.declared.event.Event.{Event}

@@ -37,7 +37,7 @@ fn len_of(mapped: Mapped) -> u64
 }
 
 // Whether there is a block, and a range that ends here is inside it.
-fn test_range(at: Oid, end: u64, mapped: Option<Mapped>) -> Result<(), DbufFault>
+pub(crate) fn test_range(at: Oid, end: u64, mapped: Option<Mapped>) -> Result<(), DbufFault>
     ensures { Tests at end mapped result }
 {
     let Some(mapped) = mapped else {

@@ -5,6 +5,7 @@ mod evict;
 mod getting;
 mod kept;
 mod loading;
+mod patching;
 mod place;
 mod putting;
 mod turn;
@@ -12,6 +13,7 @@ mod unholding;
 
 pub use getting::{get, hold};
 pub use kept::{Cells, HeapCell, Kept};
+pub use patching::patch;
 pub use place::cell_of;
 pub use putting::put;
 pub use unholding::unhold;
