@@ -27,7 +27,7 @@ mark b = cond b 1 0
 pub later : (x y : Ptr) (hs : List Ptr) → IsOneOf x hs → IsOneOf x (y ∷ hs)
 later x y hs one = (suc one.0, one.1)
 
-first-or-later : (x y : Ptr) (hs : List Ptr) → IsOneOf x (y ∷ hs) → (y ≡ x) ⊎ IsOneOf x hs
+pub first-or-later : (x y : Ptr) (hs : List Ptr) → IsOneOf x (y ∷ hs) → (y ≡ x) ⊎ IsOneOf x hs
 first-or-later x y hs one = go one.0 one.1
   where
     go : (q : ℕ) → get_elem? (y ∷ hs) q ≡ some x → (y ≡ x) ⊎ IsOneOf x hs
@@ -135,7 +135,7 @@ behind (Some k) x hs one = go (is_held k)
     go false = one
 
 -- and it is what the first keeps, or one behind it
-first-or-behind : (o : Option Kept) (x : Ptr) (hs : List Ptr) → IsOneOf x (hold_in key_of bytes_of is_held o ++ hs) → IsOneOf x (hold_in key_of bytes_of is_held o) ⊎ IsOneOf x hs
+pub first-or-behind : (o : Option Kept) (x : Ptr) (hs : List Ptr) → IsOneOf x (hold_in key_of bytes_of is_held o ++ hs) → IsOneOf x (hold_in key_of bytes_of is_held o) ⊎ IsOneOf x hs
 first-or-behind None x hs one = inr one
 first-or-behind (Some k) x hs one = go (is_held k) one
   where
@@ -143,7 +143,7 @@ first-or-behind (Some k) x hs one = go (is_held k) one
     go true one = ⊎_elim (λ is. inl (0, ap some is)) (λ rest. inr rest) (first-or-later x (ptr-of k) hs one)
     go false one = inr one
 
-first-of : (o : Option Kept) (x : Ptr) (hs : List Ptr) → IsOneOf x (hold_in key_of bytes_of is_held o) → IsOneOf x (hold_in key_of bytes_of is_held o ++ hs)
+pub first-of : (o : Option Kept) (x : Ptr) (hs : List Ptr) → IsOneOf x (hold_in key_of bytes_of is_held o) → IsOneOf x (hold_in key_of bytes_of is_held o ++ hs)
 first-of None x hs one = absurd (some-ne-none x (sym one.1))
 first-of (Some k) x hs one = go (is_held k) one
   where

@@ -1,9 +1,17 @@
+pub mod Acts
+pub mod Bringings
 pub mod CellSteps
+pub mod Copies
+pub mod EndLoads
 pub mod Evictions
 pub mod HoldLists
+pub mod Keeping
+pub mod Loads
 pub mod Mods
 pub mod Operations
 pub mod PartySteps
+pub mod Patches
 pub mod PutSteps
 pub mod Puts
+pub mod ReadLemmas
 pub mod Unholds

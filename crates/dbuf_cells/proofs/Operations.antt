@@ -37,7 +37,7 @@ use Rattle.dbuf_cells.proofs.CellSteps.{done-more, done-roomier}
 
 -- ---- outlines that differ in what may be evicted alone
 
-after-alike : (o a : Outline) (es : List CellEvent) → a.dbufs ≡ o.dbufs → a.events ≡ o.events → ((after_all a es).dbufs ≡ (after_all o es).dbufs) × ((after_all a es).events ≡ (after_all o es).events)
+pub after-alike : (o a : Outline) (es : List CellEvent) → a.dbufs ≡ o.dbufs → a.events ≡ o.events → ((after_all a es).dbufs ≡ (after_all o es).dbufs) × ((after_all a es).events ≡ (after_all o es).events)
 after-alike o a [] ds ev = (ds, ev)
 after-alike o a (e ∷ es) ds ev = after-alike (after o e) (after a e) es (λ z. outline.touched (ev z + 1) (use_of e) (effect (ds z) e)) (λ z. ev z + 1)
 

@@ -268,5 +268,6 @@ once-at-rest cache i at p s q before Then is t happens = record {
   ready = t.ready;
   before = before;
   waits = subst (λ (j : ℕ). WaitsForDbuf cache.config j at t.times p t.ready) is t.waits;
+  rests = t.rests;
   happens = subst (λ (j : ℕ). Then j before t.ready q) is happens;
 }

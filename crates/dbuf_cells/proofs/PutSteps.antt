@@ -50,7 +50,7 @@ use Rattle.dbuf_cells.proofs.PartySteps.{alike-listed, among-held, taken-more}
 
 -- ---- what may be written
 
-state-there : (s : DbState) → is_passing s ≡ false → ((n : ℕ) → s ≢ state.Read n) → is_cached s ≡ false → is_uncached s ≡ true
+pub state-there : (s : DbState) → is_passing s ≡ false → ((n : ℕ) → s ≢ state.Read n) → is_cached s ≡ false → is_uncached s ≡ true
 state-there state.Uncached p r c = refl
 state-there (state.Read n) p r c = absurd (r n refl)
 state-there state.Fill p r c = absurd (false≢true (sym p))

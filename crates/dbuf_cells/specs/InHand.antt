@@ -1,7 +1,6 @@
 -- A cell in hand: what was done to it since it was taken, and what is so of the party that has it.
 use Rattle.std.specs.Prelude.{◌≡◌, ◌≢◌, ℕ, ◌+◌, ◌≤◌, true, false, length, replicate, IfNone, IfSome, not, IsTrue, List, [], ◌∷◌, ◌++◌, Bool, Option, Some, None, count_by}
 use Rattle.std.specs.List.{AllByRecursion}
-use Rattle.std.specs.Option.{option_map_or}
 use Rattle.arc_core.specs.Config.{IsConfig}
 use Rattle.arc_core.specs.declared.config.Config.{Config}
 use Rattle.arc_core.specs.declared.event.Event.{Event}
@@ -37,6 +36,7 @@ use Rattle.dbuf_state.specs.declared.state.DbState.TheVariants as state
 use Rattle.dbuf_state.specs.declared.state.Mapped.{Mapped}
 use Rattle.dbuf_state.specs.declared.state.Mapped.TheVariants as mapped
 use Rattle.dbuf_cells.specs.Kept.{bytes_of, key_of}
+pub use Rattle.dbuf_cells.specs.Turns.{IsAtRest}
 use Rattle.dbuf_cells.specs.Turns.{AreEvictions, CellTurn, MakesAll, OnHeap, PartyPlace, WaitsForDbuf, dbuf_meanings, holds_of}
 use Rattle.dbuf_cells.specs.declared.kept.Kept.{Kept}
 use Rattle.dbuf_cells.specs.declared.kept.Kept.TheVariants.{Held, Loose}
@@ -136,10 +136,6 @@ pub record AsTaken (cache : Cache) (i : ℕ) (p : PartyPlace) (before : OnHeap) 
   pub evicting : Evicting
   pub hand : InHand cache i p before evicting [] [] now q
   pub settled : IsTrue (not (is_due (plain_cell evicting now)))
-
--- nobody brings the block's bytes just now
-abbrev pub IsAtRest : Oid → List (Dbuf Kept) → Type 0
-IsAtRest at ds = (n : ℕ) → option_map_or (λ d. d.state) (dbuf_at at ds) state.Uncached ≢ state.Read n
 
 -- what the party claims of the cell i, by what it lists, is what the number n claims of a cell that is so
 abbrev pub ClaimsAre : (i n : ℕ) → CellLog Kept → PartyPlace → Type 0

@@ -1,5 +1,9 @@
+pub mod Accessing
+pub mod Bringing
 pub mod InHand
 pub mod Kept
+pub mod Loading
+pub mod Patching
 pub mod Places
 pub mod Putting
 pub mod Turns

@@ -1,5 +1,6 @@
 -- A party takes a cell of dbufs, does things to it and makes events of shards meanwhile, and gives it back.
-use Rattle.std.specs.Prelude.{◌≡◌, ℕ, zero, suc, ◌⊎◌, List, [], ◌∷◌, ◌++◌, map, Some}
+use Rattle.std.specs.Prelude.{◌≡◌, ◌≢◌, ℕ, zero, suc, ◌⊎◌, List, [], ◌∷◌, ◌++◌, map, Some}
+use Rattle.std.specs.Option.{option_map_or}
 use Rattle.std.specs.declared.alloc.Global.{Global}
 use Rattle.std.specs.declared.boxed.Box.{Box}
 use Rattle.blk_ptr.specs.declared.key.Key.{Key}
@@ -23,6 +24,7 @@ use Rattle.dbuf_state.specs.Numbers.{claims_in, event_numbers, mapping_numbers, 
 use Rattle.dbuf_state.specs.Objects.{Evicting, Never}
 use Rattle.dbuf_state.specs.Outline.{Outline, after, after_all, mapped_at, outline_of}
 use Rattle.dbuf_state.specs.Soundness.{IsSound, holds_in, plain_cell}
+use Rattle.dbuf_state.specs.declared.dbuf.Dbuf.{Dbuf}
 use Rattle.dbuf_state.specs.declared.event.CellEvent.{CellEvent}
 use Rattle.dbuf_state.specs.declared.event.CellEvent.TheVariants.{Evict}
 use Rattle.dbuf_state.specs.declared.oid.Oid.{Oid}
@@ -96,12 +98,17 @@ abbrev pub WaitsForDbuf : Config → (i : ℕ) → Oid → (times : ℕ) → Par
 WaitsForDbuf g i at zero p q = q ≡ p
 WaitsForDbuf g i at (suc times) p q = (r : PartyPlace) × WaitsForDbuf g i at times p r × FindsBringing g i at r q
 
--- the party waited so often, and then, where the cell was so, this happened
+-- nobody brings the block's bytes just now
+abbrev pub IsAtRest : Oid → List (Dbuf Kept) → Type 0
+IsAtRest at ds = (n : ℕ) → option_map_or (λ d. d.state) (dbuf_at at ds) state.Uncached ≢ state.Read n
+
+-- the party waited so often, and then, where the cell was so and nobody brought the block's bytes, this happened
 pub record OnceAtRest (g : Config) (at : Oid) (p q : PartyPlace) (Then : OnHeap → PartyPlace → PartyPlace → Type 0) : Type 0 where
   pub times : ℕ
   pub ready : PartyPlace
   pub before : OnHeap
   pub waits : WaitsForDbuf g (cell_of g.cells at) at times p ready
+  pub rests : IsAtRest at before.value.dbufs
   pub happens : Then before ready q
 
 -- ---- evictions

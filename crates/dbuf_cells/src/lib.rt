@@ -2,13 +2,18 @@
 #![tactic(auto)]
 
 mod evict;
+mod getting;
 mod kept;
+mod loading;
+mod patching;
 mod place;
 mod putting;
 mod turn;
 mod unholding;
 
+pub use getting::{get, hold};
 pub use kept::{Cells, HeapCell, Kept};
+pub use patching::patch;
 pub use place::cell_of;
 pub use putting::put;
 pub use unholding::unhold;

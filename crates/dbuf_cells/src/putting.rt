@@ -27,7 +27,13 @@ fn filled(alloc: Global, size: u32, fill: u8) -> Result<Vec<u8>, NoMemory>
 }
 
 // Gives up what a dbuf kept, whose bytes nobody needs any more: a hold is released, and a loose block is let go.
-fn give_up(arcs: &Cells, rt: &impl Wait, party: &mut Party<HeapCell>, i: u32, kept: Option<Kept>)
+pub(crate) fn give_up(
+    arcs: &Cells,
+    rt: &impl Wait,
+    party: &mut Party<HeapCell>,
+    i: u32,
+    kept: Option<Kept>,
+)
     requires party { IsPartyOf arcs.now party.old }
     requires look { HasNoLook arcs.now party.old }
     requires out { IfSome kept (IsOut arcs.now.config i party.old) }
@@ -77,7 +83,7 @@ fn is_kept_by(mapped: Option<Mapped>, state: DbState) -> bool
 }
 
 // Whether the dbuf of a block keeps something.
-fn is_kept(cell: &Cell<Kept>, at: Oid) -> bool
+pub(crate) fn is_kept(cell: &Cell<Kept>, at: Oid) -> bool
     ensures { result ≡ dbuf_is (is_clean_in is_cached) at cell.now.dbufs }
 {
     let mapped = cell.mapped(at);

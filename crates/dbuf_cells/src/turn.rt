@@ -38,6 +38,7 @@ pub(crate) fn take(arcs: &Cells, rt: &impl Wait, party: &mut Party<HeapCell>, i:
     requires not_held { ¬ IsAmong i party.old.held }
     ensures begins { AsTaken arcs.now i party.old result result.value party.new }
     ensures claims { ClaimsAre i party.new.number result.value party.old }
+    ensures ledger { party.new.own.ledger ≡ party.old.own.ledger }
 {
     arcs.take_cell(rt, party, i)
 }
@@ -47,6 +48,8 @@ pub(crate) fn give(arcs: &Cells, party: &mut Party<HeapCell>, i: u32, cell: Heap
     requires { MayGive arcs.now i cell.value party.old }
     ensures gives { Gives arcs.now i cell.value party.old party.new }
     ensures claims { ClaimsAre i party.new.number cell.value party.new }
+    ensures owned { party.new.own.ledger.holds ≡ party.old.own.ledger.holds }
+    ensures once { IsTrue (is_distinct dbuf_oid cell.value.dbufs) }
 {
     told(&cell);
     arcs.give_cell(party, i, cell);

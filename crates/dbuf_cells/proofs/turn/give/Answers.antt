@@ -1,9 +1,11 @@
-use Rattle.std.proofs.Common.{true, subst}
+use Rattle.std.proofs.Common.{IsTrue, true, ap, subst}
 use Rattle.std.specs.List.{AllByRecursion}
 use Rattle.dbuf_state.specs.CellLog.{CellLog}
-use Rattle.dbuf_state.specs.Dbufs.{IsFit}
+use Rattle.dbuf_state.specs.Dbufs.{IsFit, dbuf_oid}
+use Rattle.dbuf_state.specs.Oids.{is_distinct}
 use Rattle.dbuf_state.proofs.HandLemmas.{fit-keeps}
 use Rattle.dbuf_cells.specs.Kept.{bytes_of, key_of}
+use Rattle.dbuf_cells.specs.Turns.{PartyPlace}
 use Rattle.dbuf_cells.specs.declared.kept.Kept.{Kept}
 use Rattle.dbuf_cells.proofs.PartySteps.{among-held, gives-claims, has-given, may-give}
 use Rattle.dbuf_cells.proofs.turn.give.Goals as goal
@@ -33,3 +35,9 @@ pub returns-clause-claims : goal.returns-clause-claims
 returns-clause-claims c =
     let m = c.requires in
     gives-claims c.args.arcs.now c.args.i m.from m.before m.evicting m.news m.es c.args.cell c.args.party.now m.hand m.settled (fit-keeps key_of bytes_of (λ h. true) c.args.cell.value.dbufs (subst (λ (x : CellLog Kept). AllByRecursion (IsFit key_of bytes_of) x.dbufs) c.deref.ensures c.told.ensures.fit)) c.give_cell.new.party c.give_cell.ensures
+
+pub returns-clause-owned : goal.returns-clause-owned
+returns-clause-owned c = ap (λ (x : PartyPlace). x.own.ledger.holds) c.give_cell.ensures
+
+pub returns-clause-once : goal.returns-clause-once
+returns-clause-once c = subst (λ (x : CellLog Kept). IsTrue (is_distinct dbuf_oid x.dbufs)) c.deref.ensures c.told.ensures.once

@@ -1,3 +1,6 @@
+use Rattle.arc_table.specs.declared.item.Item.TheVariants as item
+use Rattle.arc_table.proofs.Reached.{took_is}
+use Rattle.dbuf_cells.specs.Turns.{dbuf_meanings}
 use Rattle.dbuf_cells.proofs.PartySteps.{begins, takes-claims}
 use Rattle.dbuf_cells.proofs.turn.take.Goals as goal
 
@@ -12,3 +15,8 @@ returns-clause-claims g c =
     let t = c.take_cell.ensures.took in
     takes-claims c.args.arcs.now c.args.i c.requires.valid c.requires.range c.take_cell.result c.args.party.now c.take_cell.new.party c.requires.party
     record { owners = t.0; knew = t.1; lost = t.2; free = t.3; took = t.4 }
+
+pub returns-clause-ledger : goal.returns-clause-ledger
+returns-clause-ledger g c =
+    let t = c.take_cell.ensures.took in
+    (took_is dbuf_meanings c.args.i (item.Cell c.take_cell.result) c.args.party.now c.take_cell.new.party record { owners = t.0; knew = t.1; lost = t.2; free = t.3; took = t.4 }).ledger

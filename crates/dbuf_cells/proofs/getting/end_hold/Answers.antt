@@ -1,0 +1,34 @@
+use Rattle.std.proofs.Common.{ℕ, ap, ◌∙◌, subst}
+use Rattle.dbuf_state.specs.CellLog.{CellLog}
+use Rattle.dbuf_state.specs.Dbufs.{dbuf_is, is_cached}
+use Rattle.dbuf_state.specs.declared.event.CellEvent.TheVariants.{Pin}
+use Rattle.dbuf_cells.specs.InHand.{IsRoomier}
+use Rattle.dbuf_cells.specs.Loading.{EndsWith, Notes}
+use Rattle.dbuf_cells.specs.declared.kept.Kept.{Kept}
+use Rattle.dbuf_cells.proofs.Acts.{noted-ends, noted-evicts, noted-room, roomy-gives, roomy-may-give}
+use Rattle.dbuf_cells.proofs.getting.end_hold.Goals as goal
+
+pub pin-requires : goal.pin-requires
+pin-requires g c = record { cached = ap (λ (x : CellLog Kept). dbuf_is (λ d. is_cached d.state) c.args.at x.dbufs) c.deref_mut.ensures.value ∙ c.requires.cached }
+
+pub finish-requires-clause-hand : goal.finish-requires-clause-hand
+finish-requires-clause-hand g c =
+    let n = c.number-n.result in
+    noted-evicts c.args.arcs.now c.args.i (Pin n c.args.at) c.args.cell.value c.pin.new.cell c.args.party.now n c.number-n.ensures
+    (subst (λ (x : CellLog Kept). Notes n (Pin n c.args.at) x c.pin.new.cell) c.deref_mut.ensures.value c.in-Ok.ensures.ok) c.requires.hand
+
+pub finish-requires-clause-room : goal.finish-requires-clause-room
+finish-requires-clause-room g c = noted-room c.number-n.result (Pin c.number-n.result c.args.at) c.deref_mut.result.now c.pin.new.cell c.in-Ok.ensures.ok
+
+pub give-requires : goal.give-requires
+give-requires g c = roomy-may-give c.args.arcs.now c.args.i c.args.cell.value c.pin.new.cell c.args.party.now (subst (λ (x : CellLog Kept). IsRoomier x c.pin.new.cell) c.deref_mut.ensures.value c.in-Err.ensures.err) c.requires.hand
+
+pub returns-in-Ok-clause-ok : goal.returns-in-Ok-clause-ok
+returns-in-Ok-clause-ok g c =
+    let n = c.number-n.result in
+    subst (λ (m : ℕ). EndsWith c.args.arcs.now c.args.i (Pin m c.args.at) c.args.cell.value c.args.party.now c.finish.new.party) c.number-n.ensures
+    (noted-ends c.args.arcs.now c.args.i (Pin n c.args.at) c.args.cell.value c.pin.new.cell c.args.party.now n c.number-n.ensures
+    (subst (λ (x : CellLog Kept). Notes n (Pin n c.args.at) x c.pin.new.cell) c.deref_mut.ensures.value c.in-Ok.ensures.ok) c.finish.new.party c.finish.ensures)
+
+pub returns-in-Err-clause-err : goal.returns-in-Err-clause-err
+returns-in-Err-clause-err g c = roomy-gives c.args.arcs.now c.args.i c.args.cell.value c.pin.new.cell c.args.party.now (subst (λ (x : CellLog Kept). IsRoomier x c.pin.new.cell) c.deref_mut.ensures.value c.in-Err.ensures.err) c.give.new.party c.give.ensures.gives

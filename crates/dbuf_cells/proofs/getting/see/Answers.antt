@@ -1,0 +1,9 @@
+use Rattle.std.proofs.Common.{sym, ◌∙◌}
+use Rattle.dbuf_cells.proofs.Acts.{get-notes, see-answer}
+use Rattle.dbuf_cells.proofs.getting.see.Goals as goal
+
+pub returns-clause-ok : goal.returns-clause-ok
+returns-clause-ok c = get-notes c.args.n c.args.at c.args.cell.now c.make_room.new.cell c.make_room.ensures.log c.requires.cached c.note.new.self c.in_ok-make_room.ensures.events c.note.ensures
+
+pub returns-clause-got : goal.returns-clause-got
+returns-clause-got c = see-answer c.args.n c.args.at c.args.cell.now c.make_room.new.cell c.make_room.ensures.log c.requires.cached c.args.w c.shown.new.out c.in-Some.mapped c.len_of-size.result (sym c.in-Some.is ∙ c.mapped.ensures) c.len_of-size.ensures (c.shown.ensures.answer _)

@@ -1,0 +1,12 @@
+use Rattle.dbuf_cells.proofs.Keeping.{keeps-now, unreads-now}
+use Rattle.dbuf_cells.proofs.loading.keep_read.Goals as goal
+
+pub returns-in-Ok-clause-ok : goal.returns-in-Ok-clause-ok
+returns-in-Ok-clause-ok g c =
+    keeps-now c.args.arcs.now c.args.i c.args.at c.args.ptr.now c.args.party.now c.hand_on.new.party c.args.cell.now c.hand_on.new.cell c.hand_on.ensures.log c.requires.reading c.told.ensures.fit c.args.read c.requires.read
+    c.in-Ok.kept c.number.result c.loaded.new.self c.note.new.self c.number.ensures c.in-Ok.ensures.hands c.loaded.ensures c.note.ensures
+
+pub returns-in-Err-clause-err : goal.returns-in-Err-clause-err
+returns-in-Err-clause-err g c =
+    unreads-now c.args.arcs.now c.args.i c.args.at c.args.ptr.now c.args.party.now c.hand_on.new.party c.args.cell.now c.hand_on.new.cell c.hand_on.ensures.log c.requires.reading c.told.ensures.fit c.args.read c.requires.read
+    c.in-Err.read c.unread.new.self c.requires.taken c.in-Err.ensures.hands c.unread.ensures
