@@ -1,0 +1,5 @@
+pub mod Judging
+pub mod LogText
+pub mod Reading
+pub mod DraftKeeps
+pub mod Printed
