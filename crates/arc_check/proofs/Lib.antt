@@ -5,3 +5,5 @@ pub mod EventLemmas
 pub mod LineLemmas
 pub mod DraftLemmas
 pub mod PrintLemmas
+pub mod SameLemmas
+pub mod LawLemmas
