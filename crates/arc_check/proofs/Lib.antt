@@ -7,3 +7,5 @@ pub mod DraftLemmas
 pub mod PrintLemmas
 pub mod SameLemmas
 pub mod LawLemmas
+pub mod CleanLemmas
+pub mod ReadBackLemmas

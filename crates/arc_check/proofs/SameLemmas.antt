@@ -117,7 +117,7 @@ name-some names.Resize = omega arith
 
 -- ---- keys
 
-key-inside : (a : Key) → IsLogKey a → (a.offset < 2 ^ 64) × (a.size < 2 ^ 64)
+pub key-inside : (a : Key) → IsLogKey a → (a.offset < 2 ^ 64) × (a.size < 2 ^ 64)
 key-inside a is = let inside = is.valid.inside in (omega (arith, inside), omega (arith, inside))
 
 key-same : (a b : Key) → IsLogKey a → IsLogKey b → decimal a.offset ≡ decimal b.offset → decimal a.size ≡ decimal b.size → decimal a.birth ≡ decimal b.birth → a ≡ b
@@ -455,7 +455,7 @@ same-sizes a b p q e = ap line_of.Sizes (config-same a b
     (p.write_max ∙ sym q.write_max) (p.headroom ∙ sym q.headroom))
 
 -- there are few parties
-parties-few : (z : Config) → IsConfig z → parties_of z < 2 ^ 64
+pub parties-few : (z : Config) → IsConfig z → parties_of z < 2 ^ 64
 parties-few z is = omega (arith, is.counts.callers.1, is.counts.cells.1)
 
 same-made : (z : Config) → IsConfig z → (a b : Made) → IsMade z a → IsMade z b → spelling (line_of.Made a) ≡ spelling (line_of.Made b) → line_of.Made a ≡ line_of.Made b

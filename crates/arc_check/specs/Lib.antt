@@ -3,3 +3,4 @@ pub mod LogText
 pub mod Reading
 pub mod DraftKeeps
 pub mod Printed
+pub mod ReadBack

@@ -2,6 +2,7 @@
 ghost use Rattle.std.specs.Prelude.{◌≡◌, ℕ, List};
 ghost use Rattle.arc_check.specs.LogText.{IsFirstFault, IsLogText};
 ghost use Rattle.arc_check.specs.Printed.{IsPrintedAsSpelled};
+ghost use Rattle.arc_check.specs.ReadBack.{IsReadBack};
 ghost use Rattle.arc_check.specs.declared.log.Log.{Log};
 ghost use Rattle.trace_text.specs.declared.fault.Kind.{Kind};
 
@@ -21,4 +22,10 @@ pub fn one_log_fault()
     ensures no_log { (text : List ℕ) (log : Log) (line : ℕ) (kind : Kind) → IsLogText text log → IsFirstFault text line kind → ⊥ }
     ensures one { (text : List ℕ) (line other_line : ℕ) (kind other_kind : Kind) →
         IsFirstFault text line kind → IsFirstFault text other_line other_kind → (line ≡ other_line) × (kind ≡ other_kind) }
+{}
+
+/// A head that is followed by the printed form of histories is a log with these histories, where the text has at most 67,108,864 bytes and
+/// 1,000,000 events, its numbers are in range and its keys are of their shards.
+pub fn histories_are_read_back()
+    ensures { IsReadBack }
 {}

@@ -17,7 +17,7 @@ mod verdict;
 mod words;
 
 pub use judge::check;
-pub use laws::{events_are_printed_as_spelled, one_log, one_log_fault};
+pub use laws::{events_are_printed_as_spelled, histories_are_read_back, one_log, one_log_fault};
 pub use log::{Log, LogTextFault};
 pub use reader::read_events;
 pub use trace_text::{Histories, History, Kind};
