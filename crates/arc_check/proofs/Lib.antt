@@ -1,0 +1,11 @@
+pub mod LinesLemmas
+pub mod FieldLemmas
+pub mod Playing
+pub mod EventLemmas
+pub mod LineLemmas
+pub mod DraftLemmas
+pub mod PrintLemmas
+pub mod SameLemmas
+pub mod LawLemmas
+pub mod CleanLemmas
+pub mod ReadBackLemmas

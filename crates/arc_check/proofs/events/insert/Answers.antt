@@ -1,0 +1,10 @@
+use Rattle.std.proofs.Common.{Option, subst, sym}
+use Rattle.arc_core.specs.declared.event.Event.{Event}
+use Rattle.arc_check.specs.Reading.{IsTailRead}
+use Rattle.arc_check.specs.declared.words.Name.TheVariants as names
+use Rattle.arc_check.proofs.events.insert.Goals as goal
+
+pub returns-in_err-digest : goal.returns-in_err-digest
+returns-in_err-digest c = λ parties.
+    subst (λ (o : Option Event). IsTailRead parties names.Insert c.args.n c.args.key c.args.fields.now c.next_digest.new.fields o) (sym c.from_residual.ensures)
+    (λ rest f. c.in_err-digest.ensures f.0 _ f.2 f.4)

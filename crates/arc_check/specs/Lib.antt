@@ -1,0 +1,6 @@
+pub mod Judging
+pub mod LogText
+pub mod Reading
+pub mod DraftKeeps
+pub mod Printed
+pub mod ReadBack
