@@ -91,10 +91,10 @@ FOUR_REPORT = [
     'end 0',
 ]
 # the last block of the longest pool that there may be
-FAR = f'{ARC}block {2 ** 40 - 512} 512 1 {ZEROS}\nread 0 1 0 0 2\n'
+FAR = f'{ARC}block {2 ** 40 - 512} 512 1 {LETTERS}\nread 0 1 0 0 2\n'
 FAR_REPORT = [
     'arc 1',
-    f'0 ok pool {ZEROS} 0000',
+    f'0 ok pool {LETTERS} 6161',
     'shard 0 c 4096 p 2048 anon 0 mru 512 mrug 0 mfu 0 mfug 0 l2 0',
     'count hit 0 miss 1 past 0 pool 1 l2 0 pass 0 set 0',
     'end 0',
@@ -227,6 +227,9 @@ def put_files(program):
     for name, length in ('longest', 2 ** 40), ('longer', 2 ** 40 + 1):
         with open(name, 'wb') as out:
             out.truncate(length)
+            # the last block is none that a place of fewer bits leads to
+            out.seek(2 ** 40 - 512)
+            out.write(b'a' * 512)
     os.mkdir('folder')
     shutil.copy(program, 'itself')
     with open('long', 'w') as out:
@@ -325,6 +328,26 @@ def wrong_opens(program):
     return wrong
 
 
+def wrong_reads(program):
+    """What is wrong where the system does a read of the pool in parts, or not at all. One that a signal interrupts is made again, and one that
+    gives less than was asked for is gone on with; where the file ends before that, or the read fails, that read alone is refused."""
+    given = f'{ARC}block 0 512 1 {ZEROS}\nblock 512 512 1 {ZEROS}\nread 0 1 0 0 2\nread 0 2 1 0 2\n'
+    told = [f'{i} ok pool {ZEROS} 0000' for i in range(2)]
+    whole = 0, ['arc 1', *told, 'shard 0 c 4096 p 2048 anon 0 mru 1024 mrug 0 mfu 0 mfug 0 l2 0', 'count hit 0 miss 2 past 0 pool 2 l2 0 pass 0 set 0', 'end 0']
+    refused = 1, ['arc 1', '0 refused pool', told[1], SUMS[0].replace('mfu 512', 'mfu 0'), 'count hit 0 miss 2 past 0 pool 2 l2 0 pass 0 set 0', 'end 1']
+    trace = ['strace', '-qq', '-o', 'calls', '-P', 'zeros', '-e', 'trace=read']
+    wrong = []
+    # the bytes are zeros, so that 100 which were not read are right, and the 412 behind them have to be asked for
+    for way, expected in ('error=EINTR', whole), ('retval=100', whole), ('retval=0', refused), ('error=EIO', refused):
+        ended = subprocess.run([*trace, '-e', f'inject=read:{way}:when=1', program, 'zeros', '-', 'run'], input=given.encode(), capture_output=True, timeout=60)
+        ours = ended.returncode, ended.stdout.decode().splitlines()
+        with open('calls') as file:
+            reads = file.read().count('INJECTED')
+        if ours != expected or reads != 1:
+            wrong.append(f'reads: where one is {way}, at {reads} places, the run ended with {ours}, not with {expected}')
+    return wrong
+
+
 def wrong_refusals(program):
     """What is wrong where memory is refused, at each place where it is asked for: then the status is 7. Each piece of memory is made a call
     of the system of its own, and all such calls from the n-th on are refused, for each n behind those of the loader."""
@@ -355,9 +378,9 @@ def main():
         wrong, rows = wrong_rows(program)
         others = changed_files(contents)
         if has_strace():
-            others += wrong_opens(program) + wrong_refusals(program)
+            others += wrong_opens(program) + wrong_reads(program) + wrong_refusals(program)
         else:
-            print('program: there is no strace, so how the pool is opened and where memory is refused was not looked at')
+            print('program: there is no strace, so how the pool is opened and read, and where memory is refused, was not looked at')
         os.chdir('/')
     for line in wrong + others:
         print(line)
