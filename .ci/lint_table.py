@@ -2,7 +2,7 @@
 """Runs a table over the built arc_lint: .ci/lint_table.py ARC_LINT ARC_TOOL.
 
 A row has what it shows, the words, the standard input, the exit status, and the lines of both outputs; of a text with a fault it has the line's
-number, the kind and what is shown of the line. Each text of a trace or of pages is given to arc_tool too, which must refuse exactly those with a fault.
+number, the kind and what is shown of the line. Each text of a trace, of pages or of a log is given to arc_tool too, which must refuse exactly those with a fault.
 It prints each row that is wrong, and how many were right.
 """
 import os
@@ -33,24 +33,34 @@ PAGES = {
     'Count': 'A list has at most 1,000,000 pages.',
     'Length': 'A list of pages has at most 67,108,864 bytes.',
 }
-USAGE = 'arc_lint: usage: arc_lint [--pages] < FILE; arc_lint --help says more'
+LOG = {
+    'First': 'The first line that counts is the arc line: arc and seven numbers.',
+    'Word': 'There is one arc line, and any other line is l2 and two numbers, or e, a shard, an index and the words of an event that docs/FORMATS.md has.',
+    'Shape': 'A line has the fields that its words want, with one space between each two and none at its end.',
+    'Number': "A number is decimal with no sign and no leading zero, in the range of its field; a key is that of a block; a digest has 64 lower-case hexadecimal digits; an event's last word is one that docs/FORMATS.md has.",
+    'Order': 'An event is the next one of its shard or the first of a greater shard, its key is of that shard, and there is at most one l2 line, in front of all events.',
+    'Count': 'A log has at most 1,000,000 events.',
+    'Length': 'A log has at most 67,108,864 bytes.',
+}
+USAGE = 'arc_lint: usage: arc_lint [--pages | --log] < FILE; arc_lint --help says more'
 NO_OUTPUT = 'arc_lint: the standard output could not be written'
 HELP = '''\
 Tells whether the standard input is a trace for arc_tool: what it declares, or its first line at fault.
 
-Usage: arc_lint [--pages] < FILE
+Usage: arc_lint [--pages | --log] < FILE
 
 Options:
       --pages    Reads a list of pages, as arc_tool's paper takes one, and no trace
+      --log      Reads a log of events, as arc_tool's check takes one, and no trace
   -h, --help     Print help
   -V, --version  Print version
 
-A trace gives 'ok' and what it declares. Of any other text three lines are told:
-the first line at fault by its number, with the kind of its fault; the line, cut
-to 200 bytes; and what is wanted there.
+What the text declares stands behind 'ok'. Of a text with a fault three lines
+are told: the first line at fault by its number, with the kind of its fault; the
+line, cut to 200 bytes; and what is wanted there.
 
 Exit status:
-  0  The text is a trace, or a list of pages
+  0  The text is a trace, a list of pages, or a log of events
   2  A word is wrong
   3  The text has a fault, which was told
   4  The standard input could not be read
@@ -129,6 +139,60 @@ LISTS = [
     ('a page too many', '1\n' * 1_000_001, (1_000_001, 'Count', '1')),
     ('a byte too many', '#' * (LONGEST + 1), (1, 'Length', '#' * 200)),
 ]
+MISS = 'e 0 0 miss 0 0 512 1 1'
+ARRIVE = f'e 0 1 arrive 0 0 512 1 {Z} pool'
+FIRST = f'{ARC}{MISS}\n'
+# one caller and two cells, and all that a log may say of one shard; none but the first of these needs to be legal
+EACH = [
+    'miss 0 0 512 1 1', f'arrive 0 0 512 1 {Z} pool', 'hit 0 0 512 1 4611686018427387904', 'drop 0 0 512 1', f'past 0 0 512 1 {Z}', 'hand 0 0 512 1 2', f'insert 2 0 512 1 {Z} 7',
+    'release 2 0 512 1 sole', 'release 2 0 512 1 shared', 'pass 3 0 512 1 0', 'pick 1 0 512 1', 'feedend 1', 'set 1 0 512 1 4096', 'leave 1 0 512 1 gone', 'leave 1 0 512 1 device',
+    'leave 1 0 512 1 memory', 'clear 1 0 512 1', f'restore 1 0 512 1 4096 {Z}', 'restore 1 0 512 1 4096 -', 'resize 1 8192', 'fail 0 0 512 1 pool', 'fail 0 0 512 1 unread',
+    f'arrive 0 0 512 1 {Z} l2', 'miss 0 9223372036854775296 512 18446744073709551615 0', 'miss 0 0 16777216 1 0',
+]
+LOGS = [
+    ('no event', ARC, f'ok {SIZES} events 0'),
+    ('comments and empty lines', f'# all\n\n{ARC}#\n{MISS}\n\n{ARRIVE}', f'ok {SIZES} events 2'),
+    ('bounds', f'{ARC}l2 512 64\n{MISS}\n', f'ok {SIZES[:SIZES.index("write_max")]}write_max 512 headroom 64 events 1'),
+    ('what may not have happened', f'{ARC}e 0 0 drop 0 0 512 1\n', f'ok {SIZES} events 1'),
+    ('each event', 'arc 1 1 16 2 4096 0 0\n' + ''.join(f'e 0 {i} {words}\n' for i, words in enumerate(EACH)), f'ok {SIZES.replace("cells 1", "cells 2")} events {len(EACH)}'),
+    ('shards without events', 'arc 1 16 16 1 4096 0 0\ne 12 0 miss 0 512 512 1 1\ne 14 0 resize 1 4096\n', f'ok {SIZES.replace("shards 1", "shards 16")} events 2'),
+    ('no byte', '', (1, 'First', '')),
+    ('no line that counts', '# nothing\n\n', (1, 'First', '# nothing')),
+    ('an event in front of the sizes', f'{MISS}\n{ARC}', (1, 'First', MISS)),
+    ('too small a cache', f'arc 1 1 16 1 4095 0 0\n{MISS}\n', (1, 'Number', 'arc 1 1 16 1 4095 0 0')),
+    ('a line of a trace', f'{HEAD}', (2, 'Word', f'block 0 512 1 {Z}')),
+    ('a second arc line', f'{FIRST}{ARC}', (3, 'Word', ARC[:-1])),
+    ('an event that is none', f'{ARC}e 0 0 evict 0 0 512 1\n', (2, 'Word', 'e 0 0 evict 0 0 512 1')),
+    ('no name', f'{ARC}e 0 0\n', (2, 'Shape', 'e 0 0')),
+    ('too few fields', f'{ARC}e 0 0 miss 0 0 512 1\n', (2, 'Shape', 'e 0 0 miss 0 0 512 1')),
+    ('too many fields', f'{ARC}e 0 0 drop 0 0 512 1 1\n', (2, 'Shape', 'e 0 0 drop 0 0 512 1 1')),
+    ('an empty field', f'{ARC}e 0 0 miss 0  0 512 1\n', (2, 'Shape', 'e 0 0 miss 0  0 512 1')),
+    ('a restore without its digest', f'{ARC}e 0 0 restore 1 0 512 1 4096\n', (2, 'Shape', 'e 0 0 restore 1 0 512 1 4096')),
+    ('a zero in front', f'{ARC}e 0 00 miss 0 0 512 1 1\n', (2, 'Number', 'e 0 00 miss 0 0 512 1 1')),
+    ('a shard that there is none of', f'{ARC}e 1 0 miss 0 0 512 1 1\n', (2, 'Number', 'e 1 0 miss 0 0 512 1 1')),
+    ('the last party', f'{ARC}e 0 0 drop 2 0 512 1\n', f'ok {SIZES} events 1'),
+    ('a party too many', f'{ARC}e 0 0 drop 3 0 512 1\n', (2, 'Number', 'e 0 0 drop 3 0 512 1')),
+    ('a key between two sectors', f'{ARC}e 0 0 miss 0 1 512 1 1\n', (2, 'Number', 'e 0 0 miss 0 1 512 1 1')),
+    ('a block of no byte', f'{ARC}e 0 0 miss 0 0 0 1 1\n', (2, 'Number', 'e 0 0 miss 0 0 0 1 1')),
+    ('a block that is too large', f'{ARC}e 0 0 miss 0 0 16777728 1 1\n', (2, 'Number', 'e 0 0 miss 0 0 16777728 1 1')),
+    ('a birth of 0', f'{ARC}e 0 0 miss 0 0 512 0 1\n', (2, 'Number', 'e 0 0 miss 0 0 512 0 1')),
+    ('a key behind the end', f'{ARC}e 0 0 miss 0 9223372036854775808 512 1 1\n', (2, 'Number', 'e 0 0 miss 0 9223372036854775808 512 1 1')),
+    ('a tick too late', f'{ARC}e 0 0 miss 0 0 512 1 4611686018427387905\n', (2, 'Number', 'e 0 0 miss 0 0 512 1 4611686018427387905')),
+    ('another last word', f'{FIRST}{ARRIVE[:-4]}disk\n', (3, 'Number', f'{ARRIVE[:-4]}disk')),
+    ('a digest in upper case', f'{FIRST}{ARRIVE.replace(Z, Z.upper())}\n', (3, 'Number', ARRIVE.replace(Z, Z.upper()))),
+    ('lines that end by two characters', FIRST.replace('\n', '\r\n'), (1, 'Number', r'arc 1 1 16 1 4096 0 0\x0d')),
+    ('an index that is not the next', f'{ARC}e 0 1 miss 0 0 512 1 1\n', (2, 'Order', 'e 0 1 miss 0 0 512 1 1')),
+    ('an event twice', f'{FIRST}{MISS}\n', (3, 'Order', MISS)),
+    ('a lower shard', 'arc 1 16 16 1 4096 0 0\ne 12 0 miss 0 512 512 1 1\ne 0 0 miss 0 0 512 1 1\n', (3, 'Order', 'e 0 0 miss 0 0 512 1 1')),
+    ('a key of another shard', 'arc 1 16 16 1 4096 0 0\ne 1 0 miss 0 0 512 1 1\n', (2, 'Order', 'e 1 0 miss 0 0 512 1 1')),
+    ('bounds twice', f'{ARC}l2 8388608 2\nl2 8388608 2\n', (3, 'Order', 'l2 8388608 2')),
+    ('bounds behind an event', f'{FIRST}l2 8388608 2\n', (3, 'Order', 'l2 8388608 2')),
+    ('bounds too small', f'{ARC}l2 511 2\n', (2, 'Number', 'l2 511 2')),
+    ('a number before the order', f'{ARC}e 0 1 drop 3 0 512 1\n', (2, 'Number', 'e 0 1 drop 3 0 512 1')),
+    ('all events', ARC + ''.join(f'e 0 {i} resize 1 4096\n' for i in range(1_000_000)), f'ok {SIZES} events 1000000'),
+    ('an event too many', ARC + ''.join(f'e 0 {i} resize 1 4096\n' for i in range(1_000_001)), (1_000_002, 'Count', 'e 0 1000000 resize 1 4096')),
+    ('a byte too many', FIRST + '#' * (LONGEST + 1 - len(FIRST)), (3, 'Length', '#' * 200)),
+]
 # what it shows; the words; the text, or 'folder'; the exit status and the lines of both outputs; and what is special of the standard output
 PROGRAM = [
     ('the help', ['--help'], '', 0, HELP, []),
@@ -137,6 +201,8 @@ PROGRAM = [
     ('an unknown word', ['--page'], ARC, 2, [], [USAGE]),
     ('a file', ['trace'], ARC, 2, [], [USAGE]),
     ('a word twice', ['--pages', '--pages'], ARC, 2, [], [USAGE]),
+    ('two formats', ['--log', '--pages'], ARC, 2, [], [USAGE]),
+    ('two formats, the other first', ['--pages', '--log'], ARC, 2, [], [USAGE]),
     ('a word that is no text', [b'\xff'], ARC, 2, [], [USAGE]),
     ('a source that fails', [], 'folder', 4, [], ['arc_lint: the standard input could not be read']),
     ('a full output', [], ARC, 5, [], [NO_OUTPUT], 'full'),
@@ -154,7 +220,7 @@ def told(words, found, wanted):
 
 
 def rows():
-    for table, words, command, wanted in (TRACES, [], ['run'], TRACE), (LISTS, ['--pages'], ['paper', '1'], PAGES):
+    for table, words, command, wanted in (TRACES, [], ['run'], TRACE), (LISTS, ['--pages'], ['paper', '1'], PAGES), (LOGS, ['--log'], ['check'], LOG):
         for name, text, found in table:
             words, status, output = told(words, found, wanted)
             yield name, words, text, status, output, [], None, command

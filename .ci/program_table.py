@@ -121,22 +121,31 @@ Words:
   paper C              Reads page numbers from the standard input, one a line,
                        and tells which are hits of ARC for C pages; C is from
                        1 to 65536
+  check                Reads a log of events from the standard input, as run
+                       --events prints them behind an arc line, and tells
+                       whether they may have happened
 
-The report goes to the standard output.
+What was found goes to the standard output.
 
 Exit status:
   0   Everything was done
   1   The trace was run, and some reply is a refusal
   2   A word behind the file names is wrong; its index from 0 is told
-  3   The standard input holds no trace, or no list of pages
+  3   The standard input holds no trace, no list of pages, or no log
   4   The standard input could not be read
   5   The standard output could not be written
   6   The pool could not be opened once more for each of several callers
   7   There was too little memory
   9   The file names are missing, or a word is not UTF-8
+  10  An event of the log may not come where it stands
   11  The pool's file could not be opened, or is longer than 2^40 bytes
   12  There is no cache device yet: CACHE is not -
 '''.splitlines()
+MISS = f'{ARC}e 0 0 miss 0 0 512 1 1\n'
+LOG = f'{MISS}e 0 1 arrive 0 0 512 1 {ZEROS} pool\ne 0 2 drop 0 0 512 1\n'
+LEGAL = ['check ok 3', 'shard 0 c 4096 p 2048 anon 0 mru 512 mrug 0 mfu 0 mfug 0 l2 0', 'end 0']
+TOO_EARLY = f'{MISS}e 0 1 drop 0 0 512 1\n'
+ILLEGAL = ['check bad 0 1', 'end 10']
 MADE = [
     'arc 1',
     'shard 0 c 4096 p 2048 anon 0 mru 1536 mrug 0 mfu 1024 mfug 0 l2 0',
@@ -168,6 +177,20 @@ ROWS = [
      ['0 miss', '1 miss', '2 hit', '3 miss', '4 miss', 'paper c 2 p 1 t1 1 t2 1 b1 0 b2 1 hits 1', 'end 0'], []),
     ('no list of pages', ['-', '-', 'paper', '2'], '1 2\n', 3, [], ['arc_tool: status 3']),
     ('room for no page', ['-', '-', 'paper', '0'], '1\n', 2, [], ['arc_tool: word 1']),
+    ('a log', ['-', '-', 'check'], LOG, 0, LEGAL, []),
+    ('a log leaves the pool alone', ['pool', '-', 'check'], LOG, 0, LEGAL, []),
+    ('a log of no event', ['-', '-', 'check'], ARC, 0, ['check ok 0', EMPTY[1], 'end 0'], []),
+    ('a log that cannot be', ['-', '-', 'check'], TOO_EARLY, 10, ILLEGAL, []),
+    ('a log whose first index is 1', ['-', '-', 'check'], f'{ARC}e 0 1 miss 0 0 512 1 1\n', 3, [], ['arc_tool: status 3']),
+    ('a trace in the place of a log', ['-', '-', 'check'], READS, 3, [], ['arc_tool: status 3']),
+    ('a log from a source that fails', ['-', '-', 'check'], 'folder', 4, [], ['arc_tool: status 4']),
+    ('a verdict to a full output', ['-', '-', 'check'], LOG, 5, [], ['arc_tool: status 5'], 'full'),
+    ('the other verdict to a full output', ['-', '-', 'check'], TOO_EARLY, 5, [], ['arc_tool: status 5'], 'full'),
+    ('a verdict to an output that takes a part', ['-', '-', 'check'], LOG.replace('1 1 16', '1 2 16', 1), 5, ['check ok 3', *(LEGAL[1].replace('shard 0', f'shard {i}') for i in range(2))],
+     ['arc_tool: status 5'], 'cut'),
+    ('too little memory for a log', ['-', '-', 'check'], 'long', 7, [], ['arc_tool: status 7'], 'poor'),
+    ('a word behind check', ['-', '-', 'check', 'x'], LOG, 2, [], ['arc_tool: word 1']),
+    ('a missing pool of a log', ['nothing', '-', 'check'], LOG, 11, [], [NO_POOL]),
     ('no word', ['pool', '-'], READS, 2, [], ['arc_tool: word 0']),
     ('a wrong word', ['pool', '-', 'run', '--event'], READS, 2, [], ['arc_tool: word 1']),
     ('a word too many', ['pool', '-', 'run', '--events', 'x'], READS, 2, [], ['arc_tool: word 2']),

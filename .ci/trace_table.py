@@ -1,10 +1,10 @@
 #!/usr/bin/env python3
-"""Runs traces and lists of pages over the built program, each with all the reports that it may have: .ci/trace_table.py PROGRAM.
+"""Runs traces, lists of pages and logs of events over the built program, each with all the reports that it may have: .ci/trace_table.py PROGRAM.
 
 A row has what it shows, the words, the pool (the number of its zero bytes, or its bytes), the standard input, the exit status and
 the reports; there are several where callers may come in several orders, and such a row is run four times. The source comes through a
 pipe, a few bytes at a time. Behind the rows: a larger load of four callers, a pool that may not be written, and each short list of up to three
-pages beside a plain form of the policy. It prints each row that is wrong, and how many were right.
+pages beside a plain form of the policy; and the events of each trace that has a report are judged by `check`. It prints each row that is wrong, and how many were right.
 """
 import collections
 import itertools
@@ -676,6 +676,372 @@ end 0
     Row('a word behind the capacity', ['paper', '2', '3'], 0, '', 2, ['']),
 ]
 
+# Logs of events, worked out by hand. A letter in place of a digest stands for it, as in the traces.
+LOGS = [
+    Row('a log of one read', ['check'], 0, '''\
+arc 1 1 16 1 4096 0 4096
+e 0 0 miss 0 0 512 1 1
+e 0 1 arrive 0 0 512 1 Z pool
+e 0 2 drop 0 0 512 1
+''', 0, ['''\
+check ok 3
+shard 0 c 4096 p 2048 anon 0 mru 512 mrug 0 mfu 0 mfug 0 l2 0
+end 0
+''']),
+    Row('a drop while its block is being read', ['check'], 0, '''\
+arc 1 1 16 1 4096 0 4096
+e 0 0 miss 0 0 512 1 1
+e 0 1 drop 0 0 512 1
+''', 10, ['''\
+check bad 0 1
+end 10
+''']),
+    Row('a log that begins with the index 1', ['check'], 0, '''\
+arc 1 1 16 1 4096 0 4096
+e 0 1 miss 0 0 512 1 1
+''', 3, ['']),
+    Row('a log that is cut', ['check'], 0, '''\
+arc 1 1 16 1 4096 0 4096
+e 0 0 miss 0 0 512 1 1
+''', 0, ['''\
+check ok 1
+shard 0 c 4096 p 2048 anon 512 mru 0 mrug 0 mfu 0 mfug 0 l2 0
+end 0
+''']),
+    Row('a block that comes back from the cache device', ['check'], 0, '''\
+arc 1 1 16 1 4096 0 4096
+l2 131072 2
+e 0 0 miss 0 0 2048 1 1
+e 0 1 arrive 0 0 2048 1 X pool
+e 0 2 drop 0 0 2048 1
+e 0 3 pick 1 0 2048 1
+e 0 4 feedend 1
+e 0 5 set 1 0 2048 1 4096
+e 0 6 miss 0 2048 2048 1 2
+e 0 7 arrive 0 2048 2048 1 X pool
+e 0 8 drop 0 2048 2048 1
+e 0 9 miss 0 4096 2048 1 3
+e 0 10 arrive 0 4096 2048 1 X pool
+e 0 11 drop 0 4096 2048 1
+e 0 12 miss 0 6144 2048 1 4
+e 0 13 arrive 0 6144 2048 1 X pool
+e 0 14 drop 0 6144 2048 1
+e 0 15 miss 0 0 2048 1 5
+e 0 16 arrive 0 0 2048 1 X l2
+e 0 17 drop 0 0 2048 1
+''', 0, ['''\
+check ok 18
+shard 0 c 4096 p 2048 anon 0 mru 2048 mrug 2048 mfu 2048 mfug 0 l2 0
+end 0
+''']),
+    Row('a block from the cache device that has no place there', ['check'], 0, '''\
+arc 1 1 16 1 4096 0 4096
+l2 131072 2
+e 0 0 miss 0 0 2048 1 1
+e 0 1 arrive 0 0 2048 1 X pool
+e 0 2 drop 0 0 2048 1
+e 0 3 miss 0 2048 2048 1 2
+e 0 4 arrive 0 2048 2048 1 X pool
+e 0 5 drop 0 2048 2048 1
+e 0 6 miss 0 4096 2048 1 3
+e 0 7 arrive 0 4096 2048 1 X pool
+e 0 8 drop 0 4096 2048 1
+e 0 9 miss 0 6144 2048 1 4
+e 0 10 arrive 0 6144 2048 1 X pool
+e 0 11 drop 0 6144 2048 1
+e 0 12 miss 0 0 2048 1 5
+e 0 13 arrive 0 0 2048 1 X l2
+e 0 14 drop 0 0 2048 1
+''', 10, ['''\
+check bad 0 13
+end 10
+''']),
+    Row('a feed that ends although a block may be picked', ['check'], 0, '''\
+arc 1 1 16 1 4096 0 4096
+l2 131072 2
+e 0 0 miss 0 0 2048 1 1
+e 0 1 arrive 0 0 2048 1 X pool
+e 0 2 drop 0 0 2048 1
+e 0 3 feedend 1
+e 0 4 set 1 0 2048 1 4096
+e 0 5 miss 0 2048 2048 1 2
+e 0 6 arrive 0 2048 2048 1 X pool
+e 0 7 drop 0 2048 2048 1
+e 0 8 miss 0 4096 2048 1 3
+e 0 9 arrive 0 4096 2048 1 X pool
+e 0 10 drop 0 4096 2048 1
+e 0 11 miss 0 6144 2048 1 4
+e 0 12 arrive 0 6144 2048 1 X pool
+e 0 13 drop 0 6144 2048 1
+e 0 14 miss 0 0 2048 1 5
+e 0 15 arrive 0 0 2048 1 X l2
+e 0 16 drop 0 0 2048 1
+''', 10, ['''\
+check bad 0 3
+end 10
+''']),
+    Row('a block that was not picked gets a place', ['check'], 0, '''\
+arc 1 1 16 1 4096 0 4096
+l2 131072 2
+e 0 0 miss 0 0 2048 1 1
+e 0 1 arrive 0 0 2048 1 X pool
+e 0 2 drop 0 0 2048 1
+e 0 3 set 1 0 2048 1 4096
+e 0 4 miss 0 2048 2048 1 2
+e 0 5 arrive 0 2048 2048 1 X pool
+e 0 6 drop 0 2048 2048 1
+e 0 7 miss 0 4096 2048 1 3
+e 0 8 arrive 0 4096 2048 1 X pool
+e 0 9 drop 0 4096 2048 1
+e 0 10 miss 0 6144 2048 1 4
+e 0 11 arrive 0 6144 2048 1 X pool
+e 0 12 drop 0 6144 2048 1
+e 0 13 miss 0 0 2048 1 5
+e 0 14 arrive 0 0 2048 1 X l2
+e 0 15 drop 0 0 2048 1
+''', 10, ['''\
+check bad 0 3
+end 10
+''']),
+    Row('a block that is larger than a feed may pick', ['check'], 0, '''\
+arc 1 1 16 1 4096 0 4096
+l2 2047 64
+e 0 0 miss 0 0 2048 1 1
+e 0 1 arrive 0 0 2048 1 X pool
+e 0 2 drop 0 0 2048 1
+e 0 3 pick 1 0 2048 1
+e 0 4 feedend 1
+e 0 5 set 1 0 2048 1 4096
+e 0 6 miss 0 2048 2048 1 2
+e 0 7 arrive 0 2048 2048 1 X pool
+e 0 8 drop 0 2048 2048 1
+e 0 9 miss 0 4096 2048 1 3
+e 0 10 arrive 0 4096 2048 1 X pool
+e 0 11 drop 0 4096 2048 1
+e 0 12 miss 0 6144 2048 1 4
+e 0 13 arrive 0 6144 2048 1 X pool
+e 0 14 drop 0 6144 2048 1
+e 0 15 miss 0 0 2048 1 5
+e 0 16 arrive 0 0 2048 1 X l2
+e 0 17 drop 0 0 2048 1
+''', 10, ['''\
+check bad 0 3
+end 10
+''']),
+    Row('a place of an earlier run, and its digest', ['check'], 0, '''\
+arc 1 1 16 1 4096 0 4096
+e 0 0 restore 1 0 512 1 4096 Z
+e 0 1 restore 1 512 512 1 4608 -
+e 0 2 miss 0 0 512 1 1
+e 0 3 arrive 0 0 512 1 Z l2
+e 0 4 drop 0 0 512 1
+e 0 5 clear 1 0 512 1
+e 0 6 clear 1 512 512 1
+''', 0, ['''\
+check ok 7
+shard 0 c 4096 p 2048 anon 0 mru 0 mrug 0 mfu 512 mfug 0 l2 0
+end 0
+''']),
+    Row('a place of a block that is there already', ['check'], 0, '''\
+arc 1 1 16 1 4096 0 4096
+e 0 0 miss 0 0 512 1 1
+e 0 1 arrive 0 0 512 1 Z pool
+e 0 2 drop 0 0 512 1
+e 0 3 restore 1 0 512 1 4096 -
+''', 10, ['''\
+check bad 0 3
+end 10
+''']),
+    Row('a dbuf takes a hold, and its block is written', ['check'], 0, '''\
+arc 1 1 16 1 4096 0 4096
+e 0 0 miss 0 0 512 1 1
+e 0 1 arrive 0 0 512 1 Z pool
+e 0 2 hand 0 0 512 1 2
+e 0 3 release 2 0 512 1 sole
+e 0 4 miss 0 0 512 1 3
+e 0 5 arrive 0 0 512 1 Z pool
+e 0 6 drop 0 0 512 1
+''', 0, ['''\
+check ok 7
+shard 0 c 4096 p 2048 anon 0 mru 512 mrug 0 mfu 0 mfug 0 l2 0
+end 0
+''']),
+    Row('two dbufs, of which one at a time is kept', ['check'], 0, '''\
+arc 1 1 16 1 4096 0 4096
+e 0 0 miss 0 0 512 1 1
+e 0 1 arrive 0 0 512 1 Z pool
+e 0 2 hand 0 0 512 1 2
+e 0 3 miss 0 512 512 1 2
+e 0 4 arrive 0 512 512 1 Z pool
+e 0 5 hand 0 512 512 1 2
+e 0 6 drop 2 0 512 1
+e 0 7 hit 0 0 512 1 3
+e 0 8 hand 0 0 512 1 2
+e 0 9 drop 2 512 512 1
+e 0 10 drop 2 0 512 1
+''', 0, ['''\
+check ok 11
+shard 0 c 4096 p 2048 anon 0 mru 512 mrug 0 mfu 512 mfug 0 l2 0
+end 0
+''']),
+    Row('a hold that is said to be the only one', ['check'], 0, '''\
+arc 1 1 16 1 4096 0 4096
+e 0 0 miss 0 0 512 1 1
+e 0 1 arrive 0 0 512 1 Z pool
+e 0 2 hit 0 0 512 1 2
+e 0 3 hand 0 0 512 1 2
+e 0 4 release 2 0 512 1 sole
+''', 10, ['''\
+check bad 0 4
+end 10
+''']),
+    Row('a block that was just written', ['check'], 0, '''\
+arc 1 1 16 1 4096 0 4096
+e 0 0 insert 2 0 512 1 Z 4
+e 0 1 drop 2 0 512 1
+''', 0, ['''\
+check ok 2
+shard 0 c 4096 p 2048 anon 0 mru 512 mrug 0 mfu 0 mfug 0 l2 0
+end 0
+''']),
+    Row('a block that a caller puts in', ['check'], 0, '''\
+arc 1 1 16 1 4096 0 4096
+e 0 0 insert 1 0 512 1 Z 4
+''', 10, ['''\
+check bad 0 0
+end 10
+''']),
+    Row('a scan that goes past a block', ['check'], 0, '''\
+arc 2 1 16 1 4096 0 4096
+e 0 0 miss 0 0 2048 1 1
+e 0 1 arrive 0 0 2048 1 X pool
+e 0 2 drop 0 0 2048 1
+e 0 3 miss 0 2048 2048 1 2
+e 0 4 arrive 0 2048 2048 1 X pool
+e 0 5 drop 0 2048 2048 1
+e 0 6 pass 0 0 2048 1 1
+e 0 7 miss 0 4096 2048 1 3
+e 0 8 arrive 0 4096 2048 1 X pool
+e 0 9 drop 0 4096 2048 1
+e 0 10 hit 1 0 2048 1 4
+e 0 11 drop 1 0 2048 1
+''', 0, ['''\
+check ok 12
+shard 0 c 4096 p 2048 anon 0 mru 2048 mrug 2048 mfu 2048 mfug 0 l2 0
+end 0
+''']),
+    Row('a block that was passed and is missed all the same', ['check'], 0, '''\
+arc 2 1 16 1 4096 0 4096
+e 0 0 miss 0 0 2048 1 1
+e 0 1 arrive 0 0 2048 1 X pool
+e 0 2 drop 0 0 2048 1
+e 0 3 miss 0 2048 2048 1 2
+e 0 4 arrive 0 2048 2048 1 X pool
+e 0 5 drop 0 2048 2048 1
+e 0 6 pass 0 0 2048 1 1
+e 0 7 miss 0 4096 2048 1 3
+e 0 8 arrive 0 4096 2048 1 X pool
+e 0 9 drop 0 4096 2048 1
+e 0 10 miss 1 0 2048 1 4
+''', 10, ['''\
+check bad 0 10
+end 10
+''']),
+    Row('a pass that an event forgets', ['check'], 0, '''\
+arc 2 1 16 1 4096 0 4096
+e 0 0 miss 0 0 2048 1 1
+e 0 1 arrive 0 0 2048 1 X pool
+e 0 2 drop 0 0 2048 1
+e 0 3 miss 0 2048 2048 1 2
+e 0 4 arrive 0 2048 2048 1 X pool
+e 0 5 drop 0 2048 2048 1
+e 0 6 pass 0 0 2048 1 1
+e 0 7 hit 1 2048 2048 1 3
+e 0 8 miss 0 4096 2048 1 4
+e 0 9 arrive 0 4096 2048 1 X pool
+e 0 10 drop 0 4096 2048 1
+e 0 11 drop 1 2048 2048 1
+e 0 12 hit 1 0 2048 1 5
+''', 10, ['''\
+check bad 0 12
+end 10
+''']),
+    Row('a pass that is its own', ['check'], 0, '''\
+arc 2 1 16 1 4096 0 4096
+e 0 0 miss 0 0 2048 1 1
+e 0 1 arrive 0 0 2048 1 X pool
+e 0 2 drop 0 0 2048 1
+e 0 3 miss 0 2048 2048 1 2
+e 0 4 arrive 0 2048 2048 1 X pool
+e 0 5 drop 0 2048 2048 1
+e 0 6 pass 0 0 2048 1 0
+''', 10, ['''\
+check bad 0 6
+end 10
+''']),
+    Row('a block passed twice', ['check'], 0, '''\
+arc 2 1 16 1 4096 0 4096
+e 0 0 miss 0 0 2048 1 1
+e 0 1 arrive 0 0 2048 1 X pool
+e 0 2 drop 0 0 2048 1
+e 0 3 miss 0 2048 2048 1 2
+e 0 4 arrive 0 2048 2048 1 X pool
+e 0 5 drop 0 2048 2048 1
+e 0 6 pass 0 0 2048 1 1
+e 0 7 pass 0 0 2048 1 1
+''', 10, ['''\
+check bad 0 7
+end 10
+''']),
+    Row('a new capacity', ['check'], 0, '''\
+arc 1 1 16 1 8192 0 0
+e 0 0 miss 0 0 2048 1 1
+e 0 1 arrive 0 0 2048 1 X pool
+e 0 2 drop 0 0 2048 1
+e 0 3 miss 0 2048 2048 1 2
+e 0 4 arrive 0 2048 2048 1 X pool
+e 0 5 drop 0 2048 2048 1
+e 0 6 miss 0 4096 2048 1 3
+e 0 7 arrive 0 4096 2048 1 X pool
+e 0 8 drop 0 4096 2048 1
+e 0 9 resize 1 4096
+e 0 10 hit 0 4096 2048 1 5
+e 0 11 hit 0 0 2048 1 6
+''', 10, ['''\
+check bad 0 11
+end 10
+''']),
+    Row('a capacity out of range', ['check'], 0, '''\
+arc 1 1 16 1 4096 0 4096
+e 0 0 resize 1 4095
+''', 10, ['''\
+check bad 0 0
+end 10
+''']),
+    Row('two shards with faults, of which the second stands first', ['check'], 0, '''\
+arc 1 16 16 1 4096 0 0
+e 0 0 miss 0 0 512 1 1
+e 0 1 drop 0 0 512 1
+e 12 0 drop 0 512 512 1
+''', 10, ['''\
+check bad 0 1
+end 10
+''']),
+    Row('a fault in a later shard', ['check'], 0, '''\
+arc 1 16 16 1 4096 0 0
+e 0 0 miss 0 0 512 1 1
+e 12 0 drop 0 512 512 1
+''', 10, ['''\
+check bad 12 0
+end 10
+''']),
+    Row('no event', ['check'], 0, 'arc 1 2 16 1 4096 0 0\n', 0, [
+        'check ok 0\nshard 0 c 4096 p 2048 anon 0 mru 0 mrug 0 mfu 0 mfug 0 l2 0\nshard 1 c 4096 p 2048 anon 0 mru 0 mrug 0 mfu 0 mfug 0 l2 0\nend 0\n',
+    ]),
+    Row('no log', ['check'], 0, '', 3, ['']),
+    Row('a word behind check', ['check', '--events'], 0, '', 2, ['']),
+]
+
 REFUSED = [
     Row('no word', [], 512, 'arc 1 1 16 1 4096 0 0\n', 2, ['']),
     Row('no command', ['ran'], 512, 'arc 1 1 16 1 4096 0 0\n', 2, ['']),
@@ -758,6 +1124,19 @@ def is_locked_pool_read(program):
     return right
 
 
+def is_log_right(program, row):
+    """The events of a run, behind the sizes of its trace, are a legal log, which ends as the report does."""
+    told = run(program, row._replace(words=['run', '--events']))[1].splitlines()
+    heads = [line for line in row.source.splitlines() if line.startswith(('arc ', 'l2 '))]
+    events = [line for line in told if line.startswith('e ')]
+    ends = [line for line in told if line.startswith('shard ')]
+    wanted = 0, ''.join(f'{line}\n' for line in (f'check ok {len(events)}', *ends, 'end 0'))
+    ours = run(program, Row(row.shows, ['check'], 0, ''.join(f'{line}\n' for line in heads + events), 0, []))
+    if ours != wanted:
+        print(f'{row.shows}: the log of its events ended with {ours}, not with {wanted}')
+    return ours == wanted
+
+
 class Policy:
     """The policy on four plain lists, the newest page first."""
 
@@ -834,8 +1213,10 @@ def main():
     program = os.path.abspath(sys.argv[1])
     with tempfile.TemporaryDirectory(prefix='arc_tool.') as work:
         os.chdir(work)
-        results = [is_right(program, row) for row in (*TRACES, *LISTS, *REFUSED, *policy_rows())]
+        results = [is_right(program, row) for row in (*TRACES, *LISTS, *LOGS, *REFUSED, *policy_rows())]
         results += [is_load_right(program), is_locked_pool_read(program)]
+        load = Row('a load of four callers', ['run'], 8 * 131072, LOAD, 0, [])
+        results += [is_log_right(program, row) for row in (*TRACES, load) if row.status in (0, 1, 6)]
         os.chdir('/')
     print(f'traces: {results.count(True)} rows right, {results.count(False)} wrong')
     sys.exit(not all(results))

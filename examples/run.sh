@@ -1,5 +1,5 @@
 #!/usr/bin/env bash
-# Runs a trace of this folder over a pool of 64 KiB of zero bytes: examples/run.sh [--unproved] NAME [--events]. A list of pages is run with room for eight.
+# Runs a trace of this folder over a pool of 64 KiB of zero bytes: examples/run.sh [--unproved] NAME [--events]. A list of pages is run with room for eight, and a log of events is checked.
 # What it prints without --events stands in NAME.report; of several callers, what one run printed. The program is built first where it wasn't yet (program.sh).
 set -eu
 unproved=()
@@ -9,7 +9,8 @@ name=${1:?usage: examples/run.sh [--unproved] NAME [--events]}
 trace=$here/$name.trace
 words=(- run)
 if [ -f "$here/$name.pages" ]; then trace=$here/$name.pages words=(- paper 8); fi
-[ -f "$trace" ] || { echo "examples/run.sh: there is no $name.trace and no $name.pages" >&2; exit 2; }
+if [ -f "$here/$name.log" ]; then trace=$here/$name.log words=(- check); fi
+[ -f "$trace" ] || { echo "examples/run.sh: there is no $name.trace, no $name.pages and no $name.log" >&2; exit 2; }
 pool=$(mktemp)
 trap 'rm -f "$pool"' EXIT
 truncate -s 64K "$pool"

@@ -54,7 +54,7 @@ class Report:
             self.counts = dict(zip(words[1::2], map(int, words[2::2])))
         elif line.startswith('end '):
             self.status = int(line[4:])
-        elif line != 'arc 1' and not line.startswith('rebuilt '):
+        elif line != 'arc 1' and not line.startswith(('rebuilt ', 'io ')):
             raise ValueError
 
     def event(self, line):

@@ -6,7 +6,7 @@ use Rattle.arc_lint.specs.declared.ended.Ended.{Ended}
 use Rattle.arc_lint.specs.declared.ended.Ended.TheVariants.{Fine, Usage, Faulty, SourceFault, SinkFault, NoMemory}
 use Rattle.arc_lint.specs.declared.verdict.Format.{Format}
 use Rattle.arc_lint.specs.declared.verdict.Verdict.{Verdict}
-use Rattle.arc_lint.specs.declared.verdict.Verdict.TheVariants.{Trace, Pages, Bad}
+use Rattle.arc_lint.specs.declared.verdict.Verdict.TheVariants.{Trace, Pages, Log, Bad}
 use Rattle.arc_lint.specs.Stream.{AppendsFront, Gives, NoneFailed, OneFailed, StreamState}
 use Rattle.arc_lint.specs.Told.{verdict_text}
 use Rattle.arc_lint.specs.Verdict.{IsVerdict}
@@ -15,6 +15,7 @@ use Rattle.arc_lint.specs.Verdict.{IsVerdict}
 abbrev pub is_fault : Verdict → Bool
 is_fault (Trace declared) = false
 is_fault (Pages count) = false
+is_fault (Log config count) = false
 is_fault (Bad line kind) = true
 
 -- The source gave this text, all that it had as far as it tells, by calls of which none failed, and this is the verdict on it.

@@ -7,7 +7,7 @@ use Rattle.trace_text.specs.declared.fault.Kind.TheVariants as kinds
 use Rattle.arc_lint.specs.declared.verdict.Declared.{Declared}
 use Rattle.arc_lint.specs.declared.verdict.Format.{Format}
 use Rattle.arc_lint.specs.declared.verdict.Verdict.{Verdict}
-use Rattle.arc_lint.specs.declared.verdict.Verdict.TheVariants.{Trace, Pages, Bad}
+use Rattle.arc_lint.specs.declared.verdict.Verdict.TheVariants.{Trace, Pages, Log, Bad}
 use Rattle.arc_lint.specs.Shown.{line_in, shown}
 use Rattle.arc_lint.specs.Wanted.{wanted}
 
@@ -33,6 +33,9 @@ trace_text declared = codes "ok " ++ declared_words declared ++ codes "\n"
 abbrev pub pages_text : ℕ → List ℕ
 pages_text pages = codes "ok pages " ++ decimal pages ++ codes "\n"
 
+abbrev pub log_text : Config → ℕ → List ℕ
+log_text config events = codes "ok " ++ sizes_words config ++ codes " events " ++ decimal events ++ codes "\n"
+
 -- the name of a kind
 abbrev pub kind_word : Kind → List ℕ
 kind_word kinds.First = codes "First"
@@ -53,4 +56,5 @@ bad_text format text line kind = fault_words line kind ++ shown (line_in text li
 abbrev pub verdict_text : Format → List ℕ → Verdict → List ℕ
 verdict_text format text (Trace declared) = trace_text declared
 verdict_text format text (Pages pages) = pages_text pages
+verdict_text format text (Log config events) = log_text config events
 verdict_text format text (Bad line kind) = bad_text format text line kind

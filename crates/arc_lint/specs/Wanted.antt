@@ -25,6 +25,17 @@ pages_wanted kinds.Order = codes "A line is one page number, with no space."
 pages_wanted kinds.Count = codes "A list has at most 1,000,000 pages."
 pages_wanted kinds.Length = codes "A list of pages has at most 67,108,864 bytes."
 
+-- of a log of events
+abbrev pub log_wanted : Kind → List ℕ
+log_wanted kinds.First = codes "The first line that counts is the arc line: arc and seven numbers."
+log_wanted kinds.Word = codes "There is one arc line, and any other line is l2 and two numbers, or e, a shard, an index and the words of an event that docs/FORMATS.md has."
+log_wanted kinds.Shape = codes "A line has the fields that its words want, with one space between each two and none at its end."
+log_wanted kinds.Number = codes "A number is decimal with no sign and no leading zero, in the range of its field; a key is that of a block; a digest has 64 lower-case hexadecimal digits; an event's last word is one that docs/FORMATS.md has."
+log_wanted kinds.Order = codes "An event is the next one of its shard or the first of a greater shard, its key is of that shard, and there is at most one l2 line, in front of all events."
+log_wanted kinds.Count = codes "A log has at most 1,000,000 events."
+log_wanted kinds.Length = codes "A log has at most 67,108,864 bytes."
+
 abbrev pub wanted : Format → Kind → List ℕ
 wanted formats.Trace kind = trace_wanted kind
 wanted formats.Pages kind = pages_wanted kind
+wanted formats.Log kind = log_wanted kind

@@ -34,7 +34,9 @@ impl Ended {
     pub(crate) fn reason(self) -> Option<&'static str> {
         match self {
             Ended::Fine | Ended::Faulty => None,
-            Ended::Usage => { Some("usage: arc_lint [--pages] < FILE; arc_lint --help says more") }
+            Ended::Usage => {
+                Some("usage: arc_lint [--pages | --log] < FILE; arc_lint --help says more")
+            }
             Ended::SourceFault => Some("the standard input could not be read"),
             Ended::SinkFault => Some("the standard output could not be written"),
             Ended::NoMemory => Some("there was too little memory"),

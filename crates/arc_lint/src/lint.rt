@@ -12,8 +12,8 @@ use std::alloc::Global;
 use trace_text::LONGEST_TEXT;
 use vdev_io::{Failed, Sink, Source};
 
-/// Reads the source, and writes to the sink what its text declares, or its first line at fault: the one that `read_trace` or
-/// `read_pages` tells. At [`Ended::SourceFault`] and [`Ended::NoMemory`] nothing is written, and at [`Ended::SinkFault`] a front of it was.
+/// Reads the source, and writes to the sink what its text declares, or its first line at fault: the one that `read_trace`,
+/// `read_pages` or `read_events` tells. At [`Ended::SourceFault`] and [`Ended::NoMemory`] nothing is written, and at [`Ended::SinkFault`] a front of it was.
 pub(crate) fn lint<S: Source, K: Sink>(
     alloc: Global,
     format: Format,

@@ -1,5 +1,5 @@
-//! `arc_lint` reads a trace, or with `--pages` a list of pages, from the standard input and tells whether it is one: what it
-//! declares, or its first line at fault.
+//! `arc_lint` reads a trace, or with `--pages` a list of pages, or with `--log` a log of events, from the standard input and tells
+//! whether it is one: what it declares, or its first line at fault.
 #![tactic(auto)]
 
 mod asked;

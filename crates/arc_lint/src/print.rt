@@ -1,6 +1,6 @@
 //! What is told of a text.
 ghost use Rattle.std.specs.Prelude.{◌≡◌, IfOk, Some};
-ghost use Rattle.arc_lint.specs.Told.{bad_text, declared_words, fault_words, kind_word, pages_text, sizes_words, trace_text, verdict_text};
+ghost use Rattle.arc_lint.specs.Told.{bad_text, declared_words, fault_words, kind_word, log_text, pages_text, sizes_words, trace_text, verdict_text};
 
 use crate::line::{line_of, write_shown};
 use crate::verdict::{Declared, Format, Verdict};
@@ -23,6 +23,7 @@ pub(crate) fn verdict_text(
     match verdict {
         Verdict::Trace(declared) => trace_text(alloc, declared),
         Verdict::Pages(pages) => pages_text(alloc, pages),
+        Verdict::Log { config, events } => log_text(alloc, config, events),
         Verdict::Bad { line, kind } => bad_text(alloc, format, text, line, kind),
     }
 }
@@ -42,6 +43,15 @@ fn pages_text(alloc: Global, pages: usize) -> Result<Vec<u8>, AllocError>
 {
     let mut told = String::new(alloc);
     write!(told, "ok pages {pages}\n")?;
+    Vec::from_slice(alloc, told.as_bytes())
+}
+
+/// What is told of a log of events.
+fn log_text(alloc: Global, config: Config, events: u128) -> Result<Vec<u8>, AllocError>
+    ensures { IfOk result (λ told. told.items ≡ log_text config events) }
+{
+    let mut told = String::new(alloc);
+    write!(told, "ok {} events {events}\n", SizesWords(config))?;
     Vec::from_slice(alloc, told.as_bytes())
 }
 

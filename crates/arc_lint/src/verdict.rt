@@ -1,8 +1,9 @@
-//! What a text is: a trace, a list of pages, or none, with the first line at fault.
-ghost use Rattle.std.specs.Prelude.{IfOk};
+//! What a text is: a trace, a list of pages, a log of events, or none, with the first line at fault.
+ghost use Rattle.std.specs.Prelude.{◌≡◌, IfOk, length, sum_by};
 ghost use Rattle.arc_lint.specs.Verdict.{IsVerdict};
 ghost use Rattle.arc_lint.specs.declared.verdict.Format.TheVariants as formats;
 
+use arc_check::{History, LogTextFault, read_events};
 use arc_core::Config;
 use blk_ptr::NoMemory;
 use std::alloc::Global;
@@ -15,6 +16,8 @@ pub(crate) enum Format {
     Trace,
     /// A list of pages.
     Pages,
+    /// A log of events.
+    Log,
 }
 
 /// What a trace declares.
@@ -37,6 +40,8 @@ pub(crate) enum Verdict {
     Trace(Declared),
     /// A list of so many pages.
     Pages(usize),
+    /// A log of so many events of a cache of these sizes.
+    Log { config: Config, events: u128 },
     /// Not what it is to be. `line` is the first line at fault, counted from 1.
     Bad { line: u32, kind: Kind },
 }
@@ -48,6 +53,7 @@ pub(crate) fn verdict_on(alloc: Global, format: Format, text: &[u8]) -> Result<V
     match format {
         Format::Trace => trace_verdict(alloc, text),
         Format::Pages => pages_verdict(alloc, text),
+        Format::Log => log_verdict(alloc, text),
     }
 }
 
@@ -76,4 +82,29 @@ fn pages_verdict(alloc: Global, text: &[u8]) -> Result<Verdict, NoMemory>
         Err(TraceFault::Bad { line, kind }) => Ok(Verdict::Bad { line, kind }),
         Err(TraceFault::NoMemory) => Err(NoMemory),
     }
+}
+
+/// Looks at a text that is to be a log of events.
+fn log_verdict(alloc: Global, text: &[u8]) -> Result<Verdict, NoMemory>
+    ensures { IfOk result (IsVerdict formats.Log text.now) }
+{
+    match read_events(alloc, text) {
+        Ok(log) => Ok(Verdict::Log {
+            config: log.config,
+            events: events_in(log.histories.as_slice()),
+        }),
+        Err(LogTextFault::Bad { line, kind }) => Ok(Verdict::Bad { line, kind }),
+        Err(LogTextFault::NoMemory) => Err(NoMemory),
+    }
+}
+
+/// How many events the shards have in all.
+fn events_in(histories: &[History]) -> u128
+    ensures { result ≡ sum_by length histories.now }
+{
+    let mut events = 0;
+    for history in histories {
+        events += history.as_slice().len() as u128;
+    }
+    events
 }

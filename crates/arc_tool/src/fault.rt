@@ -29,10 +29,10 @@ impl Fault {
     /// The standard output failed while the help or the version was printed.
     pub(crate) const SINK: Fault = Fault::Ended(5);
 
-    /// What is told of a run that ended with this status, if anything is: a report speaks for itself.
+    /// What is told of a run that ended with this status, if anything is: a report and a verdict speak for themselves.
     pub(crate) fn of(status: Status) -> Option<Fault> {
         match status {
-            Status::Ok | Status::ReadsFailed => None,
+            Status::Ok | Status::ReadsFailed | Status::Illegal { .. } => None,
             Status::Usage { index } => Some(Fault::Word(index)),
             _ => Some(Fault::Ended(status.code())),
         }

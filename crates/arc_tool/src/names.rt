@@ -59,18 +59,22 @@ Words:
   paper C              Reads page numbers from the standard input, one a line,
                        and tells which are hits of ARC for C pages; C is from
                        1 to 65536
+  check                Reads a log of events from the standard input, as run
+                       --events prints them behind an arc line, and tells
+                       whether they may have happened
 
-The report goes to the standard output.
+What was found goes to the standard output.
 
 Exit status:
   0   Everything was done
   1   The trace was run, and some reply is a refusal
   2   A word behind the file names is wrong; its index from 0 is told
-  3   The standard input holds no trace, or no list of pages
+  3   The standard input holds no trace, no list of pages, or no log
   4   The standard input could not be read
   5   The standard output could not be written
   6   The pool could not be opened once more for each of several callers
   7   There was too little memory
   9   The file names are missing, or a word is not UTF-8
+  10  An event of the log may not come where it stands
   11  The pool's file could not be opened, or is longer than 2^40 bytes
   12  There is no cache device yet: CACHE is not -";

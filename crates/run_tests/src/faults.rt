@@ -38,7 +38,11 @@ fn run_text<R: AllocGlobal + Threads + Wait + Sync>(
 #[test]
 fn a_source_that_fails(rt: HostRuntime) -> Result<(), Fail> {
     for call in [0, 1] {
-        for words in [["run", "--events"].as_slice(), ["paper", "2"].as_slice()] {
+        for words in [
+            ["run", "--events"].as_slice(),
+            ["paper", "2"].as_slice(),
+            ["check"].as_slice(),
+        ] {
             let (outcome, text) = run_text(&rt, words, "1\n2\n", &[call], &[])?;
             assert!(rt; outcome.status == Status::SourceFault && outcome.report.is_none());
             assert!(rt; text.is_empty());

@@ -6,6 +6,8 @@ mod events;
 #[cfg(test)]
 mod faults;
 #[cfg(test)]
+mod printing;
+#[cfg(test)]
 mod reports;
 #[cfg(test)]
 mod traces;

@@ -4,8 +4,9 @@ use blk_ptr::{Digest, Key, KeyFault};
 use std::alloc::{AllocError, Global};
 use std::test::Fail;
 use trace_text::{
-    Ends, FeedReport, FeedStop, Histories, History, Oid, Refusal, Replies, Reply, Report, Served,
-    ShardEnd, Shown, counts_of, report_text,
+    Ends, FeedReport, FeedStop, Histories, History, LogFault, Oid, Rebuilt, Refusal, Replies,
+    Reply, Report, Restored, RestoredList, Served, ShardEnd, Shown, Stop, Totals, counts_of,
+    report_text,
 };
 
 const KEY: Key = Key {
@@ -39,6 +40,8 @@ fn has_words(alloc: Global, reply: Reply, words: &str) -> Result<bool, AllocErro
         replies: Replies::from_vec(replies),
         histories: Histories::from_vec(Vec::new(alloc)),
         ends: Ends::from_vec(Vec::new(alloc)),
+        io: None,
+        rebuilt: None,
         status: 0,
         short: false,
     };
@@ -228,6 +231,8 @@ fn some_report(alloc: Global, short: bool) -> Result<Report, AllocError> {
         replies: Replies::from_vec(replies),
         histories: Histories::from_vec(histories),
         ends,
+        io: None,
+        rebuilt: None,
         status: 1,
         short,
     })
@@ -293,5 +298,117 @@ fn reads_of_the_pool_and_of_the_cache_device(rt: HostRuntime) -> Result<(), Fail
     let counts = counts_of(&[History::from_vec(events)]);
     assert!(rt; counts.pool == 2 && counts.l2 == 1);
     assert!(rt; counts.hit == 0 && counts.miss == 0 && counts.past == 0);
+    Ok(())
+}
+
+/// Whether these lines stand between the counts and the status of a report of nothing else.
+fn has_lines(
+    alloc: Global,
+    io: Option<Totals>,
+    rebuilt: Option<Rebuilt>,
+    lines: &str,
+) -> Result<bool, AllocError> {
+    let report = Report {
+        replies: Replies::from_vec(Vec::new(alloc)),
+        histories: Histories::from_vec(Vec::new(alloc)),
+        ends: Ends::from_vec(Vec::new(alloc)),
+        io,
+        rebuilt,
+        status: 0,
+        short: false,
+    };
+    let counts = "count hit 0 miss 0 past 0 pool 0 l2 0 pass 0 set 0";
+    let text = format!(in alloc; "arc 1\n{counts}\n{lines}end 0\n")?;
+    has_text(alloc, &report, false, text.as_str())
+}
+
+/// What a start found that restored so many keys.
+fn found(alloc: Global, keys: u64, stop: Stop) -> Result<Rebuilt, AllocError> {
+    let mut list = Vec::new(alloc);
+    for number in 0..keys {
+        let place = number * 512;
+        let digest = None;
+        list.push(Restored {
+            key: KEY,
+            place,
+            digest,
+        })?;
+    }
+    let list = RestoredList::from_vec(list);
+    Ok(Rebuilt { list, stop })
+}
+
+/// Whether the line of a start that restored nothing has these words.
+fn stops_with(alloc: Global, stop: Stop, words: &str) -> Result<bool, AllocError> {
+    let line = format!(in alloc; "rebuilt 0 {words}\n")?;
+    let rebuilt = found(alloc, 0, stop)?;
+    has_lines(alloc, None, Some(rebuilt), line.as_str())
+}
+
+#[test]
+fn lines_of_starts(rt: HostRuntime) -> Result<(), Fail> {
+    for (stop, words) in [
+        (Stop::Zero, "zero"),
+        (Stop::Short { len: 512 }, "short"),
+        (Stop::Outside { place: 4_097 }, "outside"),
+        (Stop::Evicted { place: 200_704 }, "evicted"),
+        (Stop::Length { walked: 65_536 }, "length"),
+        (Stop::DevFault, "device"),
+    ] {
+        assert!(rt; stops_with(rt.alloc(), stop, words)?);
+    }
+    Ok(())
+}
+
+#[test]
+fn lines_of_starts_over_bytes_at_fault(rt: HostRuntime) -> Result<(), Fail> {
+    let kept = some_digest();
+    let found = Digest([0; 32]);
+    for (fault, word) in [
+        (LogFault::Magic, "magic"),
+        (LogFault::Version, "version"),
+        (LogFault::Digest { kept, found }, "digest"),
+        (LogFault::Field { at: 8 }, "field"),
+        (LogFault::Length { len: 511 }, "length"),
+    ] {
+        let words = format!(in rt.alloc(); "header {word}")?;
+        assert!(rt; stops_with(rt.alloc(), Stop::Header(fault), words.as_str())?);
+        let words = format!(in rt.alloc(); "block {word}")?;
+        assert!(rt; stops_with(rt.alloc(), Stop::Block(fault), words.as_str())?);
+    }
+    Ok(())
+}
+
+#[test]
+fn the_line_of_a_start_that_restored_keys(rt: HostRuntime) -> Result<(), Fail> {
+    let rebuilt = found(rt.alloc(), 3, Stop::Zero)?;
+    assert!(rt; has_lines(rt.alloc(), None, Some(rebuilt), "rebuilt 3 zero\n")?);
+    Ok(())
+}
+
+#[test]
+fn the_line_of_workers(rt: HostRuntime) -> Result<(), Fail> {
+    let (asked, served, failed) = (8, 7, u64::MAX);
+    let some = Totals {
+        asked,
+        served,
+        failed,
+    };
+    let line = "io asked 8 served 7 failed 18446744073709551615\n";
+    assert!(rt; has_lines(rt.alloc(), Some(some), None, line)?);
+    Ok(())
+}
+
+#[test]
+fn the_lines_of_idle_workers_and_of_a_start(rt: HostRuntime) -> Result<(), Fail> {
+    let (asked, served, failed) = (0, 0, 0);
+    let none = Totals {
+        asked,
+        served,
+        failed,
+    };
+    let rebuilt = found(rt.alloc(), 1, Stop::DevFault)?;
+    let lines = "io asked 0 served 0 failed 0\nrebuilt 1 device\n";
+    assert!(rt; has_lines(rt.alloc(), Some(none), Some(rebuilt), lines)?);
     Ok(())
 }

@@ -19,6 +19,7 @@ words_accepted words did statuses.SourceFault which command is done = (command, 
 words_accepted words did statuses.SinkFault which command is done = (command, is, done)
 words_accepted words did statuses.PoolFault which command is done = (command, is, done)
 words_accepted words did statuses.NoMemory which command is done = (command, is, done)
+words_accepted words did (statuses.Illegal shard index) which command is done = (command, is, done)
 
 zero-one : (n : ℕ) → n ≡ 0 → n ≡ 1 → ⊥
 zero-one n z o = absurd (omega arith)
@@ -39,3 +40,4 @@ gen-status before after statuses.PoolFault (Some report) which present zero_is s
 gen-status before after (statuses.Usage index) report which present zero_is sink = which
 gen-status before after (statuses.BadTrace line kind) report which present zero_is sink = which
 gen-status before after statuses.SourceFault report which present zero_is sink = which
+gen-status before after (statuses.Illegal shard index) report which present zero_is sink = which

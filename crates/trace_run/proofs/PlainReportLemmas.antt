@@ -1,5 +1,5 @@
 -- A report whose replies are those of the plain run, but for other contents of one digest, is the plain report but for them.
-use Rattle.std.proofs.Common.{◌≡◌, ℕ, Bool, true, false, if◌then◌else◌, List, [], ◌∷◌, ◌++◌, map, inl, inr, refl, sym, ap, ◌∙◌}
+use Rattle.std.proofs.Common.{◌≡◌, ℕ, Bool, true, false, if◌then◌else◌, List, [], ◌∷◌, ◌++◌, map, None, inl, inr, refl, sym, ap, ◌∙◌}
 use Rattle.std.specs.Prelude.{filter, slice_get, ◌||◌}
 use Rattle.std.specs.List.{list_any, range_with_len}
 use Rattle.std.specs.Option.{option_map_or}
@@ -121,5 +121,5 @@ plain-but trace image ps report is are =
     let histories = alike-histories trace.config.shards trace.blocks (opening_of trace.config) trace.ops ps rs alike in
     let any = alike-any ps rs alike in
     let same : record (report_with trace ps) { replies = rs } ≡ report_with trace rs =
-    λ i. record { replies = rs; histories = histories i; ends = ends_of trace.config (histories i); status = if any i then 1 else 0; short = false } in
+    λ i. record { replies = rs; histories = histories i; ends = ends_of trace.config (histories i); io = None; rebuilt = None; status = if any i then 1 else 0; short = false } in
     record { replies = are; rest = is ∙ sym same }

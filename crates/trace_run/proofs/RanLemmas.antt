@@ -34,7 +34,7 @@ module _ {C P : Type 0} (pools : Ghosts P) (before after : P) (trace : Trace) (r
       let report : Report = report_of_closed false replies closed in
       let few : length (calls_of_all replies) < 2 ^ 32 = omega (arith, calls-few replies, ran.answers.all, formed.few_ops) in
       let ends : ends_in closed ≡ ends_of trace.config _ = ran.explained.ends ∙ ap (λ (hs : List (List Event)). ends_of trace.config hs) ran.histories in
-      let plain : report ≡ report_with trace replies = report-is trace report ran.histories ends refl refl in
+      let plain : report ≡ report_with trace replies = report-is trace report ran.histories ends refl refl refl refl in
       let told : (image : List ℕ) → pools.told ran.lines.first.pool ≡ Some image → length image ≡ pools.size ran.lines.first.pool =
       subst (λ (p : P). (image : List ℕ) → pools.told p ≡ Some image → length image ≡ pools.size p) (sym ran.lines.from) sized in
       record {
@@ -42,6 +42,8 @@ module _ {C P : Type 0} (pools : Ghosts P) (before after : P) (trace : Trace) (r
         explained = ran.explained;
         tells = record { histories = refl; ends = refl };
         config = ran.config;
+        no_device = refl;
+        no_workers = refl;
         reads = λ low. calls-reads pools (calls_of_all replies) before after ran.made (omega (arith, low, few)) ∙ ap (λ (n : ℕ). pools.reads before + n) ran.counted;
         faults = λ low. omega (arith, calls-faults pools (calls_of_all replies) before after ran.made (omega (arith, low, few)), failed-all replies);
         alone = λ _. (
@@ -75,6 +77,8 @@ module _ {C P : Type 0} (pools : Ghosts P) (before after : P) (trace : Trace) (r
     explained = ran.explained;
     tells = record { histories = refl; ends = refl };
     config = ran.config;
+    no_device = refl;
+    no_workers = refl;
     reads = ran.reads;
     faults = ran.faults;
     alone = λ one. absurd (omega (arith, two, one));

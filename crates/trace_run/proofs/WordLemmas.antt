@@ -2,7 +2,7 @@
 use Rattle.std.proofs.Common.{◌≡◌, ℕ, suc, ◌<◌, ◌≤◌, ◌⊎◌, true, false, List, [], ◌∷◌, ◌++◌, length, take, Some, None, codes, refl, sym, ◌∙◌, ap, subst, add-one, arith, inl, inr}
 use Rattle.std.specs.Prelude.{slice_get, slice_index, decimal, Result, Ok, Err, IsErrAnd, MatchResult}
 use Rattle.trace_run.specs.declared.words.Command.{Command}
-use Rattle.trace_run.specs.declared.words.Command.TheVariants.{Run, Gen, Paper}
+use Rattle.trace_run.specs.declared.words.Command.TheVariants.{Run, Gen, Paper, Check}
 use Rattle.trace_run.specs.Words.{IsCommand, Begins, IsFirstWrong}
 
 same_head : (a b : List ℕ) (rest others : List (List ℕ)) → a ∷ rest ≡ b ∷ others → a ≡ b
@@ -29,19 +29,30 @@ paper_is_not_run e = let bad : 112 ≡ 114 = ap (λ word. slice_index word 0) e 
 paper_is_not_gen : codes "paper" ≡ codes "gen" → ⊥
 paper_is_not_gen e = let bad : 112 ≡ 103 = ap (λ word. slice_index word 0) e in omega (arith, bad)
 
+check_is_not_run : codes "check" ≡ codes "run" → ⊥
+check_is_not_run e = let bad : 99 ≡ 114 = ap (λ word. slice_index word 0) e in omega (arith, bad)
+
+check_is_not_gen : codes "check" ≡ codes "gen" → ⊥
+check_is_not_gen e = let bad : 99 ≡ 103 = ap (λ word. slice_index word 0) e in omega (arith, bad)
+
+check_is_not_paper : codes "check" ≡ codes "paper" → ⊥
+check_is_not_paper e = let bad : 99 ≡ 112 = ap (λ word. slice_index word 0) e in omega (arith, bad)
+
 -- the words of each command behind its first
 
 pub first_word : (word : List ℕ) (rest : List (List ℕ)) (command : Command) → IsCommand (word ∷ rest) command
-    → (word ≡ codes "run") ⊎ ((word ≡ codes "gen") ⊎ (word ≡ codes "paper"))
+    → (word ≡ codes "run") ⊎ ((word ≡ codes "gen") ⊎ ((word ≡ codes "paper") ⊎ (word ≡ codes "check")))
 first_word word rest (Run events) whole = inl (same_head word _ rest _ whole.0)
 first_word word rest (Gen seed blocks ops) whole = inr (inl (same_head word _ rest _ whole.0))
-first_word word rest (Paper c) whole = inr (inr (same_head word _ rest _ whole.0))
+first_word word rest (Paper c) whole = inr (inr (inl (same_head word _ rest _ whole.0)))
+first_word word rest Check whole = inr (inr (inr (same_head word _ rest _ whole.0)))
 
 run_words : (rest : List (List ℕ)) (command : Command) → IsCommand (codes "run" ∷ rest) command → (rest ≡ []) ⊎ (rest ≡ codes "--events" ∷ [])
 run_words rest (Run true) whole = inr (same_tail _ _ rest _ whole.0)
 run_words rest (Run false) whole = inl (same_tail _ _ rest _ whole.0)
 run_words rest (Gen seed blocks ops) whole = absurd (gen_is_not_run (sym (same_head _ _ rest _ whole.0)))
 run_words rest (Paper c) whole = absurd (paper_is_not_run (sym (same_head _ _ rest _ whole.0)))
+run_words rest Check whole = absurd (check_is_not_run (sym (same_head _ _ rest _ whole.0)))
 
 record IsGen (rest : List (List ℕ)) : Type 0 where
   seed : ℕ
@@ -56,6 +67,7 @@ record IsGen (rest : List (List ℕ)) : Type 0 where
 gen_words : (rest : List (List ℕ)) (command : Command) → IsCommand (codes "gen" ∷ rest) command → IsGen rest
 gen_words rest (Run events) whole = absurd (gen_is_not_run (same_head _ _ rest _ whole.0))
 gen_words rest (Paper c) whole = absurd (paper_is_not_gen (sym (same_head _ _ rest _ whole.0)))
+gen_words rest Check whole = absurd (check_is_not_gen (sym (same_head _ _ rest _ whole.0)))
 gen_words rest (Gen s b o) whole = record {
   seed = s;
   blocks = b;
@@ -76,7 +88,14 @@ record IsPaper (rest : List (List ℕ)) : Type 0 where
 paper_words : (rest : List (List ℕ)) (command : Command) → IsCommand (codes "paper" ∷ rest) command → IsPaper rest
 paper_words rest (Run events) whole = absurd (paper_is_not_run (same_head _ _ rest _ whole.0))
 paper_words rest (Gen seed blocks ops) whole = absurd (paper_is_not_gen (same_head _ _ rest _ whole.0))
+paper_words rest Check whole = absurd (check_is_not_paper (sym (same_head _ _ rest _ whole.0)))
 paper_words rest (Paper k) whole = record { c = k; words = same_tail _ _ rest _ whole.0; some = whole.1.0; most = whole.1.1 }
+
+check_words : (rest : List (List ℕ)) (command : Command) → IsCommand (codes "check" ∷ rest) command → rest ≡ []
+check_words rest (Run events) whole = absurd (check_is_not_run (same_head _ _ rest _ whole.0))
+check_words rest (Gen seed blocks ops) whole = absurd (check_is_not_gen (same_head _ _ rest _ whole.0))
+check_words rest (Paper c) whole = absurd (check_is_not_paper (same_head _ _ rest _ whole.0))
+check_words rest Check whole = same_tail _ _ rest _ whole.0
 
 -- what begins a command
 
@@ -98,6 +117,9 @@ begins_gen = record {
 
 begins_paper : Begins (codes "paper" ∷ [])
 begins_paper = record { rest = decimal 1 ∷ []; command = Paper 1; whole = (refl, (omega arith, omega arith)) }
+
+begins_check : Begins (codes "check" ∷ [])
+begins_check = record { rest = []; command = Check; whole = (refl, tt) }
 
 begins_capacity : (c : ℕ) → 1 ≤ c → c ≤ 65536 → Begins (codes "paper" ∷ decimal c ∷ [])
 begins_capacity c some most = record { rest = []; command = Paper c; whole = (refl, (some, most)) }
@@ -158,8 +180,9 @@ no_command : (command : Command) → IsCommand [] command → ⊥
 no_command (Run events) whole = no_words _ _ (sym whole.0)
 no_command (Gen seed blocks ops) whole = no_words _ _ (sym whole.0)
 no_command (Paper c) whole = no_words _ _ (sym whole.0)
+no_command Check whole = no_words _ _ (sym whole.0)
 
-wrong_first : (ws : List (List ℕ)) → ((word : List ℕ) → slice_get ws 0 ≡ Some word → (word ≡ codes "run") ⊎ ((word ≡ codes "gen") ⊎ (word ≡ codes "paper")) → ⊥)
+wrong_first : (ws : List (List ℕ)) → ((word : List ℕ) → slice_get ws 0 ≡ Some word → (word ≡ codes "run") ⊎ ((word ≡ codes "gen") ⊎ ((word ≡ codes "paper") ⊎ (word ≡ codes "check"))) → ⊥)
     → IsFirstWrong ws 0
 wrong_first ws neither =
     wrong_at [] ws begins_nothing
@@ -167,10 +190,10 @@ wrong_first ws neither =
     (λ empty. no_command)
 
 pub other_word : (ws : List (List ℕ)) (text : List ℕ) → Some text ≡ slice_get ws 0 → (text ≡ codes "run" → ⊥) → (text ≡ codes "gen" → ⊥) → (text ≡ codes "paper" → ⊥)
-    → IsFirstWrong ws 0
-other_word ws text there not_run not_gen not_paper = wrong_first ws (λ word is which.
+    → (text ≡ codes "check" → ⊥) → IsFirstWrong ws 0
+other_word ws text there not_run not_gen not_paper not_check = wrong_first ws (λ word is which.
     let same : text ≡ word = same_some text word (there ∙ is) in
-    elim which [ inl e ↦ not_run (same ∙ e) | inr other ↦ elim other [ inl e ↦ not_gen (same ∙ e) | inr e ↦ not_paper (same ∙ e) ] ])
+    elim which [ inl e ↦ not_run (same ∙ e) | inr other ↦ elim other [ inl e ↦ not_gen (same ∙ e) | inr rest ↦ elim rest [ inl e ↦ not_paper (same ∙ e) | inr e ↦ not_check (same ∙ e) ] ] ])
 
 pub no_word : (ws : List (List ℕ)) → None ≡ slice_get ws 0 → IsFirstWrong ws 0
 no_word ws none = wrong_first ws (λ word is which. no_some word (none ∙ is))
@@ -305,6 +328,19 @@ paper_third (w ∷ x ∷ rest) c more first second some most third =
     (λ word is goes_on. let p = paper_words (decimal c ∷ word ∷ goes_on.rest) goes_on.command goes_on.whole in
     no_words _ _ (same_tail _ _ (word ∷ goes_on.rest) [] p.words))
     (λ empty. absurd (is_more rest more third empty)))
+
+-- the words behind `check`
+
+pub check_alone : (ws : List (List ℕ)) → slice_get ws 0 ≡ Some (codes "check") → None ≡ slice_get ws 1 → ws ≡ codes "check" ∷ []
+check_alone [] first end = absurd (no_some _ first)
+check_alone (w ∷ []) first end = rw (same_some w _ first) refl
+check_alone (w ∷ x ∷ ws) first end = absurd (no_some x end)
+
+pub check_second : (ws : List (List ℕ)) (more : List ℕ) → slice_get ws 0 ≡ Some (codes "check") → Some more ≡ slice_get ws 1 → IsFirstWrong ws 1
+check_second [] more first second = absurd (no_some _ first)
+check_second (w ∷ rest) more first second = rw (same_some w _ first) (wrong_at (codes "check" ∷ []) rest begins_check
+    (λ word is goes_on. no_words _ _ (check_words (word ∷ goes_on.rest) goes_on.command goes_on.whole))
+    (λ empty. absurd (is_more rest more second empty)))
 
 -- an error that is handed on tells the first wrong word
 pub hands_on : (ws : List (List ℕ)) (r : Result Command ℕ) (e : ℕ) → IsErrAnd r (λ told. told ≡ e) → IsFirstWrong ws e

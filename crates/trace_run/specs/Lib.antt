@@ -5,6 +5,7 @@ pub mod Answering
 pub mod Answers
 pub mod CallerLines
 pub mod Callers
+pub mod CheckText
 pub mod Effects
 pub mod Ends
 pub mod Explaining

@@ -8,19 +8,27 @@ use Rattle.trace_text.specs.Grammar.{IsTraceText, IsFirstFault, longest_text}
 use Rattle.trace_text.specs.Pages.{IsFirstPageFault, IsPageText}
 use Rattle.trace_text.specs.ReportText.{text_of}
 use Rattle.arc_paper.specs.Text.{text_of as paper_text_of}
+use Rattle.arc_check.specs.Judging.{IsVerdict}
+use Rattle.arc_check.specs.LogText.{IsLogText}
+use Rattle.arc_check.specs.LogText.{IsFirstFault as IsFirstLogFault}
+use Rattle.arc_check.specs.declared.log.Log.{Log}
+use Rattle.arc_check.specs.declared.verdict.Verdict.{Verdict}
+use Rattle.arc_check.specs.declared.verdict.Verdict.TheVariants as verdicts
 use Rattle.trace_text.specs.declared.fault.Kind.{Kind}
 use Rattle.trace_text.specs.declared.fault.Kind.TheVariants as kinds
+use Rattle.trace_text.specs.declared.ends.ShardEnd.{ShardEnd}
 use Rattle.trace_text.specs.declared.report.Report.{Report}
 use Rattle.trace_text.specs.declared.trace.Trace.{Trace}
 use Rattle.trace_run.specs.declared.status.Status.{Status}
 use Rattle.trace_run.specs.declared.status.Status.TheVariants as statuses
 use Rattle.trace_run.specs.declared.words.Command.{Command}
-use Rattle.trace_run.specs.declared.words.Command.TheVariants.{Run, Gen, Paper}
+use Rattle.trace_run.specs.declared.words.Command.TheVariants.{Run, Gen, Paper, Check}
 use Rattle.vdev_io.specs.declared.pool.Pool.{Ghosts}
 use Rattle.arc_core.specs.Operations.{pool_reads}
 use Rattle.arc_table.specs.Ended.{Ended}
 use Rattle.trace_text.specs.Generator.{generated_block, generated_read, generated_sizes}
 use Rattle.trace_run.specs.Answers.{AnswersAll}
+use Rattle.trace_run.specs.CheckText.{check_text}
 use Rattle.trace_run.specs.Explaining.{Explain, RunsAlone}
 use Rattle.trace_run.specs.Lines.{has_undone}
 use Rattle.trace_run.specs.PlainRun.{report_of}
@@ -39,6 +47,7 @@ AnswersWords words did statuses.SourceFault = (command : Command) × IsCommand w
 AnswersWords words did statuses.SinkFault = (command : Command) × IsCommand words command × did command
 AnswersWords words did statuses.PoolFault = (command : Command) × IsCommand words command × did command
 AnswersWords words did statuses.NoMemory = (command : Command) × IsCommand words command × did command
+AnswersWords words did (statuses.Illegal shard index) = (command : Command) × IsCommand words command × did command
 
 -- The source gave a text, all that it had as far as it tells, by calls of which none failed, and the text is this trace.
 pub record WasRead (before after : StreamState) (trace : Trace) : Type 0 where
@@ -71,6 +80,9 @@ pub record IsRun {C P : Type 0} (pool : Ghosts P) (before after : P) (trace : Tr
   pub tells : TellsClosed closed report
   -- the shared cache was made with the trace's numbers
   pub config : closed.config ≡ trace.config
+  -- no cache device was handed in, and no workers read for callers: the report has no line of either
+  pub no_device : report.rebuilt ≡ None
+  pub no_workers : report.io ≡ None
   pub reads : pool.reads before < 2 ^ 63 → pool.reads after ≡ pool.reads before + sum_by pool_reads report.histories
   pub faults : pool.faults before < 2 ^ 63 → pool.faults after ≡ pool.faults before + faults_told fork_failed report.replies
   pub alone : trace.config.callers ≡ 1 → (fork_failed ≡ false) × RunsAlone pool before after trace report
@@ -123,6 +135,7 @@ has_report (statuses.Usage index) = false
 has_report (statuses.BadTrace line kind) = false
 has_report statuses.SourceFault = false
 has_report statuses.NoMemory = false
+has_report (statuses.Illegal shard index) = false
 
 -- at these statuses nothing was run
 abbrev pub ran : Status → Bool
@@ -134,8 +147,9 @@ ran statuses.ReadsFailed = true
 ran statuses.SinkFault = true
 ran statuses.PoolFault = true
 ran statuses.NoMemory = true
+ran (statuses.Illegal shard index) = false
 
--- what a source must have done for a status: one call of it failed where that is told, and none else
+-- what a source must have done for a status: one call of it failed where that is told, and none else. No trace is judged.
 abbrev pub AnswersSource : StreamState → StreamState → Status → Type 0
 AnswersSource before after (statuses.BadTrace line kind) = IsBadTrace before after line kind
 AnswersSource before after statuses.SourceFault = OneFailed before after
@@ -145,6 +159,7 @@ AnswersSource before after (statuses.Usage index) = NoneFailed before after
 AnswersSource before after statuses.SinkFault = NoneFailed before after
 AnswersSource before after statuses.PoolFault = NoneFailed before after
 AnswersSource before after statuses.NoMemory = NoneFailed before after
+AnswersSource before after (statuses.Illegal shard index) = ⊥
 
 -- What was written behind what the sink had: the report's text where the status is the report's, a front of it where the sink
 -- failed, and else nothing. The text has the events where they are asked for. One call of the sink failed where that is told, and none else.
@@ -162,6 +177,7 @@ AnswersSink events before after (statuses.Usage index) report = after ≡ before
 AnswersSink events before after (statuses.BadTrace line kind) report = after ≡ before
 AnswersSink events before after statuses.SourceFault report = after ≡ before
 AnswersSink events before after statuses.NoMemory report = after ≡ before
+AnswersSink events before after (statuses.Illegal shard index) report = ⊥
 
 -- The source gave a text, all that it had as far as it tells, by calls of which none failed, and the text is these pages.
 pub record WerePagesRead (before after : StreamState) (pages : List ℕ) : Type 0 where
@@ -187,6 +203,7 @@ AnswersPageSource before after (statuses.Usage index) = NoneFailed before after
 AnswersPageSource before after statuses.SinkFault = NoneFailed before after
 AnswersPageSource before after statuses.PoolFault = NoneFailed before after
 AnswersPageSource before after statuses.NoMemory = NoneFailed before after
+AnswersPageSource before after (statuses.Illegal shard index) = ⊥
 
 -- What was read and written for a list of pages, with room for c of them: the text of the pages, a front of it where the sink failed,
 -- and else nothing.
@@ -205,6 +222,66 @@ AnswersPages c source_before source_after sink_before sink_after statuses.NoMemo
 AnswersPages c source_before source_after sink_before sink_after statuses.ReadsFailed = ⊥
 AnswersPages c source_before source_after sink_before sink_after statuses.PoolFault = ⊥
 AnswersPages c source_before source_after sink_before sink_after (statuses.Usage index) = ⊥
+AnswersPages c source_before source_after sink_before sink_after (statuses.Illegal shard index) = ⊥
+
+-- The source gave a text, all that it had as far as it tells, by calls of which none failed, and the text is this log of events.
+pub record WasLogRead (before after : StreamState) (log : Log) : Type 0 where
+  pub text : List ℕ
+  pub given : Gives before.told after.told longest_text text
+  pub unfailed : NoneFailed before after
+  pub is_log : IsLogText text log
+
+-- The source was read, to its end or past the longest text, by calls of which none failed, and this is the first fault of what it gave.
+pub record IsBadLog (before after : StreamState) (line : ℕ) (kind : Kind) : Type 0 where
+  pub text : List ℕ
+  pub given : Gives before.told after.told longest_text text
+  pub unfailed : NoneFailed before after
+  pub fault : IsFirstLogFault text line kind
+
+-- what a source must have done for a status at which no log was read
+abbrev pub AnswersLogSource : StreamState → StreamState → Status → Type 0
+AnswersLogSource before after (statuses.BadTrace line kind) = IsBadLog before after line kind
+AnswersLogSource before after statuses.SourceFault = OneFailed before after
+AnswersLogSource before after statuses.NoMemory = NoneFailed before after
+AnswersLogSource before after statuses.Ok = ⊥
+AnswersLogSource before after statuses.ReadsFailed = ⊥
+AnswersLogSource before after (statuses.Usage index) = ⊥
+AnswersLogSource before after statuses.SinkFault = ⊥
+AnswersLogSource before after statuses.PoolFault = ⊥
+AnswersLogSource before after (statuses.Illegal shard index) = ⊥
+
+-- The source gave a log, and this is the verdict on it: each history is legal from the opening of the log's configuration, and the ends are those
+-- of their replays; or the first history that isn't is that of this shard, and the event of this index the first of it that may not come.
+pub record WasJudged (before after : StreamState) (log : Log) (verdict : Verdict) : Type 0 where
+  pub read : WasLogRead before after log
+  pub right : IsVerdict log verdict
+
+-- the verdict's text was written, by calls of which none failed
+pub record IsToldWhole (before after : StreamState) (log : Log) (verdict : Verdict) : Type 0 where
+  pub written : Appends before.told after.told (check_text log verdict)
+  pub unfailed : NoneFailed before after
+
+-- a front of the verdict's text was written before a call of the sink failed
+pub record IsToldInPart (before after : StreamState) (log : Log) (verdict : Verdict) : Type 0 where
+  pub written : AppendsFront before.told after.told (check_text log verdict)
+  pub failed : OneFailed before after
+
+-- What was read and written for a log of events: the verdict on it, whose status says whether it is legal; a front of that text where the sink
+-- failed; and else nothing.
+abbrev pub AnswersLog : (source_before source_after sink_before sink_after : StreamState) → Status → Type 0
+AnswersLog source_before source_after sink_before sink_after statuses.Ok =
+    (log : Log) × (ends : List ShardEnd) × WasJudged source_before source_after log (verdicts.Legal ends) × IsToldWhole sink_before sink_after log (verdicts.Legal ends)
+AnswersLog source_before source_after sink_before sink_after (statuses.Illegal shard index) =
+    (log : Log) × WasJudged source_before source_after log (verdicts.Illegal shard index) × IsToldWhole sink_before sink_after log (verdicts.Illegal shard index)
+AnswersLog source_before source_after sink_before sink_after statuses.SinkFault =
+    (log : Log) × (verdict : Verdict) × WasJudged source_before source_after log verdict × IsToldInPart sink_before sink_after log verdict
+AnswersLog source_before source_after sink_before sink_after (statuses.BadTrace line kind) =
+    IsBadLog source_before source_after line kind × (sink_after ≡ sink_before)
+AnswersLog source_before source_after sink_before sink_after statuses.SourceFault = OneFailed source_before source_after × (sink_after ≡ sink_before)
+AnswersLog source_before source_after sink_before sink_after statuses.NoMemory = NoneFailed source_before source_after × (sink_after ≡ sink_before)
+AnswersLog source_before source_after sink_before sink_after statuses.ReadsFailed = ⊥
+AnswersLog source_before source_after sink_before sink_after statuses.PoolFault = ⊥
+AnswersLog source_before source_after sink_before sink_after (statuses.Usage index) = ⊥
 
 -- ---- what each command does
 
@@ -235,6 +312,7 @@ IsGenStatus statuses.PoolFault = ⊥
 IsGenStatus (statuses.Usage index) = ⊥
 IsGenStatus (statuses.BadTrace line kind) = ⊥
 IsGenStatus statuses.SourceFault = ⊥
+IsGenStatus (statuses.Illegal shard index) = ⊥
 
 -- A made trace reads no source and leaves the pool that was handed in alone.
 pub record DoesGen {C P : Type 0} (seed blocks ops : ℕ) (before after : Handed P) (status : Status) (report : Option Report) (closed : Option (Ended C)) : Type 0 where
@@ -252,10 +330,18 @@ pub record DoesPaper {C P : Type 0} (c : ℕ) (before after : Handed P) (status 
   pub pool : after.pool ≡ before.pool
   pub none : (report ≡ None) × (closed ≡ None)
 
+-- A log of events is judged from what the source gave, of which at most one byte past the longest text is taken. There is no report, and the pool is left alone.
+pub record DoesCheck {C P : Type 0} (before after : Handed P) (status : Status) (report : Option Report) (closed : Option (Ended C)) : Type 0 where
+  pub answers : AnswersLog before.source after.source before.sink after.sink status
+  pub took : TakesAtMost before.source.told after.source.told (longest_text + 1)
+  pub pool : after.pool ≡ before.pool
+  pub none : (report ≡ None) × (closed ≡ None)
+
 abbrev pub Does : {C P : Type 0} → Ghosts P → (before after : Handed P) → Status → Option Report → Option (Ended C) → Command → Type 0
 Does pool before after status report closed (Run events) = DoesRun pool events before after status report closed
 Does pool before after status report closed (Gen seed blocks ops) = DoesGen seed blocks ops before after status report closed
 Does pool before after status report closed (Paper c) = DoesPaper c before after status report closed
+Does pool before after status report closed Check = DoesCheck before after status report closed
 
 -- a fact where the words are refused
 abbrev pub IfUsage : Status → Type 0 → Type 0
@@ -267,6 +353,7 @@ IfUsage statuses.SourceFault fact = Unit {0}
 IfUsage statuses.SinkFault fact = Unit {0}
 IfUsage statuses.PoolFault fact = Unit {0}
 IfUsage statuses.NoMemory fact = Unit {0}
+IfUsage (statuses.Illegal shard index) fact = Unit {0}
 
 -- a status at which a trace was not read
 abbrev pub IsReadStatus : Status → Type 0
@@ -278,6 +365,7 @@ IsReadStatus statuses.ReadsFailed = ⊥
 IsReadStatus (statuses.Usage index) = ⊥
 IsReadStatus statuses.SinkFault = ⊥
 IsReadStatus statuses.PoolFault = ⊥
+IsReadStatus (statuses.Illegal shard index) = ⊥
 
 -- the status of a report of a run
 abbrev pub IsReportStatus : ℕ → Type 0
@@ -293,3 +381,4 @@ IsDelivered statuses.NoMemory = Unit {0}
 IsDelivered (statuses.Usage index) = ⊥
 IsDelivered (statuses.BadTrace line kind) = ⊥
 IsDelivered statuses.SourceFault = ⊥
+IsDelivered (statuses.Illegal shard index) = ⊥

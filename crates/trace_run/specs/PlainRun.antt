@@ -119,6 +119,8 @@ report_with trace replies = record {
   replies = replies;
   histories = one_caller_histories trace.config.shards trace.blocks 0 (opening_of trace.config) trace.ops replies;
   ends = ends_of trace.config (one_caller_histories trace.config.shards trace.blocks 0 (opening_of trace.config) trace.ops replies);
+  io = None;
+  rebuilt = None;
   status = status_of replies;
   short = false;
 }

@@ -1,6 +1,6 @@
 -- A run of several callers, group by group: which operations were answered, what each caller's work did to its forks of the pool, and what the closed
 -- cache tells.
-use Rattle.std.specs.Prelude.{◌≡◌, ℕ, zero, suc, ◌+◌, ◌<◌, ◌≤◌, ◌==◌, ◌&&◌, Bool, true, false, if◌then◌else◌, List, [], ◌∷◌, ◌++◌, Some, count_by, length, map, slice_get, slice_index_or, sum_by, take}
+use Rattle.std.specs.Prelude.{◌≡◌, ℕ, zero, suc, ◌+◌, ◌<◌, ◌≤◌, ◌==◌, ◌&&◌, Bool, true, false, if◌then◌else◌, List, [], ◌∷◌, ◌++◌, None, Some, count_by, length, map, slice_get, slice_index_or, sum_by, take}
 use Rattle.blk_ptr.specs.declared.ptr.Ptr.{Ptr}
 use Rattle.blk_ptr.specs.Hash.{shard_of}
 use Rattle.arc_core.specs.declared.config.Config.{Config}
@@ -44,12 +44,14 @@ abbrev pub faults_told : (fork_failed : Bool) → List Reply → ℕ
 faults_told true replies = count_by is_pool_fault replies + 1
 faults_told false replies = count_by is_pool_fault replies
 
--- the report of a run with these replies, over a shared cache that closed so
+-- the report of a run with these replies, over a shared cache that closed so: no cache device was handed in, and no workers read for callers
 abbrev pub report_of_closed : {C : Type 0} → (fork_failed : Bool) → List Reply → Ended C → Report
 report_of_closed fork_failed replies closed = record {
   replies = replies;
   histories = map (λ log. log.history) closed.shards;
   ends = map (λ log. end_of log.now) closed.shards;
+  io = None;
+  rebuilt = None;
   status = report_status fork_failed replies;
   short = false;
 }

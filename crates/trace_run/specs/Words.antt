@@ -2,19 +2,21 @@
 use Rattle.std.specs.Prelude.{◌≡◌, ℕ, ◌+◌, ◌^◌, ◌<◌, ◌≤◌, List, [], ◌∷◌, ◌++◌, length, take, codes, decimal, slice_get, ◌⊎◌, Some, Result, Ok, Err, String, map, string_bytes, if◌then◌else◌}
 use Rattle.std.specs.Global.{Global}
 use Rattle.trace_run.specs.declared.words.Command.{Command}
-use Rattle.trace_run.specs.declared.words.Command.TheVariants.{Run, Gen, Paper}
+use Rattle.trace_run.specs.declared.words.Command.TheVariants.{Run, Gen, Paper, Check}
 
 -- the words of a command
 abbrev pub words_of : Command → List (List ℕ)
 words_of (Run events) = codes "run" ∷ (if events then codes "--events" ∷ [] else [])
 words_of (Gen seed blocks ops) = codes "gen" ∷ decimal seed ∷ decimal blocks ∷ decimal ops ∷ []
 words_of (Paper c) = codes "paper" ∷ decimal c ∷ []
+words_of Check = codes "check" ∷ []
 
 -- the numbers of a command are in their ranges
 abbrev pub IsInRange : Command → Type 0
 IsInRange (Run events) = Unit {0}
 IsInRange (Gen seed blocks ops) = (seed < 2 ^ 31) × (1 ≤ blocks) × (blocks ≤ 32768) × (ops ≤ 1000000)
 IsInRange (Paper c) = (1 ≤ c) × (c ≤ 65536)
+IsInRange Check = Unit {0}
 
 -- these words are the command
 abbrev pub IsCommand : List (List ℕ) → Command → Type 0

@@ -1,7 +1,8 @@
-//! The run of a trace: from the words and the source to the report on the sink.
+//! The run of a trace: from the words and the source to the report on the sink. Lists of pages and logs of events are answered too.
 #![tactic(auto)]
 
 mod alone;
+mod check;
 mod ending;
 mod get;
 mod group;

@@ -48,6 +48,8 @@ impl Ran {
             replies: Replies::from_vec(self.replies),
             histories,
             ends,
+            io: None,
+            rebuilt: None,
             status,
             short: false,
         };

@@ -14,7 +14,7 @@ pub enum Status {
     ReadsFailed,
     /// No command goes on with the word of this index, counted from 0.
     Usage { index: u32 },
-    /// The source holds no trace. `line` is the first line at fault, counted from 1.
+    /// The source holds no trace, no list of pages or no log of events, whichever was asked for. `line` is the first line at fault, counted from 1.
     BadTrace { line: u32, kind: Kind },
     /// The source failed.
     SourceFault,
@@ -24,6 +24,8 @@ pub enum Status {
     PoolFault,
     /// Memory was refused.
     NoMemory,
+    /// A log of events was judged, and event `index` of shard `shard`, each counted from 0, may not come where it stands.
+    Illegal { shard: u32, index: u64 },
 }
 
 impl Status {
@@ -42,6 +44,7 @@ impl Status {
             Status::SinkFault => 5,
             Status::PoolFault => 6,
             Status::NoMemory => 7,
+            Status::Illegal { .. } => 10,
         }
     }
 }

@@ -10,6 +10,7 @@ ghost use Rattle.trace_run.specs.States.{handed, sink_state, source_state};
 ghost use Rattle.trace_run.specs.Words.{IsInRange, texts};
 ghost use Rattle.trace_run.specs.declared.words.Command.TheVariants as command;
 
+use crate::check::run_check;
 use crate::paper::run_paper;
 use crate::ran::Reported;
 use crate::run_trace::{run_generated_trace, run_trace};
@@ -28,7 +29,7 @@ use vdev_io::{CacheDev, Failed, Gate, Pool, Sink, Source};
 
 /// Does what the words ask: `run` reads a trace from the source and runs it over the pool, `gen` makes a trace and runs it
 /// over a pool of its own. Both write the report to the sink. `paper` reads a list of pages from the source, and writes to the sink
-/// which of them are hits.
+/// which of them are hits. `check` reads a log of events from the source, and writes to the sink whether it is legal.
 ///
 /// The words are looked at first, then the source, then the trace in it. At [`Status::Usage`] nothing is touched; at
 /// [`Status::BadTrace`] and [`Status::SourceFault`] nothing is run and nothing written. At [`Status::SinkFault`] the report is
@@ -66,6 +67,7 @@ pub fn run<R: Threads + Wait + Sync, S: Source, K: Sink, P: Pool, D: CacheDev, G
             alloc, rt, seed, blocks, ops, sink, gate,
         ),
         Ok(Command::Paper { c }) => untold(run_paper(alloc, c, source, sink)),
+        Ok(Command::Check) => untold(run_check(alloc, source, sink)),
         Err(index) => untold(Status::Usage { index }),
     }
 }

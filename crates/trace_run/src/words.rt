@@ -18,6 +18,8 @@ pub(crate) enum Command {
     Gen { seed: u32, blocks: u32, ops: u32 },
     /// `paper C`: tells of each page of the source whether ARC for C pages has it.
     Paper { c: u32 },
+    /// `check`: judges the log of events on the source.
+    Check,
 }
 
 impl Command {
@@ -33,6 +35,7 @@ impl Command {
             "run" => parse_run(words),
             "gen" => parse_gen(words),
             "paper" => parse_paper(words),
+            "check" => parse_check(words),
             _ => Err(0),
         }
     }
@@ -76,6 +79,17 @@ fn parse_paper(words: &[String]) -> Result<Command, u32>
     match word_at(words, 2) {
         None => Ok(Command::Paper { c }),
         Some(_) => Err(2),
+    }
+}
+
+/// The command that begins with the word `check`.
+fn parse_check(words: &[String]) -> Result<Command, u32>
+    requires { slice_get (texts words.now) 0 ≡ Some (codes "check") }
+    ensures { MatchResult result (IsCommand (texts words.now)) (IsFirstWrong (texts words.now)) }
+{
+    match word_at(words, 1) {
+        None => Ok(Command::Check),
+        Some(_) => Err(1),
     }
 }
 

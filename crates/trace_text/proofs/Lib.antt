@@ -12,5 +12,7 @@ pub mod TakenLemmas
 pub mod SameLemmas
 pub mod LawLemmas
 pub mod FormedLemmas
+pub mod PrintedLemmas
+pub mod AppendLemmas
 pub mod GeneratorLemmas
 pub mod CountingLemmas

@@ -1,9 +1,10 @@
--- The lines of a report that tell what the shards end with, and what their events are counted as.
-use Rattle.std.specs.Prelude.{ℕ, ◌+◌, List, [], ◌∷◌, ◌++◌, codes, decimal}
+-- The lines of a report that tell what the shards end with, what their events are counted as, and how often workers read the pool.
+use Rattle.std.specs.Prelude.{ℕ, ◌+◌, List, [], ◌∷◌, ◌++◌, Option, Some, None, codes, decimal}
 use Rattle.trace_text.specs.declared.counts.Counts.{Counts}
 use Rattle.trace_text.specs.EventText.{spaced}
 use Rattle.trace_text.specs.SizesText.{sizes_words}
 use Rattle.trace_text.specs.declared.ends.ShardEnd.{ShardEnd}
+use Rattle.trace_text.specs.declared.totals.Totals.{Totals}
 
 -- what a shard ends with: its size, its target, and the bytes of each state
 abbrev pub end_words : ShardEnd → List ℕ
@@ -19,3 +20,12 @@ abbrev pub count_words : Counts → List ℕ
 count_words counts = spaced (
     codes "hit" ∷ decimal counts.hit ∷ codes "miss" ∷ decimal counts.miss ∷ codes "past" ∷ decimal counts.past ∷ codes "pool" ∷ decimal counts.pool
     ∷ codes "l2" ∷ decimal counts.l2 ∷ codes "pass" ∷ decimal counts.pass ∷ codes "set" ∷ decimal counts.set ∷ [])
+
+-- how often the workers that read the pool were asked
+abbrev pub io_words : Totals → List ℕ
+io_words totals = spaced (codes "asked" ∷ decimal totals.asked ∷ codes "served" ∷ decimal totals.served ∷ codes "failed" ∷ decimal totals.failed ∷ [])
+
+-- the line of it, where there are workers
+abbrev pub io_line : Option Totals → List ℕ
+io_line None = []
+io_line (Some totals) = codes "io " ++ io_words totals ++ codes "\n"

@@ -6,7 +6,9 @@ pub mod Grammar
 pub mod Owned
 pub mod Pages
 pub mod Reading
+pub mod RebuiltText
 pub mod ReportText
 pub mod ReportWords
 pub mod SizesText
 pub mod Taken
+pub mod TraceText

@@ -7,7 +7,7 @@ use crate::ends::ShardEnd;
 use crate::mapping::Mapping;
 use crate::op::Op;
 use crate::reply::Reply;
-use arc_core::{Event, Shard};
+use arc_core::{Event, Restored, Shard};
 use blk_ptr::Ptr;
 use std::alloc::AllocError;
 use std::marker::Model;
@@ -36,6 +36,9 @@ pub type Histories = Items<History>;
 
 /// What the shards end with, in the order of their numbers.
 pub type Ends = Items<ShardEnd>;
+
+/// The keys that the start of a cache device restored, in the order in which they were found.
+pub type RestoredList = Items<Restored>;
 
 impl<T> Model for Items<T> {
     ghost use Rattle.std.specs.Prelude.{List};

@@ -1,6 +1,7 @@
 //! What a text is and is not, told as laws of the grammar.
-ghost use Rattle.std.specs.Prelude.{◌≡◌, ℕ, List};
-ghost use Rattle.trace_text.specs.Grammar.{IsFirstFault, IsTraceText, IsWritten, counted_fields, lines_of};
+ghost use Rattle.std.specs.Prelude.{◌≡◌, ◌≤◌, ℕ, List, length};
+ghost use Rattle.trace_text.specs.Grammar.{IsFirstFault, IsFormed, IsTraceText, IsWritten, counted_fields, lines_of, longest_text};
+ghost use Rattle.trace_text.specs.TraceText.{text_of_trace};
 ghost use Rattle.trace_text.specs.declared.fault.Kind.{Kind};
 ghost use Rattle.trace_text.specs.declared.trace.Trace.{Trace};
 
@@ -13,6 +14,11 @@ pub fn one_trace()
 /// line gives them, of its blocks and of its objects, in any order among each other, and then of its operations.
 pub fn written_lines()
     ensures { (text : List ℕ) (trace : Trace) → IsTraceText text trace → IsWritten (counted_fields (lines_of text)) trace }
+{}
+
+/// A trace that has what each trace has that was read or made is printed as a text that is that trace, where that text is not too long to be read.
+pub fn printed_reads_back()
+    ensures { (trace : Trace) → IsFormed trace → length (text_of_trace trace) ≤ longest_text → IsTraceText (text_of_trace trace) trace }
 {}
 
 /// A text with a first fault is no trace, and has no other first fault. So a reader names a fault only outside the grammar,

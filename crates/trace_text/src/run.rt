@@ -1,7 +1,7 @@
 //! A run of bytes of a trace.
-ghost use Rattle.std.specs.Prelude.{◌≡◌, IfOk, ℕ, List};
+ghost use Rattle.std.specs.Prelude.{◌≡◌, ◌≤◌, IfOk, ℕ, List, length};
 
-use dbuf_state::Shown;
+use dbuf_state::{MOST_SHOWN, Shown};
 use std::alloc::{AllocError, Global};
 use std::marker::Model;
 
@@ -29,7 +29,8 @@ impl Run {
 
     /// The bytes.
     pub fn bytes(&self) -> &[u8]
-        ensures { result.now ≡ self.now }
+        ensures bytes { result.now ≡ self.now }
+        ensures few { length result.now ≤ MOST_SHOWN }
     {
         self.bytes.bytes()
     }

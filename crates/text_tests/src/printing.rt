@@ -1,0 +1,68 @@
+//! How traces are printed.
+use std::alloc::Global;
+use std::test::Fail;
+use trace_text::{TraceFault, gen_trace, print_trace, read_trace};
+
+/// A line of every kind, in the order in which they are printed.
+const EVERY_LINE: &str = "\
+arc 2 1 16 1 4096 0 4096
+l2 4294967296 64
+block 0 512 1 076a27c79e5ace2a3d47f9dd2e83e4ff6ea8872b3c2218f66c92b89b55f36560
+block 4611686018427387904 4294967296 0 abababababababababababababababababababababababababababababababab
+object 7 1 0
+object 4611686018427387904 0 1
+read 0 1 0 508 64
+hold 1 4611686018427387904 1
+drop 1 1
+get 0 3 7 1 4294967295 0
+put 1 4 7 2 16777216 0f
+patch 0 5 7 2 511 00
+patch 0 5 7 2 4294967295 00ff
+pin 1 6 7 1
+unpin 1 7 1
+feed
+txg 7
+cap 4294967296
+";
+
+/// How the trace of this text is printed, behind other bytes.
+fn printed(alloc: Global, text: &str) -> Result<Vec<u8>, TraceFault> {
+    let trace = read_trace(alloc, text.as_bytes())?;
+    let mut out = Vec::new(alloc);
+    match print_trace(alloc, &trace, &mut out) {
+        Ok(()) => Ok(out),
+        Err(_) => Err(TraceFault::NoMemory),
+    }
+}
+
+#[test]
+fn a_trace_of_every_line(rt: HostRuntime) -> Result<(), Fail> {
+    let out = printed(rt.alloc(), EVERY_LINE)?;
+    assert!(rt; out.as_slice() == EVERY_LINE.as_bytes());
+    Ok(())
+}
+
+#[test]
+fn lines_that_are_passed_over_and_lines_in_another_order(rt: HostRuntime) -> Result<(), Fail> {
+    let ones = "1111111111111111111111111111111111111111111111111111111111111111";
+    let text = format!(in rt.alloc();
+        "#\narc 1 1 1 1 4096 0 0\nblock 0 1 2 {ones}\nobject 0 0 0\n\nblock 3 4 5 {ones}\nfeed"
+    )?;
+    let want = format!(in rt.alloc();
+        "arc 1 1 1 1 4096 0 0\nl2 8388608 2\nblock 0 1 2 {ones}\nblock 3 4 5 {ones}\nobject 0 0 0\nfeed\n"
+    )?;
+    let out = printed(rt.alloc(), text.as_str())?;
+    assert!(rt; out.as_slice() == want.as_bytes());
+    Ok(())
+}
+
+#[test]
+fn a_made_trace_behind_another_text(rt: HostRuntime) -> Result<(), Fail> {
+    let trace = gen_trace(rt.alloc(), 1, 1, 2)?;
+    let mut out = Vec::from_slice(rt.alloc(), b"# made\n")?;
+    print_trace(rt.alloc(), &trace, &mut out)?;
+    let want =
+        b"# made\narc 1 1 256 1 4096 0 0\nl2 8388608 2\nblock 0 512 1 076a27c79e5ace2a3d47f9dd2e83e4ff6ea8872b3c2218f66c92b89b55f36560\nread 0 1 0 0 0\nread 0 2 0 0 0\n";
+    assert!(rt; out.as_slice() == want.as_slice());
+    Ok(())
+}

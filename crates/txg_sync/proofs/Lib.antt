@@ -1,0 +1,9 @@
+pub mod Dirty
+pub mod Ended
+pub mod Gathering
+pub mod Hand
+pub mod Kept
+pub mod Loop
+pub mod Noted
+pub mod Steps
+pub mod Taking

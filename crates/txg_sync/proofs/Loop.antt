@@ -1,0 +1,298 @@
+-- The blocks one after another: what is written so far, and what is left.
+use Rattle.std.proofs.Common.{◌≡◌, ◌≢◌, ◌⊎◌, ◌==◌, ℕ, zero, suc, ◌+◌, ◌%◌, ◌<◌, ◌≤◌, Bool, true, false, ◌&&◌, not, IsTrue, List, [], ◌∷◌, ◌++◌, length, drop, slice_get, slice_index_or, slice_set, Option, Some, None, Ok, Err, option_map, refl, sym, ap, ◌∙◌, subst, inl, inr, ⊎_elim, eq-eqb, ne_eqb, eqb-true, arith}
+use Rattle.std.specs.List.{AllByRecursion}
+use Rattle.std.specs.Option.{option_map_or}
+use Rattle.std.proofs.lemmas.List.{append-nil, append_assoc, length-set, get_or_default, get_or-set_same, get_or-set_other}
+use Rattle.std.proofs.lemmas.Bool.Decides.{nat_tests}
+use Rattle.blk_ptr.specs.Ptr.{sha256_of}
+use Rattle.blk_ptr.specs.Size.{IsBlockSize, sector}
+use Rattle.vdev_io.specs.declared.pool.Pool.{Ghosts}
+use Rattle.arc_core.specs.declared.config.Config.{Config}
+use Rattle.arc_table.specs.Cache.{Cache}
+use Rattle.dbuf_state.specs.CellLog.{CellLog}
+use Rattle.dbuf_state.specs.Dbufs.{dbuf_at, dbuf_is, dbuf_oid, is_dirty, synced_to, with_dbuf}
+use Rattle.dbuf_state.specs.Oids.{oid_eq}
+use Rattle.dbuf_state.specs.declared.dbuf.Dbuf.{Dbuf}
+use Rattle.dbuf_state.specs.declared.oid.Oid.{Oid}
+use Rattle.dbuf_state.proofs.CellLemmas.{oid_eq-sym}
+use Rattle.dbuf_state.proofs.IndexLemmas.{bool_cases}
+use Rattle.dbuf_cells.specs.Turns.{OnHeap, PartyPlace}
+use Rattle.dbuf_cells.specs.declared.kept.Kept.{Kept}
+use Rattle.txg_sync.specs.InHand.{AreDueIn, HasTakenAll, InSync, IsDueIn}
+use Rattle.txg_sync.specs.Items.{AreApart, SyncItem, at_place, bytes_of_due, dirty_bytes_at, due_eq, items_from, need_of, tells_written, written_in, written_over}
+use Rattle.txg_sync.specs.Syncing.{IsUnharmed, Looked, Same, TellsTorn}
+use Rattle.txg_sync.specs.Writing.{AltersCell, AnswersDues, IsSyncedTo, RefusesBlock, StopsIn, WritesBlock, item_in}
+use Rattle.txg_sync.specs.declared.due.Due.{Due}
+use Rattle.txg_sync.proofs.Gathering.{apart-first, apart-rest}
+use Rattle.turn_table.specs.Board.{IsAmong}
+use Rattle.arc_table.specs.Geometry.{IsCell}
+use Rattle.arc_table.proofs.Afterwards.{Stays}
+use Rattle.vdev_io.specs.Faults.{CountsIoFault, CountsOne}
+use Rattle.vdev_io.specs.declared.fault.IoFault.{IoFault}
+use Rattle.vdev_io.specs.declared.fault.IoFault.TheVariants as io
+use Rattle.dbuf_cells.specs.InHand.{IsRoomier}
+use Rattle.txg_sync.proofs.Hand.{among-below, sync-more, sync-stopped}
+use Rattle.txg_sync.proofs.Steps.{Grows, looked-grows, looked-stays}
+
+-- ---- one block more at the end
+
+pub need-more : (cells : List OnHeap) (dues : List Due) (due : Due) → need_of cells (dues ++ due ∷ []) ≡ need_of cells dues + length (bytes_of_due cells due)
+need-more cells [] due = let b = length (bytes_of_due cells due) in let e : b + 0 ≡ 0 + b = omega arith in e
+need-more cells (x ∷ xs) due =
+    let a = need-more cells xs due in
+    let b = length (bytes_of_due cells x) in
+    ap (λ (n : ℕ). b + n) a ∙ (let e : b + (need_of cells xs + length (bytes_of_due cells due)) ≡ (b + need_of cells xs) + length (bytes_of_due cells due) = omega arith in e)
+
+pub items-more : (group place : ℕ) (cells : List OnHeap) (dues : List Due) (due : Due) → items_from group place cells (dues ++ due ∷ []) ≡ items_from group place cells dues ++ at_place group (place + need_of cells dues) cells due ∷ []
+items-more group place cells [] due = ap (λ (n : ℕ). at_place group n cells due ∷ []) (let e : place ≡ place + 0 = omega arith in e)
+items-more group place cells (x ∷ xs) due =
+    let b = length (bytes_of_due cells x) in
+    ap (λ (l : List SyncItem). at_place group place cells x ∷ l) (items-more group (place + b) cells xs due
+    ∙ ap (λ (n : ℕ). items_from group (place + b) cells xs ++ at_place group n cells due ∷ []) (let e : (place + b) + need_of cells xs ≡ place + (b + need_of cells xs) = omega arith in e))
+
+over-more : (xs : List SyncItem) (x : SyncItem) (image : List ℕ) → written_over (xs ++ x ∷ []) image ≡ written_over (x ∷ []) (written_over xs image)
+over-more [] x image = refl
+over-more (y ∷ ys) x image = over-more ys x _
+
+pub told-more : (xs : List SyncItem) (x : SyncItem) (told : Option (List ℕ)) → tells_written (xs ++ x ∷ []) told ≡ tells_written (x ∷ []) (tells_written xs told)
+told-more xs x None = refl
+told-more xs x (Some image) = ap (λ (l : List ℕ). let v : Option (List ℕ) = Some l in v) (over-more xs x image)
+
+-- ---- the bytes of a block
+
+get-there : {X : Type 0} (xs : List X) (i : ℕ) (d : X) → i < length xs → slice_get xs i ≡ Some (slice_index_or xs i d)
+get-there [] i d h = absurd (omega arith)
+get-there (x ∷ xs) zero d h = refl
+get-there (x ∷ xs) (suc i) d h = get-there xs i d (omega arith)
+
+pub bytes-there : (cells : List OnHeap) (due : Due) (d : OnHeap) → due.cell < length cells → bytes_of_due cells due ≡ dirty_bytes_at due.at (slice_index_or cells due.cell d).value.dbufs
+bytes-there cells due d h = ap (λ (o : Option OnHeap). option_map_or (λ (c : OnHeap). dirty_bytes_at due.at c.value.dbufs) o []) (get-there cells due.cell d h)
+
+-- as it is written
+pub item-there : (group place : ℕ) (cells nows : List OnHeap) (due : Due) (d : OnHeap) → due.cell < length nows → bytes_of_due nows due ≡ bytes_of_due cells due
+    → item_in group place due.cell due.at (slice_index_or nows due.cell d).value ≡ at_place group place cells due
+item-there group place cells nows due d h same = ap (λ (bytes : List ℕ). let x : SyncItem = record { due = due; bytes = bytes; ptr = record { key = record { offset = place; size = length bytes; birth = group }; digest = sha256_of bytes } } in x) (sym (bytes-there nows due d h) ∙ same)
+
+-- ---- the blocks that are left
+
+-- another block of the cell
+found-else : (at other : Oid) (f : Dbuf Kept → Dbuf Kept) → ((d : Dbuf Kept) → dbuf_oid (f d) ≡ dbuf_oid d) → (ds : List (Dbuf Kept)) → ((d : Dbuf Kept) → oid_eq at d.at ≡ true → oid_eq other d.at ≡ false)
+    → dbuf_at other (with_dbuf at f ds) ≡ dbuf_at other ds
+found-else at other f same [] apart = refl
+found-else at other f same (d ∷ ds) apart = elim (bool_cases (oid_eq at d.at)) [
+  | inl here ↦ let far = apart d here in let far-now : oid_eq other (f d).at ≡ false = ap (oid_eq other) (same d) ∙ far in rw (here, far, far-now) refl
+  | inr far ↦ elim (bool_cases (oid_eq other d.at)) [
+    | inl mine ↦ rw (far, mine) refl
+    | inr none ↦ rw (far, none) (found-else at other f same ds apart)
+  ]
+]
+
+pub oid_eq-is : (x y : Oid) → oid_eq x y ≡ true → x ≡ y
+oid_eq-is x y e = grind (arith, nat_tests)
+
+pub else-found : (at other : Oid) (f : Dbuf Kept → Dbuf Kept) → ((d : Dbuf Kept) → dbuf_oid (f d) ≡ dbuf_oid d) → oid_eq at other ≡ false → (ds : List (Dbuf Kept)) → dbuf_at other (with_dbuf at f ds) ≡ dbuf_at other ds
+else-found at other f same far ds = found-else at other f same ds (λ d here. ap (oid_eq other) (sym (oid_eq-is at d.at here)) ∙ (oid_eq-sym other at ∙ far))
+
+only-first : (a b : Bool) → (a && b) ≡ false → b ≡ true → a ≡ false
+only-first true true h e = h
+only-first true false h e = absurd (let clash : false ≡ true = e in cc)
+only-first false b h e = refl
+
+module _ (nows news : List OnHeap) (due : Due) (cell : OnHeap) (within : due.cell < length nows) (news_are : news ≡ slice_set nows due.cell cell) (f : Dbuf Kept → Dbuf Kept) (same : (d : Dbuf Kept) → dbuf_oid (f d) ≡ dbuf_oid d)
+    (dbufs : cell.value.dbufs ≡ with_dbuf due.at f (slice_index_or nows due.cell cell).value.dbufs) where
+  -- what another block's dbuf is
+  same-dbuf : (other : Due) (d : OnHeap) → due_eq due other ≡ false → other.cell < length nows
+      → dbuf_at other.at (slice_index_or news other.cell d).value.dbufs ≡ dbuf_at other.at (slice_index_or nows other.cell d).value.dbufs
+  same-dbuf other d apart there = elim (bool_cases (due.cell == other.cell)) [
+    | inl is ↦
+        let here : due.cell ≡ other.cell = eqb-true due.cell other.cell is in
+        let far : oid_eq due.at other.at ≡ false = only-first (oid_eq due.at other.at) (due.cell == other.cell) apart is in
+        subst (λ (i : ℕ). dbuf_at other.at (slice_index_or news i d).value.dbufs ≡ dbuf_at other.at (slice_index_or nows i d).value.dbufs) here
+        (ap (λ (l : List OnHeap). dbuf_at other.at (slice_index_or l due.cell d).value.dbufs) news_are
+        ∙ (ap (λ (c : OnHeap). dbuf_at other.at c.value.dbufs) (get_or-set_same nows due.cell cell d within)
+        ∙ (ap (dbuf_at other.at) dbufs
+        ∙ (else-found due.at other.at f same far (slice_index_or nows due.cell cell).value.dbufs
+        ∙ ap (λ (c : OnHeap). dbuf_at other.at c.value.dbufs) (get_or_default nows due.cell cell d within)))))
+    | inr far ↦
+        let apart : other.cell ≢ due.cell = λ e. let c = eq-eqb due.cell other.cell (sym e) in cc in
+        ap (λ (l : List OnHeap). dbuf_at other.at (slice_index_or l other.cell d).value.dbufs) news_are
+        ∙ ap (λ (c : OnHeap). dbuf_at other.at c.value.dbufs) (get_or-set_other nows due.cell other.cell cell d apart)
+  ]
+
+  same-length : length news ≡ length nows
+  same-length = ap (λ (l : List OnHeap). length l) news_are ∙ length-set nows due.cell cell
+
+  pub same-bytes : (other : Due) → due_eq due other ≡ false → other.cell < length nows → bytes_of_due news other ≡ bytes_of_due nows other
+  same-bytes other apart there =
+      bytes-there news other cell (let a = same-length in omega arith)
+      ∙ (ap (λ (o : Option (Dbuf Kept)). option_map_or (λ (d : Dbuf Kept). written_in d.content) o []) (same-dbuf other cell apart there) ∙ sym (bytes-there nows other cell there))
+
+  pub due-still : (other : Due) → due_eq due other ≡ false → IsDueIn nows other → IsDueIn news other
+  due-still other apart h = record {
+    inside = let a = same-length in let b = h.inside in omega arith;
+    dirty = λ d. ap (λ (o : Option (Dbuf Kept)). option_map_or is_dirty o false) (same-dbuf other d apart h.inside) ∙ h.dirty d;
+    sized = subst (λ (l : List ℕ). IsBlockSize (length l)) (sym (same-bytes other apart h.inside)) h.sized;
+  }
+
+  pub dues-still : (others : List Due) → AllByRecursion (λ other. due_eq due other ≡ false) others → AreDueIn nows others → AreDueIn news others
+  dues-still [] apart h = tt
+  dues-still (o ∷ os) apart h = (due-still o apart.0 h.0, dues-still os apart.1 h.1)
+
+  pub bytes-still : (cells : List OnHeap) (others : List Due) → AllByRecursion (λ other. due_eq due other ≡ false) others → AreDueIn nows others → AllByRecursion (λ other. bytes_of_due nows other ≡ bytes_of_due cells other) others
+      → AllByRecursion (λ other. bytes_of_due news other ≡ bytes_of_due cells other) others
+  bytes-still cells [] apart h were = tt
+  bytes-still cells (o ∷ os) apart h were = (same-bytes o apart.0 h.0.inside ∙ were.0, bytes-still cells os apart.1 h.1 were.1)
+
+-- ---- the loop
+
+-- So far these were written, and no other: the next one goes to this place.
+pub record HasWritten {P : Type 0} (pool : Ghosts P) (cache : Cache) (group tick next : ℕ) (cells nows : List OnHeap) (dues : List Due) (index : ℕ) (before now : P) (p q : PartyPlace) (place : ℕ) : Type 0 where
+  pub done : List Due
+  pub whole : dues ≡ done ++ drop index dues
+  pub behind : place ≡ next + need_of cells done
+  pub aligned : place % sector ≡ 0
+  pub fits : place + need_of cells (drop index dues) ≤ pool.size before
+  pub sync : InSync cache tick cells nows p q (items_from group next cells done) Same
+  pub told : pool.told now ≡ tells_written (items_from group next cells done) (pool.told before)
+  pub outside : IsUnharmed pool before now
+  pub left : AreDueIn nows (drop index dues)
+  pub apart : AreApart (drop index dues)
+  pub same : AllByRecursion (λ due. bytes_of_due nows due ≡ bytes_of_due cells due) (drop index dues)
+
+all-same : (cells : List OnHeap) (dues : List Due) → AllByRecursion (λ due. bytes_of_due cells due ≡ bytes_of_due cells due) dues
+all-same cells [] = tt
+all-same cells (due ∷ dues) = (refl, all-same cells dues)
+
+module _ {P : Type 0} (pool : Ghosts P) (cache : Cache) (group tick next : ℕ) (cells : List OnHeap) (dues : List Due) (before : P) (p : PartyPlace) where
+  -- nothing was written yet
+  pub begins-writing : HasTakenAll cache cells p → AreDueIn cells dues → AreApart dues → next % sector ≡ 0 → next + need_of cells dues ≤ pool.size before
+      → HasWritten pool cache group tick next cells cells dues 0 before before p p next
+  begins-writing taken due apart aligned fits = record {
+    done = [];
+    whole = refl;
+    behind = (let e : next ≡ next + 0 = omega arith in e);
+    aligned = aligned;
+    fits = fits;
+    sync = record { reached = p; inserts = refl; besides = refl; holding = taken.holding; count = refl; cells = taken.cells };
+    told = untouched (pool.told before);
+    outside = record { size = refl; reads = refl; faults = refl };
+    left = due;
+    apart = apart;
+    same = all-same cells dues;
+  }
+    where
+      untouched : (told : Option (List ℕ)) → told ≡ tells_written [] told
+      untouched None = refl
+      untouched (Some image) = refl
+
+  module _ (nows news : List OnHeap) (index place size : ℕ) (now then : P) (q r : PartyPlace) (due : Due) (h : HasWritten pool cache group tick next cells nows dues index before now p q place) (here : drop index dues ≡ due ∷ drop (suc index) dues)
+      (all : length cells ≡ cache.config.cells) where
+    first : IsDueIn nows due
+    first = (subst (AreDueIn nows) here h.left).0
+
+    within : due.cell < length cells
+    within = let a = first.inside in let b = h.sync.count in omega arith
+
+    bytes-first : bytes_of_due nows due ≡ bytes_of_due cells due
+    bytes-first = (subst (AllByRecursion (λ d. bytes_of_due nows d ≡ bytes_of_due cells d)) here h.same).0
+
+    -- the place of this one
+    pub item-here : (cell : OnHeap) → item_in group place due.cell due.at (slice_index_or nows due.cell cell).value ≡ at_place group (next + need_of cells h.done) cells due
+    item-here cell = item-there group place cells nows due cell first.inside bytes-first ∙ ap (λ (n : ℕ). at_place group n cells due) h.behind
+
+    -- one more was written
+    pub writes-on : (a : AltersCell due.cell nows news (λ old new. WritesBlock cache.config group tick place due.cell due.at old new (pool.told now) (pool.told then) q r size)) → IsUnharmed pool now then
+        → HasWritten pool cache group tick next cells news dues (suc index) before then p r (place + size)
+    writes-on a unharmed = record {
+      done = h.done ++ due ∷ [];
+      whole = h.whole ∙ (ap (λ (l : List Due). h.done ++ l) here ∙ sym (append_assoc h.done (due ∷ []) (drop (suc index) dues)));
+      behind = ap (λ (n : ℕ). n + size) h.behind ∙ (ap (λ (n : ℕ). (next + need_of cells h.done) + n) sized ∙ (let e : (next + need_of cells h.done) + length (bytes_of_due cells due) ≡ next + (need_of cells h.done + length (bytes_of_due cells due)) = omega arith in e)
+          ∙ ap (λ (n : ℕ). next + n) (sym (need-more cells h.done due)));
+      aligned = let b = first.sized.0 in let c = h.aligned in let d = bytes-first in let e = sized in multiples place size h.aligned (subst (λ (n : ℕ). n % sector ≡ 0) (ap (λ (l : List ℕ). length l) bytes-first ∙ sym sized) b);
+      fits = let e = ap (need_of cells) here in let f = h.fits in let s = sized in omega arith;
+      sync = subst (λ (zs : List SyncItem). InSync cache tick cells news p r zs Same) (ap (λ (x : SyncItem). items_from group next cells h.done ++ x ∷ []) (item-here a.cell) ∙ sym (items-more group next cells h.done due))
+          (sync-more cache tick cells nows news p q r (items_from group next cells h.done) h.sync all due.cell a.cell within a.news_are group place due.at (pool.told now) (pool.told then) size a.does (first.dirty a.cell));
+      told = a.does.told_is ∙ (ap (λ (x : SyncItem). tells_written (x ∷ []) (pool.told now)) (item-here a.cell)
+          ∙ (ap (λ (t : Option (List ℕ)). tells_written (at_place group (next + need_of cells h.done) cells due ∷ []) t) h.told
+          ∙ (sym (told-more (items_from group next cells h.done) (at_place group (next + need_of cells h.done) cells due) (pool.told before))
+          ∙ ap (λ (zs : List SyncItem). tells_written zs (pool.told before)) (sym (items-more group next cells h.done due)))));
+      outside = record { size = unharmed.size ∙ h.outside.size; reads = unharmed.reads ∙ h.outside.reads; faults = unharmed.faults ∙ h.outside.faults };
+      left = dues-still nows news due a.cell first.inside a.news_are f (λ d. refl) dbufs-are (drop (suc index) dues) apart-here (subst (AreDueIn nows) here h.left).1;
+      apart = apart-rest due (drop (suc index) dues) (subst AreApart here h.apart);
+      same = bytes-still nows news due a.cell first.inside a.news_are f (λ d. refl) dbufs-are cells (drop (suc index) dues) apart-here (subst (AreDueIn nows) here h.left).1 (subst (AllByRecursion (λ d. bytes_of_due nows d ≡ bytes_of_due cells d)) here h.same).1;
+    }
+      where
+        s : IsSyncedTo q.number due.at (item_in group place due.cell due.at (slice_index_or nows due.cell a.cell).value).ptr a.does.kept (slice_index_or nows due.cell a.cell).value a.cell.value
+        s = a.does.synced
+
+        f : Dbuf Kept → Dbuf Kept
+        f = synced_to (item_in group place due.cell due.at (slice_index_or nows due.cell a.cell).value).ptr a.does.kept
+
+        dbufs-are : a.cell.value.dbufs ≡ with_dbuf due.at f (slice_index_or nows due.cell a.cell).value.dbufs
+        dbufs-are = ap (λ (c : CellLog Kept). c.dbufs) s.noted_is ∙ ap (λ (c : CellLog Kept). with_dbuf due.at f c.dbufs) s.made
+
+        sized : size ≡ length (bytes_of_due cells due)
+        sized = a.does.size_is ∙ ap (λ (l : List ℕ). length l) (sym (bytes-there nows due a.cell first.inside) ∙ bytes-first)
+
+        apart-here : AllByRecursion (λ other. due_eq due other ≡ false) (drop (suc index) dues)
+        apart-here = apart-first due (drop (suc index) dues) (subst AreApart here h.apart)
+
+        multiples : (x y : ℕ) → x % sector ≡ 0 → y % sector ≡ 0 → (x + y) % sector ≡ 0
+        multiples x y hx hy = omega arith
+
+    -- its cell is in the party's hands
+    pub cell-here : IsCell cache.config due.cell × IsAmong due.cell q.held
+    cell-here = (subst (λ (n : ℕ). due.cell < n) all within, subst (IsAmong due.cell) (sym h.sync.holding.held) (among-below (length cells) due.cell within))
+
+    -- there is room for it
+    pub place-most : AltersCell due.cell nows news (λ old new. WritesBlock cache.config group tick place due.cell due.at old new (pool.told now) (pool.told then) q r size) → place + size ≤ pool.size before
+    place-most a =
+        let e = ap (need_of cells) here in
+        let f = h.fits in
+        let s : size ≡ length (bytes_of_due cells due) = a.does.size_is ∙ ap (λ (l : List ℕ). length l) (sym (bytes-there nows due a.cell first.inside) ∙ bytes-first) in
+        omega arith
+
+    -- its write stopped
+    module _ (a-cell : OnHeap) (news_are : news ≡ slice_set nows due.cell a-cell) (made : IsRoomier (slice_index_or nows due.cell a-cell).value a-cell.value) where
+      stopped : (Told : SyncItem → Option (List ℕ) → Type 0) (Besides : SyncItem → PartyPlace → PartyPlace → Type 0) → Stays q r → ((j : ℕ) → IsCell cache.config j → IsAmong j q.held → Grows j [] q r)
+          → Besides (item_in group place due.cell due.at (slice_index_or nows due.cell a-cell).value) q r → Told (item_in group place due.cell due.at (slice_index_or nows due.cell a-cell).value) (pool.told now)
+          → StopsIn pool cache group tick next cells news dues before then p r Told Besides
+      stopped Told Besides stays grows besides told = record {
+        done = h.done;
+        due = due;
+        rest = drop (suc index) dues;
+        whole = h.whole ∙ ap (λ (l : List Due). h.done ++ l) here;
+        sync = subst (λ (x : SyncItem). InSync cache tick cells news p r (items_from group next cells h.done) (Besides x)) (item-here a-cell)
+            (sync-stopped cache tick cells nows news p q r (items_from group next cells h.done) h.sync all due.cell a-cell within news_are (Besides (item_in group place due.cell due.at (slice_index_or nows due.cell a-cell).value)) made stays grows besides);
+        told = subst (λ (x : SyncItem). Told x (tells_written (items_from group next cells h.done) (pool.told before))) (item-here a-cell)
+            (subst (Told (item_in group place due.cell due.at (slice_index_or nows due.cell a-cell).value)) h.told told);
+      }
+
+      none-stays : r ≡ q → Stays q r
+      none-stays e = subst (Stays q) (sym e) record { table = refl; parties = refl; number = refl; joined = refl; held = refl; about = refl }
+
+      none-grows : r ≡ q → (j : ℕ) → IsCell cache.config j → IsAmong j q.held → Grows j [] q r
+      none-grows e j in_range among = subst (Grows j [] q) (sym e) record { recorded = refl; listed = refl }
+
+      pub stops-here : (why : IoFault) → RefusesBlock cache.config (item_in group place due.cell due.at (slice_index_or nows due.cell a-cell).value) (pool.told now) (pool.told then) q r why
+          → pool.size then ≡ pool.size now → pool.reads then ≡ pool.reads now → CountsIoFault {T = ℕ} (pool.faults now) (pool.faults then) (Err why) → AnswersDues pool cache group tick next cells news dues before then p r (Err why)
+      stops-here io.Failed f size reads counts = (
+        stopped (λ x old. TellsTorn x old (pool.told then)) (λ x. Same) (none-stays f.0) (none-grows f.0) f.0 f.1,
+        record { size = size ∙ h.outside.size; reads = reads ∙ h.outside.reads; faults = subst (λ (n : ℕ). CountsOne n (pool.faults then)) h.outside.faults counts },
+      )
+      stops-here io.NoMemory f size reads counts = (
+        ⊎_elim (λ e. inl (stopped (λ x old. pool.told then ≡ old) (λ x. Same) (none-stays e.0) (none-grows e.0) e.0 e.1))
+            (λ e. inr (stopped (λ x old. pool.told then ≡ tells_written (x ∷ []) old) (Looked cache.config) (looked-stays cache p (length cells) q r h.sync.holding _ e.0) (λ j in_range among. looked-grows cache p (length cells) q r h.sync.holding _ e.0 j in_range among) e.0 e.1)) f,
+        record { size = size ∙ h.outside.size; reads = reads ∙ h.outside.reads; faults = counts ∙ h.outside.faults },
+      )
+
+  -- all were written
+  pub wrote-all : (nows : List OnHeap) (index place : ℕ) (now : P) (q : PartyPlace) → HasWritten pool cache group tick next cells nows dues index before now p q place → drop index dues ≡ [] → AnswersDues pool cache group tick next cells nows dues before now p q (Ok place)
+  wrote-all nows index place now q h none =
+      let whole : h.done ≡ dues = sym (h.whole ∙ (ap (λ (l : List Due). h.done ++ l) none ∙ append-nil h.done)) in
+      record {
+        behind = h.behind ∙ ap (λ (ds : List Due). next + need_of cells ds) whole;
+        sync = subst (λ (ds : List Due). InSync cache tick cells nows p q (items_from group next cells ds) Same) whole h.sync;
+        told = h.told ∙ ap (λ (ds : List Due). tells_written (items_from group next cells ds) (pool.told before)) whole;
+        outside = h.outside;
+      }
