@@ -10,6 +10,16 @@ use vdev_io::{CacheDev, FreeGate, MemCache};
 const TWO_READS: &str =
     "arc 2 1 16 1 4096 0 4096\nblock 0 512 1 Z\nread 0 1 0 0 0\nread 1 1 0 0 0\n";
 
+/// Whether these bytes stand somewhere in a text.
+fn has(text: &[u8], bytes: &[u8]) -> bool {
+    for at in 0..text.len() {
+        if text[at..].starts_with(bytes) {
+            return true;
+        }
+    }
+    false
+}
+
 /// Runs the two reads with a device of so many zero bytes, of which these calls fail. Whether no read was refused, the report has this line,
 /// and the device is handed back as long as it was.
 fn is_found<R: AllocGlobal + Threads + Wait + Sync>(
@@ -33,7 +43,7 @@ fn is_found<R: AllocGlobal + Threads + Wait + Sync>(
         &FreeGate,
     )?;
     let told = spelled(alloc, line)?;
-    let has_line = text.windows(told.len()).any(|part| part == told.as_bytes());
+    let has_line = has(&text, told.as_bytes());
     let is_back = match &cache {
         Some(device) => device.len() == len as u64,
         None => false,
