@@ -3,6 +3,7 @@ pub mod Bringings
 pub mod CellSteps
 pub mod Copies
 pub mod EndLoads
+pub mod Endings
 pub mod Evictions
 pub mod HoldLists
 pub mod Keeping

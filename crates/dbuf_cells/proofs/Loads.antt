@@ -3,7 +3,6 @@ use Rattle.std.proofs.Common.{◌≡◌, ◌≢◌, ◌⊎◌, ℕ, ◌+◌, Boo
 use Rattle.std.specs.List.{AllByRecursion}
 use Rattle.std.specs.Option.{option_map, option_map_or}
 use Rattle.std.proofs.lemmas.Bool.{false≢true}
-use Rattle.std.proofs.lemmas.Bool.Decides.{nat_tests}
 use Rattle.std.proofs.lemmas.List.{append_assoc}
 use Rattle.blk_ptr.specs.declared.key.Key.{Key}
 use Rattle.blk_ptr.specs.declared.ptr.Ptr.{Ptr}
@@ -43,7 +42,7 @@ use Rattle.dbuf_cells.specs.Loading.{IsBroughtBy, IsToLoad, mapped_in, to_load}
 use Rattle.dbuf_cells.specs.Kept.{bytes_of, is_held, key_of}
 use Rattle.dbuf_cells.specs.Turns.{OnHeap, PartyPlace}
 use Rattle.dbuf_cells.specs.declared.kept.Kept.{Kept}
-use Rattle.dbuf_cells.proofs.CellSteps.{done-alike, test-of}
+use Rattle.dbuf_cells.proofs.CellSteps.{done-alike, found-oid, test-of}
 use Rattle.dbuf_cells.proofs.Evictions.{has-of, is-dbuf}
 use Rattle.dbuf_cells.proofs.HoldLists.{behind, first-of, first-or-behind}
 use Rattle.dbuf_cells.proofs.Operations.{rest-of}
@@ -90,19 +89,6 @@ claims-mark i n at ptr c ds p to is are =
   where
     one-between : (front back : List Mapping) (m : Mapping) → front ++ (m ∷ []) ++ back ≡ front ++ m ∷ back
     one-between front back m = append_assoc front (m ∷ []) back
-
-    oid-is : (a b : Oid) → oid_eq a b ≡ true → a ≡ b
-    oid-is a b h = grind (arith, nat_tests)
-
-    found-oid : (at : Oid) (ds : List (Dbuf Kept)) (d : Dbuf Kept) → dbuf_at at ds ≡ Some d → d.at ≡ at
-    found-oid at [] d found = let clash : ◌≡◌ {A = Option (Dbuf Kept)} None (Some d) = found in cc
-    found-oid at (x ∷ xs) d found = elim (bool_cases (oid_eq at x.at)) [
-      | inl here ↦
-          let same : ◌≡◌ {A = Option (Dbuf Kept)} (Some x) (Some d) = rw here at found in
-          let is : x ≡ d = cc in
-          ap (λ (y : Dbuf Kept). y.at) (sym is) ∙ sym (oid-is at x.at here)
-      | inr far ↦ found-oid at xs d (rw far at found)
-    ]
 
 -- a block that the party claims it brings
 pub claimed-mark : (i n : ℕ) (at : Oid) (ptr : Ptr) (c : CellLog Kept) (p : PartyPlace) → IsTrue (is_distinct dbuf_oid c.dbufs) → ClaimsAre i n c p → Claims i at ptr p → IsBroughtBy n at ptr c.dbufs

@@ -1,6 +1,6 @@
 -- What `end_cells` answers.
-use Rattle.std.specs.Prelude.{◌≡◌, ℕ, zero, suc, ◌<◌, Bool, List, [], ◌∷◌, ◌++◌, filter, IsPermutation, Result, Ok, Err}
-use Rattle.std.specs.List.Sorted.{IsSortedBy}
+use Rattle.std.specs.Prelude.{◌≡◌, ℕ, zero, suc, ◌<◌, Bool, List, [], ◌∷◌, ◌++◌, IsPermutation, IsSortedBy, Result, Ok, Err}
+use Rattle.std.specs.List.{filter}
 use Rattle.blk_ptr.specs.declared.ptr.Ptr.{Ptr}
 use Rattle.arc_core.specs.declared.config.Config.{Config}
 use Rattle.arc_core.specs.declared.event.Event.{Event}
@@ -38,14 +38,17 @@ abbrev pub EndsFrom : Config → (i count : ℕ) → PartyPlace → PartyPlace �
 EndsFrom g i zero p q = q ≡ p
 EndsFrom g i (suc count) p q = (r : PartyPlace) × EndsCell g i p r × EndsFrom g (suc i) count r q
 
+-- the party took the cell and gave it back as it was
+abbrev pub Untouched : Config → (i : ℕ) → (p q : PartyPlace) → Type 0
+Untouched g i p q = (before : OnHeap) × CellTurn g i before [] [] p q
+
 -- The cells of lower numbers were ended. At the next one memory was refused, and it is as before.
 pub record StopsAtCell (g : Config) (p q : PartyPlace) : Type 0 where
   pub ended : ℕ
   pub below : ended < g.cells
   pub reached : PartyPlace
   pub ends : EndsFrom g 0 ended p reached
-  pub before : OnHeap
-  pub turn : CellTurn g ended before [] [] reached q
+  pub next : Untouched g ended reached q
 
 -- all cells were ended by rising numbers, or memory was refused at one of them
 abbrev pub AnswersEnd : {T E : Type 0} → Config → (p q : PartyPlace) → Result T E → Type 0

@@ -54,6 +54,7 @@ pub record HasTaken (cache : Cache) (i : ℕ) (p : PartyPlace) (before : OnHeap)
   pub own_number : q.own.number ≡ q.number
   pub held : q.held ≡ i ∷ p.held
   pub recorded : item_at i q.own.records ≡ Some (item.Cell before)
+  pub claims : q.own.ledger.claims ≡ p.own.ledger.claims
 
 -- The number n did these things to a cell, which was so before: it is `now`, and evictions stand so.
 pub record HasDone (n : ℕ) (before : CellLog Kept) (evicting : Evicting) (news : List CellEvent) (now : CellLog Kept) : Type 0 where
@@ -157,6 +158,7 @@ pub record HasGiven (cache : Cache) (i : ℕ) (p : PartyPlace) (before : OnHeap)
   pub party : IsPartyOf cache r
   pub held : r.held ≡ p.held
   pub number : r.number ≡ p.number
+  pub others : (j : ℕ) → j ≢ i → list_at j r.own.ledger.claims ≡ list_at j p.own.ledger.claims
 
 abbrev pub Gives : Cache → (i : ℕ) → (now : CellLog Kept) → (q r : PartyPlace) → Type 0
 Gives cache i now q r = (p : PartyPlace) (before : OnHeap) (evicting : Evicting) (news : List CellEvent) (es : List Event)
