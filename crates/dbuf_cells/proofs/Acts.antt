@@ -78,7 +78,13 @@ module _ (cache : Cache) (i : ℕ) (e : CellEvent) (now c : CellLog Kept) (q : P
   noted-ends r finishes p before evicting news es settled h =
       let hand = noted-hand p before evicting news es settled h in
       let f = finishes p before Must (news ++ e ∷ []) es refl hand in
-      record { operates = operates cache i p before Must (news ++ e ∷ []) es c q hand r f; party = f.given.party; held = f.given.held }
+      record {
+        operates = operates cache i p before Must (news ++ e ∷ []) es c q hand r f;
+        party = f.given.party;
+        held = f.given.held;
+        number = f.given.number;
+        others = f.given.others;
+      }
 
 -- with room for the evictions behind it
 pub noted-room : (n : ℕ) (e : CellEvent) (old c : CellLog Kept) → Notes n e old c → length c.dbufs ≤ c.event_room
@@ -313,3 +319,23 @@ module _ {P D : Type 0} (pools : PoolGhosts P) (devices : DeviceGhosts D) (cache
   pub party-after : {T : Type 0} (own : ℕ → CellEvent) (got : Result T DbufFault) → OnOk got (EndsWith cache i (own q.number) result.value q r) → OnErr got (Gives cache i result.value q r) → IsPartyOf cache r × (r.held ≡ [])
   party-after own (Ok got) ok err = acts-party pools devices cache i at tick before now cell p result q b r own ok
   party-after own (Err e) ok err = no-room-party pools devices cache i at tick before now cell p result q b r err
+
+-- ---- what is claimed
+
+pub noted-claims : (n : ℕ) (e : CellEvent) (old c : CellLog Kept) → Notes n e old c → AreClaimedAlike old.dbufs c.dbufs
+noted-claims n e old c u k =
+    ap (λ (x : CellLog Kept). claims_in k x.dbufs) u.noted_is ∙ (claims-stay-by-note k (length u.roomy.history + 1) (use_of e) u.dbufs ∙ (u.claims k ∙ ap (λ (x : CellLog Kept). claims_in k x.dbufs) u.made))
+
+-- the cell is claimed as it was in hand
+pub claims-alike : (i : ℕ) (old now : CellLog Kept) (r : PartyPlace) → AreClaimedAlike old.dbufs now.dbufs → ClaimsAre i r.number now r → ClaimsAre i r.number old r
+claims-alike i old now r alike is = is ∙ ap mapping_numbers (alike r.number)
+
+module _ {P D : Type 0} (pools : PoolGhosts P) (devices : DeviceGhosts D) (cache : Cache) (i : ℕ) (at : Oid) (tick : ℕ) (before now : Outside P D) (cell : OnHeap) (p : PartyPlace) (result : OnHeap) (q : PartyPlace)
+    (b : HasBrought pools devices cache i at tick before now cell p result q) (r : PartyPlace) (is : ClaimsAre i r.number result.value r) where
+  pub after-claims : r.number ≡ b.back.number → ((j : ℕ) → j ≢ i → list_at j r.own.ledger.claims ≡ list_at j b.back.own.ledger.claims) → KeepsClaims p r
+  after-claims number elsewhere =
+      claims-through i q.number r.number result.value.dbufs result.value.dbufs p r b.claimed is (number ∙ sym b.hand.party.number) (λ n. refl) (λ j far. elsewhere j far ∙ b.others j far)
+
+  pub ended-claims : {T : Type 0} (own : ℕ → CellEvent) (got : Result T DbufFault) → OnOk got (EndsWith cache i (own q.number) result.value q r) → OnErr got (Gives cache i result.value q r) → KeepsClaims p r
+  ended-claims own (Ok got) ok err = let e = ok b.back b.mid b.evicting b.loads b.hands b.settled b.hand in after-claims e.number e.others
+  ended-claims own (Err e) ok err = let g = err b.back b.mid b.evicting b.loads b.hands b.settled b.hand in after-claims g.number g.others

@@ -32,7 +32,7 @@ use Rattle.dbuf_state.proofs.NumberLemmas.{events-numbered}
 use Rattle.dbuf_state.proofs.OutlineLemmas.{block-cached}
 use Rattle.dbuf_state.proofs.StepLemmas.{evict-follows, goes-on}
 use Rattle.arc_table.specs.Giving.{AreEntriesOf}
-use Rattle.dbuf_cells.specs.InHand.{HasDone, kept_count}
+use Rattle.dbuf_cells.specs.InHand.{AreClaimedAlike, HasDone, kept_count}
 use Rattle.dbuf_cells.specs.declared.kept.Kept.{Kept}
 
 -- ---- histories
@@ -160,7 +160,7 @@ pub test-of : (test : Dbuf Kept → Bool) (at : Oid) (ds : List (Dbuf Kept)) (d 
 test-of test at ds d passes found = ap (λ (o : Option (Dbuf Kept)). option_map_or test o false) (sym found) ∙ passes
 
 -- nobody claims a block that is cached or uncached
-unclaimed : (k : ℕ) (at : Oid) (content : Content) (s t : DbState) → (is_clean content && is_cached s) ≡ true → t ≡ state.Uncached → claim_in k at content t ≡ claim_in k at content s
+pub unclaimed : (k : ℕ) (at : Oid) (content : Content) (s t : DbState) → (is_clean content && is_cached s) ≡ true → t ≡ state.Uncached → claim_in k at content t ≡ claim_in k at content s
 unclaimed k at (Dirty bytes) s t h is = refl
 unclaimed k at (Clean ptr) state.Uncached t h is = cc
 unclaimed k at (Clean ptr) (state.Read n) t h is = absurd (false≢true h)
@@ -183,6 +183,11 @@ module _ (n : ℕ) (before now : CellLog Kept) (evicting : Evicting) (news : Lis
   done-evict = done-more n before now evicting news h (Evict n at) [] emptied evict-legal tt (evict-follows now n at evicts-cached) refl
       (rest-stays at (without_kept state.Uncached) now.dbufs (λ d found. refl) h.rest)
       (λ k other. claims-stay at (without_kept state.Uncached) k now.dbufs (λ d found. unclaimed k d.at d.content d.state state.Uncached (test-of (is_clean_in is_cached) at now.dbufs d evicts-cached found) refl))
+
+-- it is no claim that goes
+pub evict-claims : (at : Oid) (old now : CellLog Kept) (n : ℕ) → now ≡ noted (Evict n at) (record old { dbufs = with_dbuf at (without_kept state.Uncached) old.dbufs }) → dbuf_is (is_clean_in is_cached) at old.dbufs ≡ true → AreClaimedAlike old.dbufs now.dbufs
+evict-claims at old now n is cached k = ap (λ (c : CellLog Kept). claims_in k c.dbufs) is
+    ∙ claims-stay at (without_kept state.Uncached) k old.dbufs (λ d found. unclaimed k d.at d.content d.state state.Uncached (test-of (is_clean_in is_cached) at old.dbufs d cached found) refl)
 
 -- ---- how many blocks are kept
 

@@ -35,7 +35,7 @@ use Rattle.dbuf_state.proofs.IndexLemmas.{and-parts, bool_cases}
 use Rattle.dbuf_state.proofs.OutlineLemmas.{block-cached}
 use Rattle.dbuf_state.proofs.StepLemmas.{end-follows}
 use Rattle.dbuf_cells.specs.Emptying.{AreLower, IsEnding, MayEmpty, cached_in}
-use Rattle.dbuf_cells.specs.Ending.{DropsEach, EndsCell, lower_oid}
+use Rattle.dbuf_cells.specs.Ending.{DropsEach, EndsCell, EndsFrom, lower_oid}
 use Rattle.dbuf_cells.specs.InHand.{AsTaken, GivesBack, HasGiven, InHand, IsRoomier, MayGive}
 use Rattle.dbuf_cells.specs.Kept.{bytes_of, is_held, key_of}
 use Rattle.dbuf_cells.specs.Turns.{CellTurn, DropsAtMost, OnHeap, PartyPlace}
@@ -87,14 +87,15 @@ none-true false b h e = cc
 -- none of them has a lower Oid than the first that keeps something
 none-lower : (at : Oid) (ds : List (Dbuf Kept)) → list_all (λ s. not (s.kept && oid_lt s.at at)) (map standing_of ds) ≡ true → AllByRecursion (λ y. oid_lt y.at at ≡ false) (cached_in ds)
 none-lower at [] h = tt
-none-lower at (d ∷ ds) h = go (out d).cached refl
+none-lower at (d ∷ ds) h = go (λ k. none-lower at ds k) (out d).cached refl
   where
     parts : (not ((standing_of d).kept && oid_lt d.at at) ≡ true) × (list_all (λ s. not (s.kept && oid_lt s.at at)) (map standing_of ds) ≡ true)
     parts = and-parts (not ((standing_of d).kept && oid_lt d.at at)) (list_all (λ s. not (s.kept && oid_lt s.at at)) (map standing_of ds)) h
 
-    go : (c : Bool) → (out d).cached ≡ c → AllByRecursion (λ y. oid_lt y.at at ≡ false) (cond c (out d ∷ cached_in ds) (cached_in ds))
-    go true e = (none-true (out d).cached (oid_lt d.at at) parts.0 e, none-lower at ds parts.1)
-    go false e = none-lower at ds parts.1
+    go : (list_all (λ s. not (s.kept && oid_lt s.at at)) (map standing_of ds) ≡ true → AllByRecursion (λ y. oid_lt y.at at ≡ false) (cached_in ds))
+        → (c : Bool) → (out d).cached ≡ c → AllByRecursion (λ y. oid_lt y.at at ≡ false) (cond c (out d ∷ cached_in ds) (cached_in ds))
+    go rest true e = (none-true (out d).cached (oid_lt d.at at) parts.0 e, rest parts.1)
+    go rest false e = rest parts.1
 
 -- none is left where none keeps something
 none-cached : (ds : List (Dbuf Kept)) → none_kept (map standing_of ds) ≡ true → cached_in ds ≡ []
@@ -111,7 +112,7 @@ none-cached (d ∷ ds) h =
 
 all-split : {X : Type 0} (P : X → Type 0) (front back : List X) (d : X) → AllByRecursion P (front ++ d ∷ back) → P d × AllByRecursion P (front ++ back)
 all-split P [] back d all = all
-all-split P (x ∷ front) back d all = let r = all-split P front back d all.1 in (r.0, all.0, r.1)
+all-split P (x ∷ front) back d all = let r = all-split P front back d all.1 in (r.0, (all.0, r.1))
 
 all-get : {X : Type 0} (P : X → Type 0) (xs : List X) → AllByRecursion P xs → (k : ℕ) (d : X) → k < length xs → P (get_or xs k d)
 all-get P [] all k d lt = absurd (omega arith)
@@ -259,3 +260,14 @@ module _ (cache : Cache) (i : ℕ) (p : PartyPlace) (before : OnHeap) (old now :
     dropped = e.dropped;
     turn = subst (λ (m : ℕ). CellTurn cache.config i before (End m ∷ []) e.es p r) e.party.number given.turn;
   }
+
+-- ---- all cells
+
+pub ends-more : (g : Config) (i count : ℕ) (p q r : PartyPlace) → EndsFrom g i count p q → EndsCell g (i + count) q r → EndsFrom g i (suc count) p r
+ends-more g i zero p q r all one = (r, subst (λ (z : PartyPlace). EndsCell g i z r) all (subst (λ (n : ℕ). EndsCell g n q r) (let e : i + 0 ≡ i = omega arith in e) one), refl)
+ends-more g i (suc count) p q r all one =
+    (all.0, all.1, ends-more g (suc i) count all.0 q r all.2 (subst (λ (n : ℕ). EndsCell g n q r) (let e : i + suc count ≡ suc i + count = omega arith in e) one))
+
+pub ends-next : (g : Config) (count : ℕ) (p q r : PartyPlace) → EndsFrom g 0 count p q → EndsCell g count q r → EndsFrom g 0 (count + 1) p r
+ends-next g count p q r all one =
+    subst (λ (n : ℕ). EndsFrom g 0 n p r) (let e : suc count ≡ count + 1 = omega arith in e) (ends-more g 0 count p q r all (subst (λ (n : ℕ). EndsCell g n q r) (let e : count ≡ 0 + count = omega arith in e) one))

@@ -1,6 +1,7 @@
 pub mod Acts
 pub mod Bringings
 pub mod CellSteps
+pub mod Claims
 pub mod Copies
 pub mod EndLoads
 pub mod Endings

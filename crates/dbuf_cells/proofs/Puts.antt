@@ -149,3 +149,11 @@ put-room n at size fill kept old c u =
     let e : c.event_room ≡ u.emptied.event_room - 1 = ap (λ (x : CellLog Kept). x.event_room) u.noted_is in
     let f = u.room in
     omega arith
+
+-- what is claimed stays
+pub put-claims : (n : ℕ) (at : Oid) (size fill : ℕ) (kept : Option Kept) (old c : CellLog Kept) → IsPut n at size fill kept old c → IsAtRest at old.dbufs → AreClaimedAlike old.dbufs c.dbufs
+put-claims n at size fill kept old c u quiet k =
+    let bytes = replicate size fill in
+    ap (λ (x : CellLog Kept). claims_in k x.dbufs) u.noted_is
+    ∙ (claims-stay-by-note k (length u.emptied.history + 1) (Some at) (written-to at bytes u.emptied.dbufs)
+    ∙ (ap (claims_in k) (hides at bytes kept u.roomy u.emptied u.out ∙ ap (λ (x : CellLog Kept). written-to at bytes x.dbufs) u.made) ∙ written-claims at bytes old.dbufs quiet k))

@@ -66,3 +66,10 @@ unpin-room n at old c u =
     let e : c.event_room ≡ u.roomy.event_room - 1 = ap (λ (x : CellLog Kept). x.event_room) u.noted_is in
     let f = u.room in
     omega arith
+
+-- what is claimed stays
+pub unpin-claims : (n : ℕ) (at : Oid) (old c : CellLog Kept) → IsUnpinned n at old c → AreClaimedAlike old.dbufs c.dbufs
+unpin-claims n at old c u k =
+    ap (λ (x : CellLog Kept). claims_in k x.dbufs) u.noted_is
+    ∙ (claims-stay-by-note k (length u.roomy.history + 1) (Some at) (with_dbuf at (unpinned_by n) u.roomy.dbufs)
+    ∙ (claims-stay at (unpinned_by n) k u.roomy.dbufs (λ d found. refl) ∙ ap (λ (x : CellLog Kept). claims_in k x.dbufs) u.made))

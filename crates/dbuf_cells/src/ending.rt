@@ -102,7 +102,8 @@ pub fn end_cells(
     ensures free { party.new.held ≡ [] }
     ensures claims { KeepsClaims party.old party.new }
 {
-    for i in 0..arcs.config().cells {
+    let count = arcs.config().cells;
+    for i in 0..count {
         end_cell(arcs, rt, party, i)?;
     }
     Ok(())
