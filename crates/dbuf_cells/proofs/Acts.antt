@@ -17,7 +17,7 @@ use Rattle.dbuf_state.specs.Answers.{IsAnswer}
 use Rattle.dbuf_state.specs.CellLog.{CellLog, noted}
 use Rattle.dbuf_state.specs.Dbufs.{DbufHas, dbuf_at, dbuf_is, is_cached, mapped_of, pinned_by, plain_block, plain_dbuf, size_of, with_dbuf}
 use Rattle.dbuf_state.specs.Faults.{fault_of}
-use Rattle.dbuf_state.specs.Objects.{Evicting, Must, Never, is_due}
+use Rattle.dbuf_state.specs.Objects.{Evicting, Must, Never, is_due, use_of}
 use Rattle.dbuf_state.specs.Objects as plain
 use Rattle.dbuf_state.specs.Outline.{mapped_size}
 use Rattle.dbuf_state.specs.Soundness.{plain_cell}
@@ -32,19 +32,21 @@ use Rattle.dbuf_state.specs.declared.oid.Oid.{Oid}
 use Rattle.dbuf_state.specs.declared.state.DbState.{DbState}
 use Rattle.dbuf_state.specs.declared.state.Mapped.{Mapped}
 use Rattle.dbuf_state.specs.declared.window.Window.{Window}
-use Rattle.dbuf_state.proofs.HandLemmas.{claims-stay, holds-stay, rest-stays}
+use Rattle.dbuf_state.proofs.HandLemmas.{claims-stay, holds-stay, rest-stays, claims-stay-by-note}
 use Rattle.dbuf_state.proofs.IndexLemmas.{and-both}
 use Rattle.dbuf_state.proofs.StepLemmas.{get-follows, pin-follows}
 use Rattle.dbuf_cells.specs.Accessing.{Acts, EndsInside, Gets, Holds, Refuses, no_room}
 use Rattle.dbuf_cells.specs.Bringing.{FailsToLoad, no_memory, refused}
-use Rattle.dbuf_cells.specs.InHand.{Finishes, Gives, HasGiven, InHand, IsRoomier, MayEvict, MayGive}
+use Rattle.dbuf_cells.specs.InHand.{Finishes, Gives, HasGiven, InHand, IsRoomier, MayEvict, MayGive, AreClaimedAlike, ClaimsAre}
 use Rattle.dbuf_cells.specs.Kept.{bytes_of, is_held, key_of}
 use Rattle.dbuf_cells.specs.Loading.{EndsWith, HasBrought, HasOperated, Notes, Tests, mapped_in}
-use Rattle.dbuf_cells.specs.Turns.{OnHeap, Operates, PartyPlace}
+use Rattle.dbuf_cells.specs.Turns.{OnHeap, Operates, PartyPlace, KeepsClaims}
 use Rattle.dbuf_cells.specs.declared.kept.Kept.{Kept}
 use Rattle.dbuf_cells.proofs.Bringings.{in-outline}
 use Rattle.dbuf_cells.proofs.CellSteps.{length-change, length-touched}
 use Rattle.dbuf_cells.proofs.Operations.{hand-more, hand-room, operates, plain-test, rest-of, room-settled}
+use Rattle.dbuf_state.specs.Numbers.{claims_in, mapping_numbers}
+use Rattle.dbuf_cells.proofs.Claims.{claims-through}
 
 -- ---- a block whose bytes are there
 

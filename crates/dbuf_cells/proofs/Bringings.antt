@@ -48,7 +48,7 @@ use Rattle.dbuf_cells.specs.Loading.{ClaimsBesides, EndsKept, EndsLoad, EndsUnke
 use Rattle.dbuf_cells.specs.Turns.{KeepsClaims, OnHeap, PartyPlace, dbuf_meanings, outline_in}
 use Rattle.dbuf_cells.proofs.Claims.{keeps-claims, same-mappings}
 use Rattle.dbuf_cells.specs.declared.kept.Kept.{Kept}
-use Rattle.dbuf_cells.proofs.ReadLemmas.{Claiming, read-claims}
+use Rattle.dbuf_cells.proofs.ReadLemmas.{Claiming, read-claims, does-claims}
 
 -- ---- a clean block
 

@@ -115,13 +115,13 @@ loses-claim n at f (d ∷ ds) once none = elim (bool_cases (oid_eq at d.at)) [
       let absent : has_item dbuf_oid at ds ≡ false = ap (λ (a : Oid). has_item dbuf_oid a ds) (oid-is at d.at here) ∙ not-true (has_item dbuf_oid d.at ds) p.0 in
       let now : claims_in n (f d ∷ ds) ≡ claims_in n ds = ap (λ (l : List Mapping). l ++ claims_in n ds) (none d) in
       let was : other_claims at (claims_in n (d ∷ ds)) ≡ claims_in n ds =
-          others-append at (claim_in n d.at d.content d.state) (claims_in n ds) ∙ (λ z. claim-same n at d.at d.content d.state here z ++ absent-others n at ds absent z) in
+      others-append at (claim_in n d.at d.content d.state) (claims_in n ds) ∙ (λ z. claim-same n at d.at d.content d.state here z ++ absent-others n at ds absent z) in
       rw here (now ∙ sym was)
   | inr far ↦
       let p = and-parts (not (has_item dbuf_oid d.at ds)) (is_distinct dbuf_oid ds) once in
       let r = loses-claim n at f ds p.1 none in
       let was : other_claims at (claims_in n (d ∷ ds)) ≡ claim_in n d.at d.content d.state ++ other_claims at (claims_in n ds) =
-          others-append at (claim_in n d.at d.content d.state) (claims_in n ds) ∙ ap (λ (l : List Mapping). l ++ other_claims at (claims_in n ds)) (claim-other n at d.at d.content d.state far) in
+      others-append at (claim_in n d.at d.content d.state) (claims_in n ds) ∙ ap (λ (l : List Mapping). l ++ other_claims at (claims_in n ds)) (claim-other n at d.at d.content d.state far) in
       rw far (ap (λ (l : List Mapping). claim_in n d.at d.content d.state ++ l) r ∙ sym was)
 ]
 

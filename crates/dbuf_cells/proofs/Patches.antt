@@ -40,19 +40,19 @@ use Rattle.dbuf_state.specs.declared.state.DbState.{DbState}
 use Rattle.dbuf_state.specs.declared.state.DbState.TheVariants as state
 use Rattle.dbuf_state.specs.declared.state.Mapped.{Mapped}
 use Rattle.dbuf_state.specs.declared.state.Mapped.TheVariants as mapped
-use Rattle.dbuf_state.proofs.HandLemmas.{claims-stay, holds-stay, holds-stay-by-note, plain-dbuf-is, rest-stays}
+use Rattle.dbuf_state.proofs.HandLemmas.{claims-stay, holds-stay, holds-stay-by-note, plain-dbuf-is, rest-stays, claims-stay-by-note}
 use Rattle.dbuf_state.proofs.IndexLemmas.{and-both}
 use Rattle.dbuf_state.proofs.OutlineLemmas.{cell-is-in-outline, leads-outline}
 use Rattle.dbuf_state.proofs.StepLemmas.{patch-follows, patch-of-clean-follows}
 use Rattle.dbuf_cells.specs.Accessing.{EndsInside, Refuses}
-use Rattle.dbuf_cells.specs.InHand.{Finishes, Gives, GivesUp, HasGiven, HasDone, InHand, IsOut, MayEvict, MayGive}
+use Rattle.dbuf_cells.specs.InHand.{Finishes, Gives, GivesUp, HasGiven, HasDone, InHand, IsOut, MayEvict, MayGive, ClaimsAre, AreClaimedAlike}
 use Rattle.dbuf_cells.specs.Kept.{bytes_of, is_held, key_of}
 use Rattle.dbuf_cells.specs.Loading.{HasBrought, Tests, mapped_in}
 use Rattle.dbuf_cells.specs.Patching.{ChecksKey, EndsPatch, HasPatched, IsPatched, IsSizedIn, TakesOver, Writes, no_bytes, no_key}
 use Rattle.dbuf_cells.specs.Putting.{ReleasesAtMost, no_hold, one_hold}
-use Rattle.dbuf_cells.specs.Turns.{OnHeap, Operates, PartyPlace, holds_of, outline_in}
+use Rattle.dbuf_cells.specs.Turns.{OnHeap, Operates, PartyPlace, holds_of, outline_in, KeepsClaims}
 use Rattle.dbuf_cells.specs.declared.kept.Kept.{Kept}
-use Rattle.dbuf_cells.proofs.Acts.{IsReadFault, has-its-bytes, no-room, no-room-party}
+use Rattle.dbuf_cells.proofs.Acts.{IsReadFault, has-its-bytes, no-room, no-room-party, after-claims}
 use Rattle.dbuf_cells.proofs.Bringings.{in-outline}
 use Rattle.dbuf_cells.proofs.CellSteps.{done-more, length-change, length-touched, test-of}
 use Rattle.dbuf_cells.proofs.Copies.{dirtied-dirty, dirtied-inside}

@@ -1,5 +1,5 @@
 -- What is so of a cell in hand whose pin is taken back.
-use Rattle.std.proofs.Common.{◌≡◌, ℕ, ◌-◌, ◌≤◌, true, false, [], ◌∷◌, length, refl, ap, ◌∙◌, subst, arith}
+use Rattle.std.proofs.Common.{◌≡◌, ℕ, ◌-◌, ◌≤◌, true, false, [], ◌∷◌, length, refl, ap, ◌∙◌, subst, arith, ◌+◌, Some}
 use Rattle.arc_table.specs.Cache.{Cache}
 use Rattle.dbuf_state.specs.CellLog.{CellLog}
 use Rattle.dbuf_state.specs.Dbufs.{dbuf_is, unpinned_by, with_dbuf}
@@ -10,13 +10,15 @@ use Rattle.dbuf_state.specs.declared.event.CellEvent.TheVariants.{Unpin}
 use Rattle.dbuf_state.specs.declared.fault.DbufFault.{DbufFault}
 use Rattle.dbuf_state.specs.declared.fault.DbufFault.TheVariants as fault
 use Rattle.dbuf_state.specs.declared.oid.Oid.{Oid}
-use Rattle.dbuf_cells.specs.InHand.{AsTaken, Finishes, Gives, HasFinished, HasGiven, InHand, IsNotUnpinned, IsRoomier, IsUnpinned, MayEvict, MayGive, TakesAtRest}
+use Rattle.dbuf_cells.specs.InHand.{AsTaken, Finishes, Gives, HasFinished, HasGiven, InHand, IsNotUnpinned, IsRoomier, IsUnpinned, MayEvict, MayGive, TakesAtRest, AreClaimedAlike}
 use Rattle.dbuf_cells.specs.Turns.{OnHeap, Operates, PartyPlace, outline_in}
 use Rattle.dbuf_cells.specs.Unholding.{NotUnholds}
 use Rattle.dbuf_cells.specs.declared.kept.Kept.{Kept}
 use Rattle.dbuf_cells.proofs.CellSteps.{length-change}
 use Rattle.dbuf_cells.proofs.Operations.{as-taken-room, hand-unpin, no-pin, operates}
 use Rattle.dbuf_cells.proofs.PartySteps.{as-given, as-may-give}
+use Rattle.dbuf_state.specs.Numbers.{claims_in}
+use Rattle.dbuf_state.proofs.HandLemmas.{claims-stay, claims-stay-by-note}
 
 module _ (cache : Cache) (i : ℕ) (at : Oid) (p : PartyPlace) (before : OnHeap) (q : PartyPlace) (t : TakesAtRest cache i at p before q) where
   pub number-is : q.number ≡ t.ready.number

@@ -89,11 +89,7 @@ fn end_cell(
 /// Ends all cells by rising numbers, each in one turn: what its dbufs keep is dropped by rising Oids, every clean block is uncached, every pin
 /// goes, and that is noted. After NoMemory the cells of lower numbers are ended, and the others are as before. The party holds no turn.
 /// It may wait.
-pub fn end_cells(
-    arcs: &Cells,
-    rt: &impl Wait,
-    party: &mut Party<HeapCell>,
-) -> Result<(), NoMemory>
+pub fn end_cells(arcs: &Cells, rt: &impl Wait, party: &mut Party<HeapCell>) -> Result<(), NoMemory>
     requires party { IsPartyOf arcs.now party.old }
     requires valid { IsConfig arcs.now.config }
     requires free { party.old.held ≡ [] }

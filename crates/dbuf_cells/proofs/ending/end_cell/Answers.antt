@@ -1,12 +1,11 @@
-use Rattle.std.proofs.Common.{ℕ, [], refl, sym, ap, ◌∙◌, subst}
-use Rattle.std.specs.Prelude.{◌∷◌, ◌≡◌, map}
+use Rattle.std.proofs.Common.{[], refl, sym, ap, ◌∙◌, subst}
+use Rattle.std.specs.Prelude.{◌∷◌, map}
 use Rattle.dbuf_state.specs.CellLog.{CellLog, noted}
 use Rattle.dbuf_state.specs.Dbufs.{cleared}
 use Rattle.dbuf_state.specs.Numbers.{claims_in}
 use Rattle.dbuf_state.specs.Objects.{Never}
 use Rattle.dbuf_state.specs.declared.event.CellEvent.TheVariants.{End}
-use Rattle.dbuf_cells.specs.Emptying.{IsEnding}
-use Rattle.dbuf_cells.specs.InHand.{AsTaken, HasGiven, IsRoomier}
+use Rattle.dbuf_cells.specs.InHand.{IsRoomier}
 use Rattle.dbuf_cells.specs.declared.kept.Kept.{Kept}
 use Rattle.dbuf_cells.proofs.Claims.{claims-through}
 use Rattle.dbuf_cells.proofs.Endings.{begins-ending, ended-claims, ended-gives, ended-hand, ends-cell}
@@ -55,8 +54,14 @@ pub drop_kept-requires : goal.drop_kept-requires
 drop_kept-requires g c =
     let k = c.take-cell in
     let log = subst (λ (x : CellLog Kept). IsRoomier x c.reserve.new.self) c.deref_mut.ensures.value c.reserve.ensures.log in
-    record { hand = (c.args.party.now, k.result, begins-ending c.args.arcs.now c.args.i c.args.party.now k.result c.deref_mut-2.result.now k.new.party k.ensures.begins
-        (subst (λ (x : CellLog Kept). IsRoomier k.result.value x) (sym c.deref_mut-2.ensures.value) log)) }
+    record {
+      hand = (
+        c.args.party.now,
+        k.result,
+        begins-ending c.args.arcs.now c.args.i c.args.party.now k.result c.deref_mut-2.result.now k.new.party k.ensures.begins
+            (subst (λ (x : CellLog Kept). IsRoomier k.result.value x) (sym c.deref_mut-2.ensures.value) log),
+      );
+    }
 
 pub give-requires-2 : goal.give-requires-2
 give-requires-2 g c =

@@ -1,4 +1,4 @@
-use Rattle.std.proofs.Common.{refl, ◌∙◌}
+use Rattle.std.proofs.Common.{◌∙◌}
 use Rattle.dbuf_cells.proofs.Endings.{ends-next}
 use Rattle.dbuf_cells.proofs.ending.end_cells.Goals as goal
 

@@ -8,7 +8,8 @@ use Rattle.dbuf_state.specs.declared.event.CellEvent.TheVariants.{Get}
 use Rattle.dbuf_cells.specs.InHand.{IsRoomier}
 use Rattle.dbuf_cells.specs.Loading.{EndsWith, Notes}
 use Rattle.dbuf_cells.specs.declared.kept.Kept.{Kept}
-use Rattle.dbuf_cells.proofs.Acts.{noted-ends, noted-evicts, noted-room, roomy-gives, roomy-may-give}
+use Rattle.dbuf_cells.proofs.Acts.{noted-ends, noted-evicts, noted-room, roomy-gives, roomy-may-give, claims-alike, noted-claims}
+use Rattle.dbuf_cells.proofs.Claims.{roomy-claims}
 use Rattle.dbuf_cells.proofs.getting.end_get.Goals as goal
 
 pub see-requires-clause-cached : goal.see-requires-clause-cached

@@ -5,7 +5,8 @@ use Rattle.dbuf_state.specs.declared.event.CellEvent.TheVariants.{Pin}
 use Rattle.dbuf_cells.specs.InHand.{IsRoomier}
 use Rattle.dbuf_cells.specs.Loading.{EndsWith, Notes}
 use Rattle.dbuf_cells.specs.declared.kept.Kept.{Kept}
-use Rattle.dbuf_cells.proofs.Acts.{noted-ends, noted-evicts, noted-room, roomy-gives, roomy-may-give}
+use Rattle.dbuf_cells.proofs.Acts.{noted-ends, noted-evicts, noted-room, roomy-gives, roomy-may-give, claims-alike, noted-claims}
+use Rattle.dbuf_cells.proofs.Claims.{roomy-claims}
 use Rattle.dbuf_cells.proofs.getting.end_hold.Goals as goal
 
 pub pin-requires : goal.pin-requires

@@ -23,4 +23,4 @@ returns-in-None-clause-brings g c p taken free mine =
     (sym (λ z. to_load (m z) (s z)) ∙ sym c.in-None.ensures)) mine
 
 pub load-requires-clause-once : goal.load-requires-clause-once
-load-requires-clause-once g c = subst (λ (x : CellLog Kept). IsTrue (is_distinct dbuf_oid x.dbufs)) c.deref.ensures c.told.ensures.once
+load-requires-clause-once g c κs within = subst (λ (x : CellLog Kept). IsTrue (is_distinct dbuf_oid x.dbufs)) c.deref.ensures c.told.ensures.once

@@ -3,8 +3,9 @@ use Rattle.dbuf_state.specs.CellLog.{CellLog}
 use Rattle.dbuf_cells.specs.InHand.{IsRoomier}
 use Rattle.dbuf_cells.specs.Patching.{IsPatched}
 use Rattle.dbuf_cells.specs.declared.kept.Kept.{Kept}
-use Rattle.dbuf_cells.proofs.Acts.{roomy-gives, roomy-may-give}
-use Rattle.dbuf_cells.proofs.Patches.{patch-ends, patch-evicts, patch-out, patch-room}
+use Rattle.dbuf_cells.proofs.Acts.{roomy-gives, roomy-may-give, claims-alike}
+use Rattle.dbuf_cells.proofs.Patches.{patch-ends, patch-evicts, patch-out, patch-room, patch-claims}
+use Rattle.dbuf_cells.proofs.Claims.{roomy-claims}
 use Rattle.dbuf_cells.proofs.patching.end_patch.Goals as goal
 
 pub give_up-requires-clause-out : goal.give_up-requires-clause-out

@@ -6,8 +6,9 @@ use Rattle.dbuf_cells.specs.Putting.{Puts}
 use Rattle.dbuf_cells.specs.Turns.{CellTurn, OnHeap, PartyPlace}
 use Rattle.dbuf_cells.specs.declared.kept.Kept.{Kept}
 use Rattle.dbuf_cells.proofs.PartySteps.{once-at-rest}
-use Rattle.dbuf_cells.proofs.Puts.{put-answers, put-evicts, put-finished, put-out, put-room}
+use Rattle.dbuf_cells.proofs.Puts.{put-answers, put-evicts, put-finished, put-out, put-room, put-claims}
 use Rattle.dbuf_cells.proofs.Unholds.{room-given, room-gives}
+use Rattle.dbuf_cells.proofs.Claims.{rest-claims, roomy-claims}
 use Rattle.dbuf_cells.proofs.putting.put_filled.Goals as goal
 
 pub write-requires-clause-rest : goal.write-requires-clause-rest
