@@ -18,4 +18,5 @@ pub mod Owning
 pub mod Again
 pub mod Newest
 pub mod Telling
+pub mod Alone
 pub mod Whole
