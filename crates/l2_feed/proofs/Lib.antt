@@ -19,4 +19,5 @@ pub mod Again
 pub mod Newest
 pub mod Telling
 pub mod Alone
+pub mod Plain
 pub mod Whole

@@ -26,7 +26,9 @@ use Rattle.l2_feed.specs.Runs.{batch_len}
 use Rattle.l2_feed.specs.Shape.{AreFed, FedShard, IsUnwritten, IsWritten, stop_of}
 use Rattle.l2_feed.specs.Sums.{CountsMore, IsSummary, picked_in}
 use Rattle.l2_feed.proofs.Again.{fed_again}
+use Rattle.l2_feed.specs.Alone.{shards_seen}
 use Rattle.l2_feed.proofs.Alone.{acts_alone}
+use Rattle.l2_feed.proofs.Plain.{fed_plain}
 use Rattle.l2_feed.proofs.Keeping.{fed_kept}
 use Rattle.l2_feed.proofs.Newest.{fed_newest}
 use Rattle.l2_feed.proofs.Owning.{fed_owns}
@@ -62,6 +64,7 @@ has_fed m cache device was now old new acts calls p q report ready did made fed 
       joined = stays.joined;
       made = made;
       fed = fed;
+      plain = λ all ended none. fed_plain cache.config p.number (shards_seen cache.config p) old new acts calls report fed sums ended none (acts_alone m cache.config acts p q knows did all).of_shards;
       sums = sums;
       kept = fed_kept m cache.config 0 cache.config.shards old new acts calls report.end p q knows did fed;
       newest = fed_newest m cache.config 0 cache.config.shards old new acts calls report.end p q knows did fed;

@@ -212,7 +212,7 @@ length_front zero bs = omega arith
 length_front (suc n) [] = omega arith
 length_front (suc n) (x ∷ bs) = let e = length_front n bs in omega arith
 
-some_front : (n : ℕ) (bs : List Block) → 0 < length bs → 0 < length (take (suc n) bs)
+pub some_front : (n : ℕ) (bs : List Block) → 0 < length bs → 0 < length (take (suc n) bs)
 some_front n [] some = absurd (omega arith)
 some_front n (x ∷ bs) some = omega arith
 

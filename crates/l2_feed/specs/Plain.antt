@@ -1,7 +1,8 @@
 -- A feed of a party that meets nobody, as a plain function: of the shards, the ring, and how the device answers its calls.
-use Rattle.std.specs.Prelude.{◌≡◌, ℕ, zero, suc, ◌+◌, ◌*◌, ◌==◌, nat_le, Bool, true, false, if◌then◌else◌, List, [], ◌∷◌, ◌++◌, length, map, sum_by, take, drop}
+use Rattle.std.specs.Prelude.{◌≡◌, ℕ, zero, suc, ◌+◌, ◌*◌, ◌==◌, nat_le, Bool, true, false, if◌then◌else◌, List, [], ◌∷◌, ◌++◌, length, map, count_by, sum_by, take, drop}
 use Rattle.std.specs.List.{filter}
 use Rattle.vdev_io.specs.Calls.{Call, DeviceCall, Failed, Gave}
+use Rattle.blk_ptr.specs.declared.key.Key.{Key}
 use Rattle.blk_ptr.specs.Hash.{shard_of}
 use Rattle.arc_core.specs.declared.config.Config.{Config}
 use Rattle.arc_core.specs.declared.entry.Picked.{Picked as Pick_of}
@@ -19,6 +20,7 @@ use Rattle.l2_ring.specs.declared.live.Written.{Written}
 use Rattle.l2_ring.specs.declared.plan.Plan.{Plan}
 use Rattle.l2_ring.specs.Ring.{RingState, straight_plan, wrapped_plan}
 use Rattle.l2_ring.specs.Stays.{falls, live_of, stays}
+use Rattle.l2_dev.specs.declared.report.FeedReport.{FeedReport}
 use Rattle.l2_dev.specs.declared.report.FeedStop.{FeedStop}
 use Rattle.l2_dev.specs.declared.report.FeedStop.TheVariants as stop
 use Rattle.l2_feed.specs.Acts.{Act, Absent, Cleared, Left, Placed}
@@ -192,6 +194,30 @@ fed_from g n shard (suc count) st =
 abbrev pub fed_of : Config → (n : ℕ) → Standing → PlainFed
 fed_of g n st = fed_from g n 0 g.shards st
 
+-- the keys that were picked by events
+abbrev pub picked_by : List (ℕ × Event) → List Key
+picked_by [] = []
+picked_by ((shard, event.Pick n k) ∷ es) = k ∷ picked_by es
+picked_by (_ ∷ es) = picked_by es
+
+abbrev pub is_set : Event → Bool
+is_set (event.Set n k place) = true
+is_set _ = false
+
+abbrev pub is_clear : Event → Bool
+is_clear (event.Clear n k) = true
+is_clear _ = false
+
+-- the report of a feed: how many keys it picked and the sum of their sizes, how many it set, how many places it took, and how it ended
+abbrev pub report_of : PlainFed → FeedReport
+report_of fed = record {
+  picked = length (picked_by fed.events);
+  bytes = sum_by (λ k. k.size) (picked_by fed.events);
+  written = count_by (λ e. is_set e.1) fed.events;
+  cleared = count_by (λ e. is_clear e.1) fed.events;
+  end = fed.end;
+}
+
 -- ---- a feed is the plain one
 
 -- how calls were answered
@@ -199,8 +225,8 @@ abbrev pub answers_of : List DeviceCall → List Call
 answers_of calls = map (λ call. call.answer) calls
 
 -- These acts of n, with these calls, are the plain feed of these shards and this ring, whatever the device answers later: it makes their events, leaves
--- this ring, and ends so.
-abbrev pub IsPlainFeed : Config → (n : ℕ) → (ℕ → PlainShard) → (old new : RingState) → List Act → List DeviceCall → FeedStop → Type 0
-IsPlainFeed g n s old new acts calls end =
-    (later : List Call) → fed_of g n record { shards = s; ring = bare old; answers = answers_of calls ++ later }
-    ≡ record { events = told_of g n acts; at = record { shards = all_after g n s acts; ring = bare new; answers = later }; end = end }
+-- this ring, and has this report.
+abbrev pub IsPlainFeed : Config → (n : ℕ) → (ℕ → PlainShard) → (old new : RingState) → List Act → List DeviceCall → FeedReport → Type 0
+IsPlainFeed g n s old new acts calls report =
+    (later : List Call) → let fed = fed_of g n record { shards = s; ring = bare old; answers = answers_of calls ++ later } in
+    (fed ≡ record { events = told_of g n acts; at = record { shards = all_after g n s acts; ring = bare new; answers = later }; end = report.end }) × (report_of fed ≡ report)
