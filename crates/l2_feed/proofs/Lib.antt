@@ -21,3 +21,4 @@ pub mod Telling
 pub mod Alone
 pub mod Plain
 pub mod Whole
+pub mod Ends

@@ -10,3 +10,4 @@ pub mod Alone
 pub mod Plain
 pub mod Crashes
 pub mod Fed
+pub mod Ends
