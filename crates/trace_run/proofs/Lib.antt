@@ -12,6 +12,8 @@ pub mod DropLemmas
 pub mod EachLemmas
 pub mod MappedLemmas
 pub mod EndLemmas
+pub mod FedAlone
+pub mod FeederLemmas
 pub mod GenLemmas
 pub mod GetLemmas
 pub mod GiveLemmas
@@ -39,8 +41,8 @@ pub mod ReadLemmas
 pub mod ReadStands
 pub mod ReportLemmas
 pub mod ResidentLemmas
-pub mod ResizeAlone
 pub mod ResizeLemmas
+pub mod RestoreLemmas
 pub mod RestAlone
 pub mod RestLemmas
 pub mod RunLemmas

@@ -2,7 +2,9 @@
 #![tactic(auto)]
 
 mod alone;
+mod bounded;
 mod check;
+mod device;
 mod ending;
 mod get;
 mod group;
@@ -14,6 +16,7 @@ mod opening;
 mod paper;
 mod ran;
 mod resizing;
+mod restoring;
 mod run_trace;
 mod status;
 mod stream;

@@ -15,8 +15,11 @@ use Rattle.trace_run.proofs.alone.run_alone.Goals as goal
 pub lines_alone-requires-clause-rows : goal.lines_alone-requires-clause-rows
 lines_alone-requires-clause-rows g c κs within = let new = c.only_party-party.ensures.joined.new in sym new.stands.of.row.1 ∙ new.parties
 
+pub restore_alone-requires-clause-rows : goal.restore_alone-requires-clause-rows
+restore_alone-requires-clause-rows g c = let new = c.only_party-party.ensures.joined.new in sym new.stands.of.row.1 ∙ new.parties
+
 pub lines_alone-requires-clause-stands : goal.lines_alone-requires-clause-stands
-lines_alone-requires-clause-stands g c κs within = subst (Stands c.in_ok-arcs.arcs c.only_party-party.result) (sym c.new-kept.ensures) c.only_party-party.ensures.joined.new.stands
+lines_alone-requires-clause-stands g c κs within = subst (Stands c.in_ok-arcs.arcs c.in_ok-party.party) (sym c.new-kept.ensures) c.in_ok-party.ensures.stands
 
 pub lines_alone-requires-clause-named : goal.lines_alone-requires-clause-named
 lines_alone-requires-clause-named g c κs within = subst (λ (l : List KeptBlock). AreNamed c.args.trace.now.blocks (map read_of l)) (sym c.new-kept.ensures) tt
@@ -24,27 +27,29 @@ lines_alone-requires-clause-named g c κs within = subst (λ (l : List KeptBlock
 pub close-requires-clause-all : goal.close-requires-clause-all
 close-requires-clause-all g c =
     let cache : Cache = c.in_ok-arcs.arcs in
-    let p = c.only_party-party.result in
-    let q = c.in_ok-party.party in
+    let new = c.only_party-party.result in
+    let p = c.in_ok-party.party in
+    let q = c.in_ok-party-2.party in
     let r = c.give_back_all.new.party in
     let kept : List KeptBlock = c.lines_alone.new.kept in
-    let did = subst (λ (l : List KeptBlock). DidLines cache.config g.P.Pool 0 c.args.trace.now.blocks c.args.trace.now.ops c.in_ok-party.replies.items (at p (map read_of l) c.args.pool.now) (at q (map read_of kept) c.lines_alone.new.pool))
-    c.new-kept.ensures c.in_ok-party.ensures.did in
-    let here = end-there _ cache g.P.Pool c.args.trace.now c.in_ok-party.replies.items c.args.pool.now c.lines_alone.new.pool p q r kept c.in_ok-arcs.ensures.config c.requires.formed c.requires.one
-    c.only_party-party.ensures.joined did c.in_ok-party.ensures.stands c.give_back_all.ensures.gives c.give_back_all.ensures.stands in
+    let did = subst (λ (l : List KeptBlock). DidLines cache.config g.P.Pool 0 c.args.trace.now.blocks c.args.trace.now.ops c.in_ok-party-2.replies.items (at p (map read_of l) c.args.pool.now) (at q (map read_of kept) c.lines_alone.new.pool))
+    c.new-kept.ensures c.in_ok-party-2.ensures.did in
+    let here = end-there _ cache g.P.Pool c.args.trace.now c.in_ok-party-2.replies.items c.args.pool.now c.lines_alone.new.pool p q r kept c.in_ok-arcs.ensures.config c.requires.formed c.requires.one
+    c.args.restored.now new c.only_party-party.ensures.joined c.in_ok-party.ensures.fed did c.in_ok-party-2.ensures.stands c.give_back_all.ensures.gives c.give_back_all.ensures.stands in
     λ n below. subst (λ (x : List (Place (Known HeapCell))). SomeHas n x) (sym c.in_ok-vec.ensures.items) (here n (subst (λ (x : Cache). n < parties_of x.config) c.arcs.view_is below))
 
 pub returns-clause-ran : goal.returns-clause-ran
 returns-clause-ran g c =
     let cache : Cache = c.in_ok-arcs.arcs in
-    let p = c.only_party-party.result in
-    let q = c.in_ok-party.party in
+    let new = c.only_party-party.result in
+    let p = c.in_ok-party.party in
+    let q = c.in_ok-party-2.party in
     let r = c.give_back_all.new.party in
     let kept : List KeptBlock = c.lines_alone.new.kept in
-    let did = subst (λ (l : List KeptBlock). DidLines cache.config g.P.Pool 0 c.args.trace.now.blocks c.args.trace.now.ops c.in_ok-party.replies.items (at p (map read_of l) c.args.pool.now) (at q (map read_of kept) c.lines_alone.new.pool))
-    c.new-kept.ensures c.in_ok-party.ensures.did in
-    ran-alone _ cache g.P.Pool c.args.trace.now c.in_ok-party.replies.items c.args.pool.now c.lines_alone.new.pool p q r kept c.in_ok-arcs.ensures.config c.requires.formed c.requires.one
-    c.only_party-party.ensures.joined did c.in_ok-party.ensures.stands c.give_back_all.ensures.gives c.give_back_all.ensures.stands
+    let did = subst (λ (l : List KeptBlock). DidLines cache.config g.P.Pool 0 c.args.trace.now.blocks c.args.trace.now.ops c.in_ok-party-2.replies.items (at p (map read_of l) c.args.pool.now) (at q (map read_of kept) c.lines_alone.new.pool))
+    c.new-kept.ensures c.in_ok-party-2.ensures.did in
+    ran-alone _ cache g.P.Pool c.args.trace.now c.in_ok-party-2.replies.items c.args.pool.now c.lines_alone.new.pool p q r kept c.in_ok-arcs.ensures.config c.requires.formed c.requires.one
+    c.args.restored.now new c.only_party-party.ensures.joined c.in_ok-party.ensures.fed did c.in_ok-party-2.ensures.stands c.give_back_all.ensures.gives c.give_back_all.ensures.stands
     _ c.in_ok-vec.field-0.items c.in_ok-closed.closed c.arcs.view_is c.in_ok-vec.ensures.items c.in_ok-closed.ensures
 
 pub returns-clause-cells : goal.returns-clause-cells
