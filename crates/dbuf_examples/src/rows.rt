@@ -92,6 +92,16 @@ fn syncs<R: Wait>(
     sync(alloc, arcs, rt, feeder, 1, tick, pool, next) == answer
 }
 
+// The byte of the pool at this place.
+fn byte_at(pool: &mut MemPool, at: u64) -> Option<u8> {
+    if at >= pool.len() {
+        return None;
+    }
+    let mut found = [0u8; 1];
+    pool.read(at, &mut found).ok()?;
+    Some(found[0])
+}
+
 /// Each of the six calls and the sync, once, over a pool of two blocks with room for one more.
 pub fn all_calls<R: Wait>(
     alloc: Global,
@@ -181,9 +191,7 @@ pub fn written_in_two<R: Wait>(
         next: 1024,
     });
     let synced = syncs(alloc, arcs, rt, feeder, 4, pool, 512, answer);
-    let mut found = [0u8; 1];
-    let read = pool.read(512, &mut found).is_ok();
-    high && low && failed && synced && read && found[0] == 2
+    high && low && failed && synced && byte_at(pool, 512) == Some(2)
 }
 
 /// A clean block is read, changed, and read again; what the pool has stays.
@@ -203,9 +211,7 @@ pub fn patched_block<R: Wait>(
     let patched = patches(alloc, arcs, rt, one, at, 0, &[0xff], 2, pool).is_ok();
     let w = Window { at: 0, len: 2 };
     let again = shows(arcs, rt, one, at, w, 4, pool, &[0xff, 1]);
-    let mut found = [0u8; 1];
-    let read = pool.read(512, &mut found).is_ok();
-    got && patched && again && read && found[0] == 1
+    got && patched && again && byte_at(pool, 512) == Some(1)
 }
 
 /// A pin that nobody has, and a block that nothing maps, are refused by name.
