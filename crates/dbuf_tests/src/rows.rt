@@ -26,7 +26,16 @@ const TWO: Config = Config {
 #[test]
 fn each_call_is_done_once(rt: HostRuntime) -> Result<(), Fail> {
     let mut s = opened(rt.alloc(), &TWO, 2, 2048, &[]).ok().ok_or("memory")?;
-    assert!(rt; all_calls(rt.alloc(), &s.arcs, &rt, &mut s.one, &mut s.feeder, &mut s.pool));
+    assert!(rt;
+        all_calls(
+            rt.alloc(),
+            &s.arcs,
+            &rt,
+            &mut s.one,
+            &mut s.feeder,
+            &mut s.pool
+        )
+    );
     Ok(())
 }
 
@@ -38,7 +47,15 @@ fn writes<R: Wait>(
     answer: Result<Synced, SyncFault>,
 ) -> Option<bool> {
     let mut s = opened(alloc, &TWO, 0, len, &[]).ok()?;
-    Some(written_block(alloc, &s.arcs, rt, &mut s.one, &mut s.feeder, &mut s.pool, answer))
+    Some(written_block(
+        alloc,
+        &s.arcs,
+        rt,
+        &mut s.one,
+        &mut s.feeder,
+        &mut s.pool,
+        answer,
+    ))
 }
 
 #[test]
@@ -59,8 +76,19 @@ fn a_block_is_synced_where_it_fits(rt: HostRuntime) -> Result<(), Fail> {
 
 #[test]
 fn a_failed_write_is_made_by_the_next_sync(rt: HostRuntime) -> Result<(), Fail> {
-    let mut s = opened(rt.alloc(), &TWO, 0, 1024, &[1]).ok().ok_or("memory")?;
-    assert!(rt; written_in_two(rt.alloc(), &s.arcs, &rt, &mut s.one, &mut s.feeder, &mut s.pool));
+    let mut s = opened(rt.alloc(), &TWO, 0, 1024, &[1])
+        .ok()
+        .ok_or("memory")?;
+    assert!(rt;
+        written_in_two(
+            rt.alloc(),
+            &s.arcs,
+            &rt,
+            &mut s.one,
+            &mut s.feeder,
+            &mut s.pool
+        )
+    );
     Ok(())
 }
 
