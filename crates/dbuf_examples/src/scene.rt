@@ -1,10 +1,8 @@
 //! A cache over cells of dbufs, whose blocks are mapped, with its parties, and a pool that has the blocks' bytes.
-ghost use Rattle.std.specs.Prelude.{◌≡◌, ◌+◌, [], length, IfOk, OnOk, vec_len};
+ghost use Rattle.std.specs.Prelude.{◌≡◌, ◌+◌, length, IfOk, OnOk};
 ghost use Rattle.std.specs.List.{AllByRecursion};
 ghost use Rattle.arc_core.specs.Config.{IsConfig};
-ghost use Rattle.arc_examples.specs.Ready.{AreNew, IsNew};
-ghost use Rattle.arc_table.specs.Opening.{AreFreshCells};
-ghost use Rattle.dbuf_cells.specs.Turns.{dbuf_meanings};
+ghost use Rattle.arc_examples.specs.Ready.{AreNew};
 ghost use Rattle.dbuf_examples.specs.Mapped.{IsMapped, IsOne};
 
 use arc_core::Config;
@@ -94,7 +92,8 @@ fn cell_of_blocks(
 
 // All cells of a configuration, with these blocks.
 fn cells_of(alloc: Global, config: &Config, blocks: u64) -> Result<Vec<HeapCell>, NoMemory>
-    ensures { IfOk result (λ cells. AreFreshCells dbuf_meanings config.now cells.items) }
+    ensures count { IfOk result (λ cells. length cells.items ≡ config.now.cells) }
+    ensures mapped { IfOk result (λ cells. AllByRecursion (λ c. IsMapped c.value) cells.items) }
 {
     let mut cells = Vec::new(alloc);
     let count = config.cells;
@@ -136,8 +135,8 @@ pub fn opened(
     ensures feeder { IfOk result (λ s. IsOne s.arcs 1 s.feeder) }
 {
     let image = image_of(alloc, blocks, len)?;
-    let pool = MemPool::new(alloc, image, fails.to_vec(alloc)?, Vec::new(alloc))?;
-    let (arcs, mut parties) = made(alloc, config, blocks)?;
+    let fails = fails.to_vec(alloc)?;
+    let (arcs, mut parties, pool) = made(alloc, config, blocks, image, fails)?;
     let feeder = last_of(&arcs, &mut parties)?;
     let one = last_of(&arcs, &mut parties)?;
     Ok(Scene {
@@ -148,19 +147,23 @@ pub fn opened(
     })
 }
 
-// A new cache with these blocks, and its parties by their numbers.
+// A new cache with these blocks, its parties by their numbers, and a pool of these bytes.
 fn made(
     alloc: Global,
     config: &Config,
     blocks: u64,
-) -> Result<(Cells, Vec<Party<HeapCell>>), NoMemory>
+    image: Vec<u8>,
+    fails: Vec<u64>,
+) -> Result<(Cells, Vec<Party<HeapCell>>, MemPool), NoMemory>
     requires valid { IsConfig config.now }
     ensures config { IfOk result (λ r. r.0.config ≡ config.now) }
     ensures parties { IfOk result (λ r. AreNew r.0 0 r.1.items) }
     ensures count { IfOk result (λ r. length r.1.items ≡ config.now.callers + 1) }
 {
     let cells = cells_of(alloc, config, blocks)?;
-    Arcs::new(alloc, config, cells)
+    let (arcs, parties) = Arcs::new(alloc, config, cells)?;
+    let pool = MemPool::new(alloc, image, fails, Vec::new(alloc))?;
+    Ok((arcs, parties, pool))
 }
 
 // Of these parties, which stand by their numbers, the last.
@@ -171,7 +174,10 @@ fn last_of(arcs: &Cells, parties: &mut Vec<Party<HeapCell>>) -> Result<Party<Hea
     ensures count { OnOk result (length parties.new.items + 1 ≡ length parties.old.items) }
 {
     let _ = arcs;
-    parties.pop().ok_or(NoMemory)
+    match parties.pop() {
+        Some(party) => Ok(party),
+        None => Err(NoMemory),
+    }
 }
 
 /// The shards and the cells of such a cache at its end.

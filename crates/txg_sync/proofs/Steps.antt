@@ -30,6 +30,7 @@ use Rattle.txg_sync.specs.InHand.{IsHolding}
 use Rattle.txg_sync.specs.Items.{SyncItem}
 use Rattle.txg_sync.specs.Turns.{InsertsAll, InsertsItem, synced_in}
 use Rattle.arc_table.specs.declared.view.Ledger.{Ledger}
+use Rattle.arc_table.specs.declared.item.Item.TheVariants as item
 use Rattle.arc_table.specs.declared.view.Known.{Known}
 use Rattle.arc_table.specs.Views.{after_same, after_won}
 use Rattle.turn_table.specs.Places.{gave_back}
