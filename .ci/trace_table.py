@@ -962,6 +962,21 @@ check ok 7
 shard 0 c 4096 p 2048 anon 0 mru 512 mrug 0 mfu 0 mfug 0 l2 0
 end 0
 ''']),
+    Row('a dbuf takes a hold beside another one, and its block is written', ['check'], 0, '''\
+arc 1 1 16 1 4096 0 4096
+e 0 0 miss 0 0 512 1 1
+e 0 1 arrive 0 0 512 1 Z pool
+e 0 2 hit 0 0 512 1 2
+e 0 3 hand 0 0 512 1 2
+e 0 4 release 2 0 512 1 shared
+e 0 5 hit 0 0 512 1 4
+e 0 6 drop 0 0 512 1
+e 0 7 drop 0 0 512 1
+''', 0, ['''\
+check ok 8
+shard 0 c 4096 p 2048 anon 0 mru 0 mrug 0 mfu 512 mfug 0 l2 0
+end 0
+''']),
     Row('two dbufs, of which one at a time is kept', ['check'], 0, '''\
 arc 1 1 16 1 4096 0 4096
 e 0 0 miss 0 0 512 1 1

@@ -17,7 +17,7 @@ use Rattle.dbuf_state.specs.Answers.{IsAnswer}
 use Rattle.dbuf_state.specs.CellLog.{CellLog, noted}
 use Rattle.dbuf_state.specs.Dbufs.{DbufHas, dbuf_at, dbuf_is, is_cached, mapped_of, pinned_by, plain_block, plain_dbuf, size_of, with_dbuf}
 use Rattle.dbuf_state.specs.Faults.{fault_of}
-use Rattle.dbuf_state.specs.Objects.{Evicting, Must, Never, is_due}
+use Rattle.dbuf_state.specs.Objects.{Evicting, Must, Never, is_due, use_of}
 use Rattle.dbuf_state.specs.Objects as plain
 use Rattle.dbuf_state.specs.Outline.{mapped_size}
 use Rattle.dbuf_state.specs.Soundness.{plain_cell}
@@ -32,19 +32,21 @@ use Rattle.dbuf_state.specs.declared.oid.Oid.{Oid}
 use Rattle.dbuf_state.specs.declared.state.DbState.{DbState}
 use Rattle.dbuf_state.specs.declared.state.Mapped.{Mapped}
 use Rattle.dbuf_state.specs.declared.window.Window.{Window}
-use Rattle.dbuf_state.proofs.HandLemmas.{claims-stay, holds-stay, rest-stays}
+use Rattle.dbuf_state.proofs.HandLemmas.{claims-stay, holds-stay, rest-stays, claims-stay-by-note}
 use Rattle.dbuf_state.proofs.IndexLemmas.{and-both}
 use Rattle.dbuf_state.proofs.StepLemmas.{get-follows, pin-follows}
 use Rattle.dbuf_cells.specs.Accessing.{Acts, EndsInside, Gets, Holds, Refuses, no_room}
 use Rattle.dbuf_cells.specs.Bringing.{FailsToLoad, no_memory, refused}
-use Rattle.dbuf_cells.specs.InHand.{Finishes, Gives, HasGiven, InHand, IsRoomier, MayEvict, MayGive}
+use Rattle.dbuf_cells.specs.InHand.{Finishes, Gives, HasGiven, InHand, IsRoomier, MayEvict, MayGive, AreClaimedAlike, ClaimsAre}
 use Rattle.dbuf_cells.specs.Kept.{bytes_of, is_held, key_of}
 use Rattle.dbuf_cells.specs.Loading.{EndsWith, HasBrought, HasOperated, Notes, Tests, mapped_in}
-use Rattle.dbuf_cells.specs.Turns.{OnHeap, Operates, PartyPlace}
+use Rattle.dbuf_cells.specs.Turns.{OnHeap, Operates, PartyPlace, KeepsClaims}
 use Rattle.dbuf_cells.specs.declared.kept.Kept.{Kept}
 use Rattle.dbuf_cells.proofs.Bringings.{in-outline}
 use Rattle.dbuf_cells.proofs.CellSteps.{length-change, length-touched}
 use Rattle.dbuf_cells.proofs.Operations.{hand-more, hand-room, operates, plain-test, rest-of, room-settled}
+use Rattle.dbuf_state.specs.Numbers.{claims_in, mapping_numbers}
+use Rattle.dbuf_cells.proofs.Claims.{claims-through}
 
 -- ---- a block whose bytes are there
 
@@ -78,7 +80,13 @@ module _ (cache : Cache) (i : ℕ) (e : CellEvent) (now c : CellLog Kept) (q : P
   noted-ends r finishes p before evicting news es settled h =
       let hand = noted-hand p before evicting news es settled h in
       let f = finishes p before Must (news ++ e ∷ []) es refl hand in
-      record { operates = operates cache i p before Must (news ++ e ∷ []) es c q hand r f; party = f.given.party; held = f.given.held }
+      record {
+        operates = operates cache i p before Must (news ++ e ∷ []) es c q hand r f;
+        party = f.given.party;
+        held = f.given.held;
+        number = f.given.number;
+        others = f.given.others;
+      }
 
 -- with room for the evictions behind it
 pub noted-room : (n : ℕ) (e : CellEvent) (old c : CellLog Kept) → Notes n e old c → length c.dbufs ≤ c.event_room
@@ -313,3 +321,27 @@ module _ {P D : Type 0} (pools : PoolGhosts P) (devices : DeviceGhosts D) (cache
   pub party-after : {T : Type 0} (own : ℕ → CellEvent) (got : Result T DbufFault) → OnOk got (EndsWith cache i (own q.number) result.value q r) → OnErr got (Gives cache i result.value q r) → IsPartyOf cache r × (r.held ≡ [])
   party-after own (Ok got) ok err = acts-party pools devices cache i at tick before now cell p result q b r own ok
   party-after own (Err e) ok err = no-room-party pools devices cache i at tick before now cell p result q b r err
+
+-- ---- what is claimed
+
+pub noted-claims : (n : ℕ) (e : CellEvent) (old c : CellLog Kept) → Notes n e old c → AreClaimedAlike old.dbufs c.dbufs
+noted-claims n e old c u k =
+    ap (λ (x : CellLog Kept). claims_in k x.dbufs) u.noted_is ∙ (claims-stay-by-note k (length u.roomy.history + 1) (use_of e) u.dbufs ∙ (u.claims k ∙ ap (λ (x : CellLog Kept). claims_in k x.dbufs) u.made))
+
+-- the cell is claimed as it was in hand
+pub claims-alike : (i : ℕ) (old now : CellLog Kept) (r : PartyPlace) → AreClaimedAlike old.dbufs now.dbufs → ClaimsAre i r.number now r → ClaimsAre i r.number old r
+claims-alike i old now r alike is = is ∙ ap mapping_numbers (alike r.number)
+
+module _ {P D : Type 0} (pools : PoolGhosts P) (devices : DeviceGhosts D) (cache : Cache) (i : ℕ) (at : Oid) (tick : ℕ) (before now : Outside P D) (cell : OnHeap) (p : PartyPlace) (result : OnHeap) (q : PartyPlace)
+    (b : HasBrought pools devices cache i at tick before now cell p result q) (r : PartyPlace) (is : ClaimsAre i r.number result.value r) where
+  pub ended-number : {T : Type 0} (own : ℕ → CellEvent) (got : Result T DbufFault) → OnOk got (EndsWith cache i (own q.number) result.value q r) → OnErr got (Gives cache i result.value q r) → r.number ≡ p.number
+  ended-number own (Ok got) ok err = let e = ok b.back b.mid b.evicting b.loads b.hands b.settled b.hand in e.number ∙ b.number
+  ended-number own (Err e) ok err = let g = err b.back b.mid b.evicting b.loads b.hands b.settled b.hand in g.number ∙ b.number
+
+  pub after-claims : r.number ≡ b.back.number → ((j : ℕ) → j ≢ i → list_at j r.own.ledger.claims ≡ list_at j b.back.own.ledger.claims) → KeepsClaims p r
+  after-claims number elsewhere =
+      claims-through i q.number r.number result.value.dbufs result.value.dbufs p r b.claimed is (number ∙ sym b.hand.party.number) (λ n. refl) (λ j far. elsewhere j far ∙ b.others j far)
+
+  pub ended-claims : {T : Type 0} (own : ℕ → CellEvent) (got : Result T DbufFault) → OnOk got (EndsWith cache i (own q.number) result.value q r) → OnErr got (Gives cache i result.value q r) → KeepsClaims p r
+  ended-claims own (Ok got) ok err = let e = ok b.back b.mid b.evicting b.loads b.hands b.settled b.hand in after-claims e.number e.others
+  ended-claims own (Err e) ok err = let g = err b.back b.mid b.evicting b.loads b.hands b.settled b.hand in after-claims g.number g.others

@@ -1,5 +1,5 @@
 -- A block is brought: what the two turns and the read between them come to.
-use Rattle.std.proofs.Common.{◌≡◌, ℕ, Bool, true, false, ◌&&◌, if◌then◌else◌, List, [], ◌∷◌, Option, Some, None, refl, sym, ap, ◌∙◌, subst}
+use Rattle.std.proofs.Common.{◌≡◌, ◌≢◌, ℕ, Bool, true, false, ◌&&◌, if◌then◌else◌, List, [], ◌∷◌, Option, Some, None, refl, sym, ap, ◌∙◌, subst}
 use Rattle.std.specs.Prelude.{Result, Ok, Err}
 use Rattle.std.specs.Option.{option_map, option_map_or}
 use Rattle.std.proofs.lemmas.Bool.{false≢true}
@@ -24,6 +24,7 @@ use Rattle.dbuf_state.specs.Answers.{IsAnswer, AreBytesAt}
 use Rattle.dbuf_state.specs.CellLog.{CellLog}
 use Rattle.dbuf_state.specs.Dbufs.{DbufHas, dbuf_at, dbuf_is, is_cached, is_clean, is_clean_in, is_uncached, mapped_of, plain_block, plain_dbuf}
 use Rattle.dbuf_state.specs.Faults.{fault_of}
+use Rattle.dbuf_state.specs.Numbers.{claims_in, mapping_numbers}
 use Rattle.dbuf_state.specs.Objects.{AreBytesOf, Block, Cached, Uncached, May, Never, PlainDbuf}
 use Rattle.dbuf_state.specs.Objects as plain
 use Rattle.dbuf_state.specs.Outline.{is_cached_at, mapped_at}
@@ -42,11 +43,12 @@ use Rattle.dbuf_state.proofs.FitLemmas.{from-has}
 use Rattle.dbuf_state.proofs.HandLemmas.{plain-dbuf-is}
 use Rattle.dbuf_state.proofs.OutlineLemmas.{cell-is-in-outline}
 use Rattle.dbuf_cells.specs.Bringing.{Claims, DropsRead, Reads, handed, here, loaded, no_memory, refused, IsUnmarked}
-use Rattle.dbuf_cells.specs.InHand.{AsTaken, Gives, HasGiven}
-use Rattle.dbuf_cells.specs.Loading.{EndsKept, EndsLoad, EndsUnkept, HasBrought, HasFailed, IsBrought, IsBroughtBy, IsLoaded, IsReadOf, IsToLoad, mapped_in}
-use Rattle.dbuf_cells.specs.Turns.{OnHeap, PartyPlace, dbuf_meanings, outline_in}
+use Rattle.dbuf_cells.specs.InHand.{AsTaken, ClaimsAre, Gives, HasGiven}
+use Rattle.dbuf_cells.specs.Loading.{ClaimsBesides, EndsKept, EndsLoad, EndsUnkept, HasBrought, HasFailed, IsBrought, IsBroughtBy, IsLoaded, IsReadOf, IsToLoad, KeepsOthers, mapped_in, other_claims}
+use Rattle.dbuf_cells.specs.Turns.{KeepsClaims, OnHeap, PartyPlace, dbuf_meanings, outline_in}
+use Rattle.dbuf_cells.proofs.Claims.{keeps-claims, same-mappings}
 use Rattle.dbuf_cells.specs.declared.kept.Kept.{Kept}
-use Rattle.dbuf_cells.proofs.ReadLemmas.{Claiming, read-claims}
+use Rattle.dbuf_cells.proofs.ReadLemmas.{Claiming, read-claims, does-claims}
 
 -- ---- a clean block
 
@@ -128,6 +130,10 @@ pub drops-stays : (g : Config) (valid : IsConfig g) (read : Read) (p q : PartyPl
 drops-stays g valid (gave.Held hold from) p q config d = does_stays dbuf_meanings g valid hold.key (Drop p.number hold.key ∷ []) p q config d
 drops-stays g valid (gave.Past block kept) p q config d = stays_same p q d
 
+pub drops-claims : (g : Config) (valid : IsConfig g) (read : Read) (p q : PartyPlace) → p.own.about.config ≡ g → DropsRead g read p q → q.own.ledger.claims ≡ p.own.ledger.claims
+drops-claims g valid (gave.Held hold from) p q config d = (does-claims dbuf_meanings g valid hold.key (Drop p.number hold.key ∷ []) p q config d).claims
+drops-claims g valid (gave.Past block kept) p q config d = ap (λ (x : PartyPlace). x.own.ledger.claims) d
+
 pub read-still : (ptr : Ptr) (p q : PartyPlace) (read : Read) → q.number ≡ p.number → q.own.ledger.holds ≡ p.own.ledger.holds → IsReadOf ptr p read → IsReadOf ptr q read
 read-still ptr p q (gave.Held hold from) number holds of = (subst (λ (n : ℕ). IsHoldOf ptr n hold) (sym number) of.0, subst (IsOneOf (ptr_of hold)) (sym holds) of.1)
 read-still ptr p q (gave.Past block kept) number holds of = of
@@ -138,8 +144,8 @@ claims-still i at ptr p q same c = record { front = c.front; back = c.back; list
 -- ---- the block's bytes are there
 
 module _ {P D : Type 0} (pools : PoolGhosts P) (devices : DeviceGhosts D) (cache : Cache) (i : ℕ) (at : Oid) (tick : ℕ) (before now : Outside P D) (cell : OnHeap) (p q : PartyPlace) (t : AsTaken cache i p cell cell.value q) (free : p.held ≡ []) where
-  pub brought-here : now ≡ before → dbuf_is (λ d. is_cached d.state) at cell.value.dbufs ≡ true → HasBrought pools devices cache i at tick before now cell p cell q
-  brought-here same cached = record {
+  pub brought-here : now ≡ before → dbuf_is (λ d. is_cached d.state) at cell.value.dbufs ≡ true → ClaimsAre i q.number cell.value p → HasBrought pools devices cache i at tick before now cell p cell q
+  brought-here same cached claimed = record {
     back = p;
     mid = cell;
     evicting = t.evicting;
@@ -150,6 +156,8 @@ module _ {P D : Type 0} (pools : PoolGhosts P) (devices : DeviceGhosts D) (cache
     settled = t.settled;
     number = refl;
     held = free;
+    claimed = claimed;
+    others = λ j far. refl;
     cached = cached;
     mapped = refl;
     answers = λ w size shown a. a;
@@ -181,44 +189,74 @@ module _ {P D : Type 0} (pools : PoolGhosts P) (devices : DeviceGhosts D) (cache
     pub back-free : (answer : Result Read ReadFault) → AnswersRead dbuf_meanings pools devices cache.config ptr tick before now marked back answer → back.held ≡ []
     back-free answer a = (claiming answer a).stays.held ∙ (marked-given.held ∙ free)
 
-    pub brought-kept : (read : Read) → AnswersRead dbuf_meanings pools devices cache.config ptr tick before now marked back (Ok read) → (result : OnHeap) (r : PartyPlace) → EndsKept cache i at ptr read back result r
-        → HasBrought pools devices cache i at tick before now cell p result r
-    brought-kept read a result r e =
-        let number = back-number (Ok read) a in
-        record {
-          back = back;
-          mid = e.mid;
-          evicting = May;
-          loads = Load back.number at ∷ [];
-          hands = handed back.number (cell_number cache.config i) read;
-          brings = loaded ptr read (reads (Ok read) a) e.pointer (ap (λ (n : ℕ). Load n at ∷ []) number) (ap (λ (n : ℕ). handed n (cell_number cache.config i) read) number);
-          hand = e.kept.hand;
-          settled = refl;
-          number = number;
-          held = back-free (Ok read) a;
-          cached = loaded-cached at ptr result.value.dbufs e.kept.there;
-          mapped = mapped-clean at ptr result.value.dbufs (loaded-clean at ptr result.value.dbufs e.kept.there) ∙ sym to.pointer;
-          answers = answer-moves e.mid.value result.value at ptr (brought-clean back.number at ptr e.mid.value.dbufs e.brought) (loaded-clean at ptr result.value.dbufs e.kept.there);
-        }
+    marked-number : marked.number ≡ q.number
+    marked-number = marked-given.number ∙ sym t.hand.party.number
 
-    pub brought-not : (read : Read) → AnswersRead dbuf_meanings pools devices cache.config ptr tick before now marked back (Ok read) → (why : DbufFault) (r : PartyPlace) → EndsUnkept cache i at read back why r
-        → HasFailed pools devices cache i at tick before now cell p r why
-    brought-not read a why r e = record {
-      fails = no_memory ptr read back e.mid e.free (reads (Ok read) a) e.given.turn e.unmarked e.drops e.is;
-      party = e.party;
-      held = e.held ∙ back-free (Ok read) a;
-    }
+    -- what is claimed of other cells
+    back-else : (answer : Result Read ReadFault) → AnswersRead dbuf_meanings pools devices cache.config ptr tick before now marked back answer → (j : ℕ) → j ≢ i → list_at j back.own.ledger.claims ≡ list_at j p.own.ledger.claims
+    back-else answer a j far = ap (list_at j) (claiming answer a).claims ∙ marked-given.others j far
 
-    pub brought-refused : (cause : ReadFault) → AnswersRead dbuf_meanings pools devices cache.config ptr tick before now marked back (Err cause) → (why : DbufFault) (r : PartyPlace) → why ≡ fault_of cause → (mid : OnHeap) → HasGiven cache i back mid [] [] r → IsUnmarked i at r
-        → HasFailed pools devices cache i at tick before now cell p r why
-    brought-refused cause a why r is mid given unmarked = record {
-      fails = refused ptr cause back mid (reads (Err cause) a) given.turn unmarked is;
-      party = given.party;
-      held = given.held ∙ back-free (Err cause) a;
-    }
+    module _ (besides : ClaimsBesides i marked.number at cell.value.dbufs marked) (mine : ClaimsAre i q.number cell.value p) where
+      back-listed : (answer : Result Read ReadFault) → AnswersRead dbuf_meanings pools devices cache.config ptr tick before now marked back answer → list_at i back.own.ledger.claims ≡ mapping_numbers besides.claims
+      back-listed answer a = ap (list_at i) (claiming answer a).claims ∙ besides.listed
 
-    -- whatever the second turn came to
-    pub brought-ends : (read : Read) → AnswersRead dbuf_meanings pools devices cache.config ptr tick before now marked back (Ok read) → (r : PartyPlace) (result : Result OnHeap DbufFault) → EndsLoad cache i at ptr read back r result
-        → IsBrought pools devices cache i at tick before now cell p r result
-    brought-ends read a r (Ok x) e = brought-kept read a x r e
-    brought-ends read a r (Err why) e = brought-not read a why r e
+      -- what is claimed besides is what was claimed
+      besides-mine : mapping_numbers (other_claims at besides.claims) ≡ list_at i p.own.ledger.claims
+      besides-mine = ap mapping_numbers (besides.others ∙ ap (λ (n : ℕ). claims_in n cell.value.dbufs) marked-number) ∙ sym mine
+
+      kept-claimed : (read : Read) → AnswersRead dbuf_meanings pools devices cache.config ptr tick before now marked back (Ok read) → (result : OnHeap) (r : PartyPlace) → EndsKept cache i at ptr read back result r → ClaimsAre i r.number result.value p
+      kept-claimed read a result r e =
+          let mid-is : claims_in r.number e.mid.value.dbufs ≡ besides.claims = same-mappings (claims_in r.number e.mid.value.dbufs) besides.claims (sym e.claimed ∙ back-listed (Ok read) a) in
+          sym (ap mapping_numbers (e.unclaimed r.number ∙ ap (other_claims at) mid-is) ∙ besides-mine)
+
+      lost-claims : (answer : Result Read ReadFault) → AnswersRead dbuf_meanings pools devices cache.config ptr tick before now marked back answer → (r : PartyPlace) → KeepsOthers i at back r
+          → ((j : ℕ) → j ≢ i → list_at j r.own.ledger.claims ≡ list_at j back.own.ledger.claims) → KeepsClaims p r
+      lost-claims answer a r others elsewhere = keeps-claims i p r (others besides.claims (back-listed answer a) ∙ besides-mine) (λ j far. elsewhere j far ∙ back-else answer a j far)
+
+      pub brought-kept : (read : Read) → AnswersRead dbuf_meanings pools devices cache.config ptr tick before now marked back (Ok read) → (result : OnHeap) (r : PartyPlace) → EndsKept cache i at ptr read back result r
+          → HasBrought pools devices cache i at tick before now cell p result r
+      brought-kept read a result r e =
+          let number = back-number (Ok read) a in
+          record {
+            back = back;
+            mid = e.mid;
+            evicting = May;
+            loads = Load back.number at ∷ [];
+            hands = handed back.number (cell_number cache.config i) read;
+            brings = loaded ptr read (reads (Ok read) a) e.pointer (ap (λ (n : ℕ). Load n at ∷ []) number) (ap (λ (n : ℕ). handed n (cell_number cache.config i) read) number);
+            hand = e.kept.hand;
+            settled = refl;
+            number = number;
+            held = back-free (Ok read) a;
+            claimed = kept-claimed read a result r e;
+            others = back-else (Ok read) a;
+            cached = loaded-cached at ptr result.value.dbufs e.kept.there;
+            mapped = mapped-clean at ptr result.value.dbufs (loaded-clean at ptr result.value.dbufs e.kept.there) ∙ sym to.pointer;
+            answers = answer-moves e.mid.value result.value at ptr (brought-clean back.number at ptr e.mid.value.dbufs e.brought) (loaded-clean at ptr result.value.dbufs e.kept.there);
+          }
+
+      pub brought-not : (read : Read) → AnswersRead dbuf_meanings pools devices cache.config ptr tick before now marked back (Ok read) → (why : DbufFault) (r : PartyPlace) → EndsUnkept cache i at read back why r
+          → HasFailed pools devices cache i at tick before now cell p r why
+      brought-not read a why r e = record {
+        fails = no_memory ptr read back e.mid e.free (reads (Ok read) a) e.given.turn e.unmarked e.drops e.is;
+        party = e.party;
+        held = e.held ∙ back-free (Ok read) a;
+        number = e.number ∙ back-number (Ok read) a;
+        claims = lost-claims (Ok read) a r e.others e.elsewhere;
+      }
+
+      pub brought-refused : (cause : ReadFault) → AnswersRead dbuf_meanings pools devices cache.config ptr tick before now marked back (Err cause) → (why : DbufFault) (r : PartyPlace) → why ≡ fault_of cause → (mid : OnHeap) → HasGiven cache i back mid [] [] r → IsUnmarked i at r → KeepsOthers i at back r
+          → HasFailed pools devices cache i at tick before now cell p r why
+      brought-refused cause a why r is mid given unmarked others = record {
+        fails = refused ptr cause back mid (reads (Err cause) a) given.turn unmarked is;
+        party = given.party;
+        held = given.held ∙ back-free (Err cause) a;
+        number = given.number ∙ back-number (Err cause) a;
+        claims = lost-claims (Err cause) a r others given.others;
+      }
+
+      -- whatever the second turn came to
+      pub brought-ends : (read : Read) → AnswersRead dbuf_meanings pools devices cache.config ptr tick before now marked back (Ok read) → (r : PartyPlace) (result : Result OnHeap DbufFault) → EndsLoad cache i at ptr read back r result
+          → IsBrought pools devices cache i at tick before now cell p r result
+      brought-ends read a r (Ok x) e = brought-kept read a x r e
+      brought-ends read a r (Err why) e = brought-not read a why r e

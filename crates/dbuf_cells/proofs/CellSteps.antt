@@ -3,6 +3,7 @@ use Rattle.std.proofs.Common.{◌≡◌, ◌≢◌, ℕ, zero, suc, ◌+◌, ◌
 use Rattle.std.specs.List.{AllByRecursion}
 use Rattle.std.specs.Option.{option_map_or}
 use Rattle.std.proofs.lemmas.Bool.{false≢true}
+use Rattle.std.proofs.lemmas.Bool.Decides.{nat_tests}
 use Rattle.std.proofs.lemmas.List.{append-nil, append_assoc}
 use Rattle.std.proofs.lemmas.List.Sums.{count_by-le-length, sum_by-cons}
 use mathlib.Core.Option.{some-injective, some-ne-none}
@@ -31,7 +32,7 @@ use Rattle.dbuf_state.proofs.NumberLemmas.{events-numbered}
 use Rattle.dbuf_state.proofs.OutlineLemmas.{block-cached}
 use Rattle.dbuf_state.proofs.StepLemmas.{evict-follows, goes-on}
 use Rattle.arc_table.specs.Giving.{AreEntriesOf}
-use Rattle.dbuf_cells.specs.InHand.{HasDone, kept_count}
+use Rattle.dbuf_cells.specs.InHand.{AreClaimedAlike, HasDone, kept_count}
 use Rattle.dbuf_cells.specs.declared.kept.Kept.{Kept}
 
 -- ---- histories
@@ -49,7 +50,7 @@ leads-behind c mid end (e ∷ es) fs xs ys a b = (
   ),
 )
 
-all-more : {X : Type 0} (P : X → Type 0) (xs : List X) (x : X) → AllByRecursion P xs → P x → AllByRecursion P (xs ++ x ∷ [])
+pub all-more : {X : Type 0} (P : X → Type 0) (xs : List X) (x : X) → AllByRecursion P xs → P x → AllByRecursion P (xs ++ x ∷ [])
 all-more P [] x all one = (one, tt)
 all-more P (y ∷ ys) x all one = (all.0, all-more P ys x all.1 one)
 
@@ -136,6 +137,22 @@ module _ (n : ℕ) (before now : CellLog Kept) (evicting : Evicting) (news : Lis
     fit = fit;
   }
 
+-- ---- one dbuf
+
+pub oid-is : (a b : Oid) → oid_eq a b ≡ true → a ≡ b
+oid-is a b h = grind (arith, nat_tests)
+
+-- the dbuf of an Oid has that Oid
+pub found-oid : (at : Oid) (ds : List (Dbuf Kept)) (d : Dbuf Kept) → dbuf_at at ds ≡ Some d → d.at ≡ at
+found-oid at [] d found = let clash : ◌≡◌ {A = Option (Dbuf Kept)} None (Some d) = found in cc
+found-oid at (x ∷ xs) d found = elim (bool_cases (oid_eq at x.at)) [
+  | inl here ↦
+      let same : ◌≡◌ {A = Option (Dbuf Kept)} (Some x) (Some d) = rw here at found in
+      let is : x ≡ d = cc in
+      ap (λ (y : Dbuf Kept). y.at) (sym is) ∙ sym (oid-is at x.at here)
+  | inr far ↦ found-oid at xs d (rw far at found)
+]
+
 -- ---- an eviction
 
 -- of a dbuf that passes a test
@@ -143,7 +160,7 @@ pub test-of : (test : Dbuf Kept → Bool) (at : Oid) (ds : List (Dbuf Kept)) (d 
 test-of test at ds d passes found = ap (λ (o : Option (Dbuf Kept)). option_map_or test o false) (sym found) ∙ passes
 
 -- nobody claims a block that is cached or uncached
-unclaimed : (k : ℕ) (at : Oid) (content : Content) (s t : DbState) → (is_clean content && is_cached s) ≡ true → t ≡ state.Uncached → claim_in k at content t ≡ claim_in k at content s
+pub unclaimed : (k : ℕ) (at : Oid) (content : Content) (s t : DbState) → (is_clean content && is_cached s) ≡ true → t ≡ state.Uncached → claim_in k at content t ≡ claim_in k at content s
 unclaimed k at (Dirty bytes) s t h is = refl
 unclaimed k at (Clean ptr) state.Uncached t h is = cc
 unclaimed k at (Clean ptr) (state.Read n) t h is = absurd (false≢true h)
@@ -167,6 +184,11 @@ module _ (n : ℕ) (before now : CellLog Kept) (evicting : Evicting) (news : Lis
       (rest-stays at (without_kept state.Uncached) now.dbufs (λ d found. refl) h.rest)
       (λ k other. claims-stay at (without_kept state.Uncached) k now.dbufs (λ d found. unclaimed k d.at d.content d.state state.Uncached (test-of (is_clean_in is_cached) at now.dbufs d evicts-cached found) refl))
 
+-- it is no claim that goes
+pub evict-claims : (at : Oid) (old now : CellLog Kept) (n : ℕ) → now ≡ noted (Evict n at) (record old { dbufs = with_dbuf at (without_kept state.Uncached) old.dbufs }) → dbuf_is (is_clean_in is_cached) at old.dbufs ≡ true → AreClaimedAlike old.dbufs now.dbufs
+evict-claims at old now n is cached k = ap (λ (c : CellLog Kept). claims_in k c.dbufs) is
+    ∙ claims-stay at (without_kept state.Uncached) k old.dbufs (λ d found. unclaimed k d.at d.content d.state state.Uncached (test-of (is_clean_in is_cached) at old.dbufs d cached found) refl)
+
 -- ---- how many blocks are kept
 
 kept-cons : (d : Dbuf Kept) (ds : List (Dbuf Kept)) → kept_count (d ∷ ds) ≡ cond (standing_of d).kept 1 0 + kept_count ds
@@ -175,27 +197,30 @@ kept-cons d ds = sum_by-cons (λ (x : Dbuf Kept). cond (standing_of x).kept 1 0)
 pub kept-most : (ds : List (Dbuf Kept)) → kept_count ds ≤ length ds
 kept-most ds = count_by-le-length (λ (x : Dbuf Kept). (standing_of x).kept) ds
 
-none-there : (content : Content) → (is_clean content && is_cached state.Uncached) ≡ false
-none-there (Clean ptr) = refl
-none-there (Dirty bytes) = refl
+pub none-there : (content : Content) (t : DbState) → is_cached t ≡ false → (is_clean content && is_cached t) ≡ false
+none-there (Clean ptr) t h = h
+none-there (Dirty bytes) t h = refl
 
 -- one less where a cached block goes
-pub kept-less : (at : Oid) (ds : List (Dbuf Kept)) → dbuf_is (is_clean_in is_cached) at ds ≡ true → kept_count (with_dbuf at (without_kept state.Uncached) ds) + 1 ≡ kept_count ds
-kept-less at [] h = absurd (false≢true h)
-kept-less at (d ∷ ds) h = elim (bool_cases (oid_eq at d.at)) [
+pub kept-less-in : (t : DbState) → is_cached t ≡ false → (at : Oid) (ds : List (Dbuf Kept)) → dbuf_is (is_clean_in is_cached) at ds ≡ true → kept_count (with_dbuf at (without_kept t) ds) + 1 ≡ kept_count ds
+kept-less-in t gone at [] h = absurd (false≢true h)
+kept-less-in t gone at (d ∷ ds) h = elim (bool_cases (oid_eq at d.at)) [
   | inl here ↦
       let cached : is_clean_in is_cached d ≡ true = rw here at h in
       let was : (standing_of d).kept ≡ true = sym (block-cached d.content d.state) ∙ cached in
-      let is : (standing_of (without_kept state.Uncached d)).kept ≡ false = sym (block-cached d.content state.Uncached) ∙ none-there d.content in
-      let a = kept-cons d ds in let b = kept-cons (without_kept state.Uncached d) ds in
+      let is : (standing_of (without_kept t d)).kept ≡ false = sym (block-cached d.content t) ∙ none-there d.content t gone in
+      let a = kept-cons d ds in let b = kept-cons (without_kept t d) ds in
       let x : cond {A = ℕ} (standing_of d).kept 1 0 ≡ 1 = ap (λ (c : Bool). cond {A = ℕ} c 1 0) was in
-      let y : cond {A = ℕ} (standing_of (without_kept state.Uncached d)).kept 1 0 ≡ 0 = ap (λ (c : Bool). cond {A = ℕ} c 1 0) is in
+      let y : cond {A = ℕ} (standing_of (without_kept t d)).kept 1 0 ≡ 0 = ap (λ (c : Bool). cond {A = ℕ} c 1 0) is in
       rw here (omega arith)
   | inr far ↦
-      let r = kept-less at ds (rw far at h) in
-      let a = kept-cons d ds in let b = kept-cons d (with_dbuf at (without_kept state.Uncached) ds) in
+      let r = kept-less-in t gone at ds (rw far at h) in
+      let a = kept-cons d ds in let b = kept-cons d (with_dbuf at (without_kept t) ds) in
       rw far (omega arith)
 ]
+
+pub kept-less : (at : Oid) (ds : List (Dbuf Kept)) → dbuf_is (is_clean_in is_cached) at ds ≡ true → kept_count (with_dbuf at (without_kept state.Uncached) ds) + 1 ≡ kept_count ds
+kept-less = kept-less-in state.Uncached refl
 
 -- ---- how many dbufs there are
 

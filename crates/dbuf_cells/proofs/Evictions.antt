@@ -120,13 +120,17 @@ module _ (cache : Cache) (i : ℕ) where
 -- ---- one
 
 -- what a dbuf keeps is the party's to give back
-pub kept-out : (cache : Cache) (i : ℕ) (p : PartyPlace) (before : OnHeap) (evicting : Evicting) (news : List CellEvent) (es : List Event) (old : CellLog Kept) (q : PartyPlace) → InHand cache i p before evicting news es old q
+pub kept-held : (cache : Cache) (i : ℕ) (p : PartyPlace) (before : OnHeap) (es : List Event) (old : CellLog Kept) (q : PartyPlace) → HasTaken cache i p before es q → AreHolds (holds_of old) (list_at i q.own.listed)
     → (at : Oid) (k : Kept) → DbufHas (λ d. d.kept ≡ Some k) (dbuf_at at old.dbufs) → IsOut cache.config i q k
-kept-out cache i p before evicting news es old q h at (Held hold) there =
+kept-held cache i p before es old q t holds at (Held hold) there =
     let d = is-dbuf (λ x. x.kept ≡ Some (Held hold)) (dbuf_at at old.dbufs) there in
     let one = kept-one at old.dbufs d.dbuf (Held hold) d.there d.has refl in
-    (h.party.cell, among-held cache i p before es q q h.party, h.holds.among one.0 (ptr_of hold) one.1)
-kept-out cache i p before evicting news es old q h at (Loose key block) there = tt
+    (t.cell, among-held cache i p before es q q t, holds.among one.0 (ptr_of hold) one.1)
+kept-held cache i p before es old q t holds at (Loose key block) there = tt
+
+pub kept-out : (cache : Cache) (i : ℕ) (p : PartyPlace) (before : OnHeap) (evicting : Evicting) (news : List CellEvent) (es : List Event) (old : CellLog Kept) (q : PartyPlace) → InHand cache i p before evicting news es old q
+    → (at : Oid) (k : Kept) → DbufHas (λ d. d.kept ≡ Some k) (dbuf_at at old.dbufs) → IsOut cache.config i q k
+kept-out cache i p before evicting news es old q h = kept-held cache i p before es old q h.party h.holds
 
 -- what a dbuf keeps is of the pointer that the outline has
 pub pointed : (evicting : Evicting) (old : CellLog Kept) (at : Oid) (k : Kept) → DbufHas (λ d. IsOfContent key_of bytes_of k d.content) (dbuf_at at old.dbufs)
@@ -161,20 +165,20 @@ left-loose at f none-kept ds d o found there loose j =
     let was : holds_on j (hold_in key_of bytes_of is_held d.kept) ≡ 0 = ap (λ (x : Option Kept). holds_on j (hold_in key_of bytes_of is_held x)) there ∙ ap (holds_on j) loose in
     omega arith
 
-module _ (cache : Cache) (i : ℕ) (p : PartyPlace) (before : OnHeap) (evicting : Evicting) (news : List CellEvent) (es : List Event) (old : CellLog Kept) (q r : PartyPlace) (h : InHand cache i p before evicting news es old q) where
+module _ (cache : Cache) (i : ℕ) (p : PartyPlace) (before : OnHeap) (es : List Event) (old : CellLog Kept) (q r : PartyPlace) (t : HasTaken cache i p before es q) (holds : AreHolds (holds_of old) (list_at i q.own.listed)) where
   -- what is listed once a hold that a dbuf kept was dropped, or nothing was
   pub given-back : (at : Oid) (f : Dbuf Kept → Dbuf Kept) → ((d : Dbuf Kept) → (f d).kept ≡ None) → (k : Kept) → DbufHas (λ d. d.kept ≡ Some k) (dbuf_at at old.dbufs) → GivesBack cache.config i k q r
       → (drops : List Event) × DropsAtMost (cell_number cache.config i) (key_of k) drops × HasTaken cache i p before (es ++ drops) r × AreHolds (holds_in key_of bytes_of is_held (with_dbuf at f old.dbufs)) (list_at i r.own.listed)
   given-back at f none-kept (Held hold) there back =
       let d = is-dbuf (λ x. x.kept ≡ Some (Held hold)) (dbuf_at at old.dbufs) there in
       let one = kept-one at old.dbufs d.dbuf (Held hold) d.there d.has refl in
-      let listed = h.holds.among one.0 (ptr_of hold) one.1 in (
+      let listed = holds.among one.0 (ptr_of hold) one.1 in (
         Drop (cell_number cache.config i) hold.key ∷ [],
         inr refl,
-        taken-more cache i p before es q r h.party (Drop (cell_number cache.config i) hold.key) hold.key refl back,
-        subst (AreHolds (holds_in key_of bytes_of is_held (with_dbuf at f old.dbufs))) (sym (drop-lists cache i p before es q r h.party hold.key back))
-            (one-less hold.key (ptr_of hold) (holds_of old) (holds_in key_of bytes_of is_held (with_dbuf at f old.dbufs)) (list_at i q.own.listed) h.holds
-            (alike-listed cache i p before es q r h.party hold.key _ back (ptr_of hold) refl listed)
+        taken-more cache i p before es q r t (Drop (cell_number cache.config i) hold.key) hold.key refl back,
+        subst (AreHolds (holds_in key_of bytes_of is_held (with_dbuf at f old.dbufs))) (sym (drop-lists cache i p before es q r t hold.key back))
+            (one-less hold.key (ptr_of hold) (holds_of old) (holds_in key_of bytes_of is_held (with_dbuf at f old.dbufs)) (list_at i q.own.listed) holds
+            (alike-listed cache i p before es q r t hold.key _ back (ptr_of hold) refl listed)
             (left-held at f none-kept old.dbufs d.dbuf hold d.there d.has)
             (λ x. taken-out at f none-kept x old.dbufs)),
       )
@@ -182,14 +186,15 @@ module _ (cache : Cache) (i : ℕ) (p : PartyPlace) (before : OnHeap) (evicting 
       let d = is-dbuf (λ x. x.kept ≡ Some (Loose key block)) (dbuf_at at old.dbufs) there in (
         [],
         inl refl,
-        subst (HasTaken cache i p before (es ++ [])) (sym back) (subst (λ (l : List Event). HasTaken cache i p before l q) (sym (append-nil es)) h.party),
+        subst (HasTaken cache i p before (es ++ [])) (sym back) (subst (λ (l : List Event). HasTaken cache i p before l q) (sym (append-nil es)) t),
         subst (λ (x : PartyPlace). AreHolds (holds_in key_of bytes_of is_held (with_dbuf at f old.dbufs)) (list_at i x.own.listed)) (sym back)
             (record {
-              count = λ j. left-loose at f none-kept old.dbufs d.dbuf (Some (Loose key block)) d.there d.has refl j ∙ h.holds.count j;
-              among = λ j x at'. let one = taken-out at f none-kept x old.dbufs (j, at') in h.holds.among one.0 x one.1;
+              count = λ j. left-loose at f none-kept old.dbufs d.dbuf (Some (Loose key block)) d.there d.has refl j ∙ holds.count j;
+              among = λ j x at'. let one = taken-out at f none-kept x old.dbufs (j, at') in holds.among one.0 x one.1;
             }),
       )
 
+module _ (cache : Cache) (i : ℕ) (p : PartyPlace) (before : OnHeap) (evicting : Evicting) (news : List CellEvent) (es : List Event) (old : CellLog Kept) (q r : PartyPlace) (h : InHand cache i p before evicting news es old q) where
   module _ (at : Oid) (k : Kept) (may : IsTrue (may_evict evicting)) (once : IsTrue (is_distinct dbuf_oid old.dbufs)) (evictable : IsTrue (is_evictable old.limit at (map standing_of old.dbufs)))
       (there : DbufHas (λ d. d.kept ≡ Some k) (dbuf_at at old.dbufs)) (of : DbufHas (λ d. IsOfContent key_of bytes_of k d.content) (dbuf_at at old.dbufs)) (back : GivesBack cache.config i k q r) where
     abbrev went : CellLog Kept
@@ -197,7 +202,7 @@ module _ (cache : Cache) (i : ℕ) (p : PartyPlace) (before : OnHeap) (evicting 
 
     pub evicts-it : HasEvicted cache i p before evicting news es old went q r
     evicts-it =
-        let b = given-back at (without_kept state.Uncached) (λ d. refl) k there back in
+        let b = given-back cache i p before es old q r h.party h.holds at (without_kept state.Uncached) (λ d. refl) k there back in
         let m = pointed evicting old at k of in
         let number : r.number ≡ q.number = b.2.number ∙ sym h.party.number in
         record {

@@ -1,8 +1,10 @@
 pub mod Acts
 pub mod Bringings
 pub mod CellSteps
+pub mod Claims
 pub mod Copies
 pub mod EndLoads
+pub mod Endings
 pub mod Evictions
 pub mod HoldLists
 pub mod Keeping

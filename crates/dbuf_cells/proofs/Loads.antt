@@ -3,7 +3,6 @@ use Rattle.std.proofs.Common.{◌≡◌, ◌≢◌, ◌⊎◌, ℕ, ◌+◌, Boo
 use Rattle.std.specs.List.{AllByRecursion}
 use Rattle.std.specs.Option.{option_map, option_map_or}
 use Rattle.std.proofs.lemmas.Bool.{false≢true}
-use Rattle.std.proofs.lemmas.Bool.Decides.{nat_tests}
 use Rattle.std.proofs.lemmas.List.{append_assoc}
 use Rattle.blk_ptr.specs.declared.key.Key.{Key}
 use Rattle.blk_ptr.specs.declared.ptr.Ptr.{Ptr}
@@ -13,10 +12,10 @@ use Rattle.arc_table.specs.Cache.{Cache}
 use Rattle.arc_table.specs.Fronts.{list_at}
 use Rattle.arc_table.specs.Giving.{AreHolds}
 use Rattle.arc_table.specs.Holding.{IsOneOf}
-use Rattle.dbuf_state.specs.CellLog.{CellLog}
+use Rattle.dbuf_state.specs.CellLog.{CellLog, noted}
 use Rattle.dbuf_state.specs.Dbufs.{DbufHas, IsFit, Fits, cached_with, dbuf_at, dbuf_is, dbuf_oid, is_cached, is_clean, is_clean_in, is_passing, is_reading, is_uncached, mapped_of, reading_by, unread, with_dbuf}
 use Rattle.dbuf_state.specs.InHand.{ClaimsChanged, are_at_rest}
-use Rattle.dbuf_state.specs.Numbers.{claim_in, claims_in, mapping_numbers, mappings_in}
+use Rattle.dbuf_state.specs.Numbers.{claim_in, claims_in, mapping_numbers}
 use Rattle.dbuf_state.specs.Objects.{Evicting, IsLegal, May, is_due, may_evict}
 use Rattle.dbuf_state.specs.Objects as plain
 use Rattle.dbuf_state.specs.Oids.{is_distinct, oid_eq}
@@ -33,17 +32,18 @@ use Rattle.dbuf_state.specs.declared.state.Mapped.TheVariants as mapped
 use Rattle.dbuf_state.specs.declared.state.Mapping.{Mapping}
 use Rattle.dbuf_state.proofs.CallerLemmas.{clean-in, clean-ptr}
 use Rattle.dbuf_state.proofs.FitLemmas.{all-found, from-has}
-use Rattle.dbuf_state.proofs.HandLemmas.{claimed-is-read, claims-change, claims-stay, holds-change, holds-stay, rest-stays}
+use Rattle.dbuf_state.proofs.HandLemmas.{claimed-is-read, claims-change, claims-stay, claims-stay-by-note, holds-change, holds-stay, rest-stays}
 use Rattle.dbuf_state.proofs.IndexLemmas.{and-both, and-parts, bool_cases}
-use Rattle.dbuf_state.proofs.NumberLemmas.{mappings-read}
 use Rattle.dbuf_state.proofs.StepLemmas.{reading-alike, unread-alike}
+use Rattle.dbuf_state.specs.declared.event.CellEvent.TheVariants.{Load}
 use Rattle.dbuf_cells.specs.Bringing.{Claims, IsUnmarked}
-use Rattle.dbuf_cells.specs.InHand.{AsTaken, ClaimsAre, Gives, InHand, IsAtRest, MayGive}
-use Rattle.dbuf_cells.specs.Loading.{IsBroughtBy, IsToLoad, mapped_in, to_load}
+use Rattle.dbuf_cells.specs.InHand.{AsTaken, ClaimsAre, Gives, InHand, IsAtRest, IsRoomier, MayGive}
+use Rattle.dbuf_cells.specs.Loading.{AreUnclaimed, ClaimsBesides, IsBroughtBy, IsToLoad, mapped_in, other_claims, to_load}
 use Rattle.dbuf_cells.specs.Kept.{bytes_of, is_held, key_of}
 use Rattle.dbuf_cells.specs.Turns.{OnHeap, PartyPlace}
 use Rattle.dbuf_cells.specs.declared.kept.Kept.{Kept}
-use Rattle.dbuf_cells.proofs.CellSteps.{done-alike, test-of}
+use Rattle.dbuf_cells.proofs.CellSteps.{done-alike, found-oid, test-of}
+use Rattle.dbuf_cells.proofs.Claims.{loses-claim, none-others, others-stay, same-mappings}
 use Rattle.dbuf_cells.proofs.Evictions.{has-of, is-dbuf}
 use Rattle.dbuf_cells.proofs.HoldLists.{behind, first-of, first-or-behind}
 use Rattle.dbuf_cells.proofs.Operations.{rest-of}
@@ -56,7 +56,7 @@ pub others-mark : (k n : ℕ) (at : Oid) (content : Content) → k ≢ n → cla
 others-mark k n at (Dirty bytes) other = refl
 others-mark k n at (Clean ptr) other = ap (λ (b : Bool). if b then record { at = at; ptr = ptr } ∷ [] else []) (ne_eqb n k (λ e. other (sym e)))
 
-uncached-claim : (k : ℕ) (at : Oid) (content : Content) (s : DbState) → (is_clean content && is_uncached s) ≡ true → claim_in k at content s ≡ []
+pub uncached-claim : (k : ℕ) (at : Oid) (content : Content) (s : DbState) → (is_clean content && is_uncached s) ≡ true → claim_in k at content s ≡ []
 uncached-claim k at (Dirty bytes) s h = refl
 uncached-claim k at (Clean ptr) state.Uncached h = refl
 uncached-claim k at (Clean ptr) (state.Read n) h = absurd (false≢true h)
@@ -64,16 +64,13 @@ uncached-claim k at (Clean ptr) state.Fill h = absurd (false≢true h)
 uncached-claim k at (Clean ptr) state.Cached h = absurd (false≢true h)
 uncached-claim k at (Clean ptr) state.Evicting h = absurd (false≢true h)
 
-none-claimed : (k : ℕ) (at : Oid) (content : Content) → claim_in k at content state.Uncached ≡ []
+pub none-claimed : (k : ℕ) (at : Oid) (content : Content) → claim_in k at content state.Uncached ≡ []
 none-claimed k at (Dirty bytes) = refl
 none-claimed k at (Clean ptr) = refl
 
 pub cached-claim : (k : ℕ) (at : Oid) (content : Content) → claim_in k at content state.Cached ≡ []
 cached-claim k at (Dirty bytes) = refl
 cached-claim k at (Clean ptr) = refl
-
-same-mappings : (xs ys : List Mapping) → mapping_numbers xs ≡ mapping_numbers ys → xs ≡ ys
-same-mappings xs ys e = sym (mappings-read xs) ∙ (ap (λ (ns : List ℕ). mappings_in (length ns) ns) e ∙ mappings-read ys)
 
 -- what is claimed is one block of which the party says that it brings it
 pub claims-mark : (i n : ℕ) (at : Oid) (ptr : Ptr) (c : CellLog Kept) (ds : List (Dbuf Kept)) (p : PartyPlace) → IsToLoad at ptr ds → c.dbufs ≡ with_dbuf at (reading_by n) ds → ClaimsAre i n c p → Claims i at ptr p
@@ -91,23 +88,30 @@ claims-mark i n at ptr c ds p to is are =
     one-between : (front back : List Mapping) (m : Mapping) → front ++ (m ∷ []) ++ back ≡ front ++ m ∷ back
     one-between front back m = append_assoc front (m ∷ []) back
 
-    oid-is : (a b : Oid) → oid_eq a b ≡ true → a ≡ b
-    oid-is a b h = grind (arith, nat_tests)
-
-    found-oid : (at : Oid) (ds : List (Dbuf Kept)) (d : Dbuf Kept) → dbuf_at at ds ≡ Some d → d.at ≡ at
-    found-oid at [] d found = let clash : ◌≡◌ {A = Option (Dbuf Kept)} None (Some d) = found in cc
-    found-oid at (x ∷ xs) d found = elim (bool_cases (oid_eq at x.at)) [
-      | inl here ↦
-          let same : ◌≡◌ {A = Option (Dbuf Kept)} (Some x) (Some d) = rw here at found in
-          let is : x ≡ d = cc in
-          ap (λ (y : Dbuf Kept). y.at) (sym is) ∙ sym (oid-is at x.at here)
-      | inr far ↦ found-oid at xs d (rw far at found)
-    ]
-
 -- a block that the party claims it brings
 pub claimed-mark : (i n : ℕ) (at : Oid) (ptr : Ptr) (c : CellLog Kept) (p : PartyPlace) → IsTrue (is_distinct dbuf_oid c.dbufs) → ClaimsAre i n c p → Claims i at ptr p → IsBroughtBy n at ptr c.dbufs
 claimed-mark i n at ptr c p once are claims =
     claimed-is-read n (record { at = at; ptr = ptr }) c.dbufs claims.front claims.back once (same-mappings (claims_in n c.dbufs) (claims.front ++ record { at = at; ptr = ptr } ∷ claims.back) (sym are ∙ claims.listed))
+
+-- what a party claims besides the block that it has just marked
+pub marks-besides : (i n : ℕ) (at : Oid) (ptr : Ptr) (c : CellLog Kept) (ds : List (Dbuf Kept)) (p : PartyPlace) → IsToLoad at ptr ds → IsTrue (is_distinct dbuf_oid ds) → c.dbufs ≡ with_dbuf at (reading_by n) ds → ClaimsAre i n c p → ClaimsBesides i n at ds p
+marks-besides i n at ptr c ds p to once is are = record {
+  claims = claims_in n c.dbufs;
+  listed = are;
+  others = ap (λ (l : List (Dbuf Kept)). other_claims at (claims_in n l)) is ∙ (others-stay n at (reading_by n) (λ d. refl) ds
+      ∙ none-others n at ds once (λ d found. uncached-claim n d.at d.content d.state (test-of (is_clean_in is_uncached) at ds d to.uncached found)));
+}
+
+-- nobody claims a block any more that was kept, or whose mark was taken back
+pub kept-unclaimed : (at : Oid) (k : Kept) (n : ℕ) (old roomy kept now : CellLog Kept) → IsRoomier old roomy → IsTrue (is_distinct dbuf_oid old.dbufs) → kept ≡ record roomy { dbufs = with_dbuf at (cached_with k) roomy.dbufs } → now ≡ noted (Load n at) kept → AreUnclaimed at old.dbufs now.dbufs
+kept-unclaimed at k n old roomy kept now log once one two m =
+    ap (λ (x : CellLog Kept). claims_in m x.dbufs) (two ∙ ap (noted (Load n at)) one)
+    ∙ (claims-stay-by-note m (length roomy.history + 1) (Some at) (with_dbuf at (cached_with k) roomy.dbufs)
+    ∙ (ap (λ (x : CellLog Kept). claims_in m (with_dbuf at (cached_with k) x.dbufs)) log ∙ loses-claim m at (cached_with k) old.dbufs once (λ d. cached-claim m d.at d.content)))
+
+pub unread-unclaimed : (at : Oid) (old roomy now : CellLog Kept) → IsRoomier old roomy → IsTrue (is_distinct dbuf_oid old.dbufs) → now ≡ record roomy { dbufs = with_dbuf at unread roomy.dbufs } → AreUnclaimed at old.dbufs now.dbufs
+unread-unclaimed at old roomy now log once is m =
+    ap (λ (x : CellLog Kept). claims_in m x.dbufs) is ∙ (ap (λ (x : CellLog Kept). claims_in m (with_dbuf at unread x.dbufs)) log ∙ loses-claim m at unread old.dbufs once (λ d. none-claimed m d.at d.content))
 
 -- ---- the mark
 

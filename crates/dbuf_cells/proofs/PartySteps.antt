@@ -1,5 +1,5 @@
 -- What is so of a party with a cell in hand: when it takes the cell, behind each event of a shard, and when it gives the cell back.
-use Rattle.std.proofs.Common.{◌≡◌, ℕ, zero, suc, if◌then◌else◌, not, IsTrue, List, [], ◌∷◌, ◌++◌, map, Bool, Option, Some, None, refl, sym, ap, ◌∙◌, subst, inl, inr, eq-eqb}
+use Rattle.std.proofs.Common.{◌≡◌, ◌≢◌, ℕ, zero, suc, if◌then◌else◌, not, IsTrue, List, [], ◌∷◌, ◌++◌, map, Bool, Option, Some, None, refl, sym, ap, ◌∙◌, subst, inl, inr, eq-eqb}
 use Rattle.std.specs.List.{AllByRecursion}
 use Rattle.std.specs.Option.{option_map_or}
 use Rattle.std.proofs.lemmas.List.{map-append}
@@ -30,9 +30,9 @@ use Rattle.arc_table.specs.Geometry.{IsCell, cell_number, shard_turn}
 use Rattle.arc_table.specs.Giving.{IsGivenCell}
 use Rattle.arc_table.specs.Holding.{IsOneOf, cell}
 use Rattle.arc_table.specs.Looking.{HasNoLook}
-use Rattle.arc_table.specs.TableLaws.{list_here}
+use Rattle.arc_table.specs.TableLaws.{list_else, list_here}
 use Rattle.arc_table.specs.Views.{after_cell}
-use Rattle.arc_table.proofs.Afterwards.{Stays, does_stays, stays_free, stays_party}
+use Rattle.arc_table.proofs.Afterwards.{Stays, does_ledger, does_stays, stays_free, stays_party}
 use Rattle.arc_table.proofs.CellsInHand.{cell-lists, cell-recorded, taken-cell}
 use Rattle.arc_table.proofs.Reached.{IsHolding, Took, holding, listed_still, reached, took_is}
 use Rattle.dbuf_state.specs.CellLog.{CellLog}
@@ -76,6 +76,7 @@ module _ (cache : Cache) (i : ℕ) (valid : IsConfig cache.config) (in_range : I
         own_number = own-is;
         held = k.held;
         recorded = cell-is.recorded;
+        claims = ap (λ (l : Ledger). l.claims) k.ledger;
       };
       cell = done-none q.number before.value sound-is;
       holds = record {
@@ -139,6 +140,7 @@ module _ (cache : Cache) (i : ℕ) (p : PartyPlace) (before : OnHeap) (es : List
     own_number = ap (λ (x : PartyPlace). x.own.number) d.makes.gave ∙ ((reached dbuf_meanings cache.config k d.chain d.before q d.reached d.takes).own_number ∙ (h.own_number ∙ sym stays.number));
     held = stays.held ∙ h.held;
     recorded = cell-recorded dbuf_meanings cache.config h.valid k (e ∷ []) q r h.party.config d i h.cell ∙ h.recorded;
+    claims = ap (λ (l : Ledger). l.claims) (does_ledger dbuf_meanings cache.config h.valid k (e ∷ []) q r h.party.config d) ∙ h.claims;
   }
     where
       stays : Stays q r
@@ -158,6 +160,7 @@ module _ (cache : Cache) (i : ℕ) (p : PartyPlace) (before : OnHeap) (es : List
     own_number = ap (λ (x : PartyPlace). x.own.number) d.makes.gave ∙ ((reached dbuf_meanings cache.config k d.chain d.before q d.reached d.takes).own_number ∙ (h.own_number ∙ sym stays.number));
     held = stays.held ∙ h.held;
     recorded = cell-recorded dbuf_meanings cache.config h.valid k [] q r h.party.config d i h.cell ∙ h.recorded;
+    claims = ap (λ (l : Ledger). l.claims) (does_ledger dbuf_meanings cache.config h.valid k [] q r h.party.config d) ∙ h.claims;
   }
     where
       stays : Stays q r
@@ -226,6 +229,8 @@ module _ (cache : Cache) (i : ℕ) (p : PartyPlace) (before : OnHeap) (evicting 
     };
     held = ap (λ (x : PartyPlace). x.held) gave ∙ back-held i p q h.party.held;
     number = ap (λ (x : PartyPlace). x.number) gave ∙ h.party.number;
+    others = λ j far. ap (λ (x : PartyPlace). list_at j x.own.ledger.claims) gave
+        ∙ (list_else i j (mapping_numbers (claims_in q.own.number now.value.dbufs)) q.own.ledger.claims far ∙ ap (list_at j) h.party.claims);
   }
 
   pub gives-claims : (r : PartyPlace) → r ≡ gave_back q i (after_cell dbuf_meanings i (item.Cell now) q.own) → ClaimsAre i r.number now.value r

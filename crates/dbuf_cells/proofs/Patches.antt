@@ -40,19 +40,19 @@ use Rattle.dbuf_state.specs.declared.state.DbState.{DbState}
 use Rattle.dbuf_state.specs.declared.state.DbState.TheVariants as state
 use Rattle.dbuf_state.specs.declared.state.Mapped.{Mapped}
 use Rattle.dbuf_state.specs.declared.state.Mapped.TheVariants as mapped
-use Rattle.dbuf_state.proofs.HandLemmas.{claims-stay, holds-stay, holds-stay-by-note, plain-dbuf-is, rest-stays}
+use Rattle.dbuf_state.proofs.HandLemmas.{claims-stay, holds-stay, holds-stay-by-note, plain-dbuf-is, rest-stays, claims-stay-by-note}
 use Rattle.dbuf_state.proofs.IndexLemmas.{and-both}
 use Rattle.dbuf_state.proofs.OutlineLemmas.{cell-is-in-outline, leads-outline}
 use Rattle.dbuf_state.proofs.StepLemmas.{patch-follows, patch-of-clean-follows}
 use Rattle.dbuf_cells.specs.Accessing.{EndsInside, Refuses}
-use Rattle.dbuf_cells.specs.InHand.{Finishes, Gives, GivesUp, HasGiven, HasDone, InHand, IsOut, MayEvict, MayGive}
+use Rattle.dbuf_cells.specs.InHand.{Finishes, Gives, GivesUp, HasGiven, HasDone, InHand, IsOut, MayEvict, MayGive, ClaimsAre, AreClaimedAlike}
 use Rattle.dbuf_cells.specs.Kept.{bytes_of, is_held, key_of}
 use Rattle.dbuf_cells.specs.Loading.{HasBrought, Tests, mapped_in}
 use Rattle.dbuf_cells.specs.Patching.{ChecksKey, EndsPatch, HasPatched, IsPatched, IsSizedIn, TakesOver, Writes, no_bytes, no_key}
 use Rattle.dbuf_cells.specs.Putting.{ReleasesAtMost, no_hold, one_hold}
-use Rattle.dbuf_cells.specs.Turns.{OnHeap, Operates, PartyPlace, holds_of, outline_in}
+use Rattle.dbuf_cells.specs.Turns.{OnHeap, Operates, PartyPlace, holds_of, outline_in, KeepsClaims}
 use Rattle.dbuf_cells.specs.declared.kept.Kept.{Kept}
-use Rattle.dbuf_cells.proofs.Acts.{IsReadFault, has-its-bytes, no-room, no-room-party}
+use Rattle.dbuf_cells.proofs.Acts.{IsReadFault, has-its-bytes, no-room, no-room-party, after-claims}
 use Rattle.dbuf_cells.proofs.Bringings.{in-outline}
 use Rattle.dbuf_cells.proofs.CellSteps.{done-more, length-change, length-touched, test-of}
 use Rattle.dbuf_cells.proofs.Copies.{dirtied-dirty, dirtied-inside}
@@ -126,6 +126,15 @@ dirty-list at ds dirty = go (dbuf_at at ds) dirty
     go None h = absurd (false≢true h)
     go (Some d) h = one d d.content refl h
 
+-- nobody claims a block that is cached
+cached-none : (m : ℕ) (at : Oid) (c : Content) (s : DbState) → (is_clean c && is_cached s) ≡ true → claim_in m at c s ≡ []
+cached-none m at (Dirty bytes) s h = refl
+cached-none m at (Clean ptr) state.Uncached h = absurd (false≢true h)
+cached-none m at (Clean ptr) (state.Read n) h = absurd (false≢true h)
+cached-none m at (Clean ptr) state.Fill h = absurd (false≢true h)
+cached-none m at (Clean ptr) state.Cached h = refl
+cached-none m at (Clean ptr) state.Evicting h = absurd (false≢true h)
+
 -- ---- the cell
 
 module _ (cache : Cache) (i : ℕ) (p : PartyPlace) (before : OnHeap) (evicting : Evicting) (news : List CellEvent) (es : List Event) (now : CellLog Kept) (q r : PartyPlace) (h : InHand cache i p before evicting news es now q)
@@ -163,14 +172,6 @@ module _ (cache : Cache) (i : ℕ) (p : PartyPlace) (before : OnHeap) (evicting 
       (patch-of-clean-follows now n at from bytes (bytes_of k)) who
       (written-rest X (rest-stays at (dirty_with (bytes_of k)) now.dbufs (λ d found. refl) h.cell.rest))
       (λ k' other. written-claims k' X ∙ claims-stay at (dirty_with (bytes_of k)) k' now.dbufs (λ d found. sym (cached-none k' d.at d.content d.state (test-of (is_clean_in is_cached) at now.dbufs d clean found))))
-    where
-      cached-none : (m : ℕ) (at : Oid) (c : Content) (s : DbState) → (is_clean c && is_cached s) ≡ true → claim_in m at c s ≡ []
-      cached-none m at (Dirty bytes) s h = refl
-      cached-none m at (Clean ptr) state.Uncached h = absurd (false≢true h)
-      cached-none m at (Clean ptr) (state.Read n) h = absurd (false≢true h)
-      cached-none m at (Clean ptr) state.Fill h = absurd (false≢true h)
-      cached-none m at (Clean ptr) state.Cached h = refl
-      cached-none m at (Clean ptr) state.Evicting h = absurd (false≢true h)
 
   -- of a dirty one
   done-dirty : dbuf_is is_dirty at now.dbufs ≡ true → HasDone q.number before.value Must (news ++ Patch n at from bytes ∷ []) (noted (Patch n at from bytes) (record now { dbufs = with_dbuf at (written_at from bytes) now.dbufs }))
@@ -284,6 +285,8 @@ module _ (cache : Cache) (i : ℕ) (n : ℕ) (at : Oid) (from : ℕ) (bytes : Li
         operates = operates cache i p before Must (news ++ Patch n at from bytes ∷ []) (es ++ x.released) c r x.hand s f;
         party = f.given.party;
         held = f.given.held;
+        number = f.given.number;
+        others = f.given.others;
       }
 
 -- ---- what may be written over
@@ -370,6 +373,26 @@ module _ {P D : Type 0} (pools : PoolGhosts P) (devices : DeviceGhosts D) (cache
     pub patch-party : (done : Result (Unit {0}) DbufFault) → OnOk done (EndsPatch cache i at from bytes result.value q r) → OnErr done (Gives cache i result.value q r) → IsPartyOf cache r × (r.held ≡ [])
     patch-party (Ok done) ok err = let x = patched-by ok in (x.party, x.held ∙ b.held)
     patch-party (Err e) ok err = no-room-party pools devices cache i at tick before now cell p result q b r err
+
+    pub patched-number : (done : Result (Unit {0}) DbufFault) → OnOk done (EndsPatch cache i at from bytes result.value q r) → OnErr done (Gives cache i result.value q r) → r.number ≡ p.number
+    patched-number (Ok done) ok err = let x = patched-by ok in x.number ∙ b.number
+    patched-number (Err e) ok err = let g = err b.back b.mid b.evicting b.loads b.hands b.settled b.hand in g.number ∙ b.number
+
+    pub patched-claims : ClaimsAre i r.number result.value r → (done : Result (Unit {0}) DbufFault) → OnOk done (EndsPatch cache i at from bytes result.value q r) → OnErr done (Gives cache i result.value q r) → KeepsClaims p r
+    patched-claims is (Ok done) ok err = let x = patched-by ok in after-claims pools devices cache i at tick before now cell p result q b r is x.number x.others
+    patched-claims is (Err e) ok err = let g = err b.back b.mid b.evicting b.loads b.hands b.settled b.hand in after-claims pools devices cache i at tick before now cell p result q b r is g.number g.others
+
+-- what is claimed stays
+pub patch-claims : (n : ℕ) (at : Oid) (from : ℕ) (bytes : List ℕ) (kept : Option Kept) (old c : CellLog Kept) → IsPatched n at from bytes kept old c → AreClaimedAlike old.dbufs c.dbufs
+patch-claims n at from bytes kept old c u k =
+    ap (λ (x : CellLog Kept). claims_in k x.dbufs) u.noted_is
+    ∙ (claims-stay-by-note k (length u.owned.history + 1) (Some at) (with_dbuf at (written_at from bytes) u.owned.dbufs)
+    ∙ (claims-stay at (written_at from bytes) k u.owned.dbufs (λ d found. claim-written k d.at from bytes d.content d.state) ∙ (over kept u.over ∙ ap (λ (x : CellLog Kept). claims_in k x.dbufs) u.made)))
+  where
+    over : (o : Option Kept) → TakesOver at o u.roomy u.owned → claims_in k u.owned.dbufs ≡ claims_in k u.roomy.dbufs
+    over None t = ap (λ (x : CellLog Kept). claims_in k x.dbufs) t.same
+    over (Some h) t = ap (λ (x : CellLog Kept). claims_in k x.dbufs) t.taken
+        ∙ claims-stay at (dirty_with (bytes_of h)) k u.roomy.dbufs (λ d found. sym (cached-none k d.at d.content d.state (test-of (is_clean_in is_cached) at u.roomy.dbufs d t.cached found)))
 
 -- a clean block whose key was tested has a block's size
 pub sized-in : (at : Oid) (len : ℕ) (m : Option Mapped) (ds old : List (Dbuf Kept)) → m ≡ mapped_in at old → mapped_in at ds ≡ mapped_in at old → ChecksKey {T = Unit {0}} len m (Ok tt) → IsSizedIn at ds

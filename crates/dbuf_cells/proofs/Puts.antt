@@ -16,9 +16,9 @@ use Rattle.dbuf_state.specs.declared.event.CellEvent.TheVariants.{Put}
 use Rattle.dbuf_state.specs.declared.oid.Oid.{Oid}
 use Rattle.dbuf_state.specs.declared.state.DbState.TheVariants as state
 use Rattle.dbuf_state.proofs.FitLemmas.{item-changed}
-use Rattle.dbuf_state.proofs.HandLemmas.{dirty-hides-unkept}
+use Rattle.dbuf_state.proofs.HandLemmas.{dirty-hides-unkept, claims-stay-by-note}
 use Rattle.dbuf_state.proofs.OutlineLemmas.{cell-is-in-outline}
-use Rattle.dbuf_cells.specs.InHand.{Finishes, GivesUp, HasFinished, InHand, IsAtRest, IsOut, IsPut, IsRoomier, MayEvict, TakesAtRest, TakesOut}
+use Rattle.dbuf_cells.specs.InHand.{Finishes, GivesUp, HasFinished, InHand, IsAtRest, IsOut, IsPut, IsRoomier, MayEvict, TakesAtRest, TakesOut, AreClaimedAlike}
 use Rattle.dbuf_cells.specs.Kept.{bytes_of, is_held, key_of}
 use Rattle.dbuf_cells.specs.Putting.{Puts, ReleasesAtMost, no_hold, one_hold}
 use Rattle.dbuf_cells.specs.Turns.{OnHeap, PartyPlace, outline_in}
@@ -26,8 +26,9 @@ use Rattle.dbuf_cells.specs.declared.kept.Kept.{Kept}
 use Rattle.dbuf_cells.proofs.CellSteps.{length-change, length-item, length-touched}
 use Rattle.dbuf_cells.proofs.Evictions.{has-dbuf, kept-out, pointed}
 use Rattle.dbuf_cells.proofs.Operations.{hand-roomier, operates}
-use Rattle.dbuf_cells.proofs.PutSteps.{GivenUp, given-up, holds-none, new-dbuf, put-to, put-with, same-party, written-to}
+use Rattle.dbuf_cells.proofs.PutSteps.{GivenUp, given-up, holds-none, new-dbuf, put-to, put-with, same-party, written-to, written-claims}
 use Rattle.dbuf_cells.proofs.Unholds.{at-room, number-is}
+use Rattle.dbuf_state.specs.Numbers.{claims_in}
 
 -- what is written hides that it was taken out
 hides : (at : Oid) (bytes : List ℕ) (kept : Option Kept) (c1 c2 : CellLog Kept) → TakesOut at kept c1 c2 → written-to at bytes c2.dbufs ≡ written-to at bytes c1.dbufs
@@ -149,3 +150,11 @@ put-room n at size fill kept old c u =
     let e : c.event_room ≡ u.emptied.event_room - 1 = ap (λ (x : CellLog Kept). x.event_room) u.noted_is in
     let f = u.room in
     omega arith
+
+-- what is claimed stays
+pub put-claims : (n : ℕ) (at : Oid) (size fill : ℕ) (kept : Option Kept) (old c : CellLog Kept) → IsPut n at size fill kept old c → IsAtRest at old.dbufs → AreClaimedAlike old.dbufs c.dbufs
+put-claims n at size fill kept old c u quiet k =
+    let bytes = replicate size fill in
+    ap (λ (x : CellLog Kept). claims_in k x.dbufs) u.noted_is
+    ∙ (claims-stay-by-note k (length u.emptied.history + 1) (Some at) (written-to at bytes u.emptied.dbufs)
+    ∙ (ap (claims_in k) (hides at bytes kept u.roomy u.emptied u.out ∙ ap (λ (x : CellLog Kept). written-to at bytes x.dbufs) u.made) ∙ written-claims at bytes old.dbufs quiet k))

@@ -1,5 +1,5 @@
 -- What is so of a cell in hand whose pin is taken back.
-use Rattle.std.proofs.Common.{◌≡◌, ℕ, ◌-◌, ◌≤◌, true, false, [], ◌∷◌, length, refl, ap, ◌∙◌, subst, arith}
+use Rattle.std.proofs.Common.{◌≡◌, ℕ, ◌-◌, ◌≤◌, true, false, [], ◌∷◌, length, refl, ap, ◌∙◌, subst, arith, ◌+◌, Some}
 use Rattle.arc_table.specs.Cache.{Cache}
 use Rattle.dbuf_state.specs.CellLog.{CellLog}
 use Rattle.dbuf_state.specs.Dbufs.{dbuf_is, unpinned_by, with_dbuf}
@@ -10,13 +10,15 @@ use Rattle.dbuf_state.specs.declared.event.CellEvent.TheVariants.{Unpin}
 use Rattle.dbuf_state.specs.declared.fault.DbufFault.{DbufFault}
 use Rattle.dbuf_state.specs.declared.fault.DbufFault.TheVariants as fault
 use Rattle.dbuf_state.specs.declared.oid.Oid.{Oid}
-use Rattle.dbuf_cells.specs.InHand.{AsTaken, Finishes, Gives, HasFinished, HasGiven, InHand, IsNotUnpinned, IsRoomier, IsUnpinned, MayEvict, MayGive, TakesAtRest}
+use Rattle.dbuf_cells.specs.InHand.{AsTaken, Finishes, Gives, HasFinished, HasGiven, InHand, IsNotUnpinned, IsRoomier, IsUnpinned, MayEvict, MayGive, TakesAtRest, AreClaimedAlike}
 use Rattle.dbuf_cells.specs.Turns.{OnHeap, Operates, PartyPlace, outline_in}
 use Rattle.dbuf_cells.specs.Unholding.{NotUnholds}
 use Rattle.dbuf_cells.specs.declared.kept.Kept.{Kept}
 use Rattle.dbuf_cells.proofs.CellSteps.{length-change}
 use Rattle.dbuf_cells.proofs.Operations.{as-taken-room, hand-unpin, no-pin, operates}
 use Rattle.dbuf_cells.proofs.PartySteps.{as-given, as-may-give}
+use Rattle.dbuf_state.specs.Numbers.{claims_in}
+use Rattle.dbuf_state.proofs.HandLemmas.{claims-stay, claims-stay-by-note}
 
 module _ (cache : Cache) (i : ℕ) (at : Oid) (p : PartyPlace) (before : OnHeap) (q : PartyPlace) (t : TakesAtRest cache i at p before q) where
   pub number-is : q.number ≡ t.ready.number
@@ -66,3 +68,10 @@ unpin-room n at old c u =
     let e : c.event_room ≡ u.roomy.event_room - 1 = ap (λ (x : CellLog Kept). x.event_room) u.noted_is in
     let f = u.room in
     omega arith
+
+-- what is claimed stays
+pub unpin-claims : (n : ℕ) (at : Oid) (old c : CellLog Kept) → IsUnpinned n at old c → AreClaimedAlike old.dbufs c.dbufs
+unpin-claims n at old c u k =
+    ap (λ (x : CellLog Kept). claims_in k x.dbufs) u.noted_is
+    ∙ (claims-stay-by-note k (length u.roomy.history + 1) (Some at) (with_dbuf at (unpinned_by n) u.roomy.dbufs)
+    ∙ (claims-stay at (unpinned_by n) k u.roomy.dbufs (λ d found. refl) ∙ ap (λ (x : CellLog Kept). claims_in k x.dbufs) u.made))

@@ -37,7 +37,7 @@ use Rattle.dbuf_state.specs.declared.state.Mapped.{Mapped}
 use Rattle.dbuf_state.specs.declared.state.Mapped.TheVariants as mapped
 use Rattle.dbuf_cells.specs.Kept.{bytes_of, key_of}
 pub use Rattle.dbuf_cells.specs.Turns.{IsAtRest}
-use Rattle.dbuf_cells.specs.Turns.{AreEvictions, CellTurn, MakesAll, OnHeap, PartyPlace, WaitsForDbuf, dbuf_meanings, holds_of}
+use Rattle.dbuf_cells.specs.Turns.{AreEvictions, CellTurn, KeepsClaims, MakesAll, OnHeap, PartyPlace, WaitsForDbuf, dbuf_meanings, holds_of}
 use Rattle.dbuf_cells.specs.declared.kept.Kept.{Kept}
 use Rattle.dbuf_cells.specs.declared.kept.Kept.TheVariants.{Held, Loose}
 
@@ -54,6 +54,7 @@ pub record HasTaken (cache : Cache) (i : ℕ) (p : PartyPlace) (before : OnHeap)
   pub own_number : q.own.number ≡ q.number
   pub held : q.held ≡ i ∷ p.held
   pub recorded : item_at i q.own.records ≡ Some (item.Cell before)
+  pub claims : q.own.ledger.claims ≡ p.own.ledger.claims
 
 -- The number n did these things to a cell, which was so before: it is `now`, and evictions stand so.
 pub record HasDone (n : ℕ) (before : CellLog Kept) (evicting : Evicting) (news : List CellEvent) (now : CellLog Kept) : Type 0 where
@@ -141,6 +142,10 @@ pub record AsTaken (cache : Cache) (i : ℕ) (p : PartyPlace) (before : OnHeap) 
 abbrev pub ClaimsAre : (i n : ℕ) → CellLog Kept → PartyPlace → Type 0
 ClaimsAre i n c p = list_at i p.own.ledger.claims ≡ mapping_numbers (claims_in n c.dbufs)
 
+-- each number claims of these dbufs what it claimed of those
+abbrev pub AreClaimedAlike : (old now : List (Dbuf Kept)) → Type 0
+AreClaimedAlike old now = (n : ℕ) → claims_in n now ≡ claims_in n old
+
 -- the party waited so often until nobody brought the block's bytes, and then took its cell
 pub record TakesAtRest (cache : Cache) (i : ℕ) (at : Oid) (p : PartyPlace) (before : OnHeap) (q : PartyPlace) : Type 0 where
   pub times : ℕ
@@ -150,6 +155,8 @@ pub record TakesAtRest (cache : Cache) (i : ℕ) (at : Oid) (p : PartyPlace) (be
   pub number : ready.number ≡ p.number
   pub begins : AsTaken cache i ready before before.value q
   pub rests : IsAtRest at before.value.dbufs
+  pub claims : KeepsClaims p ready
+  pub claimed : ClaimsAre i q.number before.value ready
 
 -- the turn is over, and the party is what it was to the cache
 pub record HasGiven (cache : Cache) (i : ℕ) (p : PartyPlace) (before : OnHeap) (news : List CellEvent) (es : List Event) (r : PartyPlace) : Type 0 where
@@ -157,6 +164,7 @@ pub record HasGiven (cache : Cache) (i : ℕ) (p : PartyPlace) (before : OnHeap)
   pub party : IsPartyOf cache r
   pub held : r.held ≡ p.held
   pub number : r.number ≡ p.number
+  pub others : (j : ℕ) → j ≢ i → list_at j r.own.ledger.claims ≡ list_at j p.own.ledger.claims
 
 abbrev pub Gives : Cache → (i : ℕ) → (now : CellLog Kept) → (q r : PartyPlace) → Type 0
 Gives cache i now q r = (p : PartyPlace) (before : OnHeap) (evicting : Evicting) (news : List CellEvent) (es : List Event)

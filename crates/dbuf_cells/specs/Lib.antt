@@ -1,5 +1,7 @@
 pub mod Accessing
 pub mod Bringing
+pub mod Emptying
+pub mod Ending
 pub mod InHand
 pub mod Kept
 pub mod Loading

@@ -1,5 +1,6 @@
 -- What is so of a cell and of the party that has it while a block is brought, and behind that.
-use Rattle.std.specs.Prelude.{◌≡◌, ℕ, ◌+◌, ◌≤◌, ◌<◌, ◌⊎◌, true, if◌then◌else◌, not, IsTrue, List, [], ◌∷◌, ◌++◌, length, Option, Some, None, Result, Ok, Err}
+use Rattle.std.specs.Prelude.{◌≡◌, ◌≢◌, ℕ, ◌+◌, ◌≤◌, ◌<◌, ◌⊎◌, true, if◌then◌else◌, not, IsTrue, List, [], ◌∷◌, ◌++◌, length, Option, Some, None, Result, Ok, Err}
+use Rattle.std.specs.List.{filter}
 use Rattle.std.specs.Option.{option_map}
 use Rattle.blk_ptr.specs.declared.ptr.Ptr.{Ptr}
 use Rattle.blk_ptr.specs.Ptr.{IsOf}
@@ -10,6 +11,7 @@ use Rattle.arc_core.specs.declared.event.Event.{Event}
 use Rattle.arc_core.specs.declared.event.Event.TheVariants.{Hand}
 use Rattle.arc_table.specs.Both.{Does}
 use Rattle.arc_table.specs.Cache.{Cache, IsPartyOf}
+use Rattle.arc_table.specs.Fronts.{list_at}
 use Rattle.arc_table.specs.Geometry.{cell_number}
 use Rattle.arc_table.specs.Holding.{IsHoldOf, IsOneOf, ptr_of}
 use Rattle.arc_table.specs.Reading.{Outside}
@@ -20,8 +22,9 @@ use Rattle.dbuf_state.specs.CellLog.{CellLog, noted}
 use Rattle.dbuf_state.specs.Dbufs.{DbufHas, dbuf_at, is_cached, is_clean_in, is_uncached, mapped_of, size_of}
 use Rattle.dbuf_state.specs.Dbufs as concrete
 use Rattle.dbuf_state.specs.InHand.{are_at_rest}
-use Rattle.dbuf_state.specs.Numbers.{claims_in, number_of}
+use Rattle.dbuf_state.specs.Numbers.{claims_in, mapping_numbers, number_of}
 use Rattle.dbuf_state.specs.Objects.{Evicting, IsBase, IsLegal, May, Must, Never, evicting_after, is_due}
+use Rattle.dbuf_state.specs.Oids.{oid_eq}
 use Rattle.dbuf_state.specs.Outline.{mapped_at, mapped_size}
 use Rattle.dbuf_state.specs.Soundness.{plain_cell}
 use Rattle.dbuf_state.specs.Steps.{Follows}
@@ -36,10 +39,11 @@ use Rattle.dbuf_state.specs.declared.state.DbState.{DbState}
 use Rattle.dbuf_state.specs.declared.state.DbState.TheVariants as state
 use Rattle.dbuf_state.specs.declared.state.Mapped.{Mapped}
 use Rattle.dbuf_state.specs.declared.state.Mapped.TheVariants as mapped
+use Rattle.dbuf_state.specs.declared.state.Mapping.{Mapping}
 use Rattle.dbuf_state.specs.declared.window.Window.{Window}
 use Rattle.dbuf_cells.specs.Bringing.{Brings, DropsRead, FailsToLoad, IsUnmarked, handed}
-use Rattle.dbuf_cells.specs.InHand.{AsTaken, HasGiven, InHand, IsRoomier}
-use Rattle.dbuf_cells.specs.Turns.{OnHeap, Operates, PartyPlace, dbuf_meanings, holds_of, outline_in}
+use Rattle.dbuf_cells.specs.InHand.{AsTaken, ClaimsAre, HasGiven, InHand, IsRoomier}
+use Rattle.dbuf_cells.specs.Turns.{KeepsClaims, OnHeap, Operates, PartyPlace, dbuf_meanings, holds_of, outline_in}
 use Rattle.dbuf_cells.specs.declared.kept.Kept.{Kept}
 use Rattle.dbuf_cells.specs.declared.kept.Kept.TheVariants.{Held, Loose}
 
@@ -74,6 +78,25 @@ IsBroughtBy n at ptr ds = DbufHas (λ d. (d.content ≡ content.Clean ptr) × (d
 -- among these the block is clean with this pointer, and the dbuf has its bytes
 abbrev pub IsLoaded : Oid → Ptr → List (Dbuf Kept) → Type 0
 IsLoaded at ptr ds = DbufHas (λ d. (d.content ≡ content.Clean ptr) × (d.state ≡ state.Cached)) (dbuf_at at ds)
+
+-- ---- what is claimed of other blocks than one
+
+abbrev pub other_claims : Oid → List Mapping → List Mapping
+other_claims at ms = filter (λ m. not (oid_eq at m.at)) ms
+
+-- apart from the block the party claims of the cell i what the number n claimed of these dbufs
+pub record ClaimsBesides (i n : ℕ) (at : Oid) (ds : List (Dbuf Kept)) (p : PartyPlace) : Type 0 where
+  pub claims : List Mapping
+  pub listed : list_at i p.own.ledger.claims ≡ mapping_numbers claims
+  pub others : other_claims at claims ≡ claims_in n ds
+
+-- the block is claimed no more, and what the party p claimed of the cell i besides, q claims still
+abbrev pub KeepsOthers : (i : ℕ) → Oid → (p q : PartyPlace) → Type 0
+KeepsOthers i at p q = (ms : List Mapping) → list_at i p.own.ledger.claims ≡ mapping_numbers ms → list_at i q.own.ledger.claims ≡ mapping_numbers (other_claims at ms)
+
+-- the block is claimed no more, and what each number claimed besides of these dbufs, it claims of those
+abbrev pub AreUnclaimed : Oid → (old now : List (Dbuf Kept)) → Type 0
+AreUnclaimed at old now = (n : ℕ) → claims_in n now ≡ other_claims at (claims_in n old)
 
 -- ---- what a read gave
 
@@ -127,6 +150,8 @@ pub record EndsKept (cache : Cache) (i : ℕ) (at : Oid) (ptr : Ptr) (read : Rea
   pub pointer : mapped_at at (outline_in mid) ≡ Some (mapped.Clean ptr)
   pub brought : IsBroughtBy p.number at ptr mid.value.dbufs
   pub kept : HasKept cache i at ptr p mid read cell.value q
+  pub claimed : ClaimsAre i q.number mid.value p
+  pub unclaimed : AreUnclaimed at mid.value.dbufs cell.value.dbufs
 
 -- memory was refused: the mark was taken back, and then what was read given back
 pub record EndsUnkept (cache : Cache) (i : ℕ) (at : Oid) (read : Read) (p : PartyPlace) (why : DbufFault) (q : PartyPlace) : Type 0 where
@@ -138,6 +163,9 @@ pub record EndsUnkept (cache : Cache) (i : ℕ) (at : Oid) (read : Read) (p : Pa
   pub is : why ≡ fault.NoMemory
   pub party : IsPartyOf cache q
   pub held : q.held ≡ p.held
+  pub number : q.number ≡ p.number
+  pub others : KeepsOthers i at p q
+  pub elsewhere : (j : ℕ) → j ≢ i → list_at j q.own.ledger.claims ≡ list_at j p.own.ledger.claims
 
 abbrev pub EndsLoad : Cache → (i : ℕ) → Oid → Ptr → Read → (p q : PartyPlace) → Result OnHeap DbufFault → Type 0
 EndsLoad cache i at ptr read p q (Ok cell) = EndsKept cache i at ptr read p cell q
@@ -158,6 +186,8 @@ module _ {P D : Type 0} (pools : PoolGhosts P) (devices : DeviceGhosts D) (cache
     pub settled : IsTrue (not (is_due (plain_cell evicting result.value)))
     pub number : back.number ≡ p.number
     pub held : back.held ≡ []
+    pub claimed : ClaimsAre i q.number result.value p
+    pub others : (j : ℕ) → j ≢ i → list_at j back.own.ledger.claims ≡ list_at j p.own.ledger.claims
     pub cached : concrete.dbuf_is (λ d. is_cached d.state) at result.value.dbufs ≡ true
     pub mapped : mapped_in at result.value.dbufs ≡ mapped_in at cell.value.dbufs
     -- an answer at the cell now is one at what it was
@@ -168,6 +198,8 @@ module _ {P D : Type 0} (pools : PoolGhosts P) (devices : DeviceGhosts D) (cache
     pub fails : FailsToLoad pools devices cache.config i at t before now cell p q why
     pub party : IsPartyOf cache q
     pub held : q.held ≡ []
+    pub number : q.number ≡ p.number
+    pub claims : KeepsClaims p q
 
   abbrev pub IsBrought : OnHeap → (p q : PartyPlace) → Result OnHeap DbufFault → Type 0
   IsBrought cell p q (Ok result) = HasBrought cell p result q
@@ -175,7 +207,7 @@ module _ {P D : Type 0} (pools : PoolGhosts P) (devices : DeviceGhosts D) (cache
 
   -- whatever the party was that took the cell, without another turn
   abbrev pub BringsAlone : OnHeap → (q r : PartyPlace) → Result OnHeap DbufFault → Type 0
-  BringsAlone cell q r result = (p : PartyPlace) → AsTaken cache i p cell cell.value q → p.held ≡ [] → IsBrought cell p r result
+  BringsAlone cell q r result = (p : PartyPlace) → AsTaken cache i p cell cell.value q → p.held ≡ [] → ClaimsAre i q.number cell.value p → IsBrought cell p r result
 
 -- ---- an operation's own event
 
@@ -201,6 +233,8 @@ pub record HasOperated (cache : Cache) (i : ℕ) (p : PartyPlace) (before : OnHe
   pub operates : Operates cache.config i before news es p r
   pub party : IsPartyOf cache r
   pub held : r.held ≡ p.held
+  pub number : r.number ≡ p.number
+  pub others : (j : ℕ) → j ≢ i → list_at j r.own.ledger.claims ≡ list_at j p.own.ledger.claims
 
 abbrev pub EndsWith : Cache → (i : ℕ) → CellEvent → CellLog Kept → (q r : PartyPlace) → Type 0
 EndsWith cache i e old q r = (p : PartyPlace) (before : OnHeap) (evicting : Evicting) (news : List CellEvent) (es : List Event)

@@ -1,5 +1,5 @@
 -- What `patch` answers, and what is so on the way.
-use Rattle.std.specs.Prelude.{◌≡◌, ℕ, ◌+◌, ◌≤◌, not, IsTrue, List, [], ◌∷◌, ◌++◌, length, Option, Some, IfNone, IfSome, Result, Ok, Err}
+use Rattle.std.specs.Prelude.{◌≡◌, ◌≢◌, ℕ, ◌+◌, ◌≤◌, not, IsTrue, List, [], ◌∷◌, ◌++◌, length, Option, Some, IfNone, IfSome, Result, Ok, Err}
 use Rattle.blk_ptr.specs.Key.{IsFirstFault}
 use Rattle.blk_ptr.specs.Size.{IsBlockSize}
 use Rattle.blk_ptr.specs.declared.key.KeyFault.{KeyFault}
@@ -11,6 +11,7 @@ use Rattle.arc_core.specs.declared.event.Event.{Event}
 use Rattle.arc_core.specs.declared.served.ReadFault.{ReadFault}
 use Rattle.arc_core.specs.declared.served.ReadFault.TheVariants as read
 use Rattle.arc_table.specs.Cache.{Cache, IsPartyOf}
+use Rattle.arc_table.specs.Fronts.{list_at}
 use Rattle.arc_table.specs.Geometry.{cell_number}
 use Rattle.arc_table.specs.Reading.{Outside}
 use Rattle.dbuf_state.specs.CellLog.{CellLog, noted}
@@ -75,6 +76,8 @@ pub record HasPatched (cache : Cache) (i : ℕ) (at : Oid) (from : ℕ) (bytes :
   pub operates : Operates cache.config i before (news ++ Patch n at from bytes ∷ []) (es ++ released) p r
   pub party : IsPartyOf cache r
   pub held : r.held ≡ p.held
+  pub number : r.number ≡ p.number
+  pub others : (j : ℕ) → j ≢ i → list_at j r.own.ledger.claims ≡ list_at j p.own.ledger.claims
 
 abbrev pub EndsPatch : Cache → (i : ℕ) → Oid → (from : ℕ) → (bytes : List ℕ) → CellLog Kept → (q r : PartyPlace) → Type 0
 EndsPatch cache i at from bytes old q r = (p : PartyPlace) (before : OnHeap) (evicting : Evicting) (news : List CellEvent) (es : List Event)

@@ -11,6 +11,7 @@ use Rattle.arc_core.specs.declared.event.Event.{Event}
 use Rattle.arc_core.specs.declared.event.Event.TheVariants.{Drop}
 use Rattle.turn_table.specs.Places.{Place, gave_back}
 use Rattle.arc_table.specs.Both.{Does, Takes}
+use Rattle.arc_table.specs.Fronts.{list_at}
 use Rattle.arc_table.specs.Geometry.{cell_number}
 use Rattle.arc_table.specs.Giving.{IsGivenCell}
 use Rattle.arc_table.specs.Items.{Meanings, meanings}
@@ -83,6 +84,10 @@ pub record CellTurn (g : Config) (i : ℕ) (before : OnHeap) (news : List CellEv
   pub leads : Leads (plain_cell sound.evicting before.value) news bases (plain_cell evicting after.value)
   pub given : IsGivenCell dbuf_meanings worked.number i after worked.own
   pub gave : q ≡ gave_back worked i (after_cell dbuf_meanings i (item.Cell after) worked.own)
+
+-- what the party claims of each cell is as before
+abbrev pub KeepsClaims : PartyPlace → PartyPlace → Type 0
+KeepsClaims p q = (j : ℕ) → list_at j q.own.ledger.claims ≡ list_at j p.own.ledger.claims
 
 -- ---- waiting
 

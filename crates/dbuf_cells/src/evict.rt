@@ -4,7 +4,7 @@ ghost use Rattle.arc_table.specs.Cache.{IsPartyOf};
 ghost use Rattle.arc_table.specs.Looking.{HasNoLook};
 ghost use Rattle.dbuf_state.specs.Dbufs.{standing_of};
 ghost use Rattle.dbuf_state.specs.Standings.{is_evictable, is_over};
-ghost use Rattle.dbuf_cells.specs.InHand.{Evicts, Finishes, GivesBack, IsOut, MayEvict, kept_count};
+ghost use Rattle.dbuf_cells.specs.InHand.{AreClaimedAlike, ClaimsAre, Evicts, Finishes, GivesBack, IsOut, MayEvict, kept_count};
 
 use crate::kept::{Cells, HeapCell, Kept};
 use crate::turn::{give, told};
@@ -58,6 +58,7 @@ fn evict_one(
     ensures evicts { Evicts arcs.now i cell.old cell.new party.old party.new }
     ensures kept { kept_count cell.new.dbufs + 1 ≡ kept_count cell.old.dbufs }
     ensures room { cell.new.event_room + 1 ≡ cell.old.event_room }
+    ensures claims { AreClaimedAlike cell.old.dbufs cell.new.dbufs }
 {
     told(cell);
     let n = party.number();
@@ -78,6 +79,7 @@ pub(crate) fn evict_all(
     requires room { length cell.old.dbufs ≤ cell.old.event_room }
     ensures evicts { Evicts arcs.now i cell.old cell.new party.old party.new }
     ensures settled { IsTrue (not (is_over cell.new.limit (map standing_of cell.new.dbufs))) }
+    ensures claims { AreClaimedAlike cell.old.dbufs cell.new.dbufs }
 {
     while let Some(at) = cell.evictable() {
         told(cell);
@@ -95,7 +97,8 @@ pub(crate) fn finish(
 )
     requires hand { MayEvict arcs.now i cell.value party.old }
     requires room { length cell.value.dbufs ≤ cell.value.event_room }
-    ensures { Finishes arcs.now i cell.value party.old party.new }
+    ensures finishes { Finishes arcs.now i cell.value party.old party.new }
+    ensures claims { ClaimsAre i party.new.number cell.value party.new }
 {
     evict_all(arcs, rt, party, i, &mut cell);
     give(arcs, party, i, cell);

@@ -10,8 +10,9 @@ ghost use Rattle.dbuf_state.specs.Objects.{Never};
 ghost use Rattle.dbuf_state.specs.Outline.{mapped_size};
 ghost use Rattle.dbuf_state.specs.Soundness.{plain_cell};
 ghost use Rattle.dbuf_cells.specs.Accessing.{AnswersGet, AnswersHold};
-ghost use Rattle.dbuf_cells.specs.InHand.{Gives, IsRoomier, MayGive};
+ghost use Rattle.dbuf_cells.specs.InHand.{ClaimsAre, Gives, IsRoomier, MayGive};
 ghost use Rattle.dbuf_cells.specs.Loading.{EndsWith, Notes, Tests, mapped_in};
+ghost use Rattle.dbuf_cells.specs.Turns.{KeepsClaims};
 ghost use Rattle.dbuf_state.specs.declared.event.CellEvent.TheVariants as event;
 ghost use Rattle.dbuf_state.specs.declared.fault.DbufFault.TheVariants as fault;
 
@@ -98,6 +99,7 @@ fn end_get(
     ensures got { IfOk result (λ got. IsAnswer (plain_cell Never cell.value) at w got.0 got.1) }
     ensures err { OnErr result (Gives arcs.now i cell.value party.old party.new) }
     ensures why { IfErr result (λ why. why ≡ DbufFault.NoMemory) }
+    ensures claims { ClaimsAre i party.new.number cell.value party.new }
 {
     let n = party.number();
     match see(&mut cell, n, at, w) {
@@ -126,6 +128,7 @@ fn end_hold(
     ensures ok { OnOk result (EndsWith arcs.now i (event.Pin party.old.number at) cell.value party.old party.new) }
     ensures err { OnErr result (Gives arcs.now i cell.value party.old party.new) }
     ensures why { IfErr result (λ why. why ≡ DbufFault.NoMemory) }
+    ensures claims { ClaimsAre i party.new.number cell.value party.new }
 {
     let n = party.number();
     match pin(&mut cell, n, at) {
@@ -160,6 +163,8 @@ pub fn get<P: Pool, D: CacheDev>(
     ensures answer { AnswersGet P.Pool D.CacheDev arcs.now.config at tick (outside pool.old cache.old) (outside pool.new cache.new) w party.old party.new result }
     ensures party { IsPartyOf arcs.now party.new }
     ensures free { party.new.held ≡ [] }
+    ensures number { party.new.number ≡ party.old.number }
+    ensures claims { KeepsClaims party.old party.new }
     ensures pool { KeepsPool P.Pool pool.old pool.new }
     ensures cache { KeepsDevice D.CacheDev cache.old cache.new }
 {
@@ -194,6 +199,8 @@ pub fn hold<P: Pool, D: CacheDev>(
     ensures answer { AnswersHold P.Pool D.CacheDev arcs.now.config at tick (outside pool.old cache.old) (outside pool.new cache.new) party.old party.new result }
     ensures party { IsPartyOf arcs.now party.new }
     ensures free { party.new.held ≡ [] }
+    ensures number { party.new.number ≡ party.old.number }
+    ensures claims { KeepsClaims party.old party.new }
     ensures pool { KeepsPool P.Pool pool.old pool.new }
     ensures cache { KeepsDevice D.CacheDev cache.old cache.new }
 {

@@ -1,6 +1,7 @@
 //! The dbufs of all cells over the shared cache: what a dbuf keeps of it, and the calls on a dbuf.
 #![tactic(auto)]
 
+mod ending;
 mod evict;
 mod getting;
 mod kept;
@@ -11,6 +12,7 @@ mod putting;
 mod turn;
 mod unholding;
 
+pub use ending::end_cells;
 pub use getting::{get, hold};
 pub use kept::{Cells, HeapCell, Kept};
 pub use patching::patch;

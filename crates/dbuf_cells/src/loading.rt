@@ -8,10 +8,12 @@ ghost use Rattle.arc_table.specs.Geometry.{IsCell, cell_number};
 ghost use Rattle.arc_table.specs.Looking.{HasNoLook};
 ghost use Rattle.arc_table.specs.Reading.{KeepsDevice, outside};
 ghost use Rattle.vdev_io.specs.Calls.{KeepsPool};
+ghost use Rattle.dbuf_state.specs.Dbufs.{dbuf_oid};
 ghost use Rattle.dbuf_state.specs.InHand.{are_at_rest};
+ghost use Rattle.dbuf_state.specs.Oids.{is_distinct};
 ghost use Rattle.dbuf_cells.specs.Bringing.{Claims, DropsRead, IsUnmarked};
-ghost use Rattle.dbuf_cells.specs.InHand.{AsTaken, Gives, HasGiven, IsAtRest, IsRoomier, MayGive};
-ghost use Rattle.dbuf_cells.specs.Loading.{BringsAlone, EndsLoad, HandsOn, HasUnread, IsBroughtBy, IsReadOf, IsToLoad, Keeps, SomeTaken, TakenAlone, mapped_in, to_load};
+ghost use Rattle.dbuf_cells.specs.InHand.{AsTaken, ClaimsAre, Gives, HasGiven, IsAtRest, IsRoomier, MayGive};
+ghost use Rattle.dbuf_cells.specs.Loading.{AreUnclaimed, BringsAlone, ClaimsBesides, EndsLoad, HandsOn, HasUnread, IsBroughtBy, IsReadOf, IsToLoad, Keeps, KeepsOthers, SomeTaken, TakenAlone, mapped_in, to_load};
 ghost use Rattle.dbuf_cells.specs.Turns.{OnHeap};
 
 use crate::evict::make_room;
@@ -34,8 +36,10 @@ fn begin_load(
 )
     requires hand { MayGive arcs.now i cell.value party.old }
     requires to_load { IsToLoad at ptr cell.value.dbufs }
+    requires once { IsTrue (is_distinct dbuf_oid cell.value.dbufs) }
     ensures gives { Gives arcs.now i cell.value party.old party.new }
     ensures claims { Claims i at ptr party.new }
+    ensures besides { ClaimsBesides i party.new.number at cell.value.dbufs party.new }
 {
     let _ = ptr;
     let n = party.number();
@@ -60,6 +64,8 @@ fn retake(
     ensures begins { AsTaken arcs.now i party.old result result.value party.new }
     ensures reading { IsBroughtBy party.new.number at ptr result.value.dbufs }
     ensures ledger { party.new.own.ledger ≡ party.old.own.ledger }
+    ensures claimed { ClaimsAre i party.new.number result.value party.old }
+    ensures once { IsTrue (is_distinct dbuf_oid result.value.dbufs) }
 {
     let _ = (at, ptr);
     let cell = take(arcs, rt, party, i);
@@ -76,6 +82,7 @@ fn end_unread(arcs: &Cells, rt: &impl Wait, party: &mut Party<HeapCell>, i: u32,
     requires claims { Claims i at ptr party.old }
     ensures turn { (mid : OnHeap) × HasGiven arcs.now i party.old mid [] [] party.new }
     ensures unmarked { IsUnmarked i at party.new }
+    ensures others { KeepsOthers i at party.old party.new }
 {
     let mut cell = retake(arcs, rt, party, i, at, ptr);
     cell.unread(at);
@@ -142,6 +149,7 @@ fn keep_read(
     requires read { IsReadOf ptr.now party.old read }
     ensures ok { OnOk result (Keeps arcs.now i at ptr.now read cell.old cell.new party.old party.new) }
     ensures err { IfErr result (λ back. HasUnread arcs.now i at ptr.now read back cell.old cell.new party.old party.new) }
+    ensures unclaimed { AreUnclaimed at cell.old.dbufs cell.new.dbufs }
 {
     told(cell);
     match hand_on(arcs, rt, party, i, cell, ptr, read) {
@@ -217,6 +225,7 @@ fn load<P: Pool, D: CacheDev>(
 ) -> Result<HeapCell, DbufFault>
     requires hand { TakenAlone arcs.now i cell party.old }
     requires to_load { IsToLoad at ptr cell.value.dbufs }
+    requires once { IsTrue (is_distinct dbuf_oid cell.value.dbufs) }
     ensures brings { BringsAlone P.Pool D.CacheDev arcs.now i at tick (outside pool.old cache.old) (outside pool.new cache.new) cell party.old party.new result }
     ensures pool { KeepsPool P.Pool pool.old pool.new }
     ensures cache { KeepsDevice D.CacheDev cache.old cache.new }

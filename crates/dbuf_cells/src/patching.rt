@@ -7,8 +7,9 @@ ghost use Rattle.vdev_io.specs.Calls.{KeepsPool};
 ghost use Rattle.dbuf_state.specs.Dbufs.{DbufHas, dbuf_at, dbuf_is, is_cached, size_of};
 ghost use Rattle.dbuf_state.specs.declared.fault.DbufFault.TheVariants as fault;
 ghost use Rattle.dbuf_cells.specs.Patching.{AnswersPatch, ChecksKey, EndsPatch, IsPatched, IsSizedIn, TakesOver};
-ghost use Rattle.dbuf_cells.specs.InHand.{Gives, IsRoomier, MayGive};
+ghost use Rattle.dbuf_cells.specs.InHand.{ClaimsAre, Gives, IsRoomier, MayGive};
 ghost use Rattle.dbuf_cells.specs.Kept.{bytes_of};
+ghost use Rattle.dbuf_cells.specs.Turns.{KeepsClaims};
 
 use crate::evict::{finish, make_room};
 use crate::getting::test_range;
@@ -99,6 +100,7 @@ fn end_patch(
     ensures ok { OnOk result (EndsPatch arcs.now i at from bytes.now cell.value party.old party.new) }
     ensures err { OnErr result (Gives arcs.now i cell.value party.old party.new) }
     ensures why { IfErr result (λ why. why ≡ fault.NoMemory) }
+    ensures claims { ClaimsAre i party.new.number cell.value party.new }
 {
     let n = party.number();
     match write_part(alloc, &mut cell, n, at, from, bytes) {
@@ -148,6 +150,8 @@ pub fn patch<P: Pool, D: CacheDev>(
     ensures answer { AnswersPatch P.Pool D.CacheDev arcs.now.config at tick (outside pool.old cache.old) (outside pool.new cache.new) from bytes.now party.old party.new result }
     ensures party { IsPartyOf arcs.now party.new }
     ensures free { party.new.held ≡ [] }
+    ensures number { party.new.number ≡ party.old.number }
+    ensures claims { KeepsClaims party.old party.new }
     ensures pool { KeepsPool P.Pool pool.old pool.new }
     ensures cache { KeepsDevice D.CacheDev cache.old cache.new }
 {

@@ -8,6 +8,7 @@ ghost use Rattle.dbuf_state.specs.Dbufs.{dbuf_is, is_cached, is_clean_in, may_di
 ghost use Rattle.dbuf_state.specs.InHand.{are_at_rest};
 ghost use Rattle.dbuf_cells.specs.InHand.{GivesUp, IsAtRest, IsOut, IsPut, IsRoomier, TakesOut, is_kept_by};
 ghost use Rattle.dbuf_cells.specs.Putting.{AnswersPut};
+ghost use Rattle.dbuf_cells.specs.Turns.{KeepsClaims};
 
 use crate::evict::{finish, make_room};
 use crate::kept::{Cells, HeapCell, Kept};
@@ -133,6 +134,8 @@ fn put_filled(
     ensures answer { AnswersPut arcs.now.config at size fill party.old party.new result }
     ensures party { IsPartyOf arcs.now party.new }
     ensures free { party.new.held ≡ [] }
+    ensures number { party.new.number ≡ party.old.number }
+    ensures claims { KeepsClaims party.old party.new }
 {
     let i = cell_of(arcs, at);
     let mut cell = take_at_rest(arcs, rt, party, i, at);
@@ -169,6 +172,8 @@ pub fn put(
     ensures answer { AnswersPut arcs.now.config at size fill party.old party.new result }
     ensures party { IsPartyOf arcs.now party.new }
     ensures free { party.new.held ≡ [] }
+    ensures number { party.new.number ≡ party.old.number }
+    ensures claims { KeepsClaims party.old party.new }
 {
     let Ok(bytes) = filled(alloc, size, fill) else {
         return Err(DbufFault::NoMemory);

@@ -10,7 +10,7 @@ ghost use Rattle.dbuf_state.specs.Dbufs.{IsFit, dbuf_oid};
 ghost use Rattle.dbuf_state.specs.Oids.{is_distinct};
 ghost use Rattle.dbuf_cells.specs.InHand.{AsTaken, ClaimsAre, Gives, IsAtRest, MayGive, TakesAtRest};
 ghost use Rattle.dbuf_cells.specs.Kept.{bytes_of, key_of};
-ghost use Rattle.dbuf_cells.specs.Turns.{FindsBringing};
+ghost use Rattle.dbuf_cells.specs.Turns.{FindsBringing, KeepsClaims};
 
 use crate::kept::{Cells, HeapCell, Kept};
 use arc_table::Party;
@@ -70,7 +70,9 @@ fn try_at_rest(
     requires not_held { ¬ IsAmong i party.old.held }
     ensures some { IfSome result (λ cell. AsTaken arcs.now i party.old cell cell.value party.new) }
     ensures rests { IfSome result (λ cell. IsAtRest at cell.value.dbufs) }
+    ensures claimed { IfSome result (λ cell. ClaimsAre i party.new.number cell.value party.old) }
     ensures none { IfNone result (FindsBringing arcs.now.config i at party.old party.new) }
+    ensures claims { IfNone result (KeepsClaims party.old party.new) }
     ensures party { IfNone result (IsPartyOf arcs.now party.new) }
     ensures held { IfNone result (party.new.held ≡ party.old.held) }
     ensures number { IfNone result (party.new.number ≡ party.old.number) }

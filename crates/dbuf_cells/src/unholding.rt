@@ -3,6 +3,7 @@ ghost use Rattle.std.specs.Prelude.{◌≡◌, [], IfErr, OnOk, OnErr};
 ghost use Rattle.arc_core.specs.Config.{IsConfig};
 ghost use Rattle.arc_table.specs.Cache.{IsPartyOf};
 ghost use Rattle.dbuf_cells.specs.InHand.{IsNotUnpinned, IsRoomier, IsUnpinned};
+ghost use Rattle.dbuf_cells.specs.Turns.{KeepsClaims};
 ghost use Rattle.dbuf_cells.specs.Unholding.{AnswersUnhold};
 
 use crate::evict::{finish, make_room};
@@ -45,6 +46,8 @@ pub fn unhold(
     ensures answer { AnswersUnhold arcs.now.config at party.old party.new result }
     ensures party { IsPartyOf arcs.now party.new }
     ensures free { party.new.held ≡ [] }
+    ensures number { party.new.number ≡ party.old.number }
+    ensures claims { KeepsClaims party.old party.new }
 {
     let i = cell_of(arcs, at);
     let mut cell = take_at_rest(arcs, rt, party, i, at);

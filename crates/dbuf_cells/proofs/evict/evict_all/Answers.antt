@@ -1,4 +1,4 @@
-use Rattle.std.proofs.Common.{arith}
+use Rattle.std.proofs.Common.{refl, ◌∙◌, arith}
 use Rattle.dbuf_state.proofs.HandLemmas.{evictable-is-cached}
 use Rattle.dbuf_cells.proofs.CellSteps.{kept-less, kept-most}
 use Rattle.dbuf_cells.proofs.Evictions.{evicts-none, evicts-then, may-evict}
@@ -8,6 +8,7 @@ pub loop-at-init : goal.loop-at-init
 loop-at-init g c = record {
   evicts = evicts-none c.args.arcs.now c.args.i c.args.cell.now c.args.party.now;
   room = let a = kept-most c.args.cell.now.dbufs in let b = c.requires.room in omega arith;
+  claims = λ n. refl;
 }
 
 pub evict_one-requires-clause-hand : goal.evict_one-requires-clause-hand
@@ -25,4 +26,5 @@ loop-at-preserved g c =
     let e = c.evict_one.ensures in record {
       evicts = evicts-then c.args.arcs.now c.args.i c.args.cell.now c.loop-at.cell c.evict_one.new.cell c.args.party.now c.loop-at.party c.evict_one.new.party i.evicts e.evicts;
       room = let a = i.room in let b = e.kept in let d = e.room in omega arith;
+      claims = λ n. e.claims n ∙ i.claims n;
     }

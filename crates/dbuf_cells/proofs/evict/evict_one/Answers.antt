@@ -4,7 +4,7 @@ use Rattle.dbuf_state.specs.declared.event.CellEvent.TheVariants.{Evict}
 use Rattle.dbuf_state.proofs.HandLemmas.{evictable-is-cached}
 use Rattle.dbuf_cells.specs.InHand.{kept_count}
 use Rattle.dbuf_cells.specs.declared.kept.Kept.{Kept}
-use Rattle.dbuf_cells.proofs.CellSteps.{kept-less}
+use Rattle.dbuf_cells.proofs.CellSteps.{evict-claims, kept-less}
 use Rattle.dbuf_cells.proofs.Evictions.{evicts-one, kept-out}
 use Rattle.dbuf_cells.proofs.evict.evict_one.Goals as goal
 
@@ -29,3 +29,9 @@ pub returns-clause-kept : goal.returns-clause-kept
 returns-clause-kept g c =
     ap (λ (x : CellLog Kept). kept_count x.dbufs + 1) (c.note.ensures ∙ ap (λ (x : CellLog Kept). noted (Evict c.number-n.result c.args.at) x) c.evict-kept.ensures.dbufs)
     ∙ kept-less c.args.at c.args.cell.now.dbufs (evictable-is-cached c.args.cell.now.limit c.args.at c.args.cell.now.dbufs c.told.ensures.once c.requires.evictable)
+
+pub returns-clause-claims : goal.returns-clause-claims
+returns-clause-claims g c =
+    evict-claims c.args.at c.args.cell.now c.note.new.self c.number-n.result
+    (c.note.ensures ∙ ap (λ (x : CellLog Kept). noted (Evict c.number-n.result c.args.at) x) c.evict-kept.ensures.dbufs)
+    (evictable-is-cached c.args.cell.now.limit c.args.at c.args.cell.now.dbufs c.told.ensures.once c.requires.evictable)

@@ -5,7 +5,8 @@ use Rattle.dbuf_state.specs.declared.event.CellEvent.TheVariants.{Pin}
 use Rattle.dbuf_cells.specs.InHand.{IsRoomier}
 use Rattle.dbuf_cells.specs.Loading.{EndsWith, Notes}
 use Rattle.dbuf_cells.specs.declared.kept.Kept.{Kept}
-use Rattle.dbuf_cells.proofs.Acts.{noted-ends, noted-evicts, noted-room, roomy-gives, roomy-may-give}
+use Rattle.dbuf_cells.proofs.Acts.{noted-ends, noted-evicts, noted-room, roomy-gives, roomy-may-give, claims-alike, noted-claims}
+use Rattle.dbuf_cells.proofs.Claims.{roomy-claims}
 use Rattle.dbuf_cells.proofs.getting.end_hold.Goals as goal
 
 pub pin-requires : goal.pin-requires
@@ -28,7 +29,18 @@ returns-in-Ok-clause-ok g c =
     let n = c.number-n.result in
     subst (λ (m : ℕ). EndsWith c.args.arcs.now c.args.i (Pin m c.args.at) c.args.cell.value c.args.party.now c.finish.new.party) c.number-n.ensures
     (noted-ends c.args.arcs.now c.args.i (Pin n c.args.at) c.args.cell.value c.pin.new.cell c.args.party.now n c.number-n.ensures
-    (subst (λ (x : CellLog Kept). Notes n (Pin n c.args.at) x c.pin.new.cell) c.deref_mut.ensures.value c.in-Ok.ensures.ok) c.finish.new.party c.finish.ensures)
+    (subst (λ (x : CellLog Kept). Notes n (Pin n c.args.at) x c.pin.new.cell) c.deref_mut.ensures.value c.in-Ok.ensures.ok) c.finish.new.party c.finish.ensures.finishes)
 
 pub returns-in-Err-clause-err : goal.returns-in-Err-clause-err
 returns-in-Err-clause-err g c = roomy-gives c.args.arcs.now c.args.i c.args.cell.value c.pin.new.cell c.args.party.now (subst (λ (x : CellLog Kept). IsRoomier x c.pin.new.cell) c.deref_mut.ensures.value c.in-Err.ensures.err) c.give.new.party c.give.ensures.gives
+
+pub returns-in-Ok-clause-claims : goal.returns-in-Ok-clause-claims
+returns-in-Ok-clause-claims g c =
+    let n = c.number-n.result in
+    claims-alike c.args.i c.args.cell.value c.pin.new.cell c.finish.new.party
+    (noted-claims n (Pin n c.args.at) c.args.cell.value c.pin.new.cell (subst (λ (x : CellLog Kept). Notes n (Pin n c.args.at) x c.pin.new.cell) c.deref_mut.ensures.value c.in-Ok.ensures.ok)) c.finish.ensures.claims
+
+pub returns-in-Err-clause-claims : goal.returns-in-Err-clause-claims
+returns-in-Err-clause-claims g c =
+    claims-alike c.args.i c.args.cell.value c.pin.new.cell c.give.new.party
+    (roomy-claims c.args.cell.value c.pin.new.cell (subst (λ (x : CellLog Kept). IsRoomier x c.pin.new.cell) c.deref_mut.ensures.value c.in-Err.ensures.err)) c.give.ensures.claims

@@ -8,7 +8,8 @@ use Rattle.dbuf_cells.specs.Accessing.{Gets, not_loaded}
 use Rattle.dbuf_cells.specs.Loading.{Tests, mapped_in}
 use Rattle.dbuf_cells.specs.Turns.{OnHeap, PartyPlace}
 use Rattle.dbuf_cells.specs.declared.kept.Kept.{Kept}
-use Rattle.dbuf_cells.proofs.Acts.{brought-may-give, ends-inside, fails-read, get-answers, inside-now, party-after, refuses-get, test-get}
+use Rattle.dbuf_cells.proofs.Acts.{brought-may-give, ended-claims, ended-number, ends-inside, fails-read, get-answers, inside-now, party-after, refuses-get, test-get}
+use Rattle.dbuf_cells.proofs.Claims.{claims-then, rest-claims}
 use Rattle.dbuf_cells.proofs.PartySteps.{as-given, once-at-rest}
 use Rattle.dbuf_cells.proofs.getting.get.Goals as goal
 
@@ -36,16 +37,16 @@ pub end_get-requires-clause-hand : goal.end_get-requires-clause-hand
 end_get-requires-clause-hand g c =
     let k = c.take_at_rest-cell in
     brought-may-give g.P.Pool g.D.CacheDev c.args.arcs.now c.cell_of-i.result c.args.at c.args.tick (outside c.args.pool.now c.args.cache.now) (outside c.bring.new.pool c.bring.new.cache) k.result k.ensures.ready c.in-Ok.cell c.bring.new.party
-    (c.in-Ok.ensures.brings k.ensures.ready k.ensures.begins (k.ensures.held ∙ c.requires.free)) c.bring.new.party
+    (c.in-Ok.ensures.brings k.ensures.ready k.ensures.begins (k.ensures.held ∙ c.requires.free) k.ensures.claimed) c.bring.new.party
 
 pub end_get-requires-clause-cached : goal.end_get-requires-clause-cached
-end_get-requires-clause-cached g c = let k = c.take_at_rest-cell in (c.in-Ok.ensures.brings k.ensures.ready k.ensures.begins (k.ensures.held ∙ c.requires.free)).cached
+end_get-requires-clause-cached g c = let k = c.take_at_rest-cell in (c.in-Ok.ensures.brings k.ensures.ready k.ensures.begins (k.ensures.held ∙ c.requires.free) k.ensures.claimed).cached
 
 pub end_get-requires-clause-inside : goal.end_get-requires-clause-inside
 end_get-requires-clause-inside g c =
     let k = c.take_at_rest-cell in
     let m : c.mapped.result ≡ mapped_in c.args.at k.result.value.dbufs = c.mapped.ensures ∙ ap (λ (x : CellLog Kept). mapped_in c.args.at x.dbufs) c.deref.ensures in
-    inside-now c.args.at (c.args.w.at + c.args.w.len) c.in-Ok.cell.value.dbufs k.result.value.dbufs (c.in-Ok.ensures.brings k.ensures.ready k.ensures.begins (k.ensures.held ∙ c.requires.free)).mapped
+    inside-now c.args.at (c.args.w.at + c.args.w.len) c.in-Ok.cell.value.dbufs k.result.value.dbufs (c.in-Ok.ensures.brings k.ensures.ready k.ensures.begins (k.ensures.held ∙ c.requires.free) k.ensures.claimed).mapped
     (subst (λ (x : Option Mapped). Tests {T = Unit {0}} c.args.at (c.args.w.at + c.args.w.len) x (Ok c.in_default.field-0)) m (subst (λ (n : ℕ). Tests {T = Unit {0}} c.args.at n c.mapped.result (Ok c.in_default.field-0)) (λ z. c.from.ensures z + c.from-2.ensures z) c.in_default.ensures))
 
 pub returns-in-Ok-clause-answer : goal.returns-in-Ok-clause-answer
@@ -56,27 +57,27 @@ returns-in-Ok-clause-answer g c =
     once-at-rest c.args.arcs.now i c.args.at c.args.party.now k.new.party c.end_get.new.party k.result
     (λ (j : ℕ) (b : OnHeap) (r s : PartyPlace). Gets g.P.Pool g.D.CacheDev c.args.arcs.now.config j c.args.at c.args.tick (outside c.args.pool.now c.args.cache.now) (outside c.bring.new.pool c.bring.new.cache) c.args.w b r s c.end_get.result) c.cell_of-i.ensures.cell k.ensures
     (get-answers g.P.Pool g.D.CacheDev c.args.arcs.now i c.args.at c.args.tick (outside c.args.pool.now c.args.cache.now) (outside c.bring.new.pool c.bring.new.cache) k.result k.ensures.ready c.in-Ok.cell c.bring.new.party
-    (c.in-Ok.ensures.brings k.ensures.ready k.ensures.begins (k.ensures.held ∙ c.requires.free)) c.end_get.new.party c.args.w c.end_get.result
+    (c.in-Ok.ensures.brings k.ensures.ready k.ensures.begins (k.ensures.held ∙ c.requires.free) k.ensures.claimed) c.end_get.new.party c.args.w c.end_get.result
     (ends-inside g.P.Pool g.D.CacheDev c.args.arcs.now i c.args.at c.args.tick (outside c.args.pool.now c.args.cache.now) (outside c.bring.new.pool c.bring.new.cache) k.result k.ensures.ready (c.args.w.at + c.args.w.len) c.mapped.result m (subst (λ (n : ℕ). Tests {T = Unit {0}} c.args.at n c.mapped.result (Ok c.in_default.field-0)) (λ z. c.from.ensures z + c.from-2.ensures z) c.in_default.ensures)) c.end_get.ensures.ok c.end_get.ensures.got c.end_get.ensures.err c.end_get.ensures.why)
 
 pub returns-in-Ok-clause-party : goal.returns-in-Ok-clause-party
 returns-in-Ok-clause-party g c =
     let k = c.take_at_rest-cell in
     (party-after g.P.Pool g.D.CacheDev c.args.arcs.now c.cell_of-i.result c.args.at c.args.tick (outside c.args.pool.now c.args.cache.now) (outside c.bring.new.pool c.bring.new.cache) k.result k.ensures.ready c.in-Ok.cell c.bring.new.party
-    (c.in-Ok.ensures.brings k.ensures.ready k.ensures.begins (k.ensures.held ∙ c.requires.free)) c.end_get.new.party (λ n. Get n c.args.at) c.end_get.result c.end_get.ensures.ok c.end_get.ensures.err).0
+    (c.in-Ok.ensures.brings k.ensures.ready k.ensures.begins (k.ensures.held ∙ c.requires.free) k.ensures.claimed) c.end_get.new.party (λ n. Get n c.args.at) c.end_get.result c.end_get.ensures.ok c.end_get.ensures.err).0
 
 pub returns-in-Ok-clause-free : goal.returns-in-Ok-clause-free
 returns-in-Ok-clause-free g c =
     let k = c.take_at_rest-cell in
     (party-after g.P.Pool g.D.CacheDev c.args.arcs.now c.cell_of-i.result c.args.at c.args.tick (outside c.args.pool.now c.args.cache.now) (outside c.bring.new.pool c.bring.new.cache) k.result k.ensures.ready c.in-Ok.cell c.bring.new.party
-    (c.in-Ok.ensures.brings k.ensures.ready k.ensures.begins (k.ensures.held ∙ c.requires.free)) c.end_get.new.party (λ n. Get n c.args.at) c.end_get.result c.end_get.ensures.ok c.end_get.ensures.err).1
+    (c.in-Ok.ensures.brings k.ensures.ready k.ensures.begins (k.ensures.held ∙ c.requires.free) k.ensures.claimed) c.end_get.new.party (λ n. Get n c.args.at) c.end_get.result c.end_get.ensures.ok c.end_get.ensures.err).1
 
 pub returns-in-Err-bring-clause-answer : goal.returns-in-Err-bring-clause-answer
 returns-in-Err-bring-clause-answer g c =
     let k = c.take_at_rest-cell in
     let i = c.cell_of-i.result in
     let m : c.mapped.result ≡ mapped_in c.args.at k.result.value.dbufs = c.mapped.ensures ∙ ap (λ (x : CellLog Kept). mapped_in c.args.at x.dbufs) c.deref.ensures in
-    let f = c.in-Err-bring.ensures.brings k.ensures.ready k.ensures.begins (k.ensures.held ∙ c.requires.free) in
+    let f = c.in-Err-bring.ensures.brings k.ensures.ready k.ensures.begins (k.ensures.held ∙ c.requires.free) k.ensures.claimed in
     once-at-rest c.args.arcs.now i c.args.at c.args.party.now k.new.party c.bring.new.party k.result
     (λ (j : ℕ) (b : OnHeap) (r s : PartyPlace). Gets g.P.Pool g.D.CacheDev c.args.arcs.now.config j c.args.at c.args.tick (outside c.args.pool.now c.args.cache.now) (outside c.bring.new.pool c.bring.new.cache) c.args.w b r s (Err c.in-Err-bring.fault)) c.cell_of-i.ensures.cell k.ensures
     (refuses-get g.P.Pool g.D.CacheDev c.args.arcs.now.config i c.args.at c.args.tick (outside c.args.pool.now c.args.cache.now) (outside c.bring.new.pool c.bring.new.cache) k.result k.ensures.ready c.bring.new.party c.args.w c.in-Err-bring.fault
@@ -84,7 +85,39 @@ returns-in-Err-bring-clause-answer g c =
     (ends-inside g.P.Pool g.D.CacheDev c.args.arcs.now i c.args.at c.args.tick (outside c.args.pool.now c.args.cache.now) (outside c.bring.new.pool c.bring.new.cache) k.result k.ensures.ready (c.args.w.at + c.args.w.len) c.mapped.result m (subst (λ (n : ℕ). Tests {T = Unit {0}} c.args.at n c.mapped.result (Ok c.in_default.field-0)) (λ z. c.from.ensures z + c.from-2.ensures z) c.in_default.ensures)) (not_loaded f.fails))
 
 pub returns-in-Err-bring-clause-party : goal.returns-in-Err-bring-clause-party
-returns-in-Err-bring-clause-party g c = let k = c.take_at_rest-cell in (c.in-Err-bring.ensures.brings k.ensures.ready k.ensures.begins (k.ensures.held ∙ c.requires.free)).party
+returns-in-Err-bring-clause-party g c = let k = c.take_at_rest-cell in (c.in-Err-bring.ensures.brings k.ensures.ready k.ensures.begins (k.ensures.held ∙ c.requires.free) k.ensures.claimed).party
 
 pub returns-in-Err-bring-clause-free : goal.returns-in-Err-bring-clause-free
-returns-in-Err-bring-clause-free g c = let k = c.take_at_rest-cell in (c.in-Err-bring.ensures.brings k.ensures.ready k.ensures.begins (k.ensures.held ∙ c.requires.free)).held
+returns-in-Err-bring-clause-free g c = let k = c.take_at_rest-cell in (c.in-Err-bring.ensures.brings k.ensures.ready k.ensures.begins (k.ensures.held ∙ c.requires.free) k.ensures.claimed).held
+
+pub returns-in-Err-clause-claims : goal.returns-in-Err-clause-claims
+returns-in-Err-clause-claims g c =
+    let k = c.take_at_rest-cell in
+    let given = as-given c.args.arcs.now c.cell_of-i.result k.ensures.ready k.result k.result.value k.new.party k.ensures.begins c.give.new.party c.give.ensures.gives in
+    rest-claims c.args.arcs.now c.cell_of-i.result c.args.at c.args.party.now k.result k.new.party k.ensures k.result.value c.give.new.party (λ n. refl) c.give.ensures.claims given.number given.others
+
+pub returns-in-Ok-clause-claims : goal.returns-in-Ok-clause-claims
+returns-in-Ok-clause-claims g c =
+    let k = c.take_at_rest-cell in
+    claims-then c.args.party.now k.ensures.ready c.end_get.new.party k.ensures.claims
+    (ended-claims g.P.Pool g.D.CacheDev c.args.arcs.now c.cell_of-i.result c.args.at c.args.tick (outside c.args.pool.now c.args.cache.now) (outside c.bring.new.pool c.bring.new.cache) k.result k.ensures.ready c.in-Ok.cell c.bring.new.party
+    (c.in-Ok.ensures.brings k.ensures.ready k.ensures.begins (k.ensures.held ∙ c.requires.free) k.ensures.claimed) c.end_get.new.party c.end_get.ensures.claims (λ n. Get n c.args.at) c.end_get.result c.end_get.ensures.ok c.end_get.ensures.err)
+
+pub returns-in-Err-bring-clause-claims : goal.returns-in-Err-bring-clause-claims
+returns-in-Err-bring-clause-claims g c =
+    let k = c.take_at_rest-cell in
+    claims-then c.args.party.now k.ensures.ready c.bring.new.party k.ensures.claims (c.in-Err-bring.ensures.brings k.ensures.ready k.ensures.begins (k.ensures.held ∙ c.requires.free) k.ensures.claimed).claims
+
+pub returns-in-Err-clause-number : goal.returns-in-Err-clause-number
+returns-in-Err-clause-number g c =
+    let k = c.take_at_rest-cell in
+    (as-given c.args.arcs.now c.cell_of-i.result k.ensures.ready k.result k.result.value k.new.party k.ensures.begins c.give.new.party c.give.ensures.gives).number ∙ k.ensures.number
+
+pub returns-in-Err-bring-clause-number : goal.returns-in-Err-bring-clause-number
+returns-in-Err-bring-clause-number g c = let k = c.take_at_rest-cell in (c.in-Err-bring.ensures.brings k.ensures.ready k.ensures.begins (k.ensures.held ∙ c.requires.free) k.ensures.claimed).number ∙ k.ensures.number
+
+pub returns-in-Ok-clause-number : goal.returns-in-Ok-clause-number
+returns-in-Ok-clause-number g c =
+    let k = c.take_at_rest-cell in
+    ended-number g.P.Pool g.D.CacheDev c.args.arcs.now c.cell_of-i.result c.args.at c.args.tick (outside c.args.pool.now c.args.cache.now) (outside c.bring.new.pool c.bring.new.cache) k.result k.ensures.ready c.in-Ok.cell c.bring.new.party
+    (c.in-Ok.ensures.brings k.ensures.ready k.ensures.begins (k.ensures.held ∙ c.requires.free) k.ensures.claimed) c.end_get.new.party c.end_get.ensures.claims (λ n. Get n c.args.at) c.end_get.result c.end_get.ensures.ok c.end_get.ensures.err ∙ k.ensures.number

@@ -50,11 +50,11 @@ end_unread-requires-clause-claims g c =
     c.args.ptr c.requires.to_load c.begin_load.new.party c.begin_load.ensures.gives c.begin_load.ensures.claims c.read.new.party (Err c.in-Err.fault) c.in-Err.ensures.answer
 
 pub returns-in-Ok-clause-brings : goal.returns-in-Ok-clause-brings
-returns-in-Ok-clause-brings g c p taken free =
+returns-in-Ok-clause-brings g c p taken free mine =
     brought-ends g.P.Pool g.D.CacheDev c.args.arcs.now c.args.i c.args.at c.args.tick (outside c.args.pool.now c.args.cache.now) (outside c.read.new.pool c.read.new.cache) c.args.cell p c.args.party.now taken free
-    c.args.ptr c.requires.to_load c.begin_load.new.party c.begin_load.ensures.gives c.begin_load.ensures.claims c.read.new.party c.in-Ok.read c.in-Ok.ensures.answer c.end_load.new.party c.end_load.result c.end_load.ensures
+    c.args.ptr c.requires.to_load c.begin_load.new.party c.begin_load.ensures.gives c.begin_load.ensures.claims c.read.new.party c.begin_load.ensures.besides mine c.in-Ok.read c.in-Ok.ensures.answer c.end_load.new.party c.end_load.result c.end_load.ensures
 
 pub returns-in-Err-clause-brings : goal.returns-in-Err-clause-brings
-returns-in-Err-clause-brings g c p taken free =
+returns-in-Err-clause-brings g c p taken free mine =
     brought-refused g.P.Pool g.D.CacheDev c.args.arcs.now c.args.i c.args.at c.args.tick (outside c.args.pool.now c.args.cache.now) (outside c.read.new.pool c.read.new.cache) c.args.cell p c.args.party.now taken free
-    c.args.ptr c.requires.to_load c.begin_load.new.party c.begin_load.ensures.gives c.begin_load.ensures.claims c.read.new.party c.in-Err.fault c.in-Err.ensures.answer c.from.result c.end_unread.new.party c.from.ensures c.end_unread.ensures.turn.0 c.end_unread.ensures.turn.1 c.end_unread.ensures.unmarked
+    c.args.ptr c.requires.to_load c.begin_load.new.party c.begin_load.ensures.gives c.begin_load.ensures.claims c.read.new.party c.begin_load.ensures.besides mine c.in-Err.fault c.in-Err.ensures.answer c.from.result c.end_unread.new.party c.from.ensures c.end_unread.ensures.turn.0 c.end_unread.ensures.turn.1 c.end_unread.ensures.unmarked c.end_unread.ensures.others

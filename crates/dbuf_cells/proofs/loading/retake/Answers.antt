@@ -11,3 +11,6 @@ returns-clause-reading g c =
     let k = c.take-cell in
     claimed-mark c.args.i k.new.party.number c.args.at c.args.ptr k.result.value c.args.party.now
     (subst (λ (x : CellLog Kept). IsTrue (is_distinct dbuf_oid x.dbufs)) c.deref.ensures c.told.ensures.once) k.ensures.claims c.requires.claims
+
+pub returns-clause-once : goal.returns-clause-once
+returns-clause-once g c = subst (λ (x : CellLog Kept). IsTrue (is_distinct dbuf_oid x.dbufs)) c.deref.ensures c.told.ensures.once

@@ -6,8 +6,9 @@ use Rattle.dbuf_cells.specs.Putting.{Puts}
 use Rattle.dbuf_cells.specs.Turns.{CellTurn, OnHeap, PartyPlace}
 use Rattle.dbuf_cells.specs.declared.kept.Kept.{Kept}
 use Rattle.dbuf_cells.proofs.PartySteps.{once-at-rest}
-use Rattle.dbuf_cells.proofs.Puts.{put-answers, put-evicts, put-finished, put-out, put-room}
+use Rattle.dbuf_cells.proofs.Puts.{put-answers, put-evicts, put-finished, put-out, put-room, put-claims}
 use Rattle.dbuf_cells.proofs.Unholds.{room-given, room-gives}
+use Rattle.dbuf_cells.proofs.Claims.{rest-claims, roomy-claims}
 use Rattle.dbuf_cells.proofs.putting.put_filled.Goals as goal
 
 pub write-requires-clause-rest : goal.write-requires-clause-rest
@@ -50,21 +51,21 @@ returns-in-Ok-clause-answer g c =
     once-at-rest c.args.arcs.now c.cell_of-i.result c.args.at c.args.party.now k.new.party c.finish.new.party k.result
     (λ (j : ℕ). Puts c.args.arcs.now.config j c.args.at c.args.size c.args.fill) c.cell_of-i.ensures.cell k.ensures
     (put-answers c.args.arcs.now c.cell_of-i.result c.args.at c.args.party.now k.result k.new.party k.ensures c.number-n.result c.args.size c.args.fill c.number-n.ensures c.in-Ok.kept c.write.new.cell u c.give_up.new.party c.give_up.ensures
-    c.finish.new.party c.finish.ensures)
+    c.finish.new.party c.finish.ensures.finishes)
 
 pub returns-in-Ok-clause-party : goal.returns-in-Ok-clause-party
 returns-in-Ok-clause-party g c =
     let k = c.take_at_rest-cell in
     let u = subst (λ (x : CellLog Kept). IsPut c.number-n.result c.args.at c.args.size c.args.fill c.in-Ok.kept x c.write.new.cell) c.deref_mut.ensures.value c.in-Ok.ensures.ok in
     (put-finished c.args.arcs.now c.cell_of-i.result c.args.at c.args.party.now k.result k.new.party k.ensures c.number-n.result c.args.size c.args.fill c.number-n.ensures c.in-Ok.kept c.write.new.cell u c.give_up.new.party c.give_up.ensures
-    c.finish.new.party c.finish.ensures).given.party
+    c.finish.new.party c.finish.ensures.finishes).given.party
 
 pub returns-in-Ok-clause-free : goal.returns-in-Ok-clause-free
 returns-in-Ok-clause-free g c =
     let k = c.take_at_rest-cell in
     let u = subst (λ (x : CellLog Kept). IsPut c.number-n.result c.args.at c.args.size c.args.fill c.in-Ok.kept x c.write.new.cell) c.deref_mut.ensures.value c.in-Ok.ensures.ok in
     (put-finished c.args.arcs.now c.cell_of-i.result c.args.at c.args.party.now k.result k.new.party k.ensures c.number-n.result c.args.size c.args.fill c.number-n.ensures c.in-Ok.kept c.write.new.cell u c.give_up.new.party c.give_up.ensures
-    c.finish.new.party c.finish.ensures).given.held ∙ (k.ensures.held ∙ c.requires.free)
+    c.finish.new.party c.finish.ensures.finishes).given.held ∙ (k.ensures.held ∙ c.requires.free)
 
 pub returns-in-Err-clause-answer : goal.returns-in-Err-clause-answer
 returns-in-Err-clause-answer g c =
@@ -85,3 +86,31 @@ returns-in-Err-clause-free g c =
     let k = c.take_at_rest-cell in
     let log = subst (λ (x : CellLog Kept). IsRoomier x c.write.new.cell) c.deref_mut.ensures.value c.in-Err.ensures.err in
     (room-given c.args.arcs.now c.cell_of-i.result c.args.at c.args.party.now k.result k.new.party k.ensures c.write.new.cell c.give.new.party log c.give.ensures.gives).held ∙ (k.ensures.held ∙ c.requires.free)
+
+pub returns-in-Ok-clause-claims : goal.returns-in-Ok-clause-claims
+returns-in-Ok-clause-claims g c =
+    let k = c.take_at_rest-cell in
+    let u = subst (λ (x : CellLog Kept). IsPut c.number-n.result c.args.at c.args.size c.args.fill c.in-Ok.kept x c.write.new.cell) c.deref_mut.ensures.value c.in-Ok.ensures.ok in
+    let given = (put-finished c.args.arcs.now c.cell_of-i.result c.args.at c.args.party.now k.result k.new.party k.ensures c.number-n.result c.args.size c.args.fill c.number-n.ensures c.in-Ok.kept c.write.new.cell u c.give_up.new.party c.give_up.ensures
+    c.finish.new.party c.finish.ensures.finishes).given in
+    rest-claims c.args.arcs.now c.cell_of-i.result c.args.at c.args.party.now k.result k.new.party k.ensures c.write.new.cell c.finish.new.party (put-claims c.number-n.result c.args.at c.args.size c.args.fill c.in-Ok.kept k.result.value c.write.new.cell u k.ensures.rests) c.finish.ensures.claims given.number given.others
+
+pub returns-in-Err-clause-claims : goal.returns-in-Err-clause-claims
+returns-in-Err-clause-claims g c =
+    let k = c.take_at_rest-cell in
+    let log = subst (λ (x : CellLog Kept). IsRoomier x c.write.new.cell) c.deref_mut.ensures.value c.in-Err.ensures.err in
+    let given = room-given c.args.arcs.now c.cell_of-i.result c.args.at c.args.party.now k.result k.new.party k.ensures c.write.new.cell c.give.new.party log c.give.ensures.gives in
+    rest-claims c.args.arcs.now c.cell_of-i.result c.args.at c.args.party.now k.result k.new.party k.ensures c.write.new.cell c.give.new.party (roomy-claims k.result.value c.write.new.cell log) c.give.ensures.claims given.number given.others
+
+pub returns-in-Ok-clause-number : goal.returns-in-Ok-clause-number
+returns-in-Ok-clause-number g c =
+    let k = c.take_at_rest-cell in
+    let u = subst (λ (x : CellLog Kept). IsPut c.number-n.result c.args.at c.args.size c.args.fill c.in-Ok.kept x c.write.new.cell) c.deref_mut.ensures.value c.in-Ok.ensures.ok in
+    (put-finished c.args.arcs.now c.cell_of-i.result c.args.at c.args.party.now k.result k.new.party k.ensures c.number-n.result c.args.size c.args.fill c.number-n.ensures c.in-Ok.kept c.write.new.cell u c.give_up.new.party c.give_up.ensures
+    c.finish.new.party c.finish.ensures.finishes).given.number ∙ k.ensures.number
+
+pub returns-in-Err-clause-number : goal.returns-in-Err-clause-number
+returns-in-Err-clause-number g c =
+    let k = c.take_at_rest-cell in
+    let log = subst (λ (x : CellLog Kept). IsRoomier x c.write.new.cell) c.deref_mut.ensures.value c.in-Err.ensures.err in
+    (room-given c.args.arcs.now c.cell_of-i.result c.args.at c.args.party.now k.result k.new.party k.ensures c.write.new.cell c.give.new.party log c.give.ensures.gives).number ∙ k.ensures.number

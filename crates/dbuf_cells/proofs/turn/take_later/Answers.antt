@@ -13,4 +13,5 @@ loop-preserved g c =
       held = e.held ∙ i.held;
       number = e.number ∙ i.number;
       waits = (suc i.waits.0, (c.loop.party, i.waits.1, e.none));
+      claims = λ j. e.claims j ∙ i.claims j;
     }

@@ -1,10 +1,11 @@
-use Rattle.std.proofs.Common.{sym, ap, ◌∙◌}
+use Rattle.std.proofs.Common.{refl, sym, ap, ◌∙◌}
 use Rattle.std.specs.Option.{option_map_or}
 use Rattle.dbuf_state.specs.CellLog.{CellLog}
 use Rattle.dbuf_state.specs.Dbufs.{dbuf_at}
 use Rattle.dbuf_state.specs.declared.dbuf.Dbuf.{Dbuf}
 use Rattle.dbuf_state.specs.declared.state.DbState.TheVariants as state
 use Rattle.dbuf_cells.specs.declared.kept.Kept.{Kept}
+use Rattle.dbuf_cells.proofs.Claims.{claims-through}
 use Rattle.dbuf_cells.proofs.PartySteps.{as-given, finds-bringing}
 use Rattle.dbuf_cells.proofs.turn.try_at_rest.Goals as goal
 
@@ -23,3 +24,10 @@ returns-in-Read-clause-held g c = let b = c.take-cell.result in (as-given c.args
 
 pub returns-in-Read-clause-number : goal.returns-in-Read-clause-number
 returns-in-Read-clause-number g c = let b = c.take-cell.result in (as-given c.args.arcs.now c.args.i c.args.party.now b b.value c.take-cell.new.party c.take-cell.ensures.begins c.give.new.party c.give.ensures.gives).number
+
+pub returns-in-Read-clause-claims : goal.returns-in-Read-clause-claims
+returns-in-Read-clause-claims g c =
+    let b = c.take-cell.result in
+    let given = as-given c.args.arcs.now c.args.i c.args.party.now b b.value c.take-cell.new.party c.take-cell.ensures.begins c.give.new.party c.give.ensures.gives in
+    claims-through c.args.i c.take-cell.new.party.number c.give.new.party.number b.value.dbufs b.value.dbufs c.args.party.now c.give.new.party c.take-cell.ensures.claims c.give.ensures.claims
+    (given.number ∙ sym c.take-cell.ensures.begins.hand.party.number) (λ n. refl) given.others
