@@ -3,7 +3,7 @@
 
 A row has what it shows, the words, the pool (the number of its zero bytes, or its bytes), the standard input, the exit status and
 the reports; there are several where callers may come in several orders, and such a row is run four times. The source comes through a
-pipe, a few bytes at a time. Behind the rows: a larger load of four callers, a pool that may not be written, and each short list of up to three
+pipe, a few bytes at a time. Behind the rows: a larger load of four callers, a caller that keeps many reads, a pool that may not be written, and each short list of up to three
 pages beside a plain form of the policy; and the events of each trace that has a report are judged by `check`. It prints each row that is wrong, and how many were right.
 """
 import collections
@@ -1226,6 +1226,18 @@ def is_load_right(program):
     return right
 
 
+def are_many_kept(program):
+    """A caller keeps 5,000 reads of a block and drops them: there is memory for each, and the oldest goes first, whatever is kept."""
+    kept = 5000
+    lines = [f'hold 0 {i + 1} 0\n' for i in range(kept)] + ['drop 0 0\n'] * kept
+    status, told = run(program, Row('many kept reads', ['run'], 512, 'arc 1 1 16 1 4096 0 0\nblock 0 512 1 Z\n' + ''.join(lines), 0, []))
+    replies = ['0 held pool', *(f'{i} held hit' for i in range(1, kept)), *(f'{i} dropped' for i in range(kept, 2 * kept))]
+    right = status == 0 and told.splitlines()[1:-3] == replies
+    if not right:
+        print(f'{kept} kept reads ended with {status}: {told[-600:]}')
+    return right
+
+
 def is_locked_pool_read(program):
     """A pool that may not be written is read all the same. Root may write every file, so there the program is run as nobody."""
     shutil.copy(program, 'tool')
@@ -1332,7 +1344,7 @@ def main():
     with tempfile.TemporaryDirectory(prefix='arc_tool.') as work:
         os.chdir(work)
         results = [is_right(program, row) for row in (*TRACES, *DEVICES, *LISTS, *LOGS, *REFUSED, *policy_rows())]
-        results += [is_load_right(program), is_locked_pool_read(program)]
+        results += [is_load_right(program), are_many_kept(program), is_locked_pool_read(program)]
         load = Row('a load of four callers', ['run'], 8 * 131072, LOAD, 0, [])
         results += [is_log_right(program, row) for row in (*TRACES, *DEVICES, load) if row.status in (0, 1, 6)]
         os.chdir('/')
