@@ -51,13 +51,23 @@ fn write_over(block: &mut Vec<u8>, from: u32, bytes: &[u8]) {
 // Does to the map what the event does.
 fn lead_on(alloc: Global, map: &mut Vec<Vec<u8>>, event: &CellEvent) -> Result<(), NoMemory> {
     match event {
-        CellEvent::Put { n: _, at, size, fill } => {
+        CellEvent::Put {
+            n: _,
+            at,
+            size,
+            fill,
+        } => {
             let bytes = vec![in alloc; *fill; *size as usize]?;
             if let Some(block) = map.get_mut(at.block as usize) {
                 *block = bytes;
             }
         }
-        CellEvent::Patch { n: _, at, from, bytes } => {
+        CellEvent::Patch {
+            n: _,
+            at,
+            from,
+            bytes,
+        } => {
             if let Some(block) = map.get_mut(at.block as usize) {
                 write_over(block, *from, bytes.bytes());
             }

@@ -19,4 +19,4 @@ BlocksStandInARow = (group next : ℕ) (cells : List OnHeap) (dues : List Due) (
 abbrev pub PlacesAddUp : Type 0
 PlacesAddUp = (group next : ℕ) (cells : List OnHeap) (done : List Due) (due : Due) (left : List Due)
     → items_from group next cells (done ++ due ∷ left)
-      ≡ items_from group next cells done ++ at_place group (next + need_of cells done) cells due ∷ items_from group (next + need_of cells done + length (bytes_of_due cells due)) cells left
+    ≡ items_from group next cells done ++ at_place group (next + need_of cells done) cells due ∷ items_from group (next + need_of cells done + length (bytes_of_due cells due)) cells left
