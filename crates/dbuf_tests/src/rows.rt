@@ -1,7 +1,7 @@
 //! Rows of calls on dbufs over a shared cache, with ample memory.
 use arc_core::{Bounds, Config};
 use dbuf_examples::{
-    Scene, all_calls, bad_names, opened, patched_block, written_block, written_in_two,
+    Scene, all_calls, bad_names, opened, patched_block, run_soak, written_block, written_in_two,
 };
 use std::alloc::Global;
 use std::sync::Wait;
@@ -103,5 +103,15 @@ fn a_patch_leaves_the_pool(rt: HostRuntime) -> Result<(), Fail> {
 fn names_that_nothing_has_are_refused(rt: HostRuntime) -> Result<(), Fail> {
     let mut s = opened(rt.alloc(), &TWO, 0, 512, &[]).ok().ok_or("memory")?;
     assert!(rt; bad_names(&s.arcs, &rt, &mut s.one, &mut s.pool));
+    Ok(())
+}
+
+// Four callers at the same time on one cell, and on sixteen: each answer is the plain map's.
+#[test]
+fn soaks_agree_with_a_plain_map(rt: HostRuntime) -> Result<(), Fail> {
+    for cells in [1, 16] {
+        let count = run_soak(&rt, rt.alloc(), cells).ok().ok_or("memory")?;
+        assert!(rt; count > Some(1000));
+    }
     Ok(())
 }

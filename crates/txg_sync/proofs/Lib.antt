@@ -5,5 +5,6 @@ pub mod Hand
 pub mod Kept
 pub mod Loop
 pub mod Noted
+pub mod Rows
 pub mod Steps
 pub mod Taking

@@ -3,9 +3,11 @@
 
 mod cells;
 mod due;
+mod laws;
 mod need;
 mod syncing;
 mod write;
 
 pub use due::Due;
+pub use laws::blocks_stand_in_a_row;
 pub use syncing::{SyncFault, Synced, sync};
