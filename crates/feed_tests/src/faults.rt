@@ -1,8 +1,8 @@
 //! Feeds in which one call of the device fails.
-use super::scene::*;
 use arc_core::{Event, Why};
 use arc_examples::Plain;
 use arc_table::Closed;
+use feed_examples::{closed, config_of_one, fed, memory, opened, read, zeros_of};
 use l2_dev::FeedStop;
 use std::alloc::Global;
 use std::sync::Wait;
@@ -32,12 +32,12 @@ fn fed_with<R: Wait>(
     alloc: Global,
     fail: u64,
 ) -> Result<(FeedStop, [[usize; 3]; 2]), Fail> {
-    let numbers = config(2, 4096, 131_072);
+    let numbers = config_of_one(2, 4096, 131_072);
     let device = memory(alloc, 266_240, &[fail])?;
     let mut scene = opened(alloc, &numbers, 16_384, device)?;
     // one of each shard
-    let first = ptr(alloc, 0, 512)?;
-    let second = ptr(alloc, 3, 512)?;
+    let first = zeros_of(alloc, 0, 512)?;
+    let second = zeros_of(alloc, 3, 512)?;
     if !read(rt, &mut scene, &first, 1) || !read(rt, &mut scene, &second, 2) {
         return Err("read".into());
     }

@@ -1,4 +1,4 @@
-//! Tests of a feed of the cache device over the shared cache. There is no code here but tests, and what they share.
+//! Tests of a feed of the cache device over the shared cache. There is no code here but tests.
 #![tactic(auto)]
 
 #[cfg(test)]
@@ -6,4 +6,4 @@ mod faults;
 #[cfg(test)]
 mod rows;
 #[cfg(test)]
-mod scene;
+mod soak;

@@ -1,5 +1,7 @@
 //! Feeds whose numbers were computed by hand.
-use super::scene::*;
+use feed_examples::{
+    config_of_one, fed, fed_one_by_one, memory, opened, places, read, read_all, restored, zeros_of,
+};
 use l2_dev::{FeedReport, FeedStop};
 use std::test::Fail;
 
@@ -17,7 +19,7 @@ fn report(blocks: u32, size: u64, cleared: u64) -> FeedReport {
 #[test]
 fn a_block_that_was_read_is_fed(rt: HostRuntime) -> Result<(), Fail> {
     let alloc = rt.alloc();
-    let numbers = config(1, 4096, 131_072);
+    let numbers = config_of_one(1, 4096, 131_072);
     let device = memory(alloc, 266_240, &[])?;
     let mut scene = opened(alloc, &numbers, 16_384, device)?;
     assert!(rt; read_all(&rt, alloc, &mut scene, 1, 2048)?);
@@ -29,7 +31,7 @@ fn a_block_that_was_read_is_fed(rt: HostRuntime) -> Result<(), Fail> {
 #[test]
 fn a_feed_of_nothing_writes_nothing(rt: HostRuntime) -> Result<(), Fail> {
     let alloc = rt.alloc();
-    let numbers = config(2, 4096, 131_072);
+    let numbers = config_of_one(2, 4096, 131_072);
     let device = memory(alloc, 266_240, &[])?;
     let mut scene = opened(alloc, &numbers, 16_384, device)?;
     assert!(rt; fed(&rt, alloc, &mut scene) == report(0, 512, 0));
@@ -41,23 +43,25 @@ fn a_feed_of_nothing_writes_nothing(rt: HostRuntime) -> Result<(), Fail> {
 #[test]
 fn the_fourth_feed_begins_the_next_lap(rt: HostRuntime) -> Result<(), Fail> {
     let alloc = rt.alloc();
-    let numbers = config(1, 4096, 131_072);
+    let numbers = config_of_one(1, 4096, 131_072);
     let device = memory(alloc, 266_240, &[])?;
     let mut scene = opened(alloc, &numbers, 16_384, device)?;
     assert!(rt; fed_one_by_one(&rt, alloc, &mut scene, 3)? == 3);
-    let fourth = ptr(alloc, 3, 512)?;
+    let fourth = zeros_of(alloc, 3, 512)?;
     assert!(rt; read(&rt, &mut scene, &fourth, 4));
     assert!(rt; fed(&rt, alloc, &mut scene) == report(1, 512, 1));
     assert!(rt; places(alloc, &scene)?.as_slice() == [70_144, 136_192, 4096].as_slice());
     assert!(rt; scene.l2.ring().lap() == 2);
     assert!(rt; scene.l2.ring().top() == 202_240);
+    // the newest log block's two pointers lead to the third and the second block; where the first one's log block stood is the fourth block's now
+    assert!(rt; restored(alloc, scene)?.as_slice() == [4096, 136_192, 70_144].as_slice());
     Ok(())
 }
 
 #[test]
 fn a_batch_of_two_runs(rt: HostRuntime) -> Result<(), Fail> {
     let alloc = rt.alloc();
-    let numbers = config(1, 1_048_576, 524_288);
+    let numbers = config_of_one(1, 1_048_576, 524_288);
     let device = memory(alloc, 1_056_768, &[])?;
     let mut scene = opened(alloc, &numbers, 524_288, device)?;
     assert!(rt; read_all(&rt, alloc, &mut scene, 682, 512)?);
@@ -65,5 +69,17 @@ fn a_batch_of_two_runs(rt: HostRuntime) -> Result<(), Fail> {
     let places = places(alloc, &scene)?;
     assert!(rt; places.get(680).copied() == Some(352_256));
     assert!(rt; places.get(681).copied() == Some(418_304));
+    Ok(())
+}
+
+#[test]
+fn a_header_that_is_not_written_names_the_log_block_before(rt: HostRuntime) -> Result<(), Fail> {
+    let alloc = rt.alloc();
+    let numbers = config_of_one(1, 4096, 131_072);
+    // behind the start's read a feed of one block makes seven calls, and the last write of the third is that of the header
+    let device = memory(alloc, 266_240, &[20])?;
+    let mut scene = opened(alloc, &numbers, 16_384, device)?;
+    assert!(rt; fed_one_by_one(&rt, alloc, &mut scene, 3)? == 2);
+    assert!(rt; restored(alloc, scene)?.as_slice() == [70_144, 4096].as_slice());
     Ok(())
 }

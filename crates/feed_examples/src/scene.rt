@@ -1,7 +1,7 @@
 //! A cache of one caller, with its feeder, its pool of zeros, and a device.
 ghost use Rattle.std.specs.Prelude.{◌≡◌, ◌^◌, ◌≤◌, IfOk};
 ghost use Rattle.arc_core.specs.Config.{IsConfig};
-ghost use Rattle.feed_tests.specs.Scenes.{AreParties, IsScene};
+ghost use Rattle.feed_examples.specs.Scenes.{AreParties, IsScene};
 
 use arc_core::{Bounds, Config};
 use arc_examples::{Plain, read_one};
@@ -12,21 +12,25 @@ use l2_feed::feed;
 use l2_log::RING_START;
 use std::alloc::Global;
 use std::sync::Wait;
-use std::test::Fail;
 use vdev_io::{CacheDev, MemCache, MemPool};
 
-/// A cache that is to be fed.
+/// A cache of one caller that is to be fed.
 #[derive(Drop)]
-pub(super) struct Scene<D: CacheDev> {
+pub struct FeedScene<D: CacheDev> {
+    /// The cache.
     pub arcs: Arcs<Plain>,
+    /// Its feeder.
     pub feeder: Party<Plain>,
+    /// Its caller.
     pub one: Party<Plain>,
+    /// The pool.
     pub pool: MemPool,
+    /// The device.
     pub l2: L2Dev<D>,
 }
 
-/// The numbers of a cache: so many shards, the capacity of each, and the bytes of a feed.
-pub(super) fn config(shards: u32, c: u64, write_max: u64) -> Config
+/// The numbers of a cache of one caller: so many shards, the capacity of each, and the bytes of a feed.
+pub fn config_of_one(shards: u32, c: u64, write_max: u64) -> Config
     requires shards { (1 ≤ shards) × (shards ≤ 16) }
     requires c { (4096 ≤ c) × (c ≤ 2 ^ 28) }
     requires write_max { (512 ≤ write_max) × (write_max ≤ 2 ^ 32) }
@@ -50,7 +54,7 @@ pub(super) fn config(shards: u32, c: u64, write_max: u64) -> Config
 }
 
 /// The block of this number and size: zeros, one behind the other in the pool.
-pub(super) fn ptr(alloc: Global, number: u64, size: u64) -> Result<Ptr, Fail> {
+pub fn zeros_of(alloc: Global, number: u64, size: u64) -> Result<Ptr, NoMemory> {
     let bytes = vec![in alloc; 0u8; size as usize]?;
     let key = Key {
         offset: number.wrapping_mul(size),
@@ -85,42 +89,39 @@ fn made(
 }
 
 /// A pool of so many zeros.
-fn zeros(alloc: Global, bytes: usize) -> Result<MemPool, Fail> {
+fn zeros(alloc: Global, bytes: usize) -> Result<MemPool, NoMemory> {
     let bytes = vec![in alloc; 0u8; bytes]?;
-    let made = MemPool::new(alloc, bytes, Vec::new(alloc), Vec::new(alloc));
-    Ok(made.ok().ok_or("pool")?)
+    MemPool::new(alloc, bytes, Vec::new(alloc), Vec::new(alloc))
 }
 
 /// A device in memory of so many zeros, whose calls of these numbers fail.
-pub(super) fn memory(alloc: Global, bytes: usize, fail: &[u64]) -> Result<MemCache, Fail> {
+pub fn memory(alloc: Global, bytes: usize, fail: &[u64]) -> Result<MemCache, NoMemory> {
     let bytes = vec![in alloc; 0u8; bytes]?;
     Ok(MemCache::new(bytes, fail.to_vec(alloc)?))
 }
 
 /// A cache with these numbers over a pool of so many zeros and this device, on which nothing was written.
-pub(super) fn opened<D: CacheDev>(
+pub fn opened<D: CacheDev>(
     alloc: Global,
     config: &Config,
     pool: usize,
     device: D,
-) -> Result<Scene<D>, Fail>
+) -> Result<FeedScene<D>, NoMemory>
     requires valid { IsConfig config.now }
     requires callers { config.now.callers ≡ 1 }
     requires cells { config.now.cells ≡ 1 }
     ensures { IfOk result (λ s. IsScene s.arcs s.feeder s.one (D.size s.l2.dev) s.l2.cursor) }
 {
     let pool = zeros(alloc, pool)?;
-    let Ok((arcs, feeder, one)) = made(alloc, config) else {
-        return Err("memory".into());
-    };
+    let (arcs, feeder, one) = made(alloc, config)?;
     let Started::Ready { l2, .. } = L2Dev::start(alloc, device) else {
-        return Err("device".into());
+        return Err(NoMemory);
     };
     let room = l2.ring().end().saturating_sub(RING_START);
     if arcs.config().bounds.write_max > room / 2 {
-        return Err("two feeds don't fit".into());
+        return Err(NoMemory);
     }
-    Ok(Scene {
+    Ok(FeedScene {
         arcs,
         feeder,
         one,
@@ -130,7 +131,7 @@ pub(super) fn opened<D: CacheDev>(
 }
 
 /// Reads a block, and gives it back.
-pub(super) fn read<R: Wait, D: CacheDev>(rt: &R, scene: &mut Scene<D>, ptr: &Ptr, tick: u64) -> bool
+pub fn read<R: Wait, D: CacheDev>(rt: &R, scene: &mut FeedScene<D>, ptr: &Ptr, tick: u64) -> bool
     requires { IsScene scene.old.arcs scene.old.feeder scene.old.one (D.size scene.old.l2.dev) scene.old.l2.cursor }
     ensures { IsScene scene.new.arcs scene.new.feeder scene.new.one (D.size scene.new.l2.dev) scene.new.l2.cursor }
 {
@@ -138,18 +139,18 @@ pub(super) fn read<R: Wait, D: CacheDev>(rt: &R, scene: &mut Scene<D>, ptr: &Ptr
 }
 
 /// Reads the first so many blocks of this size. False where a read was refused.
-pub(super) fn read_all<R: Wait, D: CacheDev>(
+pub fn read_all<R: Wait, D: CacheDev>(
     rt: &R,
     alloc: Global,
-    scene: &mut Scene<D>,
+    scene: &mut FeedScene<D>,
     blocks: u64,
     size: u64,
-) -> Result<bool, Fail>
+) -> Result<bool, NoMemory>
     requires { IsScene scene.old.arcs scene.old.feeder scene.old.one (D.size scene.old.l2.dev) scene.old.l2.cursor }
     ensures { IfOk result (λ _. IsScene scene.new.arcs scene.new.feeder scene.new.one (D.size scene.new.l2.dev) scene.new.l2.cursor) }
 {
     for number in 0..blocks {
-        let block = ptr(alloc, number, size)?;
+        let block = zeros_of(alloc, number, size)?;
         if !read(rt, scene, &block, number) {
             return Ok(false);
         }
@@ -158,7 +159,7 @@ pub(super) fn read_all<R: Wait, D: CacheDev>(
 }
 
 /// Feeds the device once.
-pub(super) fn fed<R: Wait, D: CacheDev>(rt: &R, alloc: Global, scene: &mut Scene<D>) -> FeedReport
+pub fn fed<R: Wait, D: CacheDev>(rt: &R, alloc: Global, scene: &mut FeedScene<D>) -> FeedReport
     requires { IsScene scene.old.arcs scene.old.feeder scene.old.one (D.size scene.old.l2.dev) scene.old.l2.cursor }
     ensures { IsScene scene.new.arcs scene.new.feeder scene.new.one (D.size scene.new.l2.dev) scene.new.l2.cursor }
 {
@@ -166,18 +167,18 @@ pub(super) fn fed<R: Wait, D: CacheDev>(rt: &R, alloc: Global, scene: &mut Scene
 }
 
 /// Reads and feeds the first so many blocks of 512 bytes one by one. Answers how many feeds were done and gave one place.
-pub(super) fn fed_one_by_one<R: Wait, D: CacheDev>(
+pub fn fed_one_by_one<R: Wait, D: CacheDev>(
     rt: &R,
     alloc: Global,
-    scene: &mut Scene<D>,
+    scene: &mut FeedScene<D>,
     blocks: u64,
-) -> Result<u64, Fail>
+) -> Result<u64, NoMemory>
     requires { IsScene scene.old.arcs scene.old.feeder scene.old.one (D.size scene.old.l2.dev) scene.old.l2.cursor }
     ensures { IfOk result (λ _. IsScene scene.new.arcs scene.new.feeder scene.new.one (D.size scene.new.l2.dev) scene.new.l2.cursor) }
 {
     let mut given = 0u64;
     for number in 0..blocks {
-        let block = ptr(alloc, number, 512)?;
+        let block = zeros_of(alloc, number, 512)?;
         if !read(rt, scene, &block, number) {
             return Ok(given);
         }
@@ -189,8 +190,20 @@ pub(super) fn fed_one_by_one<R: Wait, D: CacheDev>(
     Ok(given)
 }
 
+/// The places that a start over the scene's device restores, in the order in which it finds them.
+pub fn restored<D: CacheDev>(alloc: Global, scene: FeedScene<D>) -> Result<Vec<u64>, NoMemory> {
+    let Started::Ready { restored, .. } = L2Dev::start(alloc, scene.l2.stop()) else {
+        return Err(NoMemory);
+    };
+    let mut places = Vec::new(alloc);
+    for found in &restored {
+        places.push(found.place)?;
+    }
+    Ok(places)
+}
+
 /// The places of what is live on the device, in the order in which it was written.
-pub(super) fn places<D: CacheDev>(alloc: Global, scene: &Scene<D>) -> Result<Vec<u64>, Fail> {
+pub fn places<D: CacheDev>(alloc: Global, scene: &FeedScene<D>) -> Result<Vec<u64>, NoMemory> {
     let mut places = Vec::new(alloc);
     for written in scene.l2.ring().live() {
         places.push(written.live.place)?;
@@ -199,16 +212,15 @@ pub(super) fn places<D: CacheDev>(alloc: Global, scene: &Scene<D>) -> Result<Vec
 }
 
 /// The cache's shards at its end.
-pub(super) fn closed<D: CacheDev>(alloc: Global, scene: Scene<D>) -> Result<Closed<Plain>, Fail>
+pub fn closed<D: CacheDev>(alloc: Global, scene: FeedScene<D>) -> Result<Closed<Plain>, NoMemory>
     requires { IsScene scene.arcs scene.feeder scene.one (D.size scene.l2.dev) scene.l2.cursor }
 {
-    let Scene {
+    let FeedScene {
         arcs,
         feeder,
         one,
         ..
     } = scene;
     let parties = vec![in alloc; one, feeder]?;
-    let closed = arcs.close(parties);
-    Ok(closed.ok().ok_or("memory")?)
+    arcs.close(parties)
 }

@@ -1,13 +1,13 @@
 use Rattle.std.proofs.Common.{ap, arith}
 use Rattle.arc_core.specs.declared.config.Config.{Config}
 use Rattle.l2_ring.specs.Ring.{RingState}
-use Rattle.feed_tests.proofs.scene.opened.Goals as goal
+use Rattle.feed_examples.proofs.scene.opened.Goals as goal
 
 pub returns : goal.returns
 returns g c =
     let start = c.in-Ready.ensures in
     record {
-      parties = c.in-Ok.ensures;
+      parties = c.in_ok-arcs.ensures;
       device = record {
         pending = start.opened.pending;
         whole = (let ends = start.opened.ends in let size = start.read.size in omega arith);

@@ -11,7 +11,7 @@ use Rattle.arc_table.specs.Geometry.{parties_of}
 use Rattle.arc_table.specs.Views.{newcomer}
 use Rattle.arc_examples.specs.Ready.{IsReady}
 use Rattle.l2_feed.specs.Ready.{IsFeederReady}
-use Rattle.feed_tests.specs.Scenes.{AreParties}
+use Rattle.feed_examples.specs.Scenes.{AreParties}
 
 -- the last two of a list of two
 last_two : {A : Type 0} → (xs rest : List A) (x y a b : A) → xs ++ x ∷ [] ≡ a ∷ b ∷ [] → xs ≡ rest ++ y ∷ [] → (x ≡ b) × (y ≡ a)
