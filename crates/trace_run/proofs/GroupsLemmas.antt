@@ -280,6 +280,7 @@ module _ {C : Type 0} (cache : Cache) (whole : List (Place (Known C))) (crew : C
       number = feeder-new.number;
       alone = feeder-new.joined;
       stands = feeder-new.new.stands;
+      knows = refl;
       fed = λ shard below. none-own shard;
       since = λ shard. starts_whole (seen_of cache.config shard crew.feeder);
     };
@@ -376,8 +377,8 @@ module _ {C P : Type 0} (cache : Cache) (pools : Ghosts P) (len : ℕ) (image : 
         let below = in-front k op at none in
         let given = before.capped k op (sym (get-left os qs k below) ∙ at) none in
         (given.0, given.1, get-left rs ss k (omega (arith, below, before.long)) ∙ given.2);
-    feeder = subst (λ (p : Place (Known C)). IsFed cache (λ shard. events_of_feeds cache.config.callers (os ++ qs) (rs ++ ss)) (λ shard. seen_of cache.config shard p) p) (sym did.feeder)
-        (subst (λ (es : List Event). IsFed cache (λ shard. es) (λ shard. seen_of cache.config shard old.feeder) old.feeder) (sym feeds-are) before.feeder);
+    feeder = subst (λ (p : Place (Known C)). IsFed cache p.own.about.openings (λ shard. events_of_feeds cache.config.callers (os ++ qs) (rs ++ ss)) (λ shard. seen_of cache.config shard p) p) (sym did.feeder)
+        (subst (λ (es : List Event). IsFed cache old.feeder.own.about.openings (λ shard. es) (λ shard. seen_of cache.config shard old.feeder) old.feeder) (sym feeds-are) before.feeder);
     cut = λ shard below. subst (λ (p : Place (Known C)). AreCut cache.config blocks shard (os ++ qs) (rs ++ ss) (seen_of cache.config shard p)) (sym did.feeder)
         (λ k c at inside. cut-before cache.config blocks shard os qs rs ss (seen_of cache.config shard old.feeder) before.long (before.cut shard below) k c at (in-front k (ops.Cap c) at refl));
   }
@@ -515,6 +516,7 @@ module _ {C : Type 0} (cache : Cache) (len : ℕ) (image : Option (List ℕ)) (b
       number = resized.number ∙ feeder-number;
       alone = resized.alone;
       stands = resized.stands;
+      knows = refl;
       fed = λ shard below.
           ap (λ (n : ℕ). own_events n (seen_of g shard new.feeder)) (resized.number ∙ feeder-number)
           ∙ (ap (own_events g.callers) (seen-is shard below)

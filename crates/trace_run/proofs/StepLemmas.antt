@@ -8,6 +8,7 @@ use Rattle.std.proofs.lemmas.Option.{get_or_from_slice_get, slice_get_within}
 use Rattle.std.proofs.Math.Seq.{take-add, take-suc}
 use Rattle.blk_ptr.specs.declared.ptr.Ptr.{Ptr}
 use Rattle.turn_table.specs.Places.{Place}
+use Rattle.arc_table.specs.declared.about.About.{About}
 use Rattle.arc_table.specs.declared.view.Known.{Known}
 use Rattle.arc_table.specs.Cache.{Cache}
 use Rattle.arc_table.specs.Geometry.{parties_of}
@@ -30,6 +31,7 @@ use Rattle.trace_run.specs.Group.{HaveWorked, LeavesPool}
 use Rattle.trace_run.specs.Groups.{AreBetween, AreDone, AreOfCallers, DidEndLine, DidLinesAtOnce, HaveCome, HaveCounted, StepsOn}
 use Rattle.trace_run.specs.InOrder.{AreInOrder}
 use Rattle.trace_run.specs.Lines.{caller_of, is_of_caller}
+use Rattle.trace_run.specs.Openings.{Knows, openings_of}
 use Rattle.trace_run.specs.Tally.{AreDeclared}
 use Rattle.trace_run.specs.Together.{BeginsGroup, Lines, WorkAtOnce, WorkInGroups, ends_group, groups_of, over_callers, replies_of_caller}
 use Rattle.trace_run.proofs.AbsorbLemmas.{over-few}
@@ -171,11 +173,12 @@ in-groups-more pools callers (g ∷ gs) last a b c done once = (done.0, done.1, 
 
 -- ---- between two groups
 
-pub between-none : {C P : Type 0} (cache : Cache) (pools : Ghosts P) (trace : Trace) (pool : P) (crew : Crew C) → HaveCome cache (pools.size pool) (pools.told pool) trace.blocks [] [] crew → AreBetween cache pools trace pool pool [] crew
-between-none cache pools trace pool crew come = record {
+pub between-none : {C P : Type 0} (cache : Cache) (pools : Ghosts P) (trace : Trace) (pool : P) (crew : Crew C) → HaveCome cache (pools.size pool) (pools.told pool) trace.blocks [] [] crew → Knows (openings_of trace) crew.feeder → AreBetween cache pools trace pool pool [] crew
+between-none cache pools trace pool crew come knows = record {
   few = omega arith;
   begins = λ more. tt;
   come = come;
+  knows = knows;
   counted = record {
     keeps = leaves-same pools pool;
     reads = λ room. let none = over-zero cache.config.callers (asked [] []) (λ n below. refl) in omega (arith, none);
@@ -234,6 +237,7 @@ module _ {C P : Type 0} (cache : Cache) (pools : Ghosts P) (trace : Trace) (star
     few = omega (arith, both-long, all);
     begins = λ less. absurd (omega (arith, both-long, all, less));
     come = subst (λ (l : List Op). HaveCome cache (pools.size start) (pools.told start) trace.blocks l (rs ++ ss) new) (sym taken) come-lines;
+    knows = ap (λ (p : Place (Known C)). p.own.about.openings) did.feeder ∙ between.knows;
     counted = subst (λ (l : List Op). HaveCounted pools callers l (rs ++ ss) start to) (sym taken) counted-lines;
     groups = subst (λ (gs : List Lines). WorkInGroups pools callers gs start to)
         (sym (ap (λ (l : List Op). groups_of l (rs ++ ss)) taken
@@ -279,6 +283,7 @@ module _ {C P : Type 0} (cache : Cache) (pools : Ghosts P) (trace : Trace) (star
       few = omega (arith, all-long, room);
       begins = λ less. subst (BeginsGroup trace.ops) (sym all-long) (op, at, ends);
       come = subst (λ (l : List Op). HaveCome cache (pools.size start) (pools.told start) trace.blocks l all-replies last) (sym all-taken) come-ended-lines;
+      knows = ap (λ (a : About). a.openings) ended.resized.about ∙ (ap (λ (p : Place (Known C)). p.own.about.openings) did.feeder ∙ between.knows);
       counted = subst (λ (l : List Op). HaveCounted pools callers l all-replies start to) (sym all-taken) counted-end;
       groups = subst (λ (gs : List Lines). WorkInGroups pools callers gs start to)
           (sym (ap (λ (l : List Op). groups_of l all-replies) all-taken

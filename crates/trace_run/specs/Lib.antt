@@ -5,6 +5,7 @@ pub mod Answering
 pub mod Answers
 pub mod CallerLines
 pub mod Callers
+pub mod CellEnds
 pub mod CheckText
 pub mod Effects
 pub mod Ends
@@ -16,8 +17,8 @@ pub mod InOrder
 pub mod KeptBlocks
 pub mod KeptQueue
 pub mod KeptReads
-pub mod Meeting
 pub mod Lines
+pub mod Meeting
 pub mod OneCaller
 pub mod Opened
 pub mod Openings

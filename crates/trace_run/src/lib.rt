@@ -2,6 +2,7 @@
 #![tactic(auto)]
 
 mod alone;
+mod cells;
 mod check;
 mod ending;
 mod get;
