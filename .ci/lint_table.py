@@ -122,7 +122,11 @@ TRACES = [
     ('a byte too many behind another fault', 'x\n' * (LONGEST // 2) + 'y', (LONGEST // 2 + 1, 'Length', 'y')),
 ]
 # traces with lines that arc_tool doesn't do yet, so it isn't asked
+HERE = os.path.dirname(os.path.abspath(__file__))
+PAGE = open(f'{HERE}/../docs/FORMATS.md').read()
 AHEAD = [
+    ('the line of every kind on the page of formats', PAGE.split('A line of every kind:\n\n    ')[1].split('\n\n')[0].replace('\n    ', '\n'),
+     'ok callers 1 shards 1 buckets 16 cells 1 c 4096 mintime 0 dbufs 4096 write_max 1048576 headroom 2 blocks 1 objects 1 operations 11'),
     ('objects and blocks in any order', f'{HEAD}object 7 0 0\nblock 512 512 1 {Z}\nobject 7 1 1\nobject 8 0 0\n', f'ok {SIZES} blocks 2 objects 3 operations 0'),
     ('all mappings', HEAD + ''.join(f'object 7 {block} 0\n' for block in range(100_000)), f'ok {SIZES} blocks 1 objects 100000 operations 0'),
     ('operations on objects', f'{HEAD}object 7 0 0\nget 0 1 7 0 0 64\nput 0 2 7 0 512 ff\npatch 0 3 7 0 1 0a0b\npin 0 4 7 0\nunpin 0 7 0\nfeed\ntxg 5\ncap 8192\n',

@@ -21,8 +21,17 @@ ZEROS = '076a27c79e5ace2a3d47f9dd2e83e4ff6ea8872b3c2218f66c92b89b55f36560'  # of
 LETTERS = '471be6558b665e4f6dd49f1184814d1491b0315d466beea768c153cc5500c836'  # of 512 bytes 0x61
 ARC = 'arc 1 1 16 1 4096 0 0\n'
 USAGE = 'arc_tool: usage: arc_tool POOL CACHE WORD..., where a file name may be -; arc_tool --help says more'
-NO_POOL = "arc_tool: the pool's file can't be had"
-NO_CACHE = "arc_tool: the cache device's file can't be had"
+MISSING, FOLDER = 'there is none of this name', 'it is a directory'
+
+
+def no_pool(name, why=MISSING):
+    return f"arc_tool: the pool's file {name}: {why}"
+
+
+def no_cache(name, why=MISSING):
+    return f"arc_tool: the cache device's file {name}: {why}"
+
+
 EMPTY = [
     'arc 1',
     'shard 0 c 4096 p 2048 anon 0 mru 0 mrug 0 mfu 0 mfug 0 l2 0',
@@ -106,7 +115,7 @@ Usage: arc_tool POOL CACHE WORD...
 
 Arguments:
   <POOL>   The file or block device that blocks are read from, or - for an empty pool
-  <CACHE>  The file of the cache device, or - for none; today only -
+  <CACHE>  The file or block device of the cache device, or - for none
 
 Options:
   -h, --help     Print help
@@ -139,7 +148,7 @@ Exit status:
   9   The file names are missing, or a word is not UTF-8
   10  An event of the log may not come where it stands
   11  The pool's file could not be opened, or is longer than 2^40 bytes
-  12  There is no cache device yet: CACHE is not -
+  12  The cache device's file could not be opened, or is longer than 2^32 bytes
 '''.splitlines()
 MISS = f'{ARC}e 0 0 miss 0 0 512 1 1\n'
 LOG = f'{MISS}e 0 1 arrive 0 0 512 1 {ZEROS} pool\ne 0 2 drop 0 0 512 1\n'
@@ -190,7 +199,7 @@ ROWS = [
      ['arc_tool: status 5'], 'cut'),
     ('too little memory for a log', ['-', '-', 'check'], 'long', 7, [], ['arc_tool: status 7'], 'poor'),
     ('a word behind check', ['-', '-', 'check', 'x'], LOG, 2, [], ['arc_tool: word 1']),
-    ('a missing pool of a log', ['nothing', '-', 'check'], LOG, 11, [], [NO_POOL]),
+    ('a missing pool of a log', ['nothing', '-', 'check'], LOG, 11, [], [no_pool('nothing')]),
     ('no word', ['pool', '-'], READS, 2, [], ['arc_tool: word 0']),
     ('a wrong word', ['pool', '-', 'run', '--event'], READS, 2, [], ['arc_tool: word 1']),
     ('a word too many', ['pool', '-', 'run', '--events', 'x'], READS, 2, [], ['arc_tool: word 2']),
@@ -210,18 +219,25 @@ ROWS = [
     ('an unknown option', ['--halp', '-', 'run'], READS, 9, [], [USAGE]),
     ('an unknown letter', ['-x', '-', 'run'], READS, 9, [], [USAGE]),
     ('no pool and no second name', ['-'], READS, 9, [], [USAGE]),
-    ('a missing pool', ['nothing', '-', 'run'], READS, 11, [], [NO_POOL]),
-    ('a folder for a pool', ['folder', '-', 'run'], READS, 11, [], [NO_POOL]),
-    ('a missing pool of a made trace', ['nothing', '-', 'gen', '1', '8', '10'], '', 11, [], [NO_POOL]),
-    ('an empty name for the pool', ['', '-', 'run'], READS, 11, [], [NO_POOL]),
-    ('a longer pool than there may be', ['longer', '-', 'run'], FAR, 11, [], [NO_POOL]),
-    ('a missing device', ['pool', 'nothing', 'run'], READS, 12, [], [NO_CACHE]),
-    ('a folder for a device', ['pool', 'folder', 'run'], READS, 12, [], [NO_CACHE]),
-    ('a pool in the place of the device', ['-', 'pool', 'run'], READS, 12, [], [NO_CACHE]),
-    ('an empty name for the device', ['pool', '', 'run'], READS, 12, [], [NO_CACHE]),
-    ('a device that ends as none', ['pool', 'x-', 'run'], READS, 12, [], [NO_CACHE]),
-    ('a device with a space', ['-', 'a b', 'run'], READS, 12, [], [NO_CACHE]),
-    ('no pool and no device', ['nothing', 'nothing', 'run'], READS, 11, [], [NO_POOL]),
+    ('a missing pool', ['nothing', '-', 'run'], READS, 11, [], [no_pool('nothing')]),
+    ('a folder for a pool', ['folder', '-', 'run'], READS, 11, [], [no_pool('folder', FOLDER)]),
+    ('a missing pool of a made trace', ['nothing', '-', 'gen', '1', '8', '10'], '', 11, [], [no_pool('nothing')]),
+    ('an empty name for the pool', ['', '-', 'run'], READS, 11, [], [no_pool('')]),
+    ('a longer pool than there may be', ['longer', '-', 'run'], FAR, 11, [], [no_pool('longer', f'it is longer than {2 ** 40} bytes')]),
+    ('a missing device', ['pool', 'nothing', 'run'], READS, 12, [], [no_cache('nothing')]),
+    ('a folder for a device', ['pool', 'folder', 'run'], READS, 12, [], [no_cache('folder', FOLDER)]),
+    ('one file for both', ['pool', 'pool', 'run'], READS, 1, ['arc 1', *REPLIES, *SUMS[:2], 'rebuilt 0 short', *SUMS[2:]], []),
+    ('a file that is no device yet', ['pool', 'zeros', 'run'], READS, 1, ['arc 1', *REPLIES, *SUMS[:2], 'rebuilt 0 short', *SUMS[2:]], []),
+    ('the longest device', ['pool', 'deep', 'run'], READS, 1, ['arc 1', *REPLIES, *SUMS[:2], 'rebuilt 0 header magic', *SUMS[2:]], []),
+    ('a longer device than there may be', ['pool', 'deeper', 'run'], READS, 12, [], [no_cache('deeper', f'it is longer than {2 ** 32} bytes')]),
+    ('a device and a bad trace', ['pool', 'zeros', 'run'], 'arc 1 1 16 1 4095 0 0\n', 3, [], ['arc_tool: status 3']),
+    ('a device and a wrong word', ['pool', 'zeros', 'walk'], READS, 2, [], ['arc_tool: word 0']),
+    ('a made trace leaves the device alone', ['-', 'zeros', 'gen', '1', '8', '10'], '', 0, MADE, []),
+    ('a missing device of a made trace', ['-', 'nothing', 'gen', '1', '8', '10'], '', 12, [], [no_cache('nothing')]),
+    ('an empty name for the device', ['pool', '', 'run'], READS, 12, [], [no_cache('')]),
+    ('a device that ends as none', ['pool', 'x-', 'run'], READS, 1, ['arc 1', *REPLIES, *SUMS[:2], 'rebuilt 0 short', *SUMS[2:]], []),
+    ('a device with a space', ['-', 'a b', 'run'], READS, 12, [], [no_cache('a b')]),
+    ('no pool and no device', ['nothing', 'nothing', 'run'], READS, 11, [], [no_pool('nothing')]),
     ('the version', ['--version'], '', 0, ['arc_tool 0.1.0'], []),
     ('the help', ['--help'], '', 0, HELP, []),
     ('the help before a command', ['--help', 'run'], READS, 0, HELP, []),
@@ -247,6 +263,9 @@ def put_files(program):
     for name, content in contents.items():
         with open(name, 'wb') as out:
             out.write(content)
+    for name, length in ('deep', 2 ** 32), ('deeper', 2 ** 32 + 1):
+        with open(name, 'wb') as out:
+            out.truncate(length)
     for name, length in ('longest', 2 ** 40), ('longer', 2 ** 40 + 1):
         with open(name, 'wb') as out:
             out.truncate(length)

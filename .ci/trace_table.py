@@ -7,6 +7,7 @@ pipe, a few bytes at a time. Behind the rows: a larger load of four callers, a p
 pages beside a plain form of the policy; and the events of each trace that has a report are judged by `check`. It prints each row that is wrong, and how many were right.
 """
 import collections
+import hashlib
 import itertools
 import os
 import shutil
@@ -25,7 +26,45 @@ DIGESTS = {
     'F': 'f' * 64,  # of no bytes that are known
 }
 COUNTING = bytes(range(256)) * 2
-Row = collections.namedtuple('Row', 'shows words pool source status reports')
+Row = collections.namedtuple('Row', 'shows words pool source status reports device', defaults=(None,))
+
+# ---- a cache device, spelled by the tables of docs/DEVICE.md
+RING_END = 266240
+
+
+def number(n):
+    return n.to_bytes(8, 'little')
+
+
+def pointer(place, block):
+    """The pointer to a log block of one entry that stands at this place; none is zero bytes."""
+    return number(place) + number(65536) + number(1) + bytes(8) + hashlib.sha256(block).digest() if block else bytes(64)
+
+
+def fed(bodies):
+    """A device to which these blocks were written one by one: block i stands at the place 512 * i of the pool, born in group 1."""
+    image = bytearray(RING_END)
+    hand, logs = 4096, [(0, b''), (0, b'')]
+    for i, body in enumerate(bodies):
+        entry = number(512 * i) + number(len(body)) + number(1) + number(hand) + hashlib.sha256(body).digest() + bytes(32)
+        head = bytes.fromhex('44484b4c42474f4c') + number(1) + number(1) + number(2) + bytes(32) + pointer(*logs[-2])
+        block = (head + entry).ljust(65536, b'\0')
+        image[hand:hand + len(body)] = body
+        place = hand + len(body)
+        image[place:place + 65536] = block
+        logs.append((place, block))
+        hand = place + 65536
+    header = bytes.fromhex('454843414353465a') + b''.join(map(number, (2, 4096, RING_END, hand, hand, 4096, 1, 681))) + bytes(56)
+    header = (header + pointer(*logs[-1]) + pointer(*logs[-2])).ljust(480, b'\0')
+    image[:512] = header + hashlib.sha256(header).digest()
+    return image
+
+
+def changed(image, at, body):
+    """The device with other bytes at a place."""
+    return image[:at] + body + image[at + len(body):]
+
+
 
 TRACES = [
     Row('one block is read', ['run', '--events'], 512, '''\
@@ -650,6 +689,63 @@ end 0
 ''']),
 ]
 
+# what the start of a device finds, and where the shards begin with it
+ONE_READ = '''\
+arc 1 1 16 1 4096 0 4096
+block 0 512 1 Z
+read 0 1 0 0 4
+'''
+THREE_FED = fed([bytes(512)] * 3)
+
+
+def one_read(words):
+    return f'''\
+arc 1
+0 ok pool Z 00000000
+shard 0 c 4096 p 2048 anon 0 mru 512 mrug 0 mfu 0 mfug 0 l2 0
+count hit 0 miss 1 past 0 pool 1 l2 0 pass 0 set 0
+rebuilt {words}
+end 0
+'''
+
+
+DEVICES = [
+    Row('a device of zero bytes', ['run'], 512, ONE_READ, 0, [one_read('0 header magic')], bytes(RING_END)),
+    Row('a device that is too short', ['run'], 512, ONE_READ, 0, [one_read('0 short')], bytes(512)),
+    Row('a device one byte too short', ['run'], 512, ONE_READ, 0, [one_read('0 short')], bytes(RING_END - 1)),
+    Row('a device without a byte', ['run'], 512, ONE_READ, 0, [one_read('0 short')], b''),
+    Row('a log block of other bytes', ['run'], 512, ONE_READ, 0, [one_read('0 block digest')], changed(fed([bytes(512)]), 4608, bytes(512))),
+    Row('a header of another length', ['run'], 512, ONE_READ, 0, [one_read('0 header field')], bytes(fed([bytes(512)])) + bytes(512)),
+    Row('a header of one byte more', ['run'], 512, ONE_READ, 0, [one_read('0 header digest')], changed(fed([bytes(512)]), 100, b'\1')),
+    Row('three keys that were found', ['run', '--events'], 512, ONE_READ, 0, ['''\
+arc 1
+0 ok pool Z 00000000
+e 0 0 restore 1 1024 512 1 136192 Z
+e 0 1 restore 1 512 512 1 70144 Z
+e 0 2 restore 1 0 512 1 4096 Z
+e 0 3 miss 0 0 512 1 1
+e 0 4 arrive 0 0 512 1 Z pool
+e 0 5 drop 0 0 512 1
+shard 0 c 4096 p 2048 anon 0 mru 0 mrug 0 mfu 512 mfug 0 l2 1024
+count hit 0 miss 1 past 0 pool 1 l2 0 pass 0 set 0
+rebuilt 3 zero
+end 0
+'''], THREE_FED),
+    Row('a device and no line', ['run', '--events'], 0, '''\
+arc 2 1 16 1 4096 0 4096
+l2 8388608 2
+''', 0, ['''\
+arc 1
+e 0 0 restore 2 1024 512 1 136192 Z
+e 0 1 restore 2 512 512 1 70144 Z
+e 0 2 restore 2 0 512 1 4096 Z
+shard 0 c 4096 p 2048 anon 0 mru 0 mrug 0 mfu 0 mfug 0 l2 1536
+count hit 0 miss 0 past 0 pool 0 l2 0 pass 0 set 0
+rebuilt 3 zero
+end 0
+'''], THREE_FED),
+]
+
 LISTS = [
     Row('five pages, with a comment and an empty line', ['paper', '2'], 0, '# five\n1\n2\n\n1\n3\n2\n', 0, ['''\
 0 miss
@@ -883,6 +979,21 @@ check ok 7
 shard 0 c 4096 p 2048 anon 0 mru 512 mrug 0 mfu 0 mfug 0 l2 0
 end 0
 ''']),
+    Row('a dbuf takes a hold beside another one, and its block is written', ['check'], 0, '''\
+arc 1 1 16 1 4096 0 4096
+e 0 0 miss 0 0 512 1 1
+e 0 1 arrive 0 0 512 1 Z pool
+e 0 2 hit 0 0 512 1 2
+e 0 3 hand 0 0 512 1 2
+e 0 4 release 2 0 512 1 shared
+e 0 5 hit 0 0 512 1 4
+e 0 6 drop 0 0 512 1
+e 0 7 drop 0 0 512 1
+''', 0, ['''\
+check ok 8
+shard 0 c 4096 p 2048 anon 0 mru 0 mrug 0 mfu 512 mfug 0 l2 0
+end 0
+''']),
     Row('two dbufs, of which one at a time is kept', ['check'], 0, '''\
 arc 1 1 16 1 4096 0 4096
 e 0 0 miss 0 0 512 1 1
@@ -1095,8 +1206,11 @@ def run(program, row):
             pool.write(row.pool)
         else:
             pool.truncate(row.pool)
+    if row.device is not None:
+        with open('device', 'wb') as device:
+            device.write(row.device)
     source = spelled(row.source).encode()
-    with subprocess.Popen([program, 'pool', '-', *row.words], stdin=subprocess.PIPE, stdout=subprocess.PIPE, stderr=subprocess.DEVNULL) as ended:
+    with subprocess.Popen([program, 'pool', '-' if row.device is None else 'device', *row.words], stdin=subprocess.PIPE, stdout=subprocess.PIPE, stderr=subprocess.DEVNULL) as ended:
         try:
             for at in range(0, len(source), 7):
                 os.write(ended.stdin.fileno(), source[at:at + 7])
@@ -1104,6 +1218,10 @@ def run(program, row):
         except BrokenPipeError:
             pass  # its words were refused before it read
         told = ended.stdout.read().decode()
+    if row.device is not None:
+        with open('device', 'rb') as device:
+            if device.read() != row.device:
+                return ended.returncode, 'the device was changed'
     return ended.returncode, told
 
 
@@ -1230,10 +1348,10 @@ def main():
     program = os.path.abspath(sys.argv[1])
     with tempfile.TemporaryDirectory(prefix='arc_tool.') as work:
         os.chdir(work)
-        results = [is_right(program, row) for row in (*TRACES, *LISTS, *LOGS, *REFUSED, *policy_rows())]
+        results = [is_right(program, row) for row in (*TRACES, *DEVICES, *LISTS, *LOGS, *REFUSED, *policy_rows())]
         results += [is_load_right(program), is_locked_pool_read(program)]
         load = Row('a load of four callers', ['run'], 8 * 131072, LOAD, 0, [])
-        results += [is_log_right(program, row) for row in (*TRACES, load) if row.status in (0, 1, 6)]
+        results += [is_log_right(program, row) for row in (*TRACES, *DEVICES, load) if row.status in (0, 1, 6)]
         os.chdir('/')
     print(f'traces: {results.count(True)} rows right, {results.count(False)} wrong')
     sys.exit(not all(results))

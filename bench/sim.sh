@@ -3,7 +3,8 @@
 # prints the processor time and the peak memory of each, the least of five runs in turn, their ratios, and whether the two reports are the same,
 # byte for byte.
 # Five traces: 200,000 and 1,000,000 reads drawn over 4,096 and 16,384 blocks, as the word gen draws them; and one of 60 MB, with 100,000
-# blocks, 1,000,000 reads and comments. It needs rustc and python3, and builds the program if that was not done yet.
+# blocks, 1,000,000 reads and comments. How fast lines of every kind are read, without a run, is what texts.sh measures. It needs rustc and
+# python3, and builds the program if that was not done yet.
 set -eu
 here=$(cd "$(dirname "$0")" && pwd)
 tool=$here/../crates/arc_tool/out/arc_tool

@@ -75,7 +75,7 @@ def page(replay, given, arc):
     told = replay.report
     refused = told.status == 1
     return {
-        'name': os.path.basename(given.trace), 'callers': arc[0], 'shards': arc[1], 'capacity': sum(shard.c for shard in replay.shards), 'reads': count,
+        'name': os.path.basename(given.trace), 'callers': arc[0], 'shards': arc[1], 'capacity': sum(shard.c for shard in replay.shards), 'resized': len(set(replay.all.c)) > 1, 'reads': count,
         'counts': told.counts, 'evictions': sum(shard.evictions for shard in replay.shards), 'keys': len(told.keys), 'refused': refused,
         'bytes': sum(size for _, size, _ in told.keys), 'found': FOUND, 'timelines': [sampled(timeline, window) for timeline in [replay.all, *replay.each]] if count else [],
         'details': shown,

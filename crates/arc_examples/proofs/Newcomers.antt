@@ -16,6 +16,8 @@ some-new C cache is about same n (suc k) = (
     number = refl;
     joined = refl;
     picked = refl;
+    mine = refl;
+    look = λ i among. absurd among;
   },
   some-new C cache is about same (suc n) k,
 )

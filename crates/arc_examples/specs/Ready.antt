@@ -13,6 +13,7 @@ use Rattle.arc_table.specs.Cache.{Cache, IsPartyOf}
 use Rattle.arc_table.specs.Fronts.{front_of}
 use Rattle.arc_table.specs.Geometry.{shard_turn}
 use Rattle.arc_table.specs.Holding.{IsHeld}
+use Rattle.arc_table.specs.Looking.{HasNoLook}
 
 -- the party is one of this cache, and holds no turn
 pub record IsReady {C : Type 0} (cache : Cache) (p : Place (Known C)) : Type 0 where
@@ -56,12 +57,14 @@ module _ {C : Type 0} where
     pub seen : front_of (shard_turn cache.config k) p.own.seen ≡ map line.Event (before ++ Drop p.number k ∷ [])
 
 module _ {C : Type 0} where
-  -- the party of this number of a new cache: it has joined none, and has picked nothing
+  -- the party of this number of a new cache: it has joined none, has picked and made nothing, and has no look open
   pub record IsNew (cache : Cache) (n : ℕ) (p : Place (Known C)) : Type 0 where
     pub ready : IsReady cache p
     pub number : p.number ≡ n
     pub joined : p.joined ≡ []
     pub picked : p.own.ledger.picked ≡ []
+    pub mine : p.own.mine ≡ []
+    pub look : HasNoLook cache p
 
   -- the parties of a new cache, from this number on
   abbrev pub AreNew : Cache → (first : ℕ) → List (Place (Known C)) → Type 0

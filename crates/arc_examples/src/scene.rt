@@ -130,6 +130,7 @@ pub fn opened(alloc: Global, config: &Config, blocks: u64) -> Result<Scene, NoMe
     requires cells { config.now.cells ≡ 1 }
     ensures config { IfOk result (λ l. l.arcs.config ≡ config.now) }
     ensures feeder { IfOk result (λ l. IsReady l.arcs l.feeder.party × (l.feeder.party.number ≡ 4)) }
+    ensures new { IfOk result (λ l. IsNew l.arcs 4 l.feeder.party) }
     ensures first { IfOk result (λ l. IsReady l.arcs l.callers.0.party × (l.callers.0.party.number ≡ 0)) }
     ensures second { IfOk result (λ l. IsReady l.arcs l.callers.1.party × (l.callers.1.party.number ≡ 1)) }
     ensures third { IfOk result (λ l. IsReady l.arcs l.callers.2.party × (l.callers.2.party.number ≡ 2)) }

@@ -192,8 +192,9 @@ fn count_passes(shards: &[Shard]) -> u128
     count
 }
 
-// Whether each of them replays. That those of a closed cache do is proved of `Arcs::close`; here they are run once more, so there is no clause.
-fn all_replay(alloc: Global, config: &Config, shards: &[Shard]) -> bool
+/// Whether the history of each of these shards replays from its start. That those of a closed cache do is proved of `Arcs::close`; here they are run once
+/// more, so there is no clause.
+pub fn all_replay(alloc: Global, config: &Config, shards: &[Shard]) -> bool
     requires { IsConfig config.now }
 {
     for shard in shards {

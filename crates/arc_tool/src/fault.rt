@@ -1,25 +1,53 @@
 //! What the program tells on the standard error, behind its name.
+use std::fmt;
 use thiserror::Error;
 use trace_run::Status;
 
 /// Why the program didn't do what it was asked.
-#[derive(Clone, Copy, Debug, Error)]
+#[derive(Debug, Drop, Error)]
 pub(crate) enum Fault {
     /// There are fewer than two words, or one of the words is no text.
     #[error("usage: arc_tool POOL CACHE WORD..., where a file name may be -; arc_tool --help says more")]
     Names,
-    /// The pool's file can't be opened, is a directory, or is too long.
-    #[error("the pool's file can't be had")]
-    Pool,
-    /// There is no cache device that could be used.
-    #[error("the cache device's file can't be had")]
-    Cache,
+    /// The pool's file can't be had.
+    #[error("the pool's file {name}: {why}")]
+    Pool { name: String, why: Why },
+    /// The cache device's file can't be had.
+    #[error("the cache device's file {name}: {why}")]
+    Cache { name: String, why: Why },
     /// No command goes on with this word, counted from 0 behind the file names.
     #[error("word {0}")]
     Word(u32),
     /// The run ended with this status.
     #[error("status {0}")]
     Ended(u8),
+}
+
+/// Why a file can't be had.
+#[derive(Clone, Copy, Debug)]
+pub(crate) enum Why {
+    /// There is none of this name.
+    Missing,
+    /// The system gives no right to it.
+    NoRight,
+    /// It is a directory.
+    Directory,
+    /// It is longer than so many bytes.
+    Long(u64),
+    /// The system refuses it for another reason.
+    Refused,
+}
+
+impl fmt::Display for Why {
+    fn fmt<W: fmt::Write>(&self, f: &mut fmt::Formatter<W>) -> fmt::Result {
+        match self {
+            Why::Missing => write!(f, "there is none of this name"),
+            Why::NoRight => write!(f, "there is no right to it"),
+            Why::Directory => write!(f, "it is a directory"),
+            Why::Long(most) => write!(f, "it is longer than {most} bytes"),
+            Why::Refused => write!(f, "the system refuses it"),
+        }
+    }
 }
 
 impl Fault {
@@ -39,13 +67,13 @@ impl Fault {
     }
 
     /// The program's exit status.
-    pub(crate) fn code(self) -> u8 {
+    pub(crate) fn code(&self) -> u8 {
         match self {
             Fault::Word(_) => 2,
-            Fault::Ended(code) => code,
+            Fault::Ended(code) => *code,
             Fault::Names => 9,
-            Fault::Pool => 11,
-            Fault::Cache => 12,
+            Fault::Pool { .. } => 11,
+            Fault::Cache { .. } => 12,
         }
     }
 }

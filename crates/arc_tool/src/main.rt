@@ -4,15 +4,17 @@
 mod fault;
 mod names;
 
-use crate::fault::Fault;
+use crate::fault::{Fault, Why};
 use crate::names::{Names, names_of};
-use std::env;
-use std::fs::File;
-use std::io::{ErrorKind, Print};
+use std::fs::{File, OpenOptions};
+use std::io::{ErrorKind, Print, Seek, SeekFrom};
 use std::process::ExitCode;
 use std::rt::{Env, Files};
+use std::{env, fs};
 use trace_run::run;
-use vdev_io::{FilePool, FreeGate, NoCache, OpenFault, StdSink, StdSource};
+use vdev_io::{
+    FileCache, FilePool, FreeGate, LONGEST_CACHE, LONGEST_POOL, OpenFault, StdSink, StdSource,
+};
 
 /// The file name that stands for an empty pool, or for no cache device.
 const NO_FILE: &str = "-";
@@ -27,6 +29,7 @@ const NAMES: usize = 3;
 #[derive(Drop)]
 struct Job<'a, R: Files> {
     pool: FilePool<'a, R>,
+    cache: Option<FileCache<'a, R>>,
     words: Vec<String>,
 }
 
@@ -39,7 +42,15 @@ fn main(rt: HostRuntime) -> ExitCode {
     ];
     let ended = match prepare(&rt) {
         Ok(None) => return ExitCode::SUCCESS,
-        Ok(Some(Job { mut pool, words })) => {
+        Ok(
+            Some(
+                Job {
+                    mut pool,
+                    mut cache,
+                    words,
+                },
+            ),
+        ) => {
             let outcome = run(
                 rt.alloc(),
                 &rt,
@@ -47,7 +58,7 @@ fn main(rt: HostRuntime) -> ExitCode {
                 &mut StdSource::new(&rt),
                 &mut StdSink::new(&rt),
                 &mut pool,
-                &mut None::<NoCache>,
+                &mut cache,
                 &FreeGate,
             );
             match Fault::of(outcome.status) {
@@ -78,11 +89,10 @@ fn prepare<R: AllocGlobal + Env + Files + Print>(rt: &R) -> Result<Option<Job<'_
     match names_of(rt.alloc(), &words)? {
         Names::Files { pool, cache } => {
             let pool = open_pool(rt, pool)?;
-            if cache != NO_FILE {
-                return Err(Fault::Cache);
-            }
+            let cache = open_cache(rt, cache)?;
             Ok(Some(Job {
                 pool,
+                cache,
                 words: behind,
             }))
         }
@@ -93,13 +103,67 @@ fn prepare<R: AllocGlobal + Env + Files + Print>(rt: &R) -> Result<Option<Job<'_
     }
 }
 
+/// Opens the cache device that a word names, where it names one.
+fn open_cache<'a, R: AllocGlobal + Files>(
+    rt: &'a R,
+    name: &str,
+) -> Result<Option<FileCache<'a, R>>, Fault> {
+    if name == NO_FILE {
+        return Ok(None);
+    }
+    match FileCache::open(rt.alloc(), rt, name) {
+        Ok(cache) => Ok(Some(cache)),
+        Err(OpenFault::File) => {
+            let why = why_refused(rt, name, true, LONGEST_CACHE);
+            let name = named(rt, name)?;
+            Err(Fault::Cache { name, why })
+        }
+        Err(OpenFault::NoMemory) => Err(Fault::NO_MEMORY),
+    }
+}
+
+/// A name that is told.
+fn named<R: AllocGlobal>(rt: &R, name: &str) -> Result<String, Fault> {
+    String::from_str(rt.alloc(), name).map_err(|_| Fault::NO_MEMORY)
+}
+
+/// Why the file of this name can't be had, which is to be read, or written too, and may have so many bytes.
+fn why_refused<R: Files>(rt: &R, name: &str, writes: bool, longest: u64) -> Why {
+    match fs::metadata(rt, name) {
+        Err(error) => return why_of(error.kind()),
+        Ok(found) if found.is_dir() => return Why::Directory,
+        Ok(_) => {}
+    }
+    match OpenOptions::new().read(true).write(writes).open(rt, name) {
+        Err(error) => why_of(error.kind()),
+        Ok(mut file) => match file.seek(SeekFrom::End(0)) {
+            Ok(len) if len > longest => Why::Long(longest),
+            _ => Why::Refused,
+        },
+    }
+}
+
+/// What the system's reason comes to.
+fn why_of(kind: ErrorKind) -> Why {
+    match kind {
+        ErrorKind::NotFound => Why::Missing,
+        ErrorKind::PermissionDenied => Why::NoRight,
+        _ => Why::Refused,
+    }
+}
+
 /// Opens the pool that a word names.
 fn open_pool<'a, R: AllocGlobal + Files>(rt: &'a R, name: &str) -> Result<FilePool<'a, R>, Fault> {
     if name == NO_FILE {
         return Ok(FilePool::empty(rt));
     }
-    FilePool::open(rt.alloc(), rt, name).map_err(|fault| match fault {
-        OpenFault::File => Fault::Pool,
-        OpenFault::NoMemory => Fault::NO_MEMORY,
-    })
+    match FilePool::open(rt.alloc(), rt, name) {
+        Ok(pool) => Ok(pool),
+        Err(OpenFault::File) => {
+            let why = why_refused(rt, name, false, LONGEST_POOL);
+            let name = named(rt, name)?;
+            Err(Fault::Pool { name, why })
+        }
+        Err(OpenFault::NoMemory) => Err(Fault::NO_MEMORY),
+    }
 }

@@ -35,7 +35,7 @@ fn command<'a>(alloc: Global) -> Result<Command<'a>, AllocError> {
         "The file or block device that blocks are read from, or - for an empty pool",
     );
     let cache = Arg::new(alloc, "CACHE").required(true).help(
-        "The file of the cache device, or - for none; today only -",
+        "The file or block device of the cache device, or - for none",
     );
     Command::new(alloc, "arc_tool")
         .version("0.1.0")
@@ -77,4 +77,4 @@ Exit status:
   9   The file names are missing, or a word is not UTF-8
   10  An event of the log may not come where it stands
   11  The pool's file could not be opened, or is longer than 2^40 bytes
-  12  There is no cache device yet: CACHE is not -";
+  12  The cache device's file could not be opened, or is longer than 2^32 bytes";

@@ -334,6 +334,10 @@ claims-alike i old now r alike is = is ∙ ap mapping_numbers (alike r.number)
 
 module _ {P D : Type 0} (pools : PoolGhosts P) (devices : DeviceGhosts D) (cache : Cache) (i : ℕ) (at : Oid) (tick : ℕ) (before now : Outside P D) (cell : OnHeap) (p : PartyPlace) (result : OnHeap) (q : PartyPlace)
     (b : HasBrought pools devices cache i at tick before now cell p result q) (r : PartyPlace) (is : ClaimsAre i r.number result.value r) where
+  pub ended-number : {T : Type 0} (own : ℕ → CellEvent) (got : Result T DbufFault) → OnOk got (EndsWith cache i (own q.number) result.value q r) → OnErr got (Gives cache i result.value q r) → r.number ≡ p.number
+  ended-number own (Ok got) ok err = let e = ok b.back b.mid b.evicting b.loads b.hands b.settled b.hand in e.number ∙ b.number
+  ended-number own (Err e) ok err = let g = err b.back b.mid b.evicting b.loads b.hands b.settled b.hand in g.number ∙ b.number
+
   pub after-claims : r.number ≡ b.back.number → ((j : ℕ) → j ≢ i → list_at j r.own.ledger.claims ≡ list_at j b.back.own.ledger.claims) → KeepsClaims p r
   after-claims number elsewhere =
       claims-through i q.number r.number result.value.dbufs result.value.dbufs p r b.claimed is (number ∙ sym b.hand.party.number) (λ n. refl) (λ j far. elsewhere j far ∙ b.others j far)

@@ -241,6 +241,7 @@ module _ {P D : Type 0} (pools : PoolGhosts P) (devices : DeviceGhosts D) (cache
         fails = no_memory ptr read back e.mid e.free (reads (Ok read) a) e.given.turn e.unmarked e.drops e.is;
         party = e.party;
         held = e.held ∙ back-free (Ok read) a;
+        number = e.number ∙ back-number (Ok read) a;
         claims = lost-claims (Ok read) a r e.others e.elsewhere;
       }
 
@@ -250,6 +251,7 @@ module _ {P D : Type 0} (pools : PoolGhosts P) (devices : DeviceGhosts D) (cache
         fails = refused ptr cause back mid (reads (Err cause) a) given.turn unmarked is;
         party = given.party;
         held = given.held ∙ back-free (Err cause) a;
+        number = given.number ∙ back-number (Err cause) a;
         claims = lost-claims (Err cause) a r others given.others;
       }
 

@@ -83,6 +83,7 @@ module _ (cache : Cache) (i : ℕ) (at : Oid) (ptr : Ptr) (read : Read) (p : Par
             is = refl;
             party = stays_party cache s e stays unread-given.party;
             held = stays.held ∙ unread-given.held;
+            number = stays.number ∙ unread-given.number;
             others = λ ms listed. ap (list_at i) same-list ∙ loses-others i q.number s.number at mid.value.dbufs now.dbufs p s claimed claims given-number (unclaimed-mid now.dbufs lost) ms listed;
             elsewhere = λ j far. ap (list_at j) same-list ∙ unread-given.others j far;
           }

@@ -374,6 +374,10 @@ module _ {P D : Type 0} (pools : PoolGhosts P) (devices : DeviceGhosts D) (cache
     patch-party (Ok done) ok err = let x = patched-by ok in (x.party, x.held ∙ b.held)
     patch-party (Err e) ok err = no-room-party pools devices cache i at tick before now cell p result q b r err
 
+    pub patched-number : (done : Result (Unit {0}) DbufFault) → OnOk done (EndsPatch cache i at from bytes result.value q r) → OnErr done (Gives cache i result.value q r) → r.number ≡ p.number
+    patched-number (Ok done) ok err = let x = patched-by ok in x.number ∙ b.number
+    patched-number (Err e) ok err = let g = err b.back b.mid b.evicting b.loads b.hands b.settled b.hand in g.number ∙ b.number
+
     pub patched-claims : ClaimsAre i r.number result.value r → (done : Result (Unit {0}) DbufFault) → OnOk done (EndsPatch cache i at from bytes result.value q r) → OnErr done (Gives cache i result.value q r) → KeepsClaims p r
     patched-claims is (Ok done) ok err = let x = patched-by ok in after-claims pools devices cache i at tick before now cell p result q b r is x.number x.others
     patched-claims is (Err e) ok err = let g = err b.back b.mid b.evicting b.loads b.hands b.settled b.hand in after-claims pools devices cache i at tick before now cell p result q b r is g.number g.others

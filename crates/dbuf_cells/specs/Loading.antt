@@ -163,6 +163,7 @@ pub record EndsUnkept (cache : Cache) (i : ℕ) (at : Oid) (read : Read) (p : Pa
   pub is : why ≡ fault.NoMemory
   pub party : IsPartyOf cache q
   pub held : q.held ≡ p.held
+  pub number : q.number ≡ p.number
   pub others : KeepsOthers i at p q
   pub elsewhere : (j : ℕ) → j ≢ i → list_at j q.own.ledger.claims ≡ list_at j p.own.ledger.claims
 
@@ -197,6 +198,7 @@ module _ {P D : Type 0} (pools : PoolGhosts P) (devices : DeviceGhosts D) (cache
     pub fails : FailsToLoad pools devices cache.config i at t before now cell p q why
     pub party : IsPartyOf cache q
     pub held : q.held ≡ []
+    pub number : q.number ≡ p.number
     pub claims : KeepsClaims p q
 
   abbrev pub IsBrought : OnHeap → (p q : PartyPlace) → Result OnHeap DbufFault → Type 0

@@ -71,6 +71,7 @@ fn end_cell(
     ensures err { OnErr result (Untouched arcs.now.config i party.old party.new) }
     ensures party { IsPartyOf arcs.now party.new }
     ensures free { party.new.held ≡ [] }
+    ensures number { party.new.number ≡ party.old.number }
     ensures claims { KeepsClaims party.old party.new }
 {
     let mut cell = take(arcs, rt, party, i);
@@ -96,6 +97,7 @@ pub fn end_cells(arcs: &Cells, rt: &impl Wait, party: &mut Party<HeapCell>) -> R
     ensures answer { AnswersEnd arcs.now.config party.old party.new result }
     ensures party { IsPartyOf arcs.now party.new }
     ensures free { party.new.held ≡ [] }
+    ensures number { party.new.number ≡ party.old.number }
     ensures claims { KeepsClaims party.old party.new }
 {
     let count = arcs.config().cells;

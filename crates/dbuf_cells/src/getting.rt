@@ -163,6 +163,7 @@ pub fn get<P: Pool, D: CacheDev>(
     ensures answer { AnswersGet P.Pool D.CacheDev arcs.now.config at tick (outside pool.old cache.old) (outside pool.new cache.new) w party.old party.new result }
     ensures party { IsPartyOf arcs.now party.new }
     ensures free { party.new.held ≡ [] }
+    ensures number { party.new.number ≡ party.old.number }
     ensures claims { KeepsClaims party.old party.new }
     ensures pool { KeepsPool P.Pool pool.old pool.new }
     ensures cache { KeepsDevice D.CacheDev cache.old cache.new }
@@ -198,6 +199,7 @@ pub fn hold<P: Pool, D: CacheDev>(
     ensures answer { AnswersHold P.Pool D.CacheDev arcs.now.config at tick (outside pool.old cache.old) (outside pool.new cache.new) party.old party.new result }
     ensures party { IsPartyOf arcs.now party.new }
     ensures free { party.new.held ≡ [] }
+    ensures number { party.new.number ≡ party.old.number }
     ensures claims { KeepsClaims party.old party.new }
     ensures pool { KeepsPool P.Pool pool.old pool.new }
     ensures cache { KeepsDevice D.CacheDev cache.old cache.new }

@@ -150,6 +150,7 @@ pub fn patch<P: Pool, D: CacheDev>(
     ensures answer { AnswersPatch P.Pool D.CacheDev arcs.now.config at tick (outside pool.old cache.old) (outside pool.new cache.new) from bytes.now party.old party.new result }
     ensures party { IsPartyOf arcs.now party.new }
     ensures free { party.new.held ≡ [] }
+    ensures number { party.new.number ≡ party.old.number }
     ensures claims { KeepsClaims party.old party.new }
     ensures pool { KeepsPool P.Pool pool.old pool.new }
     ensures cache { KeepsDevice D.CacheDev cache.old cache.new }

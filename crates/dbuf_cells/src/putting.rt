@@ -134,6 +134,7 @@ fn put_filled(
     ensures answer { AnswersPut arcs.now.config at size fill party.old party.new result }
     ensures party { IsPartyOf arcs.now party.new }
     ensures free { party.new.held ≡ [] }
+    ensures number { party.new.number ≡ party.old.number }
     ensures claims { KeepsClaims party.old party.new }
 {
     let i = cell_of(arcs, at);
@@ -171,6 +172,7 @@ pub fn put(
     ensures answer { AnswersPut arcs.now.config at size fill party.old party.new result }
     ensures party { IsPartyOf arcs.now party.new }
     ensures free { party.new.held ≡ [] }
+    ensures number { party.new.number ≡ party.old.number }
     ensures claims { KeepsClaims party.old party.new }
 {
     let Ok(bytes) = filled(alloc, size, fill) else {

@@ -46,6 +46,7 @@ pub fn unhold(
     ensures answer { AnswersUnhold arcs.now.config at party.old party.new result }
     ensures party { IsPartyOf arcs.now party.new }
     ensures free { party.new.held ≡ [] }
+    ensures number { party.new.number ≡ party.old.number }
     ensures claims { KeepsClaims party.old party.new }
 {
     let i = cell_of(arcs, at);

@@ -6,3 +6,5 @@
 mod kept;
 #[cfg(test)]
 mod one_cell;
+#[cfg(test)]
+mod rows;

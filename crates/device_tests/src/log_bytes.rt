@@ -2,24 +2,12 @@
 ghost use Rattle.std.specs.Prelude.{◌≡◌, true};
 ghost use Rattle.l2_log.specs.Rules.{is_there};
 
+use super::bytes::{has_at, put};
 use blk_ptr::{Digest, Key, digest_of};
 use l2_log::*;
 use std::alloc::Global;
 use std::process::Abort;
 use std::test::Fail;
-
-const FIRST_BYTES: [u8; 64] = [
-    0x45, 0x48, 0x43, 0x41, 0x43, 0x53, 0x46, 0x5a, 2, 0, 0, 0, 0, 0, 0, 0, 0, 0x10, 0, 0, 0, 0, 0,
-    0, 0, 0x10, 4, 0, 0, 0, 0, 0, 0, 0x12, 1, 0, 0, 0, 0, 0, 0, 0x12, 1, 0, 0, 0, 0, 0, 0, 0x10, 0,
-    0, 0, 0, 0, 0, 1, 0, 0, 0, 0, 0, 0, 0,
-];
-
-fn has_at(bytes: &[u8], at: usize, expected: &[u8]) -> bool {
-    match bytes.get(at..) {
-        Some(rest) => rest.starts_with(expected),
-        None => false,
-    }
-}
 
 /// The header after the first feed of one block of 512 bytes to a device of 266,240.
 fn header_after_one_feed() -> DevHeader {
@@ -37,15 +25,6 @@ fn header_after_one_feed() -> DevHeader {
         }),
         second: None,
     }
-}
-
-#[test]
-fn the_first_bytes_of_a_header(rt: HostRuntime) {
-    let mut bytes = [9; 512];
-    let header = header_after_one_feed();
-    header.write(&mut bytes);
-    assert!(rt; has_at(&bytes, 0, &FIRST_BYTES));
-    assert!(rt; DevHeader::read(&bytes) == Ok(header));
 }
 
 /// What the bytes of that header are refused for once the lowest bit of the byte at `at` is turned, and the digest computed again
@@ -119,7 +98,7 @@ fn field_at_fault(at: usize) -> Option<LogFault> {
 
 fn seal(bytes: &mut [u8; 512]) {
     let digest = digest_of(&bytes[..480]);
-    put_at(bytes, 480, &digest.0);
+    put(bytes, 480, &digest.0);
 }
 
 #[test]
@@ -127,23 +106,6 @@ fn each_field_of_a_sealed_header_has_its_rule(rt: HostRuntime) {
     for at in 16..480 {
         assert!(rt; fault_of_a_change(at, true) == field_at_fault(at));
     }
-}
-
-#[test]
-fn bytes_that_are_no_log_block(rt: HostRuntime) -> Result<(), Fail> {
-    let zeros = vec![in rt.alloc(); 0u8; LOG_LEN]?;
-    let found = LogBlock::read(rt.alloc(), &zeros);
-    assert!(rt; matches!(found, Err(LogReadFault::Fault(LogFault::Magic))));
-    Ok(())
-}
-
-#[test]
-fn a_short_log_block(rt: HostRuntime) -> Result<(), Fail> {
-    let short = vec![in rt.alloc(); 0u8; LOG_LEN - 1]?;
-    let found = LogBlock::read(rt.alloc(), &short);
-    let fault = LogFault::Length { len: 65_535 };
-    assert!(rt; matches!(found, Err(LogReadFault::Fault(told)) if told == fault));
-    Ok(())
 }
 
 /// The entry of the third of three blocks of 512 bytes, with this digest.
@@ -218,15 +180,9 @@ const OLD_FRONT: [u8; 32] = [
     0, 0, 0, 0, 0, 0, 0, 0,
 ];
 
-fn put_at(bytes: &mut [u8], at: usize, part: &[u8]) {
-    for (byte, new) in bytes.iter_mut().skip(at).zip(part) {
-        *byte = *new;
-    }
-}
-
 /// What a log block of these bytes, spelled by hand, is refused for, once the byte at `at` is `value`.
 fn refusal(alloc: Global, bytes: &mut [u8], at: usize, value: u8) -> Option<LogFault> {
-    put_at(bytes, at, &[value]);
+    put(bytes, at, &[value]);
     match LogBlock::read(alloc, bytes) {
         Err(LogReadFault::Fault(fault)) => Some(fault),
         _ => None,
@@ -236,8 +192,8 @@ fn refusal(alloc: Global, bytes: &mut [u8], at: usize, value: u8) -> Option<LogF
 #[test]
 fn a_log_block_of_version_1(rt: HostRuntime) -> Result<(), Fail> {
     let mut bytes = vec![in rt.alloc(); 0u8; LOG_LEN]?;
-    put_at(&mut bytes, 0, &OLD_FRONT);
-    put_at(&mut bytes, 128, &THIRD_ENTRY);
+    put(&mut bytes, 0, &OLD_FRONT);
+    put(&mut bytes, 128, &THIRD_ENTRY);
     let read = LogBlock::read(rt.alloc(), &bytes)
         .ok()
         .ok_or("the bytes are a log block")?;
@@ -269,8 +225,8 @@ fn place_24_decides_what_an_entry_is(rt: HostRuntime) -> Result<(), Fail> {
     ];
     for (at, value, refused) in rows {
         let mut bytes = vec![in rt.alloc(); 0u8; LOG_LEN]?;
-        put_at(&mut bytes, 0, &OLD_FRONT);
-        put_at(&mut bytes, 128, &THIRD_ENTRY);
+        put(&mut bytes, 0, &OLD_FRONT);
+        put(&mut bytes, 128, &THIRD_ENTRY);
         let found = refusal(rt.alloc(), &mut bytes, at, value);
         assert!(rt; found == refused);
     }
@@ -280,39 +236,13 @@ fn place_24_decides_what_an_entry_is(rt: HostRuntime) -> Result<(), Fail> {
 #[test]
 fn a_large_block_needs_a_digest(rt: HostRuntime) -> Result<(), Fail> {
     let mut bytes = vec![in rt.alloc(); 0u8; LOG_LEN]?;
-    put_at(&mut bytes, 0, &OLD_FRONT);
-    put_at(&mut bytes, 24, &[2]);
-    put_at(&mut bytes, 128, &THIRD_ENTRY);
+    put(&mut bytes, 0, &OLD_FRONT);
+    put(&mut bytes, 24, &[2]);
+    put(&mut bytes, 128, &THIRD_ENTRY);
     // 16,777,216 bytes
-    put_at(&mut bytes, 137, &[0]);
+    put(&mut bytes, 137, &[0]);
     let with_digest = refusal(rt.alloc(), &mut bytes, 139, 1);
     let without = refusal(rt.alloc(), &mut bytes, 24, 0);
     assert!(rt; with_digest.is_none() && without == field(136));
     Ok(())
-}
-
-#[test]
-fn a_header_of_version_1(rt: HostRuntime) {
-    let newer = header_after_one_feed();
-    let header = DevHeader {
-        version: 1,
-        end: newer.end,
-        hand: newer.hand,
-        evict: newer.evict,
-        top: newer.top,
-        lap: newer.lap,
-        newest: newer.newest,
-        second: newer.second,
-    };
-    let mut bytes = [9; 512];
-    header.write(&mut bytes);
-    // 1,022
-    assert!(rt; has_at(&bytes, 8, &[1, 0]) && has_at(&bytes, 64, &[0xfe, 3, 0, 0, 0, 0, 0, 0]));
-    assert!(rt; DevHeader::read(&bytes) == Ok(header));
-    bytes[8] = 2;
-    seal(&mut bytes);
-    let second = DevHeader::read(&bytes).err();
-    bytes[8] = 3;
-    let third = DevHeader::read(&bytes).err();
-    assert!(rt; second == field(64) && third == Some(LogFault::Version));
 }

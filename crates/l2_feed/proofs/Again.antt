@@ -6,6 +6,7 @@ use Rattle.std.proofs.lemmas.List.Elements.{recursion_from_All}
 use Rattle.arc_lists.proofs.Tables.{cases_true}
 use Rattle.blk_ptr.specs.declared.key.Key.{Key}
 use Rattle.arc_core.specs.declared.config.Config.{Config}
+use Rattle.vdev_io.specs.Calls.{DeviceCall}
 use Rattle.turn_table.specs.Places.{Place}
 use Rattle.arc_table.specs.declared.view.Known.{Known}
 use Rattle.arc_table.specs.Items.{Meanings}
@@ -112,9 +113,9 @@ not_first act k x differs (inr none) = none
 -- ---- one shard
 
 module _ {C : Type 0} (m : Meanings C) (g : Config) where
-  module _ (shard : ℕ) (old new : CursorState) (acts : List Act) (end : FeedStop) where
+  module _ (shard : ℕ) (old new : CursorState) (acts : List Act) (calls : List DeviceCall) (end : FeedStop) where
     -- what is live afterwards was so before, or was picked
-    batch_new : FedBatch shard old new acts end → (k : Key) (x : ℕ) → IsLive k x new.ring.live → IsLive k x old.ring.live ⊎ WasPicked k acts
+    batch_new : FedBatch shard old new acts calls end → (k : Key) (x : ℕ) → IsLive k x new.ring.live → IsLive k x old.ring.live ⊎ WasPicked k acts
     batch_new f k x live = go f.written
       where
         go : IsWritten old new f.blocks f.clears f.settles end ⊎ IsUnwritten old new f.blocks f.clears f.settles end → IsLive k x old.ring.live ⊎ WasPicked k acts
@@ -124,13 +125,13 @@ module _ {C : Type 0} (m : Meanings C) (g : Config) where
             (λ (entry : IsLive k x w.ran.entries). inr (subst (WasPicked k) (sym f.acts_are) (inl (runs_key w.begun.ring.lap w.begun.ring.hand w.ran.count k x f.blocks w.ran.sets w.ran.entries w.ran.left w.ran.runs entry))))
             (live_either k x (filter (stays w.planned.plan) old.ring.live) w.ran.entries (subst (IsLive k x) (live_after w) live))
 
-    shard_new : FedShard shard old new acts end → (k : Key) (x : ℕ) → IsLive k x new.ring.live → IsLive k x old.ring.live ⊎ WasPicked k acts
+    shard_new : FedShard shard old new acts calls end → (k : Key) (x : ℕ) → IsLive k x new.ring.live → IsLive k x old.ring.live ⊎ WasPicked k acts
     shard_new (inl f) k x live = inl (subst (λ (c : CursorState). IsLive k x c.ring.live) f.1 live)
     shard_new (inr (inl f)) k x live = inl (subst (λ (c : CursorState). IsLive k x c.ring.live) f.1 live)
     shard_new (inr (inr f)) k x live = batch_new f k x live
 
     module _ (p q : Place (Known C)) (knows : Knows g p) (did : DoesActs m g acts p q) where
-      batch_lost : FedBatch shard old new acts end → (k : Key) (x : ℕ) → IsAmongActs (Cleared k x) acts → 0 < k.size → IsLive k x new.ring.live → ⊥
+      batch_lost : FedBatch shard old new acts calls end → (k : Key) (x : ℕ) → IsAmongActs (Cleared k x) acts → 0 < k.size → IsLive k x new.ring.live → ⊥
       batch_lost f k x among some live = go f.written (subst (IsAmongActs (Cleared k x)) f.acts_are among)
         where
           again : DoesActs m g (Picked shard f.blocks ∷ (f.clears ++ f.settles)) p q
@@ -162,28 +163,28 @@ module _ {C : Type 0} (m : Meanings C) (g : Config) where
               (λ (settle : IsAmongActs (Cleared k x) f.settles). none_left k x u settle)
               (in_either (Cleared k x) f.clears f.settles more)
 
-      shard_lost : FedShard shard old new acts end → (k : Key) (x : ℕ) → IsAmongActs (Cleared k x) acts → 0 < k.size → IsLive k x new.ring.live → ⊥
+      shard_lost : FedShard shard old new acts calls end → (k : Key) (x : ℕ) → IsAmongActs (Cleared k x) acts → 0 < k.size → IsLive k x new.ring.live → ⊥
       shard_lost (inl f) k x among some live = not_first (Picked shard []) k x (λ is. cc) (subst (IsAmongActs (Cleared k x)) f.0 among)
       shard_lost (inr (inl f)) k x among some live = not_first (Unpicked shard) k x (λ is. cc) (subst (IsAmongActs (Cleared k x)) f.0 among)
       shard_lost (inr (inr f)) k x among some live = batch_lost f k x among some live
 
   -- ---- all shards
 
-  fed_new : (shard count : ℕ) (old new : CursorState) (acts : List Act) (end : FeedStop) → AreFed shard count old new acts end → (k : Key) (x : ℕ) → IsLive k x new.ring.live → IsLive k x old.ring.live ⊎ WasPicked k acts
-  fed_new shard zero old new acts end fed k x live = inl (subst (λ (c : CursorState). IsLive k x c.ring.live) fed.1 live)
-  fed_new shard (suc n) old new acts end (inl ends) k x live = shard_new shard old new acts end ends.1 k x live
-  fed_new shard (suc n) old new acts end (inr (first, more, between, is, one, rest)) k x live =
+  fed_new : (shard count : ℕ) (old new : CursorState) (acts : List Act) (calls : List DeviceCall) (end : FeedStop) → AreFed shard count old new acts calls end → (k : Key) (x : ℕ) → IsLive k x new.ring.live → IsLive k x old.ring.live ⊎ WasPicked k acts
+  fed_new shard zero old new acts calls end fed k x live = inl (subst (λ (c : CursorState). IsLive k x c.ring.live) fed.1 live)
+  fed_new shard (suc n) old new acts calls end (inl ends) k x live = shard_new shard old new acts calls end ends.1 k x live
+  fed_new shard (suc n) old new acts calls end (inr (first, more, between, front, behind, is, asked, one, rest)) k x live =
       subst (λ (l : List Act). IsLive k x old.ring.live ⊎ WasPicked k l) (sym is) (⊎_elim
-      (λ (was : IsLive k x between.ring.live). ⊎_elim (λ (had : IsLive k x old.ring.live). inl had) (λ (picked : WasPicked k first). inr (picked_left k first more picked)) (shard_new shard old between first stop.Done one k x was))
+      (λ (was : IsLive k x between.ring.live). ⊎_elim (λ (had : IsLive k x old.ring.live). inl had) (λ (picked : WasPicked k first). inr (picked_left k first more picked)) (shard_new shard old between first front stop.Done one k x was))
       (λ (picked : WasPicked k more). inr (picked_right k first more picked))
-      (fed_new (suc shard) n between new more end rest k x live))
+      (fed_new (suc shard) n between new more behind end rest k x live))
 
-  pub fed_again : (shard count : ℕ) (old new : CursorState) (acts : List Act) (end : FeedStop) (p q : Place (Known C)) → Knows g p → DoesActs m g acts p q → AreFed shard count old new acts end → GivesAgain acts new.ring.live
-  fed_again shard zero old new acts end p q knows did fed = subst (λ (l : List Act). GivesAgain l new.ring.live) (sym fed.0) tt
-  fed_again shard (suc n) old new acts end p q knows did (inl ends) = never_again acts new.ring.live (shard_lost shard old new acts end p q knows did ends.1)
-  fed_again shard (suc n) old new acts end p q knows did (inr (first, more, between, is, one, rest)) =
+  pub fed_again : (shard count : ℕ) (old new : CursorState) (acts : List Act) (calls : List DeviceCall) (end : FeedStop) (p q : Place (Known C)) → Knows g p → DoesActs m g acts p q → AreFed shard count old new acts calls end → GivesAgain acts new.ring.live
+  fed_again shard zero old new acts calls end p q knows did fed = subst (λ (l : List Act). GivesAgain l new.ring.live) (sym fed.0) tt
+  fed_again shard (suc n) old new acts calls end p q knows did (inl ends) = never_again acts new.ring.live (shard_lost shard old new acts calls end p q knows did ends.1)
+  fed_again shard (suc n) old new acts calls end p q knows did (inr (first, more, between, front, behind, is, asked, one, rest)) =
       let s = acts_split m g first more p q (subst (λ (l : List Act). DoesActs m g l p q) is did) in
       let then : Knows g s.0 = acts_knows m g first p s.0 knows s.1 in
       subst (λ (l : List Act). GivesAgain l new.ring.live) (sym is)
-      (again_then between.ring.live new.ring.live more (fed_new (suc shard) n between new more end rest) (fed_again (suc shard) n between new more end s.0 q then s.2 rest)
-      first (shard_lost shard old between first stop.Done p s.0 knows s.1 one))
+      (again_then between.ring.live new.ring.live more (fed_new (suc shard) n between new more behind end rest) (fed_again (suc shard) n between new more behind end s.0 q then s.2 rest)
+      first (shard_lost shard old between first front stop.Done p s.0 knows s.1 one))

@@ -12,11 +12,13 @@ use Rattle.l2_ring.specs.declared.plan.Plan.{Plan}
 use Rattle.l2_ring.specs.RangeLaws.{plans_are_one}
 use Rattle.l2_ring.specs.Ring.{IsPlanFor, IsSound, numbers_of}
 use Rattle.l2_ring.specs.Stays.{AreLive, falls, live_of}
+use Rattle.vdev_io.specs.Calls.{DeviceCall}
 use Rattle.l2_dev.specs.declared.fault.DevErr.{DevErr}
 use Rattle.l2_dev.specs.declared.fault.DevErr.TheVariants as err
 use Rattle.l2_dev.specs.Cursor.{CursorState}
 use Rattle.l2_dev.specs.Planned.{HasPlanned}
 use Rattle.l2_feed.specs.Acts.{Act}
+use Rattle.l2_feed.specs.Asking.{PlanCalls}
 use Rattle.l2_feed.specs.Runs.{AreCleared, AreWhole, bytes_of}
 use Rattle.l2_feed.specs.Shape.{HasBegun, NoneRefused, TakesPlan, first_fault}
 use Rattle.l2_feed.proofs.Running.{bytes_whole}
@@ -40,9 +42,13 @@ pub record Begins (old new : CursorState) (n : ℕ) (had dropped : List Live) (r
   pub planned : (¬ IsErrOf result err.NoMemory) → HasPlanned n old new
   pub drops : (¬ IsErrOf result err.NoMemory) → (plan : Plan) × IsPlanFor old.ring n plan × (dropped ≡ had ++ map live_of (filter (falls plan) old.ring.live))
 
-module _ (old new : CursorState) (n : ℕ) (had dropped : List Live) (acts : List Act) (sound : IsSound old.ring) (placed : AreLive (numbers_of old.ring) old.ring.live) (cleared : AreCleared (drop (length had) dropped) acts) where
-  takes : (result final : Result (Unit {0}) DevErr) → ¬ IsErrOf result err.NoMemory → Begins old new n had dropped result → OnOk final (NoneRefused acts × (new.ready ≡ true)) → TakesPlan old new n acts final
-  takes result final ok b opened =
+-- the calls of a begin that was answered so
+abbrev pub BegunCalls : Result (Unit {0}) DevErr → (new : CursorState) → List DeviceCall → Type 0
+BegunCalls result new calls = (IsErrOf result err.NoMemory → calls ≡ []) × ((¬ IsErrOf result err.NoMemory) → PlanCalls result new calls)
+
+module _ (old new : CursorState) (n : ℕ) (had dropped : List Live) (acts : List Act) (calls : List DeviceCall) (sound : IsSound old.ring) (placed : AreLive (numbers_of old.ring) old.ring.live) (cleared : AreCleared (drop (length had) dropped) acts) where
+  takes : (result final : Result (Unit {0}) DevErr) → ¬ IsErrOf result err.NoMemory → Begins old new n had dropped result → OnOk final (NoneRefused acts × (new.ready ≡ true)) → PlanCalls final new calls → TakesPlan old new n acts calls final
+  takes result final ok b opened asks =
       let h = b.planned ok in
       let d = b.drops ok in
       let same : d.0 ≡ h.plan = plans_are_one old.ring n d.0 h.plan d.1 h.plan_for in
@@ -53,15 +59,17 @@ module _ (old new : CursorState) (n : ℕ) (had dropped : List Live) (acts : Lis
         planned = h;
         cleared = subst (λ (ls : List Live). AreCleared ls acts) (ap (λ (ls : List Live). drop (length had) ls) whole ∙ drop-append_seam had (map live_of (filter (falls h.plan) old.ring.live))) cleared;
         opened = opened;
+        asks = asks;
       }
 
-  pub begun_all : (begun : Result (Unit {0}) DevErr) (taken : Result (Unit {0}) NoMemory) → Begins old new n had dropped begun → OnOk taken (NoneRefused acts) → OnOk begun (new.ready ≡ true) → HasBegun old new n acts (first_fault begun taken)
-  begun_all (Err err.NoMemory) taken b none ready =
+  pub begun_all : (begun : Result (Unit {0}) DevErr) (taken : Result (Unit {0}) NoMemory) → Begins old new n had dropped begun → OnOk taken (NoneRefused acts) → OnOk begun (new.ready ≡ true) → BegunCalls begun new calls
+      → HasBegun old new n acts calls (first_fault begun taken)
+  begun_all (Err err.NoMemory) taken b none ready asks =
       let r = b.refused refl in
-      inl (r.0, none_cleared acts (subst (λ (ls : List Live). AreCleared ls acts) (ap (λ (ls : List Live). drop (length had) ls) r.1 ∙ drop-length had) cleared), refl)
-  begun_all (Err err.DevFault) taken b none ready = inr (takes (Err err.DevFault) (Err err.DevFault) (λ is. cc) b tt)
-  begun_all (Ok u) (Err e) b none ready = inr (takes (Ok u) (Err err.NoMemory) (λ is. cc) b tt)
-  begun_all (Ok u) (Ok v) b none ready = inr (takes (Ok u) (Ok u) (λ is. cc) b (none, ready))
+      inl (r.0, none_cleared acts (subst (λ (ls : List Live). AreCleared ls acts) (ap (λ (ls : List Live). drop (length had) ls) r.1 ∙ drop-length had) cleared), refl, asks.0 refl)
+  begun_all (Err err.DevFault) taken b none ready asks = inr (takes (Err err.DevFault) (Err err.DevFault) (λ is. cc) b tt (asks.1 (λ is. cc)))
+  begun_all (Ok u) (Err e) b none ready asks = inr (takes (Ok u) (Err err.NoMemory) (λ is. cc) b tt (asks.1 (λ is. cc)))
+  begun_all (Ok u) (Ok v) b none ready asks = inr (takes (Ok u) (Ok u) (λ is. cc) b (none, ready) (asks.1 (λ is. cc)))
 
 pub ok_ready : (ready : Bool) (begun : Result (Unit {0}) DevErr) → MatchResult begun (λ u. ready ≡ true) (λ e. (e ≡ err.DevFault) → ready ≡ false) → OnOk begun (ready ≡ true)
 ok_ready ready (Ok u) is = is

@@ -5,6 +5,7 @@ use Rattle.arc_lists.proofs.Tables.{cases_true}
 use Rattle.blk_ptr.specs.declared.key.Key.{Key}
 use Rattle.arc_core.specs.declared.config.Config.{Config}
 use Rattle.arc_core.specs.declared.event.Why.{Why}
+use Rattle.vdev_io.specs.Calls.{DeviceCall}
 use Rattle.turn_table.specs.Places.{Place}
 use Rattle.arc_table.specs.declared.picks.Picked.{Picked as Block}
 use Rattle.arc_table.specs.declared.view.Known.{Known}
@@ -182,9 +183,9 @@ pub live_after : {old new : CursorState} {blocks : List Block} {clears settles :
 live_after w = w.ran.live_is ∙ ap (λ (ws : List Written). ws ++ w.ran.entries) w.planned.live
 
 module _ {C : Type 0} (m : Meanings C) (g : Config) where
-  module _ (shard : ℕ) (old new : CursorState) (acts : List Act) (end : FeedStop) (p q : Place (Known C)) (knows : Knows g p) (did : DoesActs m g acts p q) where
+  module _ (shard : ℕ) (old new : CursorState) (acts : List Act) (calls : List DeviceCall) (end : FeedStop) (p q : Place (Known C)) (knows : Knows g p) (did : DoesActs m g acts p q) where
     -- a place that the batch gives is live afterwards
-    batch_gives : (f : FedBatch shard old new acts end) (k : Key) (x : ℕ) → IsAmongActs (Placed k x) acts → IsLive k x new.ring.live
+    batch_gives : (f : FedBatch shard old new acts calls end) (k : Key) (x : ℕ) → IsAmongActs (Placed k x) acts → IsLive k x new.ring.live
     batch_gives f k x among = go f.written (subst (IsAmongActs (Placed k x)) f.acts_are among)
       where
         behind : IsWritten old new f.blocks f.clears f.settles end → IsAmongActs (Placed k x) f.clears ⊎ IsAmongActs (Placed k x) f.settles → IsLive k x new.ring.live
@@ -202,7 +203,7 @@ module _ {C : Type 0} (m : Meanings C) (g : Config) where
             (λ (settle : IsAmongActs (Placed k x) f.settles). absurd (lefts_give_none _ k x f.blocks f.settles u.lefts settle))
             (in_either (Placed k x) f.clears f.settles more)
 
-    batch_kept : FedBatch shard old new acts end → KeepsPlaces g acts old.ring.live new.ring.live q
+    batch_kept : FedBatch shard old new acts calls end → KeepsPlaces g acts old.ring.live new.ring.live q
     batch_kept f k x (inr given) at = inl (batch_gives f k x given)
     batch_kept f k x (inl live) at = go f.written
       where
@@ -225,7 +226,7 @@ module _ {C : Type 0} (m : Meanings C) (g : Config) where
     one_act act k x (inl is) = is
     one_act act k x (inr none) = absurd none
 
-    pub shard_kept : FedShard shard old new acts end → KeepsPlaces g acts old.ring.live new.ring.live q
+    pub shard_kept : FedShard shard old new acts calls end → KeepsPlaces g acts old.ring.live new.ring.live q
     shard_kept (inl f) k x (inl live) at = inl (subst (λ (c : CursorState). IsLive k x c.ring.live) (sym f.1) live)
     shard_kept (inl f) k x (inr given) at = let is = one_act (Picked shard []) k x (subst (IsAmongActs (Placed k x)) f.0 given) in cc
     shard_kept (inr (inl f)) k x (inl live) at = inl (subst (λ (c : CursorState). IsLive k x c.ring.live) (sym f.1) live)
@@ -256,12 +257,12 @@ module _ {C : Type 0} (m : Meanings C) (g : Config) where
       start (inl live) = had (inl live)
       start (inr given) = ⊎_elim (λ (l : IsAmongActs (Placed k x) a). had (inr l)) (λ (r : IsAmongActs (Placed k x) b). behind (then k x (inr r) at)) (in_either (Placed k x) a b given)
 
-  pub fed_kept : (shard count : ℕ) (old new : CursorState) (acts : List Act) (end : FeedStop) (p q : Place (Known C)) → Knows g p → DoesActs m g acts p q → AreFed shard count old new acts end → KeepsPlaces g acts old.ring.live new.ring.live q
-  fed_kept shard zero old new acts end p q knows did fed k x (inl live) at = inl (subst (λ (c : CursorState). IsLive k x c.ring.live) (sym fed.1) live)
-  fed_kept shard zero old new acts end p q knows did fed k x (inr given) at = absurd (subst (IsAmongActs (Placed k x)) fed.0 given)
-  fed_kept shard (suc n) old new acts end p q knows did (inl ends) k x was at = shard_kept shard old new acts end p q knows did ends.1 k x was at
-  fed_kept shard (suc n) old new acts end p q knows did (inr (first, more, between, is, one, rest)) k x was at =
+  pub fed_kept : (shard count : ℕ) (old new : CursorState) (acts : List Act) (calls : List DeviceCall) (end : FeedStop) (p q : Place (Known C)) → Knows g p → DoesActs m g acts p q → AreFed shard count old new acts calls end → KeepsPlaces g acts old.ring.live new.ring.live q
+  fed_kept shard zero old new acts calls end p q knows did fed k x (inl live) at = inl (subst (λ (c : CursorState). IsLive k x c.ring.live) (sym fed.1) live)
+  fed_kept shard zero old new acts calls end p q knows did fed k x (inr given) at = absurd (subst (IsAmongActs (Placed k x)) fed.0 given)
+  fed_kept shard (suc n) old new acts calls end p q knows did (inl ends) k x was at = shard_kept shard old new acts calls end p q knows did ends.1 k x was at
+  fed_kept shard (suc n) old new acts calls end p q knows did (inr (first, more, between, front, behind, is, asked, one, rest)) k x was at =
       let s = acts_split first more p q (subst (λ (l : List Act). DoesActs m g l p q) is did) in
       let then : Knows g s.0 = acts_knows m g first p s.0 knows s.1 in
       subst (λ (l : List Act). KeepsPlaces g l old.ring.live new.ring.live q) (sym is)
-      (kept_then first more old.ring.live between.ring.live new.ring.live s.0 q then s.2 (shard_kept shard old between first stop.Done p s.0 knows s.1 one) (fed_kept (suc shard) n between new more end s.0 q then s.2 rest)) k x was at
+      (kept_then first more old.ring.live between.ring.live new.ring.live s.0 q then s.2 (shard_kept shard old between first front stop.Done p s.0 knows s.1 one) (fed_kept (suc shard) n between new more behind end s.0 q then s.2 rest)) k x was at

@@ -18,4 +18,7 @@ pub mod Owning
 pub mod Again
 pub mod Newest
 pub mod Telling
+pub mod Alone
+pub mod Plain
 pub mod Whole
+pub mod Ends

@@ -11,6 +11,7 @@ use Rattle.arc_core.specs.declared.config.Config.{Config}
 use Rattle.arc_core.specs.declared.entry.Picked.{Picked as Pick_of}
 use Rattle.arc_core.specs.Changes.{pick_of}
 use Rattle.arc_core.specs.Sound.{are_distinct_picks}
+use Rattle.vdev_io.specs.Calls.{DeviceCall}
 use Rattle.turn_table.specs.Places.{Place}
 use Rattle.arc_table.specs.declared.picks.Picked.{Picked as Block}
 use Rattle.arc_table.specs.declared.view.Known.{Known}
@@ -164,8 +165,8 @@ runs_newest lap hand (suc n) k x bs acts ws left apart (some, sets, more, behind
 -- ---- one shard
 
 module _ {C : Type 0} (m : Meanings C) (g : Config) where
-  module _ (shard : ℕ) (old new : CursorState) (acts : List Act) (end : FeedStop) (p q : Place (Known C)) (knows : Knows g p) (did : DoesActs m g acts p q) where
-    module _ (f : FedBatch shard old new acts end) where
+  module _ (shard : ℕ) (old new : CursorState) (acts : List Act) (calls : List DeviceCall) (end : FeedStop) (p q : Place (Known C)) (knows : Knows g p) (did : DoesActs m g acts p q) where
+    module _ (f : FedBatch shard old new acts calls end) where
       again : DoesActs m g (Picked shard f.blocks ∷ (f.clears ++ f.settles)) p q
       again = subst (λ (l : List Act). DoesActs m g l p q) f.acts_are did
 
@@ -231,7 +232,7 @@ module _ {C : Type 0} (m : Meanings C) (g : Config) where
     one_given act k x (inl is) = is
     one_given act k x (inr none) = absurd none
 
-    shard_newest : FedShard shard old new acts end → KeepsNewest g acts old.ring.live new.ring.live q
+    shard_newest : FedShard shard old new acts calls end → KeepsNewest g acts old.ring.live new.ring.live q
     shard_newest (inl f) k x (inl live) at = inl (subst (λ (c : CursorState). IsNewest k x c.ring.live) (sym f.1) live)
     shard_newest (inl f) k x (inr given) at = let is = one_given (Picked shard []) k x (subst (IsAmongActs (Placed k x)) f.0 given) in cc
     shard_newest (inr (inl f)) k x (inl live) at = inl (subst (λ (c : CursorState). IsNewest k x c.ring.live) (sym f.1) live)
@@ -258,12 +259,12 @@ module _ {C : Type 0} (m : Meanings C) (g : Config) where
       start (inl live) = had (inl live)
       start (inr given) = ⊎_elim (λ (l : IsAmongActs (Placed k x) a). had (inr l)) (λ (s : IsAmongActs (Placed k x) b). behind (next k x (inr s) at)) (in_either (Placed k x) a b given)
 
-  pub fed_newest : (shard count : ℕ) (old new : CursorState) (acts : List Act) (end : FeedStop) (p q : Place (Known C)) → Knows g p → DoesActs m g acts p q → AreFed shard count old new acts end → KeepsNewest g acts old.ring.live new.ring.live q
-  fed_newest shard zero old new acts end p q knows did fed k x (inl live) at = inl (subst (λ (c : CursorState). IsNewest k x c.ring.live) (sym fed.1) live)
-  fed_newest shard zero old new acts end p q knows did fed k x (inr given) at = absurd (subst (IsAmongActs (Placed k x)) fed.0 given)
-  fed_newest shard (suc n) old new acts end p q knows did (inl ends) k x was at = shard_newest shard old new acts end p q knows did ends.1 k x was at
-  fed_newest shard (suc n) old new acts end p q knows did (inr (first, more, between, is, one, rest)) k x was at =
+  pub fed_newest : (shard count : ℕ) (old new : CursorState) (acts : List Act) (calls : List DeviceCall) (end : FeedStop) (p q : Place (Known C)) → Knows g p → DoesActs m g acts p q → AreFed shard count old new acts calls end → KeepsNewest g acts old.ring.live new.ring.live q
+  fed_newest shard zero old new acts calls end p q knows did fed k x (inl live) at = inl (subst (λ (c : CursorState). IsNewest k x c.ring.live) (sym fed.1) live)
+  fed_newest shard zero old new acts calls end p q knows did fed k x (inr given) at = absurd (subst (IsAmongActs (Placed k x)) fed.0 given)
+  fed_newest shard (suc n) old new acts calls end p q knows did (inl ends) k x was at = shard_newest shard old new acts calls end p q knows did ends.1 k x was at
+  fed_newest shard (suc n) old new acts calls end p q knows did (inr (first, more, between, front, behind, is, asked, one, rest)) k x was at =
       let s = acts_split m g first more p q (subst (λ (l : List Act). DoesActs m g l p q) is did) in
       let knew : Knows g s.0 = acts_knows m g first p s.0 knows s.1 in
       subst (λ (l : List Act). KeepsNewest g l old.ring.live new.ring.live q) (sym is)
-      (newest_then first more old.ring.live between.ring.live new.ring.live s.0 q knew s.2 (shard_newest shard old between first stop.Done p s.0 knows s.1 one) (fed_newest (suc shard) n between new more end s.0 q knew s.2 rest)) k x was at
+      (newest_then first more old.ring.live between.ring.live new.ring.live s.0 q knew s.2 (shard_newest shard old between first front stop.Done p s.0 knows s.1 one) (fed_newest (suc shard) n between new more behind end s.0 q knew s.2 rest)) k x was at

@@ -5,6 +5,7 @@ use Rattle.std.proofs.lemmas.List.Sums.{sum_by-cons}
 use Rattle.std.specs.List.{filter}
 use Rattle.blk_ptr.specs.declared.key.Key.{Key}
 use Rattle.arc_core.specs.declared.config.Config.{Config}
+use Rattle.vdev_io.specs.Calls.{DeviceCall}
 use Rattle.turn_table.specs.Places.{Place}
 use Rattle.arc_table.specs.declared.picks.Picked.{Picked as Block}
 use Rattle.arc_table.specs.declared.view.Known.{Known}
@@ -120,8 +121,8 @@ given_left before a b k x (inl live) = inl live
 given_left before a b k x (inr given) = inr (in_left (Placed k x) a b given)
 
 module _ {C : Type 0} (m : Meanings C) (g : Config) where
-  module _ (shard : ℕ) (old new : CursorState) (acts : List Act) (end : FeedStop) (p q : Place (Known C)) (knows : Knows g p) (did : DoesActs m g acts p q) where
-    batch_from : FedBatch shard old new acts end → FromPlaces g acts old.ring.live new.ring.live q
+  module _ (shard : ℕ) (old new : CursorState) (acts : List Act) (calls : List DeviceCall) (end : FeedStop) (p q : Place (Known C)) (knows : Knows g p) (did : DoesActs m g acts p q) where
+    batch_from : FedBatch shard old new acts calls end → FromPlaces g acts old.ring.live new.ring.live q
     batch_from f k x live at = go f.written
       where
         again : DoesActs m g (Picked shard f.blocks ∷ (f.clears ++ f.settles)) p q
@@ -140,12 +141,12 @@ module _ {C : Type 0} (m : Meanings C) (g : Config) where
             (λ (entry : IsLive k x w.ran.entries). own (runs_key w.begun.ring.lap w.begun.ring.hand w.ran.count k x f.blocks w.ran.sets w.ran.entries w.ran.left w.ran.runs entry))
             (live_either k x (filter (stays w.planned.plan) old.ring.live) w.ran.entries (subst (IsLive k x) (live_after w) live))
 
-    shard_from : FedShard shard old new acts end → FromPlaces g acts old.ring.live new.ring.live q
+    shard_from : FedShard shard old new acts calls end → FromPlaces g acts old.ring.live new.ring.live q
     shard_from (inl f) k x live at = inl (subst (λ (c : CursorState). IsLive k x c.ring.live) f.1 live)
     shard_from (inr (inl f)) k x live at = inl (subst (λ (c : CursorState). IsLive k x c.ring.live) f.1 live)
     shard_from (inr (inr f)) k x live at = batch_from f k x live at
 
-    batch_own : FedBatch shard old new acts end → TakesOwn acts old.ring.live
+    batch_own : FedBatch shard old new acts calls end → TakesOwn acts old.ring.live
     batch_own f k x among = go f.written (subst (IsAmongActs (Cleared k x)) f.acts_are among)
       where
         go : IsWritten old new f.blocks f.clears f.settles end ⊎ IsUnwritten old new f.blocks f.clears f.settles end → IsAmongActs (Cleared k x) (Picked shard f.blocks ∷ (f.clears ++ f.settles)) → WasGiven old.ring.live acts k x
@@ -163,7 +164,7 @@ module _ {C : Type 0} (m : Meanings C) (g : Config) where
     one_taken act k x (inl is) = is
     one_taken act k x (inr none) = absurd none
 
-    shard_own : FedShard shard old new acts end → TakesOwn acts old.ring.live
+    shard_own : FedShard shard old new acts calls end → TakesOwn acts old.ring.live
     shard_own (inl f) k x among = let is = one_taken (Picked shard []) k x (subst (IsAmongActs (Cleared k x)) f.0 among) in cc
     shard_own (inr (inl f)) k x among = let is = one_taken (Unpicked shard) k x (subst (IsAmongActs (Cleared k x)) f.0 among) in cc
     shard_own (inr (inr f)) k x among = batch_own f k x among
@@ -195,16 +196,16 @@ module _ {C : Type 0} (m : Meanings C) (g : Config) where
         start (inl here) = given_left old a b k x (one k x here)
         start (inr there) = back there (then k x there)
 
-  pub fed_owns : (shard count : ℕ) (old new : CursorState) (acts : List Act) (end : FeedStop) (p q : Place (Known C)) → Knows g p → DoesActs m g acts p q → AreFed shard count old new acts end
+  pub fed_owns : (shard count : ℕ) (old new : CursorState) (acts : List Act) (calls : List DeviceCall) (end : FeedStop) (p q : Place (Known C)) → Knows g p → DoesActs m g acts p q → AreFed shard count old new acts calls end
       → FromPlaces g acts old.ring.live new.ring.live q × TakesOwn acts old.ring.live
-  fed_owns shard zero old new acts end p q knows did fed =
+  fed_owns shard zero old new acts calls end p q knows did fed =
       ((λ k x live at. inl (subst (λ (c : CursorState). IsLive k x c.ring.live) fed.1 live)), (λ k x among. absurd (subst (IsAmongActs (Cleared k x)) fed.0 among)))
-  fed_owns shard (suc n) old new acts end p q knows did (inl ends) = (shard_from shard old new acts end p q knows did ends.1, shard_own shard old new acts end p q knows did ends.1)
-  fed_owns shard (suc n) old new acts end p q knows did (inr (first, more, between, is, one, rest)) =
+  fed_owns shard (suc n) old new acts calls end p q knows did (inl ends) = (shard_from shard old new acts calls end p q knows did ends.1, shard_own shard old new acts calls end p q knows did ends.1)
+  fed_owns shard (suc n) old new acts calls end p q knows did (inr (first, more, between, front, behind, is, asked, one, rest)) =
       let s = acts_split m g first more p q (subst (λ (l : List Act). DoesActs m g l p q) is did) in
       let then : Knows g s.0 = acts_knows m g first p s.0 knows s.1 in
-      let from = shard_from shard old between first stop.Done p s.0 knows s.1 one in
-      let own = shard_own shard old between first stop.Done p s.0 knows s.1 one in
-      let tail = fed_owns (suc shard) n between new more end s.0 q then s.2 rest in
+      let from = shard_from shard old between first front stop.Done p s.0 knows s.1 one in
+      let own = shard_own shard old between first front stop.Done p s.0 knows s.1 one in
+      let tail = fed_owns (suc shard) n between new more behind end s.0 q then s.2 rest in
       subst (λ (l : List Act). FromPlaces g l old.ring.live new.ring.live q × TakesOwn l old.ring.live) (sym is)
       (from_then first more old.ring.live between.ring.live new.ring.live s.0 q then s.2 from tail.0, own_then first more old.ring.live between.ring.live new.ring.live s.0 q then s.2 from own tail.1)

@@ -81,7 +81,7 @@ module _ {C : Type 0} (g : Config) where
 -- ---- what was picked
 
 -- the keys of the picks among events
-abbrev picks_in : List Event → List Key
+abbrev pub picks_in : List Event → List Key
 picks_in [] = []
 picks_in (event.Pick n k ∷ es) = k ∷ picks_in es
 picks_in (_ ∷ es) = picks_in es
@@ -113,13 +113,13 @@ picks_keys g turn (x ∷ xs) [] are = absurd are
 picks_keys g turn (x ∷ xs) (b ∷ bs) are = λ i. sym are.0.key i ∷ picks_keys g turn xs bs are.1 i
 
 -- a scan that ends began where nothing was picked
-idle_before : (g : Config) (n turn : ℕ) (s : PlainShard) (es : List Event) → ArePicks g n turn es → IsTrue (is_legal_history s (es ++ event.FeedEnd n ∷ [])) → may_pick s.phase ≡ true
+pub idle_before : (g : Config) (n turn : ℕ) (s : PlainShard) (es : List Event) → ArePicks g n turn es → IsTrue (is_legal_history s (es ++ event.FeedEnd n ∷ [])) → may_pick s.phase ≡ true
 idle_before g n turn s [] picks ok = and_left (may_pick s.phase) _ (and_right (is_number n) _ (and_left (legal s (event.FeedEnd n)) true ok))
 idle_before g n turn s (event.Pass a k owner ∷ es) picks ok = idle_before g n turn (after s (event.Pass a k owner)) es picks.1 (and_right (legal s (event.Pass a k owner)) _ ok)
 idle_before g n turn s (event.Pick a k ∷ es) picks ok = and_left (may_pick s.phase) _ (and_right (is_number a) _ (and_left (legal s (event.Pick a k)) _ ok))
 idle_before g n turn s (_ ∷ es) picks ok = absurd picks
 
-none_picked : (phase : Phase) (picks : List Pick_of) → may_pick phase ≡ true → is_picking phase ≡ false → fits_phase phase picks ≡ true → picks ≡ []
+pub none_picked : (phase : Phase) (picks : List Pick_of) → may_pick phase ≡ true → is_picking phase ≡ false → fits_phase phase picks ≡ true → picks ≡ []
 none_picked Idle [] may settled fits = refl
 none_picked Idle (x ∷ xs) may settled fits = cc
 none_picked Picking picks may settled fits = cc
@@ -134,7 +134,7 @@ module _ {C : Type 0} (m : Meanings C) (g : Config) (p q : Place (Known C)) (kno
   n = p.number
 
   -- what the party lists of the shard is what is picked there
-  listed : (turn : ℕ) (es : List Event) (f : Feeds m g turn es p q) → picks_of turn q ≡ f.after.now.picked
+  pub listed : (turn : ℕ) (es : List Event) (f : Feeds m g turn es p q) → picks_of turn q ≡ f.after.now.picked
   listed turn es f =
       let took = took_is m turn (item.Shard f.before) p f.reached f.takes in
       let at_try = saw p f.takes.knew in
@@ -148,7 +148,7 @@ module _ {C : Type 0} (m : Meanings C) (g : Config) (p q : Place (Known C)) (kno
       ∙ list_here turn f.after.now.picked f.tried.own.ledger.picked)
 
   -- the keys that one pick gained are those of its events
-  gained_keys : (shard : ℕ) (old new : List Block) (a : PicksAll m g (turn_of g shard) p q old new) → keys_of a.gained ≡ picks_in a.picks
+  pub gained_keys : (shard : ℕ) (old new : List Block) (a : PicksAll m g (turn_of g shard) p q old new) → keys_of a.gained ≡ picks_in a.picks
   gained_keys shard old new a =
       let s = picks_stepped m g shard a.picks p q knows a.scan a.feeds a.others in
       let none : a.feeds.before.now.picked ≡ [] =

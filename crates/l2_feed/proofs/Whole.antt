@@ -10,6 +10,8 @@ use Rattle.arc_table.specs.Cache.{Cache}
 use Rattle.arc_table.specs.Items.{Meanings}
 use Rattle.l2_dev.specs.declared.report.FeedReport.{FeedReport}
 use Rattle.vdev_io.specs.Faults.{Rose}
+use Rattle.vdev_io.specs.declared.device.CacheDev.{Ghosts}
+use Rattle.vdev_io.specs.Calls.{DeviceCall, MakesDeviceCalls}
 use Rattle.l2_dev.specs.declared.fault.DevErr.{DevErr}
 use Rattle.l2_dev.specs.declared.fault.DevErr.TheVariants as err
 use Rattle.l2_dev.specs.declared.report.FeedStop.{FeedStop}
@@ -24,6 +26,9 @@ use Rattle.l2_feed.specs.Runs.{batch_len}
 use Rattle.l2_feed.specs.Shape.{AreFed, FedShard, IsUnwritten, IsWritten, stop_of}
 use Rattle.l2_feed.specs.Sums.{CountsMore, IsSummary, picked_in}
 use Rattle.l2_feed.proofs.Again.{fed_again}
+use Rattle.l2_feed.specs.Alone.{shards_seen}
+use Rattle.l2_feed.proofs.Alone.{acts_alone}
+use Rattle.l2_feed.proofs.Plain.{fed_plain}
 use Rattle.l2_feed.proofs.Keeping.{fed_kept}
 use Rattle.l2_feed.proofs.Newest.{fed_newest}
 use Rattle.l2_feed.proofs.Owning.{fed_owns}
@@ -44,30 +49,34 @@ sums_more acts more old new was m = record {
 pub sums_same : (acts : List Act) (old new : FeedReport) → IsSummary acts old → new.picked ≡ old.picked → new.bytes ≡ old.bytes → new.written ≡ old.written → new.cleared ≡ old.cleared → IsSummary acts new
 sums_same acts old new was picked bytes written cleared = record { picked = picked ∙ was.picked; bytes = bytes ∙ was.bytes; written = written ∙ was.written; cleared = cleared ∙ was.cleared }
 
-pub has_fed : {C : Type 0} (m : Meanings C) (cache : Cache) (old new : CursorState) (acts : List Act) (p q : Place (Known C)) (report : FeedReport) → IsFeederReady cache p → DoesActs m cache.config acts p q
-    → AreFed 0 cache.config.shards old new acts report.end → IsSummary acts report → HasFed m cache.config old new p q report
-has_fed m cache old new acts p q report ready did fed sums =
+pub has_fed : {C D : Type 0} (m : Meanings C) (cache : Cache) (device : Ghosts D) (was now : D) (old new : CursorState) (acts : List Act) (calls : List DeviceCall) (p q : Place (Known C)) (report : FeedReport) → IsFeederReady cache p
+    → DoesActs m cache.config acts p q → MakesDeviceCalls device calls was now → AreFed 0 cache.config.shards old new acts calls report.end → IsSummary acts report → HasFed m cache.config device was now old new p q report
+has_fed m cache device was now old new acts calls p q report ready did made fed sums =
     let knows : Knows cache.config p = record { valid = ready.on.valid; config = ready.on.of.config; feeder = ready.on.feeder; seen = ready.on.seen } in
     let stays : Stays p q = acts_stay m cache.config acts p q knows did in
     record {
       acts = acts;
+      calls = calls;
       did = did;
       told = acts_told m cache.config acts p q knows did;
+      alone = acts_alone m cache.config acts p q knows did;
       held = stays.held;
       joined = stays.joined;
+      made = made;
       fed = fed;
+      plain = λ all ended none. fed_plain cache.config p.number (shards_seen cache.config p) old new acts calls report fed sums ended none (acts_alone m cache.config acts p q knows did all).of_shards;
       sums = sums;
-      kept = fed_kept m cache.config 0 cache.config.shards old new acts report.end p q knows did fed;
-      newest = fed_newest m cache.config 0 cache.config.shards old new acts report.end p q knows did fed;
-      own = (fed_owns m cache.config 0 cache.config.shards old new acts report.end p q knows did fed).1;
-      again = fed_again m cache.config 0 cache.config.shards old new acts report.end p q knows did fed;
+      kept = fed_kept m cache.config 0 cache.config.shards old new acts calls report.end p q knows did fed;
+      newest = fed_newest m cache.config 0 cache.config.shards old new acts calls report.end p q knows did fed;
+      own = (fed_owns m cache.config 0 cache.config.shards old new acts calls report.end p q knows did fed).1;
+      again = fed_again m cache.config 0 cache.config.shards old new acts calls report.end p q knows did fed;
     }
 
 -- the lap stood below its last value before, where it does so afterwards
-pub lap_before : (shard : ℕ) (old new : CursorState) (acts : List Act) (end : FeedStop) → FedShard shard old new acts end → new.ring.lap < last_lap → old.ring.lap < last_lap
-lap_before shard old new acts end (inl f) below = subst (λ (c : CursorState). c.ring.lap < last_lap) f.1 below
-lap_before shard old new acts end (inr (inl f)) below = subst (λ (c : CursorState). c.ring.lap < last_lap) f.1 below
-lap_before shard old new acts end (inr (inr f)) below = go f.written
+pub lap_before : (shard : ℕ) (old new : CursorState) (acts : List Act) (calls : List DeviceCall) (end : FeedStop) → FedShard shard old new acts calls end → new.ring.lap < last_lap → old.ring.lap < last_lap
+lap_before shard old new acts calls end (inl f) below = subst (λ (c : CursorState). c.ring.lap < last_lap) f.1 below
+lap_before shard old new acts calls end (inr (inl f)) below = subst (λ (c : CursorState). c.ring.lap < last_lap) f.1 below
+lap_before shard old new acts calls end (inr (inr f)) below = go f.written
   where
     plan_lap : (plan : Plan) → IsPlanFor old.ring (batch_len f.blocks) plan → plan.lap < last_lap → old.ring.lap < last_lap
     plan_lap plan is less = elim (cases_lt old.ring.end (old.ring.hand + batch_len f.blocks)) [

@@ -166,7 +166,7 @@ commit_lost run old now new so f = record {
 }
 
 -- the log block of a commit is that of the run
-log_is : (run : List Block) (old now : CursorState) (bytes : List ℕ) (ptr : LogPtr) (block : LogBlock) → HasPut run old now → IsBlockOf now bytes ptr block → IsLogOf old.ring.lap old.ring.hand old.second run ptr
+abbrev pub log_is : (run : List Block) (old now : CursorState) (bytes : List ℕ) (ptr : LogPtr) (block : LogBlock) → HasPut run old now → IsBlockOf now bytes ptr block → IsLogOf old.ring.lap old.ring.hand old.second run ptr
 log_is run old now bytes ptr block so b = record {
   bytes = bytes;
   block = block;
@@ -212,7 +212,7 @@ length_front zero bs = omega arith
 length_front (suc n) [] = omega arith
 length_front (suc n) (x ∷ bs) = let e = length_front n bs in omega arith
 
-some_front : (n : ℕ) (bs : List Block) → 0 < length bs → 0 < length (take (suc n) bs)
+pub some_front : (n : ℕ) (bs : List Block) → 0 < length bs → 0 < length (take (suc n) bs)
 some_front n [] some = absurd (omega arith)
 some_front n (x ∷ bs) some = omega arith
 
@@ -225,7 +225,7 @@ pub leaves_some : (fault : DevErr) (left : List Block) → 0 < length left → L
 leaves_some err.DevFault left some = some
 leaves_some err.NoMemory left some = some
 
-add-zero : (n : ℕ) → n ≡ n + 0
+pub add-zero : (n : ℕ) → n ≡ n + 0
 add-zero n = omega arith
 
 module _ {C : Type 0} (m : Meanings C) (cache : Cache) where
@@ -349,7 +349,7 @@ module _ {C : Type 0} (m : Meanings C) (cache : Cache) where
 
     -- where the run is lost, it and all behind it are left
     pub runs_stop : (new : CursorState) (q : Place (Known C)) (fault : DevErr) (leaves : List Act) → IsForgotten mid new → DoesActs m cache.config leaves r q → AreLeft (why_of (stop_of fault)) rest leaves
-        → (acts : List Act) × DoesActs m cache.config acts p q × (now ≡ written + count_by is_placed acts) × HaveRun old new blocks acts (stop_of fault)
+        → (acts : List Act) × DoesActs m cache.config acts p q × (now ≡ written + count_by is_placed acts) × (ran : HaveRun old new blocks acts (stop_of fault)) × (ran.count ≡ i)
     runs_stop new q fault leaves lost did left =
         let acts = so.did.0 in
         let entries = so.did.1 in (
@@ -379,11 +379,12 @@ module _ {C : Type 0} (m : Meanings C) (cache : Cache) where
                 (subst (λ (x : Option LogPtr × Option LogPtr). AreLogs old.ring.lap old.ring.hand blocks i (old.newest, old.second) x) (λ z. (sym lost.newest z, sym lost.second z)) so.logs);
             pending = lost.pending;
           },
+          sym (add-zero i),
         )
 
   -- all runs were written
   pub runs_end : (blocks : List Block) (i written now : ℕ) (old new : CursorState) (p q : Place (Known C)) → drop (i * most) blocks ≡ [] → RunsSo blocks i written now old new p q
-      → (acts : List Act) × DoesActs m cache.config acts p q × (now ≡ written + count_by is_placed acts) × HaveRun old new blocks acts stop.Done
+      → (acts : List Act) × DoesActs m cache.config acts p q × (now ≡ written + count_by is_placed acts) × (ran : HaveRun old new blocks acts stop.Done) × (ran.count ≡ i)
   runs_end blocks i written now old new p q none so =
       let acts = so.did.0 in
       let entries = so.did.1 in (
@@ -406,4 +407,5 @@ module _ {C : Type 0} (m : Meanings C) (cache : Cache) where
           logs = subst (λ (n : ℕ). AreLogs old.ring.lap old.ring.hand blocks n (old.newest, old.second) (new.newest, new.second)) (add-zero i) so.logs;
           pending = so.pending;
         },
+        sym (add-zero i),
       )

@@ -4,7 +4,6 @@ use Rattle.std.specs.List.{AllByRecursion}
 use Rattle.vdev_io.specs.declared.device.CacheDev.{Ghosts}
 use Rattle.vdev_io.specs.Calls.{Asked, MakesAll, MakesUpTo}
 use Rattle.l2_dev.specs.declared.fault.DevErr.{DevErr}
-use Rattle.l2_dev.specs.declared.fault.DevErr.TheVariants as err
 use Rattle.l2_dev.specs.declared.report.FeedStop.{FeedStop}
 use Rattle.l2_dev.specs.declared.report.FeedStop.TheVariants as stop
 use Rattle.l2_dev.specs.Cursor.{CursorState}
@@ -42,12 +41,6 @@ module _ {D : Type 0} (device : Ghosts D) (old new : D) where
   -- it was asked for some things, one after another, up to one that failed; behind that it was asked for nothing
   abbrev pub LastFailed : Type 0
   LastFailed = (asked : List Asked) × MakesUpTo device asked old new
-
-  -- what was answered so asked for this
-  abbrev pub AsksSo : {T : Type 0} → Result T DevErr → Type 0
-  AsksSo (Ok value) = AllDone
-  AsksSo (Err err.DevFault) = LastFailed
-  AsksSo (Err err.NoMemory) = AllDone
 
   -- a feed that ended so: a call that failed is the last one, and the end tells of it
   abbrev pub FeedAsks : FeedStop → Type 0

@@ -1,9 +1,13 @@
 pub mod Acts
 pub mod Ready
 pub mod Runs
+pub mod Asking
 pub mod Sums
 pub mod Shape
 pub mod Places
 pub mod Told
+pub mod Alone
+pub mod Plain
 pub mod Crashes
 pub mod Fed
+pub mod Ends

@@ -1,10 +1,13 @@
--- In which order a feed does what it does: shard by shard, and in each the picks, the places that are taken, and the picks' settling.
+-- In which order a feed does what it does: shard by shard, and in each the picks, the places that are taken, and the picks' settling; and with which
+-- calls of the device.
 use Rattle.std.specs.Prelude.{◌≡◌, ◌≢◌, ◌⊎◌, ℕ, zero, suc, ◌<◌, true, List, [], ◌∷◌, ◌++◌, length, map, Result, Ok, Err, OnOk}
+use Rattle.std.proofs.Common.{inl, inr}
 use Rattle.std.specs.List.{AllByRecursion, filter}
 use Rattle.blk_ptr.specs.declared.memory.NoMemory.{NoMemory}
 use Rattle.arc_core.specs.declared.event.Why.{Why}
 use Rattle.arc_core.specs.declared.event.Why.TheVariants as why
 use Rattle.arc_table.specs.declared.picks.Picked.{Picked as Block}
+use Rattle.vdev_io.specs.Calls.{DeviceCall}
 use Rattle.l2_ring.specs.declared.live.Written.{Written}
 use Rattle.l2_ring.specs.Ring.{HasPlan, IsSound, numbers_of, with_hand}
 use Rattle.l2_ring.specs.Stays.{AreLive, falls, live_of}
@@ -15,6 +18,7 @@ use Rattle.l2_dev.specs.declared.report.FeedStop.TheVariants as stop
 use Rattle.l2_dev.specs.Cursor.{CursorState}
 use Rattle.l2_dev.specs.Planned.{HasPlanned}
 use Rattle.l2_feed.specs.Acts.{Act, Picked, Refused, Unpicked}
+use Rattle.l2_feed.specs.Asking.{BatchCalls, PlanCalls}
 use Rattle.l2_feed.specs.Runs.{AreCleared, AreLeft, AreLogs, AreRuns, batch_len, run_place}
 
 -- for which reason a key is left where a feed ends so
@@ -44,15 +48,16 @@ LeavesSome _ left = 0 < length left
 
 -- A plan for n bytes was begun: it was taken, and the places of what it drops were asked back; at Ok none was refused, and blocks may be put. Or
 -- memory was refused for it, and nothing has changed.
-pub record TakesPlan (old new : CursorState) (n : ℕ) (acts : List Act) (result : Result (Unit {0}) DevErr) : Type 0 where
+pub record TakesPlan (old new : CursorState) (n : ℕ) (acts : List Act) (calls : List DeviceCall) (result : Result (Unit {0}) DevErr) : Type 0 where
   pub sound : IsSound old.ring
   pub placed : AreLive (numbers_of old.ring) old.ring.live
   pub planned : HasPlanned n old new
   pub cleared : AreCleared (map live_of (filter (falls planned.plan) old.ring.live)) acts
   pub opened : OnOk result (NoneRefused acts × (new.ready ≡ true))
+  pub asks : PlanCalls result new calls
 
-abbrev pub HasBegun : (old new : CursorState) → ℕ → List Act → Result (Unit {0}) DevErr → Type 0
-HasBegun old new n acts result = ((new ≡ old) × (acts ≡ []) × (result ≡ Err err.NoMemory)) ⊎ TakesPlan old new n acts result
+abbrev pub HasBegun : (old new : CursorState) → ℕ → List Act → List DeviceCall → Result (Unit {0}) DevErr → Type 0
+HasBegun old new n acts calls result = ((new ≡ old) × (acts ≡ []) × (result ≡ Err err.NoMemory) × (calls ≡ [])) ⊎ TakesPlan old new n acts calls result
 
 -- the first fault of a begin and of the clears behind it
 abbrev pub first_fault : Result (Unit {0}) DevErr → Result (Unit {0}) NoMemory → Result (Unit {0}) DevErr
@@ -101,26 +106,34 @@ pub record IsUnwritten (old new : CursorState) (blocks : List Block) (clears set
   pub lefts : AreLeft why.Memory blocks settles
   pub ended : end ≡ stop.NoMemory
 
+-- the calls of a batch of which this became: none, where memory was refused for its plan
+abbrev pub WrittenCalls : {old new : CursorState} {blocks : List Block} {clears settles : List Act} {end : FeedStop}
+    → IsWritten old new blocks clears settles end ⊎ IsUnwritten old new blocks clears settles end → List DeviceCall → Type 0
+WrittenCalls {blocks = blocks} {end = end} (inl written) calls = BatchCalls written.begun blocks written.ran.count end calls
+WrittenCalls (inr unwritten) calls = calls ≡ []
+
 -- a shard of which something was picked
-pub record FedBatch (shard : ℕ) (old new : CursorState) (acts : List Act) (end : FeedStop) : Type 0 where
+pub record FedBatch (shard : ℕ) (old new : CursorState) (acts : List Act) (calls : List DeviceCall) (end : FeedStop) : Type 0 where
   pub blocks : List Block
   pub some : 0 < length blocks
   pub clears : List Act
   pub settles : List Act
   pub acts_are : acts ≡ Picked shard blocks ∷ (clears ++ settles)
   pub written : IsWritten old new blocks clears settles end ⊎ IsUnwritten old new blocks clears settles end
+  pub asks : WrittenCalls written calls
 
 -- One shard was fed: nothing was picked, and the device is as it was; or memory was refused for picking, which ends the feed; or a batch was
 -- picked.
-abbrev pub FedShard : (shard : ℕ) → (old new : CursorState) → List Act → FeedStop → Type 0
-FedShard shard old new acts end =
-    ((acts ≡ Picked shard [] ∷ []) × (new ≡ old) × (end ≡ stop.Done))
-    ⊎ ((acts ≡ Unpicked shard ∷ []) × (new ≡ old) × (end ≡ stop.NoMemory))
-    ⊎ FedBatch shard old new acts end
+abbrev pub FedShard : (shard : ℕ) → (old new : CursorState) → List Act → List DeviceCall → FeedStop → Type 0
+FedShard shard old new acts calls end =
+    ((acts ≡ Picked shard [] ∷ []) × (new ≡ old) × (end ≡ stop.Done) × (calls ≡ []))
+    ⊎ ((acts ≡ Unpicked shard ∷ []) × (new ≡ old) × (end ≡ stop.NoMemory) × (calls ≡ []))
+    ⊎ FedBatch shard old new acts calls end
 
 -- So many shards were fed from this one on, by rising number: each to its end, up to the one where the feed ended, behind which nothing was done.
-abbrev pub AreFed : (shard count : ℕ) → (old new : CursorState) → List Act → FeedStop → Type 0
-AreFed shard zero old new acts end = (acts ≡ []) × (new ≡ old) × (end ≡ stop.Done)
-AreFed shard (suc count) old new acts end =
-    ((end ≢ stop.Done) × FedShard shard old new acts end)
-    ⊎ ((first : List Act) × (more : List Act) × (between : CursorState) × (acts ≡ first ++ more) × FedShard shard old between first stop.Done × AreFed (suc shard) count between new more end)
+abbrev pub AreFed : (shard count : ℕ) → (old new : CursorState) → List Act → List DeviceCall → FeedStop → Type 0
+AreFed shard zero old new acts calls end = (acts ≡ []) × (new ≡ old) × (end ≡ stop.Done) × (calls ≡ [])
+AreFed shard (suc count) old new acts calls end =
+    ((end ≢ stop.Done) × FedShard shard old new acts calls end)
+    ⊎ ((first : List Act) × (more : List Act) × (between : CursorState) × (front : List DeviceCall) × (behind : List DeviceCall) × (acts ≡ first ++ more) × (calls ≡ front ++ behind)
+    × FedShard shard old between first front stop.Done × AreFed (suc shard) count between new more behind end)

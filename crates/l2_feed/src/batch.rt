@@ -5,11 +5,13 @@ ghost use Rattle.arc_table.specs.declared.picks.Picked.{Picked as Block};
 ghost use Rattle.l2_dev.specs.Calls.{HasDevCause};
 ghost use Rattle.l2_dev.specs.declared.fault.DevErr.TheVariants as err;
 ghost use Rattle.l2_feed.specs.Acts.{Act, DoesActs};
-ghost use Rattle.l2_feed.specs.Crashes.{AsksSo, KeepsSo};
+ghost use Rattle.vdev_io.specs.Calls.{DeviceCall, MakesDeviceCalls};
+ghost use Rattle.l2_feed.specs.Asking.{RunsCalls};
+ghost use Rattle.l2_feed.specs.Crashes.{KeepsSo};
 ghost use Rattle.l2_ring.specs.Ring.{last_lap};
 ghost use Rattle.l2_feed.specs.Ready.{IsDeviceReady, IsFeederReady, IsFeeding};
 ghost use Rattle.l2_feed.specs.Runs.{AreWhole, batch_len, bytes_of, most, runs_of};
-ghost use Rattle.l2_feed.specs.Shape.{FedShard, HasBegun, HaveRun, IsUnwritten, IsWritten, end_of, first_fault};
+ghost use Rattle.l2_feed.specs.Shape.{FedShard, HasBegun, HaveRun, IsUnwritten, IsWritten, WrittenCalls, end_of, first_fault};
 ghost use Rattle.l2_feed.specs.Sums.{CountsMore, HasRoom, is_cleared, is_placed};
 
 use crate::runs::write_run;
@@ -102,11 +104,10 @@ fn begin_batch<C: Keeps, D: CacheDev>(
     ensures feeding { (turn : ℕ) → IsFeeding arcs.now turn blocks.now party.old → IsFeeding arcs.now turn blocks.now party.new }
     ensures size { D.size l2.new.dev ≡ D.size l2.old.dev }
     ensures cause { HasDevCause (D.faults l2.old.dev) (D.faults l2.new.dev) result }
-    ensures asks { AsksSo D.CacheDev l2.old.dev l2.new.dev result }
     ensures crash { l2.new.cursor.ring.lap < last_lap → KeepsSo D.told D.has_sectors D.may_leave l2.old.dev l2.new.dev l2.old.cursor l2.new.cursor result }
     ensures counted { cleared.new ≤ vec_len dropped.new }
-    ensures acts { (acts : List Act) × DoesActs (meanings C.holds C.entries C.opening C.claims C.sound) arcs.now.config acts party.old party.new × (cleared.new ≡ cleared.old + count_by is_cleared acts)
-        × HasBegun l2.old.cursor l2.new.cursor (batch_len blocks.now) acts result }
+    ensures acts { (acts : List Act) × (calls : List DeviceCall) × DoesActs (meanings C.holds C.entries C.opening C.claims C.sound) arcs.now.config acts party.old party.new × (cleared.new ≡ cleared.old + count_by is_cleared acts)
+        × MakesDeviceCalls D.CacheDev calls l2.old.dev l2.new.dev × HasBegun l2.old.cursor l2.new.cursor (batch_len blocks.now) acts calls result }
 {
     // that the ring is sound
     let _ring = l2.ring();
@@ -138,12 +139,11 @@ fn write_runs<C: Keeps, D: CacheDev>(
     ensures feeding { (turn : ℕ) → IsFeeding arcs.now turn blocks.now party.old → IsFeeding arcs.now turn [] party.new }
     ensures size { D.size l2.new.dev ≡ D.size l2.old.dev }
     ensures cause { HasDevCause (D.faults l2.old.dev) (D.faults l2.new.dev) result }
-    ensures asks { AsksSo D.CacheDev l2.old.dev l2.new.dev result }
     ensures crash { KeepsSo D.told D.has_sectors D.may_leave l2.old.dev l2.new.dev l2.old.cursor l2.new.cursor result }
     ensures ends { (l2.new.cursor.ring.end ≡ l2.old.cursor.ring.end) × (l2.new.cursor.pending ≡ []) }
     ensures counted { written.new ≤ written.old + length blocks.now }
     ensures acts { (acts : List Act) × DoesActs (meanings C.holds C.entries C.opening C.claims C.sound) arcs.now.config acts party.old party.new × (written.new ≡ written.old + count_by is_placed acts)
-        × HaveRun l2.old.cursor l2.new.cursor blocks.now acts (end_of result) }
+        × (ran : HaveRun l2.old.cursor l2.new.cursor blocks.now acts (end_of result)) × (calls : List DeviceCall) × MakesDeviceCalls D.CacheDev calls l2.old.dev l2.new.dev × RunsCalls l2.old.cursor blocks.now ran.count (end_of result) calls }
 {
     for number in 0..runs_of(blocks.len()) {
         let left = left_after(blocks, number);
@@ -181,7 +181,6 @@ fn feed_batch<C: Keeps, D: CacheDev>(
     ensures feeding { (turn : ℕ) → IsFeeding arcs.now turn blocks.now party.old → IsFeeding arcs.now turn [] party.new }
     ensures size { D.size l2.new.dev ≡ D.size l2.old.dev }
     ensures cause { HasDevCause (D.faults l2.old.dev) (D.faults l2.new.dev) result }
-    ensures asks { AsksSo D.CacheDev l2.old.dev l2.new.dev result }
     ensures crash { l2.new.cursor.ring.lap < last_lap → KeepsSo D.told D.has_sectors D.may_leave l2.old.dev l2.new.dev l2.old.cursor l2.new.cursor result }
     ensures ends { (l2.new.cursor.ring.end ≡ l2.old.cursor.ring.end) × (l2.new.cursor.pending ≡ []) }
     ensures cleared { report.new.cleared ≤ vec_len dropped.new }
@@ -189,7 +188,8 @@ fn feed_batch<C: Keeps, D: CacheDev>(
     ensures same { (report.new.picked ≡ report.old.picked) × (report.new.bytes ≡ report.old.bytes) }
     ensures end { report.new.end ≡ report.old.end }
     ensures acts { (clears : List Act) × (settles : List Act) × DoesActs (meanings C.holds C.entries C.opening C.claims C.sound) arcs.now.config (clears ++ settles) party.old party.new × CountsMore (clears ++ settles) report.old report.new
-        × (IsWritten l2.old.cursor l2.new.cursor blocks.now clears settles (end_of result) ⊎ IsUnwritten l2.old.cursor l2.new.cursor blocks.now clears settles (end_of result)) }
+        × (written : IsWritten l2.old.cursor l2.new.cursor blocks.now clears settles (end_of result) ⊎ IsUnwritten l2.old.cursor l2.new.cursor blocks.now clears settles (end_of result))
+        × (calls : List DeviceCall) × MakesDeviceCalls D.CacheDev calls l2.old.dev l2.new.dev × WrittenCalls written calls }
 {
     let begun = begin_batch(
         rt,
@@ -227,11 +227,11 @@ pub(crate) fn feed_shard<C: Keeps, D: CacheDev>(
     ensures device { IsDeviceReady arcs.now.config (D.size l2.new.dev) l2.new.cursor }
     ensures size { D.size l2.new.dev ≡ D.size l2.old.dev }
     ensures cause { HasDevCause (D.faults l2.old.dev) (D.faults l2.new.dev) result }
-    ensures asks { AsksSo D.CacheDev l2.old.dev l2.new.dev result }
     ensures crash { l2.new.cursor.ring.lap < last_lap → KeepsSo D.told D.has_sectors D.may_leave l2.old.dev l2.new.dev l2.old.cursor l2.new.cursor result }
     ensures room { HasRoom (shard + 1) (vec_len dropped.new) report.new }
     ensures end { report.new.end ≡ report.old.end }
-    ensures fed { (acts : List Act) × DoesActs (meanings C.holds C.entries C.opening C.claims C.sound) arcs.now.config acts party.old party.new × CountsMore acts report.old report.new × FedShard shard l2.old.cursor l2.new.cursor acts (end_of result) }
+    ensures fed { (acts : List Act) × (calls : List DeviceCall) × DoesActs (meanings C.holds C.entries C.opening C.claims C.sound) arcs.now.config acts party.old party.new × CountsMore acts report.old report.new
+        × MakesDeviceCalls D.CacheDev calls l2.old.dev l2.new.dev × FedShard shard l2.old.cursor l2.new.cursor acts calls (end_of result) }
 {
     let mut blocks = Vec::new(alloc);
     let Ok(()) = arcs.pick(rt, party, shard, &mut blocks) else {

@@ -47,7 +47,7 @@ pub fn feed<C: Keeps, D: CacheDev>(
     ensures cause { result.end ≡ stop.DevFault → Rose (D.faults l2.old.dev) (D.faults l2.new.dev) }
     ensures asks { FeedAsks D.CacheDev l2.old.dev l2.new.dev result.end }
     ensures crash { l2.new.cursor.ring.lap < last_lap → FeedKeeps D.told D.has_sectors D.may_leave l2.old.dev l2.new.dev l2.old.cursor l2.new.cursor result.end }
-    ensures fed { HasFed (meanings C.holds C.entries C.opening C.claims C.sound) arcs.now.config l2.old.cursor l2.new.cursor party.old party.new result }
+    ensures fed { HasFed (meanings C.holds C.entries C.opening C.claims C.sound) arcs.now.config D.CacheDev l2.old.dev l2.new.dev l2.old.cursor l2.new.cursor party.old party.new result }
 {
     let mut report = FeedReport {
         picked: 0,

@@ -4,7 +4,9 @@
 
 mod batch;
 mod feeding;
+mod laws;
 mod runs;
 mod settle;
 
 pub use feeding::feed;
+pub use laws::{ends_tell_of_acts, feeds_take_few_laps, newest_places_stay};

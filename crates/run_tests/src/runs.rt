@@ -3,7 +3,7 @@ use std::alloc::{AllocError, Global};
 use std::sync::Wait;
 use std::thread::Threads;
 use trace_run::{Outcome, run};
-use vdev_io::{Gate, MemPool, MemSink, MemSource, NoCache, Pool};
+use vdev_io::{CacheDev, Gate, MemPool, MemSink, MemSource, NoCache, Pool};
 
 /// The SHA-256 of 512 zero bytes, for which the letter Z stands in the texts of these tests.
 const ZEROS: &str = "076a27c79e5ace2a3d47f9dd2e83e4ff6ea8872b3c2218f66c92b89b55f36560";
@@ -51,12 +51,25 @@ pub(super) fn ran<R: AllocGlobal + Threads + Wait + Sync, P: Pool, G: Gate>(
     sink_fails: &[u64],
     gate: &G,
 ) -> Result<(Outcome, Vec<u8>), AllocError> {
+    let mut cache = None::<NoCache>;
+    ran_with(rt, words, source, pool, &mut cache, sink_fails, gate)
+}
+
+/// The same with a cache device, where there is one.
+pub(super) fn ran_with<R: AllocGlobal + Threads + Wait + Sync, P: Pool, D: CacheDev, G: Gate>(
+    rt: &R,
+    words: &[&str],
+    source: &mut MemSource,
+    pool: &mut P,
+    cache: &mut Option<D>,
+    sink_fails: &[u64],
+    gate: &G,
+) -> Result<(Outcome, Vec<u8>), AllocError> {
     let alloc = rt.alloc();
     let words = words_of(alloc, words)?;
     let fail = sink_fails.to_vec(alloc)?;
     let mut sink = MemSink::new(alloc, 12, 4096, fail).or(Err(AllocError))?;
-    let mut cache = None::<NoCache>;
-    let outcome = run(alloc, rt, &words, source, &mut sink, pool, &mut cache, gate);
+    let outcome = run(alloc, rt, &words, source, &mut sink, pool, cache, gate);
     let text = sink.bytes().to_vec(alloc)?;
     Ok((outcome, text))
 }

@@ -104,6 +104,7 @@ Number|read 0 1 0 4294967296 4
 Number|read 0 1 0 0 65
 Number|read 0 1 1 0 65
 Number|hold 1 1 0
+Number|hold 0 4611686018427387905 0
 Number|hold 0 x 0
 Number|hold 0 1 4611686018427387905
 Number|drop 1 0
@@ -160,6 +161,9 @@ Number|get 0 1 7 4611686018427387905 0 0
 Number|get 0 1 7 0 4294967296 0
 Number|get 0 1 7 0 0 65
 Number|put 1 1 7 0 512 ab
+Number|put 0 4611686018427387905 7 0 512 ab
+Number|put 0 1 4611686018427387905 0 512 ab
+Number|put 0 1 7 4611686018427387905 512 ab
 Number|put 0 1 7 0 0 ab
 Number|put 0 1 7 0 513 ab
 Number|put 0 1 7 0 16777728 ab
@@ -168,13 +172,20 @@ Number|put 0 1 7 0 512 a
 Number|put 0 1 7 0 512 abc
 Number|put 0 1 7 0 512 7
 Number|patch 1 1 7 0 0 00
+Number|patch 0 4611686018427387905 7 0 0 00
+Number|patch 0 1 4611686018427387905 0 0 00
+Number|patch 0 1 7 4611686018427387905 0 00
 Number|patch 0 1 7 0 4294967296 00
 Number|patch 0 1 7 0 0 0
 Number|patch 0 1 7 0 0 0g
 Number|patch 0 1 7 0 0 0000000000000000000000000000000000000000000000000000000000000000000000000000000000000000000000000000000000000000000000000000000000
 Number|pin 1 1 7 0
+Number|pin 0 4611686018427387905 7 0
+Number|pin 0 1 4611686018427387905 0
 Number|pin 0 1 7 -1
 Number|unpin 1 7 0
+Number|unpin 0 4611686018427387905 0
+Number|unpin 0 7 4611686018427387905
 Number|unpin 0 x 0
 Number|txg 4611686018427387905
 ";
@@ -252,6 +263,7 @@ Shape|arc x 1 16 1 4096 0
 Number|arc 17 1 16 1 4096 0 0
 Number|arc 0 1 16 1 4096 0 0
 Number|arc 1 17 16 1 4096 0 0
+Number|arc 1 0 16 1 4096 0 0
 Number|arc 1 16 16 1 268435457 0 0
 Number|arc 1 1 0 1 4096 0 0
 Number|arc 1 1 257 1 4096 0 0
@@ -391,26 +403,5 @@ fn one_block_too_many(rt: HostRuntime) -> Result<(), Fail> {
     let block = format!(in rt.alloc(); "\n{BLOCK}")?;
     let blocks = repeated(rt.alloc(), SIZES, &block, 100_001)?;
     assert!(rt; fails_at(rt.alloc(), blocks.as_str(), 100_002, "Count")?);
-    Ok(())
-}
-
-#[test]
-fn one_operation_too_many(rt: HostRuntime) -> Result<(), Fail> {
-    let declared = format!(in rt.alloc(); "{SIZES}\n{BLOCK}")?;
-    let thousand = repeated(rt.alloc(), "", "\ndrop 0 0", 1_000)?;
-    let mut drops = repeated(rt.alloc(), &declared, &thousand, 1_000)?;
-    assert_eq!(rt; fault_of(rt.alloc(), drops.as_str())?, None);
-    drops.push_str("\ndrop 0 0")?;
-    assert!(rt; fails_at(rt.alloc(), drops.as_str(), 1_000_003, "Count")?);
-    Ok(())
-}
-
-#[test]
-fn a_text_too_long(rt: HostRuntime) -> Result<(), Fail> {
-    let some = repeated(rt.alloc(), "", "\n", 4_096)?;
-    let mut newlines = repeated(rt.alloc(), "", &some, 16_384)?;
-    assert!(rt; fails_at(rt.alloc(), newlines.as_str(), 1, "First")?);
-    newlines.push_str("\n")?;
-    assert!(rt; fails_at(rt.alloc(), newlines.as_str(), 67_108_865, "Length")?);
     Ok(())
 }

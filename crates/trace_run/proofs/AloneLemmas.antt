@@ -1,5 +1,5 @@
 -- The run of one caller over the shared cache: what its lines and the drops at the end made of each shard, and that this explains the replies.
-use Rattle.std.proofs.Common.{◌≡◌, ◌≢◌, ℕ, zero, suc, ◌+◌, ◌<◌, ◌≤◌, ◌==◌, ◌&&◌, cond, Bool, true, false, IsTrue, IfSome, List, [], ◌∷◌, ◌++◌, length, map, get_or, Some, refl, sym, ap, ◌∙◌, subst, inl, inr, eq-eqb, arith}
+use Rattle.std.proofs.Common.{◌≡◌, ◌≢◌, ℕ, zero, suc, ◌+◌, ◌<◌, ◌≤◌, ◌==◌, ◌&&◌, cond, Bool, true, false, IsTrue, IfSome, List, [], ◌∷◌, ◌++◌, length, map, get_or, Some, refl, sym, ap, ◌∙◌, subst, inl, inr, eq-eqb, arith, append_assoc}
 use Rattle.std.specs.Prelude.{filter, slice_get, sum_by}
 use Rattle.std.specs.List.{AllByRecursion, range_with_len}
 use Rattle.std.proofs.lemmas.Bool.{eqb-true}
@@ -15,6 +15,7 @@ use Rattle.blk_ptr.specs.Hash.{shard_of}
 use Rattle.vdev_io.specs.declared.pool.Pool.{Ghosts}
 use Rattle.arc_core.specs.declared.config.Config.{Config}
 use Rattle.arc_core.specs.declared.event.Event.{Event}
+use Rattle.arc_core.specs.declared.served.Restored.{Restored}
 use Rattle.arc_core.specs.Operations.{Act, HoldEveryCallOnce, IsAtRest, Moment, Tell, acts_in, are_passes_placed, has_its_number, is_pool_read, moments, number_of, own_events, own_moments, pool_reads}
 use Rattle.arc_core.specs.PlainShard.{PlainShard}
 use Rattle.arc_core.specs.Replay.{is_legal_history, replay}
@@ -36,11 +37,11 @@ use Rattle.trace_run.specs.KeptReads.{KeptRead}
 use Rattle.trace_run.specs.declared.kept_blocks.KeptBlock.{KeptBlock}
 use Rattle.trace_run.specs.Acts.{acts_of_all, acts_of_caller, acts_of_callers, acts_of_drops, events_of_feeds}
 use Rattle.trace_run.specs.Alone.{RanAlone, ends_in, histories_of}
-use Rattle.trace_run.specs.CallerLines.{At, DidLines, at}
+use Rattle.trace_run.specs.CallerLines.{At, DidLines, HasFed, at}
 use Rattle.trace_run.specs.Effects.{calls_of_all}
 use Rattle.trace_run.specs.Ends.{end_of, ends_of}
 use Rattle.arc_table.specs.Telling.{opening_of}
-use Rattle.trace_run.specs.Explaining.{EndsWith, Explain, drops_at_end}
+use Rattle.trace_run.specs.Explaining.{BeginsWith, EndsWith, Explain, drops_at_end}
 use Rattle.trace_run.specs.KeptBlocks.{DroppedAlone, GivesAll, Stands, StandsWith, holds_in, read_of}
 use Rattle.trace_run.specs.Lines.{caller_of, is_in_shard, is_of_caller, replies_where, shard_of_block, shard_of_line}
 use Rattle.trace_run.specs.OneCaller.{AreFoundAs, IsFoundAs, events_of_drops, kept_after, kept_after_all, one_caller_history, only_feeder}
@@ -48,15 +49,17 @@ use Rattle.trace_run.specs.Opened.{HasJoined}
 use Rattle.trace_run.specs.OverShards.{AllLinesOver, AreNamed, events_over, kept_in_shard}
 use Rattle.trace_run.specs.PlainRun.{shards_after}
 use Rattle.trace_run.specs.Reads.{IsAlone, now_of}
+use Rattle.trace_run.specs.Restores.{events_by_feeder, restored_shard, restores_in}
 use Rattle.arc_table.specs.Seen.{HasAll, seen_of}
 use Rattle.trace_run.specs.Tally.{AreAnswered, IsOfCaller}
 use Rattle.arc_table.specs.Told.{IsTold}
 use Rattle.trace_run.proofs.MappedLemmas.{ran-mapped}
 use Rattle.trace_run.proofs.CallerActLemmas.{callers-none}
+use Rattle.trace_run.proofs.FeederLemmas.{given-unread, own-restores, restores-given}
 use Rattle.trace_run.proofs.GiveLemmas.{all-alone, all-keep, all-number, all-told}
 use Rattle.trace_run.proofs.GroupCounts.{caller-reads, reads_by}
 use Rattle.trace_run.proofs.GroupLemmas.{lines-answers, lines-number}
-use Rattle.trace_run.proofs.HistoryLemmas.{IsReadEvent, is_resize, read-number}
+use Rattle.trace_run.proofs.HistoryLemmas.{IsReadEvent, read-number}
 use Rattle.trace_run.proofs.LinesLemmas.{lines-all, lines-answered, lines-calls, lines-found, lines-kept, lines-length, lines-named, lines-seen, lines-told}
 use Rattle.trace_run.proofs.NamedLemmas.{history-over, named-drops}
 use Rattle.trace_run.proofs.OpenLemmas.{joined-all, new-seen}
@@ -64,8 +67,8 @@ use Rattle.trace_run.proofs.OverShardLemmas.{kept-else, kept-here, there-else, t
 use Rattle.arc_table.proofs.OwnLemmas.{no-own-moments}
 use Rattle.trace_run.proofs.ReportLemmas.{all-own, one-caller, possible-at}
 use Rattle.trace_run.proofs.RestAlone.{all-there, alone-history, alone-legal, alone-now, alone-rests, alone-told}
-use Rattle.trace_run.proofs.SoleLemmas.{sole-acts, sole-answers, sole-fed, sole-kept}
-use Rattle.trace_run.proofs.TellLemmas.{IsAloneEvent, IsAloneOp, all-map, alone-events, no-passes}
+use Rattle.trace_run.proofs.SoleLemmas.{own-two, sole-acts, sole-answers, sole-fed, sole-kept}
+use Rattle.trace_run.proofs.TellLemmas.{IsAloneEvent, IsAloneOp, all-append, all-map, alone-events, is_given, no-passes}
 
 -- ---- lists by their places
 
@@ -143,7 +146,7 @@ mine-reads (e ∷ es) all =
 
     his-read : (e : Event) → IsAloneEvent e → (is_pool_read e && number_of e == 0) ≡ is_pool_read e
     his-read e (inl mine) = with-true (is_pool_read e) (number_of e == 0) (eq-eqb (number_of e) 0 mine.0)
-    his-read e (inr is) = rw is.1 refl
+    his-read e (inr is) = rw (given-unread e is.1) refl
 
 same-sums : (f h : List Event → ℕ) (l : List ShardLog) → ((i : ℕ) (log : ShardLog) → get_elem? l i ≡ some log → f log.history ≡ h log.history)
     → sum_by f (map (λ (log : ShardLog). log.history) l) ≡ sum_by h (map (λ (log : ShardLog). log.history) l)
@@ -187,14 +190,14 @@ module _ (shards : ℕ) (blocks : List Ptr) (i : ℕ) where
 -- each event of the one caller's is of reads, or a capacity that the feeder gives
 alone-read : (callers : ℕ) → callers ≡ 1 → (e : Event) → IsAloneEvent e → IsReadEvent callers e
 alone-read callers one e (inl his) = inl (omega (arith, his.0, one), his.1, his.2)
-alone-read callers one e (inr is) = inr (inr (ap number_of is.1 ∙ sym one, ap is_resize is.1))
+alone-read callers one e (inr is) = inr (inr (is.0 ∙ sym one, is.1))
 
 -- ---- the run
 
 module _ {C P : Type 0} (m : Meanings C) (cache : Cache) (pools : Ghosts P) (blocks : List Ptr) (os : List Op) (replies : List Reply) (before after : P)
     (p q r : Place (Known C)) (kept : List KeptBlock)
     (one : cache.config.callers ≡ 1) (own : (k : ℕ) (op : Op) → slice_get os k ≡ Some op → IfSome (caller_of op) (λ n. n ≡ 0))
-    (first : HasJoined cache (parties_of cache.config) p)
+    (restored : List Restored) (new : Place (Known C)) (first : HasJoined cache (parties_of cache.config) new) (fed : HasFed cache.config (restores_in cache.config restored) new p)
     (did : DidLines cache.config pools 0 blocks os replies (at p [] before) (at q (map read_of kept) after))
     (between : Stands cache q kept) (gives : GivesAll m cache.config kept q r) (last : Stands cache r []) where
   abbrev g : Config
@@ -222,13 +225,13 @@ module _ {C P : Type 0} (m : Meanings C) (cache : Cache) (pools : Ghosts P) (blo
   same-count = lines-length g pools 0 blocks os replies a b did
 
   alone : IsAlone 0 p
-  alone = record { all = joined-all cache p first; none = refl }
+  alone = record { all = fed.all (joined-all cache new first); none = refl }
 
   all-q : HasAll q
   all-q = (lines-all g pools 0 blocks os replies a b did alone).all
 
   number-q : q.number ≡ 0
-  number-q = lines-number g pools 0 blocks os replies a b did ∙ first.number
+  number-q = lines-number g pools 0 blocks os replies a b did ∙ (fed.number ∙ first.number)
 
   number-r : r.number ≡ 0
   number-r = all-number m cache kept q r between gives ∙ number-q
@@ -245,23 +248,35 @@ module _ {C P : Type 0} (m : Meanings C) (cache : Cache) (pools : Ghosts P) (blo
   parties-r : r.parties ≡ parties_of cache.config
   parties-r = last.of.row.1 ∙ (sym first.new.stands.of.row.1 ∙ first.new.parties)
 
-  opens : (shard : ℕ) → now_of g shard p ≡ opening
-  opens shard = ap (replay opening) (new-seen cache p first.new shard)
+  abbrev begun : ℕ → List Event
+  begun = restores_in g restored
+
+  abbrev start : ℕ → PlainShard
+  start = restored_shard g restored
+
+  -- it has seen the restores, and nothing else
+  seen-first : (shard : ℕ) → seen_of g shard p ≡ begun shard
+  seen-first shard = fed.seen shard ∙ ap (λ (es : List Event). es ++ begun shard) (new-seen cache new first.new shard)
+
+  opens : (shard : ℕ) → now_of g shard p ≡ start shard
+  opens shard = ap (replay opening) (seen-first shard)
 
   -- ---- the shards
 
   abbrev history_of : ℕ → List Event
-  history_of shard = one_caller_history blocks 0 opening (filter (is_in_shard g.shards blocks shard) os) (replies_where (is_in_shard g.shards blocks shard) os replies)
+  history_of shard = begun shard ++ one_caller_history blocks 0 (start shard) (filter (is_in_shard g.shards blocks shard) os) (replies_where (is_in_shard g.shards blocks shard) os replies)
 
   all-seen : (shard : ℕ) → seen_of g shard r ≡ history_of shard
   all-seen shard =
       let lines = lines-seen g pools 0 blocks os replies a b did alone shard in
-      let from : seen_of g shard q ≡ events_over g.shards blocks (λ i. opening) [] shard os replies =
-      lines ∙ (λ h. new-seen cache p first.new shard h ++ events_over g.shards blocks (λ i. opens i h) [] shard os replies) in
+      let over : List Event = events_over g.shards blocks start [] shard os replies in
+      let from : seen_of g shard q ≡ begun shard ++ over =
+      lines ∙ (λ h. seen-first shard h ++ events_over g.shards blocks (λ i. opens i h) [] shard os replies) in
+      let end : List Event = events_of_drops 0 (kept_in_shard g.shards blocks shard (kept_after_all blocks [] os replies)) in
       let drops : events_of_drops q.number (holds_in g shard (map read_of kept)) ≡ events_of_drops 0 (kept_in_shard g.shards blocks shard (kept_after_all blocks [] os replies)) =
       ap (λ (n : ℕ). events_of_drops n (holds_in g shard (map read_of kept))) number-q
       ∙ (named-drops g blocks 0 shard (map read_of kept) named ∙ ap (λ (l : List KeptRead). events_of_drops 0 (kept_in_shard g.shards blocks shard l)) kept-is) in
-      dropped.seen shard ∙ ((λ h. from h ++ drops h) ∙ history-over g.shards blocks 0 shard (λ i. opening) os replies)
+      dropped.seen shard ∙ ((λ h. from h ++ drops h) ∙ (append_assoc (begun shard) over end ∙ ap (λ (es : List Event). begun shard ++ es) (history-over g.shards blocks 0 shard start os replies)))
 
   -- the party that closes the cache is as it was, as far as shards go
   module _ (entries : ℕ → List Line) (z : Place (Known C)) (same-number : z.number ≡ r.number) (same-parties : z.parties ≡ r.parties) (stands-z : StandsWith entries cache z []) (all-z : HasAll z)
@@ -280,15 +295,19 @@ module _ {C P : Type 0} (m : Meanings C) (cache : Cache) (pools : Ghosts P) (blo
       here = all-filtered IsAloneOp (is_in_shard g.shards blocks i) os all-his
 
       mine : AllByRecursion IsAloneEvent l.history
-      mine = subst (AllByRecursion IsAloneEvent) (sym the-history)
-          (alone-events blocks opening (filter (is_in_shard g.shards blocks i) os) (replies_where (is_in_shard g.shards blocks i) os replies) here)
+      mine = subst (AllByRecursion IsAloneEvent) (sym the-history) (all-append IsAloneEvent (begun i) _
+          (all-map (λ e. (number_of e ≡ only_feeder) × (is_given e ≡ true)) IsAloneEvent (begun i) (λ e is. inr is) (restores-given g only_feeder one restored i))
+          (alone-events blocks (start i) (filter (is_in_shard g.shards blocks i) os) (replies_where (is_in_shard g.shards blocks i) os replies) here))
 
       reads : AllByRecursion (IsReadEvent g.callers) l.history
       reads = all-map IsAloneEvent (IsReadEvent g.callers) l.history (λ e is. alone-read g.callers one e is) mine
 
-      -- the feeder made a Resize for each capacity, and nothing else
-      fed : i < g.shards → own_events g.callers l.history ≡ events_of_feeds g.callers os replies
-      fed below = subst (λ (n : ℕ). own_events n l.history ≡ events_of_feeds n os replies) (sym one) (ap (own_events only_feeder) the-history ∙ sole-fed blocks opening g.shards i os replies below here)
+      -- the feeder made the restores and a Resize for each capacity, and nothing else
+      fed-all : i < g.shards → own_events g.callers l.history ≡ events_by_feeder g restored os replies i
+      fed-all below = subst (λ (n : ℕ). own_events n l.history ≡ begun i ++ events_of_feeds n os replies) (sym one)
+          (ap (own_events only_feeder) the-history
+          ∙ (own-two only_feeder (begun i) (one_caller_history blocks 0 (start i) (filter (is_in_shard g.shards blocks i) os) (replies_where (is_in_shard g.shards blocks i) os replies))
+          ∙ (λ h. own-restores g only_feeder one restored i h ++ sole-fed blocks (start i) g.shards i os replies below here h)))
 
       numbers : AllByRecursion (λ e. IsTrue (has_its_number g.callers g.cells e)) l.history
       numbers = all-map (IsReadEvent g.callers) (λ e. IsTrue (has_its_number g.callers g.cells e)) l.history (λ e is. read-number g.callers g.cells e is) reads
@@ -298,7 +317,7 @@ module _ {C P : Type 0} (m : Meanings C) (cache : Cache) (pools : Ghosts P) (blo
         where
           its-number : (n : ℕ) → n ≢ 0 → n ≢ g.callers → (e : Event) → IsAloneEvent e → number_of e ≢ n
           its-number n differs other e (inl his) same = differs (sym same ∙ his.0)
-          its-number n differs other e (inr is) same = other (sym same ∙ (ap number_of is.1 ∙ sym one))
+          its-number n differs other e (inr is) same = other (sym same ∙ (is.0 ∙ sym one))
 
       rests : IsAtRest (replay opening l.history)
       rests = alone-rests m cache z closed ends parties-z stands-z all-z i l at_i (λ n below. number-z ∙ omega (arith, below, one)) reads
@@ -313,7 +332,7 @@ module _ {C P : Type 0} (m : Meanings C) (cache : Cache) (pools : Ghosts P) (blo
 
     told-all : IsTold g (acts_of_caller blocks 0 his to-him) r
     told-all =
-        let lines = lines-told g pools 0 blocks os replies a b did [] first.new.told in
+        let lines = lines-told g pools 0 blocks os replies a b did [] (fed.told [] first.new.told) in
         let then = all-told m cache kept q r between gives (acts_of_all blocks [] os replies) lines in
         subst (λ (l : List Act). IsTold g l r) (λ h. sole-acts blocks [] os replies same-count all-his h ++ acts_of_drops (number-q h) ((kept-is ∙ sole-kept blocks [] os replies same-count all-his) h)) then
 
@@ -342,14 +361,14 @@ module _ {C P : Type 0} (m : Meanings C) (cache : Cache) (pools : Ghosts P) (blo
     some-log : (shard : ℕ) → shard < length (histories_of closed) → (l : ShardLog) × (get_elem? closed.shards shard ≡ some l)
     some-log shard below = there closed.shards shard (subst (λ (n : ℕ). shard < n) (length-map closed.shards (λ (log : ShardLog). log.history)) below)
 
-    every-call : HoldEveryCallOnce g (shard_of g.shards) opening acts (λ shard. events_of_feeds g.callers os replies) (histories_of closed)
+    every-call : HoldEveryCallOnce g (shard_of g.shards) opening acts (events_by_feeder g restored os replies) (histories_of closed)
     every-call = record {
       told = λ shard n below differs.
           let l = some-log shard below in
           subst (λ (h : List Event). Tell (acts_in (shard_of g.shards) shard n acts) (own_moments n (moments opening h))) (sym (index-is shard l.0 l.1)) (tell-at shard n l.0 l.1 differs);
       fed = λ shard below.
           let l = some-log shard below in
-          ap (own_events g.callers) (index-is shard l.0 l.1) ∙ fed shard l.0 l.1 (subst (λ (n : ℕ). shard < n) (length-map closed.shards (λ (log : ShardLog). log.history) ∙ ends.shards) below);
+          ap (own_events g.callers) (index-is shard l.0 l.1) ∙ fed-all shard l.0 l.1 (subst (λ (n : ℕ). shard < n) (length-map closed.shards (λ (log : ShardLog). log.history) ∙ ends.shards) below);
       numbers = all-mapped (λ (log : ShardLog). log.history) (λ history. AllByRecursion (λ e. IsTrue (has_its_number g.callers g.cells e)) history) closed.shards numbers;
       passes = all-mapped (λ (log : ShardLog). log.history) (λ history. IsTrue (are_passes_placed history)) closed.shards (λ i l at_l. no-passes l.history (mine i l at_l));
     }
@@ -386,12 +405,16 @@ module _ {C P : Type 0} (m : Meanings C) (cache : Cache) (pools : Ghosts P) (blo
     ends-at i l at_i =
         (seen_of g i q, alone-history m cache z closed ends parties-z stands-z all-z i l at_i ∙ (seen-z i ∙ (dropped.seen i ∙ ap (λ (es : List Event). seen_of g i q ++ es) (drops-are i))))
 
-    explained : Explain trace replies (ends_in closed) (histories_of closed)
+    begins-at : (i : ℕ) (l : ShardLog) → get_elem? closed.shards i ≡ some l → BeginsWith l.history (begun i)
+    begins-at i l at_i = (_, the-history i l at_i)
+
+    explained : Explain trace restored replies (ends_in closed) (histories_of closed)
     explained = record {
       shards = length-map closed.shards (λ (log : ShardLog). log.history) ∙ ends.shards;
       legal = all-mapped (λ (log : ShardLog). log.history) (λ history. IsTrue (is_legal_history opening history)) closed.shards (alone-legal m cache z closed ends parties-z stands-z all-z);
       ends = ends-are closed.shards (λ i l at_l. ap end_of (sym (now-is i l at_l)));
       at_rest = all-mapped (λ (log : ShardLog). log.history) (λ history. IsAtRest (replay opening history)) closed.shards rests;
+      begins = λ shard below. let l = some-log shard below in subst (λ (h : List Event). BeginsWith h (begun shard)) (sym (index-is shard l.0 l.1)) (begins-at shard l.0 l.1);
       every_call = every-call;
       ending = λ shard below. let l = some-log shard below in subst (λ (h : List Event). EndsWith h (drops_at_end g blocks shard g.callers os replies)) (sym (index-is shard l.0 l.1)) (ends-at shard l.0 l.1);
     }
@@ -400,27 +423,27 @@ module _ {C P : Type 0} (m : Meanings C) (cache : Cache) (pools : Ghosts P) (blo
         ends-are [] each = refl
         ends-are (x ∷ xs) each = λ i. each 0 x refl i ∷ ends-are xs (λ k log is. each (suc k) log is) i
 
-    pub ran : RanAlone pools before after trace replies closed
+    pub ran : RanAlone pools before after trace restored replies closed
     ran = record {
       answers = lines-answered g pools 0 blocks 0 os replies a b own refl did;
       made = lines-calls g pools 0 blocks os replies a b did;
       histories = counted-off (λ (log : ShardLog). log.history) history_of closed.shards 0 (λ i l at_l. the-history i l at_l ∙ ap history_of (omega arith))
           ∙ ap (λ (n : ℕ). map history_of (range_with_len 0 n)) ends.shards;
-      found = all-counted _ (λ shard. found-over g.shards blocks shard (λ i. opening) [] os replies found-all) 0 g.shards;
+      found = all-counted _ (λ shard. found-over g.shards blocks shard start [] os replies found-all) 0 g.shards;
       counted = counted-all;
       explained = explained;
       config = ends.config;
       lines = record { first = a; last = b; alone = alone; none = refl; opens = opens; from = refl; to = refl; lines = did };
     }
       where
-        found-all : AllLinesOver (λ s kept op reply. IsFoundAs blocks s op reply) g.shards blocks (λ i. opening) [] os replies
+        found-all : AllLinesOver (λ s kept op reply. IsFoundAs blocks s op reply) g.shards blocks start [] os replies
         found-all = subst (λ (s : ℕ → PlainShard). AllLinesOver (λ s kept op reply. IsFoundAs blocks s op reply) g.shards blocks s [] os replies) (λ h i. opens i h)
             (lines-found g pools 0 blocks os replies a b did alone)
 
 -- what is asked of the run, by the trace
 module _ {C P : Type 0} (m : Meanings C) (cache : Cache) (pools : Ghosts P) (trace : Trace) (replies : List Reply) (before after : P) (p q r : Place (Known C)) (kept : List KeptBlock)
     (config : cache.config ≡ trace.config) (formed : IsFormed trace) (one : trace.config.callers ≡ 1)
-    (first : HasJoined cache (parties_of cache.config) p)
+    (restored : List Restored) (new : Place (Known C)) (first : HasJoined cache (parties_of cache.config) new) (fed : HasFed cache.config (restores_in cache.config restored) new p)
     (did : DidLines cache.config pools 0 trace.blocks trace.ops replies (at p [] before) (at q (map read_of kept) after))
     (between : Stands cache q kept) (gives : GivesAll m cache.config kept q r) (last : Stands cache r []) where
   callers : cache.config.callers ≡ 1
@@ -430,13 +453,13 @@ module _ {C P : Type 0} (m : Meanings C) (cache : Cache) (pools : Ghosts P) (tra
   own = alone-ops trace formed one
 
   pub still-0 : r.number ≡ 0
-  still-0 = number-r m cache pools trace.blocks trace.ops replies before after p q r kept callers own first did between gives last
+  still-0 = number-r m cache pools trace.blocks trace.ops replies before after p q r kept callers own restored new first fed did between gives last
 
   pub still-all : HasAll r
-  still-all = (dropped m cache pools trace.blocks trace.ops replies before after p q r kept callers own first did between gives last).all
+  still-all = (dropped m cache pools trace.blocks trace.ops replies before after p q r kept callers own restored new first fed did between gives last).all
 
   pub still-rows : cache.row.parties ≡ parties_of cache.config
-  still-rows = sym last.of.row.1 ∙ parties-r m cache pools trace.blocks trace.ops replies before after p q r kept callers own first did between gives last
+  still-rows = sym last.of.row.1 ∙ parties-r m cache pools trace.blocks trace.ops replies before after p q r kept callers own restored new first fed did between gives last
 
   -- the feeder's party has still joined it
   pub still-joined : r.joined ≡ q.joined
@@ -445,11 +468,11 @@ module _ {C P : Type 0} (m : Meanings C) (cache : Cache) (pools : Ghosts P) (tra
   module _ (entries : ℕ → List Line) (z : Place (Known C)) (same-number : z.number ≡ r.number) (same-parties : z.parties ≡ r.parties) (stands-z : StandsWith entries cache z []) (all-z : HasAll z)
       (seen-z : (shard : ℕ) → seen_of cache.config shard z ≡ seen_of cache.config shard r) where
     pub end-there : (n : ℕ) → n < parties_of cache.config → SomeHas n (z ∷ [])
-    end-there = all-there cache z (same-parties ∙ parties-r m cache pools trace.blocks trace.ops replies before after p q r kept callers own first did between gives last) all-z
+    end-there = all-there cache z (same-parties ∙ parties-r m cache pools trace.blocks trace.ops replies before after p q r kept callers own restored new first fed did between gives last) all-z
 
-    pub ran-alone : (given : Cache) (ps : List (Place (Known C))) (closed : Ended C) → given ≡ cache → ps ≡ z ∷ [] → Ends m given ps closed → RanAlone pools before after trace replies closed
+    pub ran-alone : (given : Cache) (ps : List (Place (Known C))) (closed : Ended C) → given ≡ cache → ps ≡ z ∷ [] → Ends m given ps closed → RanAlone pools before after trace restored replies closed
     ran-alone given ps closed same listed ends =
-        ran-mapped pools before after trace replies closed
-        (subst (λ (g : Config). RanAlone pools before after (record { config = g; blocks = trace.blocks; objects = []; ops = trace.ops }) replies closed) config
-        (ran m cache pools trace.blocks trace.ops replies before after p q r kept callers own first did between gives last entries z same-number same-parties stands-z all-z seen-z closed
+        ran-mapped pools before after trace restored replies closed
+        (subst (λ (g : Config). RanAlone pools before after (record { config = g; blocks = trace.blocks; objects = []; ops = trace.ops }) restored replies closed) config
+        (ran m cache pools trace.blocks trace.ops replies before after p q r kept callers own restored new first fed did between gives last entries z same-number same-parties stands-z all-z seen-z closed
         (subst (λ (x : Cache × List (Place (Known C))). Ends m x.0 x.1 closed) (λ i. (same i, listed i)) ends)))

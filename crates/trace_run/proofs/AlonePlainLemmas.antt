@@ -24,13 +24,14 @@ use Rattle.trace_run.specs.OneCaller.{events_of, kept_after}
 use Rattle.trace_run.specs.OverShards.{AllLinesOver}
 use Rattle.trace_run.specs.PlainReport.{ArePlainReplies, IsPlainReply, IsPlainReport}
 use Rattle.trace_run.specs.PlainRun.{next_call, replies_to, reply_to, report_of, report_with, shards_after}
+use Rattle.trace_run.specs.Restores.{restored_of, restored_shard, restores_in}
 use Rattle.trace_run.specs.Reads.{IsAlone, now_of}
 use Rattle.trace_run.specs.Tally.{AnswersNow}
 use Rattle.trace_run.proofs.LinesLemmas.{all-then, line-now, lines-length}
 use Rattle.trace_run.proofs.PlainLemmas.{drop-front, next-is}
 use Rattle.trace_run.proofs.PlainReplyLemmas.{IsPlainlyServed, line-brings, line-plain}
 use Rattle.trace_run.proofs.PlainReportLemmas.{alike-events, alike-kept, plain-alike, plain-but}
-use Rattle.trace_run.proofs.ResidentLemmas.{AreTold, Brings, told-replay}
+use Rattle.trace_run.proofs.ResidentLemmas.{AreTold, Brings, all-restores, told-replay, told-restores}
 
 -- ---- what is known of each line
 
@@ -103,19 +104,19 @@ module _ (image : List ℕ) (shards : ℕ) (blocks : List Ptr) where
 
 -- ---- the report
 
--- A caller that is alone and kept nothing, over shards at their start: its report is that of the plain run, but for other contents of one digest.
+-- A caller that is alone and kept nothing, over shards to which keys were restored: its report is that of the plain run, but for other contents of one digest.
 pub plain-alone : {C P : Type 0} (pools : Ghosts P) (device : ℕ) (trace : Trace) (report : Report) (a b : At C P) → DidLines trace.config pools device trace.blocks trace.ops report.replies a b
-    → IsAlone device a.party → a.kept ≡ [] → ((i : ℕ) → now_of trace.config i a.party ≡ opening_of trace.config)
-    → ((image : List ℕ) → pools.told a.pool ≡ Some image → length image ≡ pools.size a.pool) → report ≡ report_with trace report.replies
-    → IfSome (pools.told a.pool) (λ image. IsPlainReport trace image (report_of trace image (calls_of_all report.replies)) report)
+    → IsAlone device a.party → a.kept ≡ [] → ((i : ℕ) → now_of trace.config i a.party ≡ restored_shard trace.config (restored_of report.rebuilt) i)
+    → ((image : List ℕ) → pools.told a.pool ≡ Some image → length image ≡ pools.size a.pool) → report ≡ report_with trace report.rebuilt report.replies
+    → IfSome (pools.told a.pool) (λ image. IsPlainReport trace image (report_of trace report.rebuilt image (calls_of_all report.replies)) report)
 plain-alone {C} {P} pools device trace report a b did alone none opens sized is = go (pools.told a.pool) refl
   where
-    go : (o : Option (List ℕ)) → pools.told a.pool ≡ o → IfSome o (λ image. IsPlainReport trace image (report_of trace image (calls_of_all report.replies)) report)
+    go : (o : Option (List ℕ)) → pools.told a.pool ≡ o → IfSome o (λ image. IsPlainReport trace image (report_of trace report.rebuilt image (calls_of_all report.replies)) report)
     go None told = tt
     go (Some image) told =
-        let opening : PlainShard = opening_of trace.config in
+        let start : ℕ → PlainShard = restored_shard trace.config (restored_of report.rebuilt) in
         let served = lines-served trace.config pools device trace.blocks image trace.ops report.replies a b did alone (sym (sized image told)) told in
-        let from : AllLinesOver (IsPlainlyServed image trace.blocks) trace.config.shards trace.blocks (λ i. opening) [] trace.ops report.replies =
+        let from : AllLinesOver (IsPlainlyServed image trace.blocks) trace.config.shards trace.blocks start [] trace.ops report.replies =
         subst (λ (x : (ℕ → PlainShard) × List KeptRead). AllLinesOver (IsPlainlyServed image trace.blocks) trace.config.shards trace.blocks x.0 x.1 trace.ops report.replies) (λ h. (λ i. opens i h, none h)) served in
-        plain-but trace image (replies_to image trace.config.shards trace.blocks (λ i. opening) [] trace.ops (calls_of_all report.replies)) report is
-        (plain-replies image trace.config.shards trace.blocks (λ i. opening) [] trace.ops report.replies (lines-length trace.config pools device trace.blocks trace.ops report.replies a b did) (λ i. tt) from)
+        plain-but trace image (replies_to image trace.config.shards trace.blocks start [] trace.ops (calls_of_all report.replies)) report is
+        (plain-replies image trace.config.shards trace.blocks start [] trace.ops report.replies (lines-length trace.config pools device trace.blocks trace.ops report.replies a b did) (λ i. told-restores image (opening_of trace.config) (restores_in trace.config (restored_of report.rebuilt) i) (all-restores trace.config (restored_of report.rebuilt) i) tt) from)

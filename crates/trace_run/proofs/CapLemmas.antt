@@ -1,16 +1,13 @@
 -- One caller's line that gives a capacity is a line like any other; and the feeder's party stays joined behind each line.
-use Rattle.std.proofs.Common.{◌≡◌, ℕ, nat_lt, Bool, true, false, if◌then◌else◌, List, [], ◌∷◌, ◌++◌, inl, inr, refl, sym, ap, ◌∙◌, subst, arith, append-nil}
+use Rattle.std.proofs.Common.{◌≡◌, ℕ, true, List, refl, sym, ◌∙◌, subst, arith, append-nil}
 use Rattle.std.specs.Prelude.{IsSome}
-use Rattle.std.proofs.lemmas.Bool.{cases_lt, false≢true}
-use Rattle.std.proofs.lemmas.Bool.Decides.{nat_tests}
+use Rattle.std.proofs.lemmas.Bool.{false≢true}
 use Rattle.blk_ptr.specs.declared.ptr.Ptr.{Ptr}
 use Rattle.arc_core.specs.declared.config.Config.{Config}
-use Rattle.arc_core.specs.declared.event.Event.TheVariants.{Resize}
 use Rattle.arc_core.specs.Operations.{Act}
 use Rattle.turn_table.specs.Places.{Place}
 use Rattle.arc_table.specs.declared.view.Known.{Known}
 use Rattle.arc_table.specs.Cache.{Cache}
-use Rattle.arc_table.specs.Seen.{seen_of}
 use Rattle.arc_table.specs.Told.{IsTold}
 use Rattle.trace_text.specs.declared.op.Op.{Op}
 use Rattle.trace_text.specs.declared.op.Op.TheVariants as ops
@@ -21,21 +18,13 @@ use Rattle.trace_run.specs.KeptReads.{KeptRead}
 use Rattle.trace_run.specs.CallerLines.{At, DidLine, DidThere, HasResized, at}
 use Rattle.trace_run.specs.Lines.{caller_of, is_of_caller}
 use Rattle.trace_run.specs.Meeting.{HasFeeder}
-use Rattle.trace_run.specs.OneCaller.{only_feeder}
 
 module _ {C P : Type 0} (g : Config) (pools : Ghosts P) (device : ℕ) (blocks : List Ptr) (p q : Place (Known C)) (kept : List KeptRead) (a : P) where
   cap-there : (c : ℕ) → HasResized g c p q → DidThere g device blocks kept (ops.Cap c) (Capped c) p q
   cap-there c r = record {
     number = r.number;
     told = λ before told. subst (λ (l : List Act). IsTold g l q) (sym (append-nil before)) (r.told before told);
-    alone = λ alone shard. elim (cases_lt shard g.shards) [
-      | inl below ↦
-          let here : nat_lt shard g.shards ≡ true = grind (arith, nat_tests, below) in
-          r.seen shard below ∙ ap (λ (b : Bool). seen_of g shard p ++ (if b then Resize only_feeder c ∷ [] else [])) (sym here)
-      | inr beyond ↦
-          let out : nat_lt shard g.shards ≡ false = grind (arith, nat_tests, beyond) in
-          r.beyond shard beyond ∙ (sym (append-nil (seen_of g shard p)) ∙ ap (λ (b : Bool). seen_of g shard p ++ (if b then Resize only_feeder c ∷ [] else [])) (sym out))
-    ];
+    alone = λ alone shard. r.seen shard;
     all = r.all;
     joined = λ his. absurd (false≢true his);
   }

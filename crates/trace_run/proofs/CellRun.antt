@@ -6,6 +6,7 @@ use lib.ListN.{get_elem?}
 use Rattle.std.specs.Prelude.{Bool, slice_index_or}
 use Rattle.arc_core.specs.Config.{IsConfig}
 use Rattle.arc_core.specs.declared.config.Config.{Config}
+use Rattle.arc_core.specs.declared.served.Restored.{Restored}
 use Rattle.turn_table.specs.Places.{AllShow, kept as as_kept}
 use Rattle.turn_table.specs.declared.standing.Kept.{Kept}
 use Rattle.arc_table.specs.declared.about.About.{About}
@@ -22,13 +23,13 @@ use Rattle.trace_text.specs.declared.reply.Reply.{Reply}
 use Rattle.trace_text.specs.declared.trace.Trace.{Trace}
 use Rattle.trace_text.specs.Grammar.{IsFormed}
 use Rattle.trace_run.specs.declared.groups.Crew.{Crew}
-use Rattle.trace_run.specs.Acts.{events_of_feeds}
 use Rattle.trace_run.specs.CellEnds.{AreCellsOf, HasSeenEnds, IsCellOf, end_entry}
 use Rattle.trace_run.specs.GroupRun.{HaveClosed, HaveStopped}
 use Rattle.trace_run.specs.Groups.{AreDone}
 use Rattle.trace_run.specs.KeptBlocks.{no_entries}
 use Rattle.trace_run.specs.Meeting.{HaveGivenBack}
 use Rattle.trace_run.specs.Openings.{Knows, openings_of}
+use Rattle.trace_run.specs.Restores.{events_by_feeder}
 use Rattle.trace_run.proofs.AfterEnds.{AreAfter, IsAfter, crew-long, last-same, same-long}
 use Rattle.trace_run.proofs.CellLemmas.{all-cells-of, cell-of, entries-are, opened-so}
 use Rattle.trace_run.proofs.CellsLeft.{entries-as}
@@ -107,13 +108,13 @@ module _ (cache : Cache) (fin : List PartyPlace) (all : List PartyPlace) (e : En
           )
 
 module _ {P : Type 0} (cache : Cache) (pools : Ghosts P) (before after : P) (trace : Trace) (formed : IsFormed trace) (config : cache.config ≡ trace.config) (valid : IsConfig cache.config)
-    (fork_failed : Bool) (rs : List Reply) (crew : Crew OnHeap) (d : AreDone cache pools trace before after fork_failed rs crew) (closed : Ended OnHeap) (h : HaveClosed dbuf_meanings cache crew closed) where
+    (fork_failed : Bool) (restored : List Restored) (rs : List Reply) (crew : Crew OnHeap) (d : AreDone cache restored pools trace before after fork_failed rs crew) (closed : Ended OnHeap) (h : HaveClosed dbuf_meanings cache crew closed) where
   given : HaveStopped no_entries cache h.parties
-  given = stopped dbuf_meanings cache pools before after trace formed config valid fork_failed rs crew d closed h
+  given = stopped dbuf_meanings cache pools before after trace formed config valid fork_failed restored rs crew d closed h
 
-  gone : HaveGivenBack cache (lines-acts cache (pools.size before) (pools.told before) trace.blocks (take (length rs) trace.ops) rs crew d.between.come) crew.feeder.own.about.openings
-      (λ shard. events_of_feeds cache.config.callers (take (length rs) trace.ops) rs) (λ shard. seen_of cache.config shard crew.feeder) crew.kept.items h.parties
-  gone = gave dbuf_meanings cache pools before after trace formed config valid fork_failed rs crew d closed h
+  gone : HaveGivenBack cache (lines-acts cache restored (pools.size before) (pools.told before) trace.blocks (take (length rs) trace.ops) rs crew d.between.come) crew.feeder.own.about.openings
+      (events_by_feeder cache.config restored (take (length rs) trace.ops) rs) (λ shard. seen_of cache.config shard crew.feeder) crew.kept.items h.parties
+  gone = gave dbuf_meanings cache pools before after trace formed config valid fork_failed restored rs crew d closed h
 
   long : length h.ended.callers ≡ cache.config.callers
   long = omega (arith, given.count, ap length h.ended.are, length-append h.ended.callers (h.ended.feeder ∷ []))
@@ -132,4 +133,4 @@ module _ {P : Type 0} (cache : Cache) (pools : Ghosts P) (before after : P) (tra
 
   pub closed-cells : AreCellsOf trace closed
   closed-cells = together-cells cache h.closing h.parties closed h.ends trace config (crew-long cache h.parties h.closing h.ended ∙ given.count) (λ n p at. (given.each n p at).0)
-      (subst (λ (n : ℕ). AreAfter cache (end_entry n) h.parties h.closing) feeder-number (after-ends dbuf_meanings cache pools before after trace formed config valid fork_failed rs crew d closed h)) h.ended.last last-at knows-last
+      (subst (λ (n : ℕ). AreAfter cache (end_entry n) h.parties h.closing) feeder-number (after-ends dbuf_meanings cache pools before after trace formed config valid fork_failed restored rs crew d closed h)) h.ended.last last-at knows-last

@@ -14,6 +14,7 @@ use Rattle.blk_ptr.specs.Hash.{shard_of}
 use Rattle.arc_core.specs.Config.{IsConfig}
 use Rattle.arc_core.specs.declared.config.Config.{Config}
 use Rattle.arc_core.specs.declared.event.Event.{Event}
+use Rattle.arc_core.specs.declared.served.Restored.{Restored}
 use Rattle.arc_core.specs.Operations.{Act, HoldEveryCallOnce, IsAtRest, Moment, Tell, acts_in, are_passes_placed, has_its_number, is_pass, is_pool_read, moments, number_of, own_events, own_moments, pool_reads}
 use Rattle.arc_core.specs.Replay.{is_legal_history, replay}
 use Rattle.arc_core.specs.declared.event.Event.TheVariants as event
@@ -38,32 +39,34 @@ use Rattle.trace_text.specs.declared.reply.Reply.{Reply}
 use Rattle.trace_run.specs.Acts.{acts_of_caller, acts_of_callers, events_of_feeder, events_of_feeds}
 use Rattle.trace_run.specs.Ends.{end_of, ends_of}
 use Rattle.arc_table.specs.Telling.{opening_of}
-use Rattle.trace_run.specs.Explaining.{EndsWith, Explain, drops_at_end}
+use Rattle.trace_run.specs.Explaining.{BeginsWith, EndsWith, Explain, drops_at_end}
 use Rattle.trace_run.specs.KeptBlocks.{IsIdle, Stands, StandsWith, is_ptr, times}
 use Rattle.trace_run.specs.Lines.{is_of_caller, replies_where}
 use Rattle.arc_table.specs.Seen.{HasSeenItsOwn, seen_of}
 use Rattle.arc_table.proofs.OwnLemmas.{no-own-moments}
 use Rattle.arc_table.proofs.SeenLemmas.{get-behind}
+use Rattle.trace_run.specs.Restores.{events_by_feeder, restores_in}
 use Rattle.trace_run.specs.Together.{over_callers, reads_of_caller}
 use Rattle.arc_table.specs.Told.{IsTold}
 use Rattle.trace_run.proofs.CallerActLemmas.{callers-none, callers-own, own-lines}
 use Rattle.trace_run.proofs.CloseLemmas.{closed-finds, closed-legal, closed-now, closed-sound, closed-told}
 use Rattle.trace_run.proofs.EachLemmas.{AreLast, IsLast, closed-others, closed-placed, each-own}
+use Rattle.trace_run.proofs.FeederLemmas.{restores-given}
 use Rattle.trace_run.proofs.GroupCounts.{IsReadOfCaller, all-reads, read-no-pass}
-use Rattle.trace_run.proofs.HistoryLemmas.{IsReadEvent, all-events, is_resize, own-events, read-number, told-reads}
+use Rattle.trace_run.proofs.HistoryLemmas.{IsReadEvent, all-events, own-events, read-number, told-reads}
 use Rattle.trace_run.proofs.KeptBlockLemmas.{is_ptr-same, times-cons}
 use Rattle.trace_run.proofs.PlacedLemmas.{all-by-place}
 use Rattle.trace_run.proofs.RestLemmas.{AreIdle, closed-rests, party-idle}
-use Rattle.trace_run.proofs.TellLemmas.{IsActOf, IsReadAct, acts-caller, all-append, all-map, is_of_reads}
+use Rattle.trace_run.proofs.TellLemmas.{IsActOf, IsReadAct, acts-caller, all-append, all-map, is_given, is_of_reads}
 
 -- what is so of a party at the end of a run: it has this number and has given all back; what a caller did is told, and the feeder made these events
-pub record HasEnded {C : Type 0} (g : Config) (acts : List Act) (feeds : List Event) (n : ℕ) (p : Place (Known C)) : Type 0 where
+pub record HasEnded {C : Type 0} (g : Config) (acts : List Act) (feeds : (shard : ℕ) → List Event) (n : ℕ) (p : Place (Known C)) : Type 0 where
   pub number : p.number ≡ n
   pub config : p.own.about.config ≡ g
   pub seen : HasSeenItsOwn g p
   pub idle : IsIdle p.own.ledger
   pub told : n < g.callers → IsTold g acts p
-  pub fed : n ≡ g.callers → (shard : ℕ) → shard < g.shards → own_events n (seen_of g shard p) ≡ feeds
+  pub fed : n ≡ g.callers → (shard : ℕ) → shard < g.shards → own_events n (seen_of g shard p) ≡ feeds shard
 
 -- ---- a party by its own number alone: the closed cache asks for no more
 
@@ -120,34 +123,39 @@ callers-reads blocks (suc c) ops replies =
 
 -- ---- what the feeder makes
 
--- each is a new capacity
-fed-resizes : (n : ℕ) (os : List Op) (rs : List Reply) → AllByRecursion (λ e. is_resize e ≡ true) (events_of_feeds n os rs)
+-- each is a key that is restored, or a new capacity
+fed-resizes : (n : ℕ) (os : List Op) (rs : List Reply) → AllByRecursion (λ e. is_given e ≡ true) (events_of_feeds n os rs)
 fed-resizes n [] rs = tt
 fed-resizes n (o ∷ os) [] = tt
 fed-resizes n (o ∷ os) (r ∷ rs) = go o (fed-resizes n os rs)
   where
-    go : (o : Op) → AllByRecursion (λ e. is_resize e ≡ true) (events_of_feeds n os rs) → AllByRecursion (λ e. is_resize e ≡ true) (events_of_feeder n o ++ events_of_feeds n os rs)
+    go : (o : Op) → AllByRecursion (λ e. is_given e ≡ true) (events_of_feeds n os rs) → AllByRecursion (λ e. is_given e ≡ true) (events_of_feeder n o ++ events_of_feeds n os rs)
     go (kinds.Cap c) rest = (refl, rest)
     go other rest = rest
 
-resize-reads : (e : Event) → is_resize e ≡ true → is_pool_read e ≡ true → ⊥
-resize-reads (event.Resize n c) is read = false≢true read
-resize-reads (event.Pass n k owner) is read = false≢true is
-resize-reads (event.Hit n k t) is read = false≢true is
-resize-reads (event.Miss n k t) is read = false≢true is
-resize-reads (event.Arrive n k d from) is read = false≢true is
-resize-reads (event.Fail n k at) is read = false≢true is
-resize-reads (event.Drop n k) is read = false≢true is
-resize-reads (event.Past n k kept) is read = false≢true is
-resize-reads (event.Hand n k to) is read = false≢true is
-resize-reads (event.Insert n k d t) is read = false≢true is
-resize-reads (event.Release n k sole) is read = false≢true is
-resize-reads (event.Pick n k) is read = false≢true is
-resize-reads (event.FeedEnd n) is read = false≢true is
-resize-reads (event.Set n k place) is read = false≢true is
-resize-reads (event.Leave n k why) is read = false≢true is
-resize-reads (event.Clear n k) is read = false≢true is
-resize-reads (event.Restore n k place d) is read = false≢true is
+fed-given : (g : Config) (restored : List Restored) (os : List Op) (rs : List Reply) (shard : ℕ) → AllByRecursion (λ e. is_given e ≡ true) (events_by_feeder g restored os rs shard)
+fed-given g restored os rs shard = all-append (λ e. is_given e ≡ true) (restores_in g restored shard) (events_of_feeds g.callers os rs)
+    (all-map (λ e. (number_of e ≡ g.callers) × (is_given e ≡ true)) (λ e. is_given e ≡ true) (restores_in g restored shard) (λ e is. is.1) (restores-given g g.callers refl restored shard))
+    (fed-resizes g.callers os rs)
+
+given-reads : (e : Event) → is_given e ≡ true → is_pool_read e ≡ true → ⊥
+given-reads (event.Resize n c) is read = false≢true read
+given-reads (event.Pass n k owner) is read = false≢true is
+given-reads (event.Hit n k t) is read = false≢true is
+given-reads (event.Miss n k t) is read = false≢true is
+given-reads (event.Arrive n k d from) is read = false≢true is
+given-reads (event.Fail n k at) is read = false≢true is
+given-reads (event.Drop n k) is read = false≢true is
+given-reads (event.Past n k kept) is read = false≢true is
+given-reads (event.Hand n k to) is read = false≢true is
+given-reads (event.Insert n k d t) is read = false≢true is
+given-reads (event.Release n k sole) is read = false≢true is
+given-reads (event.Pick n k) is read = false≢true is
+given-reads (event.FeedEnd n) is read = false≢true is
+given-reads (event.Set n k place) is read = false≢true is
+given-reads (event.Leave n k why) is read = false≢true is
+given-reads (event.Clear n k) is read = false≢true is
+given-reads (event.Restore n k place d) is read = false≢true read
 
 -- a number makes no events where none has it
 no-own : (n : ℕ) (s : PlainShard) (es : List Event) → ((y : ℕ) (e : Event) → get_elem? es y ≡ some e → number_of e ≢ n) → own_events n es ≡ []
@@ -179,9 +187,9 @@ history-of (x ∷ xs) (suc i) h at = history-of xs i h at
 
 -- ---- the closed cache
 
-module _ {C : Type 0} (m : Meanings C) (cache : Cache) (valid : IsConfig cache.config) (blocks : List Ptr) (ops : List Op) (replies : List Reply) (ps : List (Place (Known C))) (e : Ended C) (ends : Ends m cache ps e)
+module _ {C : Type 0} (m : Meanings C) (cache : Cache) (valid : IsConfig cache.config) (restored : List Restored) (blocks : List Ptr) (ops : List Op) (replies : List Reply) (ps : List (Place (Known C))) (e : Ended C) (ends : Ends m cache ps e)
     (long : length ps ≡ parties_of cache.config)
-    (ended : (n : ℕ) (p : Place (Known C)) → get_elem? ps n ≡ some p → HasEnded cache.config (acts_of_callers blocks cache.config.callers ops replies) (events_of_feeds cache.config.callers ops replies) n p) where
+    (ended : (n : ℕ) (p : Place (Known C)) → get_elem? ps n ≡ some p → HasEnded cache.config (acts_of_callers blocks cache.config.callers ops replies) (events_by_feeder cache.config restored ops replies) n p) where
   abbrev settled : Config
   settled = cache.config
 
@@ -253,7 +261,7 @@ module _ {C : Type 0} (m : Meanings C) (cache : Cache) (valid : IsConfig cache.c
         (closed-told m cache (bares settled ps) e bare-ends i l at (bare settled p.0) (shown-at settled ends.views ps n p.0 p.1 ends.shown, tt) refl refl tt h.config (seen-bare settled p.0 h.seen) acts (h.told below))
 
     -- the feeder made its events and no others
-    feeder-fed : own_events settled.callers l.history ≡ events_of_feeds settled.callers ops replies
+    feeder-fed : own_events settled.callers l.history ≡ events_by_feeder settled restored ops replies i
     feeder-fed =
         let p = party settled.callers (omega arith) in
         let h = ended settled.callers p.0 p.1 in
@@ -262,7 +270,7 @@ module _ {C : Type 0} (m : Meanings C) (cache : Cache) (valid : IsConfig cache.c
         ap (own_events settled.callers) f.whole
         ∙ (filter-append _ (seen_of settled i p.0) f.rest
         ∙ ((λ k. h.fed refl i inside k ++ no-own settled.callers (opening_of settled) f.rest (λ y ev there_is same. f.others y ev there_is (same ∙ sym h.number)) k)
-        ∙ append-nil (events_of_feeds settled.callers ops replies)))
+        ∙ append-nil (events_by_feeder settled restored ops replies i)))
 
     -- what a party had seen stands first
     pub history-starts : (n : ℕ) (p : Place (Known C)) → get_elem? ps n ≡ some p → StartsWith l.history (seen_of settled i p)
@@ -271,9 +279,9 @@ module _ {C : Type 0} (m : Meanings C) (cache : Cache) (valid : IsConfig cache.c
         let f = closed-finds m cache (bares settled ps) e bare-ends i l at (bare settled p) (shown-at settled ends.views ps n p at_p ends.shown, tt) refl refl tt h.config (seen-bare settled p h.seen) in
         (f.rest, f.whole)
 
-    feeder-made : AllByRecursion (λ (n : Moment). is_resize n.event ≡ true) (own_moments settled.callers (moments (opening_of settled) l.history))
-    feeder-made = all-events (λ e. is_resize e ≡ true) (own_moments settled.callers (moments (opening_of settled) l.history))
-        (subst (AllByRecursion (λ e. is_resize e ≡ true)) (sym (own-events-are settled.callers (opening_of settled) l.history ∙ feeder-fed)) (fed-resizes settled.callers ops replies))
+    feeder-made : AllByRecursion (λ (n : Moment). is_given n.event ≡ true) (own_moments settled.callers (moments (opening_of settled) l.history))
+    feeder-made = all-events (λ e. is_given e ≡ true) (own_moments settled.callers (moments (opening_of settled) l.history))
+        (subst (AllByRecursion (λ e. is_given e ≡ true)) (sym (own-events-are settled.callers (opening_of settled) l.history ∙ feeder-fed)) (fed-given settled restored ops replies i))
 
     caller-made : (x : ℕ) (ev : Event) → get_elem? l.history x ≡ some ev → number_of ev < parties_of settled → is_pass ev ≡ false → IsReadEvent settled.callers ev
     caller-made x ev here below none = elim (cases_lt (number_of ev) settled.callers) [
@@ -285,7 +293,7 @@ module _ {C : Type 0} (m : Meanings C) (cache : Cache) (valid : IsConfig cache.c
       )
       | inr above ↦
           let feeder : number_of ev ≡ settled.callers = omega arith in
-          inr (inr (feeder, own-events (λ y. is_resize y ≡ true) settled.callers (opening_of settled) l.history feeder-made x ev here feeder none))
+          inr (inr (feeder, own-events (λ y. is_given y ≡ true) settled.callers (opening_of settled) l.history feeder-made x ev here feeder none))
     ]
 
     event-is : (x : ℕ) (ev : Event) → get_elem? l.history x ≡ some ev → IsReadEvent settled.callers ev
@@ -319,7 +327,7 @@ module _ {C : Type 0} (m : Meanings C) (cache : Cache) (valid : IsConfig cache.c
   abbrev histories : List (List Event)
   histories = map (λ (log : ShardLog). log.history) e.shards
 
-  every-call : HoldEveryCallOnce settled shard (opening_of settled) acts (λ i. events_of_feeds settled.callers ops replies) (map (λ log. log.history) e.shards)
+  every-call : HoldEveryCallOnce settled shard (opening_of settled) acts (events_by_feeder settled restored ops replies) (map (λ log. log.history) e.shards)
   every-call = record {
     told = λ i n inside differs.
         let h = log-at e.shards i inside in
@@ -362,13 +370,14 @@ module _ {C : Type 0} (m : Meanings C) (cache : Cache) (valid : IsConfig cache.c
   abbrev at-end : ℕ → List Event
   at-end i = drops_at_end settled blocks i settled.callers ops replies
 
-  pub explains : ((i : ℕ) (l : ShardLog) → get_elem? e.shards i ≡ some l → EndsWith l.history (at-end i))
-      → Explain (record { config = settled; blocks = blocks; objects = []; ops = ops }) replies (map (λ log. end_of log.now) e.shards) (map (λ log. log.history) e.shards)
-  explains ends_so = record {
+  pub explains : ((i : ℕ) (l : ShardLog) → get_elem? e.shards i ≡ some l → StartsWith l.history (restores_in settled restored i)) → ((i : ℕ) (l : ShardLog) → get_elem? e.shards i ≡ some l → EndsWith l.history (at-end i))
+      → Explain (record { config = settled; blocks = blocks; objects = []; ops = ops }) restored replies (map (λ log. end_of log.now) e.shards) (map (λ log. log.history) e.shards)
+  explains begun_so ends_so = record {
     shards = length-map e.shards (λ (log : ShardLog). log.history) ∙ ends.shards;
     legal = all-logs (λ h. IsTrue (is_legal_history (opening_of settled) h)) e.shards (λ i l at. legal i l at);
     ends = ends-of-logs settled e.shards (λ i l at. now i l at);
     at_rest = all-logs (λ h. IsAtRest (replay (opening_of settled) h)) e.shards (λ i l at. subst IsAtRest (sym (now i l at)) (rests i l at));
+    begins = λ i inside. let h = log-at e.shards i inside in subst (λ (es : List Event). BeginsWith es (restores_in settled restored i)) (sym h.2) (begun_so i h.0 h.1);
     every_call = every-call;
     ending = λ i inside. let h = log-at e.shards i inside in subst (λ (es : List Event). EndsWith es (at-end i)) (sym h.2) (ends_so i h.0 h.1);
   }
@@ -386,7 +395,7 @@ module _ {C : Type 0} (m : Meanings C) (cache : Cache) (valid : IsConfig cache.c
   read-of-caller : (ev : Event) → IsReadEvent settled.callers ev → IsReadOfCaller settled.callers ev
   read-of-caller ev (inl of) read = of.0
   read-of-caller ev (inr (inl pass)) read = absurd (false≢true (sym (read-no-pass ev read) ∙ pass.0))
-  read-of-caller ev (inr (inr cap)) read = absurd (resize-reads ev cap.1 read)
+  read-of-caller ev (inr (inr cap)) read = absurd (given-reads ev cap.1 read)
 
   pub callers-counted : over_callers settled.callers (λ n. reads_of_caller n histories) ≡ sum_by pool_reads histories
   callers-counted = all-reads settled.callers histories
@@ -404,12 +413,12 @@ none-listed (h ∷ hs) none =
 pub stands-idle : {C : Type 0} {entries : ℕ → List Line} (cache : Cache) (p : Place (Known C)) → StandsWith entries cache p [] → IsIdle p.own.ledger
 stands-idle cache p stands = record { holds = none-listed p.own.ledger.holds stands.listed; readings = stands.idle }
 
-module _ {C : Type 0} (cache : Cache) (blocks : List Ptr) (ops : List Op) (replies : List Reply) (n : ℕ) (p : Place (Known C)) (number : p.number ≡ n) (stands : Stands cache p []) where
+module _ {C : Type 0} (cache : Cache) (restored : List Restored) (blocks : List Ptr) (ops : List Op) (replies : List Reply) (n : ℕ) (p : Place (Known C)) (number : p.number ≡ n) (stands : Stands cache p []) where
   abbrev all-acts : List Act
   all-acts = acts_of_callers blocks cache.config.callers ops replies
 
-  abbrev all-feeds : List Event
-  all-feeds = events_of_feeds cache.config.callers ops replies
+  abbrev all-feeds : (shard : ℕ) → List Event
+  all-feeds = events_by_feeder cache.config restored ops replies
 
   -- a caller, by what its own lines and the end of the run do
   pub caller-ended : (own : List Reply) → n < cache.config.callers → replies_where (is_of_caller n) ops replies ≡ own
@@ -432,7 +441,7 @@ module _ {C : Type 0} (cache : Cache) (blocks : List Ptr) (ops : List Op) (repli
   }
 
   -- the feeder, which made these events
-  pub feeder-ended : n ≡ cache.config.callers → ((shard : ℕ) → shard < cache.config.shards → own_events p.number (seen_of cache.config shard p) ≡ all-feeds) → HasEnded cache.config all-acts all-feeds n p
+  pub feeder-ended : n ≡ cache.config.callers → ((shard : ℕ) → shard < cache.config.shards → own_events p.number (seen_of cache.config shard p) ≡ all-feeds shard) → HasEnded cache.config all-acts all-feeds n p
   feeder-ended is fed = record {
     number = number;
     config = stands.of.config;

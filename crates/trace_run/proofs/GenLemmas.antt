@@ -1,5 +1,5 @@
 -- No read of a made trace is refused.
-use Rattle.std.proofs.Common.{◌≡◌, ℕ, zero, suc, ◌+◌, ◌-◌, ◌*◌, ◌%◌, ◌<◌, ◌≤◌, Bool, true, false, cond, List, [], ◌∷◌, length, map, replicate, Some, inl, inr, refl, sym, ap, subst, ◌∙◌, arith}
+use Rattle.std.proofs.Common.{◌≡◌, ℕ, zero, suc, ◌+◌, ◌-◌, ◌*◌, ◌%◌, ◌<◌, ◌≤◌, Bool, true, false, cond, List, [], ◌∷◌, length, map, replicate, None, Some, inl, inr, refl, sym, ap, subst, ◌∙◌, arith}
 use Rattle.std.specs.Prelude.{count_by, slice_get}
 use Rattle.std.specs.List.{AllByRecursion, list_any, range_with_len}
 use Rattle.std.proofs.lemmas.Bool.{false≢true}
@@ -194,7 +194,7 @@ made-trace seed blocks ops trace made =
     ∙ ap (λ (os : List Op). record (generated seed blocks ops) { ops = os }) made.ops
 
 pub made-report : (seed blocks ops : ℕ) (trace : Trace) (image : List ℕ) (calls : List Call) → trace ≡ generated seed blocks ops → AllGive calls
-    → report_of trace image calls ≡ report_of (generated seed blocks ops) image []
+    → report_of trace None image calls ≡ report_of (generated seed blocks ops) None image []
 made-report seed blocks ops trace image calls is give =
-    ap (λ (l : List Reply). report_with trace l) (plain-gives image trace.config.shards trace.blocks (λ shard. opening_of trace.config) [] trace.ops calls give)
-    ∙ ap (λ (t : Trace). report_of t image []) is
+    ap (λ (l : List Reply). report_with trace None l) (plain-gives image trace.config.shards trace.blocks (λ shard. opening_of trace.config) [] trace.ops calls give)
+    ∙ ap (λ (t : Trace). report_of t None image []) is

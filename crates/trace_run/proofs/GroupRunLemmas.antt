@@ -16,6 +16,7 @@ use Rattle.arc_lists.proofs.Tables.{cases_true}
 use Rattle.arc_core.specs.Config.{IsConfig}
 use Rattle.arc_core.specs.declared.config.Config.{Config}
 use Rattle.arc_core.specs.declared.event.Event.{Event}
+use Rattle.arc_core.specs.declared.served.Restored.{Restored}
 use Rattle.arc_core.specs.Operations.{Act, HoldEveryCallOnce, Tell, acts_in, moments, own_events, own_moments, pool_reads}
 use Rattle.arc_core.specs.ShardLog.{ShardLog}
 use Rattle.vdev_io.specs.Faults.{Rose, last_count}
@@ -55,6 +56,7 @@ use Rattle.trace_run.specs.Lines.{caller_of, is_of_caller, replies_where}
 use Rattle.trace_run.specs.Meeting.{AllGave, AreWaiting, HaveGivenBack, IsApart, IsLevel, MayGoOn, Waits, drops_from}
 use Rattle.trace_run.specs.OneCaller.{events_of_drops, kept_after, kept_after_all}
 use Rattle.trace_run.specs.OverShards.{AreNamed}
+use Rattle.trace_run.specs.Restores.{events_by_feeder, restores_in}
 use Rattle.trace_run.specs.Tally.{AreDeclared}
 use Rattle.trace_run.specs.Together.{AreCut, Lines, WorkInGroups, answered_ops, faults_told, groups_of, over_callers, reads_of_caller, replies_of_caller}
 use Rattle.trace_run.proofs.AbsorbLemmas.{over-few}
@@ -180,7 +182,7 @@ drops-are g blocks shard n (k ∷ ks) os rs each =
     (λ j x at. let y : n + suc j ≡ suc n + j = omega arith in subst (λ (c : ℕ). map read_of x ≡ kept_after_all blocks [] (filter (is_of_caller c) os) (replies_where (is_of_caller c) os rs)) y (each (suc j) x at))
     ∙ ap (λ (c : ℕ). drops_at_end g blocks shard c os rs) more))
 
-module _ {C : Type 0} (cache : Cache) (len : ℕ) (image : Option (List ℕ)) (blocks : List Ptr) (os : List Op) (rs : List Reply) (crew : Crew C) (come : HaveCome cache len image blocks os rs crew) where
+module _ {C : Type 0} (cache : Cache) (restored : List Restored) (len : ℕ) (image : Option (List ℕ)) (blocks : List Ptr) (os : List Op) (rs : List Reply) (crew : Crew C) (come : HaveCome cache restored len image blocks os rs crew) where
   -- what each caller's lines did
   abbrev pub lines-acts : ℕ → List Act
   lines-acts n = acts_of_lines blocks os n (replies_of_caller n os rs)
@@ -262,7 +264,7 @@ module _ {C : Type 0} (cache : Cache) (len : ℕ) (image : Option (List ℕ)) (b
       all-named kept (o ∷ l) [] named = named
       all-named kept (o ∷ l) (x ∷ r) named = all-named (kept_after blocks o x kept) l r (named-after blocks o x kept named)
 
-  module _ (all : List (Place (Known C))) (gone : HaveGivenBack cache lines-acts crew.feeder.own.about.openings (λ shard. events_of_feeds cache.config.callers os rs) (λ shard. seen_of cache.config shard crew.feeder) crew.kept.items all) where
+  module _ (all : List (Place (Known C))) (gone : HaveGivenBack cache lines-acts crew.feeder.own.about.openings (events_by_feeder cache.config restored os rs) (λ shard. seen_of cache.config shard crew.feeder) crew.kept.items all) where
     callers-long : length gone.callers ≡ cache.config.callers
     callers-long = gave-length cache lines-acts 0 crew.kept.items gone.callers gone.gave ∙ come.kepts
 
@@ -303,10 +305,10 @@ module _ {C : Type 0} (cache : Cache) (len : ℕ) (image : Option (List ℕ)) (b
         level-at (y ∷ ys) zero x all_so at = subst (IsLevel cache.config gone.lines) (some-injective y x at) all_so.0
         level-at (y ∷ ys) (suc i) x all_so at = level-at ys i x all_so.1 at
 
-    come-ended : (n : ℕ) (p : Place (Known C)) → get_elem? all n ≡ some p → HasEnded cache.config (acts_of_callers blocks cache.config.callers os rs) (events_of_feeds cache.config.callers os rs) n p
-    come-ended = each-party (λ n p. HasEnded cache.config (acts_of_callers blocks cache.config.callers os rs) (events_of_feeds cache.config.callers os rs) n p)
-        (λ n p at. let w = caller-at n p at in caller-ended cache blocks os rs n p w.1.number w.1.stands (replies_of_caller n os rs) w.0 refl w.1.told)
-        (feeder-ended cache blocks os rs cache.config.callers gone.feeder gone.fed.number gone.fed.stands refl gone.fed.fed)
+    come-ended : (n : ℕ) (p : Place (Known C)) → get_elem? all n ≡ some p → HasEnded cache.config (acts_of_callers blocks cache.config.callers os rs) (events_by_feeder cache.config restored os rs) n p
+    come-ended = each-party (λ n p. HasEnded cache.config (acts_of_callers blocks cache.config.callers os rs) (events_by_feeder cache.config restored os rs) n p)
+        (λ n p at. let w = caller-at n p at in caller-ended cache restored blocks os rs n p w.1.number w.1.stands (replies_of_caller n os rs) w.0 refl w.1.told)
+        (feeder-ended cache restored blocks os rs cache.config.callers gone.feeder gone.fed.number gone.fed.stands refl gone.fed.fed)
 
     -- what each caller still kept
     kept-at : (k : ℕ) (x : List KeptBlock) → get_elem? crew.kept.items k ≡ some x → map read_of x ≡ kept_after_all blocks [] (filter (is_of_caller (0 + k)) os) (replies_where (is_of_caller (0 + k)) os rs)
@@ -327,7 +329,7 @@ module _ {C : Type 0} (cache : Cache) (len : ℕ) (image : Option (List ℕ)) (b
       fin-count : length fin ≡ parties_of cache.config
       fin-count = fin-long ∙ all-count
 
-      fin-ended : (n : ℕ) (p : Place (Known C)) → get_elem? fin n ≡ some p → HasEnded cache.config (acts_of_callers blocks cache.config.callers os rs) (events_of_feeds cache.config.callers os rs) n p
+      fin-ended : (n : ℕ) (p : Place (Known C)) → get_elem? fin n ≡ some p → HasEnded cache.config (acts_of_callers blocks cache.config.callers os rs) (events_by_feeder cache.config restored os rs) n p
       fin-ended n p at =
           let a = after n p at in
           let h = come-ended n a.0 a.1 in
@@ -355,29 +357,38 @@ module _ {C : Type 0} (cache : Cache) (len : ℕ) (image : Option (List ℕ)) (b
         ends-at : (i : ℕ) (l : ShardLog) → get_elem? closed.shards i ≡ some l → EndsWith l.history (drops_at_end cache.config blocks i cache.config.callers os rs)
         ends-at i l at = let z : 0 + length crew.kept.items ≡ cache.config.callers = omega (arith, come.kepts) in (
           gone.first i,
-          closed-level m cache valid blocks os rs fin closed ends fin-count fin-ended (λ shard. events_in (gone.lines shard)) fin-level i l at
+          closed-level m cache valid restored blocks os rs fin closed ends fin-count fin-ended (λ shard. events_in (gone.lines shard)) fin-level i l at
               ∙ (gone.drops i ∙ ap (λ (es : List Event). gone.first i ++ es)
               (drops-are cache.config blocks i 0 crew.kept.items os rs kept-at ∙ ap (λ (c : ℕ). drops_at_end cache.config blocks i c os rs) z)),
         )
 
-        pub come-explains : Explain (record { config = cache.config; blocks = blocks; objects = []; ops = os }) rs (ends_in closed) (histories_of closed)
-        come-explains = explains m cache valid blocks os rs fin closed ends fin-count fin-ended ends-at
+        -- each history begins with what the feeder had seen
+        begins-at : (i : ℕ) (l : ShardLog) → get_elem? closed.shards i ≡ some l → StartsWith l.history (restores_in cache.config restored i)
+        begins-at i l at =
+            let inside : i < cache.config.shards = subst (λ (k : ℕ). i < k) ends.shards (within closed.shards i l at) in
+            let last = there fin cache.config.callers (omega (arith, fin-count)) in
+            let first = subst (StartsWith l.history) (fin-feeder last.0 last.1 i) (history-starts m cache valid restored blocks os rs fin closed ends fin-count fin-ended i l at cache.config.callers last.0 last.1) in
+            starts-then l.history (seen_of cache.config i crew.feeder) (restores_in cache.config restored i)
+            (starts-then l.history (seen_of cache.config i gone.feeder) (seen_of cache.config i crew.feeder) first (gone.fed.since i)) (come.begun i inside)
+
+        pub come-explains : Explain (record { config = cache.config; blocks = blocks; objects = []; ops = os }) restored rs (ends_in closed) (histories_of closed)
+        come-explains = explains m cache valid restored blocks os rs fin closed ends fin-count fin-ended begins-at ends-at
 
         pub come-others : over_callers cache.config.callers (λ n. reads_of_caller n (histories_of closed)) ≡ sum_by pool_reads (histories_of closed)
-        come-others = callers-counted m cache valid blocks os rs fin closed ends fin-count fin-ended
+        come-others = callers-counted m cache valid restored blocks os rs fin closed ends fin-count fin-ended
 
         pub come-counted : (n : ℕ) → n < cache.config.callers → length (calls_of_all (replies_of_caller n os rs)) ≡ reads_of_caller n (histories_of closed)
         come-counted n below =
             caller-reads cache.config len image blocks n os (replies_of_caller n os rs) (histories_of closed) valid (length-map closed.shards _ ∙ ends.shards)
-            (come.each n below).come.answers (caller-told m cache valid blocks os rs fin closed ends fin-count fin-ended n below)
+            (come.each n below).come.answers (caller-told m cache valid restored blocks os rs fin closed ends fin-count fin-ended n below)
 
         -- each capacity cuts each history
-        pub come-cut : (i : ℕ) (l : ShardLog) → get_elem? closed.shards i ≡ some l → AreCut cache.config blocks i os rs l.history
+        pub come-cut : (i : ℕ) (l : ShardLog) → get_elem? closed.shards i ≡ some l → AreCut cache.config restored blocks i os rs l.history
         come-cut i l at =
             let inside : i < cache.config.shards = subst (λ (k : ℕ). i < k) ends.shards (within closed.shards i l at) in
             let last = there fin cache.config.callers (omega (arith, fin-count)) in
-            let first = subst (StartsWith l.history) (fin-feeder last.0 last.1 i) (history-starts m cache valid blocks os rs fin closed ends fin-count fin-ended i l at cache.config.callers last.0 last.1) in
-            are-cut-more cache.config blocks i os rs (seen_of cache.config i crew.feeder) l.history
+            let first = subst (StartsWith l.history) (fin-feeder last.0 last.1 i) (history-starts m cache valid restored blocks os rs fin closed ends fin-count fin-ended i l at cache.config.callers last.0 last.1) in
+            are-cut-more cache.config restored blocks i os rs (seen_of cache.config i crew.feeder) l.history
             (starts-then l.history (seen_of cache.config i gone.feeder) (seen_of cache.config i crew.feeder) first (gone.fed.since i)) (come.cut i inside)
 
 -- ---- what the callers' replies tell is what all replies tell
@@ -497,15 +508,16 @@ module _ (blocks : List Ptr) (os more : List Op) (rs : List Reply) (same : lengt
   feeds-prefix n = ap (events_of_feeds n (os ++ more)) (sym (append-nil rs)) ∙ (feeds-append n os more rs [] same ∙ (ap (λ (l : List Event). events_of_feeds n os rs ++ l) (none-feeds n more) ∙ append-nil (events_of_feeds n os rs)))
 
 -- so the histories explain the replies to all lines
-explained-more : (config : Config) (blocks : List Ptr) (os more : List Op) (rs : List Reply) (ends : List ShardEnd) (histories : List (List Event)) → length rs ≡ length os
+explained-more : (config : Config) (restored : List Restored) (blocks : List Ptr) (os more : List Op) (rs : List Reply) (ends : List ShardEnd) (histories : List (List Event)) → length rs ≡ length os
     → ((n : ℕ) → n < config.callers → length (replies_of_caller n os rs) ≡ length (filter (is_of_caller n) os))
-    → Explain (record { config = config; blocks = blocks; objects = []; ops = os }) rs ends histories → Explain (record { config = config; blocks = blocks; objects = []; ops = os ++ more }) rs ends histories
-explained-more config blocks os more rs ends histories same long e = record {
+    → Explain (record { config = config; blocks = blocks; objects = []; ops = os }) restored rs ends histories → Explain (record { config = config; blocks = blocks; objects = []; ops = os ++ more }) restored rs ends histories
+explained-more config restored blocks os more rs ends histories same long e = record {
   shards = e.shards;
   legal = e.legal;
   ends = e.ends;
   at_rest = e.at_rest;
-  every_call = subst (λ (x : List Act × List Event). HoldEveryCallOnce config (shard_of config.shards) (opening_of config) x.0 (λ shard. x.1) histories)
+  begins = e.begins;
+  every_call = subst (λ (x : List Act × List Event). HoldEveryCallOnce config (shard_of config.shards) (opening_of config) x.0 (λ shard. restores_in config restored shard ++ x.1) histories)
       (λ i. (sym (all-acts blocks os more rs same config.callers long) i, sym (feeds-prefix blocks os more rs same config.callers) i)) e.every_call;
   ending = λ shard below. subst (EndsWith (slice_index_or histories shard [])) (sym (all-drops blocks os more rs same config.callers long config shard)) (e.ending shard below);
 }
@@ -513,7 +525,7 @@ explained-more config blocks os more rs ends histories same long e = record {
 -- ---- what the run came to
 
 module _ {C P : Type 0} (m : Meanings C) (cache : Cache) (pools : Ghosts P) (before after : P) (trace : Trace) (formed : IsFormed trace) (config : cache.config ≡ trace.config) (valid : IsConfig cache.config)
-    (fork_failed : Bool) (rs : List Reply) (crew : Crew C) (d : AreDone cache pools trace before after fork_failed rs crew) (closed : Ended C) (h : HaveClosed m cache crew closed) where
+    (fork_failed : Bool) (restored : List Restored) (rs : List Reply) (crew : Crew C) (d : AreDone cache restored pools trace before after fork_failed rs crew) (closed : Ended C) (h : HaveClosed m cache crew closed) where
   abbrev callers : ℕ
   callers = cache.config.callers
 
@@ -523,7 +535,7 @@ module _ {C P : Type 0} (m : Meanings C) (cache : Cache) (pools : Ghosts P) (bef
   abbrev more : List Op
   more = drop (length rs) trace.ops
 
-  pub come : HaveCome cache (pools.size before) (pools.told before) trace.blocks os rs crew
+  pub come : HaveCome cache restored (pools.size before) (pools.told before) trace.blocks os rs crew
   come = d.between.come
 
   whole-ops : os ++ more ≡ trace.ops
@@ -539,12 +551,12 @@ module _ {C P : Type 0} (m : Meanings C) (cache : Cache) (pools : Ghosts P) (bef
   abbrev entries : ℕ → List Line
   entries = end_entry h.ended.feeder.number
 
-  pub gave : HaveGivenBack cache (lines-acts cache (pools.size before) (pools.told before) trace.blocks os rs crew come) crew.feeder.own.about.openings (λ shard. events_of_feeds callers os rs) (λ shard. seen_of cache.config shard crew.feeder) crew.kept.items all-given
-  gave = h.gave (lines-acts cache (pools.size before) (pools.told before) trace.blocks os rs crew come) (come-wait cache (pools.size before) (pools.told before) trace.blocks os rs crew come)
-      crew.feeder.own.about.openings (λ shard. events_of_feeds callers os rs) (λ shard. seen_of cache.config shard crew.feeder) come.feeder
+  pub gave : HaveGivenBack cache (lines-acts cache restored (pools.size before) (pools.told before) trace.blocks os rs crew come) crew.feeder.own.about.openings (events_by_feeder cache.config restored os rs) (λ shard. seen_of cache.config shard crew.feeder) crew.kept.items all-given
+  gave = h.gave (lines-acts cache restored (pools.size before) (pools.told before) trace.blocks os rs crew come) (come-wait cache restored (pools.size before) (pools.told before) trace.blocks os rs crew come)
+      crew.feeder.own.about.openings (events_by_feeder cache.config restored os rs) (λ shard. seen_of cache.config shard crew.feeder) come.feeder
 
   pub stopped : HaveStopped no_entries cache all-given
-  stopped = come-stopped cache (pools.size before) (pools.told before) trace.blocks os rs crew come all-given gave
+  stopped = come-stopped cache restored (pools.size before) (pools.told before) trace.blocks os rs crew come all-given gave
 
   pub closing-long : length closing ≡ length all-given
   closing-long = crew-long cache h.parties h.closing h.ended
@@ -562,18 +574,18 @@ module _ {C P : Type 0} (m : Meanings C) (cache : Cache) (pools : Ghosts P) (bef
   answers : AnswersAll (pools.size before) (pools.told before) trace.blocks os rs
   answers = all-answered (pools.size before) (pools.told before) trace.blocks (λ n. n < callers) os rs come.long below-all come.capped (λ n below. (come.each n below).come.answers)
 
-  explained : Explain trace rs (ends_in closed) (histories_of closed)
+  explained : Explain trace restored rs (ends_in closed) (histories_of closed)
   explained =
-      let e = come-explains cache (pools.size before) (pools.told before) trace.blocks os rs crew come all-given gave entries closing closing-long after-ends m valid closed h.ends in
-      explain-mapped trace rs (ends_in closed) (histories_of closed)
-      (subst (λ (x : Config × List Op). Explain (record { config = x.0; blocks = trace.blocks; objects = []; ops = x.1 }) rs (ends_in closed) (histories_of closed)) (λ i. (config i, whole-ops i))
-      (explained-more cache.config trace.blocks os more rs (ends_in closed) (histories_of closed) come.long long-each e))
+      let e = come-explains cache restored (pools.size before) (pools.told before) trace.blocks os rs crew come all-given gave entries closing closing-long after-ends m valid closed h.ends in
+      explain-mapped trace restored rs (ends_in closed) (histories_of closed)
+      (subst (λ (x : Config × List Op). Explain (record { config = x.0; blocks = trace.blocks; objects = []; ops = x.1 }) restored rs (ends_in closed) (histories_of closed)) (λ i. (config i, whole-ops i))
+      (explained-more cache.config restored trace.blocks os more rs (ends_in closed) (histories_of closed) come.long long-each e))
 
   all-reads-are : over_callers callers (λ n. length (calls_of_all (replies_of_caller n os rs))) ≡ sum_by pool_reads (histories_of closed)
   all-reads-are =
       over-same callers (λ n. length (calls_of_all (replies_of_caller n os rs))) (λ n. reads_of_caller n (histories_of closed))
-      (come-counted cache (pools.size before) (pools.told before) trace.blocks os rs crew come all-given gave entries closing closing-long after-ends m valid closed h.ends)
-      ∙ come-others cache (pools.size before) (pools.told before) trace.blocks os rs crew come all-given gave entries closing closing-long after-ends m valid closed h.ends
+      (come-counted cache restored (pools.size before) (pools.told before) trace.blocks os rs crew come all-given gave entries closing closing-long after-ends m valid closed h.ends)
+      ∙ come-others cache restored (pools.size before) (pools.told before) trace.blocks os rs crew come all-given gave entries closing closing-long after-ends m valid closed h.ends
 
   all-faults-are : over_callers callers (λ n. count_by is_pool_fault (replies_of_caller n os rs)) ≡ count_by is_pool_fault rs
   all-faults-are = over-replies is_pool_fault callers (λ c. refl) os rs come.long below-all come.capped
@@ -611,14 +623,14 @@ module _ {C P : Type 0} (m : Meanings C) (cache : Cache) (pools : Ghosts P) (bef
       go false is = ap (λ (p : P). pools.faults p) (d.whole is).1 ∙ reached-faults room
       go true is = omega (arith, (d.failed is).1.faults (omega (arith, room, reached-faults room, faults-few)), reached-faults room)
 
-  pub group-together : RanTogether pools before after trace fork_failed rs closed
+  pub group-together : RanTogether pools before after trace fork_failed restored rs closed
   group-together = record {
     answers = go fork_failed refl;
     config = h.ends.config ∙ config;
     explained = explained;
     reads = after-reads;
     faults = λ room. subst (λ (b : Bool). pools.faults after ≡ pools.faults before + faults_told b rs) refl (after-faults room);
-    together = record {
+    together = λ rebuilt is. record {
       reached = d.reached;
       groups = subst (λ (x : ℕ × List Lines). WorkInGroups pools x.0 x.1 before d.reached)
           (λ i. (ap (λ (g : Config). g.callers) config i, (sym (groups-prefix os more rs come.long) ∙ ap (λ (l : List Op). groups_of l rs) whole-ops) i)) d.between.groups;
@@ -626,13 +638,13 @@ module _ {C P : Type 0} (m : Meanings C) (cache : Cache) (pools : Ghosts P) (bef
       counted = λ n below.
           ap (λ (l : List Op). length (calls_of_all (replies_of_caller n l rs))) (sym whole-ops)
           ∙ (ap (λ (l : List Reply). length (calls_of_all l)) (replies-prefix trace.blocks os more rs come.long n)
-          ∙ come-counted cache (pools.size before) (pools.told before) trace.blocks os rs crew come all-given gave entries closing closing-long after-ends m valid closed h.ends n (subst (λ (g : Config). n < g.callers) (sym config) below));
+          ∙ come-counted cache restored (pools.size before) (pools.told before) trace.blocks os rs crew come all-given gave entries closing closing-long after-ends m valid closed h.ends n (subst (λ (g : Config). n < g.callers) (sym config) below));
       cut = λ shard below.
           let l = there closed.shards shard (subst (λ (n : ℕ). shard < n) (length-map closed.shards (λ (log : ShardLog). log.history)) below) in
           let here : slice_index_or (histories_of closed) shard [] ≡ l.0.history = index-history closed.shards shard l.0 l.1 in
-          subst (λ (x : Config × List Op × List Event). AreCut x.0 trace.blocks shard x.1 rs x.2) (λ i. (config i, whole-ops i, sym here i))
-          (cut-prefix cache.config trace.blocks shard os more rs l.0.history come.long
-          (come-cut cache (pools.size before) (pools.told before) trace.blocks os rs crew come all-given gave entries closing closing-long after-ends m valid closed h.ends shard l.0 l.1));
+          subst (λ (x : Config × List Op × List Event × List Restored). AreCut x.0 x.3 trace.blocks shard x.1 rs x.2) (λ i. (config i, whole-ops i, sym here i, sym is i))
+          (cut-prefix cache.config restored trace.blocks shard os more rs l.0.history come.long
+          (come-cut cache restored (pools.size before) (pools.told before) trace.blocks os rs crew come all-given gave entries closing closing-long after-ends m valid closed h.ends shard l.0 l.1));
     };
     failed = λ is.
         let f = d.failed is in (

@@ -1,8 +1,9 @@
 -- Several callers between groups: what one group more adds to what they have come to, and a line that ends it.
-use Rattle.std.proofs.Common.{◌≡◌, ℕ, zero, suc, ◌+◌, ◌<◌, ◌≤◌, true, false, List, [], ◌∷◌, ◌++◌, Option, Some, None, length, map, take, refl, sym, ap, ◌∙◌, subst, inl, inr, arith, append-nil, append_assoc, length-append, eq-eqb, ◌-◌}
+use Rattle.std.proofs.Common.{◌≡◌, ℕ, zero, suc, ◌+◌, ◌<◌, ◌≤◌, nat_lt, Bool, true, false, if◌then◌else◌, List, [], ◌∷◌, ◌++◌, Option, Some, None, length, map, take, refl, sym, ap, ◌∙◌, subst, inl, inr, arith, append-nil, append_assoc, length-append, eq-eqb, ◌-◌}
 use Rattle.std.specs.Prelude.{filter, slice_get}
 use Rattle.std.specs.List.{AllByRecursion}
 use Rattle.std.proofs.lemmas.Bool.{cases_lt}
+use Rattle.std.proofs.lemmas.Bool.Decides.{nat_tests}
 use Rattle.std.proofs.lemmas.List.{take-append-le}
 use Rattle.std.proofs.lemmas.List.Elements.{filter-append}
 use Rattle.std.proofs.lemmas.Option.{slice_get_within}
@@ -15,14 +16,15 @@ use Rattle.blk_ptr.specs.Hash.{shard_of}
 use Rattle.vdev_io.specs.declared.pool.Pool.{Ghosts}
 use Rattle.arc_core.specs.declared.config.Config.{Config}
 use Rattle.arc_core.specs.declared.event.Event.{Event}
+use Rattle.arc_core.specs.declared.served.Restored.{Restored}
 use Rattle.arc_core.specs.declared.event.Event.TheVariants.{Resize}
 use Rattle.arc_core.specs.Operations.{Act, Tell, acts_in, moments, own_events, own_moments}
 use Rattle.turn_table.specs.Places.{Place}
 use Rattle.arc_table.specs.declared.view.Known.{Known}
 use Rattle.arc_table.specs.declared.view.Line.{Line}
 use Rattle.arc_table.specs.Cache.{Cache}
-use Rattle.arc_table.specs.Fronts.{StartsWith}
-use Rattle.arc_table.specs.Seen.{seen_of}
+use Rattle.arc_table.specs.Fronts.{StartsWith, front_of}
+use Rattle.arc_table.specs.Seen.{seen_of, turn_of}
 use Rattle.arc_table.specs.TableLaws.{starts_whole, there}
 use Rattle.arc_table.specs.Telling.{opening_of}
 use Rattle.trace_text.specs.declared.op.Op.{Op}
@@ -37,11 +39,13 @@ use Rattle.trace_run.specs.Groups.{AreCapped, AreOfCallers, ComesAt, DidLinesAtO
 use Rattle.trace_run.specs.KeptBlocks.{read_of}
 use Rattle.trace_run.specs.KeptReads.{KeptRead}
 use Rattle.trace_run.specs.Lines.{caller_of, is_of_caller, replies_where}
-use Rattle.trace_run.specs.Meeting.{HasParted, HaveParted, IsFed, Resized, Waits}
+use Rattle.trace_run.specs.Meeting.{HasParted, HaveParted, IsFed, IsLevel, MadeJoined, Resized, Waits}
 use Rattle.trace_run.specs.OneCaller.{kept_after, kept_after_all}
+use Rattle.trace_run.specs.Restores.{events_by_feeder, restores_in}
 use Rattle.trace_run.specs.Opened.{AreOpened, IsOpened}
 use Rattle.trace_run.specs.Tally.{AreAnswered}
 use Rattle.trace_run.specs.Together.{AreCut, BeginsGroup, IsCut, Lines, ends_group, groups_of, replies_of_caller, with_first}
+use Rattle.trace_run.proofs.FeederLemmas.{own-restores}
 use Rattle.trace_run.proofs.MeetLemmas.{parted-waits, same-own-events, starts-then}
 use Rattle.trace_run.proofs.OpenLemmas.{new-seen}
 use Rattle.trace_run.proofs.TogetherLemmas.{answered-length}
@@ -121,9 +125,9 @@ no-other callers os own k op at none = let of = (own k op at).1 in some-none (sy
 
 -- ---- what is cut stays cut
 
-module _ (config : Config) (blocks : List Ptr) (shard : ℕ) where
+module _ (config : Config) (restored : List Restored) (blocks : List Ptr) (shard : ℕ) where
   -- behind what the feeder had seen
-  pub cut-more : (os : List Op) (rs : List Reply) (c : ℕ) (h g : List Event) → StartsWith g h → IsCut config blocks shard os rs c h → IsCut config blocks shard os rs c g
+  pub cut-more : (os : List Op) (rs : List Reply) (c : ℕ) (h g : List Event) → StartsWith g h → IsCut config restored blocks shard os rs c h → IsCut config restored blocks shard os rs c g
   cut-more os rs c h g starts cut = record {
     front = cut.front;
     rest = cut.rest ++ starts.0;
@@ -132,21 +136,21 @@ module _ (config : Config) (blocks : List Ptr) (shard : ℕ) where
     feeder = cut.feeder;
   }
 
-  pub are-cut-more : (os : List Op) (rs : List Reply) (h g : List Event) → StartsWith g h → AreCut config blocks shard os rs h → AreCut config blocks shard os rs g
+  pub are-cut-more : (os : List Op) (rs : List Reply) (h g : List Event) → StartsWith g h → AreCut config restored blocks shard os rs h → AreCut config restored blocks shard os rs g
   are-cut-more os rs h g starts cut k c at below = cut-more (take k os) (take k rs) c h g starts (cut k c at below)
 
   -- by lines that stand before others
-  pub cut-before : (os qs : List Op) (rs ss : List Reply) (h : List Event) → length rs ≡ length os → AreCut config blocks shard os rs h
-      → (k c : ℕ) → slice_get (os ++ qs) k ≡ Some (ops.Cap c) → k < length os → IsCut config blocks shard (take k (os ++ qs)) (take k (rs ++ ss)) c h
+  pub cut-before : (os qs : List Op) (rs ss : List Reply) (h : List Event) → length rs ≡ length os → AreCut config restored blocks shard os rs h
+      → (k c : ℕ) → slice_get (os ++ qs) k ≡ Some (ops.Cap c) → k < length os → IsCut config restored blocks shard (take k (os ++ qs)) (take k (rs ++ ss)) c h
   cut-before os qs rs ss h same cut k c at below =
-      subst (λ (x : List Op × List Reply). IsCut config blocks shard x.0 x.1 c h) (λ i. (sym (take-append-le k os qs (omega (arith, below))) i, sym (take-append-le k rs ss (omega (arith, below, same))) i))
+      subst (λ (x : List Op × List Reply). IsCut config restored blocks shard x.0 x.1 c h) (λ i. (sym (take-append-le k os qs (omega (arith, below))) i, sym (take-append-le k rs ss (omega (arith, below, same))) i))
       (cut k c (sym (get-left os qs k below) ∙ at) (omega (arith, below, same)))
 
 -- behind the lines that are answered nothing is cut
-pub cut-prefix : (config : Config) (blocks : List Ptr) (shard : ℕ) (os more : List Op) (rs : List Reply) (h : List Event) → length rs ≡ length os → AreCut config blocks shard os rs h → AreCut config blocks shard (os ++ more) rs h
-cut-prefix config blocks shard os more rs h same cut k c at below =
-    subst (λ (x : List Op × List Reply). IsCut config blocks shard x.0 x.1 c h) (λ i. (take k (os ++ more), ap (take k) (append-nil rs) i))
-    (cut-before config blocks shard os more rs [] h same cut k c at (omega (arith, below, same)))
+pub cut-prefix : (config : Config) (restored : List Restored) (blocks : List Ptr) (shard : ℕ) (os more : List Op) (rs : List Reply) (h : List Event) → length rs ≡ length os → AreCut config restored blocks shard os rs h → AreCut config restored blocks shard (os ++ more) rs h
+cut-prefix config restored blocks shard os more rs h same cut k c at below =
+    subst (λ (x : List Op × List Reply). IsCut config restored blocks shard x.0 x.1 c h) (λ i. (take k (os ++ more), ap (take k) (append-nil rs) i))
+    (cut-before config restored blocks shard os more rs [] h same cut k c at (omega (arith, below, same)))
 
 -- ---- groups
 
@@ -260,7 +264,7 @@ module _ {C : Type 0} (cache : Cache) (whole : List (Place (Known C))) (crew : C
   pub crew-rows : cache.row.parties ≡ cache.config.callers + 1
   crew-rows = sym feeder-new.new.stands.of.row.1 ∙ feeder-new.new.parties
 
-  pub have-started : (len : ℕ) (image : Option (List ℕ)) (blocks : List Ptr) → HaveCome cache len image blocks [] [] crew
+  pub have-started : (len : ℕ) (image : Option (List ℕ)) (blocks : List Ptr) → HaveCome cache [] len image blocks [] [] crew
   have-started len image blocks = record {
     long = refl;
     kepts = count ∙ crew-count;
@@ -284,6 +288,7 @@ module _ {C : Type 0} (cache : Cache) (whole : List (Place (Known C))) (crew : C
       fed = λ shard below. none-own shard;
       since = λ shard. starts_whole (seen_of cache.config shard crew.feeder);
     };
+    begun = λ shard below. (seen_of cache.config shard crew.feeder, refl);
     cut = λ shard below k c at some_k. absurd (omega (arith, some_k));
   }
     where
@@ -296,10 +301,77 @@ module _ {C : Type 0} (cache : Cache) (whole : List (Place (Known C))) (crew : C
           no-own : (es : List Event) → es ≡ [] → own_events crew.feeder.number es ≡ []
           no-own es is = ap (own_events crew.feeder.number) is
 
+-- ---- parties that have parted
+
+parted-at : {C : Type 0} (cache : Cache) (lines : ℕ → List Line) (n : ℕ) (os xs : List (Place (Known C))) (o : Place (Known C)) → HaveParted cache lines os xs → get_elem? os n ≡ some o → (x : Place (Known C)) × (get_elem? xs n ≡ some x) × HasParted cache lines o x
+parted-at cache lines n [] xs o parted at = absurd (some-ne-none o (sym at))
+parted-at cache lines n (p ∷ os) [] o parted at = absurd parted
+parted-at {C} cache lines zero (p ∷ os) (x ∷ xs) o parted at = (x, refl, subst (λ (y : Place (Known C)). HasParted cache lines y x) (some-injective p o at) parted.0)
+parted-at cache lines (suc n) (p ∷ os) (x ∷ xs) o parted at = parted-at cache lines n os xs o parted.1 at
+
+pub parted-length : {C : Type 0} (cache : Cache) (lines : ℕ → List Line) (os xs : List (Place (Known C))) → HaveParted cache lines os xs → length xs ≡ length os
+parted-length cache lines [] [] parted = refl
+parted-length cache lines [] (x ∷ xs) parted = absurd parted
+parted-length cache lines (o ∷ os) [] parted = absurd parted
+parted-length cache lines (o ∷ os) (x ∷ xs) parted = ap suc (parted-length cache lines os xs parted.1)
+
+-- ---- the keys that were found on the cache device
+
+module _ {C : Type 0} (cache : Cache) (restored : List Restored) (len : ℕ) (image : Option (List ℕ)) (blocks : List Ptr) (old new : Crew C) (whole : List (Place (Known C))) (opened : AreOpened cache whole)
+    (is : whole ≡ old.parties.items ++ old.feeder ∷ []) (before : HaveCome cache [] len image blocks [] [] old)
+    (made : MadeJoined cache (restores_in cache.config restored) old.feeder old.parties.items new.feeder new.parties.items) (kept : new.kept.items ≡ old.kept.items) where
+  -- nobody had seen anything
+  nothing-seen : (p : Place (Known C)) (n : ℕ) → IsOpened cache n p → IsLevel cache.config (λ shard. []) p
+  nothing-seen p n new_one shard = ap (front_of (turn_of cache.config shard)) new_one.new.seen
+
+  level-from : (ps : List (Place (Known C))) (p : Place (Known C)) → ((n : ℕ) (x : Place (Known C)) → get_elem? (ps ++ p ∷ []) n ≡ some x → (m : ℕ) × IsOpened cache m x)
+      → AllByRecursion (IsLevel cache.config (λ shard. [])) ps × IsLevel cache.config (λ shard. []) p
+  level-from [] p each = let h = each 0 p refl in (tt, nothing-seen p h.0 h.1)
+  level-from (x ∷ ps) p each = let h = each 0 x refl in let rest = level-from ps p (λ n y at. each (suc n) y at) in ((nothing-seen x h.0 h.1, rest.0), rest.1)
+
+  all-level : AllByRecursion (IsLevel cache.config (λ shard. [])) old.parties.items × IsLevel cache.config (λ shard. []) old.feeder
+  all-level = level-from old.parties.items old.feeder (λ n x at. (n, opened.each n x (ap (λ (l : List (Place (Known C))). get_elem? l n) is ∙ at)))
+
+  -- so they have seen the restores, and nothing else
+  restores-seen : (shard : ℕ) → seen_of cache.config shard new.feeder ≡ restores_in cache.config restored shard
+  restores-seen shard = made.seen shard ∙ ap (λ (es : List Event). es ++ restores_in cache.config restored shard) (made.same (λ s. []) all-level.1 all-level.0 shard)
+
+  restored-come : (n : ℕ) → n < cache.config.callers → ComesAt cache len image blocks [] [] n new
+  restored-come n below =
+      let b = before.each n below in
+      let x = parted-at cache made.lines n old.parties.items new.parties.items b.party made.parted b.at.party_at in
+      record {
+        reads = b.reads;
+        party = x.0;
+        at = record { kept_at = ap (λ (l : List (List KeptBlock)). get_elem? l n) kept ∙ b.at.kept_at; party_at = x.1 };
+        come = record { waits = parted-waits cache made.lines b.party x.0 x.2 n [] b.reads b.come.waits; keeps = b.come.keeps; answers = b.come.answers };
+      }
+
+  pub have-restored : HaveCome cache restored len image blocks [] [] new
+  have-restored = record {
+    long = refl;
+    kepts = ap length kept ∙ before.kepts;
+    parties = parted-length cache made.lines old.parties.items new.parties.items made.parted ∙ before.parties;
+    each = restored-come;
+    capped = before.capped;
+    feeder = record {
+      number = made.number ∙ before.feeder.number;
+      alone = made.alone;
+      stands = made.stands;
+      knows = refl;
+      fed = λ shard below.
+          ap (own_events new.feeder.number) (restores-seen shard)
+          ∙ (own-restores cache.config new.feeder.number (sym (made.number ∙ before.feeder.number)) restored shard ∙ sym (append-nil (restores_in cache.config restored shard)));
+      since = λ shard. starts_whole (seen_of cache.config shard new.feeder);
+    };
+    begun = λ shard below. subst (λ (es : List Event). StartsWith es (restores_in cache.config restored shard)) (sym (restores-seen shard)) (starts_whole (restores_in cache.config restored shard));
+    cut = λ shard below k c at some_k. absurd (omega (arith, some_k));
+  }
+
 -- ---- the lines of a group
 
-module _ {C P : Type 0} (cache : Cache) (pools : Ghosts P) (len : ℕ) (image : Option (List ℕ)) (blocks : List Ptr) (os qs : List Op) (rs ss : List Reply) (from to : P) (old new : Crew C)
-    (before : HaveCome cache len image blocks os rs old) (did : DidLinesAtOnce cache pools blocks qs from to old new ss) (own : AreOfCallers cache.config.callers qs)
+module _ {C P : Type 0} (cache : Cache) (restored : List Restored) (pools : Ghosts P) (len : ℕ) (image : Option (List ℕ)) (blocks : List Ptr) (os qs : List Op) (rs ss : List Reply) (from to : P) (old new : Crew C)
+    (before : HaveCome cache restored len image blocks os rs old) (did : DidLinesAtOnce cache pools blocks qs from to old new ss) (own : AreOfCallers cache.config.callers qs)
     (size : pools.size from ≡ len) (told : pools.told from ≡ image) where
   callers-are : length old.parties.items ≡ cache.config.callers
   callers-are = before.parties
@@ -363,11 +435,14 @@ module _ {C P : Type 0} (cache : Cache) (pools : Ghosts P) (len : ℕ) (image : 
     | inr above ↦ absurd (no-other cache.config.callers qs own (k - length os) op (sym (get-right os qs (k - length os)) ∙ (ap (slice_get (os ++ qs)) (omega (arith, above)) ∙ at)) none)
   ]
 
-  feeds-are : events_of_feeds cache.config.callers (os ++ qs) (rs ++ ss) ≡ events_of_feeds cache.config.callers os rs
-  feeds-are = feeds-append cache.config.callers os qs rs ss before.long
+  feeds-same : events_of_feeds cache.config.callers (os ++ qs) (rs ++ ss) ≡ events_of_feeds cache.config.callers os rs
+  feeds-same = feeds-append cache.config.callers os qs rs ss before.long
       ∙ (ap (λ (l : List Event). events_of_feeds cache.config.callers os rs ++ l) (none-fed cache.config.callers cache.config.callers qs ss own) ∙ append-nil (events_of_feeds cache.config.callers os rs))
 
-  pub have-come-more : HaveCome cache len image blocks (os ++ qs) (rs ++ ss) new
+  feeds-are : events_by_feeder cache.config restored (os ++ qs) (rs ++ ss) ≡ events_by_feeder cache.config restored os rs
+  feeds-are i shard = restores_in cache.config restored shard ++ feeds-same i
+
+  pub have-come-more : HaveCome cache restored len image blocks (os ++ qs) (rs ++ ss) new
   have-come-more = record {
     long = length-append rs ss ∙ (omega (arith, before.long, same-length, length-append os qs));
     kepts = did.worked.kepts ∙ callers-are;
@@ -377,33 +452,22 @@ module _ {C P : Type 0} (cache : Cache) (pools : Ghosts P) (len : ℕ) (image : 
         let below = in-front k op at none in
         let given = before.capped k op (sym (get-left os qs k below) ∙ at) none in
         (given.0, given.1, get-left rs ss k (omega (arith, below, before.long)) ∙ given.2);
-    feeder = subst (λ (p : Place (Known C)). IsFed cache p.own.about.openings (λ shard. events_of_feeds cache.config.callers (os ++ qs) (rs ++ ss)) (λ shard. seen_of cache.config shard p) p) (sym did.feeder)
-        (subst (λ (es : List Event). IsFed cache old.feeder.own.about.openings (λ shard. es) (λ shard. seen_of cache.config shard old.feeder) old.feeder) (sym feeds-are) before.feeder);
-    cut = λ shard below. subst (λ (p : Place (Known C)). AreCut cache.config blocks shard (os ++ qs) (rs ++ ss) (seen_of cache.config shard p)) (sym did.feeder)
-        (λ k c at inside. cut-before cache.config blocks shard os qs rs ss (seen_of cache.config shard old.feeder) before.long (before.cut shard below) k c at (in-front k (ops.Cap c) at refl));
+    feeder = subst (λ (p : Place (Known C)). IsFed cache p.own.about.openings (events_by_feeder cache.config restored (os ++ qs) (rs ++ ss)) (λ shard. seen_of cache.config shard p) p) (sym did.feeder)
+        (subst (λ (fed : ℕ → List Event). IsFed cache old.feeder.own.about.openings fed (λ shard. seen_of cache.config shard old.feeder) old.feeder) (sym feeds-are) before.feeder);
+    begun = λ shard below. subst (λ (p : Place (Known C)). StartsWith (seen_of cache.config shard p) (restores_in cache.config restored shard)) (sym did.feeder) (before.begun shard below);
+    cut = λ shard below. subst (λ (p : Place (Known C)). AreCut cache.config restored blocks shard (os ++ qs) (rs ++ ss) (seen_of cache.config shard p)) (sym did.feeder)
+        (λ k c at inside. cut-before cache.config restored blocks shard os qs rs ss (seen_of cache.config shard old.feeder) before.long (before.cut shard below) k c at (in-front k (ops.Cap c) at refl));
   }
 
 -- ---- a line that ends a group
-
-parted-at : {C : Type 0} (cache : Cache) (lines : ℕ → List Line) (n : ℕ) (os xs : List (Place (Known C))) (o : Place (Known C)) → HaveParted cache lines os xs → get_elem? os n ≡ some o → (x : Place (Known C)) × (get_elem? xs n ≡ some x) × HasParted cache lines o x
-parted-at cache lines n [] xs o parted at = absurd (some-ne-none o (sym at))
-parted-at cache lines n (p ∷ os) [] o parted at = absurd parted
-parted-at {C} cache lines zero (p ∷ os) (x ∷ xs) o parted at = (x, refl, subst (λ (y : Place (Known C)). HasParted cache lines y x) (some-injective p o at) parted.0)
-parted-at cache lines (suc n) (p ∷ os) (x ∷ xs) o parted at = parted-at cache lines n os xs o parted.1 at
-
-pub parted-length : {C : Type 0} (cache : Cache) (lines : ℕ → List Line) (os xs : List (Place (Known C))) → HaveParted cache lines os xs → length xs ≡ length os
-parted-length cache lines [] [] parted = refl
-parted-length cache lines [] (x ∷ xs) parted = absurd parted
-parted-length cache lines (o ∷ os) [] parted = absurd parted
-parted-length cache lines (o ∷ os) (x ∷ xs) parted = ap suc (parted-length cache lines os xs parted.1)
 
 all-at : {X : Type 0} (P : X → Type 0) (xs : List X) (n : ℕ) (x : X) → AllByRecursion P xs → get_elem? xs n ≡ some x → P x
 all-at P [] n x all at = absurd (some-ne-none x (sym at))
 all-at P (y ∷ ys) zero x all at = subst P (some-injective y x at) all.0
 all-at P (y ∷ ys) (suc n) x all at = all-at P ys n x all.1 at
 
-module _ {C : Type 0} (cache : Cache) (len : ℕ) (image : Option (List ℕ)) (blocks : List Ptr) (os : List Op) (rs : List Reply) (c : ℕ) (old new : Crew C)
-    (before : HaveCome cache len image blocks os rs old) (resized : Resized cache c old.feeder old.parties.items new.feeder new.parties.items) (kept : new.kept.items ≡ old.kept.items) where
+module _ {C : Type 0} (cache : Cache) (restored : List Restored) (len : ℕ) (image : Option (List ℕ)) (blocks : List Ptr) (os : List Op) (rs : List Reply) (c : ℕ) (old new : Crew C)
+    (before : HaveCome cache restored len image blocks os rs old) (resized : Resized cache c old.feeder old.parties.items new.feeder new.parties.items) (kept : new.kept.items ≡ old.kept.items) where
   abbrev g : Config
   g = cache.config
 
@@ -440,8 +504,8 @@ module _ {C : Type 0} (cache : Cache) (len : ℕ) (image : Option (List ℕ)) (b
       }
 
   -- what the feeder has made
-  front-own : (shard : ℕ) → shard < g.shards → own_events g.callers (resized.front shard) ≡ events_of_feeds g.callers os rs
-  front-own shard below = subst (λ (n : ℕ). own_events n (resized.front shard) ≡ events_of_feeds g.callers os rs) feeder-number
+  front-own : (shard : ℕ) → shard < g.shards → own_events g.callers (resized.front shard) ≡ events_by_feeder g restored os rs shard
+  front-own shard below = subst (λ (n : ℕ). own_events n (resized.front shard) ≡ events_by_feeder g restored os rs shard) feeder-number
       (same-own-events g old.feeder.number (seen_of g shard old.feeder) (resized.front shard) (resized.own shard) ∙ before.feeder.fed shard below)
 
   own-two : (n : ℕ) (es fs : List Event) → own_events n (es ++ fs) ≡ own_events n es ++ own_events n fs
@@ -451,16 +515,20 @@ module _ {C : Type 0} (cache : Cache) (len : ℕ) (image : Option (List ℕ)) (b
   own-resize n = rw (eq-eqb n n refl) refl
 
   seen-is : (shard : ℕ) → shard < g.shards → seen_of g shard new.feeder ≡ resized.front shard ++ Resize g.callers c ∷ []
-  seen-is shard below = resized.seen shard below ∙ ap (λ (n : ℕ). resized.front shard ++ Resize n c ∷ []) feeder-number
+  seen-is shard below =
+      let here : nat_lt shard g.shards ≡ true = grind (arith, nat_tests, below) in
+      resized.seen shard ∙ ap (λ (b : Bool). resized.front shard ++ (if b then Resize g.callers c ∷ [] else [])) here
 
-  feeds-more : events_of_feeds g.callers (os ++ op ∷ []) (rs ++ reply ∷ []) ≡ events_of_feeds g.callers os rs ++ Resize g.callers c ∷ []
-  feeds-more = feeds-append g.callers os (op ∷ []) rs (reply ∷ []) before.long
+  feeds-more : (shard : ℕ) → events_by_feeder g restored (os ++ op ∷ []) (rs ++ reply ∷ []) shard ≡ events_by_feeder g restored os rs shard ++ Resize g.callers c ∷ []
+  feeds-more shard =
+      ap (λ (es : List Event). restores_in g restored shard ++ es) (feeds-append g.callers os (op ∷ []) rs (reply ∷ []) before.long)
+      ∙ sym (append_assoc (restores_in g restored shard) (events_of_feeds g.callers os rs) (Resize g.callers c ∷ []))
 
   grown : (shard : ℕ) → shard < g.shards → StartsWith (seen_of g shard new.feeder) (seen_of g shard old.feeder)
   grown shard below = starts-then (seen_of g shard new.feeder) (resized.front shard) (seen_of g shard old.feeder) (Resize g.callers c ∷ [], seen-is shard below) (resized.since shard)
 
   -- what stands before it
-  cut-here : (shard : ℕ) → shard < g.shards → IsCut g blocks shard os rs c (seen_of g shard new.feeder)
+  cut-here : (shard : ℕ) → shard < g.shards → IsCut g restored blocks shard os rs c (seen_of g shard new.feeder)
   cut-here shard below = record {
     front = resized.front shard;
     rest = [];
@@ -473,15 +541,15 @@ module _ {C : Type 0} (cache : Cache) (len : ℕ) (image : Option (List ℕ)) (b
     feeder = front-own shard below;
   }
 
-  all-cut : (shard : ℕ) → shard < g.shards → AreCut g blocks shard (os ++ op ∷ []) (rs ++ reply ∷ []) (seen_of g shard new.feeder)
+  all-cut : (shard : ℕ) → shard < g.shards → AreCut g restored blocks shard (os ++ op ∷ []) (rs ++ reply ∷ []) (seen_of g shard new.feeder)
   all-cut shard below k d at inside = elim (cases_lt k (length os)) [
     | inl early ↦
-        cut-more g blocks shard (take k (os ++ op ∷ [])) (take k (rs ++ reply ∷ [])) d (seen_of g shard old.feeder) (seen_of g shard new.feeder) (grown shard below)
-        (cut-before g blocks shard os (op ∷ []) rs (reply ∷ []) (seen_of g shard old.feeder) before.long (before.cut shard below) k d at early)
+        cut-more g restored blocks shard (take k (os ++ op ∷ [])) (take k (rs ++ reply ∷ [])) d (seen_of g shard old.feeder) (seen_of g shard new.feeder) (grown shard below)
+        (cut-before g restored blocks shard os (op ∷ []) rs (reply ∷ []) (seen_of g shard old.feeder) before.long (before.cut shard below) k d at early)
     | inr late ↦
         let last : k ≡ length os = omega (arith, late, inside, before.long, length-append rs (reply ∷ [])) in
         let is_c : d ≡ c = cap-same d c (some-same (ops.Cap d) op (sym at ∙ (ap (slice_get (os ++ op ∷ [])) (last ∙ omega arith) ∙ get-right os (op ∷ []) 0))) in
-        subst (λ (x : List Op × List Reply × ℕ). IsCut g blocks shard x.0 x.1 x.2 (seen_of g shard new.feeder))
+        subst (λ (x : List Op × List Reply × ℕ). IsCut g restored blocks shard x.0 x.1 x.2 (seen_of g shard new.feeder))
         (λ i. (
           sym (ap (λ (m : ℕ). take m (os ++ op ∷ [])) last ∙ take-append_seam os (op ∷ [])) i,
           sym (ap (λ (m : ℕ). take m (rs ++ reply ∷ [])) (last ∙ sym before.long) ∙ take-append_seam rs (reply ∷ [])) i,
@@ -505,7 +573,7 @@ module _ {C : Type 0} (cache : Cache) (len : ℕ) (image : Option (List ℕ)) (b
         (c, sym (some-same op x there_is), ap (slice_get (rs ++ reply ∷ [])) (last ∙ omega (arith, before.long)) ∙ get-right rs (reply ∷ []) 0)
   ]
 
-  pub have-come-cap : HaveCome cache len image blocks (os ++ ops.Cap c ∷ []) (rs ++ Capped c ∷ []) new
+  pub have-come-cap : HaveCome cache restored len image blocks (os ++ ops.Cap c ∷ []) (rs ++ Capped c ∷ []) new
   have-come-cap = record {
     long = omega (arith, before.long, length-append rs (reply ∷ []), length-append os (op ∷ []));
     kepts = ap length kept ∙ before.kepts;
@@ -521,8 +589,9 @@ module _ {C : Type 0} (cache : Cache) (len : ℕ) (image : Option (List ℕ)) (b
           ap (λ (n : ℕ). own_events n (seen_of g shard new.feeder)) (resized.number ∙ feeder-number)
           ∙ (ap (own_events g.callers) (seen-is shard below)
           ∙ (own-two g.callers (resized.front shard) (Resize g.callers c ∷ [])
-          ∙ ((λ i. front-own shard below i ++ own-resize g.callers i) ∙ sym feeds-more)));
+          ∙ ((λ i. front-own shard below i ++ own-resize g.callers i) ∙ sym (feeds-more shard))));
       since = λ shard. starts_whole (seen_of g shard new.feeder);
     };
+    begun = λ shard below. starts-then (seen_of g shard new.feeder) (seen_of g shard old.feeder) (restores_in g restored shard) (grown shard below) (before.begun shard below);
     cut = all-cut;
   }

@@ -25,19 +25,14 @@ use Rattle.arc_core.proofs.Others.{frame-kept}
 use Rattle.arc_core.proofs.Frames.{frame-fitted}
 use Rattle.arc_core.proofs.Soundness.{IsSound-after}
 use Rattle.arc_table.specs.Seen.{pass_owner}
-use Rattle.trace_run.proofs.TellLemmas.{IsReadAct, all-append, caller-number, is_of_reads}
+use Rattle.trace_run.proofs.TellLemmas.{IsReadAct, all-append, caller-number, is_given, is_of_reads}
 
--- a new capacity
-abbrev pub is_resize : Event → Bool
-is_resize (Resize n c) = true
-is_resize _ = false
-
--- an event of a caller's reads; or a pass of a caller or the feeder that names another; or a capacity that the feeder gives
+-- an event of a caller's reads; or a pass of a caller or the feeder that names another; or a capacity that the feeder gives, or a key that it restores
 abbrev pub IsReadEvent : (callers : ℕ) → Event → Type 0
 IsReadEvent callers e =
     ((number_of e < callers) × (is_pass e ≡ false) × (is_of_reads e ≡ true))
     ⊎ ((is_pass e ≡ true) × (number_of e < callers + 1) × (pass_owner e < callers + 1))
-    ⊎ ((number_of e ≡ callers) × (is_resize e ≡ true))
+    ⊎ ((number_of e ≡ callers) × (is_given e ≡ true))
 
 -- ---- what is held behind it
 
@@ -101,7 +96,7 @@ none-picked-by callers s (Clear n k) (inr (inl pass)) none = absurd (false≢tru
 none-picked-by callers s (Clear n k) (inr (inr cap)) none = absurd (false≢true cap.1)
 none-picked-by callers s (Restore n k place d) (inl of) none = absurd (false≢true of.2)
 none-picked-by callers s (Restore n k place d) (inr (inl pass)) none = absurd (false≢true pass.0)
-none-picked-by callers s (Restore n k place d) (inr (inr cap)) none = absurd (false≢true cap.1)
+none-picked-by callers s (Restore n k place d) (inr (inr cap)) none = none
 none-picked-by callers s (Resize n c) is none = (frame-fitted (resized c s)).picked ∙ none
 none-picked-by callers s (Pass n k owner) is none = (frame-kept s (Pass n k owner)).picked refl ∙ none
 none-picked-by callers s (Hit n k t) is none = (frame-kept s (Hit n k t)).picked refl ∙ none
@@ -157,7 +152,7 @@ read-number callers cells (FeedEnd n) (inr (inr cap)) = absurd (false≢true cap
 read-number callers cells (Set n k place) (inr (inr cap)) = absurd (false≢true cap.1)
 read-number callers cells (Leave n k why) (inr (inr cap)) = absurd (false≢true cap.1)
 read-number callers cells (Clear n k) (inr (inr cap)) = absurd (false≢true cap.1)
-read-number callers cells (Restore n k place d) (inr (inr cap)) = absurd (false≢true cap.1)
+read-number callers cells (Restore n k place d) (inr (inr cap)) = eq-eqb n callers cap.0
 read-number callers cells (Pass n k owner) (inr (inr cap)) = absurd (false≢true cap.1)
 
 -- ---- the events of acts of reads

@@ -18,6 +18,8 @@ pub mod EachLemmas
 pub mod EndAlone
 pub mod EndLemmas
 pub mod EndSteps
+pub mod FedAlone
+pub mod FeederLemmas
 pub mod GenLemmas
 pub mod GetLemmas
 pub mod GiveLemmas
@@ -46,8 +48,8 @@ pub mod ReadLemmas
 pub mod ReadStands
 pub mod ReportLemmas
 pub mod ResidentLemmas
-pub mod ResizeAlone
 pub mod ResizeLemmas
+pub mod RestoreLemmas
 pub mod RestAlone
 pub mod RestLemmas
 pub mod RunLemmas

@@ -21,6 +21,7 @@ use Rattle.trace_run.specs.Lines.{is_in_shard, replies_where}
 use Rattle.trace_run.specs.OneCaller.{events_of, events_of_all, events_of_drops, events_of_dropping, events_of_hold, events_of_read, kept_after, kept_after_all, kept_after_drop, kept_after_hold, one_caller_histories, one_caller_history}
 use Rattle.trace_run.specs.PlainReport.{ArePlainReplies, IsPlainReply, IsPlainReport}
 use Rattle.trace_run.specs.PlainRun.{report_with}
+use Rattle.trace_run.specs.Restores.{restored_of, restores_in}
 
 -- ---- replies that do the same
 
@@ -98,12 +99,12 @@ alike-history blocks n opening os ps rs are =
     let all = alike-all blocks opening [] os ps rs are in
     λ i. all.0 i ++ events_of_drops n (all.1 i)
 
-alike-histories : (shards : ℕ) (blocks : List Ptr) (opening : PlainShard) (os : List Op) (ps rs : List Reply) → AreAlike ps rs
-    → one_caller_histories shards blocks 0 opening os ps ≡ one_caller_histories shards blocks 0 opening os rs
-alike-histories shards blocks opening os ps rs are =
-    let each = λ (shard : ℕ). alike-history blocks 0 opening (filter (is_in_shard shards blocks shard) os) (replies_where (is_in_shard shards blocks shard) os ps) (replies_where (is_in_shard shards blocks shard) os rs)
+alike-histories : (shards : ℕ) (blocks : List Ptr) (opening : PlainShard) (begun : ℕ → List Event) (os : List Op) (ps rs : List Reply) → AreAlike ps rs
+    → one_caller_histories shards blocks 0 opening begun os ps ≡ one_caller_histories shards blocks 0 opening begun os rs
+alike-histories shards blocks opening begun os ps rs are =
+    let each = λ (shard : ℕ). alike-history blocks 0 (replay opening (begun shard)) (filter (is_in_shard shards blocks shard) os) (replies_where (is_in_shard shards blocks shard) os ps) (replies_where (is_in_shard shards blocks shard) os rs)
     (alike-where (is_in_shard shards blocks shard) os ps rs are) in
-    λ i. map (λ (shard : ℕ). each shard i) (range_with_len 0 shards)
+    λ i. map (λ (shard : ℕ). begun shard ++ each shard i) (range_with_len 0 shards)
 
 alike-any : (ps rs : List Reply) → AreAlike ps rs → list_any is_refusal ps ≡ list_any is_refusal rs
 alike-any [] [] are = refl
@@ -113,13 +114,13 @@ alike-any (p ∷ ps) (r ∷ rs) are = let rest = alike-any ps rs are.1 in λ i. 
 
 -- ---- the report
 
-pub plain-but : (trace : Trace) (image : List ℕ) (ps : List Reply) (report : Report) → report ≡ report_with trace report.replies → ArePlainReplies image trace.blocks trace.ops ps report.replies
-    → IsPlainReport trace image (report_with trace ps) report
+pub plain-but : (trace : Trace) (image : List ℕ) (ps : List Reply) (report : Report) → report ≡ report_with trace report.rebuilt report.replies → ArePlainReplies image trace.blocks trace.ops ps report.replies
+    → IsPlainReport trace image (report_with trace report.rebuilt ps) report
 plain-but trace image ps report is are =
     let rs = report.replies in
     let alike = all-alike image trace.blocks trace.ops ps rs are in
-    let histories = alike-histories trace.config.shards trace.blocks (opening_of trace.config) trace.ops ps rs alike in
+    let histories = alike-histories trace.config.shards trace.blocks (opening_of trace.config) (restores_in trace.config (restored_of report.rebuilt)) trace.ops ps rs alike in
     let any = alike-any ps rs alike in
-    let same : record (report_with trace ps) { replies = rs } ≡ report_with trace rs =
-    λ i. record { replies = rs; histories = histories i; ends = ends_of trace.config (histories i); io = None; rebuilt = None; status = if any i then 1 else 0; short = false } in
+    let same : record (report_with trace report.rebuilt ps) { replies = rs } ≡ report_with trace report.rebuilt rs =
+    λ i. record { replies = rs; histories = histories i; ends = ends_of trace.config (histories i); io = None; rebuilt = report.rebuilt; status = if any i then 1 else 0; short = false } in
     record { replies = are; rest = is ∙ sym same }

@@ -10,7 +10,6 @@ use Rattle.arc_core.specs.declared.event.Event.{Event}
 use Rattle.trace_text.specs.declared.ends.ShardEnd.{ShardEnd}
 use Rattle.trace_text.specs.declared.op.Op.{Op}
 use Rattle.trace_text.specs.declared.op.Op.TheVariants as ops
-use Rattle.trace_text.specs.declared.rebuilt.Rebuilt.{Rebuilt}
 use Rattle.trace_text.specs.declared.report.Report.{Report}
 use Rattle.trace_text.specs.declared.totals.Totals.{Totals}
 use Rattle.trace_text.specs.declared.trace.Trace.{Trace}
@@ -20,6 +19,7 @@ use Rattle.arc_table.specs.Telling.{opening_of}
 use Rattle.trace_run.specs.Lines.{caller_of}
 use Rattle.trace_run.specs.OneCaller.{one_caller_histories}
 use Rattle.trace_run.specs.PlainRun.{report_with, status_of}
+use Rattle.trace_run.specs.Restores.{restored_of, restores_in}
 
 -- ---- the operations are those of the one caller
 
@@ -38,20 +38,18 @@ all-own P [] own = tt
 all-own P (op ∷ os) own = (own 0 op refl, all-own P os (λ k o at. own (suc k) o at))
 
 -- a report by its parts
-pub report-is : (trace : Trace) (report : Report) → report.histories ≡ one_caller_histories trace.config.shards trace.blocks 0 (opening_of trace.config) trace.ops report.replies
-    → report.ends ≡ ends_of trace.config (one_caller_histories trace.config.shards trace.blocks 0 (opening_of trace.config) trace.ops report.replies)
+pub report-is : (trace : Trace) (report : Report) → report.histories ≡ one_caller_histories trace.config.shards trace.blocks 0 (opening_of trace.config) (restores_in trace.config (restored_of report.rebuilt)) trace.ops report.replies
+    → report.ends ≡ ends_of trace.config (one_caller_histories trace.config.shards trace.blocks 0 (opening_of trace.config) (restores_in trace.config (restored_of report.rebuilt)) trace.ops report.replies)
     → report.status ≡ status_of report.replies → report.short ≡ false
-    → report.io ≡ None → report.rebuilt ≡ None → report ≡ report_with trace report.replies
-report-is trace report histories ends status short io rebuilt =
-    let hs = one_caller_histories trace.config.shards trace.blocks 0 (opening_of trace.config) trace.ops report.replies in
+    → report.io ≡ None → report ≡ report_with trace report.rebuilt report.replies
+report-is trace report histories ends status short io =
+    let hs = one_caller_histories trace.config.shards trace.blocks 0 (opening_of trace.config) (restores_in trace.config (restored_of report.rebuilt)) trace.ops report.replies in
     let first : Report = record report { histories = hs } in
     let second : Report = record first { ends = ends_of trace.config hs } in
     let third : Report = record second { status = status_of report.replies } in
     let fourth : Report = record third { short = false } in
-    let fifth : Report = record fourth { io = None } in
     ap (λ (h : List (List Event)). record report { histories = h }) histories
     ∙ ap (λ (e : List ShardEnd). record first { ends = e }) ends
     ∙ ap (λ (n : ℕ). record second { status = n }) status
     ∙ ap (λ (b : Bool). record third { short = b }) short
     ∙ ap (λ (t : Option Totals). record fourth { io = t }) io
-    ∙ ap (λ (r : Option Rebuilt). record fifth { rebuilt = r }) rebuilt

@@ -1,7 +1,8 @@
--- Every shard has a new capacity, while all callers have joined the feeder: what it and they are then.
-use Rattle.std.proofs.Common.{◌≡◌, ◌≢◌, ◌⊎◌, ℕ, zero, suc, ◌<◌, ◌≤◌, false, IsTrue, List, [], ◌∷◌, ◌++◌, map, refl, sym, ap, ◌∙◌, subst, inl, inr, arith, append-nil, eq-eqb}
+-- What the feeder and the callers are behind events that it made while all had joined it; a new capacity of every shard is such.
+use Rattle.std.proofs.Common.{◌≡◌, ◌≢◌, ◌⊎◌, ℕ, zero, suc, ◌<◌, ◌≤◌, nat_lt, Bool, true, false, if◌then◌else◌, IsTrue, List, [], ◌∷◌, ◌++◌, map, refl, sym, ap, ◌∙◌, subst, inl, inr, arith, append-nil, eq-eqb}
 use Rattle.std.specs.List.{AllByRecursion}
 use Rattle.std.proofs.lemmas.Bool.{cases_lt}
+use Rattle.std.proofs.lemmas.Bool.Decides.{nat_tests}
 use mathlib.Core.Option.{some, some-injective, some-ne-none}
 use lib.ListN.{get_elem?}
 use Rattle.blk_ptr.specs.Hash.{shard_of}
@@ -31,7 +32,7 @@ use Rattle.arc_table.proofs.RoomyAfter.{does_roomy_ledger, does_roomy_stays}
 use Rattle.arc_table.proofs.RoomyLemmas.{roomy-made}
 use Rattle.arc_table.proofs.ScanAlone.{scan-alone}
 use Rattle.trace_run.specs.KeptBlocks.{AllQuiet, ClaimsNothing, Stands, no_entries, times}
-use Rattle.trace_run.specs.Meeting.{AreLast, HasLearned, HaveParted, IsApart, JoinAll, Joins, PartAll, Resized}
+use Rattle.trace_run.specs.Meeting.{AreLast, HasLearned, HaveParted, IsApart, JoinAll, Joins, MadeJoined, PartAll, resizes_in}
 use Rattle.trace_run.proofs.CellsLeft.{leaves-seen, roomy-leaves}
 use Rattle.trace_run.proofs.MeetLemmas.{HaveJoined, all-parted, are-last, joined-front, joined_of, left_alone, parted-then, parted_from, starts-events, starts-then}
 use Rattle.trace_run.proofs.TurnLemmas.{joined, joined-all, joined-stands}
@@ -140,21 +141,54 @@ module _ {C : Type 0} (m : Meanings C) (cache : Cache) (c : ℕ) where
         starts = λ i. starts-then (front_of (turn_of gc i) q.own.seen) (front_of (turn_of gc i) r.own.seen) (front_of (turn_of gc i) p.own.seen) (later i) (first.starts i);
       }
 
--- ---- the resize of one number is no other's
+-- ---- events of one number are no other's
 
-other-resize : (n k c : ℕ) (s : PlainShard) (front : List Event) → n ≢ k → own_moments k (moments s (front ++ Resize n c ∷ [])) ≡ own_moments k (moments s front)
-other-resize n k c s front differs =
-    own-append k s front (Resize n c ∷ [])
-    ∙ (ap (λ (l : List Moment). own_moments k (moments s front) ++ l) (no-own-moments k _ (Resize n c ∷ []) only)
+other-events : (n k : ℕ) (s : PlainShard) (front more : List Event) → n ≢ k → AllByRecursion (λ e. number_of e ≡ n) more → own_moments k (moments s (front ++ more)) ≡ own_moments k (moments s front)
+other-events n k s front more differs mine =
+    own-append k s front more
+    ∙ (ap (λ (l : List Moment). own_moments k (moments s front) ++ l) (no-own-moments k _ more (only more mine))
     ∙ append-nil (own_moments k (moments s front)))
   where
-    only : (y : ℕ) (e : Event) → get_elem? (Resize n c ∷ []) y ≡ some e → number_of e ≢ k
-    only zero e at is = differs (ap number_of (some-injective (Resize n c) e at) ∙ is)
-    only (suc y) e at is = absurd (some-ne-none e (sym at))
+    only : (es : List Event) → AllByRecursion (λ e. number_of e ≡ n) es → (y : ℕ) (e : Event) → get_elem? es y ≡ some e → number_of e ≢ k
+    only [] all y e at is = absurd (some-ne-none e (sym at))
+    only (x ∷ es) all zero e at is = differs (sym all.0 ∙ (ap number_of (some-injective x e at) ∙ is))
+    only (x ∷ es) all (suc y) e at is = only es all.1 y e at is
+
+-- A party that keeps nothing and has every number made these events of each shard.
+pub record HasMade {C : Type 0} (cache : Cache) (more : (shard : ℕ) → List Event) (p q : Place (Known C)) : Type 0 where
+  pub stays : Stays p q
+  pub stands : Stands cache q []
+  pub all : HasAll q
+  pub seen : (s : ℕ) → seen_of cache.config s q ≡ seen_of cache.config s p ++ more s
+  pub starts : (i : ℕ) → StartsWith (front_of (turn_of cache.config i) q.own.seen) (front_of (turn_of cache.config i) p.own.seen)
+
+-- all shards have this capacity
+resizes-made : {C : Type 0} (m : Meanings C) (cache : Cache) (n c : ℕ) (p q : Place (Known C)) → p.number ≡ n → HasGiven m cache c cache.config.shards p q → HasMade cache (resizes_in cache.config.shards n c) p q
+resizes-made m cache n c p q number given = record {
+  stays = given.stays;
+  stands = given.stands;
+  all = given.all;
+  seen = λ s. elim (cases_lt s cache.config.shards) [
+    | inl below ↦
+        let here : nat_lt s cache.config.shards ≡ true = grind (arith, nat_tests, below) in
+        given.below s below ∙ (λ i. seen_of cache.config s p ++ (if sym here i then Resize (number i) c ∷ [] else []))
+    | inr beyond ↦
+        let out : nat_lt s cache.config.shards ≡ false = grind (arith, nat_tests, beyond) in
+        given.beyond s beyond ∙ (sym (append-nil (seen_of cache.config s p)) ∙ (λ i. seen_of cache.config s p ++ (if sym out i then Resize n c ∷ [] else [])))
+  ];
+  starts = given.starts;
+}
+
+resizes-mine : (shards n c : ℕ) (s : ℕ) → AllByRecursion (λ e. number_of e ≡ n) (resizes_in shards n c s)
+resizes-mine shards n c s = go (nat_lt s shards)
+  where
+    go : (b : Bool) → AllByRecursion (λ e. number_of e ≡ n) (if b then Resize n c ∷ [] else [])
+    go true = (refl, tt)
+    go false = tt
 
 -- ---- the whole step
 
-module _ {C : Type 0} (m : Meanings C) (cache : Cache) (c : ℕ) (p : Place (Known C)) (others : List (Place (Known C))) (stands : Stands cache p []) (alone : p.joined ≡ [])
+module _ {C : Type 0} (m : Meanings C) (cache : Cache) (p : Place (Known C)) (others : List (Place (Known C))) (stands : Stands cache p []) (alone : p.joined ≡ [])
     (apart : AllByRecursion (IsApart cache) others) (everyone : (n : ℕ) → n < parties_of cache.config → SomeHas n (p ∷ others)) (count : p.parties ≡ parties_of cache.config)
     (differ : AllByRecursion (λ o. o.number ≢ p.number) others) (q : Place (Known C)) (joins : JoinAll m others p q) where
   abbrev g : Config
@@ -166,7 +200,7 @@ module _ {C : Type 0} (m : Meanings C) (cache : Cache) (c : ℕ) (p : Place (Kno
   pub q-stands : Stands cache q []
   q-stands = joined-stands m cache p [] others stands alone apart everyone count differ q joins
 
-  q-all : HasAll q
+  pub q-all : HasAll q
   q-all = joined-all m cache p [] others stands alone apart everyone count differ q joins
 
   -- all numbers, where there are two parties
@@ -192,10 +226,10 @@ module _ {C : Type 0} (m : Meanings C) (cache : Cache) (c : ℕ) (p : Place (Kno
       ap (λ (x : Place (Known C)). seen_of g shard x) step.is
       ∙ ap events_in (joined-front m g p o step.moment of_o.2 (two o is) stands.of.config of_o.1.seen.own seen shard)
 
-  module _ (r : Place (Known C)) (did : Resizes m g q.number c g.shards q r) where
-    given : HasGiven m cache c g.shards q r
-    given = given-to m cache c g.shards q r q-stands q-all did
+  pub q-number : q.number ≡ p.number
+  q-number = have.number
 
+  module _ (more : (shard : ℕ) → List Event) (r : Place (Known C)) (given : HasMade cache more q r) (mine : (s : ℕ) → AllByRecursion (λ e. number_of e ≡ p.number) (more s)) where
     number : r.number ≡ p.number
     number = given.stays.number ∙ have.number
 
@@ -205,17 +239,11 @@ module _ {C : Type 0} (m : Meanings C) (cache : Cache) (c : ℕ) (p : Place (Kno
     abbrev lines : ℕ → List Line
     lines shard = front_of (turn_of g shard) r.own.seen
 
-    q-seen : (shard : ℕ) → shard < g.shards → seen_of g shard r ≡ seen_of g shard q ++ Resize p.number c ∷ []
-    q-seen shard below = given.below shard below ∙ ap (λ (n : ℕ). seen_of g shard q ++ Resize n c ∷ []) have.number
-
     unmade : (o : Place (Known C)) → o.number ≢ p.number → (shard : ℕ)
         → own_moments o.number (moments (opening_of g) (seen_of g shard r)) ≡ own_moments o.number (moments (opening_of g) (seen_of g shard q))
-    unmade o other shard = elim (cases_lt shard g.shards) [
-      | inl below ↦
-          ap (λ (es : List Event). own_moments o.number (moments (opening_of g) es)) (q-seen shard below)
-          ∙ other-resize p.number o.number c (opening_of g) (seen_of g shard q) (λ is. other (sym is))
-      | inr beyond ↦ ap (λ (es : List Event). own_moments o.number (moments (opening_of g) es)) (given.beyond shard beyond)
-    ]
+    unmade o other shard =
+        ap (λ (es : List Event). own_moments o.number (moments (opening_of g) es)) (given.seen shard)
+        ∙ other-events p.number o.number (opening_of g) (seen_of g shard q) (more shard) (λ is. other (sym is)) (mine shard)
 
     all-parted-from : (os : List (Place (Known C))) → AllByRecursion (λ o. HasLearned g o q) os → AllByRecursion (λ o. o.number ≢ p.number) os → HaveParted cache lines os (map (parted_from r) os)
     all-parted-from [] learned others_differ = tt
@@ -248,7 +276,7 @@ module _ {C : Type 0} (m : Meanings C) (cache : Cache) (c : ℕ) (p : Place (Kno
       parted : (xs ≡ map (parted_from r) others) × (z ≡ left_alone r)
       parted = all-parted others numbers r xs z kept-joined (subst (λ (l : List ℕ). AreLast l (joined_of others)) (sym numbers_are) (are-last others)) parts
 
-      left : Resized cache c p others (left_alone r) (map (parted_from r) others)
+      left : MadeJoined cache more p others (left_alone r) (map (parted_from r) others)
       left = record {
         lines = lines;
         parted = all-parted-from others have.all differ;
@@ -258,13 +286,27 @@ module _ {C : Type 0} (m : Meanings C) (cache : Cache) (c : ℕ) (p : Place (Kno
         alone = refl;
         stands = last-stands;
         front = λ shard. seen_of g shard q;
-        seen = q-seen;
-        beyond = given.beyond;
+        seen = given.seen;
         own = have.self.own;
         others = λ shard. all-own shard others have.all;
         since = λ shard. starts-events (front_of (turn_of g shard) q.own.seen) (front_of (turn_of g shard) p.own.seen) (have.self.starts shard);
         one = one-front;
+        same = λ before own rest shard. ap events_in (have.level before own rest shard);
       }
 
-      pub resized : Resized cache c p others z xs
-      resized = subst (λ (x : Place (Known C) × List (Place (Known C))). Resized cache c p others x.0 x.1) (λ i. (sym parted.1 i, sym parted.0 i)) left
+      pub made-joined : MadeJoined cache more p others z xs
+      made-joined = subst (λ (x : Place (Known C) × List (Place (Known C))). MadeJoined cache more p others x.0 x.1) (λ i. (sym parted.1 i, sym parted.0 i)) left
+
+  -- a new capacity
+  module _ (n c : ℕ) (feeder : p.number ≡ n) (r : Place (Known C)) (did : Resizes m g q.number c g.shards q r) where
+    all-given : HasMade cache (resizes_in g.shards n c) q r
+    all-given = resizes-made m cache n c q r (have.number ∙ feeder) (given-to m cache c g.shards q r q-stands q-all did)
+
+    all-mine : (s : ℕ) → AllByRecursion (λ e. number_of e ≡ p.number) (resizes_in g.shards n c s)
+    all-mine s = subst (λ (k : ℕ). AllByRecursion (λ e. number_of e ≡ k) (resizes_in g.shards n c s)) (sym feeder) (resizes-mine g.shards n c s)
+
+    pub resized-last : (numbers : List ℕ) → numbers ≡ map (λ o. o.number) others → AreLast numbers r.joined
+    resized-last = last-of (resizes_in g.shards n c) r all-given all-mine
+
+    pub resized : (numbers : List ℕ) → numbers ≡ map (λ o. o.number) others → (xs : List (Place (Known C))) (z : Place (Known C)) → PartAll numbers r xs z → MadeJoined cache (resizes_in g.shards n c) p others z xs
+    resized = made-joined (resizes_in g.shards n c) r all-given all-mine

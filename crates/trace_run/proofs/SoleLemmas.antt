@@ -105,7 +105,7 @@ own-none n m (e ∷ es) differs all =
     let other : (number_of e == m) ≡ false = ne_eqb (number_of e) m (λ is. differs (sym all.0.0 ∙ is)) in
     rw other (own-none n m es differs all.1)
 
-own-two : (n : ℕ) (es fs : List Event) → own_events n (es ++ fs) ≡ own_events n es ++ own_events n fs
+pub own-two : (n : ℕ) (es fs : List Event) → own_events n (es ++ fs) ≡ own_events n es ++ own_events n fs
 own-two n es fs = filter-append (λ e. number_of e == n && not (is_pass e)) es fs
 
 module _ (blocks : List Ptr) where

@@ -10,10 +10,13 @@ use Rattle.blk_ptr.specs.declared.ptr.Ptr.{Ptr}
 use Rattle.turn_table.specs.Places.{Place}
 use Rattle.arc_table.specs.declared.about.About.{About}
 use Rattle.arc_table.specs.declared.view.Known.{Known}
+use Rattle.arc_core.specs.declared.served.Restored.{Restored}
 use Rattle.arc_table.specs.Cache.{Cache}
 use Rattle.arc_table.specs.Geometry.{parties_of}
 use Rattle.arc_core.specs.declared.config.Config.{Config}
-use Rattle.trace_run.specs.Meeting.{MayGoOn}
+use Rattle.trace_run.specs.Meeting.{MadeJoined, MayGoOn}
+use Rattle.trace_run.specs.Opened.{AreOpened}
+use Rattle.trace_run.specs.Restores.{restores_in}
 use Rattle.trace_text.specs.declared.op.Op.{Op}
 use Rattle.trace_text.specs.declared.op.Op.TheVariants as ops
 use Rattle.trace_text.specs.declared.reply.Reply.{Reply}
@@ -28,7 +31,7 @@ use Rattle.trace_run.specs.declared.kept_blocks.KeptBlock.{KeptBlock}
 use Rattle.trace_run.specs.Answers.{is_pool_fault}
 use Rattle.trace_run.specs.Effects.{calls_of, calls_of_all, effect_of}
 use Rattle.trace_run.specs.Group.{HaveWorked, LeavesPool}
-use Rattle.trace_run.specs.Groups.{AreBetween, AreDone, AreOfCallers, DidEndLine, DidLinesAtOnce, HaveCome, HaveCounted, StepsOn}
+use Rattle.trace_run.specs.Groups.{AreBetween, AreDone, AreOfCallers, DidEndLine, DidLinesAtOnce, HaveCome, HaveCounted, KeepNothing, StepsOn}
 use Rattle.trace_run.specs.InOrder.{AreInOrder}
 use Rattle.trace_run.specs.Lines.{caller_of, is_of_caller}
 use Rattle.trace_run.specs.Openings.{Knows, openings_of}
@@ -38,7 +41,7 @@ use Rattle.trace_run.proofs.AbsorbLemmas.{over-few}
 use Rattle.trace_run.proofs.CallerActLemmas.{line-kind}
 use Rattle.trace_run.proofs.GroupCounts.{over-add, over-same, over-zero}
 use Rattle.trace_run.proofs.GroupRunLemmas.{all-callers, all-declared, may-resize, where-few}
-use Rattle.trace_run.proofs.GroupsLemmas.{group-ended, group-last, groups-append, have-come-cap, have-come-more, where-append, whole-of}
+use Rattle.trace_run.proofs.GroupsLemmas.{group-ended, group-last, groups-append, have-come-cap, have-come-more, have-restored, have-started, where-append, whole-of}
 use Rattle.trace_run.proofs.RunLemmas.{calls-faults, calls-few, calls-reads, failed-all}
 
 pub calls-append : (rs ss : List Reply) → calls_of_all (rs ++ ss) ≡ calls_of_all rs ++ calls_of_all ss
@@ -173,8 +176,9 @@ in-groups-more pools callers (g ∷ gs) last a b c done once = (done.0, done.1, 
 
 -- ---- between two groups
 
-pub between-none : {C P : Type 0} (cache : Cache) (pools : Ghosts P) (trace : Trace) (pool : P) (crew : Crew C) → HaveCome cache (pools.size pool) (pools.told pool) trace.blocks [] [] crew → Knows (openings_of trace) crew.feeder → AreBetween cache pools trace pool pool [] crew
-between-none cache pools trace pool crew come knows = record {
+pub between-none : {C P : Type 0} (cache : Cache) (restored : List Restored) (pools : Ghosts P) (trace : Trace) (pool : P) (crew : Crew C) → HaveCome cache restored (pools.size pool) (pools.told pool) trace.blocks [] [] crew
+    → Knows (openings_of trace) crew.feeder → AreBetween cache restored pools trace pool pool [] crew
+between-none cache restored pools trace pool crew come knows = record {
   few = omega arith;
   begins = λ more. tt;
   come = come;
@@ -187,8 +191,18 @@ between-none cache pools trace pool crew come knows = record {
   groups = refl;
 }
 
-module _ {C P : Type 0} (cache : Cache) (pools : Ghosts P) (trace : Trace) (start was from to : P) (rs ss : List Reply) (qs : List Op) (old new : Crew C) (few : length trace.ops ≤ 1000000) (some_callers : cache.config.callers ≤ 16)
-    (between : AreBetween cache pools trace start was rs old) (more : length rs < length trace.ops) (unused : IsUnused pools was from) (did : DidLinesAtOnce cache pools trace.blocks qs from to old new ss) (leaves : LeavesPool pools from to)
+-- before the first one, behind the restores
+pub between-begun : {C P : Type 0} (cache : Cache) (restored : List Restored) (pools : Ghosts P) (trace : Trace) (pool : P) (whole : List (Place (Known C))) (old new : Crew C) → AreOpened cache whole
+    → whole ≡ old.parties.items ++ old.feeder ∷ [] → KeepNothing old.kept.items → length old.kept.items ≡ length old.parties.items
+    → MadeJoined cache (restores_in cache.config restored) old.feeder old.parties.items new.feeder new.parties.items → new.kept.items ≡ old.kept.items → Knows (openings_of trace) old.feeder
+    → AreBetween cache restored pools trace pool pool [] new
+between-begun cache restored pools trace pool whole old new opened is none many made kept knows =
+    between-none cache restored pools trace pool new
+    (have-restored cache restored (pools.size pool) (pools.told pool) trace.blocks old new whole opened is (have-started cache whole old opened is none many (pools.size pool) (pools.told pool) trace.blocks) made kept)
+    (ap (λ (a : About). a.openings) made.about ∙ knows)
+
+module _ {C P : Type 0} (cache : Cache) (restored : List Restored) (pools : Ghosts P) (trace : Trace) (start was from to : P) (rs ss : List Reply) (qs : List Op) (old new : Crew C) (few : length trace.ops ≤ 1000000) (some_callers : cache.config.callers ≤ 16)
+    (between : AreBetween cache restored pools trace start was rs old) (more : length rs < length trace.ops) (unused : IsUnused pools was from) (did : DidLinesAtOnce cache pools trace.blocks qs from to old new ss) (leaves : LeavesPool pools from to)
     (own : AreOfCallers cache.config.callers qs) (inside : length rs + length qs ≤ length trace.ops) (here : take (length qs) (drop (length rs) trace.ops) ≡ qs) where
   abbrev callers : ℕ
   callers = cache.config.callers
@@ -228,15 +242,15 @@ module _ {C P : Type 0} (cache : Cache) (pools : Ghosts P) (trace : Trace) (star
       (group-reads cache pools trace.blocks qs callers was from to did.own old.kept.items old.parties.items new.kept.items new.parties.items ss unused worked did.ordered few-here some_callers)
       (group-faults cache pools trace.blocks qs callers was from to did.own old.kept.items old.parties.items new.kept.items new.parties.items ss unused worked did.ordered few-here some_callers)
 
-  come-lines : HaveCome cache (pools.size start) (pools.told start) trace.blocks (os ++ qs) (rs ++ ss) new
-  come-lines = have-come-more cache pools (pools.size start) (pools.told start) trace.blocks os qs rs ss from to old new between.come did own (unused.size ∙ between.counted.keeps.size) (unused.told ∙ between.counted.keeps.told)
+  come-lines : HaveCome cache restored (pools.size start) (pools.told start) trace.blocks (os ++ qs) (rs ++ ss) new
+  come-lines = have-come-more cache restored pools (pools.size start) (pools.told start) trace.blocks os qs rs ss from to old new between.come did own (unused.size ∙ between.counted.keeps.size) (unused.told ∙ between.counted.keeps.told)
 
   -- the trace ends with these lines
-  pub between-last : length rs + length qs ≡ length trace.ops → AreBetween cache pools trace start to (rs ++ ss) new
+  pub between-last : length rs + length qs ≡ length trace.ops → AreBetween cache restored pools trace start to (rs ++ ss) new
   between-last all = record {
     few = omega (arith, both-long, all);
     begins = λ less. absurd (omega (arith, both-long, all, less));
-    come = subst (λ (l : List Op). HaveCome cache (pools.size start) (pools.told start) trace.blocks l (rs ++ ss) new) (sym taken) come-lines;
+    come = subst (λ (l : List Op). HaveCome cache restored (pools.size start) (pools.told start) trace.blocks l (rs ++ ss) new) (sym taken) come-lines;
     knows = ap (λ (p : Place (Known C)). p.own.about.openings) did.feeder ∙ between.knows;
     counted = subst (λ (l : List Op). HaveCounted pools callers l (rs ++ ss) start to) (sym taken) counted-lines;
     groups = subst (λ (gs : List Lines). WorkInGroups pools callers gs start to)
@@ -263,10 +277,10 @@ module _ {C P : Type 0} (cache : Cache) (pools : Ghosts P) (trace : Trace) (star
         ∙ (take-suc trace.ops (length rs + length qs) op room
         ∙ (λ i. (sym (ap (λ (k : ℕ). take k trace.ops) both-long) ∙ taken) i ++ get_or_from_slice_get trace.ops (length rs + length qs) op op at i ∷ []))
 
-    come-ended-lines : HaveCome cache (pools.size start) (pools.told start) trace.blocks ((os ++ qs) ++ op ∷ []) all-replies last
+    come-ended-lines : HaveCome cache restored (pools.size start) (pools.told start) trace.blocks ((os ++ qs) ++ op ∷ []) all-replies last
     come-ended-lines =
-        subst (λ (x : Op × Reply). HaveCome cache (pools.size start) (pools.told start) trace.blocks ((os ++ qs) ++ x.0 ∷ []) ((rs ++ ss) ++ x.1 ∷ []) last) (λ i. (sym ended.is i, sym ended.answer i))
-        (have-come-cap cache (pools.size start) (pools.told start) trace.blocks (os ++ qs) (rs ++ ss) ended.c new last come-lines ended.resized ended.kept)
+        subst (λ (x : Op × Reply). HaveCome cache restored (pools.size start) (pools.told start) trace.blocks ((os ++ qs) ++ x.0 ∷ []) ((rs ++ ss) ++ x.1 ∷ []) last) (λ i. (sym ended.is i, sym ended.answer i))
+        (have-come-cap cache restored (pools.size start) (pools.told start) trace.blocks (os ++ qs) (rs ++ ss) ended.c new last come-lines ended.resized ended.kept)
 
     none-where : (c n : ℕ) → replies_of_caller n (ops.Cap c ∷ []) (Capped c ∷ []) ≡ []
     none-where c n = refl
@@ -278,11 +292,11 @@ module _ {C P : Type 0} (cache : Cache) (pools : Ghosts P) (trace : Trace) (star
         (λ full. let none = over-zero callers (asked (ops.Cap ended.c ∷ []) (Capped ended.c ∷ [])) (λ n below. refl) in omega (arith, none))
         (λ full. let none = over-zero callers (failed (ops.Cap ended.c ∷ []) (Capped ended.c ∷ [])) (λ n below. refl) in omega (arith, none)))
 
-    pub between-ended : AreBetween cache pools trace start to all-replies last
+    pub between-ended : AreBetween cache restored pools trace start to all-replies last
     between-ended = record {
       few = omega (arith, all-long, room);
       begins = λ less. subst (BeginsGroup trace.ops) (sym all-long) (op, at, ends);
-      come = subst (λ (l : List Op). HaveCome cache (pools.size start) (pools.told start) trace.blocks l all-replies last) (sym all-taken) come-ended-lines;
+      come = subst (λ (l : List Op). HaveCome cache restored (pools.size start) (pools.told start) trace.blocks l all-replies last) (sym all-taken) come-ended-lines;
       knows = ap (λ (a : About). a.openings) ended.resized.about ∙ (ap (λ (p : Place (Known C)). p.own.about.openings) did.feeder ∙ between.knows);
       counted = subst (λ (l : List Op). HaveCounted pools callers l all-replies start to) (sym all-taken) counted-end;
       groups = subst (λ (gs : List Lines). WorkInGroups pools callers gs start to)
@@ -345,9 +359,9 @@ module _ (trace : Trace) (formed : IsFormed trace) (a b : ℕ) where
 -- ---- one step of all groups
 
 -- What the next group came to, whose lines are these of the trace: they are done at once, and then the line that ends them, where there is one.
-module _ {C P : Type 0} (cache : Cache) (pools : Ghosts P) (trace : Trace) (formed : IsFormed trace) (config : cache.config ≡ trace.config) (start was from to : P) (rs ss : List Reply) (old new : Crew C)
+module _ {C P : Type 0} (cache : Cache) (restored : List Restored) (pools : Ghosts P) (trace : Trace) (formed : IsFormed trace) (config : cache.config ≡ trace.config) (start was from to : P) (rs ss : List Reply) (old new : Crew C)
     (first end : ℕ) (bs : List Ptr) (os : List Op) (is_bs : bs ≡ trace.blocks) (is_os : os ≡ trace.ops) (is_first : first ≡ length rs) (le : first ≤ end) (few : end ≤ length os)
-    (inside : (k : ℕ) (op : Op) → first ≤ k → k < end → slice_get os k ≡ Some op → ends_group op ≡ false) (between : AreBetween cache pools trace start was rs old) (more : length rs < length trace.ops)
+    (inside : (k : ℕ) (op : Op) → first ≤ k → k < end → slice_get os k ≡ Some op → ends_group op ≡ false) (between : AreBetween cache restored pools trace start was rs old) (more : length rs < length trace.ops)
     (unused : IsUnused pools was from) (did : DidLinesAtOnce cache pools bs (slice_range os first end) from to old new ss) (leaves : LeavesPool pools from to) where
   abbrev qs : List Op
   qs = slice_range trace.ops (length rs) end
@@ -374,52 +388,52 @@ module _ {C P : Type 0} (cache : Cache) (pools : Ghosts P) (trace : Trace) (form
   here : take (length qs) (drop (length rs) trace.ops) ≡ qs
   here = range-here trace.ops (length rs) end low few-lines
 
-  pub next-last : length os ≤ end → (all : List Reply) → all ≡ rs ++ ss → AreBetween cache pools trace start to all new × (length rs < length all)
+  pub next-last : length os ≤ end → (all : List Reply) → all ≡ rs ++ ss → AreBetween cache restored pools trace start to all new × (length rs < length all)
   next-last last all is =
       let long : length os ≡ length trace.ops = ap length is_os in
       let whole : length rs + length qs ≡ length trace.ops = omega (arith, ends-at, few-lines, last, long) in
       let size = ap length is in (
-        subst (λ (l : List Reply). AreBetween cache pools trace start to l new) (sym is)
-            (between-last cache pools trace start was from to rs ss qs old new formed.few_ops few-callers between more unused did-these leaves own (omega (arith, ends-at, few-lines)) here whole),
+        subst (λ (l : List Reply). AreBetween cache restored pools trace start to l new) (sym is)
+            (between-last cache restored pools trace start was from to rs ss qs old new formed.few_ops few-callers between more unused did-these leaves own (omega (arith, ends-at, few-lines)) here whole),
         omega (arith, size, length-append rs ss, did-these.ordered.all, whole, more),
       )
 
   -- the callers may join the feeder
   pub next-may : cache.row.parties ≡ parties_of cache.config → MayGoOn cache [] new.feeder new.parties.items
   next-may rows =
-      may-resize cache (pools.size start) (pools.told start) trace.blocks (take (length rs) trace.ops ++ qs) (rs ++ ss) new
-      (come-lines cache pools trace start was from to rs ss qs old new formed.few_ops few-callers between more unused did-these leaves own (omega (arith, ends-at, few-lines)) here) rows
+      may-resize cache restored (pools.size start) (pools.told start) trace.blocks (take (length rs) trace.ops ++ qs) (rs ++ ss) new
+      (come-lines cache restored pools trace start was from to rs ss qs old new formed.few_ops few-callers between more unused did-these leaves own (omega (arith, ends-at, few-lines)) here) rows
 
   pub next-ended : (op : Op) → slice_get os end ≡ Some op → ends_group op ≡ true → (last : Crew C) (reply : Reply) → DidEndLine cache op new last reply → (so_far all : List Reply) → so_far ≡ rs ++ ss → all ≡ so_far ++ reply ∷ []
-      → AreBetween cache pools trace start to all last × (length rs < length all)
+      → AreBetween cache restored pools trace start to all last × (length rs < length all)
   next-ended op at ends last reply ended so_far all is_far is =
       let there : slice_get trace.ops (length rs + length qs) ≡ Some op = ap (slice_get trace.ops) ends-at ∙ (ap (λ (l : List Op). slice_get l end) (sym is_os) ∙ at) in
       let whole : all ≡ (rs ++ ss) ++ reply ∷ [] = is ∙ ap (λ (l : List Reply). l ++ reply ∷ []) is_far in
       let size = ap length whole in (
-        subst (λ (l : List Reply). AreBetween cache pools trace start to l last) (sym whole)
-            (between-ended cache pools trace start was from to rs ss qs old new formed.few_ops few-callers between more unused did-these leaves own (omega (arith, ends-at, few-lines)) here op reply last there ends ended),
+        subst (λ (l : List Reply). AreBetween cache restored pools trace start to l last) (sym whole)
+            (between-ended cache restored pools trace start was from to rs ss qs old new formed.few_ops few-callers between more unused did-these leaves own (omega (arith, ends-at, few-lines)) here op reply last there ends ended),
         omega (arith, size, length-append (rs ++ ss) (reply ∷ []), length-append rs ss),
       )
 
 -- what a step says, by whether the group was done
-pub stepped : {C P : Type 0} (cache : Cache) (pools : Ghosts P) (trace : Trace) (start before after : P) (replied replies : List Reply) (done : Bool) (old new : Crew C) → done ≡ true
-    → StepsOn cache pools trace start before after replied replies done old new → AreBetween cache pools trace start after replies new × (length replied < length replies)
-stepped cache pools trace start before after replied replies done old new is step = subst (λ (b : Bool). StepsOn cache pools trace start before after replied replies b old new) is step
+pub stepped : {C P : Type 0} (cache : Cache) (restored : List Restored) (pools : Ghosts P) (trace : Trace) (start before after : P) (replied replies : List Reply) (done : Bool) (old new : Crew C) → done ≡ true
+    → StepsOn cache restored pools trace start before after replied replies done old new → AreBetween cache restored pools trace start after replies new × (length replied < length replies)
+stepped cache restored pools trace start before after replied replies done old new is step = subst (λ (b : Bool). StepsOn cache restored pools trace start before after replied replies b old new) is step
 
-pub not-stepped : {C P : Type 0} (cache : Cache) (pools : Ghosts P) (trace : Trace) (start before after : P) (replied replies : List Reply) (done : Bool) (old new : Crew C) → done ≡ false
-    → StepsOn cache pools trace start before after replied replies done old new → AreBetween cache pools trace start before replied old → length replied < length trace.ops → AreDone cache pools trace start after true replies new
-not-stepped {C} cache pools trace start before after replied replies done old new is step between more =
-    let same = subst (λ (b : Bool). StepsOn cache pools trace start before after replied replies b old new) is step in
+pub not-stepped : {C P : Type 0} (cache : Cache) (restored : List Restored) (pools : Ghosts P) (trace : Trace) (start before after : P) (replied replies : List Reply) (done : Bool) (old new : Crew C) → done ≡ false
+    → StepsOn cache restored pools trace start before after replied replies done old new → AreBetween cache restored pools trace start before replied old → length replied < length trace.ops → AreDone cache restored pools trace start after true replies new
+not-stepped {C} cache restored pools trace start before after replied replies done old new is step between more =
+    let same = subst (λ (b : Bool). StepsOn cache restored pools trace start before after replied replies b old new) is step in
     record {
       reached = before;
-      between = subst (λ (x : List Reply × Crew C). AreBetween cache pools trace start before x.0 x.1) (λ i. (sym same.0 i, sym same.1 i)) between;
+      between = subst (λ (x : List Reply × Crew C). AreBetween cache restored pools trace start before x.0 x.1) (λ i. (sym same.0 i, sym same.1 i)) between;
       whole = λ no. absurd (false≢true (sym no));
       failed = λ yes. (omega (arith, ap length same.0, more), same.2);
     }
 
-pub all-stepped : {C P : Type 0} (cache : Cache) (pools : Ghosts P) (trace : Trace) (start after : P) (replies : List Reply) (crew : Crew C) → AreBetween cache pools trace start after replies crew → length trace.ops ≤ length replies
-    → AreDone cache pools trace start after false replies crew
-all-stepped cache pools trace start after replies crew between all = record {
+pub all-stepped : {C P : Type 0} (cache : Cache) (restored : List Restored) (pools : Ghosts P) (trace : Trace) (start after : P) (replies : List Reply) (crew : Crew C) → AreBetween cache restored pools trace start after replies crew → length trace.ops ≤ length replies
+    → AreDone cache restored pools trace start after false replies crew
+all-stepped cache restored pools trace start after replies crew between all = record {
   reached = after;
   between = between;
   whole = λ no. (omega (arith, between.few, all), refl);

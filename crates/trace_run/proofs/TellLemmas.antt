@@ -107,9 +107,15 @@ mine-of blocks s kept (ops.Hold n t x) reply m his = subst (λ (k : ℕ). AllByR
 mine-of blocks s kept (ops.Drop n x) reply m his = subst (λ (k : ℕ). AllByRecursion (IsMine k) (events_of blocks s kept (ops.Drop n x) reply)) (some-number n m his) (mine-dropping n x kept (effect_of reply))
 mine-of blocks s kept other reply m his = cc
 
--- an event of the one caller, or a capacity that the feeder gives
+-- a new capacity, or a key that is restored
+abbrev pub is_given : Event → Bool
+is_given (event.Resize n c) = true
+is_given (event.Restore n k place d) = true
+is_given _ = false
+
+-- an event of the one caller, or one of the feeder: a capacity that it gives, or a key that it restores
 abbrev pub IsAloneEvent : Event → Type 0
-IsAloneEvent e = IsMine 0 e ⊎ ((c : ℕ) × (e ≡ event.Resize only_feeder c))
+IsAloneEvent e = IsMine 0 e ⊎ ((number_of e ≡ only_feeder) × (is_given e ≡ true))
 
 -- the operation is the one caller's, where it is a caller's
 abbrev pub IsAloneOp : Op → Type 0
@@ -119,7 +125,7 @@ alone-of : (blocks : List Ptr) (s : PlainShard) (kept : List KeptRead) (op : Op)
 alone-of blocks s kept (ops.Read n t x window) reply own = all-map (IsMine 0) IsAloneEvent _ (λ e is. inl is) (mine-of blocks s kept (ops.Read n t x window) reply 0 (ap (λ (k : ℕ). Some k) own))
 alone-of blocks s kept (ops.Hold n t x) reply own = all-map (IsMine 0) IsAloneEvent _ (λ e is. inl is) (mine-of blocks s kept (ops.Hold n t x) reply 0 (ap (λ (k : ℕ). Some k) own))
 alone-of blocks s kept (ops.Drop n x) reply own = all-map (IsMine 0) IsAloneEvent _ (λ e is. inl is) (mine-of blocks s kept (ops.Drop n x) reply 0 (ap (λ (k : ℕ). Some k) own))
-alone-of blocks s kept (ops.Cap c) reply own = (inr (c, refl), tt)
+alone-of blocks s kept (ops.Cap c) reply own = (inr (refl, refl), tt)
 alone-of blocks s kept other reply own = tt
 
 alone-all : (blocks : List Ptr) (s : PlainShard) (kept : List KeptRead) (os : List Op) (replies : List Reply) → AllByRecursion IsAloneOp os
@@ -239,7 +245,23 @@ caller-number callers cells n e lt mine = go e mine.2 (subst (λ m. nat_lt m cal
 -- none of them is a pass
 pub alone-no-pass : (e : Event) → IsAloneEvent e → is_pass e ≡ false
 alone-no-pass e (inl mine) = mine.1
-alone-no-pass e (inr is) = ap is_pass is.1
+alone-no-pass (event.Pass n k owner) (inr is) = absurd (false≢true is.1)
+alone-no-pass (event.Hit n k t) (inr is) = refl
+alone-no-pass (event.Miss n k t) (inr is) = refl
+alone-no-pass (event.Arrive n k d from) (inr is) = refl
+alone-no-pass (event.Fail n k at) (inr is) = refl
+alone-no-pass (event.Drop n k) (inr is) = refl
+alone-no-pass (event.Past n k kept) (inr is) = refl
+alone-no-pass (event.Hand n k to) (inr is) = refl
+alone-no-pass (event.Insert n k d t) (inr is) = refl
+alone-no-pass (event.Release n k sole) (inr is) = refl
+alone-no-pass (event.Pick n k) (inr is) = refl
+alone-no-pass (event.FeedEnd n) (inr is) = refl
+alone-no-pass (event.Set n k place) (inr is) = refl
+alone-no-pass (event.Leave n k why) (inr is) = refl
+alone-no-pass (event.Clear n k) (inr is) = refl
+alone-no-pass (event.Restore n k place d) (inr is) = refl
+alone-no-pass (event.Resize n c) (inr is) = refl
 
 -- without passes each stands where it may
 pub no-passes : (es : List Event) → AllByRecursion IsAloneEvent es → are_passes_placed es ≡ true

@@ -1,8 +1,8 @@
 -- One caller's lines over the shared cache, one after another, with its own party and its own pool.
-use Rattle.std.specs.Prelude.{◌≡◌, ◌<◌, ◌≤◌, ℕ, List, [], ◌∷◌, ◌++◌, IfSome, IsSome}
+use Rattle.std.specs.Prelude.{◌≡◌, ℕ, List, [], ◌∷◌, ◌++◌, IfSome, IsSome}
 use Rattle.blk_ptr.specs.declared.ptr.Ptr.{Ptr}
 use Rattle.arc_core.specs.declared.config.Config.{Config}
-use Rattle.arc_core.specs.declared.event.Event.TheVariants.{Resize}
+use Rattle.arc_core.specs.declared.event.Event.{Event}
 use Rattle.arc_core.specs.Operations.{Act}
 use Rattle.arc_table.specs.Seen.{HasAll, seen_of}
 use Rattle.arc_table.specs.Told.{IsTold}
@@ -17,6 +17,7 @@ use Rattle.trace_run.specs.Acts.{acts_of}
 use Rattle.trace_run.specs.Answering.{IsReadOfImage}
 use Rattle.trace_run.specs.Effects.{calls_of, effect_of}
 use Rattle.trace_run.specs.Lines.{caller_of, shard_of_line}
+use Rattle.trace_run.specs.Meeting.{resizes_in}
 use Rattle.trace_run.specs.OneCaller.{IsFoundAs, events_there, kept_after, only_feeder}
 use Rattle.trace_run.specs.Reads.{CameFromPool, IsAlone, now_of}
 use Rattle.trace_run.specs.Tally.{AnswersNow}
@@ -40,13 +41,16 @@ pub record DidThere {C : Type 0} (g : Config) (device : ℕ) (blocks : List Ptr)
   -- a line of a caller leaves the parties that joined
   pub joined : IsSome (caller_of op) → q.joined ≡ p.joined
 
--- Every shard has this capacity from now on: the party, which is the one caller's, has seen a Resize of the feeder in each more.
-pub record HasResized {C : Type 0} (g : Config) (c : ℕ) (p q : Place (Known C)) : Type 0 where
+-- The feeder made these events of each shard while the party, which is the one caller's, had joined it: the party has seen them more.
+pub record HasFed {C : Type 0} (g : Config) (more : (shard : ℕ) → List Event) (p q : Place (Known C)) : Type 0 where
   pub number : q.number ≡ p.number
   pub told : (before : List Act) → IsTold g before p → IsTold g before q
-  pub seen : (shard : ℕ) → shard < g.shards → seen_of g shard q ≡ seen_of g shard p ++ Resize only_feeder c ∷ []
-  pub beyond : (shard : ℕ) → g.shards ≤ shard → seen_of g shard q ≡ seen_of g shard p
+  pub seen : (shard : ℕ) → seen_of g shard q ≡ seen_of g shard p ++ more shard
   pub all : HasAll p → HasAll q
+
+-- every shard has this capacity from now on
+abbrev pub HasResized : {C : Type 0} → Config → (c : ℕ) → (p q : Place (Known C)) → Type 0
+HasResized g c p q = HasFed g (resizes_in g.shards only_feeder c) p q
 
 -- The line was answered so. Its acts are told, and a caller that is alone has seen just its events more; its pool was read as the reply says.
 -- Bytes that came from the pool in this call are those that it tells, where it does.

@@ -7,6 +7,7 @@ use Rattle.blk_ptr.specs.declared.ptr.Ptr.{Ptr}
 use Rattle.arc_core.specs.declared.config.Config.{Config}
 use Rattle.vdev_io.specs.declared.pool.Pool.{Ghosts}
 use Rattle.arc_core.specs.declared.event.Event.{Event}
+use Rattle.arc_core.specs.declared.served.Restored.{Restored}
 use Rattle.arc_core.specs.Operations.{HoldEveryCallOnce, IsAtRest, pool_reads}
 use Rattle.arc_core.specs.Replay.{is_legal_history, replay}
 use Rattle.trace_text.specs.declared.ends.ShardEnd.{ShardEnd}
@@ -14,7 +15,7 @@ use Rattle.trace_text.specs.declared.op.Op.{Op}
 use Rattle.trace_text.specs.declared.reply.Reply.{Reply}
 use Rattle.trace_text.specs.declared.report.Report.{Report}
 use Rattle.trace_text.specs.declared.trace.Trace.{Trace}
-use Rattle.trace_run.specs.Acts.{acts_of_callers, events_of_feeds}
+use Rattle.trace_run.specs.Acts.{acts_of_callers}
 use Rattle.trace_run.specs.Effects.{calls_of_all}
 use Rattle.trace_run.specs.Ends.{ends_of}
 use Rattle.arc_table.specs.Telling.{opening_of}
@@ -23,6 +24,7 @@ use Rattle.trace_run.specs.Lines.{is_in_shard, is_of_caller, replies_where}
 use Rattle.trace_run.specs.OneCaller.{AreFoundAs, events_of_drops, kept_after_all, one_caller_histories}
 use Rattle.trace_run.specs.PlainReport.{IsPlainReport}
 use Rattle.trace_run.specs.PlainRun.{report_of}
+use Rattle.trace_run.specs.Restores.{events_by_feeder, restored_of, restored_shard, restores_in}
 use Rattle.vdev_io.specs.Calls.{MakesCalls, Call}
 
 -- the drops at the end of a run in the shard of this number: what each caller still keeps there, by rising caller, the oldest first
@@ -36,29 +38,35 @@ drops_at_end config blocks shard (suc n) ops replies =
 abbrev pub EndsWith : List Event → List Event → Type 0
 EndsWith history es = (front : List Event) × (history ≡ front ++ es)
 
--- The histories explain the replies, for any number of callers and shards.
-pub record Explain (trace : Trace) (replies : List Reply) (shard_ends : List ShardEnd) (histories : List (List Event)) : Type 0 where
+-- and it begins with these
+abbrev pub BeginsWith : List Event → List Event → Type 0
+BeginsWith history es = (rest : List Event) × (history ≡ es ++ rest)
+
+-- The histories explain the replies, for any number of callers and shards, where these keys were found on the cache device.
+pub record Explain (trace : Trace) (restored : List Restored) (replies : List Reply) (shard_ends : List ShardEnd) (histories : List (List Event)) : Type 0 where
   -- each shard has a history, by its number, which is legal from the shard's start
   pub shards : length histories ≡ trace.config.shards
   pub legal : AllByRecursion (λ history. IsTrue (is_legal_history (opening_of trace.config) history)) histories
   -- its replay gives the shard's end, where nothing is held or being read, and there is no feed
   pub ends : shard_ends ≡ ends_of trace.config histories
   pub at_rest : AllByRecursion (λ history. IsAtRest (replay (opening_of trace.config) history)) histories
-  -- each call of each caller stands once in the history of its key's shard, in the order of the lines; the feeder made one Resize in each
-  -- for each capacity that the trace gives, in the order of the lines, and nothing else
+  -- each begins with the restores of its keys, in the order in which they were found
+  pub begins : (shard : ℕ) → shard < length histories → BeginsWith (slice_index_or histories shard []) (restores_in trace.config restored shard)
+  -- each call of each caller stands once in the history of its key's shard, in the order of the lines; the feeder made these restores, then one
+  -- Resize in each for each capacity that the trace gives, in the order of the lines, and nothing else
   pub every_call : HoldEveryCallOnce trace.config (shard_of trace.config.shards) (opening_of trace.config)
-      (acts_of_callers trace.blocks trace.config.callers trace.ops replies) (λ shard. events_of_feeds trace.config.callers trace.ops replies) histories
+      (acts_of_callers trace.blocks trace.config.callers trace.ops replies) (events_by_feeder trace.config restored trace.ops replies) histories
   -- each history ends with the drops at the end of the run
   pub ending : (shard : ℕ) → shard < length histories
       → EndsWith (slice_index_or histories shard []) (drops_at_end trace.config trace.blocks shard trace.config.callers trace.ops replies)
 
--- What more holds of a run with one caller: its report is a plain function of the trace, the bytes and which reads of the pool failed, as far as
--- no two contents share a digest.
+-- What more holds of a run with one caller: its report is a plain function of the trace, what was found on the cache device, the bytes and which
+-- reads of the pool failed, as far as no two contents share a digest.
 pub record RunsAlone {P : Type 0} (pool : Ghosts P) (before after : P) (trace : Trace) (report : Report) : Type 0 where
-  -- the histories hold the caller's events and no others
-  pub histories : report.histories ≡ one_caller_histories trace.config.shards trace.blocks 0 (opening_of trace.config) trace.ops report.replies
+  -- the histories hold the restores, the caller's events and no others
+  pub histories : report.histories ≡ one_caller_histories trace.config.shards trace.blocks 0 (opening_of trace.config) (restores_in trace.config (restored_of report.rebuilt)) trace.ops report.replies
   -- each answered read names where its access found the bytes, and only one that had to ask the pool was refused by it
-  pub found : AllByRecursion (λ shard. AreFoundAs trace.blocks (opening_of trace.config) []
+  pub found : AllByRecursion (λ shard. AreFoundAs trace.blocks (restored_shard trace.config (restored_of report.rebuilt) shard) []
       (filter (is_in_shard trace.config.shards trace.blocks shard) trace.ops)
       (replies_where (is_in_shard trace.config.shards trace.blocks shard) trace.ops report.replies)) (range_with_len 0 trace.config.shards)
   -- the pool was read once for each event that stands for a read of it, in their order, and nothing else was done with it; exactly the
@@ -68,4 +76,4 @@ pub record RunsAlone {P : Type 0} (pool : Ghosts P) (before after : P) (trace : 
   pub counted : length calls ≡ sum_by pool_reads report.histories
   pub made : MakesCalls pool calls before after
   -- over a pool that tells its bytes the report is that of the plain run, but that a cached block may be another content of its digest
-  pub plain : IfSome (pool.told before) (λ image. IsPlainReport trace image (report_of trace image calls) report)
+  pub plain : IfSome (pool.told before) (λ image. IsPlainReport trace image (report_of trace report.rebuilt image calls) report)

@@ -4,7 +4,9 @@ use Rattle.std.specs.List.{AllByRecursion}
 use Rattle.blk_ptr.specs.declared.ptr.Ptr.{Ptr}
 use Rattle.turn_table.specs.Places.{Place}
 use Rattle.arc_table.specs.declared.view.Known.{Known}
+use Rattle.arc_core.specs.declared.served.Restored.{Restored}
 use Rattle.arc_table.specs.Cache.{Cache}
+use Rattle.arc_table.specs.Fronts.{StartsWith}
 use Rattle.arc_table.specs.Seen.{seen_of}
 use Rattle.trace_text.specs.declared.op.Op.{Op}
 use Rattle.trace_text.specs.declared.op.Op.TheVariants.{Cap}
@@ -15,7 +17,7 @@ use Rattle.vdev_io.specs.declared.pool.Pool.{Ghosts}
 use Rattle.vdev_io.specs.Faults.{Rose, last_count}
 use Rattle.trace_run.specs.declared.groups.Crew.{Crew}
 use Rattle.trace_run.specs.declared.kept_blocks.KeptBlock.{KeptBlock}
-use Rattle.trace_run.specs.Acts.{acts_of_lines, events_of_feeds}
+use Rattle.trace_run.specs.Acts.{acts_of_lines}
 use Rattle.trace_run.specs.Answers.{is_pool_fault}
 use Rattle.trace_run.specs.Effects.{calls_of_all}
 use Rattle.trace_run.specs.Group.{HaveWorked, IsAt, LeavesPool}
@@ -26,6 +28,7 @@ use Rattle.trace_run.specs.Meeting.{IsFed, Resized, Waits}
 use Rattle.trace_run.specs.OneCaller.{kept_after_all}
 use Rattle.trace_run.specs.Openings.{Knows, openings_of}
 use Rattle.trace_run.specs.OverShards.{AreNamed}
+use Rattle.trace_run.specs.Restores.{events_by_feeder, restores_in}
 use Rattle.trace_run.specs.Tally.{AreAnswered}
 use Rattle.trace_run.specs.Together.{AreCut, BeginsGroup, WorkInGroups, groups_of, over_callers, replies_of_caller}
 
@@ -56,15 +59,17 @@ module _ {C : Type 0} where
     pub at : IsAt n crew.kept.items crew.parties.items reads party
     pub come : HasCome cache pool_len image blocks ops n replies reads party
 
-  -- All callers and the feeder have come to this by these lines. What the feeder has seen of each shard is cut by the capacities among them.
-  pub record HaveCome (cache : Cache) (pool_len : ℕ) (image : Option (List ℕ)) (blocks : List Ptr) (ops : List Op) (replies : List Reply) (crew : Crew C) : Type 0 where
+  -- All callers and the feeder have come to this by these lines, where these keys were restored. What the feeder has seen of each shard begins with
+  -- the restores, and is cut by the capacities among the lines.
+  pub record HaveCome (cache : Cache) (restored : List Restored) (pool_len : ℕ) (image : Option (List ℕ)) (blocks : List Ptr) (ops : List Op) (replies : List Reply) (crew : Crew C) : Type 0 where
     pub long : length replies ≡ length ops
     pub kepts : length crew.kept.items ≡ cache.config.callers
     pub parties : length crew.parties.items ≡ cache.config.callers
     pub each : (n : ℕ) → n < cache.config.callers → ComesAt cache pool_len image blocks ops replies n crew
     pub capped : AreCapped ops replies
-    pub feeder : IsFed cache crew.feeder.own.about.openings (λ shard. events_of_feeds cache.config.callers ops replies) (λ shard. seen_of cache.config shard crew.feeder) crew.feeder
-    pub cut : (shard : ℕ) → shard < cache.config.shards → AreCut cache.config blocks shard ops replies (seen_of cache.config shard crew.feeder)
+    pub feeder : IsFed cache crew.feeder.own.about.openings (events_by_feeder cache.config restored ops replies) (λ shard. seen_of cache.config shard crew.feeder) crew.feeder
+    pub begun : (shard : ℕ) → shard < cache.config.shards → StartsWith (seen_of cache.config shard crew.feeder) (restores_in cache.config restored shard)
+    pub cut : (shard : ℕ) → shard < cache.config.shards → AreCut cache.config restored blocks shard ops replies (seen_of cache.config shard crew.feeder)
 
 -- what the pool counts once the callers did these lines, group by group
 pub record HaveCounted {P : Type 0} (pools : Ghosts P) (callers : ℕ) (ops : List Op) (replies : List Reply) (before now : P) : Type 0 where
@@ -73,10 +78,10 @@ pub record HaveCounted {P : Type 0} (pools : Ghosts P) (callers : ℕ) (ops : Li
   pub faults : pools.faults before < 2 ^ 63 → pools.faults now ≡ pools.faults before + over_callers callers (λ n. count_by is_pool_fault (replies_of_caller n ops replies))
 
 -- The callers stand between two groups of a trace, of which so many lines are answered.
-pub record AreBetween {C P : Type 0} (cache : Cache) (pools : Ghosts P) (trace : Trace) (before now : P) (replies : List Reply) (crew : Crew C) : Type 0 where
+pub record AreBetween {C P : Type 0} (cache : Cache) (restored : List Restored) (pools : Ghosts P) (trace : Trace) (before now : P) (replies : List Reply) (crew : Crew C) : Type 0 where
   pub few : length replies ≤ length trace.ops
   pub begins : length replies < length trace.ops → BeginsGroup trace.ops (length replies)
-  pub come : HaveCome cache (pools.size before) (pools.told before) trace.blocks (take (length replies) trace.ops) replies crew
+  pub come : HaveCome cache restored (pools.size before) (pools.told before) trace.blocks (take (length replies) trace.ops) replies crew
   -- the feeder knows how the cells began
   pub knows : Knows (openings_of trace) crew.feeder
   pub counted : HaveCounted pools cache.config.callers (take (length replies) trace.ops) replies before now
@@ -105,9 +110,9 @@ pub record ForkFailed {P : Type 0} (pools : Ghosts P) (before after : P) : Type 
   pub rose : Rose (pools.faults before) (pools.faults after)
 
 -- All lines of the trace were done; or a fork of the pool failed before the group of the first line that isn't answered.
-pub record AreDone {C P : Type 0} (cache : Cache) (pools : Ghosts P) (trace : Trace) (before after : P) (fork_failed : Bool) (replies : List Reply) (crew : Crew C) : Type 0 where
+pub record AreDone {C P : Type 0} (cache : Cache) (restored : List Restored) (pools : Ghosts P) (trace : Trace) (before after : P) (fork_failed : Bool) (replies : List Reply) (crew : Crew C) : Type 0 where
   pub reached : P
-  pub between : AreBetween cache pools trace before reached replies crew
+  pub between : AreBetween cache restored pools trace before reached replies crew
   pub whole : fork_failed ≡ false → (length replies ≡ length trace.ops) × (after ≡ reached)
   pub failed : fork_failed ≡ true → (length replies < length trace.ops) × ForkFailed pools reached after
 
@@ -116,7 +121,7 @@ abbrev pub AreOfCallers : (callers : ℕ) → List Op → Type 0
 AreOfCallers callers ops = (k : ℕ) (op : Op) → slice_get ops k ≡ Some op → (n : ℕ) × (caller_of op ≡ Some n) × (n < callers)
 
 -- the next group was done, or none of it was begun, since a fork of the pool failed
-abbrev pub StepsOn : {C P : Type 0} → Cache → Ghosts P → Trace → (start before after : P) → (replied replies : List Reply) → (done : Bool) → (old new : Crew C) → Type 0
-StepsOn cache pools trace start before after replied replies true old new =
-    AreBetween cache pools trace start after replies new × (length replied < length replies)
-StepsOn cache pools trace start before after replied replies false old new = (replies ≡ replied) × (new ≡ old) × ForkFailed pools before after
+abbrev pub StepsOn : {C P : Type 0} → Cache → List Restored → Ghosts P → Trace → (start before after : P) → (replied replies : List Reply) → (done : Bool) → (old new : Crew C) → Type 0
+StepsOn cache restored pools trace start before after replied replies true old new =
+    AreBetween cache restored pools trace start after replies new × (length replied < length replies)
+StepsOn cache restored pools trace start before after replied replies false old new = (replies ≡ replied) × (new ≡ old) × ForkFailed pools before after

@@ -3,10 +3,12 @@ pub mod Acts
 pub mod Alone
 pub mod Answering
 pub mod Answers
+pub mod Bounded
 pub mod CallerLines
 pub mod Callers
 pub mod CellEnds
 pub mod CheckText
+pub mod Devices
 pub mod Effects
 pub mod Ends
 pub mod Explaining
@@ -29,6 +31,7 @@ pub mod PlainReport
 pub mod PlainRun
 pub mod Read
 pub mod Reads
+pub mod Restores
 pub mod States
 pub mod Status
 pub mod Stream

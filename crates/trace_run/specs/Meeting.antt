@@ -1,5 +1,5 @@
 -- How parties join one and part from it, what they have seen then, and how each in turn gives back what it keeps.
-use Rattle.std.specs.Prelude.{◌≡◌, ◌≢◌, ◌<◌, ◌≤◌, ℕ, suc, List, [], ◌∷◌, ◌++◌, map}
+use Rattle.std.specs.Prelude.{◌≡◌, ◌≢◌, ◌<◌, ◌≤◌, ℕ, suc, nat_lt, if◌then◌else◌, List, [], ◌∷◌, ◌++◌, map}
 use Rattle.std.specs.List.{AllByRecursion}
 use Rattle.arc_core.specs.declared.config.Config.{Config}
 use Rattle.arc_core.specs.declared.event.Event.{Event}
@@ -202,12 +202,16 @@ module _ {C : Type 0} where
     pub level : AllByRecursion (IsLevel cache.config lines) ps
     pub drops : (shard : ℕ) → events_in (lines shard) ≡ first shard ++ drops_from cache.config shard 0 kept
 
--- ---- every shard has a capacity, while all callers have joined the feeder
+-- ---- what the feeder does while all callers have joined it
+
+-- n gives each of so many shards a new capacity
+abbrev pub resizes_in : (shards n c : ℕ) → (shard : ℕ) → List Event
+resizes_in shards n c shard = if nat_lt shard shards then (Resize n c ∷ []) else []
 
 module _ {C : Type 0} where
-  -- While all others had joined it, the party gave every shard this capacity; then they parted. Each shard has one Resize behind all that anybody
-  -- had done, and all have seen it.
-  pub record Resized (cache : Cache) (c : ℕ) (p : Place (Known C)) (olds : List (Place (Known C))) (q : Place (Known C)) (news : List (Place (Known C))) : Type 0 where
+  -- While all others had joined it, the party made these events of each shard; then they parted. They stand behind all that anybody had done there,
+  -- and all have seen them.
+  pub record MadeJoined (cache : Cache) (more : (shard : ℕ) → List Event) (p : Place (Known C)) (olds : List (Place (Known C))) (q : Place (Known C)) (news : List (Place (Known C))) : Type 0 where
     pub lines : ℕ → List Line
     pub parted : HaveParted cache lines olds news
     pub level : IsLevel cache.config lines q
@@ -216,8 +220,7 @@ module _ {C : Type 0} where
     pub alone : q.joined ≡ []
     pub stands : Stands cache q []
     pub front : ℕ → List Event
-    pub seen : (shard : ℕ) → shard < cache.config.shards → seen_of cache.config shard q ≡ front shard ++ Resize p.number c ∷ []
-    pub beyond : (shard : ℕ) → cache.config.shards ≤ shard → seen_of cache.config shard q ≡ front shard
+    pub seen : (shard : ℕ) → seen_of cache.config shard q ≡ front shard ++ more shard
     -- the front has of each just what it had done
     pub own : (shard : ℕ) → own_moments p.number (moments (opening_of cache.config) (front shard)) ≡ own_moments p.number (moments (opening_of cache.config) (seen_of cache.config shard p))
     pub others : (shard : ℕ)
@@ -225,3 +228,9 @@ module _ {C : Type 0} where
     pub since : (shard : ℕ) → StartsWith (front shard) (seen_of cache.config shard p)
     -- where one other party has seen all that both made, it is what that one had seen
     pub one : (o : Place (Known C)) → olds ≡ o ∷ [] → AreSeen cache.config p.number p.own.mine o.own.seen → (shard : ℕ) → front shard ≡ seen_of cache.config shard o
+    -- where all had seen the same, it is that
+    pub same : (before : ℕ → List Line) → IsLevel cache.config before p → AllByRecursion (IsLevel cache.config before) olds → (shard : ℕ) → front shard ≡ events_in (before shard)
+
+  -- the feeder gave every shard this capacity
+  abbrev pub Resized : Cache → (c : ℕ) → Place (Known C) → List (Place (Known C)) → Place (Known C) → List (Place (Known C)) → Type 0
+  Resized cache c p olds q news = MadeJoined cache (resizes_in cache.config.shards cache.config.callers c) p olds q news

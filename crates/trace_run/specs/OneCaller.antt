@@ -147,15 +147,16 @@ abbrev pub events_of_drops : (n : ℕ) → List KeptRead → List Event
 events_of_drops n [] = []
 events_of_drops n (read ∷ reads) = events_of_drop n read.held ++ events_of_drops n reads
 
--- the whole history of one caller in one shard, from its start
+-- the history of one caller in one shard, which it finds so
 abbrev pub one_caller_history : List Ptr → (n : ℕ) → PlainShard → List Op → List Reply → List Event
 one_caller_history blocks n opening ops replies =
     events_of_all blocks opening [] ops replies ++ events_of_drops n (kept_after_all blocks [] ops replies)
 
 -- ---- several shards
 
--- the history of each shard, by its number: that of the lines that are done there
-abbrev pub one_caller_histories : (shards : ℕ) → List Ptr → (n : ℕ) → PlainShard → List Op → List Reply → List (List Event)
-one_caller_histories shards blocks n opening ops replies =
-    map (λ (shard : ℕ). one_caller_history blocks n opening (filter (is_in_shard shards blocks shard) ops) (replies_where (is_in_shard shards blocks shard) ops replies))
+-- the history of each shard, by its number: the events with which it begins, and then those of the lines that are done there
+abbrev pub one_caller_histories : (shards : ℕ) → List Ptr → (n : ℕ) → PlainShard → (begun : ℕ → List Event) → List Op → List Reply → List (List Event)
+one_caller_histories shards blocks n opening begun ops replies =
+    map (λ (shard : ℕ). begun shard
+    ++ one_caller_history blocks n (replay opening (begun shard)) (filter (is_in_shard shards blocks shard) ops) (replies_where (is_in_shard shards blocks shard) ops replies))
     (range_with_len 0 shards)

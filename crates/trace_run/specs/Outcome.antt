@@ -23,17 +23,21 @@ use Rattle.trace_run.specs.declared.status.Status.{Status}
 use Rattle.trace_run.specs.declared.status.Status.TheVariants as statuses
 use Rattle.trace_run.specs.declared.words.Command.{Command}
 use Rattle.trace_run.specs.declared.words.Command.TheVariants.{Run, Gen, Paper, Check}
+use Rattle.vdev_io.specs.declared.device.CacheDev.{Ghosts as Devices}
 use Rattle.vdev_io.specs.declared.pool.Pool.{Ghosts}
 use Rattle.arc_core.specs.Operations.{pool_reads}
 use Rattle.arc_table.specs.Ended.{Ended}
 use Rattle.dbuf_cells.specs.Turns.{OnHeap}
 use Rattle.trace_text.specs.Generator.{generated_block, generated_read, generated_sizes}
 use Rattle.trace_run.specs.Answers.{AnswersAll}
+use Rattle.trace_run.specs.Bounded.{device_len, with_bound}
 use Rattle.trace_run.specs.CellEnds.{AreCellsOf}
 use Rattle.trace_run.specs.CheckText.{check_text}
+use Rattle.trace_run.specs.Devices.{Finds, MayLose}
 use Rattle.trace_run.specs.Explaining.{Explain, RunsAlone}
 use Rattle.trace_run.specs.Lines.{has_undone}
 use Rattle.trace_run.specs.PlainRun.{report_of}
+use Rattle.trace_run.specs.Restores.{restored_of}
 use Rattle.trace_run.specs.States.{Handed, NoneFailed, OneFailed, StreamState}
 use Rattle.trace_run.specs.Stream.{Gives, AppendsFront, TakesAtMost}
 use Rattle.trace_run.specs.Together.{RunsTogether, StopsAtGroup, TellsClosed, answered_ops, faults_told, report_status}
@@ -78,12 +82,11 @@ pub record IsBadTrace (before after : StreamState) (line : ℕ) (kind : Kind) : 
 -- caller the report is a plain function; with several, each reads the pool through forks of its own, one for each group.
 pub record IsRun {C P : Type 0} (pool : Ghosts P) (before after : P) (trace : Trace) (fork_failed : Bool) (closed : Ended C) (report : Report) : Type 0 where
   pub answers : AnswersAll (pool.size before) (pool.told before) trace.blocks (answered_ops trace fork_failed report.replies) report.replies
-  pub explained : Explain trace report.replies report.ends report.histories
+  pub explained : Explain trace (restored_of report.rebuilt) report.replies report.ends report.histories
   pub tells : TellsClosed closed report
   -- the shared cache was made with the trace's numbers
   pub config : closed.config ≡ trace.config
-  -- no cache device was handed in, and no workers read for callers: the report has no line of either
-  pub no_device : report.rebuilt ≡ None
+  -- no workers read for callers: the report has no line of them
   pub no_workers : report.io ≡ None
   pub reads : pool.reads before < 2 ^ 63 → pool.reads after ≡ pool.reads before + sum_by pool_reads report.histories
   pub faults : pool.faults before < 2 ^ 63 → pool.faults after ≡ pool.faults before + faults_told fork_failed report.replies
@@ -94,15 +97,17 @@ pub record IsRun {C P : Type 0} (pool : Ghosts P) (before after : P) (trace : Tr
   -- a fork failed as a group began, which has no reply then
   pub failed : fork_failed ≡ true → Rose (pool.faults before) (pool.faults after) × StopsAtGroup trace report.replies
 
--- The report is that of a run of the trace that the source gave, all of whose lines the program does.
-pub record IsReport {P : Type 0} (pool : Ghosts P) (before after : Handed P) (closed : Ended OnHeap) (report : Report) : Type 0 where
+-- The report is that of a run of the trace that the source gave, all of whose lines the program does. The trace's bound of one feed is at most half of
+-- the device's ring. What is reported of the device is what its start found, and it is handed back.
+pub record IsReport {P D : Type 0} (pool : Ghosts P) (device : Devices D) (before after : Handed P D) (closed : Ended OnHeap) (report : Report) : Type 0 where
   pub trace : Trace
   pub read : WasRead before.source after.source trace
   pub done : has_undone trace ≡ false
+  pub found : Finds device before.cache after.cache report.rebuilt
   pub fork_failed : Bool
-  pub run : IsRun pool before.pool after.pool trace fork_failed closed report
+  pub run : IsRun pool before.pool after.pool (with_bound trace (device_len device.size before.cache)) fork_failed closed report
   -- the cells began with the trace's lines, and were ended
-  pub cells : AreCellsOf trace closed
+  pub cells : AreCellsOf (with_bound trace (device_len device.size before.cache)) closed
   pub status : report.status ≡ report_status fork_failed report.replies
   pub whole : report.short ≡ false
 
@@ -122,9 +127,9 @@ zeros_of blocks = replicate (blocks * 512) 0
 -- The report is that of a made trace, whose zero bytes are a pool that doesn't fail: a plain function of the three numbers. No reply is
 -- a refusal, and none is printed.
 pub record IsGenReport (seed blocks ops : ℕ) (closed : Ended OnHeap) (report : Report) : Type 0 where
-  pub plain : report ≡ record (report_of (generated seed blocks ops) (zeros_of blocks) []) { short = true }
+  pub plain : report ≡ record (report_of (generated seed blocks ops) None (zeros_of blocks) []) { short = true }
   pub answers : AnswersAll (blocks * 512) (Some (zeros_of blocks)) (generated seed blocks ops).blocks (generated seed blocks ops).ops report.replies
-  pub explained : Explain (generated seed blocks ops) report.replies report.ends report.histories
+  pub explained : Explain (generated seed blocks ops) [] report.replies report.ends report.histories
   pub tells : TellsClosed closed report
   pub config : closed.config ≡ generated_sizes blocks
   pub cells : AreCellsOf (generated seed blocks ops) closed
@@ -298,12 +303,13 @@ IfReported (Some report) None fact = ⊥
 IfReported (Some report) (Some closed) fact = fact closed report
 
 -- A run answers by what the source gave, and takes at most one byte past the longest text. Its report is that of the trace, and where none was
--- run the pool is as it was.
-pub record DoesRun {P : Type 0} (pool : Ghosts P) (events : Bool) (before after : Handed P) (status : Status) (report : Option Report) (closed : Option (Ended OnHeap)) : Type 0 where
+-- run the pool and the cache device are as they were. The device is only read, or it is lost where memory was refused.
+pub record DoesRun {P D : Type 0} (pool : Ghosts P) (device : Devices D) (events : Bool) (before after : Handed P D) (status : Status) (report : Option Report) (closed : Option (Ended OnHeap)) : Type 0 where
   pub source : AnswersSource before.source after.source status
   pub took : TakesAtMost before.source.told after.source.told (longest_text + 1)
-  pub unrun : OnFalse (ran status) (after.pool ≡ before.pool)
-  pub reported : IfReported report closed (IsReport pool before after)
+  pub unrun : OnFalse (ran status) ((after.pool ≡ before.pool) × (after.cache ≡ before.cache))
+  pub cache : MayLose device before.cache after.cache
+  pub reported : IfReported report closed (IsReport pool device before after)
   pub sink : AnswersSink events before.sink after.sink status report
   pub present : is_some report ≡ has_report status
 
@@ -319,34 +325,39 @@ IsGenStatus (statuses.BadTrace line kind) = ⊥
 IsGenStatus statuses.SourceFault = ⊥
 IsGenStatus (statuses.Illegal shard index) = ⊥
 
--- A made trace reads no source and leaves the pool that was handed in alone.
-pub record DoesGen {P : Type 0} (seed blocks ops : ℕ) (before after : Handed P) (status : Status) (report : Option Report) (closed : Option (Ended OnHeap)) : Type 0 where
+-- A made trace reads no source and leaves the pool and the cache device that were handed in alone.
+pub record DoesGen {P D : Type 0} (seed blocks ops : ℕ) (before after : Handed P D) (status : Status) (report : Option Report) (closed : Option (Ended OnHeap)) : Type 0 where
   pub fair : IsGenStatus status
   pub source : after.source ≡ before.source
   pub pool : after.pool ≡ before.pool
+  pub cache : after.cache ≡ before.cache
   pub reported : IfReported report closed (IsGenReport seed blocks ops)
   pub sink : AnswersSink false before.sink after.sink status report
   pub present : is_some report ≡ has_report status
 
--- A list of pages is told from what the source gave, of which at most one byte past the longest text is taken. There is no report, and the pool is left alone.
-pub record DoesPaper {C P : Type 0} (c : ℕ) (before after : Handed P) (status : Status) (report : Option Report) (closed : Option (Ended C)) : Type 0 where
+-- A list of pages is told from what the source gave, of which at most one byte past the longest text is taken. There is no report, and the pool and the
+-- cache device are left alone.
+pub record DoesPaper {C P D : Type 0} (c : ℕ) (before after : Handed P D) (status : Status) (report : Option Report) (closed : Option (Ended C)) : Type 0 where
   pub answers : AnswersPages c before.source after.source before.sink after.sink status
   pub took : TakesAtMost before.source.told after.source.told (longest_text + 1)
   pub pool : after.pool ≡ before.pool
+  pub cache : after.cache ≡ before.cache
   pub none : (report ≡ None) × (closed ≡ None)
 
--- A log of events is judged from what the source gave, of which at most one byte past the longest text is taken. There is no report, and the pool is left alone.
-pub record DoesCheck {C P : Type 0} (before after : Handed P) (status : Status) (report : Option Report) (closed : Option (Ended C)) : Type 0 where
+-- A log of events is judged from what the source gave, of which at most one byte past the longest text is taken. There is no report, and the pool and the
+-- cache device are left alone.
+pub record DoesCheck {C P D : Type 0} (before after : Handed P D) (status : Status) (report : Option Report) (closed : Option (Ended C)) : Type 0 where
   pub answers : AnswersLog before.source after.source before.sink after.sink status
   pub took : TakesAtMost before.source.told after.source.told (longest_text + 1)
   pub pool : after.pool ≡ before.pool
+  pub cache : after.cache ≡ before.cache
   pub none : (report ≡ None) × (closed ≡ None)
 
-abbrev pub Does : {P : Type 0} → Ghosts P → (before after : Handed P) → Status → Option Report → Option (Ended OnHeap) → Command → Type 0
-Does pool before after status report closed (Run events) = DoesRun pool events before after status report closed
-Does pool before after status report closed (Gen seed blocks ops) = DoesGen seed blocks ops before after status report closed
-Does pool before after status report closed (Paper c) = DoesPaper c before after status report closed
-Does pool before after status report closed Check = DoesCheck before after status report closed
+abbrev pub Does : {P D : Type 0} → Ghosts P → Devices D → (before after : Handed P D) → Status → Option Report → Option (Ended OnHeap) → Command → Type 0
+Does pool device before after status report closed (Run events) = DoesRun pool device events before after status report closed
+Does pool device before after status report closed (Gen seed blocks ops) = DoesGen seed blocks ops before after status report closed
+Does pool device before after status report closed (Paper c) = DoesPaper c before after status report closed
+Does pool device before after status report closed Check = DoesCheck before after status report closed
 
 -- a fact where the words are refused
 abbrev pub IfUsage : Status → Type 0 → Type 0

@@ -18,6 +18,7 @@ use Rattle.trace_text.specs.declared.reply.Refusal.{Refusal}
 use Rattle.trace_text.specs.declared.reply.Refusal.TheVariants.{PoolFault, Mismatch, Key as RefusedKey, Range, NoHold}
 use Rattle.trace_text.specs.declared.reply.Reply.{Reply}
 use Rattle.trace_text.specs.declared.reply.Reply.TheVariants.{Read, Kept, Dropped, Capped, Refused}
+use Rattle.trace_text.specs.declared.rebuilt.Rebuilt.{Rebuilt}
 use Rattle.trace_text.specs.declared.report.Report.{Report}
 use Rattle.trace_text.specs.declared.trace.Trace.{Trace}
 use Rattle.dbuf_state.specs.declared.window.Window.{Window}
@@ -30,6 +31,7 @@ use Rattle.trace_run.specs.Ends.{ends_of}
 use Rattle.arc_table.specs.Telling.{opening_of}
 use Rattle.trace_run.specs.Lines.{shard_of_line}
 use Rattle.trace_run.specs.OneCaller.{events_there, kept_after, oldest_kept, one_caller_histories}
+use Rattle.trace_run.specs.Restores.{restored_of, restored_shard, restores_in}
 use Rattle.vdev_io.specs.Calls.{Call, Gave, Failed}
 
 -- ---- the reply to one operation
@@ -113,19 +115,19 @@ replies_to image shards blocks s kept (op ∷ ops) calls =
 abbrev pub status_of : List Reply → ℕ
 status_of replies = if list_any is_refusal replies then 1 else 0
 
--- the report of a run whose replies are these
-abbrev pub report_with : Trace → List Reply → Report
-report_with trace replies = record {
+-- the report of a run whose replies are these, where this was found on the cache device
+abbrev pub report_with : Trace → Option Rebuilt → List Reply → Report
+report_with trace rebuilt replies = record {
   replies = replies;
-  histories = one_caller_histories trace.config.shards trace.blocks 0 (opening_of trace.config) trace.ops replies;
-  ends = ends_of trace.config (one_caller_histories trace.config.shards trace.blocks 0 (opening_of trace.config) trace.ops replies);
+  histories = one_caller_histories trace.config.shards trace.blocks 0 (opening_of trace.config) (restores_in trace.config (restored_of rebuilt)) trace.ops replies;
+  ends = ends_of trace.config (one_caller_histories trace.config.shards trace.blocks 0 (opening_of trace.config) (restores_in trace.config (restored_of rebuilt)) trace.ops replies);
   io = None;
-  rebuilt = None;
+  rebuilt = rebuilt;
   status = status_of replies;
   short = false;
 }
 
--- the report of one caller's run over these bytes, where the pool answered its reads so
-abbrev pub report_of : Trace → (image : List ℕ) → List Call → Report
-report_of trace image calls =
-    report_with trace (replies_to image trace.config.shards trace.blocks (λ shard. opening_of trace.config) [] trace.ops calls)
+-- the report of one caller's run over these bytes, where this was found on the cache device and the pool answered its reads so
+abbrev pub report_of : Trace → Option Rebuilt → (image : List ℕ) → List Call → Report
+report_of trace rebuilt image calls =
+    report_with trace rebuilt (replies_to image trace.config.shards trace.blocks (restored_shard trace.config (restored_of rebuilt)) [] trace.ops calls)

@@ -22,11 +22,12 @@ NoneFailed before after = after.faults ≡ before.faults
 abbrev pub OneFailed : StreamState → StreamState → Type 0
 OneFailed before after = CountsOne before.faults after.faults
 
--- a source, a sink and a pool at one moment
-pub record Handed (P : Type 0) : Type 0 where
+-- a source, a sink, a pool and a cache device, or none, at one moment
+pub record Handed (P D : Type 0) : Type 0 where
   pub source : StreamState
   pub sink : StreamState
   pub pool : P
+  pub cache : Option D
 
-abbrev pub handed : {S K P : Type 0} → SourceGhosts S → SinkGhosts K → S → K → P → Handed P
-handed sources sinks source sink pool = record { source = source_state sources source; sink = sink_state sinks sink; pool = pool }
+abbrev pub handed : {S K P D : Type 0} → SourceGhosts S → SinkGhosts K → S → K → P → Option D → Handed P D
+handed sources sinks source sink pool cache = record { source = source_state sources source; sink = sink_state sinks sink; pool = pool; cache = cache }

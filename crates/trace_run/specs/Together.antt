@@ -1,27 +1,30 @@
 -- A run of several callers, group by group: which operations were answered, what each caller's work did to its forks of the pool, and what the closed
 -- cache tells.
-use Rattle.std.specs.Prelude.{◌≡◌, ℕ, zero, suc, ◌+◌, ◌<◌, ◌≤◌, ◌==◌, ◌&&◌, Bool, true, false, if◌then◌else◌, List, [], ◌∷◌, ◌++◌, None, Some, count_by, length, map, slice_get, slice_index_or, sum_by, take}
+use Rattle.std.specs.Prelude.{◌≡◌, ℕ, zero, suc, ◌+◌, ◌<◌, ◌≤◌, ◌==◌, ◌&&◌, Bool, true, false, if◌then◌else◌, List, [], ◌∷◌, ◌++◌, Option, None, Some, count_by, length, map, slice_get, slice_index_or, sum_by, take}
 use Rattle.blk_ptr.specs.declared.ptr.Ptr.{Ptr}
 use Rattle.blk_ptr.specs.Hash.{shard_of}
 use Rattle.arc_core.specs.declared.config.Config.{Config}
 use Rattle.arc_core.specs.declared.event.Event.{Event}
 use Rattle.arc_core.specs.declared.event.Event.TheVariants.{Resize}
+use Rattle.arc_core.specs.declared.served.Restored.{Restored}
 use Rattle.arc_core.specs.Operations.{Tell, acts_in, is_pool_read, moments, number_of, own_events, own_moments}
 use Rattle.arc_table.specs.Telling.{opening_of}
 use Rattle.arc_table.specs.Ended.{Ended}
 use Rattle.trace_text.specs.declared.op.Op.{Op}
 use Rattle.trace_text.specs.declared.op.Op.TheVariants.{Read, Hold, Drop, Cap}
 use Rattle.trace_text.specs.declared.reply.Reply.{Reply}
+use Rattle.trace_text.specs.declared.rebuilt.Rebuilt.{Rebuilt}
 use Rattle.trace_text.specs.declared.report.Report.{Report}
 use Rattle.trace_text.specs.declared.trace.Trace.{Trace}
 use Rattle.vdev_io.specs.declared.pool.Pool.{Ghosts}
 use Rattle.vdev_io.specs.Faults.{last_count}
-use Rattle.trace_run.specs.Acts.{acts_of_lines, events_of_feeds}
+use Rattle.trace_run.specs.Acts.{acts_of_lines}
 use Rattle.trace_run.specs.Answers.{is_pool_fault}
 use Rattle.trace_run.specs.Effects.{calls_of_all}
 use Rattle.trace_run.specs.Ends.{end_of}
 use Rattle.trace_run.specs.Lines.{is_of_caller, replies_where}
 use Rattle.trace_run.specs.PlainRun.{status_of}
+use Rattle.trace_run.specs.Restores.{events_by_feeder, restored_of}
 use Rattle.vdev_io.specs.Calls.{MakesCalls}
 
 -- The report tells what the closed cache had: the history of each shard, and what the shard ends with.
@@ -44,14 +47,14 @@ abbrev pub faults_told : (fork_failed : Bool) → List Reply → ℕ
 faults_told true replies = count_by is_pool_fault replies + 1
 faults_told false replies = count_by is_pool_fault replies
 
--- the report of a run with these replies, over a shared cache that closed so: no cache device was handed in, and no workers read for callers
-abbrev pub report_of_closed : {C : Type 0} → (fork_failed : Bool) → List Reply → Ended C → Report
-report_of_closed fork_failed replies closed = record {
+-- the report of a run with these replies, over a shared cache that closed so, where this was found on the cache device; no workers read for callers
+abbrev pub report_of_closed : {C : Type 0} → (fork_failed : Bool) → Option Rebuilt → List Reply → Ended C → Report
+report_of_closed fork_failed rebuilt replies closed = record {
   replies = replies;
   histories = map (λ log. log.history) closed.shards;
   ends = map (λ log. end_of log.now) closed.shards;
   io = None;
-  rebuilt = None;
+  rebuilt = rebuilt;
   status = report_status fork_failed replies;
   short = false;
 }
@@ -130,18 +133,18 @@ WorkInGroups {P} pool callers (group ∷ groups) before after = (next : P) × Wo
 
 -- In the history of a shard stands a Resize to this capacity. Before it stands all that these lines did there, and nothing else that a caller
 -- or the feeder did.
-pub record IsCut (config : Config) (blocks : List Ptr) (shard : ℕ) (ops : List Op) (replies : List Reply) (c : ℕ) (history : List Event) : Type 0 where
+pub record IsCut (config : Config) (restored : List Restored) (blocks : List Ptr) (shard : ℕ) (ops : List Op) (replies : List Reply) (c : ℕ) (history : List Event) : Type 0 where
   pub front : List Event
   pub rest : List Event
   pub whole : history ≡ front ++ Resize config.callers c ∷ rest
   pub callers : (n : ℕ) → n < config.callers
       → Tell (acts_in (shard_of config.shards) shard n (acts_of_lines blocks ops n (replies_of_caller n ops replies))) (own_moments n (moments (opening_of config) front))
-  pub feeder : own_events config.callers front ≡ events_of_feeds config.callers ops replies
+  pub feeder : own_events config.callers front ≡ events_by_feeder config restored ops replies shard
 
 -- each line of these that gives a capacity cuts the history of a shard behind the lines before it
-abbrev pub AreCut : Config → List Ptr → (shard : ℕ) → List Op → List Reply → (history : List Event) → Type 0
-AreCut config blocks shard lines replies history =
-    (k c : ℕ) → slice_get lines k ≡ Some (Cap c) → k < length replies → IsCut config blocks shard (take k lines) (take k replies) c history
+abbrev pub AreCut : Config → List Restored → List Ptr → (shard : ℕ) → List Op → List Reply → (history : List Event) → Type 0
+AreCut config restored blocks shard lines replies history =
+    (k c : ℕ) → slice_get lines k ≡ Some (Cap c) → k < length replies → IsCut config restored blocks shard (take k lines) (take k replies) c history
 
 -- With two callers or more, each has a fork of the pool in each group, made as the group begins. Where one fails, that group isn't begun, and the
 -- pool has only counted that.
@@ -152,4 +155,4 @@ pub record RunsTogether {P : Type 0} (pool : Ghosts P) (before after : P) (trace
   -- each caller's reads of its forks are those that its events stand for
   pub counted : (n : ℕ) → n < trace.config.callers → length (calls_of_all (replies_of_caller n trace.ops report.replies)) ≡ reads_of_caller n report.histories
   -- a capacity is given to each shard once all lines before it are done, and before any line behind it is begun
-  pub cut : (shard : ℕ) → shard < length report.histories → AreCut trace.config trace.blocks shard trace.ops report.replies (slice_index_or report.histories shard [])
+  pub cut : (shard : ℕ) → shard < length report.histories → AreCut trace.config (restored_of report.rebuilt) trace.blocks shard trace.ops report.replies (slice_index_or report.histories shard [])

@@ -3,16 +3,18 @@ ghost use Rattle.std.specs.Prelude.{◌≡◌, ℕ, [], IfOk, List, false, map};
 ghost use Rattle.arc_lists.specs.Adapting.{IsCapacity};
 ghost use Rattle.arc_table.specs.Geometry.{parties_of};
 ghost use Rattle.vdev_io.specs.Calls.{KeepsPool};
+ghost use Rattle.l2_dev.specs.Rebuilding.{HaveKeys};
 ghost use Rattle.trace_text.specs.Grammar.{IsFormed, IsOperation};
 ghost use Rattle.trace_run.specs.declared.kept_blocks.KeptBlock.{KeptBlock};
 ghost use Rattle.trace_run.specs.Alone.{RanAlone};
-ghost use Rattle.trace_run.specs.CallerLines.{DidLines, HasResized, at};
+ghost use Rattle.trace_run.specs.CallerLines.{DidLines, HasFed, HasResized, at};
 ghost use Rattle.trace_run.specs.CellEnds.{AreCellsOf, HasSeenEnds};
 ghost use Rattle.trace_run.specs.KeptBlocks.{Stands, read_of};
 ghost use Rattle.trace_run.specs.Meeting.{HasFeeder};
 ghost use Rattle.trace_run.specs.Opened.{AreOpened, HasJoined};
 ghost use Rattle.trace_run.specs.Openings.{AllKnow, openings_of};
 ghost use Rattle.trace_run.specs.OverShards.{AreNamed};
+ghost use Rattle.trace_run.specs.Restores.{restores_in};
 
 use crate::cells::end_cells_joined;
 use crate::kept_blocks::{KeptBlocks, give_back_all};
@@ -20,6 +22,8 @@ use crate::lines::{is_of_caller, line};
 use crate::opening::open_cache;
 use crate::ran::Ran;
 use crate::resizing::resize_joined;
+use crate::restoring::restore_joined;
+use arc_core::Restored;
 use arc_table::Party;
 use blk_ptr::NoMemory;
 use dbuf_cells::{Cells, HeapCell};
@@ -87,6 +91,34 @@ fn end_alone(
     let feeder = arcs.part(&mut party, 1);
     let callers = vec![in alloc; party]?;
     let (feeder, mut callers) = end_cells_joined(alloc, rt, arcs, feeder, callers)?;
+    let Some(mut party) = callers.pop() else {
+        unreachable!()
+    };
+    arcs.join(&mut party, feeder);
+    Ok(party)
+}
+
+/// Restores the keys that were found on the cache device. The feeder does it, as it gives a capacity.
+fn restore_alone(
+    alloc: Global,
+    rt: &impl Wait,
+    arcs: &Cells,
+    mut party: Party<HeapCell>,
+    restored: &[Restored],
+) -> Result<Party<HeapCell>, NoMemory>
+    requires one { arcs.now.config.callers ≡ 1 }
+    requires number { party.number ≡ 0 }
+    requires stands { Stands arcs.now party [] }
+    requires joined { (openings : List (List ℕ)) × HasFeeder arcs.now openings party }
+    requires rows { arcs.now.row.parties ≡ parties_of arcs.now.config }
+    requires keys { HaveKeys restored.now }
+    ensures stands { IfOk result (λ q. Stands arcs.now q []) }
+    ensures joined { (openings : List (List ℕ)) → HasFeeder arcs.now openings party → IfOk result (HasFeeder arcs.now openings) }
+    ensures fed { IfOk result (HasFed arcs.now.config (restores_in arcs.now.config restored.now) party) }
+{
+    let feeder = arcs.part(&mut party, 1);
+    let callers = vec![in alloc; party]?;
+    let (feeder, mut callers) = restore_joined(alloc, rt, arcs, feeder, callers, restored)?;
     let Some(mut party) = callers.pop() else {
         unreachable!()
     };
@@ -166,23 +198,26 @@ fn lines_alone<P: Pool, G: Gate>(
     Ok((party, replies))
 }
 
-/// Runs a trace of one caller: its lines, one after another, over the pool that is handed in.
+/// Runs a trace of one caller: its lines, one after another, over the pool that is handed in, once these keys are restored.
 pub(crate) fn run_alone<P: Pool, G: Gate>(
     alloc: Global,
     rt: &impl Wait,
     trace: &Trace,
+    restored: &[Restored],
     pool: &mut P,
     gate: &G,
 ) -> Result<Ran, NoMemory>
     requires formed { IsFormed trace.now }
     requires one { trace.now.config.callers ≡ 1 }
-    ensures ran { IfOk result (λ ran. RanAlone P.Pool pool.old pool.new trace.now ran.replies.items ran.closed) }
+    requires keys { HaveKeys restored.now }
+    ensures ran { IfOk result (λ ran. RanAlone P.Pool pool.old pool.new trace.now restored.now ran.replies.items ran.closed) }
     ensures cells { IfOk result (λ ran. AreCellsOf trace.now ran.closed) }
     ensures fork { IfOk result (λ ran. ran.fork_failed ≡ false) }
     ensures pool { KeepsPool P.Pool pool.old pool.new }
 {
     let (arcs, parties) = open_cache(alloc, trace)?;
     let party = only_party(&arcs, parties);
+    let party = restore_alone(alloc, rt, &arcs, party, restored)?;
     let mut kept = KeptBlocks::new(alloc);
     let (mut party, replies) = lines_alone(alloc, rt, &arcs, trace, party, &mut kept, pool, gate)?;
     give_back_all(rt, &arcs, &mut party, kept);

@@ -1,6 +1,7 @@
 //! Several callers, group by group: the lines of a group at once, and then the line that ends it.
 ghost use Rattle.std.specs.Prelude.{◌≡◌, ℕ, ◌<◌, ◌≤◌, ◌+◌, ◌^◌, ◌++◌, ◌∷◌, [], IfOk, List, OnOk, Some, false, length, slice_get, true, vec_len};
 ghost use Rattle.std.specs.List.{AllByRecursion};
+ghost use Rattle.arc_core.specs.declared.served.Restored.{Restored};
 ghost use Rattle.arc_table.specs.Geometry.{parties_of};
 ghost use Rattle.trace_text.specs.Grammar.{IsFormed, IsOperation};
 ghost use Rattle.trace_text.specs.declared.op.Op.{Op};
@@ -205,10 +206,10 @@ fn next_group<R: Threads + Wait + Sync, C: Keeps + Send, P: Pool, G: Gate>(
     requires formed { IsFormed trace.now }
     requires config { arcs.now.config ≡ trace.now.config }
     requires rows { arcs.now.row.parties ≡ parties_of arcs.now.config }
-    requires between { (start : P) × AreBetween arcs.now P.Pool trace.now start pool.old replies.old.items crew }
+    requires between { (start : P) × (restored : List Restored) × AreBetween arcs.now restored P.Pool trace.now start pool.old replies.old.items crew }
     requires more { vec_len replies.old < length trace.now.ops }
-    ensures steps { (start : P) → AreBetween arcs.now P.Pool trace.now start pool.old replies.old.items crew
-        → IfOk result (λ done. StepsOn arcs.now P.Pool trace.now start pool.old pool.new replies.old.items replies.new.items done.1 crew done.0) }
+    ensures steps { (start : P) (restored : List Restored) → AreBetween arcs.now restored P.Pool trace.now start pool.old replies.old.items crew
+        → IfOk result (λ done. StepsOn arcs.now restored P.Pool trace.now start pool.old pool.new replies.old.items replies.new.items done.1 crew done.0) }
     ensures pool { LeavesPool P.Pool pool.old pool.new }
 {
     let blocks = trace.blocks.as_slice();
@@ -254,8 +255,8 @@ pub(crate) fn all_groups<R: Threads + Wait + Sync, C: Keeps + Send, P: Pool, G: 
     requires formed { IsFormed trace.now }
     requires config { arcs.now.config ≡ trace.now.config }
     requires rows { arcs.now.row.parties ≡ parties_of arcs.now.config }
-    requires between { AreBetween arcs.now P.Pool trace.now pool.old pool.old [] crew }
-    ensures stopped { IfOk result (λ came. AreDone arcs.now P.Pool trace.now pool.old pool.new came.fork_failed came.replies.items came.crew) }
+    requires between { (restored : List Restored) × AreBetween arcs.now restored P.Pool trace.now pool.old pool.old [] crew }
+    ensures stopped { (restored : List Restored) → AreBetween arcs.now restored P.Pool trace.now pool.old pool.old [] crew → IfOk result (λ came. AreDone arcs.now restored P.Pool trace.now pool.old pool.new came.fork_failed came.replies.items came.crew) }
     ensures pool { LeavesPool P.Pool pool.old pool.new }
 {
     let mut crew = crew;

@@ -2,8 +2,10 @@
 #![tactic(auto)]
 
 mod alone;
+mod bounded;
 mod cells;
 mod check;
+mod device;
 mod ending;
 mod get;
 mod group;
@@ -15,6 +17,7 @@ mod opening;
 mod paper;
 mod ran;
 mod resizing;
+mod restoring;
 mod run_trace;
 mod status;
 mod stream;

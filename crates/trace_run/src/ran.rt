@@ -11,7 +11,7 @@ use blk_ptr::{NoMemory, State};
 use dbuf_cells::HeapCell;
 use std::alloc::Global;
 use std::sync::Arc;
-use trace_text::{Ends, Histories, History, Replies, Reply, Report, ShardEnd};
+use trace_text::{Ends, Histories, History, Rebuilt, Replies, Reply, Report, ShardEnd};
 
 /// What a run of a trace came to.
 #[derive(Drop)]
@@ -32,9 +32,13 @@ pub(crate) struct Reported {
 }
 
 impl Ran {
-    /// The report of the run, with all replies.
-    pub(crate) fn report(self, alloc: Global) -> Result<Reported, NoMemory>
-        ensures report { IfOk result (λ told. told.report ≡ report_of_closed self.fork_failed self.replies.items self.closed) }
+    /// The report of the run, with all replies and what was found on the cache device.
+    pub(crate) fn report(
+        self,
+        alloc: Global,
+        rebuilt: Option<Rebuilt>,
+    ) -> Result<Reported, NoMemory>
+        ensures report { IfOk result (λ told. told.report ≡ report_of_closed self.fork_failed rebuilt self.replies.items self.closed) }
         ensures closed { IfOk result (λ told. told.closed ≡ self.closed) }
     {
         let histories = histories_of(alloc, &self.closed.shared_shards()?)?;
@@ -49,7 +53,7 @@ impl Ran {
             histories,
             ends,
             io: None,
-            rebuilt: None,
+            rebuilt,
             status,
             short: false,
         };

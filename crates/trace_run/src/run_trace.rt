@@ -1,9 +1,11 @@
 //! The run of a trace, and its report.
 ghost use Rattle.std.specs.Prelude.{◌≡◌, Bool, IfOk, false};
+ghost use Rattle.l2_dev.specs.Rebuilding.{HaveKeys};
 ghost use Rattle.trace_text.specs.Grammar.{IsFormed};
 ghost use Rattle.trace_run.specs.Outcome.{IsGenReport, IsRun};
 ghost use Rattle.trace_run.specs.CellEnds.{AreCellsOf};
 ghost use Rattle.trace_run.specs.Group.{LeavesPool};
+ghost use Rattle.trace_run.specs.Restores.{restored_of};
 ghost use Rattle.trace_run.specs.Together.{report_status};
 ghost use Rattle.trace_run.specs.Words.{IsInRange};
 ghost use Rattle.trace_run.specs.declared.words.Command.TheVariants as command;
@@ -12,34 +14,49 @@ use crate::alone::run_alone;
 use crate::ran::Reported;
 use crate::together::run_together;
 use crate::zero_pool::ZeroPool;
+use arc_core::Restored;
 use blk_ptr::{NoMemory, SECTOR};
 use std::alloc::Global;
 use std::sync::Wait;
 use std::thread::Threads;
-use trace_text::{Trace, gen_trace};
+use trace_text::{Rebuilt, Trace, gen_trace};
 use vdev_io::{Gate, Pool};
 
-/// Runs a trace and reports on it: one caller's on the pool that is handed in, and several callers' each on a fork of it.
+/// The keys that were found on the cache device.
+fn restored_of(rebuilt: &Option<Rebuilt>) -> &[Restored]
+    ensures { result.now ≡ restored_of rebuilt.now }
+{
+    match rebuilt {
+        Some(rebuilt) => rebuilt.list.as_slice(),
+        None => &[],
+    }
+}
+
+/// Runs a trace and reports on it: one caller's on the pool that is handed in, and several callers' each on a fork of it. This was found on the
+/// cache device.
 pub(crate) fn run_trace<R: Threads + Wait + Sync, P: Pool, G: Gate>(
     alloc: Global,
     rt: &R,
     trace: &Trace,
+    rebuilt: Option<Rebuilt>,
     pool: &mut P,
     gate: &G,
 ) -> Result<Reported, NoMemory>
-    requires { IsFormed trace.now }
+    requires formed { IsFormed trace.now }
+    requires keys { HaveKeys (restored_of rebuilt) }
     ensures run { IfOk result (λ told. (fork_failed : Bool) × IsRun P.Pool pool.old pool.new trace.now fork_failed told.closed told.report
         × (told.report.status ≡ report_status fork_failed told.report.replies)) }
     ensures cells { IfOk result (λ told. AreCellsOf trace.now told.closed) }
+    ensures rebuilt { IfOk result (λ told. told.report.rebuilt ≡ rebuilt) }
     ensures whole { IfOk result (λ told. told.report.short ≡ false) }
     ensures pool { LeavesPool P.Pool pool.old pool.new }
 {
     let ran = if trace.config.callers == 1 {
-        run_alone(alloc, rt, trace, pool, gate)?
+        run_alone(alloc, rt, trace, restored_of(&rebuilt), pool, gate)?
     } else {
-        run_together(alloc, rt, trace, pool, gate)?
+        run_together(alloc, rt, trace, restored_of(&rebuilt), pool, gate)?
     };
-    let reported = ran.report(alloc)?;
+    let reported = ran.report(alloc, rebuilt)?;
     Ok(reported)
 }
 
@@ -57,7 +74,7 @@ pub(crate) fn run_generated_trace<R: Threads + Wait + Sync, G: Gate>(
 {
     let trace = gen_trace(alloc, seed, blocks, ops)?;
     let mut pool = ZeroPool::new(u64::from(blocks) * SECTOR);
-    let mut reported = run_trace(alloc, rt, &trace, &mut pool, gate)?;
+    let mut reported = run_trace(alloc, rt, &trace, None, &mut pool, gate)?;
     reported.report.short = true;
     Ok(reported)
 }

@@ -1,24 +1,27 @@
 //! The run of a trace with several callers over the shared cache.
-ghost use Rattle.std.specs.Prelude.{◌≡◌, ℕ, IfOk, List, vec_len};
+ghost use Rattle.std.specs.Prelude.{◌≡◌, ℕ, [], IfOk, List, vec_len};
 ghost use Rattle.arc_core.specs.declared.event.Event.{Event};
 ghost use Rattle.arc_core.specs.Operations.{Act};
 ghost use Rattle.arc_table.specs.Ended.{Ends};
 ghost use Rattle.arc_table.specs.Geometry.{parties_of};
 ghost use Rattle.arc_table.specs.declared.view.Line.{Line};
+ghost use Rattle.l2_dev.specs.Rebuilding.{HaveKeys};
 ghost use Rattle.trace_text.specs.Grammar.{IsFormed};
 ghost use Rattle.trace_run.specs.CellEnds.{AreCellsOf};
 ghost use Rattle.trace_run.specs.Group.{LeavesPool};
 ghost use Rattle.trace_run.specs.GroupRun.{HaveClosed, HaveStopped, RanTogether};
-ghost use Rattle.trace_run.specs.Meeting.{AreWaiting, IsFed};
+ghost use Rattle.trace_run.specs.Meeting.{AreWaiting, IsFed, MadeJoined, MayGoOn};
 ghost use Rattle.trace_run.specs.Opened.{meanings_of};
+ghost use Rattle.trace_run.specs.Restores.{restores_in};
 
 use crate::cells::end_crew;
 use crate::ending::all_give_back;
 use crate::groups::{Came, Crew, all_groups, crew_of};
 use crate::opening::open_cache;
 use crate::ran::Ran;
-use arc_core::Keeps;
-use arc_table::{Closed, Party};
+use crate::restoring::restore_joined;
+use arc_core::{Keeps, Restored};
+use arc_table::{Arcs, Closed, Party};
 use blk_ptr::NoMemory;
 use dbuf_cells::{Cells, HeapCell};
 use std::alloc::Global;
@@ -58,22 +61,52 @@ fn close_crew(
     close_run(arcs, parties)
 }
 
-/// Runs a trace of several callers, group by group, each on its own fork of the pool. Where a fork fails, no operation of its group and none
-/// behind it is answered.
+/// The feeder restores the keys that were found on the cache device, before the first group.
+fn restore_crew<C: Keeps>(
+    alloc: Global,
+    rt: &impl Wait,
+    arcs: &Arcs<C>,
+    crew: Crew<C>,
+    restored: &[Restored],
+) -> Result<Crew<C>, NoMemory>
+    requires may { MayGoOn arcs.now [] crew.feeder crew.parties.items }
+    requires feeder { crew.feeder.number ≡ arcs.now.config.callers }
+    requires keys { HaveKeys restored.now }
+    ensures made { IfOk result (λ new. MadeJoined arcs.now (restores_in arcs.now.config restored.now) crew.feeder crew.parties.items new.feeder new.parties.items) }
+    ensures kept { IfOk result (λ new. new.kept.items ≡ crew.kept.items) }
+{
+    let Crew {
+        feeder,
+        parties,
+        kept,
+    } = crew;
+    let (feeder, parties) = restore_joined(alloc, rt, arcs, feeder, parties, restored)?;
+    Ok(Crew {
+        feeder,
+        parties,
+        kept,
+    })
+}
+
+/// Runs a trace of several callers, group by group, each on its own fork of the pool, once these keys are restored. Where a fork fails, no
+/// operation of its group and none behind it is answered.
 pub(crate) fn run_together<R: Threads + Wait + Sync, P: Pool, G: Gate>(
     alloc: Global,
     rt: &R,
     trace: &Trace,
+    restored: &[Restored],
     pool: &mut P,
     gate: &G,
 ) -> Result<Ran, NoMemory>
-    requires { IsFormed trace.now }
-    ensures ran { IfOk result (λ ran. RanTogether P.Pool pool.old pool.new trace.now ran.fork_failed ran.replies.items ran.closed) }
+    requires formed { IsFormed trace.now }
+    requires keys { HaveKeys restored.now }
+    ensures ran { IfOk result (λ ran. RanTogether P.Pool pool.old pool.new trace.now ran.fork_failed restored.now ran.replies.items ran.closed) }
     ensures cells { IfOk result (λ ran. AreCellsOf trace.now ran.closed) }
     ensures pool { LeavesPool P.Pool pool.old pool.new }
 {
     let (arcs, parties) = open_cache(alloc, trace)?;
     let crew = crew_of(alloc, parties)?;
+    let crew = restore_crew(alloc, rt, &arcs, crew, restored)?;
     let Came {
         crew,
         replies,

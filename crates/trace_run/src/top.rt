@@ -9,7 +9,9 @@ ghost use Rattle.trace_run.specs.States.{handed, sink_state, source_state};
 ghost use Rattle.trace_run.specs.Words.{IsInRange, texts};
 ghost use Rattle.trace_run.specs.declared.words.Command.TheVariants as command;
 
+use crate::bounded::with_bound;
 use crate::check::run_check;
+use crate::device::{Begun, begin, device_len};
 use crate::paper::run_paper;
 use crate::ran::Reported;
 use crate::run_trace::{run_generated_trace, run_trace};
@@ -44,19 +46,20 @@ pub fn run<R: Threads + Wait + Sync, S: Source, K: Sink, P: Pool, D: CacheDev, G
 ) -> Outcome
     // Usage comes exactly where the words are no command, with the first word that is wrong. Else the command did what it is to do:
     // a bad trace and a fault of the source come only with their causes, the report explains what was run, and its text is written.
-    ensures answers { AnswersWords (texts words.now) (Does P.Pool
-        (handed S.Source K.Sink source.old sink.old pool.old) (handed S.Source K.Sink source.new sink.new pool.new) result.status result.report result.closed) result.status }
+    ensures answers { AnswersWords (texts words.now) (Does P.Pool D.CacheDev
+        (handed S.Source K.Sink source.old sink.old pool.old cache.old) (handed S.Source K.Sink source.new sink.new pool.new cache.new) result.status result.report result.closed) result.status }
 
-    // Where the words are refused nothing is touched, and where nothing is run the pool isn't.
+    // Where the words are refused nothing is touched, and where nothing is run the pool and the device aren't.
     ensures untouched { IfUsage result.status
-        ((source.new ≡ source.old) × (sink.new ≡ sink.old) × (pool.new ≡ pool.old) × (result.report ≡ None) × (result.closed ≡ None)) }
+        ((source.new ≡ source.old) × (sink.new ≡ sink.old) × (pool.new ≡ pool.old) × (cache.new ≡ cache.old) × (result.report ≡ None) × (result.closed ≡ None)) }
 
     // The pool holds what it held.
     ensures pool { LeavesPool P.Pool pool.old pool.new }
-    ensures cache { cache.new ≡ cache.old }
 {
     match Command::parse(words) {
-        Ok(Command::Run { events }) => run_source(alloc, rt, events, source, sink, pool, gate),
+        Ok(Command::Run { events }) => run_source(
+            alloc, rt, events, source, sink, pool, cache, gate,
+        ),
         Ok(Command::Gen { seed, blocks, ops }) => run_generated(
             alloc, rt, seed, blocks, ops, sink, gate,
         ),
@@ -77,26 +80,33 @@ fn untold(status: Status) -> Outcome
     }
 }
 
-/// Runs the trace that the source holds, and writes its report to the sink.
-fn run_source<R: Threads + Wait + Sync, S: Source, K: Sink, P: Pool, G: Gate>(
+/// Runs the trace that the source holds, and writes its report to the sink. The cache device is started before, and given back behind.
+fn run_source<R: Threads + Wait + Sync, S: Source, K: Sink, P: Pool, D: CacheDev, G: Gate>(
     alloc: Global,
     rt: &R,
     events: bool,
     source: &mut S,
     sink: &mut K,
     pool: &mut P,
+    cache: &mut Option<D>,
     gate: &G,
 ) -> Outcome
     ensures past_words { IfUsage result.status ⊥ }
-    ensures does { DoesRun P.Pool events
-        (handed S.Source K.Sink source.old sink.old pool.old) (handed S.Source K.Sink source.new sink.new pool.new) result.status result.report result.closed }
+    ensures does { DoesRun P.Pool D.CacheDev events
+        (handed S.Source K.Sink source.old sink.old pool.old cache.old) (handed S.Source K.Sink source.new sink.new pool.new cache.new) result.status result.report result.closed }
     ensures pool { LeavesPool P.Pool pool.old pool.new }
 {
     let trace = match read_source(alloc, source) {
         Ok(trace) => trace,
         Err(status) => return untold(status),
     };
-    let ran = run_trace(alloc, rt, &trace, pool, gate);
+    let trace = with_bound(trace, device_len(cache));
+    let Begun { device, rebuilt } = match begin(alloc, cache.take()) {
+        Ok(begun) => begun,
+        Err(NoMemory) => return untold(Status::NoMemory),
+    };
+    let ran = run_trace(alloc, rt, &trace, rebuilt, pool, gate);
+    *cache = device.back();
     // Its memory serves the report's text.
     drop(trace);
     match ran {

@@ -31,7 +31,7 @@ module _ (cache : Cache) (tick : ℕ) (befores nows : List OnHeap) (p q : PartyP
   may-give-all = record {
     befores = befores;
     xs = xs;
-    holding = record { valid = s.holding.valid; party = s.holding.party; look = s.holding.look; number = refl; held = s.holding.held ∙ ap turns_below (sym s.count) };
+    holding = record { valid = s.holding.valid; party = s.holding.party; look = s.holding.look; number = refl; held = s.holding.held ∙ ap turns_below (sym s.count); claims = refl };
     cells = λ i d within. s.cells i d (subst (λ (n : ℕ). i < n) s.count within);
   }
 
@@ -142,3 +142,14 @@ module _ {P : Type 0} (pool : Ghosts P) (cache : Cache) (group tick next : ℕ) 
   dues-may-give dues (Ok place) a = may-give-all cache tick cells nows p q _ _ a.sync
   dues-may-give dues (Err io.Failed) a = may-give-all cache tick cells nows p q _ _ a.0.sync
   dues-may-give dues (Err io.NoMemory) a = ⊎_elim (λ s. may-give-all cache tick cells nows p q _ _ s.sync) (λ s. may-give-all cache tick cells nows p q _ _ s.sync) a.0
+
+  -- what the party claims is as before
+  pub dues-claims : (dues : List Due) (result : Result ℕ IoFault) → AnswersDues pool cache group tick next cells nows dues before now p q result → q.own.ledger.claims ≡ p.own.ledger.claims
+  dues-claims dues (Ok place) a = a.sync.holding.claims
+  dues-claims dues (Err io.Failed) a = a.0.sync.holding.claims
+  dues-claims dues (Err io.NoMemory) a = ⊎_elim (λ s. s.sync.holding.claims) (λ s. s.sync.holding.claims) a.0
+
+  pub dues-number : (dues : List Due) (result : Result ℕ IoFault) → AnswersDues pool cache group tick next cells nows dues before now p q result → q.number ≡ p.number
+  dues-number dues (Ok place) a = a.sync.holding.number
+  dues-number dues (Err io.Failed) a = a.0.sync.holding.number
+  dues-number dues (Err io.NoMemory) a = ⊎_elim (λ s. s.sync.holding.number) (λ s. s.sync.holding.number) a.0

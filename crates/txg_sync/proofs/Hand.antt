@@ -30,7 +30,7 @@ use Rattle.dbuf_state.specs.declared.state.DbState.{DbState}
 use Rattle.dbuf_state.proofs.FitLemmas.{all-found}
 use Rattle.dbuf_state.proofs.HandLemmas.{holds-stay-by-note}
 use Rattle.dbuf_state.proofs.IndexLemmas.{and-parts, bool_cases}
-use Rattle.dbuf_cells.specs.InHand.{HasDone, IsRoomier}
+use Rattle.dbuf_cells.specs.InHand.{HasDone, IsRoomier, AreClaimedAlike, ClaimsAre}
 use Rattle.dbuf_cells.specs.Kept.{bytes_of, is_held, key_of}
 use Rattle.dbuf_cells.specs.Turns.{OnHeap, PartyPlace, dbuf_meanings, holds_of}
 use Rattle.dbuf_cells.specs.declared.kept.Kept.{Kept}
@@ -42,8 +42,9 @@ use Rattle.txg_sync.specs.Items.{SyncItem, dirty_bytes_at, written_in}
 use Rattle.txg_sync.specs.Syncing.{Looked, Same}
 use Rattle.txg_sync.specs.Turns.{InsertsAll, InsertsItem, inserted, synced_in, there}
 use Rattle.txg_sync.specs.Writing.{IsSyncedTo, KeepsItem, WritesBlock, item_in}
-use Rattle.txg_sync.proofs.Noted.{done-synced, synced-holds}
-use Rattle.txg_sync.proofs.Steps.{Grows, grown_by, holding-stays, inserted-grows, inserted-stays, inserts-more, looked-grows, looked-stays, synced-else, synced-here, synced-more}
+use Rattle.txg_sync.proofs.Noted.{done-synced, synced-holds, synced-claims}
+use Rattle.txg_sync.proofs.Steps.{Grows, grown_by, holding-stays, inserted-grows, inserted-stays, inserts-more, looked-grows, looked-stays, synced-else, synced-here, synced-more, Remains}
+use Rattle.dbuf_state.specs.Numbers.{claims_in, mapping_numbers}
 
 pub among-below : (n j : ℕ) → j < n → IsAmong j (turns_below n)
 among-below zero j h = absurd (omega arith)
@@ -75,7 +76,15 @@ dirty-keeps-nothing d bytes fit is = go d.state d.kept (subst (λ (c : Content).
 
 -- ---- one cell
 
-module _ (q r : PartyPlace) (i : ℕ) (before : OnHeap) (xs : List SyncItem) (now : CellLog Kept) (h : IsInHand i before xs now q) (number : r.number ≡ q.number) where
+-- what the party claims of a cell, of which each number claims what it claimed
+still-claimed : (q r : PartyPlace) (i : ℕ) (old new : CellLog Kept) → Remains q r → AreClaimedAlike old.dbufs new.dbufs → ClaimsAre i q.number old q → ClaimsAre i r.number new r
+still-claimed q r i old new stays alike claimed =
+    ap (list_at i) stays.claims ∙ (claimed ∙ (ap (λ (n : ℕ). mapping_numbers (claims_in n old.dbufs)) (sym stays.stays.number) ∙ ap mapping_numbers (sym (alike r.number))))
+
+module _ (q r : PartyPlace) (i : ℕ) (before : OnHeap) (xs : List SyncItem) (now : CellLog Kept) (h : IsInHand i before xs now q) (stays : Remains q r) where
+  number : r.number ≡ q.number
+  number = stays.stays.number
+
   -- nothing was done to it
   pub in-hand-still : Grows i [] q r → IsInHand i before xs now r
   in-hand-still g = record {
@@ -84,6 +93,8 @@ module _ (q r : PartyPlace) (i : ℕ) (before : OnHeap) (xs : List SyncItem) (no
     done = subst (λ (n : ℕ). HasDone n before.value h.evicting (synced_in n i xs) now) (sym number) h.done;
     settled = h.settled;
     holds = subst (AreHolds (holds_of now)) (sym g.listed) h.holds;
+    claimed = still-claimed q r i now now stays (λ n. refl) h.claimed;
+    owned = stays.owned ∙ (h.owned ∙ sym number);
   }
 
 -- it has more room
@@ -94,6 +105,8 @@ in-hand-roomier q i before xs old new h made = subst (λ (c : CellLog Kept). IsI
   done = done-roomier q.number before.value old h.evicting (synced_in q.number i xs) h.done new.dbuf_room new.event_room;
   settled = h.settled;
   holds = h.holds;
+  claimed = h.claimed;
+  owned = h.owned;
 }
 
 -- another block was written
@@ -104,10 +117,12 @@ in-hand-else q i before xs x now far h = record {
   done = subst (λ (es : List CellEvent). HasDone q.number before.value h.evicting es now) (sym (synced-more q.number i xs x ∙ (ap (λ (l : List CellEvent). synced_in q.number i xs ++ l) (synced-else q.number i x far) ∙ append-nil (synced_in q.number i xs)))) h.done;
   settled = h.settled;
   holds = h.holds;
+  claimed = h.claimed;
+  owned = h.owned;
 }
 
 -- a block of it was: the party has listed what the cell keeps now, and the cell has noted it
-module _ (q r : PartyPlace) (before : OnHeap) (xs : List SyncItem) (x : SyncItem) (old new : CellLog Kept) (kept : Kept) (h : IsInHand x.due.cell before xs old q) (number : r.number ≡ q.number)
+module _ (q r : PartyPlace) (before : OnHeap) (xs : List SyncItem) (x : SyncItem) (old new : CellLog Kept) (kept : Kept) (h : IsInHand x.due.cell before xs old q) (stays : Remains q r)
     (fit : AllByRecursion (IsFit key_of bytes_of) old.dbufs) (dirty : dbuf_is is_dirty x.due.at old.dbufs ≡ true) (bytes : x.bytes ≡ dirty_bytes_at x.due.at old.dbufs) (of : IsOf x.bytes x.ptr) where
   has : DbufHas (λ d. d.content ≡ Dirty x.bytes) (dbuf_at x.due.at old.dbufs)
   has = subst (λ (l : List ℕ). DbufHas (λ d. d.content ≡ Dirty l) (dbuf_at x.due.at old.dbufs)) (sym bytes) (is-dirty-with x.due.at old.dbufs dirty)
@@ -127,11 +142,14 @@ module _ (q r : PartyPlace) (before : OnHeap) (xs : List SyncItem) (x : SyncItem
       subst (λ (c : CellLog Kept). IsInHand x.due.cell before (xs ++ x ∷ []) c r) (sym is) record {
         recorded = g.recorded ∙ h.recorded;
         evicting = Never;
-        done = subst (λ (m : ℕ). HasDone m before.value Never (synced_in m x.due.cell (xs ++ x ∷ [])) (noted (Synced n at x.ptr) (record roomy { dbufs = with_dbuf at (synced_to x.ptr kept) roomy.dbufs }))) (sym number)
+        done = subst (λ (m : ℕ). HasDone m before.value Never (synced_in m x.due.cell (xs ++ x ∷ [])) (noted (Synced n at x.ptr) (record roomy { dbufs = with_dbuf at (synced_to x.ptr kept) roomy.dbufs }))) (sym stays.stays.number)
             (subst (λ (es : List CellEvent). HasDone n before.value Never es (noted (Synced n at x.ptr) (record roomy { dbufs = with_dbuf at (synced_to x.ptr kept) roomy.dbufs }))) news done);
         settled = refl;
         holds = subst (AreHolds (holds_in key_of bytes_of is_held (with_dbuf at (synced_to x.ptr kept) old.dbufs))) (sym g.listed)
             (synced-holds at old.dbufs d.dbuf d.there none (list_at x.due.cell q.own.listed) h.holds x.ptr kept 0);
+        claimed = still-claimed q r x.due.cell old (noted (Synced n at x.ptr) (record roomy { dbufs = with_dbuf at (synced_to x.ptr kept) roomy.dbufs })) stays
+            (synced-claims n before.value roomy h.evicting (synced_in n x.due.cell xs) (done-roomier n before.value old h.evicting (synced_in n x.due.cell xs) h.done s.roomy.dbuf_room s.roomy.event_room) h.settled at x.ptr kept x.bytes has of) h.claimed;
+        owned = stays.owned ∙ (h.owned ∙ sym stays.stays.number);
       }
 
 -- ---- all cells
@@ -170,7 +188,7 @@ module _ (cache : Cache) (tick : ℕ) (befores nows news : List OnHeap) (p q r :
 -- ---- what the cache did with a block that was written
 
 module _ (cache : Cache) (tick : ℕ) (p : PartyPlace) (count : ℕ) (q r : PartyPlace) (hold : IsHolding cache p count q) (x : SyncItem) (sealed : x.ptr.digest ≡ sha256_of x.bytes) where
-  pub keeps-stays : (kept : Kept) → KeepsItem cache.config tick x kept q r → Stays q r
+  pub keeps-stays : (kept : Kept) → KeepsItem cache.config tick x kept q r → Remains q r
   keeps-stays (Held h) k = inserted-stays cache p count q r hold x.ptr.key (Insert (cell_number cache.config x.due.cell) x.ptr.key x.ptr.digest tick) k.0
   keeps-stays (Loose key block) k = looked-stays cache p count q r hold x.ptr.key k.0
 
@@ -230,15 +248,15 @@ module _ (cache : Cache) (tick : ℕ) (befores nows news : List OnHeap) (p q r :
         holding = holding-stays cache p (length befores) q r h.holding stays;
         count = count-now cache tick befores nows news p q r xs h all i cell within news_are;
         cells = cells-now cache tick befores nows news p q r xs h all i cell within news_are (xs ++ x ∷ [])
-            (λ d. in-hand-synced q r (slice_index_or befores i d) xs x old cell.value w.kept (old-hand d) stays.number w.fit dirty refl record { size = refl; digest = refl }
+            (λ d. in-hand-synced q r (slice_index_or befores i d) xs x old cell.value w.kept (old-hand d) stays w.fit dirty refl record { size = refl; digest = refl }
             (keeps-here cache tick p (length befores) q r h.holding x refl i (is-cell cache tick befores nows news p q r xs h all i within) (is-among cache tick befores nows news p q r xs h all i within) w.kept w.keeps refl) w.synced)
             (λ j d j-within far.
             let g = keeps-else cache tick p (length befores) q r h.holding x refl j (is-cell cache tick befores nows news p q r xs h all j j-within) (is-among cache tick befores nows news p q r xs h all j j-within) w.kept w.keeps (λ e. far (sym e)) in
-            in-hand-else r j (slice_index_or befores j d) xs x (slice_index_or nows j d).value (λ e. far (sym e)) (in-hand-still q r j (slice_index_or befores j d) xs (slice_index_or nows j d).value (h.cells j d j-within) stays.number g));
+            in-hand-else r j (slice_index_or befores j d) xs x (slice_index_or nows j d).value (λ e. far (sym e)) (in-hand-still q r j (slice_index_or befores j d) xs (slice_index_or nows j d).value (h.cells j d j-within) stays g));
       }
 
   -- a write stopped: the cell has more room, and the party has looked at a shard at most
-  pub sync-stopped : (Besides : PartyPlace → PartyPlace → Type 0) → IsRoomier old cell.value → Stays q r → ((j : ℕ) → IsCell cache.config j → IsAmong j q.held → Grows j [] q r) → Besides q r
+  pub sync-stopped : (Besides : PartyPlace → PartyPlace → Type 0) → IsRoomier old cell.value → Remains q r → ((j : ℕ) → IsCell cache.config j → IsAmong j q.held → Grows j [] q r) → Besides q r
       → InSync cache tick befores news p r xs Besides
   sync-stopped Besides made stays grows besides = record {
     reached = q;
@@ -248,7 +266,7 @@ module _ (cache : Cache) (tick : ℕ) (befores nows news : List OnHeap) (p q r :
     count = count-now cache tick befores nows news p q r xs h all i cell within news_are;
     cells = cells-now cache tick befores nows news p q r xs h all i cell within news_are xs
         (λ d. in-hand-roomier r i (slice_index_or befores i d) xs old cell.value
-        (in-hand-still q r i (slice_index_or befores i d) xs old (old-hand d) stays.number (grows i (is-cell cache tick befores nows news p q r xs h all i within) (is-among cache tick befores nows news p q r xs h all i within))) made)
-        (λ j d j-within far. in-hand-still q r j (slice_index_or befores j d) xs (slice_index_or nows j d).value (h.cells j d j-within) stays.number
+        (in-hand-still q r i (slice_index_or befores i d) xs old (old-hand d) stays (grows i (is-cell cache tick befores nows news p q r xs h all i within) (is-among cache tick befores nows news p q r xs h all i within))) made)
+        (λ j d j-within far. in-hand-still q r j (slice_index_or befores j d) xs (slice_index_or nows j d).value (h.cells j d j-within) stays
         (grows j (is-cell cache tick befores nows news p q r xs h all j j-within) (is-among cache tick befores nows news p q r xs h all j j-within)));
   }

@@ -26,13 +26,12 @@ use Rattle.txg_sync.specs.declared.due.Due.{Due}
 use Rattle.txg_sync.proofs.Gathering.{apart-first, apart-rest}
 use Rattle.turn_table.specs.Board.{IsAmong}
 use Rattle.arc_table.specs.Geometry.{IsCell}
-use Rattle.arc_table.proofs.Afterwards.{Stays}
 use Rattle.vdev_io.specs.Faults.{CountsIoFault, CountsOne}
 use Rattle.vdev_io.specs.declared.fault.IoFault.{IoFault}
 use Rattle.vdev_io.specs.declared.fault.IoFault.TheVariants as io
 use Rattle.dbuf_cells.specs.InHand.{IsRoomier}
 use Rattle.txg_sync.proofs.Hand.{among-below, sync-more, sync-stopped}
-use Rattle.txg_sync.proofs.Steps.{Grows, looked-grows, looked-stays}
+use Rattle.txg_sync.proofs.Steps.{Grows, looked-grows, looked-stays, Remains}
 
 -- ---- one block more at the end
 
@@ -254,7 +253,7 @@ module _ {P : Type 0} (pool : Ghosts P) (cache : Cache) (group tick next : ℕ) 
 
     -- its write stopped
     module _ (a-cell : OnHeap) (news_are : news ≡ slice_set nows due.cell a-cell) (made : IsRoomier (slice_index_or nows due.cell a-cell).value a-cell.value) where
-      stopped : (Told : SyncItem → Option (List ℕ) → Type 0) (Besides : SyncItem → PartyPlace → PartyPlace → Type 0) → Stays q r → ((j : ℕ) → IsCell cache.config j → IsAmong j q.held → Grows j [] q r)
+      stopped : (Told : SyncItem → Option (List ℕ) → Type 0) (Besides : SyncItem → PartyPlace → PartyPlace → Type 0) → Remains q r → ((j : ℕ) → IsCell cache.config j → IsAmong j q.held → Grows j [] q r)
           → Besides (item_in group place due.cell due.at (slice_index_or nows due.cell a-cell).value) q r → Told (item_in group place due.cell due.at (slice_index_or nows due.cell a-cell).value) (pool.told now)
           → StopsIn pool cache group tick next cells news dues before then p r Told Besides
       stopped Told Besides stays grows besides told = record {
@@ -268,8 +267,8 @@ module _ {P : Type 0} (pool : Ghosts P) (cache : Cache) (group tick next : ℕ) 
             (subst (Told (item_in group place due.cell due.at (slice_index_or nows due.cell a-cell).value)) h.told told);
       }
 
-      none-stays : r ≡ q → Stays q r
-      none-stays e = subst (Stays q) (sym e) record { table = refl; parties = refl; number = refl; joined = refl; held = refl; about = refl }
+      none-stays : r ≡ q → Remains q r
+      none-stays e = subst (Remains q) (sym e) record { stays = record { table = refl; parties = refl; number = refl; joined = refl; held = refl; about = refl }; owned = refl; claims = refl }
 
       none-grows : r ≡ q → (j : ℕ) → IsCell cache.config j → IsAmong j q.held → Grows j [] q r
       none-grows e j in_range among = subst (Grows j [] q) (sym e) record { recorded = refl; listed = refl }

@@ -13,7 +13,7 @@ use Rattle.arc_table.specs.declared.hold.Hold.{Hold}
 use Rattle.arc_table.proofs.Bookings.{holds_cons}
 use Rattle.dbuf_state.specs.CellLog.{CellLog, noted}
 use Rattle.dbuf_state.specs.Dbufs.{DbufHas, cached_with, dbuf_at, plain_block, plain_dbuf, synced_to, with_dbuf}
-use Rattle.dbuf_state.specs.Numbers.{claim_in}
+use Rattle.dbuf_state.specs.Numbers.{claim_in, claims_in}
 use Rattle.dbuf_state.specs.Objects.{Evicting, IsLegal, IsWritten, IsWrittenAt, Never, is_due}
 use Rattle.dbuf_state.specs.Oids.{oid_eq}
 use Rattle.dbuf_state.specs.Soundness.{hold_in, holds_in, plain_cell}
@@ -84,3 +84,7 @@ module _ (n : ℕ) (before old : CellLog Kept) (evicting : Evicting) (news : Lis
   done-synced = done-more n before old evicting news h (Synced n at ptr) [] (with_dbuf at (synced_to ptr k) old.dbufs) written tt (synced-follows old n at ptr k) refl
       (rest-stays at (synced_to ptr k) old.dbufs (λ d found. refl) h.rest)
       (λ m other. claims-stay at (synced_to ptr k) m old.dbufs (λ d found. sym (ap (λ (c : Content). claim_in m d.at c d.state) (has-of (λ x. x.content ≡ Dirty bytes) (dbuf_at at old.dbufs) d dirty found))))
+
+  -- what is claimed of the cell stays
+  pub synced-claims : (m : ℕ) → claims_in m (with_dbuf at (synced_to ptr k) old.dbufs) ≡ claims_in m old.dbufs
+  synced-claims m = claims-stay at (synced_to ptr k) m old.dbufs (λ d found. sym (ap (λ (c : Content). claim_in m d.at c d.state) (has-of (λ x. x.content ≡ Dirty bytes) (dbuf_at at old.dbufs) d dirty found)))

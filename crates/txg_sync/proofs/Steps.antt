@@ -16,19 +16,25 @@ use Rattle.arc_table.specs.Cells.{KeepsCell}
 use Rattle.arc_table.specs.Ending.{DoesRoomy}
 use Rattle.arc_table.specs.Fronts.{item_at, list_at}
 use Rattle.arc_table.specs.Geometry.{IsCell, cell_number, shard_turn}
-use Rattle.arc_table.specs.Scanning.{ArePasses}
+use Rattle.arc_table.specs.Scanning.{ArePasses, gave_all, won_all}
 use Rattle.arc_table.specs.ShardGiving.{holds_through}
-use Rattle.arc_table.proofs.Afterwards.{Stays, does_stays, stays_free, stays_party}
+use Rattle.arc_table.proofs.Afterwards.{Stays, does_stays, stays_free, stays_party, does_ledger}
 use Rattle.arc_table.proofs.CellsInHand.{cell-kept, cell-kept-roomy}
 use Rattle.arc_table.proofs.Reached.{reached}
-use Rattle.arc_table.proofs.RoomyAfter.{does_roomy_stays}
+use Rattle.arc_table.proofs.RoomyAfter.{does_roomy_stays, does_roomy_ledger}
 use Rattle.dbuf_state.proofs.IndexLemmas.{bool_cases}
 use Rattle.dbuf_state.specs.declared.event.CellEvent.{CellEvent}
 use Rattle.dbuf_state.specs.declared.event.CellEvent.TheVariants.{Synced}
-use Rattle.dbuf_cells.specs.Turns.{PartyPlace, dbuf_meanings}
+use Rattle.dbuf_cells.specs.Turns.{PartyPlace, dbuf_meanings, OnHeap}
 use Rattle.txg_sync.specs.InHand.{IsHolding}
 use Rattle.txg_sync.specs.Items.{SyncItem}
 use Rattle.txg_sync.specs.Turns.{InsertsAll, InsertsItem, synced_in}
+use Rattle.arc_table.specs.declared.view.Ledger.{Ledger}
+use Rattle.arc_table.specs.declared.item.Item.TheVariants as item
+use Rattle.arc_table.specs.declared.view.Known.{Known}
+use Rattle.arc_table.specs.Views.{after_same, after_won}
+use Rattle.turn_table.specs.Places.{gave_back}
+use Rattle.hash_chain.specs.Chain.{Chain}
 
 -- ---- lists of blocks
 
@@ -72,27 +78,52 @@ module _ (g : Config) (j i : ℕ) (k : Key) (d : Digest) (tick : ℕ) where
   inserted-held n turn (Pass a x owner ∷ es) s hs all = inserted-held n turn es (after s (Pass a x owner)) hs all.1
   inserted-held n turn (_ ∷ es) s hs all = absurd all
 
+-- the party is what it was to the cache, knows its number and claims what it claimed
+pub record Remains (q r : PartyPlace) : Type 0 where
+  pub stays : Stays q r
+  pub owned : r.own.number ≡ q.own.number
+  pub claims : r.own.ledger.claims ≡ q.own.ledger.claims
+
+-- the buckets that a scan won, and gave back
+gave-number : (vs : List (ℕ × Chain)) (p : PartyPlace) → (gave_all vs p).own.number ≡ p.own.number
+gave-number [] p = refl
+gave-number (v ∷ vs) p = gave-number vs (gave_back p v.0 (after_same v.0 p.own))
+
+won-number : (vs : List (ℕ × Chain)) (w : Known OnHeap) → (won_all dbuf_meanings vs w).number ≡ w.number
+won-number [] w = refl
+won-number (v ∷ vs) w = won-number vs (after_won dbuf_meanings v.0 (item.Bucket v.1) w)
+
 module _ (cache : Cache) (p : PartyPlace) (count : ℕ) (q r : PartyPlace) (h : IsHolding cache p count q) where
   -- whatever the party did, it holds the cells still
-  pub holding-stays : Stays q r → IsHolding cache p count r
+  pub holding-stays : Remains q r → IsHolding cache p count r
   holding-stays s = record {
     valid = h.valid;
-    party = stays_party cache q r s h.party;
-    look = stays_free cache q r s h.look;
-    number = s.number ∙ h.number;
-    held = s.held ∙ h.held;
+    party = stays_party cache q r s.stays h.party;
+    look = stays_free cache q r s.stays h.look;
+    number = s.stays.number ∙ h.number;
+    held = s.stays.held ∙ h.held;
+    claims = s.claims ∙ h.claims;
   }
 
-  pub looked-stays : (k : Key) → Does dbuf_meanings cache.config k [] q r → Stays q r
-  looked-stays k d = does_stays dbuf_meanings cache.config h.valid k [] q r h.party.config d
+  pub looked-stays : (k : Key) → Does dbuf_meanings cache.config k [] q r → Remains q r
+  looked-stays k d = record {
+    stays = does_stays dbuf_meanings cache.config h.valid k [] q r h.party.config d;
+    owned = ap (λ (x : PartyPlace). x.own.number) d.makes.gave ∙ (reached dbuf_meanings cache.config k d.chain d.before q d.reached d.takes).own_number;
+    claims = ap (λ (l : Ledger). l.claims) (does_ledger dbuf_meanings cache.config h.valid k [] q r h.party.config d);
+  }
 
   pub looked-grows : (k : Key) → Does dbuf_meanings cache.config k [] q r → (j : ℕ) → IsCell cache.config j → IsAmong j q.held → Grows j [] q r
   looked-grows k d j in_range among =
       let kept = cell-kept dbuf_meanings cache.config h.valid k [] q r h.party.config d j in_range among in
       record { recorded = kept.recorded; listed = kept.listed }
 
-  pub inserted-stays : (k : Key) (e : Event) → DoesRoomy dbuf_meanings cache.config k e q r → Stays q r
-  inserted-stays k e d = does_roomy_stays dbuf_meanings cache.config h.valid k e q r h.party.config d
+  pub inserted-stays : (k : Key) (e : Event) → DoesRoomy dbuf_meanings cache.config k e q r → Remains q r
+  inserted-stays k e d = record {
+    stays = does_roomy_stays dbuf_meanings cache.config h.valid k e q r h.party.config d;
+    owned = ap (λ (x : PartyPlace). x.own.number) d.makes.gives.gave
+        ∙ (gave-number d.makes.gives.given _ ∙ (won-number d.makes.won d.reached.own ∙ (reached dbuf_meanings cache.config k d.chain d.before q d.reached d.takes).own_number));
+    claims = ap (λ (l : Ledger). l.claims) (does_roomy_ledger dbuf_meanings cache.config h.valid k e q r h.party.config d);
+  }
 
   pub inserted-grows : (i tick : ℕ) (k : Key) (x : Digest) → DoesRoomy dbuf_meanings cache.config k (Insert (cell_number cache.config i) k x tick) q r → (j : ℕ) → IsCell cache.config j → IsAmong j q.held
       → Grows j (grown_by cache.config j i record { key = k; digest = x }) q r

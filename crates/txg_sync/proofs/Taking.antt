@@ -13,23 +13,25 @@ use Rattle.arc_table.specs.Geometry.{IsCell}
 use Rattle.arc_table.specs.Giving.{AreHolds, IsGivenCell}
 use Rattle.arc_table.specs.Items.{holds_in}
 use Rattle.arc_table.specs.Looking.{HasNoLook}
-use Rattle.arc_table.specs.TableLaws.{item_else, list_else, without_else}
+use Rattle.arc_table.specs.TableLaws.{item_else, list_else, without_else, list_here}
 use Rattle.arc_table.specs.Views.{after_cell}
 use Rattle.arc_table.specs.declared.item.Item.TheVariants as item
 use Rattle.arc_table.proofs.Reached.{Took, took_is}
 use Rattle.dbuf_state.specs.CellLog.{CellLog}
-use Rattle.dbuf_state.specs.Numbers.{event_numbers, mapping_numbers, opening_numbers}
+use Rattle.dbuf_state.specs.Numbers.{event_numbers, mapping_numbers, opening_numbers, claims_in}
 use Rattle.dbuf_state.proofs.HandLemmas.{fit-keeps}
 use Rattle.dbuf_cells.specs.InHand.{AsTaken, HasDone}
 use Rattle.dbuf_cells.specs.Kept.{bytes_of, key_of}
-use Rattle.dbuf_cells.specs.Turns.{OnHeap, PartyPlace, dbuf_meanings, holds_of}
+use Rattle.dbuf_cells.specs.Turns.{OnHeap, PartyPlace, dbuf_meanings, holds_of, KeepsClaims}
 use Rattle.dbuf_state.proofs.IndexLemmas.{bool_cases}
 use Rattle.dbuf_cells.specs.declared.kept.Kept.{Kept}
 use Rattle.dbuf_cells.proofs.CellSteps.{done-sound, entries-own}
-use Rattle.dbuf_cells.proofs.PartySteps.{begins}
+use Rattle.dbuf_cells.proofs.PartySteps.{begins, takes-claims}
 use Rattle.txg_sync.specs.InHand.{AreInHand, HasTakenAll, IsHolding, IsInHand, IsKnown, MayGiveAll, turns_below}
 use Rattle.txg_sync.specs.Items.{SyncItem}
 use Rattle.txg_sync.specs.Turns.{GivesFrom, TakesFrom, synced_in}
+use Rattle.arc_table.specs.declared.view.Ledger.{Ledger}
+use Rattle.dbuf_cells.proofs.Claims.{keeps-claims}
 
 -- ---- taking
 
@@ -54,6 +56,7 @@ module _ (cache : Cache) (p q r : PartyPlace) (cells : List OnHeap) (c : OnHeap)
     look = as-taken.hand.party.look;
     number = took.number ∙ h.number;
     held = took.held ∙ ap (λ (l : List ℕ). length cells ∷ l) h.held;
+    claims = ap (λ (l : Ledger). l.claims) took.ledger ∙ h.claims;
   }
 
   -- and the others as they were
@@ -64,6 +67,8 @@ module _ (cache : Cache) (p q r : PartyPlace) (cells : List OnHeap) (c : OnHeap)
     done = subst (λ (n : ℕ). HasDone n before.value k.evicting (synced_in n j []) now) (sym took.number) k.done;
     settled = k.settled;
     holds = subst (AreHolds (holds_of now)) (sym (ap (list_at j) took.listed ∙ list_else (length cells) j (holds_in dbuf_meanings (item.Cell c)) q.own.listed far)) k.holds;
+    claimed = ap (λ (l : Ledger). list_at j l.claims) took.ledger ∙ (k.claimed ∙ ap (λ (n : ℕ). mapping_numbers (claims_in n now.dbufs)) (sym took.number));
+    owned = took.own_number ∙ (k.owned ∙ sym took.number);
   }
 
   taken-here : IsInHand (length cells) c [] c.value r
@@ -73,6 +78,8 @@ module _ (cache : Cache) (p q r : PartyPlace) (cells : List OnHeap) (c : OnHeap)
     done = as-taken.hand.cell;
     settled = as-taken.settled;
     holds = as-taken.hand.holds;
+    claimed = ap (λ (l : Ledger). list_at (length cells) l.claims) took.ledger ∙ takes-claims cache (length cells) h.valid in_range c q r h.party t;
+    owned = as-taken.hand.party.own_number;
   }
 
   pub hand-more : AreInHand cells [] cells q → AreInHand (cells ++ c ∷ []) [] (cells ++ c ∷ []) r
@@ -96,7 +103,7 @@ module _ (cache : Cache) (p q r : PartyPlace) (cells : List OnHeap) (c : OnHeap)
 
 -- a party that holds what it took is begun anew by itself
 pub taken-all : (cache : Cache) (p q : PartyPlace) (cells : List OnHeap) → IsHolding cache p (length cells) q → AreInHand cells [] cells q → HasTakenAll cache cells q
-taken-all cache p q cells h hand = record { holding = record { valid = h.valid; party = h.party; look = h.look; number = refl; held = h.held }; cells = hand }
+taken-all cache p q cells h hand = record { holding = record { valid = h.valid; party = h.party; look = h.look; number = refl; held = h.held; claims = refl }; cells = hand }
 
 -- ---- giving
 
@@ -136,6 +143,16 @@ module _ (cache : Cache) (q r : PartyPlace) (left : List OnHeap) (c : OnHeap) (h
 
   -- and then those that are left may be
   module _ (gave : r ≡ gave_back q (length left) (after_cell dbuf_meanings (length left) (item.Cell c) q.own)) where
+    -- what is claimed of the others, and of this cell
+    gave-else : (j : ℕ) → j ≢ length left → list_at j r.own.ledger.claims ≡ list_at j q.own.ledger.claims
+    gave-else j apart = ap (λ (x : PartyPlace). list_at j x.own.ledger.claims) gave ∙ list_else (length left) j (mapping_numbers (claims_in q.own.number c.value.dbufs)) q.own.ledger.claims apart
+
+    pub last-claims : KeepsClaims q r
+    last-claims = keeps-claims (length left) q r
+        (ap (λ (x : PartyPlace). list_at (length left) x.own.ledger.claims) gave
+        ∙ (list_here (length left) (mapping_numbers (claims_in q.own.number c.value.dbufs)) q.own.ledger.claims
+        ∙ (ap (λ (n : ℕ). mapping_numbers (claims_in n c.value.dbufs)) last-hand.owned ∙ sym last-hand.claimed))) gave-else
+
     pub left-may : MayGiveAll cache left r
     left-may = record {
       befores = h.befores;
@@ -149,6 +166,7 @@ module _ (cache : Cache) (q r : PartyPlace) (left : List OnHeap) (c : OnHeap) (h
         look = λ j among. h.holding.look j (subst (IsAmong j) (sym held-is) (inr (subst (IsAmong j) held-now among)));
         number = refl;
         held = held-now;
+        claims = refl;
       };
       cells = λ j d within.
           let apart : j ≢ length left = λ e. absurd (omega arith) in
@@ -159,6 +177,8 @@ module _ (cache : Cache) (q r : PartyPlace) (left : List OnHeap) (c : OnHeap) (h
             done = subst (λ (n : ℕ). HasDone n (slice_index_or h.befores j d).value k.evicting (synced_in n j h.xs) (slice_index_or (left ++ c ∷ []) j d).value) (sym (ap (λ (x : PartyPlace). x.number) gave)) k.done;
             settled = k.settled;
             holds = subst (AreHolds (holds_of (slice_index_or (left ++ c ∷ []) j d).value)) (sym (ap (λ (x : PartyPlace). list_at j x.own.listed) gave)) k.holds;
+            claimed = gave-else j apart ∙ (k.claimed ∙ ap (λ (n : ℕ). mapping_numbers (claims_in n (slice_index_or (left ++ c ∷ []) j d).value.dbufs)) (sym (ap (λ (x : PartyPlace). x.number) gave)));
+            owned = ap (λ (x : PartyPlace). x.own.number) gave ∙ (k.owned ∙ sym (ap (λ (x : PartyPlace). x.number) gave));
           };
     }
       where

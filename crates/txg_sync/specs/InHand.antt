@@ -14,7 +14,7 @@ use Rattle.dbuf_state.specs.Dbufs.{IsFit, dbuf_is, dbuf_oid, is_dirty}
 use Rattle.dbuf_state.specs.Objects.{Evicting, is_due}
 use Rattle.dbuf_state.specs.Oids.{is_distinct}
 use Rattle.dbuf_state.specs.Soundness.{plain_cell}
-use Rattle.dbuf_cells.specs.InHand.{HasDone}
+use Rattle.dbuf_cells.specs.InHand.{HasDone, ClaimsAre}
 use Rattle.dbuf_cells.specs.Kept.{bytes_of, key_of}
 use Rattle.dbuf_cells.specs.Turns.{OnHeap, PartyPlace, holds_of}
 use Rattle.dbuf_cells.specs.declared.kept.Kept.{Kept}
@@ -34,6 +34,8 @@ pub record IsInHand (i : ℕ) (before : OnHeap) (xs : List SyncItem) (now : Cell
   pub done : HasDone q.number before.value evicting (synced_in q.number i xs) now
   pub settled : IsTrue (not (is_due (plain_cell evicting now)))
   pub holds : AreHolds (holds_of now) (list_at i q.own.listed)
+  pub claimed : ClaimsAre i q.number now q
+  pub owned : q.own.number ≡ q.number
 
 abbrev pub AreInHand : (befores : List OnHeap) → List SyncItem → (nows : List OnHeap) → PartyPlace → Type 0
 AreInHand befores xs nows q = (i : ℕ) (d : OnHeap) → i < length befores → IsInHand i (slice_index_or befores i d) xs (slice_index_or nows i d).value q
@@ -45,6 +47,7 @@ pub record IsHolding (cache : Cache) (p : PartyPlace) (count : ℕ) (q : PartyPl
   pub look : HasNoLook cache q
   pub number : q.number ≡ p.number
   pub held : q.held ≡ turns_below count
+  pub claims : q.own.ledger.claims ≡ p.own.ledger.claims
 
 -- The party p had all cells in hand, which were so. It inserted these blocks and noted them, and did nothing else but what stands in `Besides`: it is q,
 -- and the cells are so now.

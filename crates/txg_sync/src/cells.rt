@@ -1,11 +1,12 @@
 //! All cells are taken, by rising numbers, and given back.
-ghost use Rattle.std.specs.Prelude.{◌≡◌, ◌+◌, ◌<◌, ◌≤◌, ◌++◌, ◌∷◌, [], IfOk, IsTrue, OnErr, length, vec_capacity, vec_len};
+ghost use Rattle.std.specs.Prelude.{◌≡◌, ◌+◌, ◌<◌, ◌≤◌, ◌++◌, ◌∷◌, [], IfOk, IsTrue, OnErr, OnOk, length, vec_capacity, vec_len};
 ghost use Rattle.std.specs.List.{AllByRecursion};
 ghost use Rattle.arc_core.specs.Config.{IsConfig};
 ghost use Rattle.arc_table.specs.Cache.{IsPartyOf};
 ghost use Rattle.dbuf_state.specs.Dbufs.{IsFit, dbuf_oid};
 ghost use Rattle.dbuf_state.specs.Oids.{is_distinct};
 ghost use Rattle.dbuf_cells.specs.Kept.{bytes_of, key_of};
+ghost use Rattle.dbuf_cells.specs.Turns.{KeepsClaims};
 ghost use Rattle.txg_sync.specs.InHand.{HasTakenAll, MayGiveAll};
 ghost use Rattle.txg_sync.specs.Turns.{GivesFrom, TakesFrom};
 
@@ -51,6 +52,7 @@ pub(crate) fn take_all(
     ensures takes { IfOk result (λ cells. TakesFrom 0 cells.items party.old party.new) }
     ensures hand { IfOk result (λ cells. HasTakenAll arcs.now cells.items party.new) }
     ensures number { IfOk result (λ cells. party.new.number ≡ party.old.number) }
+    ensures claims { OnOk result (party.new.own.ledger.claims ≡ party.old.own.ledger.claims) }
     ensures err { OnErr result (party.new ≡ party.old) }
 {
     let count = arcs.config().cells;
@@ -68,6 +70,8 @@ pub(crate) fn give_all(arcs: &Cells, party: &mut Party<HeapCell>, mut cells: Vec
     ensures gives { GivesFrom 0 cells.items party.old party.new }
     ensures party { IsPartyOf arcs.now party.new }
     ensures free { party.new.held ≡ [] }
+    ensures number { party.new.number ≡ party.old.number }
+    ensures claims { KeepsClaims party.old party.new }
 {
     while let Some(cell) = cells.pop() {
         told(&cell);

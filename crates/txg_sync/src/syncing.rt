@@ -4,6 +4,7 @@ ghost use Rattle.blk_ptr.specs.Size.{sector};
 ghost use Rattle.arc_core.specs.Config.{IsConfig};
 ghost use Rattle.arc_table.specs.Cache.{IsPartyOf};
 ghost use Rattle.arc_table.specs.Feeding.{IsFeeder};
+ghost use Rattle.dbuf_cells.specs.Turns.{KeepsClaims};
 ghost use Rattle.txg_sync.specs.InHand.{AreDueIn, HasTakenAll, MayGiveAll, SyncsInHand};
 ghost use Rattle.txg_sync.specs.Items.{AreApart, need_of};
 ghost use Rattle.txg_sync.specs.Syncing.{AnswersSync, AnswersWith};
@@ -112,6 +113,8 @@ fn sync_cells<P: Pool>(
     requires inside { next ≤ P.size pool.old }
     requires length { P.size pool.old ≤ 2 ^ 40 }
     ensures hand { MayGiveAll arcs.now cells.new party.new }
+    ensures number { party.new.number ≡ party.old.number }
+    ensures claims { party.new.own.ledger.claims ≡ party.old.own.ledger.claims }
     ensures answer { AnswersWith P.Pool group next pool.old pool.new arcs.now.config (SyncsInHand arcs.now tick cells.old cells.new party.old party.new) result }
 {
     let Ok(dues) = dirty_of(alloc, cells) else {
@@ -157,6 +160,8 @@ pub fn sync<P: Pool>(
     ensures answer { AnswersSync P.Pool arcs.now.config group tick next pool.old pool.new party.old party.new result }
     ensures party { IsPartyOf arcs.now party.new }
     ensures free { party.new.held ≡ [] }
+    ensures number { party.new.number ≡ party.old.number }
+    ensures claims { KeepsClaims party.old party.new }
 {
     let Ok(mut cells) = take_all(alloc, arcs, rt, party) else {
         return Err(SyncFault::NoMemory);

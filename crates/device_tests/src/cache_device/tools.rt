@@ -45,10 +45,10 @@ pub(super) fn place(number: u8) -> u64
     }
 }
 
-/// A device in memory of which nothing was written, and whose calls of these numbers fail.
-pub(super) fn empty(alloc: Global, fail: &[u64]) -> Result<MemCache, AllocError> {
-    let bytes = vec![in alloc; 0u8; LEN]?;
-    Ok(MemCache::new(bytes, fail.to_vec(alloc)?))
+/// A device in memory of which nothing was written.
+pub(super) fn empty(alloc: Global) -> Option<MemCache> {
+    let bytes = vec![in alloc; 0u8; LEN].ok()?;
+    Some(MemCache::new(bytes, Vec::new(alloc)))
 }
 
 /// Starts a device that is long enough.
@@ -128,6 +128,12 @@ pub(super) fn has_restored(alloc: Global, restored: &[Restored], numbers: &[u8])
         }
     }
     true
+}
+
+/// The image of a device that blocks were fed to.
+pub(super) fn fed_image(alloc: Global, dev: MemCache, numbers: &[u8]) -> Option<Vec<u8>> {
+    let fed = after_feeds(alloc, dev, numbers)?;
+    fed.l2.stop().bytes().to_vec(alloc).ok()
 }
 
 /// What a start of this image restores, and why the walk ended.

@@ -119,3 +119,21 @@ returns-clause-claims g c =
     claims-through c.args.i k.new.party.number c.give-2.new.party.number k.result.value.dbufs c.note.new.self.dbufs c.args.party.now c.give-2.new.party k.ensures.claims c.give-2.ensures.claims
     (given.number ∙ sym k.ensures.begins.hand.party.number)
     (ended-claims c.args.arcs.now c.args.i c.args.party.now k.result c.drop_kept.new.cell c.note.new.self c.drop_kept.new.party e c.number-n.result who is) given.others
+
+pub returns-in-Err-clause-number : goal.returns-in-Err-clause-number
+returns-in-Err-clause-number g c =
+    let k = c.take-cell in
+    let log = subst (λ (x : CellLog Kept). IsRoomier x c.reserve.new.self) c.deref_mut.ensures.value c.reserve.ensures.log in
+    let t = as-taken-room c.args.arcs.now c.args.i c.args.party.now k.result k.result.value c.reserve.new.self k.new.party k.ensures.begins log in
+    (as-given c.args.arcs.now c.args.i c.args.party.now k.result c.reserve.new.self k.new.party t c.give.new.party c.give.ensures.gives).number
+
+pub returns-clause-number : goal.returns-clause-number
+returns-clause-number g c =
+    let k = c.take-cell in
+    let log = subst (λ (x : CellLog Kept). IsRoomier x c.reserve.new.self) c.deref_mut.ensures.value c.reserve.ensures.log in
+    let b = begins-ending c.args.arcs.now c.args.i c.args.party.now k.result c.deref_mut-2.result.now k.new.party k.ensures.begins (subst (λ (x : CellLog Kept). IsRoomier k.result.value x) (sym c.deref_mut-2.ensures.value) log) in
+    let e = c.drop_kept.ensures.empties c.args.party.now k.result b in
+    let is = c.note.ensures ∙ ap (noted (End c.number-n.result)) (c.deref_mut-4.ensures.value ∙ (c.empty.ensures ∙ ap (λ (x : CellLog Kept). record x { dbufs = map cleared x.dbufs }) c.deref_mut-3.ensures.value)) in
+    let who = c.number-n.ensures ∙ (k.ensures.begins.hand.party.number ∙ sym e.party.number) in
+    (c.give-2.ensures.gives c.args.party.now k.result Never (End c.drop_kept.new.party.number ∷ []) e.es refl
+    (ended-hand c.args.arcs.now c.args.i c.args.party.now k.result c.drop_kept.new.cell c.note.new.self c.drop_kept.new.party e c.number-n.result who is)).number

@@ -9,5 +9,6 @@ loop-i-preserved g c =
       ends = ends-next c.args.arcs.now.config c.loop-i.i c.args.party.now c.loop-i.party c.end_cell.new.party v.ends e.ok;
       party = e.party;
       free = e.free;
+      number = e.number ∙ v.number;
       claims = λ j. e.claims j ∙ v.claims j;
     }

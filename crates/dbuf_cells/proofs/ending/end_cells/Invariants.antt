@@ -9,5 +9,6 @@ invariant-loop-i g l = record {
   ends : EndsFrom l.arcs.config 0 l.i l.fn.party l.party;
   party : IsPartyOf l.arcs l.party;
   free : l.party.held ≡ [];
+  number : l.party.number ≡ l.fn.party.number;
   claims : KeepsClaims l.fn.party l.party;
 }

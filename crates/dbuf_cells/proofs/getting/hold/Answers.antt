@@ -7,7 +7,7 @@ use Rattle.dbuf_cells.specs.Accessing.{Holds, not_loaded}
 use Rattle.dbuf_cells.specs.Loading.{mapped_in}
 use Rattle.dbuf_cells.specs.Turns.{OnHeap, PartyPlace}
 use Rattle.dbuf_cells.specs.declared.kept.Kept.{Kept}
-use Rattle.dbuf_cells.proofs.Acts.{brought-may-give, ended-claims, ends-inside, fails-read, hold-answers, party-after, refuses-hold, test-hold}
+use Rattle.dbuf_cells.proofs.Acts.{brought-may-give, ended-claims, ended-number, ends-inside, fails-read, hold-answers, party-after, refuses-hold, test-hold}
 use Rattle.dbuf_cells.proofs.Claims.{claims-then, rest-claims}
 use Rattle.dbuf_cells.proofs.PartySteps.{as-given, once-at-rest}
 use Rattle.dbuf_cells.proofs.getting.hold.Goals as goal
@@ -99,3 +99,17 @@ pub returns-in-Err-bring-clause-claims : goal.returns-in-Err-bring-clause-claims
 returns-in-Err-bring-clause-claims g c =
     let k = c.take_at_rest-cell in
     claims-then c.args.party.now k.ensures.ready c.bring.new.party k.ensures.claims (c.in-Err-bring.ensures.brings k.ensures.ready k.ensures.begins (k.ensures.held ∙ c.requires.free) k.ensures.claimed).claims
+
+pub returns-in-Err-clause-number : goal.returns-in-Err-clause-number
+returns-in-Err-clause-number g c =
+    let k = c.take_at_rest-cell in
+    (as-given c.args.arcs.now c.cell_of-i.result k.ensures.ready k.result k.result.value k.new.party k.ensures.begins c.give.new.party c.give.ensures.gives).number ∙ k.ensures.number
+
+pub returns-in-Err-bring-clause-number : goal.returns-in-Err-bring-clause-number
+returns-in-Err-bring-clause-number g c = let k = c.take_at_rest-cell in (c.in-Err-bring.ensures.brings k.ensures.ready k.ensures.begins (k.ensures.held ∙ c.requires.free) k.ensures.claimed).number ∙ k.ensures.number
+
+pub returns-in-Ok-clause-number : goal.returns-in-Ok-clause-number
+returns-in-Ok-clause-number g c =
+    let k = c.take_at_rest-cell in
+    ended-number g.P.Pool g.D.CacheDev c.args.arcs.now c.cell_of-i.result c.args.at c.args.tick (outside c.args.pool.now c.args.cache.now) (outside c.bring.new.pool c.bring.new.cache) k.result k.ensures.ready c.in-Ok.cell c.bring.new.party
+    (c.in-Ok.ensures.brings k.ensures.ready k.ensures.begins (k.ensures.held ∙ c.requires.free) k.ensures.claimed) c.end_hold.new.party c.end_hold.ensures.claims (λ n. Pin n c.args.at) c.end_hold.result c.end_hold.ensures.ok c.end_hold.ensures.err ∙ k.ensures.number

@@ -12,7 +12,7 @@ use Rattle.dbuf_cells.specs.declared.kept.Kept.{Kept}
 use Rattle.dbuf_cells.proofs.Acts.{brought-may-give, ends-inside, fails-read, inside-now}
 use Rattle.dbuf_cells.proofs.Claims.{claims-then, rest-claims}
 use Rattle.dbuf_cells.proofs.PartySteps.{as-given, once-at-rest}
-use Rattle.dbuf_cells.proofs.Patches.{key-patch, patch-answers, patch-party, patched-claims, refuses-patch, sized-in, test-patch}
+use Rattle.dbuf_cells.proofs.Patches.{key-patch, patch-answers, patch-party, patched-claims, patched-number, refuses-patch, sized-in, test-patch}
 use Rattle.dbuf_cells.proofs.patching.patch.Goals as goal
 
 pub returns-in-Err-clause-answer : goal.returns-in-Err-clause-answer
@@ -153,3 +153,27 @@ pub returns-in-Err-bring-clause-claims : goal.returns-in-Err-bring-clause-claims
 returns-in-Err-bring-clause-claims g c =
     let k = c.take_at_rest-cell in
     claims-then c.args.party.now k.ensures.ready c.bring.new.party k.ensures.claims (c.in-Err-bring.ensures.brings k.ensures.ready k.ensures.begins (k.ensures.held ∙ c.requires.free) k.ensures.claimed).claims
+
+pub returns-in-Err-clause-number : goal.returns-in-Err-clause-number
+returns-in-Err-clause-number g c =
+    let k = c.take_at_rest-cell in
+    let i = c.cell_of-i.result in
+    (as-given c.args.arcs.now c.cell_of-i.result k.ensures.ready k.result k.result.value k.new.party k.ensures.begins c.give.new.party c.give.ensures.gives).number ∙ k.ensures.number
+
+pub returns-in-Err-check_key-clause-number : goal.returns-in-Err-check_key-clause-number
+returns-in-Err-check_key-clause-number g c =
+    let k = c.take_at_rest-cell in
+    let i = c.cell_of-i.result in
+    (as-given c.args.arcs.now c.cell_of-i.result k.ensures.ready k.result k.result.value k.new.party k.ensures.begins c.give-in-Err-check_key.new.party c.give-in-Err-check_key.ensures.gives).number ∙ k.ensures.number
+
+pub returns-in-Err-bring-clause-number : goal.returns-in-Err-bring-clause-number
+returns-in-Err-bring-clause-number g c =
+    let k = c.take_at_rest-cell in
+    let i = c.cell_of-i.result in
+    (c.in-Err-bring.ensures.brings k.ensures.ready k.ensures.begins (k.ensures.held ∙ c.requires.free) k.ensures.claimed).number ∙ k.ensures.number
+
+pub returns-in-Ok-clause-number : goal.returns-in-Ok-clause-number
+returns-in-Ok-clause-number g c =
+    let k = c.take_at_rest-cell in
+    patched-number g.P.Pool g.D.CacheDev c.args.arcs.now c.cell_of-i.result c.args.at c.args.tick (outside c.args.pool.now c.args.cache.now) (outside c.bring.new.pool c.bring.new.cache) k.result k.ensures.ready c.end_patch.new.party c.args.from c.args.bytes.now c.in-Ok.cell c.bring.new.party
+    (c.in-Ok.ensures.brings k.ensures.ready k.ensures.begins (k.ensures.held ∙ c.requires.free) k.ensures.claimed) c.end_patch.result c.end_patch.ensures.ok c.end_patch.ensures.err ∙ k.ensures.number

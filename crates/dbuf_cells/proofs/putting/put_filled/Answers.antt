@@ -101,3 +101,16 @@ returns-in-Err-clause-claims g c =
     let log = subst (λ (x : CellLog Kept). IsRoomier x c.write.new.cell) c.deref_mut.ensures.value c.in-Err.ensures.err in
     let given = room-given c.args.arcs.now c.cell_of-i.result c.args.at c.args.party.now k.result k.new.party k.ensures c.write.new.cell c.give.new.party log c.give.ensures.gives in
     rest-claims c.args.arcs.now c.cell_of-i.result c.args.at c.args.party.now k.result k.new.party k.ensures c.write.new.cell c.give.new.party (roomy-claims k.result.value c.write.new.cell log) c.give.ensures.claims given.number given.others
+
+pub returns-in-Ok-clause-number : goal.returns-in-Ok-clause-number
+returns-in-Ok-clause-number g c =
+    let k = c.take_at_rest-cell in
+    let u = subst (λ (x : CellLog Kept). IsPut c.number-n.result c.args.at c.args.size c.args.fill c.in-Ok.kept x c.write.new.cell) c.deref_mut.ensures.value c.in-Ok.ensures.ok in
+    (put-finished c.args.arcs.now c.cell_of-i.result c.args.at c.args.party.now k.result k.new.party k.ensures c.number-n.result c.args.size c.args.fill c.number-n.ensures c.in-Ok.kept c.write.new.cell u c.give_up.new.party c.give_up.ensures
+    c.finish.new.party c.finish.ensures.finishes).given.number ∙ k.ensures.number
+
+pub returns-in-Err-clause-number : goal.returns-in-Err-clause-number
+returns-in-Err-clause-number g c =
+    let k = c.take_at_rest-cell in
+    let log = subst (λ (x : CellLog Kept). IsRoomier x c.write.new.cell) c.deref_mut.ensures.value c.in-Err.ensures.err in
+    (room-given c.args.arcs.now c.cell_of-i.result c.args.at c.args.party.now k.result k.new.party k.ensures c.write.new.cell c.give.new.party log c.give.ensures.gives).number ∙ k.ensures.number

@@ -8,8 +8,8 @@ use Rattle.l2_ring.specs.Stays.{AreLive}
 use Rattle.l2_dev.specs.Restoring.{written_in}
 use Rattle.l2_dev.specs.Standing.{IsRow}
 use Rattle.l2_dev.specs.Planned.{HasPlanned}
-use Rattle.l2_feed.specs.Crashes.{AsksSo, KeepsSo}
-use Rattle.l2_feed.proofs.Asking.{begun_asked}
+use Rattle.l2_feed.specs.Crashes.{KeepsSo}
+use Rattle.l2_feed.proofs.Asking.{begin_calls}
 use Rattle.l2_feed.proofs.Crashing.{begun_keeps}
 use Rattle.l2_feed.specs.Runs.{AreCleared, batch_len}
 use Rattle.l2_feed.specs.Shape.{HasBegun}
@@ -52,21 +52,19 @@ returns-clause-acts g c =
       refused = λ is. let r = c.begin-begun.ensures.refused is in (r.1, r.2);
       planned = λ ok. subst (λ (k : ℕ). HasPlanned k c.args.l2.now.cursor c.begin-begun.new.self.cursor) n (c.begin-begun.ensures.planned ok);
       drops = λ ok. let d = c.begin-begun.ensures.dropped ok in (d.0, subst (λ (k : ℕ). IsPlanFor c.args.l2.now.cursor.ring k d.0) n d.1, d.2);
-    } in (
+    } in
+    let asked = begin_calls g.D.CacheDev c.begin-begun.new.self.cursor c.args.l2.now.dev c.begin-begun.new.self.dev c.begin-begun.result (λ is. (c.begin-begun.ensures.refused is).0) c.begin-begun.ensures.calls in (
       e.0,
+      asked.0,
       e.1,
       e.3,
-      subst (HasBegun c.args.l2.now.cursor c.begin-begun.new.self.cursor (batch_len c.args.blocks.now) e.0) (sym c.first_of.ensures)
-          (begun_all c.args.l2.now.cursor c.begin-begun.new.self.cursor (batch_len c.args.blocks.now) c.args.dropped.now.items c.begin-begun.new.dropped.items e.0 c.ring-ring.ensures.kept.sound
+      asked.1,
+      subst (HasBegun c.args.l2.now.cursor c.begin-begun.new.self.cursor (batch_len c.args.blocks.now) e.0 asked.0) (sym c.first_of.ensures)
+          (begun_all c.args.l2.now.cursor c.begin-begun.new.self.cursor (batch_len c.args.blocks.now) c.args.dropped.now.items c.begin-begun.new.dropped.items e.0 asked.0 c.ring-ring.ensures.kept.sound
           (subst (λ (hand : ℕ). AreLive (with_hand (numbers_of c.args.l2.now.cursor.ring) hand) c.args.l2.now.cursor.ring.live) based c.ring-ring.ensures.kept.live)
           (subst (λ (ls : List Live). AreCleared ls e.0) (c.since.ensures ∙ (λ i. drop ((ap length c.as_slice-had.ensures.value) i) (c.as_slice.ensures.value i))) e.2)
-          c.begin-begun.result c.clear_all-taken.result b e.4 (ok_ready c.begin-begun.new.self.cursor.ready c.begin-begun.result c.begin-begun.ensures.ready)),
+          c.begin-begun.result c.clear_all-taken.result b e.4 (ok_ready c.begin-begun.new.self.cursor.ready c.begin-begun.result c.begin-begun.ensures.ready) asked.2),
     )
-
-pub returns-clause-asks : goal.returns-clause-asks
-returns-clause-asks g c =
-    subst (AsksSo g.D.CacheDev c.args.l2.now.dev c.begin-begun.new.self.dev) (sym c.first_of.ensures)
-    (begun_asked g.D.CacheDev c.begin-begun.new.self.cursor c.args.l2.now.dev c.begin-begun.new.self.dev c.begin-begun.result c.clear_all-taken.result (λ is. (c.begin-begun.ensures.refused is).0) c.begin-begun.ensures.calls)
 
 pub returns-clause-crash : goal.returns-clause-crash
 returns-clause-crash g c below =

@@ -16,7 +16,7 @@ pub returns-in_default-clause-feeder : goal.returns-in_default-clause-feeder
 returns-in_default-clause-feeder g c = unpicked_ready (meanings g.C.Keeps.holds g.C.Keeps.entries g.C.Keeps.opening g.C.Keeps.claims g.C.Keeps.sound) c.args.arcs.now c.args.shard c.args.party.now c.pick.new.party c.requires.shard c.requires.feeder c.in_default.ensures.err
 
 pub returns-in_default-clause-fed : goal.returns-in_default-clause-fed
-returns-in_default-clause-fed g c = (Unpicked c.args.shard ∷ [], (c.pick.new.party, c.in_default.ensures.err, refl), none_counts (Unpicked c.args.shard) c.args.report.now refl refl refl, inr (inl (refl, refl, refl)))
+returns-in_default-clause-fed g c = (Unpicked c.args.shard ∷ [], [], (c.pick.new.party, c.in_default.ensures.err, refl), none_counts (Unpicked c.args.shard) c.args.report.now refl refl refl, refl, inr (inl (refl, refl, refl, refl)))
 
 pub returns-then-is_empty-clause-feeder : goal.returns-then-is_empty-clause-feeder
 returns-then-is_empty-clause-feeder g c =
@@ -39,7 +39,7 @@ returns-then-is_empty-clause-fed g c =
     let a : PicksAll m cache.config turn p q [] c.as_slice-picked.result.now = subst (λ (x : List Block × List Block). PicksAll m cache.config turn p q x.0 x.1) (λ i. (c.new-blocks.ensures.items i, sym c.as_slice-picked.ensures.value i)) c.in-Ok.ensures.ok in
     let f = picked_feeding m cache c.args.shard p q c.requires.shard c.requires.feeder c.as_slice-picked.result.now a in
     let none = empty_is c.as_slice-picked.result.now (sym c.is_empty.ensures ∙ c.if-is_empty.true) in
-    (Picked c.args.shard [] ∷ [], (q, ([], c.as_slice-picked.result.now, a, sym a.out ∙ none), refl), none_counts (Picked c.args.shard []) c.args.report.now refl refl refl, inl (refl, refl, refl))
+    (Picked c.args.shard [] ∷ [], [], (q, ([], c.as_slice-picked.result.now, a, sym a.out ∙ none), refl), none_counts (Picked c.args.shard []) c.args.report.now refl refl refl, refl, inl (refl, refl, refl, refl))
 
 pub bytes_of-bytes-requires : goal.bytes_of-bytes-requires
 bytes_of-bytes-requires g c =
@@ -217,8 +217,10 @@ returns-clause-fed g c =
     let r = c.args.report.now in
     let mid : FeedReport = record { picked = r.picked + length c.as_slice-picked.result.now; bytes = r.bytes + c.bytes_of-bytes.result; written = r.written; cleared = r.cleared; end = r.end } in (
       Picked c.args.shard c.as_slice-picked.result.now ∷ (e.0 ++ e.1),
+      e.5,
       (q, ([], c.as_slice-picked.result.now, a, sym a.out), e.2),
       picked_counts c.args.shard c.as_slice-picked.result.now (e.0 ++ e.1) c.args.report.now mid c.feed_batch.new.report refl (ap (λ (n : ℕ). c.args.report.now.bytes + n) c.bytes_of-bytes.ensures) refl refl e.3,
+      e.6,
       inr (inr record {
         blocks = c.as_slice-picked.result.now;
         some = some_is c.as_slice-picked.result.now (sym c.is_empty.ensures ∙ c.if-is_empty.false);
@@ -226,5 +228,6 @@ returns-clause-fed g c =
         settles = e.1;
         acts_are = refl;
         written = e.4;
+        asks = e.7;
       }),
     )

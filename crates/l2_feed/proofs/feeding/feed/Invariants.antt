@@ -1,9 +1,10 @@
 use Rattle.std.proofs.Common.{◌≡◌, ◌<◌, ◌≤◌, List, vec_len}
+use Rattle.vdev_io.specs.Calls.{DeviceCall, MakesDeviceCalls}
 use Rattle.arc_table.specs.Items.{meanings}
 use Rattle.l2_dev.specs.declared.report.FeedStop.TheVariants as stop
 use Rattle.l2_feed.specs.Acts.{Act, DoesActs}
 use Rattle.l2_ring.specs.Ring.{last_lap}
-use Rattle.l2_feed.specs.Crashes.{AllDone, KeepsOwn}
+use Rattle.l2_feed.specs.Crashes.{KeepsOwn}
 use Rattle.l2_feed.specs.Ready.{IsDeviceReady, IsFeederReady}
 use Rattle.l2_feed.specs.Shape.{AreFed}
 use Rattle.l2_feed.specs.Sums.{HasRoom, IsSummary}
@@ -15,11 +16,10 @@ invariant-loop-shard g l = record {
   device : IsDeviceReady l.arcs.config (g.D.CacheDev.size l.l2.dev) l.l2.cursor;
   size : g.D.CacheDev.size l.l2.dev ≡ g.D.CacheDev.size l.fn.l2.dev;
   faults : g.D.CacheDev.faults l.fn.l2.dev ≤ g.D.CacheDev.faults l.l2.dev;
-  asks : AllDone g.D.CacheDev l.fn.l2.dev l.l2.dev;
   crash : l.l2.cursor.ring.lap < last_lap → KeepsOwn g.D.CacheDev.told g.D.CacheDev.has_sectors g.D.CacheDev.may_leave l.fn.l2.dev l.l2.dev l.fn.l2.cursor l.l2.cursor;
   room : HasRoom l.shard (vec_len l.dropped) l.report;
   end : l.report.end ≡ stop.Done;
   few : l.shard ≤ l.arcs.config.shards;
-  fed : (acts : List Act) × DoesActs (meanings g.C.Keeps.holds g.C.Keeps.entries g.C.Keeps.opening g.C.Keeps.claims g.C.Keeps.sound) l.arcs.config acts l.fn.party l.party
-      × IsSummary acts l.report × AreFed 0 l.shard l.fn.l2.cursor l.l2.cursor acts stop.Done;
+  fed : (acts : List Act) × (calls : List DeviceCall) × DoesActs (meanings g.C.Keeps.holds g.C.Keeps.entries g.C.Keeps.opening g.C.Keeps.claims g.C.Keeps.sound) l.arcs.config acts l.fn.party l.party
+      × IsSummary acts l.report × MakesDeviceCalls g.D.CacheDev calls l.fn.l2.dev l.l2.dev × AreFed 0 l.shard l.fn.l2.cursor l.l2.cursor acts calls stop.Done;
 }

@@ -1,7 +1,7 @@
 use Rattle.std.proofs.Common.{ℕ, Ok, Err, ap, ◌∙◌}
 use Rattle.l2_ring.specs.Ring.{RingState}
 use Rattle.std.proofs.lemmas.Result.{err_from_is_err_and}
-use Rattle.l2_feed.proofs.Asking.{commit_asked, done_then, fault_then}
+use Rattle.l2_feed.proofs.Asking.{commit_calls, puts_lost}
 use Rattle.l2_feed.proofs.Crashing.{commit_keeps, own_then, some_then}
 use Rattle.l2_feed.proofs.Writing.{committed, put_some}
 use Rattle.l2_feed.proofs.runs.write_run.Goals as goal
@@ -11,8 +11,7 @@ commit-requires-clause-some g c = λ _ _. put_some c.args.run.now c.args.l2.now.
 
 pub returns-clause-asks : goal.returns-clause-asks
 returns-clause-asks g c =
-    let d = g.D.CacheDev in
-    done_then d c.args.l2.now.dev c.put_all.new.l2.dev c.commit.new.self.dev c.in_ok-put_all.ensures.asks (commit_asked d c.put_all.new.l2.cursor c.put_all.new.l2.dev c.commit.new.self.dev (Ok _) c.in_ok-commit.ensures.refused c.in_ok-commit.ensures.calls)
+    commit_calls g.D.CacheDev c.args.run.now c.args.l2.now.cursor c.put_all.new.l2.cursor c.args.l2.now.dev c.put_all.new.l2.dev c.commit.new.self.dev c.in_ok-put_all.ensures.put c.in_ok-put_all.ensures.asks (Ok _) c.in_ok-commit.ensures.refused c.in_ok-commit.ensures.calls
 
 pub returns-clause-crash : goal.returns-clause-crash
 returns-clause-crash g c =
@@ -22,10 +21,8 @@ returns-clause-crash g c =
 
 pub returns-in_err-commit-clause-asks : goal.returns-in_err-commit-clause-asks
 returns-in_err-commit-clause-asks g c =
-    let d = g.D.CacheDev in
     let e = err_from_is_err_and c.from_residual-in_err-commit.result c.from_residual-in_err-commit.ensures.1 in
-    rw (e.1, e.2) (fault_then d (Unit {0}) ℕ c.args.l2.now.dev c.put_all.new.l2.dev c.commit.new.self.dev c.in_err-commit.field-0.0 c.in_ok-put_all.ensures.asks
-    (commit_asked d {T = Unit {0}} c.put_all.new.l2.cursor c.put_all.new.l2.dev c.commit.new.self.dev (Err c.in_err-commit.field-0.0) c.in_err-commit.ensures.refused c.in_err-commit.ensures.calls))
+    rw (e.1, e.2) (commit_calls g.D.CacheDev c.args.run.now c.args.l2.now.cursor c.put_all.new.l2.cursor c.args.l2.now.dev c.put_all.new.l2.dev c.commit.new.self.dev c.in_ok-put_all.ensures.put c.in_ok-put_all.ensures.asks {T = Unit {0}} (Err c.in_err-commit.field-0.0) c.in_err-commit.ensures.refused c.in_err-commit.ensures.calls)
 
 pub returns-in_err-commit-clause-crash : goal.returns-in_err-commit-clause-crash
 returns-in_err-commit-clause-crash g c =
@@ -40,3 +37,9 @@ returns-clause-written g c =
       c.hand-place.ensures.hand ∙ ap (λ (r : RingState). r.hand) c.ring.ensures.ring,
       committed c.args.run.now c.args.l2.now.cursor c.put_all.new.l2.cursor c.commit.new.self.cursor s.0 (g.D.CacheDev.told c.put_all.new.l2.dev) (g.D.CacheDev.told c.commit.new.self.dev) c.in_ok-put_all.ensures.put s.1 s.2,
     )
+
+pub returns-in_err-put_all-clause-asks : goal.returns-in_err-put_all-clause-asks
+returns-in_err-put_all-clause-asks g c =
+    let e = err_from_is_err_and c.from_residual.result c.from_residual.ensures.1 in
+    let a = c.in_err-put_all.ensures.asks in
+    rw (e.1, e.2) (a.0, a.1, puts_lost g.D.CacheDev (Unit {0}) ℕ c.in_err-put_all.field-0.0 c.args.l2.now.cursor c.args.run.now a.0 a.2)

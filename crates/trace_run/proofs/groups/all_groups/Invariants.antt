@@ -1,11 +1,12 @@
-use Rattle.std.proofs.Common.{◌-◌, length, vec_len}
+use Rattle.std.proofs.Common.{◌-◌, List, [], length, vec_len}
+use Rattle.arc_core.specs.declared.served.Restored.{Restored}
 use Rattle.trace_run.specs.Group.{LeavesPool}
 use Rattle.trace_run.specs.Groups.{AreBetween}
 use Rattle.trace_run.proofs.groups.all_groups.Given as goal
 
 abbrev pub invariant-loop-alloc : goal.invariant-loop-alloc
 invariant-loop-alloc g l = record {
-  between : AreBetween l.arcs g.P.Pool l.trace l.fn.pool l.pool l.replies.items l.crew;
+  between : (restored : List Restored) → AreBetween l.arcs restored g.P.Pool l.trace l.fn.pool l.fn.pool [] l.fn.crew → AreBetween l.arcs restored g.P.Pool l.trace l.fn.pool l.pool l.replies.items l.crew;
   leaves : LeavesPool g.P.Pool l.fn.pool l.pool;
 }
 

@@ -8,7 +8,7 @@ use Rattle.arc_table.specs.Cache.{Cache}
 use Rattle.arc_table.specs.Items.{Meanings, meanings}
 use Rattle.arc_table.specs.Resizing.{AnswersResize, Resizes}
 use Rattle.trace_run.specs.KeptBlocks.{no_entries}
-use Rattle.trace_run.proofs.ResizeLemmas.{last-of, q-stands, resized}
+use Rattle.trace_run.proofs.ResizeLemmas.{q-stands, resized, resized-last}
 use Rattle.trace_run.proofs.TurnLemmas.{all-may, joined, may-join}
 use Rattle.trace_run.proofs.resizing.resize_joined.Goals as goal
 
@@ -28,13 +28,13 @@ pub resize-requires-clause-party : goal.resize-requires-clause-party
 resize-requires-clause-party g c =
     let m : Meanings g.row.C.Denot = meanings g.C.Keeps.holds g.C.Keeps.entries g.C.Keeps.opening g.C.Keeps.claims g.C.Keeps.sound in
     let r = c.requires.may in
-    (q-stands m c.args.arcs.now c.args.c c.args.feeder c.args.callers.items r.stands r.alone r.apart r.everyone r.count r.differ c.join_all.new.party c.join_all.ensures).of
+    (q-stands m c.args.arcs.now c.args.feeder c.args.callers.items r.stands r.alone r.apart r.everyone r.count r.differ c.join_all.new.party c.join_all.ensures).of
 
 pub resize-requires-clause-look : goal.resize-requires-clause-look
 resize-requires-clause-look g c =
     let m : Meanings g.row.C.Denot = meanings g.C.Keeps.holds g.C.Keeps.entries g.C.Keeps.opening g.C.Keeps.claims g.C.Keeps.sound in
     let r = c.requires.may in
-    let free = (q-stands m c.args.arcs.now c.args.c c.args.feeder c.args.callers.items r.stands r.alone r.apart r.everyone r.count r.differ c.join_all.new.party c.join_all.ensures).free in
+    let free = (q-stands m c.args.arcs.now c.args.feeder c.args.callers.items r.stands r.alone r.apart r.everyone r.count r.differ c.join_all.new.party c.join_all.ensures).free in
     λ i among. absurd (subst (IsAmong i) free among)
 
 pub resize-requires-clause-feeder : goal.resize-requires-clause-feeder
@@ -47,14 +47,14 @@ pub part_all-requires-clause-party : goal.part_all-requires-clause-party
 part_all-requires-clause-party g c =
     let m : Meanings g.row.C.Denot = meanings g.C.Keeps.holds g.C.Keeps.entries g.C.Keeps.opening g.C.Keeps.claims g.C.Keeps.sound in
     let r = c.requires.may in
-    (c.resize.ensures.party, c.resize.ensures.held ∙ (q-stands m c.args.arcs.now c.args.c c.args.feeder c.args.callers.items r.stands r.alone r.apart r.everyone r.count r.differ c.join_all.new.party c.join_all.ensures).free)
+    (c.resize.ensures.party, c.resize.ensures.held ∙ (q-stands m c.args.arcs.now c.args.feeder c.args.callers.items r.stands r.alone r.apart r.everyone r.count r.differ c.join_all.new.party c.join_all.ensures).free)
 
 pub part_all-requires-clause-numbers : goal.part_all-requires-clause-numbers
 part_all-requires-clause-numbers g c =
     let m : Meanings g.row.C.Denot = meanings g.C.Keeps.holds g.C.Keeps.entries g.C.Keeps.opening g.C.Keeps.claims g.C.Keeps.sound in
     let r = c.requires.may in
     let did = all-resized m c.args.arcs.now c.args.c c.join_all.new.party c.resize.new.party c.resize.result (sym c.is_err.ensures.value ∙ c.if-is_err.false) c.resize.ensures.answer in
-    last-of m c.args.arcs.now c.args.c c.args.feeder c.args.callers.items r.stands r.alone r.apart r.everyone r.count r.differ c.join_all.new.party c.join_all.ensures c.resize.new.party did
+    resized-last m c.args.arcs.now c.args.feeder c.args.callers.items r.stands r.alone r.apart r.everyone r.count r.differ c.join_all.new.party c.join_all.ensures c.args.arcs.now.config.callers c.args.c c.requires.feeder c.resize.new.party did
     c.in_ok-numbers.numbers.items (c.in_ok-numbers.ensures ∙ ap (map (λ (p : Place (Known g.row.C.Denot)). p.number)) c.deref.ensures.value)
 
 pub returns : goal.returns
@@ -62,5 +62,5 @@ returns g c =
     let m : Meanings g.row.C.Denot = meanings g.C.Keeps.holds g.C.Keeps.entries g.C.Keeps.opening g.C.Keeps.claims g.C.Keeps.sound in
     let r = c.requires.may in
     let did = all-resized m c.args.arcs.now c.args.c c.join_all.new.party c.resize.new.party c.resize.result (sym c.is_err.ensures.value ∙ c.if-is_err.false) c.resize.ensures.answer in
-    resized m c.args.arcs.now c.args.c c.args.feeder c.args.callers.items r.stands r.alone r.apart r.everyone r.count r.differ c.join_all.new.party c.join_all.ensures c.resize.new.party did
+    resized m c.args.arcs.now c.args.feeder c.args.callers.items r.stands r.alone r.apart r.everyone r.count r.differ c.join_all.new.party c.join_all.ensures c.args.arcs.now.config.callers c.args.c c.requires.feeder c.resize.new.party did
     c.in_ok-numbers.numbers.items (c.in_ok-numbers.ensures ∙ ap (map (λ (p : Place (Known g.row.C.Denot)). p.number)) c.deref.ensures.value) c.in_ok-callers.callers.items c.part_all.new.party c.in_ok-callers.ensures

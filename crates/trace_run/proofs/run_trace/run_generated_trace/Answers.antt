@@ -1,12 +1,15 @@
-use Rattle.std.proofs.Common.{◌≡◌, ◌*◌, true, [], Some, refl, ap, subst, ◌∙◌, arith}
+use Rattle.std.proofs.Common.{◌≡◌, ◌*◌, true, [], Option, None, Some, refl, ap, subst, ◌∙◌, arith}
 use Rattle.std.specs.Prelude.{count_by}
+use Rattle.trace_text.specs.declared.rebuilt.Rebuilt.{Rebuilt}
 use Rattle.trace_text.specs.declared.report.Report.{Report}
 use Rattle.trace_text.specs.declared.trace.Trace.{Trace}
 use Rattle.trace_run.specs.Answers.{AnswersAll, is_pool_fault}
 use Rattle.trace_run.specs.CellEnds.{AreCellsOf}
 use Rattle.trace_run.specs.Explaining.{Explain}
 use Rattle.trace_run.specs.Outcome.{generated, zeros_of}
+use Rattle.trace_run.specs.PlainReport.{IsPlainReport}
 use Rattle.trace_run.specs.PlainRun.{report_of}
+use Rattle.trace_run.specs.Restores.{restored_of}
 use Rattle.trace_run.proofs.GenLemmas.{made-plain, made-report, made-trace, never-failed, none-refused}
 use Rattle.trace_run.proofs.run_trace.run_generated_trace.Goals as goal
 
@@ -26,14 +29,16 @@ returns g c =
     let answers : AnswersAll (c.args.blocks * 512) (Some (zeros_of c.args.blocks)) trace.blocks trace.ops report.replies = rw (len, one.0) at run.answers in
     let fair : count_by is_pool_fault report.replies ≡ 0 = let h = rw one.0 at run.faults (omega arith) in omega (arith, h) in
     let none = none-refused c.args.seed c.args.blocks c.args.ops trace report.replies drawn answers fair in
-    let plain : report ≡ report_of trace (zeros_of c.args.blocks) alone.calls =
-    made-plain c.args.seed c.args.blocks c.args.ops trace (zeros_of c.args.blocks) (report_of trace (zeros_of c.args.blocks) alone.calls) report drawn (rw len at alone.plain) in
-    let whole : report ≡ report_of (generated c.args.seed c.args.blocks c.args.ops) (zeros_of c.args.blocks) [] =
+    let nothing : report.rebuilt ≡ None = c.in_ok-reported.ensures.rebuilt in
+    let plain : report ≡ report_of trace None (zeros_of c.args.blocks) alone.calls =
+    made-plain c.args.seed c.args.blocks c.args.ops trace (zeros_of c.args.blocks) (report_of trace None (zeros_of c.args.blocks) alone.calls) report drawn
+    (subst (λ (r : Option Rebuilt). IsPlainReport trace (zeros_of c.args.blocks) (report_of trace r (zeros_of c.args.blocks) alone.calls) report) nothing (rw len at alone.plain)) in
+    let whole : report ≡ report_of (generated c.args.seed c.args.blocks c.args.ops) None (zeros_of c.args.blocks) [] =
     plain ∙ made-report c.args.seed c.args.blocks c.args.ops trace (zeros_of c.args.blocks) alone.calls is give in
     record {
       plain = ap (λ (r : Report). record r { short = true }) whole;
       answers = subst (λ (t : Trace). AnswersAll (c.args.blocks * 512) (Some (zeros_of c.args.blocks)) t.blocks t.ops report.replies) is answers;
-      explained = subst (λ (t : Trace). Explain t report.replies report.ends report.histories) is run.explained;
+      explained = subst (λ (x : Trace × Option Rebuilt). Explain x.0 (restored_of x.1) report.replies report.ends report.histories) (λ i. (is i, nothing i)) run.explained;
       tells = record { histories = run.tells.histories; ends = run.tells.ends };
       config = run.config ∙ ap (λ (t : Trace). t.config) is;
       cells = subst (λ (t : Trace). AreCellsOf t reported.closed) is c.in_ok-reported.ensures.cells;

@@ -15,7 +15,7 @@ use Rattle.dbuf_cells.specs.Turns.{OnHeap, PartyPlace, dbuf_meanings}
 use Rattle.dbuf_cells.specs.declared.kept.Kept.{Kept}
 use Rattle.txg_sync.specs.InHand.{IsKnown, MayGiveAll}
 use Rattle.txg_sync.specs.Turns.{GivesFrom}
-use Rattle.txg_sync.proofs.Taking.{last-given, last-held, left-may, most-cells}
+use Rattle.txg_sync.proofs.Taking.{last-claims, last-given, last-held, left-may, most-cells}
 use Rattle.txg_sync.proofs.cells.give_all.Goals as goal
 
 pub overflow_cast-i : goal.overflow_cast-i
@@ -70,4 +70,6 @@ loop-cell-preserved c =
         ),
       );
       may = left-may c.args.arcs.now q r left cell may known gave;
+      number = ap (λ (x : PartyPlace). x.number) gave ∙ c.loop-cell.invariant.number;
+      claims = λ j. last-claims c.args.arcs.now q r left cell may known gave j ∙ c.loop-cell.invariant.claims j;
     }

@@ -4,6 +4,7 @@ use Rattle.txg_sync.specs.InHand.{SyncsInHand}
 use Rattle.txg_sync.specs.Items.{SyncItem}
 use Rattle.txg_sync.specs.Turns.{GivesFrom, SyncsCells, TakesFrom}
 use Rattle.txg_sync.proofs.Ended.{answers-so, syncs-cells, take-front}
+use Rattle.arc_table.specs.Fronts.{list_at}
 use Rattle.txg_sync.proofs.syncing.sync.Goals as goal
 
 pub returns-clause-answer : goal.returns-clause-answer
@@ -22,3 +23,6 @@ returns-clause-answer g c =
     (λ cs xs Besides s. subst (λ (l : List OnHeap). SyncsCells cache.config c.args.tick l xs Besides o r) (sym s.0) (syncs-cells cache c.args.tick cells nows p q xs Besides s.1 o r all takes c.in-Ok.ensures.number
     (subst (λ (l : List OnHeap). GivesFrom 0 l q r) (take-front c.in-Ok.cells.len nows (drop (length nows) c.in-Ok.cells.items) (c.in-Ok.cells.ok.0 ∙ (sym (ap (λ (l : List OnHeap). length l) same) ∙ sym s.1.count))) c.give_all.ensures.gives)))
     c.sync_cells-result.result c.sync_cells-result.ensures.answer)
+
+pub returns-clause-claims : goal.returns-clause-claims
+returns-clause-claims g c = λ j. c.give_all.ensures.claims j ∙ ap (list_at j) (c.sync_cells-result.ensures.claims ∙ c.in-Ok.ensures.claims)

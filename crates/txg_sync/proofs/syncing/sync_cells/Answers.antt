@@ -6,7 +6,7 @@ use Rattle.txg_sync.specs.InHand.{AreDueIn}
 use Rattle.txg_sync.specs.Items.{AreApart, need_of}
 use Rattle.txg_sync.specs.declared.due.Due.{Due}
 use Rattle.txg_sync.proofs.Dirty.{all-apart, all-due, count-most}
-use Rattle.txg_sync.proofs.Ended.{dues-may-give, dues-stopped, may-give-all, nothing-done}
+use Rattle.txg_sync.proofs.Ended.{dues-claims, dues-may-give, dues-number, dues-stopped, may-give-all, nothing-done}
 use Rattle.txg_sync.proofs.syncing.sync_cells.Goals as goal
 
 pub returns-in_default-clause-hand : goal.returns-in_default-clause-hand
@@ -58,3 +58,15 @@ overflow_cast-result g c =
 
 pub returns-clause-hand : goal.returns-clause-hand
 returns-clause-hand g c = dues-may-give g.P.Pool c.args.arcs.now c.args.group c.args.tick c.args.next c.args.cells.now c.write_dues.new.cells c.args.pool.now c.write_dues.new.pool c.args.party.now c.write_dues.new.party c.deref-2.result.now c.write_dues.result c.write_dues.ensures.answer
+
+pub returns-in_err-behind-clause-claims : goal.returns-in_err-behind-clause-claims
+returns-in_err-behind-clause-claims g c = dues-claims g.P.Pool c.args.arcs.now c.args.group c.args.tick c.args.next c.args.cells.now c.write_dues.new.cells c.args.pool.now c.write_dues.new.pool c.args.party.now c.write_dues.new.party c.deref-2.result.now c.write_dues.result c.write_dues.ensures.answer
+
+pub returns-clause-claims : goal.returns-clause-claims
+returns-clause-claims g c = dues-claims g.P.Pool c.args.arcs.now c.args.group c.args.tick c.args.next c.args.cells.now c.write_dues.new.cells c.args.pool.now c.write_dues.new.pool c.args.party.now c.write_dues.new.party c.deref-2.result.now c.write_dues.result c.write_dues.ensures.answer
+
+pub returns-in_err-behind-clause-number : goal.returns-in_err-behind-clause-number
+returns-in_err-behind-clause-number g c = dues-number g.P.Pool c.args.arcs.now c.args.group c.args.tick c.args.next c.args.cells.now c.write_dues.new.cells c.args.pool.now c.write_dues.new.pool c.args.party.now c.write_dues.new.party c.deref-2.result.now c.write_dues.result c.write_dues.ensures.answer
+
+pub returns-clause-number : goal.returns-clause-number
+returns-clause-number g c = dues-number g.P.Pool c.args.arcs.now c.args.group c.args.tick c.args.next c.args.cells.now c.write_dues.new.cells c.args.pool.now c.write_dues.new.pool c.args.party.now c.write_dues.new.party c.deref-2.result.now c.write_dues.result c.write_dues.ensures.answer

@@ -1,11 +1,11 @@
--- One caller gives every shard a new capacity: its party joins the feeder's for that time, and behind it the feeder's joins again.
+-- What the feeder makes of the shards where there is one caller: its party joins the feeder's for that time, and behind it the feeder's joins again.
 use Rattle.std.proofs.Common.{◌≡◌, ◌≢◌, ℕ, ◌<◌, List, [], ◌∷◌, ◌++◌, length, length-append, refl, sym, ap, ◌∙◌, subst, inl, inr, arith}
 use Rattle.std.specs.List.{AllByRecursion}
 use Rattle.std.proofs.lemmas.Bool.{cases_lt}
 use Rattle.std.proofs.lemmas.List.{nil_from_length}
 use Rattle.blk_ptr.specs.Hash.{shard_of}
 use Rattle.arc_core.specs.declared.config.Config.{Config}
-use Rattle.arc_core.specs.declared.event.Event.TheVariants.{Resize}
+use Rattle.arc_core.specs.declared.event.Event.{Event}
 use Rattle.arc_core.specs.Operations.{Tell, acts_in, moments, own_moments}
 use Rattle.turn_table.specs.declared.standing.Kept.{Kept}
 use Rattle.turn_table.specs.Places.{IsLast, Place, SomeHas, parted, rest_of, stayed}
@@ -21,15 +21,15 @@ use Rattle.arc_table.specs.Seen.{AllSeen, AreSeen, IsSeen, events_in, seen_of, t
 use Rattle.arc_table.specs.Telling.{opening_of}
 use Rattle.arc_table.specs.Views.{after_learned}
 use Rattle.trace_run.specs.declared.kept_blocks.KeptBlock.{KeptBlock}
-use Rattle.trace_run.specs.CallerLines.{HasResized}
+use Rattle.trace_run.specs.CallerLines.{HasFed}
 use Rattle.trace_run.specs.KeptBlocks.{Stands}
-use Rattle.trace_run.specs.Meeting.{HasFeeder, HasParted, IsApart, IsJoinedBy, IsLevel, JoinAll, Joins, MayGoOn, Resized}
+use Rattle.trace_run.specs.Meeting.{HasFeeder, HasParted, IsApart, IsJoinedBy, IsLevel, JoinAll, Joins, MadeJoined, MayGoOn}
 use Rattle.trace_run.proofs.CellsLeft.{entries-as}
 use Rattle.trace_run.proofs.GroupsLemmas.{parted-length}
 use Rattle.trace_run.proofs.MeetLemmas.{HaveJoined, left_alone, parted_from}
 use Rattle.trace_run.proofs.TurnLemmas.{joined, joined-all, joined-stands}
 
-module _ {C : Type 0} (cache : Cache) (c : ℕ) (p : Place (Known C)) (one : cache.config.callers ≡ 1) (number : p.number ≡ 0) (rows : cache.row.parties ≡ parties_of cache.config) (openings : List (List ℕ)) (feeder : HasFeeder cache openings p) where
+module _ {C : Type 0} (cache : Cache) (more : (shard : ℕ) → List Event) (p : Place (Known C)) (one : cache.config.callers ≡ 1) (number : p.number ≡ 0) (rows : cache.row.parties ≡ parties_of cache.config) (openings : List (List ℕ)) (feeder : HasFeeder cache openings p) where
   abbrev g : Config
   g = cache.config
 
@@ -120,8 +120,8 @@ module _ {C : Type 0} (cache : Cache) (c : ℕ) (p : Place (Known C)) (one : cac
     swapped a b n (inr (inl second)) = inl second
     swapped a b n (inr (inr never)) = absurd never
 
-    pub may-resize-alone : MayGoOn cache [] f1 (p1 ∷ [])
-    may-resize-alone = record {
+    pub may-feed-alone : MayGoOn cache [] f1 (p1 ∷ [])
+    may-feed-alone = record {
       stands = f1-stands;
       alone = refl;
       count = stands.of.row.1 ∙ rows;
@@ -131,22 +131,22 @@ module _ {C : Type 0} (cache : Cache) (c : ℕ) (p : Place (Known C)) (one : cac
     }
 
     -- so it is with what parting gave
-    pub may-resize-as : (f x : Place (Known C)) (l : List (Place (Known C))) → f ≡ parted (λ w. after_learned w p.own) p p.joined → x ≡ stayed p → l ≡ x ∷ [] → MayGoOn cache [] f l
-    may-resize-as f x l is_f is_x is_l =
-        subst (λ (y : Place (Known C) × List (Place (Known C))). MayGoOn cache [] y.0 y.1) (λ i. (sym (parts-f f is_f) i, (sym (ap (λ (z : Place (Known C)). z ∷ []) (stays-p x is_x)) ∙ sym is_l) i)) may-resize-alone
+    pub may-feed-as : (f x : Place (Known C)) (l : List (Place (Known C))) → f ≡ parted (λ w. after_learned w p.own) p p.joined → x ≡ stayed p → l ≡ x ∷ [] → MayGoOn cache [] f l
+    may-feed-as f x l is_f is_x is_l =
+        subst (λ (y : Place (Known C) × List (Place (Known C))). MayGoOn cache [] y.0 y.1) (λ i. (sym (parts-f f is_f) i, (sym (ap (λ (z : Place (Known C)). z ∷ []) (stays-p x is_x)) ∙ sym is_l) i)) may-feed-alone
 
     -- and the caller's party is the one that comes back
-    pub resized-as : (f x f2 p2 : Place (Known C)) (l l2 rest : List (Place (Known C))) → f ≡ parted (λ w. after_learned w p.own) p p.joined → x ≡ stayed p → l ≡ x ∷ [] → Resized cache c f l f2 l2 → l2 ≡ rest ++ p2 ∷ []
-        → Resized cache c f1 (p1 ∷ []) f2 (p2 ∷ [])
-    resized-as f x f2 p2 l l2 rest is_f is_x is_l r is =
-        let here : Resized cache c f1 (p1 ∷ []) f2 l2 =
-        subst (λ (y : Place (Known C) × List (Place (Known C))). Resized cache c y.0 y.1 f2 l2) (λ i. (parts-f f is_f i, (is_l ∙ ap (λ (z : Place (Known C)). z ∷ []) (stays-p x is_x)) i)) r in
+    pub made-as : (f x f2 p2 : Place (Known C)) (l l2 rest : List (Place (Known C))) → f ≡ parted (λ w. after_learned w p.own) p p.joined → x ≡ stayed p → l ≡ x ∷ [] → MadeJoined cache more f l f2 l2 → l2 ≡ rest ++ p2 ∷ []
+        → MadeJoined cache more f1 (p1 ∷ []) f2 (p2 ∷ [])
+    made-as f x f2 p2 l l2 rest is_f is_x is_l r is =
+        let here : MadeJoined cache more f1 (p1 ∷ []) f2 l2 =
+        subst (λ (y : Place (Known C) × List (Place (Known C))). MadeJoined cache more y.0 y.1 f2 l2) (λ i. (parts-f f is_f i, (is_l ∙ ap (λ (z : Place (Known C)). z ∷ []) (stays-p x is_x)) i)) r in
         let long : length l2 ≡ 1 = parted-length cache here.lines (p1 ∷ []) l2 here.parted in
         let none : rest ≡ [] = nil_from_length rest (omega (arith, long, ap length is, length-append rest (p2 ∷ []))) in
-        subst (Resized cache c f1 (p1 ∷ []) f2) (is ∙ ap (λ (k : List (Place (Known C))). k ++ p2 ∷ []) none) here
+        subst (MadeJoined cache more f1 (p1 ∷ []) f2) (is ∙ ap (λ (k : List (Place (Known C))). k ++ p2 ∷ []) none) here
 
     -- the feeder's may join it then
-    module _ (f2 p2 : Place (Known C)) (r : Resized cache c f1 (p1 ∷ []) f2 (p2 ∷ [])) where
+    module _ (f2 p2 : Place (Known C)) (r : MadeJoined cache more f1 (p1 ∷ []) f2 (p2 ∷ [])) where
       pub again-row : IsPartyOf cache p2 × IsPartyOf cache f2
       again-row = ((r.parted.0.stands had p1-stands).of, r.stands.of)
 
@@ -154,7 +154,7 @@ module _ {C : Type 0} (cache : Cache) (c : ℕ) (p : Place (Known C)) (one : cac
       again-free = ((r.parted.0.stands had p1-stands).free, r.stands.free)
 
     -- behind it
-    module _ (m : Meanings C) (f2 p2 q : Place (Known C)) (r : Resized cache c f1 (p1 ∷ []) f2 (p2 ∷ [])) (joins : Joins m f2 p2 q) where
+    module _ (m : Meanings C) (f2 p2 q : Place (Known C)) (r : MadeJoined cache more f1 (p1 ∷ []) f2 (p2 ∷ [])) (joins : Joins m f2 p2 q) where
       p2-parted : HasParted cache r.lines p1 p2
       p2-parted = r.parted.0
 
@@ -203,13 +203,12 @@ module _ {C : Type 0} (cache : Cache) (c : ℕ) (p : Place (Known C)) (one : cac
           subst (λ (n : ℕ). own_moments n (moments (opening_of g) (seen_of g shard q)) ≡ own_moments n (moments (opening_of g) (seen_of g shard p2))) p2-parted.number (have2.self.own shard)
           ∙ p2-parted.own shard
 
-      pub alone-resized : HasResized g c p q
-      alone-resized = record {
+      pub alone-fed : HasFed g more p q
+      alone-fed = record {
         number = have2.number ∙ p2-parted.number;
         told = λ before told shard.
             subst (λ (n : ℕ). Tell (acts_in (shard_of g.shards) shard n before) (own_moments n (moments (opening_of g) (seen_of g shard q)))) (sym (have2.number ∙ p2-parted.number))
             (subst (Tell (acts_in (shard_of g.shards) shard p.number before)) (sym (same-own shard)) (told shard));
-        seen = λ shard below. q-sees shard ∙ (r.seen shard below ∙ (λ i. front-is shard i ++ Resize (o-number i) c ∷ []));
-        beyond = λ shard beyond. q-sees shard ∙ (r.beyond shard beyond ∙ front-is shard);
+        seen = λ shard. q-sees shard ∙ (r.seen shard ∙ ap (λ (es : List Event). es ++ more shard) (front-is shard));
         all = λ all. joined-all m cache p2 had (f2 ∷ []) p2-stands p2-parted.alone apart2 (both-have p2 f2 p2-number f2-number) count2 differ2 q all-joins;
       }

@@ -10,14 +10,14 @@ use std::rt::Files;
 /// A file of 16 bytes, of which a call moves at most three. Every second call is interrupted, and those at the place `bad` fail.
 #[derive(Drop)]
 pub(super) struct Choppy {
-    pub(super) bytes: [u8; 16],
+    bytes: [u8; 16],
     at: u64,
     bad: u64,
     interrupts: bool,
 }
 
 impl Choppy {
-    pub(super) fn new(bad: u64) -> Choppy {
+    fn new(bad: u64) -> Choppy {
         Choppy {
             bytes: *b"0123456789abcdef",
             at: 0,

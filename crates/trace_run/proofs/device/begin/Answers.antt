@@ -1,0 +1,19 @@
+use Rattle.std.proofs.Common.{◌≡◌, Option, None, Some, IfSome, refl}
+use Rattle.trace_run.proofs.device.begin.Goals as goal
+
+-- a fact of what is there
+some-told : {X : Type 0} (P : X → Type 0) (o : Option X) → ((x : X) → o ≡ Some x → P x) → IfSome o P
+some-told P None each = tt
+some-told P (Some x) each = each x refl
+
+pub returns-in-Ready-clause-found : goal.returns-in-Ready-clause-found
+returns-in-Ready-clause-found g c =
+    let e = c.in-Ready.ensures in
+    rw (c.in-Some.is, c.from_vec.ensures) (record {
+      short = λ small. absurd (e.long small);
+      image = λ le. some-told _ (g.D.CacheDev.told c.in-Some.dev) e.rebuilt;
+      reads = λ le. (e.started.0, e.started.1, some-told _ (g.D.CacheDev.told c.in-Some.dev) (λ image is. (c.in-Ready.l2.cursor, e.started.2 image is)));
+      cause = e.cause;
+      keys = e.keys;
+      only = e.read;
+    })
