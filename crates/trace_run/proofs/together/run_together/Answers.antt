@@ -43,7 +43,7 @@ close_crew-requires-clause-callers g c =
     let many : length c.in_ok-crew.crew.kept.items ≡ length c.in_ok-crew.crew.parties.items = let a = c.in_ok-crew.crew.kept.ok.0 in let b = c.in_ok-crew.crew.parties.ok.0 in let e = c.in_ok-crew.ensures.count in omega (arith, a, b, e) in
     let begun = between-begun c.in_ok-arcs.arcs c.args.restored.now g.P.Pool c.args.trace.now c.args.pool.now c.in_ok-arcs.parties.items c.in_ok-crew.crew c.in_ok-crew-2.crew
     c.in_ok-arcs.ensures.parties c.in_ok-crew.ensures.parties c.in_ok-crew.ensures.none many c.in_ok-crew-2.ensures.made c.in_ok-crew-2.ensures.kept
-          (last-knows (openings_of c.args.trace.now) c.in_ok-crew.crew.parties.items c.in_ok-crew.crew.feeder (subst (AllKnow (openings_of c.args.trace.now)) c.in_ok-crew.ensures.parties c.in_ok-arcs.ensures.known)) in
+    (last-knows (openings_of c.args.trace.now) c.in_ok-crew.crew.parties.items c.in_ok-crew.crew.feeder (subst (AllKnow (openings_of c.args.trace.now)) c.in_ok-crew.ensures.parties c.in_ok-arcs.ensures.known)) in
     let come = (c.in_ok-crew-3.ensures.stopped c.args.restored.now begun).between.come in
     (lines-acts c.in_ok-arcs.arcs _ _ _ _ _ _ _ come, come-wait c.in_ok-arcs.arcs _ _ _ _ _ _ _ come)
 
@@ -52,7 +52,7 @@ close_crew-requires-clause-feeder g c =
     let many : length c.in_ok-crew.crew.kept.items ≡ length c.in_ok-crew.crew.parties.items = let a = c.in_ok-crew.crew.kept.ok.0 in let b = c.in_ok-crew.crew.parties.ok.0 in let e = c.in_ok-crew.ensures.count in omega (arith, a, b, e) in
     let begun = between-begun c.in_ok-arcs.arcs c.args.restored.now g.P.Pool c.args.trace.now c.args.pool.now c.in_ok-arcs.parties.items c.in_ok-crew.crew c.in_ok-crew-2.crew
     c.in_ok-arcs.ensures.parties c.in_ok-crew.ensures.parties c.in_ok-crew.ensures.none many c.in_ok-crew-2.ensures.made c.in_ok-crew-2.ensures.kept
-          (last-knows (openings_of c.args.trace.now) c.in_ok-crew.crew.parties.items c.in_ok-crew.crew.feeder (subst (AllKnow (openings_of c.args.trace.now)) c.in_ok-crew.ensures.parties c.in_ok-arcs.ensures.known)) in
+    (last-knows (openings_of c.args.trace.now) c.in_ok-crew.crew.parties.items c.in_ok-crew.crew.feeder (subst (AllKnow (openings_of c.args.trace.now)) c.in_ok-crew.ensures.parties c.in_ok-arcs.ensures.known)) in
     let come = (c.in_ok-crew-3.ensures.stopped c.args.restored.now begun).between.come in
     (_, _, _, come.feeder)
 
@@ -61,7 +61,7 @@ close_crew-requires-clause-count g c =
     let many : length c.in_ok-crew.crew.kept.items ≡ length c.in_ok-crew.crew.parties.items = let a = c.in_ok-crew.crew.kept.ok.0 in let b = c.in_ok-crew.crew.parties.ok.0 in let e = c.in_ok-crew.ensures.count in omega (arith, a, b, e) in
     let begun = between-begun c.in_ok-arcs.arcs c.args.restored.now g.P.Pool c.args.trace.now c.args.pool.now c.in_ok-arcs.parties.items c.in_ok-crew.crew c.in_ok-crew-2.crew
     c.in_ok-arcs.ensures.parties c.in_ok-crew.ensures.parties c.in_ok-crew.ensures.none many c.in_ok-crew-2.ensures.made c.in_ok-crew-2.ensures.kept
-          (last-knows (openings_of c.args.trace.now) c.in_ok-crew.crew.parties.items c.in_ok-crew.crew.feeder (subst (AllKnow (openings_of c.args.trace.now)) c.in_ok-crew.ensures.parties c.in_ok-arcs.ensures.known)) in
+    (last-knows (openings_of c.args.trace.now) c.in_ok-crew.crew.parties.items c.in_ok-crew.crew.feeder (subst (AllKnow (openings_of c.args.trace.now)) c.in_ok-crew.ensures.parties c.in_ok-arcs.ensures.known)) in
     let kepts = (c.in_ok-crew-3.ensures.stopped c.args.restored.now begun).between.come.kepts in
     let long = c.in_ok-crew-3.crew.kept.ok.0 in
     omega (arith, kepts, long)
@@ -71,7 +71,7 @@ returns-clause-ran g c =
     let many : length c.in_ok-crew.crew.kept.items ≡ length c.in_ok-crew.crew.parties.items = let a = c.in_ok-crew.crew.kept.ok.0 in let b = c.in_ok-crew.crew.parties.ok.0 in let e = c.in_ok-crew.ensures.count in omega (arith, a, b, e) in
     let begun = between-begun c.in_ok-arcs.arcs c.args.restored.now g.P.Pool c.args.trace.now c.args.pool.now c.in_ok-arcs.parties.items c.in_ok-crew.crew c.in_ok-crew-2.crew
     c.in_ok-arcs.ensures.parties c.in_ok-crew.ensures.parties c.in_ok-crew.ensures.none many c.in_ok-crew-2.ensures.made c.in_ok-crew-2.ensures.kept
-          (last-knows (openings_of c.args.trace.now) c.in_ok-crew.crew.parties.items c.in_ok-crew.crew.feeder (subst (AllKnow (openings_of c.args.trace.now)) c.in_ok-crew.ensures.parties c.in_ok-arcs.ensures.known)) in
+    (last-knows (openings_of c.args.trace.now) c.in_ok-crew.crew.parties.items c.in_ok-crew.crew.feeder (subst (AllKnow (openings_of c.args.trace.now)) c.in_ok-crew.ensures.parties c.in_ok-arcs.ensures.known)) in
     let config = c.in_ok-arcs.ensures.config in
     group-together _ c.in_ok-arcs.arcs g.P.Pool c.args.pool.now c.all_groups.new.pool c.args.trace.now c.requires.formed config (subst IsConfig (sym config) c.requires.formed.config) _ c.args.restored.now _ _ (c.in_ok-crew-3.ensures.stopped c.args.restored.now begun) c.in_ok-closed.closed c.in_ok-closed.ensures
 
@@ -80,6 +80,6 @@ returns-clause-cells g c =
     let many : length c.in_ok-crew.crew.kept.items ≡ length c.in_ok-crew.crew.parties.items = let a = c.in_ok-crew.crew.kept.ok.0 in let b = c.in_ok-crew.crew.parties.ok.0 in let e = c.in_ok-crew.ensures.count in omega (arith, a, b, e) in
     let begun = between-begun c.in_ok-arcs.arcs c.args.restored.now g.P.Pool c.args.trace.now c.args.pool.now c.in_ok-arcs.parties.items c.in_ok-crew.crew c.in_ok-crew-2.crew
     c.in_ok-arcs.ensures.parties c.in_ok-crew.ensures.parties c.in_ok-crew.ensures.none many c.in_ok-crew-2.ensures.made c.in_ok-crew-2.ensures.kept
-          (last-knows (openings_of c.args.trace.now) c.in_ok-crew.crew.parties.items c.in_ok-crew.crew.feeder (subst (AllKnow (openings_of c.args.trace.now)) c.in_ok-crew.ensures.parties c.in_ok-arcs.ensures.known)) in
+    (last-knows (openings_of c.args.trace.now) c.in_ok-crew.crew.parties.items c.in_ok-crew.crew.feeder (subst (AllKnow (openings_of c.args.trace.now)) c.in_ok-crew.ensures.parties c.in_ok-arcs.ensures.known)) in
     let config = c.in_ok-arcs.ensures.config in
     closed-cells c.in_ok-arcs.arcs g.P.Pool c.args.pool.now c.all_groups.new.pool c.args.trace.now c.requires.formed config (subst IsConfig (sym config) c.requires.formed.config) _ c.args.restored.now _ _ (c.in_ok-crew-3.ensures.stopped c.args.restored.now begun) c.in_ok-closed.closed c.in_ok-closed.ensures
