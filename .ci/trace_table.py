@@ -215,6 +215,23 @@ shard 0 c 4096 p 2048 anon 0 mru 0 mrug 0 mfu 0 mfug 0 l2 0
 count hit 0 miss 1 past 0 pool 1 l2 0 pass 0 set 0
 end 1
 ''']),
+    Row('blocks of objects that no operation asks for', ['run', '--events'], 512, '''\
+arc 1 1 16 3 4096 0 4096
+block 0 512 1 Z
+object 7 0 0
+object 7 1 0
+object 8 0 0
+read 0 1 0 0 4
+''', 0, ['''\
+arc 1
+0 ok pool Z 00000000
+e 0 0 miss 0 0 512 1 1
+e 0 1 arrive 0 0 512 1 Z pool
+e 0 2 drop 0 0 512 1
+shard 0 c 4096 p 2048 anon 0 mru 512 mrug 0 mfu 0 mfug 0 l2 0
+count hit 0 miss 1 past 0 pool 1 l2 0 pass 0 set 0
+end 0
+''']),
     Row('two digests for one key', ['run', '--events'], 512, '''\
 arc 1 1 16 1 4096 0 4096
 block 0 512 1 Z

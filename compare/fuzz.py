@@ -4,7 +4,7 @@
 The program has to end with a report (status 0 or 1), or with status 3, or 2 where the words were drawn, and nothing written; and to
 agree with the plain simulation in arc_sim.rs on the status and on each byte that is written. A trace of several callers is run a few
 times. Each report that has its events is checked by arc_replay.rs. A trace on which anything is wrong is kept, and its place is
-printed. The program does no objects, syncs, capacities and feeds yet, so both refuse such lines.
+printed. The program does no operations on objects, syncs and feeds yet, so both refuse such lines.
 Needs rustc. The program has to be built: (cd crates/arc_tool && rt run). ARC_TOOL, ARC_SIM and ARC_REPLAY may name other builds.
 """
 import hashlib
@@ -41,6 +41,8 @@ def trace(rng):
         lines.append(rng.choice(['l2 512 1', 'l2 8388608 2', 'l2 4294967296 64']))
     blocks = rng.randrange(1, 24)
     lines += [block(rng) for _ in range(blocks)]
+    if rng.random() < 0.2:
+        lines += [f'object {rng.randrange(3)} {i} {rng.randrange(blocks)}' for i in range(rng.randrange(20))]
     tick = 0
     for _ in range(rng.choice([3, 20, 100, 400])):
         tick = max(0, tick + rng.choice([1, 1, 1, 0, 2, -1, 5]))

@@ -12,7 +12,7 @@ const LAST: u64 = 1 << 62;
 const MOST: u64 = 1 << 32;
 const MOST_SHOWN: u64 = 64;
 
-/// Which lines are read: those of reads alone (`arc`, `l2`, `block`, `read`, `hold`, `drop`), or all that there are.
+/// Which lines are read: those of reads alone (`arc`, `l2`, `block`, `object`, `read`, `hold`, `drop`), or all that there are.
 #[derive(Clone, Copy, PartialEq)]
 pub enum Lines {
     Reads,
@@ -130,7 +130,7 @@ fn parse_line(line: &[u8], most: u64, lines: Lines, draft: &mut Option<Draft>) -
         Some(draft) => match (word, fields, lines) {
             (b"block", [offset, size, birth, bytes], _) => draft.block(offset, size, birth, bytes)?,
             (b"l2", [write_max, headroom], _) => draft.bounds(write_max, headroom)?,
-            (b"object", [object, i, block], Lines::All) => draft.object(object, i, block)?,
+            (b"object", [object, i, block], _) => draft.object(object, i, block)?,
             _ => draft.operation(word, fields, lines)?,
         },
     }

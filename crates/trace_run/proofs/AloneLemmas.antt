@@ -22,6 +22,7 @@ use Rattle.arc_core.specs.Replay.{is_legal_history, replay}
 use Rattle.arc_core.specs.ShardLog.{ShardLog}
 use Rattle.turn_table.specs.Places.{Place, SomeHas}
 use Rattle.arc_table.specs.declared.view.Known.{Known}
+use Rattle.arc_table.specs.declared.view.Line.{Line}
 use Rattle.arc_table.specs.Cache.{Cache}
 use Rattle.arc_table.specs.Ended.{Ended, Ends}
 use Rattle.arc_table.specs.Geometry.{parties_of}
@@ -41,7 +42,7 @@ use Rattle.trace_run.specs.Effects.{calls_of_all}
 use Rattle.trace_run.specs.Ends.{end_of, ends_of}
 use Rattle.arc_table.specs.Telling.{opening_of}
 use Rattle.trace_run.specs.Explaining.{BeginsWith, EndsWith, Explain, drops_at_end}
-use Rattle.trace_run.specs.KeptBlocks.{DroppedAlone, GivesAll, Stands, holds_in, read_of}
+use Rattle.trace_run.specs.KeptBlocks.{DroppedAlone, GivesAll, Stands, StandsWith, holds_in, read_of}
 use Rattle.trace_run.specs.Lines.{caller_of, is_in_shard, is_of_caller, replies_where, shard_of_block, shard_of_line}
 use Rattle.trace_run.specs.OneCaller.{AreFoundAs, IsFoundAs, events_of_drops, kept_after, kept_after_all, one_caller_history, only_feeder}
 use Rattle.trace_run.specs.Opened.{HasJoined}
@@ -55,7 +56,7 @@ use Rattle.arc_table.specs.Told.{IsTold}
 use Rattle.trace_run.proofs.MappedLemmas.{ran-mapped}
 use Rattle.trace_run.proofs.CallerActLemmas.{callers-none}
 use Rattle.trace_run.proofs.FeederLemmas.{given-unread, own-restores, restores-given}
-use Rattle.trace_run.proofs.GiveLemmas.{all-alone, all-number, all-told}
+use Rattle.trace_run.proofs.GiveLemmas.{all-alone, all-keep, all-number, all-told}
 use Rattle.trace_run.proofs.GroupCounts.{caller-reads, reads_by}
 use Rattle.trace_run.proofs.GroupLemmas.{lines-answers, lines-number}
 use Rattle.trace_run.proofs.HistoryLemmas.{IsReadEvent, read-number}
@@ -247,9 +248,6 @@ module _ {C P : Type 0} (m : Meanings C) (cache : Cache) (pools : Ghosts P) (blo
   parties-r : r.parties ≡ parties_of cache.config
   parties-r = last.of.row.1 ∙ (sym first.new.stands.of.row.1 ∙ first.new.parties)
 
-  pub may-end : (n : ℕ) → n < parties_of cache.config → SomeHas n (r ∷ [])
-  may-end = all-there cache r parties-r dropped.all
-
   abbrev begun : ℕ → List Event
   begun = restores_in g restored
 
@@ -280,10 +278,18 @@ module _ {C P : Type 0} (m : Meanings C) (cache : Cache) (pools : Ghosts P) (blo
       ∙ (named-drops g blocks 0 shard (map read_of kept) named ∙ ap (λ (l : List KeptRead). events_of_drops 0 (kept_in_shard g.shards blocks shard l)) kept-is) in
       dropped.seen shard ∙ ((λ h. from h ++ drops h) ∙ (append_assoc (begun shard) over end ∙ ap (λ (es : List Event). begun shard ++ es) (history-over g.shards blocks 0 shard start os replies)))
 
-  module _ (closed : Ended C) (ends : Ends m cache (r ∷ []) closed) where
+  -- the party that closes the cache is as it was, as far as shards go
+  module _ (entries : ℕ → List Line) (z : Place (Known C)) (same-number : z.number ≡ r.number) (same-parties : z.parties ≡ r.parties) (stands-z : StandsWith entries cache z []) (all-z : HasAll z)
+      (seen-z : (shard : ℕ) → seen_of g shard z ≡ seen_of g shard r) (closed : Ended C) (ends : Ends m cache (z ∷ []) closed) where
+    number-z : z.number ≡ 0
+    number-z = same-number ∙ number-r
+
+    parties-z : z.parties ≡ parties_of cache.config
+    parties-z = same-parties ∙ parties-r
+
     module _ (i : ℕ) (l : ShardLog) (at_i : get_elem? closed.shards i ≡ some l) where
       the-history : l.history ≡ history_of i
-      the-history = alone-history m cache r closed ends parties-r last dropped.all i l at_i ∙ all-seen i
+      the-history = alone-history m cache z closed ends parties-z stands-z all-z i l at_i ∙ (seen-z i ∙ all-seen i)
 
       here : AllByRecursion IsAloneOp (filter (is_in_shard g.shards blocks i) os)
       here = all-filtered IsAloneOp (is_in_shard g.shards blocks i) os all-his
@@ -314,10 +320,10 @@ module _ {C P : Type 0} (m : Meanings C) (cache : Cache) (pools : Ghosts P) (blo
           its-number n differs other e (inr is) same = other (sym same ∙ (is.0 ∙ sym one))
 
       rests : IsAtRest (replay opening l.history)
-      rests = alone-rests m cache r closed ends parties-r last dropped.all i l at_i (λ n below. number-r ∙ omega (arith, below, one)) reads
+      rests = alone-rests m cache z closed ends parties-z stands-z all-z i l at_i (λ n below. number-z ∙ omega (arith, below, one)) reads
 
       now-is : replay opening l.history ≡ l.now
-      now-is = alone-now m cache r closed ends parties-r last dropped.all i l at_i
+      now-is = alone-now m cache z closed ends parties-z stands-z all-z i l at_i
 
     -- ---- every call
 
@@ -330,15 +336,18 @@ module _ {C P : Type 0} (m : Meanings C) (cache : Cache) (pools : Ghosts P) (blo
         let then = all-told m cache kept q r between gives (acts_of_all blocks [] os replies) lines in
         subst (λ (l : List Act). IsTold g l r) (λ h. sole-acts blocks [] os replies same-count all-his h ++ acts_of_drops (number-q h) ((kept-is ∙ sole-kept blocks [] os replies same-count all-his) h)) then
 
+    told-z : IsTold g (acts_of_caller blocks 0 his to-him) z
+    told-z shard = subst (λ (x : ℕ × List Event). Tell (acts_in (shard_of g.shards) shard x.0 (acts_of_caller blocks 0 his to-him)) (own_moments x.0 (moments opening x.1))) (λ i. (sym same-number i, sym (seen-z shard) i)) (told-all shard)
+
     all-acts : acts_of_callers blocks g.callers os replies ≡ acts_of_caller blocks 0 his to-him
     all-acts = ap (λ (n : ℕ). acts_of_callers blocks n os replies) one
 
     tell-at : (shard n : ℕ) (l : ShardLog) → get_elem? closed.shards shard ≡ some l → n ≢ g.callers → Tell (acts_in (shard_of g.shards) shard n acts) (own_moments n (moments opening l.history))
     tell-at shard n l at_l differs = dite (ℕ_discrete n 0)
         (λ is.
-        subst (λ (k : ℕ). Tell (acts_in (shard_of g.shards) shard k acts) (own_moments k (moments opening l.history))) (number-r ∙ sym is)
-        (subst (λ (xs : List Act). Tell (acts_in (shard_of g.shards) shard r.number xs) (own_moments r.number (moments opening l.history))) (sym all-acts)
-        (alone-told m cache r closed ends parties-r last dropped.all shard l at_l (acts_of_caller blocks 0 his to-him) told-all)))
+        subst (λ (k : ℕ). Tell (acts_in (shard_of g.shards) shard k acts) (own_moments k (moments opening l.history))) (number-z ∙ sym is)
+        (subst (λ (xs : List Act). Tell (acts_in (shard_of g.shards) shard z.number xs) (own_moments z.number (moments opening l.history))) (sym all-acts)
+        (alone-told m cache z closed ends parties-z stands-z all-z shard l at_l (acts_of_caller blocks 0 his to-him) told-z)))
         (λ other.
         let above : g.callers ≤ n = above-one n g.callers one other differs in
         subst (λ (x : List Act × List Moment). Tell x.0 x.1) (λ h. (sym (callers-none (shard_of g.shards) shard blocks os replies g.callers n above) h, sym (no-others shard l at_l n other differs) h)) refl)
@@ -377,8 +386,8 @@ module _ {C P : Type 0} (m : Meanings C) (cache : Cache) (pools : Ghosts P) (blo
         his-answers.0
         (λ i h is.
         let l = unmapped (λ (log : ShardLog). log.history) closed.shards i h is in
-        subst (λ (x : ℕ × List Event). Tell (acts_in (shard_of g.shards) i x.0 (acts_of_caller blocks 0 his to-him)) (own_moments x.0 (moments opening x.1))) (λ z. (number-r z, l.2 z))
-        (alone-told m cache r closed ends parties-r last dropped.all i l.0 l.1 (acts_of_caller blocks 0 his to-him) told-all))
+        subst (λ (x : ℕ × List Event). Tell (acts_in (shard_of g.shards) i x.0 (acts_of_caller blocks 0 his to-him)) (own_moments x.0 (moments opening x.1))) (λ h. (number-z h, l.2 h))
+        (alone-told m cache z closed ends parties-z stands-z all-z i l.0 l.1 (acts_of_caller blocks 0 his to-him) told-z))
         ∙ same-sums (reads_by 0) pool_reads closed.shards (λ i l at_l. mine-reads l.history (mine i l at_l)))
 
     -- ---- all of it
@@ -394,7 +403,7 @@ module _ {C P : Type 0} (m : Meanings C) (cache : Cache) (pools : Ghosts P) (blo
 
     ends-at : (i : ℕ) (l : ShardLog) → get_elem? closed.shards i ≡ some l → EndsWith l.history (drops_at_end g blocks i g.callers os replies)
     ends-at i l at_i =
-        (seen_of g i q, alone-history m cache r closed ends parties-r last dropped.all i l at_i ∙ (dropped.seen i ∙ ap (λ (es : List Event). seen_of g i q ++ es) (drops-are i)))
+        (seen_of g i q, alone-history m cache z closed ends parties-z stands-z all-z i l at_i ∙ (seen-z i ∙ (dropped.seen i ∙ ap (λ (es : List Event). seen_of g i q ++ es) (drops-are i))))
 
     begins-at : (i : ℕ) (l : ShardLog) → get_elem? closed.shards i ≡ some l → BeginsWith l.history (begun i)
     begins-at i l at_i = (_, the-history i l at_i)
@@ -402,7 +411,7 @@ module _ {C P : Type 0} (m : Meanings C) (cache : Cache) (pools : Ghosts P) (blo
     explained : Explain trace restored replies (ends_in closed) (histories_of closed)
     explained = record {
       shards = length-map closed.shards (λ (log : ShardLog). log.history) ∙ ends.shards;
-      legal = all-mapped (λ (log : ShardLog). log.history) (λ history. IsTrue (is_legal_history opening history)) closed.shards (alone-legal m cache r closed ends parties-r last dropped.all);
+      legal = all-mapped (λ (log : ShardLog). log.history) (λ history. IsTrue (is_legal_history opening history)) closed.shards (alone-legal m cache z closed ends parties-z stands-z all-z);
       ends = ends-are closed.shards (λ i l at_l. ap end_of (sym (now-is i l at_l)));
       at_rest = all-mapped (λ (log : ShardLog). log.history) (λ history. IsAtRest (replay opening history)) closed.shards rests;
       begins = λ shard below. let l = some-log shard below in subst (λ (h : List Event). BeginsWith h (begun shard)) (sym (index-is shard l.0 l.1)) (begins-at shard l.0 l.1);
@@ -443,12 +452,27 @@ module _ {C P : Type 0} (m : Meanings C) (cache : Cache) (pools : Ghosts P) (tra
   own : (k : ℕ) (op : Op) → slice_get trace.ops k ≡ Some op → IfSome (caller_of op) (λ n. n ≡ 0)
   own = alone-ops trace formed one
 
-  pub end-there : (n : ℕ) → n < parties_of cache.config → SomeHas n (r ∷ [])
-  end-there = may-end m cache pools trace.blocks trace.ops replies before after p q r kept callers own restored new first fed did between gives last
+  pub still-0 : r.number ≡ 0
+  still-0 = number-r m cache pools trace.blocks trace.ops replies before after p q r kept callers own restored new first fed did between gives last
 
-  pub ran-alone : (given : Cache) (ps : List (Place (Known C))) (closed : Ended C) → given ≡ cache → ps ≡ r ∷ [] → Ends m given ps closed → RanAlone pools before after trace restored replies closed
-  ran-alone given ps closed same listed ends =
-      ran-mapped pools before after trace restored replies closed
-      (subst (λ (g : Config). RanAlone pools before after (record { config = g; blocks = trace.blocks; objects = []; ops = trace.ops }) restored replies closed) config
-      (ran m cache pools trace.blocks trace.ops replies before after p q r kept callers own restored new first fed did between gives last closed
-      (subst (λ (x : Cache × List (Place (Known C))). Ends m x.0 x.1 closed) (λ i. (same i, listed i)) ends)))
+  pub still-all : HasAll r
+  still-all = (dropped m cache pools trace.blocks trace.ops replies before after p q r kept callers own restored new first fed did between gives last).all
+
+  pub still-rows : cache.row.parties ≡ parties_of cache.config
+  still-rows = sym last.of.row.1 ∙ parties-r m cache pools trace.blocks trace.ops replies before after p q r kept callers own restored new first fed did between gives last
+
+  -- the feeder's party has still joined it
+  pub still-joined : r.joined ≡ q.joined
+  still-joined = (all-keep m cache kept q r between gives).0
+
+  module _ (entries : ℕ → List Line) (z : Place (Known C)) (same-number : z.number ≡ r.number) (same-parties : z.parties ≡ r.parties) (stands-z : StandsWith entries cache z []) (all-z : HasAll z)
+      (seen-z : (shard : ℕ) → seen_of cache.config shard z ≡ seen_of cache.config shard r) where
+    pub end-there : (n : ℕ) → n < parties_of cache.config → SomeHas n (z ∷ [])
+    end-there = all-there cache z (same-parties ∙ parties-r m cache pools trace.blocks trace.ops replies before after p q r kept callers own restored new first fed did between gives last) all-z
+
+    pub ran-alone : (given : Cache) (ps : List (Place (Known C))) (closed : Ended C) → given ≡ cache → ps ≡ z ∷ [] → Ends m given ps closed → RanAlone pools before after trace restored replies closed
+    ran-alone given ps closed same listed ends =
+        ran-mapped pools before after trace restored replies closed
+        (subst (λ (g : Config). RanAlone pools before after (record { config = g; blocks = trace.blocks; objects = []; ops = trace.ops }) restored replies closed) config
+        (ran m cache pools trace.blocks trace.ops replies before after p q r kept callers own restored new first fed did between gives last entries z same-number same-parties stands-z all-z seen-z closed
+        (subst (λ (x : Cache × List (Place (Known C))). Ends m x.0 x.1 closed) (λ i. (same i, listed i)) ends)))

@@ -50,7 +50,11 @@ his-some n (ops.Drop m x) his = refl
 his-some n other his = absurd (false≢true his)
 
 -- the feeder's party is still joined behind a caller's own line
-pub feeder-after : {C P : Type 0} (cache : Cache) (pools : Ghosts P) (device n : ℕ) (blocks : List Ptr) (op : Op) (reply : Reply) (b c : At C P) → is_of_caller n op ≡ true
-    → DidLine cache.config pools device blocks op reply b c → HasFeeder cache b.party → HasFeeder cache c.party
-feeder-after cache pools device n blocks op reply b c his did feeder =
-    (feeder.0, record { number = feeder.1.number; stands = feeder.1.stands; alone = feeder.1.alone; joined = did.did.joined (his-some n op his) ∙ feeder.1.joined })
+pub feeder-after : {C P : Type 0} (cache : Cache) (openings : List (List ℕ)) (pools : Ghosts P) (device n : ℕ) (blocks : List Ptr) (op : Op) (reply : Reply) (b c : At C P) → is_of_caller n op ≡ true
+    → DidLine cache.config pools device blocks op reply b c → HasFeeder cache openings b.party → HasFeeder cache openings c.party
+feeder-after cache openings pools device n blocks op reply b c his did feeder =
+    (feeder.0, record { number = feeder.1.number; stands = feeder.1.stands; knows = feeder.1.knows; alone = feeder.1.alone; joined = did.did.joined (his-some n op his) ∙ feeder.1.joined })
+
+-- and where a party's joins are as they were
+pub feeder-still : {C : Type 0} (cache : Cache) (openings : List (List ℕ)) (q r : Place (Known C)) → r.joined ≡ q.joined → HasFeeder cache openings q → HasFeeder cache openings r
+feeder-still cache openings q r same feeder = (feeder.0, record { number = feeder.1.number; stands = feeder.1.stands; knows = feeder.1.knows; alone = feeder.1.alone; joined = same ∙ feeder.1.joined })

@@ -40,10 +40,9 @@ use Rattle.trace_run.specs.Acts.{acts_of_caller, acts_of_callers, events_of_feed
 use Rattle.trace_run.specs.Ends.{end_of, ends_of}
 use Rattle.arc_table.specs.Telling.{opening_of}
 use Rattle.trace_run.specs.Explaining.{BeginsWith, EndsWith, Explain, drops_at_end}
-use Rattle.trace_run.specs.KeptBlocks.{IsIdle, Stands, is_ptr, times}
+use Rattle.trace_run.specs.KeptBlocks.{IsIdle, Stands, StandsWith, is_ptr, times}
 use Rattle.trace_run.specs.Lines.{is_of_caller, replies_where}
-use Rattle.trace_run.specs.Meeting.{IsLevel}
-use Rattle.arc_table.specs.Seen.{HasSeenItsOwn, events_in, seen_of}
+use Rattle.arc_table.specs.Seen.{HasSeenItsOwn, seen_of}
 use Rattle.arc_table.proofs.OwnLemmas.{no-own-moments}
 use Rattle.arc_table.proofs.SeenLemmas.{get-behind}
 use Rattle.trace_run.specs.Restores.{events_by_feeder, restores_in}
@@ -83,7 +82,7 @@ module _ {C : Type 0} (g : Config) where
   shown-bare views [] shown = tt
   shown-bare views (p ∷ ps) shown = ((shown.0.0, tt), shown-bare views ps shown.1)
 
-  shown-at : (views : List (Known C)) (ps : List (Place (Known C))) (k : ℕ) (p : Place (Known C)) → get_elem? ps k ≡ some p → ShowAll views ps → get_elem? views p.number ≡ some p.own
+  pub shown-at : (views : List (Known C)) (ps : List (Place (Known C))) (k : ℕ) (p : Place (Known C)) → get_elem? ps k ≡ some p → ShowAll views ps → get_elem? views p.number ≡ some p.own
   shown-at views [] k p at shown = absurd (some-ne-none p (sym at))
   shown-at views (x ∷ xs) zero p at shown = subst (λ (y : Place (Known C)). get_elem? views y.number ≡ some y.own) (some-injective x p at) shown.0.0
   shown-at views (x ∷ xs) (suc k) p at shown = shown-at views xs k p at shown.1
@@ -342,16 +341,16 @@ module _ {C : Type 0} (m : Meanings C) (cache : Cache) (valid : IsConfig cache.c
   }
 
   -- where all parties have seen the same, the histories are that
-  module _ (lines : ℕ → List Line) (level : (n : ℕ) (p : Place (Known C)) → get_elem? ps n ≡ some p → IsLevel settled lines p) (i : ℕ) (l : ShardLog) (at : get_elem? e.shards i ≡ some l) where
+  module _ (fronts : ℕ → List Event) (level : (n : ℕ) (p : Place (Known C)) → get_elem? ps n ≡ some p → (shard : ℕ) → seen_of settled shard p ≡ fronts shard) (i : ℕ) (l : ShardLog) (at : get_elem? e.shards i ≡ some l) where
     abbrev front : List Event
-    front = events_in (lines i)
+    front = fronts i
 
     finds : (n : ℕ) → n < parties_of settled → (rest : List Event) × (l.history ≡ front ++ rest) × ((y : ℕ) (ev : Event) → get_elem? rest y ≡ some ev → number_of ev ≢ n)
     finds n below =
         let p = party n below in
         let h = ended n p.0 p.1 in
         let f = closed-finds m cache (bares settled ps) e bare-ends i l at (bare settled p.0) (shown-at settled ends.views ps n p.0 p.1 ends.shown, tt) refl refl tt h.config (seen-bare settled p.0 h.seen) in
-        (f.rest, f.whole ∙ ap (λ (ls : List Line). events_in ls ++ f.rest) (level n p.0 p.1 i), λ y ev there_is same. f.others y ev there_is (same ∙ sym h.number))
+        (f.rest, f.whole ∙ ap (λ (es : List Event). es ++ f.rest) (level n p.0 p.1 i), λ y ev there_is same. f.others y ev there_is (same ∙ sym h.number))
 
     nothing-more : (ev : Event) → get_elem? (finds 0 first-party).0 0 ≡ some ev → ⊥
     nothing-more ev first =
@@ -411,7 +410,7 @@ none-listed (h ∷ hs) none =
     let one : cond {A = ℕ} (is_ptr h h) 1 0 ≡ 1 = ap (λ (b : Bool). cond {A = ℕ} b 1 0) (is_ptr-same h) in
     absurd (omega (arith, none h, times-cons h h hs, one))
 
-stands-idle : {C : Type 0} (cache : Cache) (p : Place (Known C)) → Stands cache p [] → IsIdle p.own.ledger
+pub stands-idle : {C : Type 0} {entries : ℕ → List Line} (cache : Cache) (p : Place (Known C)) → StandsWith entries cache p [] → IsIdle p.own.ledger
 stands-idle cache p stands = record { holds = none-listed p.own.ledger.holds stands.listed; readings = stands.idle }
 
 module _ {C : Type 0} (cache : Cache) (restored : List Restored) (blocks : List Ptr) (ops : List Op) (replies : List Reply) (n : ℕ) (p : Place (Known C)) (number : p.number ≡ n) (stands : Stands cache p []) where

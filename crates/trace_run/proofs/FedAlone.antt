@@ -10,10 +10,12 @@ use Rattle.arc_core.specs.Operations.{Tell, acts_in, moments, own_moments}
 use Rattle.turn_table.specs.declared.standing.Kept.{Kept}
 use Rattle.turn_table.specs.Places.{IsLast, Place, SomeHas, parted, rest_of, stayed}
 use Rattle.turn_table.proofs.Histories.{front_both}
+use Rattle.arc_table.specs.declared.about.About.{About}
 use Rattle.arc_table.specs.declared.view.Known.{Known}
 use Rattle.arc_table.specs.declared.view.Line.{Line}
 use Rattle.arc_table.specs.Cache.{Cache, IsPartyOf}
-use Rattle.arc_table.specs.Geometry.{parties_of}
+use Rattle.arc_table.specs.Fronts.{front_of}
+use Rattle.arc_table.specs.Geometry.{IsCell, parties_of}
 use Rattle.arc_table.specs.Items.{Meanings}
 use Rattle.arc_table.specs.Seen.{AllSeen, AreSeen, IsSeen, events_in, seen_of, turn_of}
 use Rattle.arc_table.specs.Telling.{opening_of}
@@ -22,28 +24,29 @@ use Rattle.trace_run.specs.declared.kept_blocks.KeptBlock.{KeptBlock}
 use Rattle.trace_run.specs.CallerLines.{HasFed}
 use Rattle.trace_run.specs.KeptBlocks.{Stands}
 use Rattle.trace_run.specs.Meeting.{HasFeeder, HasParted, IsApart, IsJoinedBy, IsLevel, JoinAll, Joins, MadeJoined, MayGoOn}
+use Rattle.trace_run.proofs.CellsLeft.{entries-as}
 use Rattle.trace_run.proofs.GroupsLemmas.{parted-length}
 use Rattle.trace_run.proofs.MeetLemmas.{HaveJoined, left_alone, parted_from}
 use Rattle.trace_run.proofs.TurnLemmas.{joined, joined-all, joined-stands}
 
-module _ {C : Type 0} (cache : Cache) (more : (shard : ℕ) → List Event) (p : Place (Known C)) (one : cache.config.callers ≡ 1) (number : p.number ≡ 0) (rows : cache.row.parties ≡ parties_of cache.config) (feeder : HasFeeder cache p) where
+module _ {C : Type 0} (cache : Cache) (more : (shard : ℕ) → List Event) (p : Place (Known C)) (one : cache.config.callers ≡ 1) (number : p.number ≡ 0) (rows : cache.row.parties ≡ parties_of cache.config) (openings : List (List ℕ)) (feeder : HasFeeder cache openings p) where
   abbrev g : Config
   g = cache.config
 
-  abbrev o : Place (Known C)
+  abbrev pub o : Place (Known C)
   o = feeder.0
 
-  by : IsJoinedBy cache o p
+  pub by : IsJoinedBy cache openings o p
   by = feeder.1
 
-  o-number : o.number ≡ 1
+  pub o-number : o.number ≡ 1
   o-number = by.number ∙ one
 
   -- the feeder's party and the caller's, once they have parted
-  abbrev f1 : Place (Known C)
+  abbrev pub f1 : Place (Known C)
   f1 = parted_from p o
 
-  abbrev p1 : Place (Known C)
+  abbrev pub p1 : Place (Known C)
   p1 = left_alone p
 
   pub parts-f : (f : Place (Known C)) → f ≡ parted (λ w. after_learned w p.own) p p.joined → f ≡ f1
@@ -56,7 +59,7 @@ module _ {C : Type 0} (cache : Cache) (more : (shard : ℕ) → List Event) (p :
   part-last = subst (IsLast 1) (sym by.joined) o-number
 
   module _ (had : List KeptBlock) (stands : Stands cache p had) where
-    feeder-seen : AreSeen g o.number o.own.mine p.own.seen
+    pub feeder-seen : AreSeen g o.number o.own.mine p.own.seen
     feeder-seen = (subst (λ (ks : List (Kept (Known C))). AllSeen g ks p.own.seen) by.joined stands.seen.joined).0
 
     f1-seen : AreSeen g o.number o.own.mine f1.own.seen
@@ -65,12 +68,22 @@ module _ {C : Type 0} (cache : Cache) (more : (shard : ℕ) → List Event) (p :
       | inr here ↦ subst (λ (l : List Line). IsSeen (parties_of g) o.number l a.place) (sym here) (feeder-seen i j a at is)
     ]
 
-    f1-stands : Stands cache f1 []
+    -- nobody has seen an entry of a cell
+    f1-same : (i : ℕ) → IsCell g i → front_of i f1.own.seen ≡ front_of i o.own.seen
+    f1-same i in_range = elim (front_both i o.own.seen p.own.seen) [
+      | inl here ↦ here
+      | inr here ↦ here ∙ (stands.cells.fronts i in_range ∙ sym (by.stands.cells.fronts i in_range))
+    ]
+
+    pub f1-stands : Stands cache f1 []
     f1-stands = record {
       valid = stands.valid;
       of = record { row = stands.of.row; config = by.stands.of.config };
       free = refl;
-      cells = by.stands.cells;
+      cells = record {
+        fronts = λ i in_range. f1-same i in_range ∙ by.stands.cells.fronts i in_range;
+        made = record { own = entries-as g o.number o.own.mine o.own.seen f1.own.seen f1-same by.stands.cells.made.own; joined = tt };
+      };
       idle = by.stands.idle;
       unclaimed = by.stands.unclaimed;
       seen = record { own = f1-seen; joined = tt };
@@ -80,12 +93,12 @@ module _ {C : Type 0} (cache : Cache) (more : (shard : ℕ) → List Event) (p :
       listed = by.stands.listed;
     }
 
-    p1-stands : Stands cache p1 had
+    pub p1-stands : Stands cache p1 had
     p1-stands = record {
       valid = stands.valid;
       of = record { row = stands.of.row; config = stands.of.config };
       free = stands.free;
-      cells = stands.cells;
+      cells = record { fronts = stands.cells.fronts; made = record { own = stands.cells.made.own; joined = tt } };
       idle = stands.idle;
       unclaimed = stands.unclaimed;
       seen = record { own = stands.seen.own; joined = tt };
@@ -96,7 +109,7 @@ module _ {C : Type 0} (cache : Cache) (more : (shard : ℕ) → List Event) (p :
     }
 
     -- there are just two numbers
-    both-have : (a b : Place (Known C)) → a.number ≡ 0 → b.number ≡ 1 → (n : ℕ) → n < parties_of g → SomeHas n (a ∷ b ∷ [])
+    pub both-have : (a b : Place (Known C)) → a.number ≡ 0 → b.number ≡ 1 → (n : ℕ) → n < parties_of g → SomeHas n (a ∷ b ∷ [])
     both-have a b zero_is one_is n below = elim (cases_lt n 1) [
       | inl low ↦ inl (inl (zero_is ∙ omega (arith, low)))
       | inr high ↦ inr (inl (inl (one_is ∙ omega (arith, high, below, one))))
@@ -172,8 +185,8 @@ module _ {C : Type 0} (cache : Cache) (more : (shard : ℕ) → List Event) (p :
       pub again-stands : Stands cache q had
       again-stands = joined-stands m cache p2 had (f2 ∷ []) p2-stands p2-parted.alone apart2 (both-have p2 f2 p2-number f2-number) count2 differ2 q all-joins
 
-      pub again-feeder : HasFeeder cache q
-      again-feeder = (f2, record { number = r.number ∙ by.number; stands = r.stands; alone = r.alone; joined = have2.joined })
+      pub again-feeder : HasFeeder cache openings q
+      again-feeder = (f2, record { number = r.number ∙ by.number; stands = r.stands; knows = ap (λ (a : About). a.openings) r.about ∙ by.knows; alone = r.alone; joined = have2.joined })
 
       q-level : IsLevel g r.lines q
       q-level = have2.level r.lines p2-parted.level (r.level, tt)

@@ -21,7 +21,6 @@ use Rattle.dbuf_cells.specs.declared.kept.Kept.TheVariants.{Held}
 use Rattle.dbuf_cells.specs.Kept.{bytes_of}
 use Rattle.turn_table.specs.declared.standing.Kept.{Kept as Joined}
 use Rattle.turn_table.specs.Places.{Apart, Place}
-use Rattle.arc_table.specs.declared.about.About.{About}
 use Rattle.arc_table.specs.declared.hold.Hold.{Hold}
 use Rattle.arc_table.specs.declared.read.Read.{Read}
 use Rattle.arc_table.specs.declared.read.Read.TheVariants as gave
@@ -32,15 +31,15 @@ use Rattle.arc_table.specs.Holding.{IsHoldOf, ptr_of}
 use Rattle.arc_table.specs.Items.{Meanings}
 use Rattle.vdev_io.specs.Calls.{Failed, MakesCall, MakesCalls}
 use Rattle.arc_table.specs.Reading.{Answers, AnswersRead, EndsAtPool, EndsMiss, EndsPast, GivesBlock, GivesOthers, GoesToPool, Outside, answered, from_device, from_none, from_pool, hit, missed, no_memory, past, read, refused, unread}
-use Rattle.arc_table.proofs.AfterRead.{read_stays}
 use Rattle.arc_table.proofs.Afterwards.{Stays, stays_party}
 use Rattle.trace_run.specs.declared.kept_blocks.KeptBlock.{KeptBlock}
 use Rattle.trace_run.specs.Effects.{calls_from}
-use Rattle.trace_run.specs.KeptBlocks.{AllQuiet, IsOwnedBy, Stands, held_key, listed_all, listed_for, times}
+use Rattle.trace_run.specs.KeptBlocks.{AllQuiet, IsOwnedBy, Stands, held_key, listed_all, listed_for, no_entries, times}
 use Rattle.trace_run.specs.KeptReads.{kept_read}
 use Rattle.trace_run.specs.Read.{IsMismatch}
 use Rattle.trace_run.specs.Reads.{CallsFor, DidAnswer, DidFail, DidRead, IsCauseOf, IsGot}
 use Rattle.arc_table.specs.Seen.{AddsAll, HasSeenItsOwn}
+use Rattle.trace_run.proofs.CellsLeft.{LeavesCells, leaves-seen, read-leaves}
 use Rattle.trace_run.proofs.KeptBlockLemmas.{times-append, times-middle}
 use Rattle.trace_run.proofs.ReadLemmas.{AddsFailed, AddsRead, AddsServed, read-adds, read-seen}
 use Rattle.trace_run.proofs.ReadStands.{Lists, ListsAnswer, read-lists}
@@ -56,13 +55,16 @@ all-last P (y ∷ ys) x all last = (all.0, all-last P ys x all.1 last)
 pub hold-ptr : (ptr : Ptr) (n : ℕ) (hold : Hold) → IsHoldOf ptr n hold → ptr ≡ ptr_of hold
 hold-ptr ptr n hold h = λ i. record { key = sym h.key i; digest = sym h.block.digest i }
 
-module _ {C : Type 0} (cache : Cache) (p q : Place (Known C)) (kept : List KeptBlock) (stands : Stands cache p kept) (stays : Stays p q) (seen : HasSeenItsOwn cache.config q) where
+module _ {C : Type 0} (cache : Cache) (p q : Place (Known C)) (kept : List KeptBlock) (stands : Stands cache p kept) (left : LeavesCells cache.config p q) (seen : HasSeenItsOwn cache.config q) where
+  abbrev stays : Stays p q
+  stays = left.stays
+
   pub stands-same : Lists [] p q → Stands cache q kept
   stands-same lists = record {
     valid = stands.valid;
     of = stays_party cache p q stays stands.of;
     free = stays.held ∙ stands.free;
-    cells = ap (λ (a : About). a.openings) stays.about ∙ stands.cells;
+    cells = leaves-seen cache.config no_entries p q left stands.cells;
     idle = lists.readings ∙ stands.idle;
     unclaimed = λ i. ap (list_at i) lists.claims ∙ stands.unclaimed i;
     seen = seen;
@@ -77,7 +79,7 @@ module _ {C : Type 0} (cache : Cache) (p q : Place (Known C)) (kept : List KeptB
     valid = stands.valid;
     of = stays_party cache p q stays stands.of;
     free = stays.held ∙ stands.free;
-    cells = ap (λ (a : About). a.openings) stays.about ∙ stands.cells;
+    cells = leaves-seen cache.config no_entries p q left stands.cells;
     idle = lists.readings ∙ stands.idle;
     unclaimed = λ i. ap (list_at i) lists.claims ∙ stands.unclaimed i;
     seen = seen;
@@ -224,8 +226,8 @@ module _ {C P D : Type 0} (m : Meanings C) (cache : Cache) (pools : PoolGhosts P
   abbrev size : ℕ
   size = devices.size before.device
 
-  stays : Stays p q
-  stays = read_stays m cache.config stands.valid pools devices ptr t before now p q result stands.of.config answer
+  left : LeavesCells cache.config p q
+  left = read-leaves m cache.config stands.valid pools devices ptr t before now p q result stands.of.config answer
 
   pub adds : AddsRead m cache.config stands.valid pools devices ptr t size p q result
   adds = read-adds m cache.config stands.valid pools devices ptr t size before now p q result refl stands.of.config stands.seen answer
@@ -241,7 +243,7 @@ module _ {C P D : Type 0} (m : Meanings C) (cache : Cache) (pools : PoolGhosts P
     held-lists = subst (ListsAnswer ptr p q) is lists
 
     pub held-stands : Stands cache q (kept ++ record { block = block; kept = Held hold } ∷ [])
-    held-stands = stands-held cache p q kept stands stays seen block ptr hold held-lists.1 held-lists.0
+    held-stands = stands-held cache p q kept stands left seen block ptr hold held-lists.1 held-lists.0
 
     pub held-did : DidAnswer cache.config size t ptr from p q
     held-did = did-answer m cache.config stands.valid pools devices ptr t size p q from (subst (AddsRead m cache.config stands.valid pools devices ptr t size p q) is adds)
@@ -259,13 +261,13 @@ module _ {C P D : Type 0} (m : Meanings C) (cache : Cache) (pools : PoolGhosts P
         go served.Past d = absurd d
 
   pub past-stands : Lists [] p q → (b : KeptBlock) → listed_for b.kept ≡ [] → IsOwnedBy p.number b.kept → Stands cache q (kept ++ b ∷ [])
-  past-stands same b none owned = stands-more cache p q kept stands stays seen b owned (subst (λ (l : List Ptr). Lists l p q) (sym none) same)
+  past-stands same b none owned = stands-more cache p q kept stands left seen b owned (subst (λ (l : List Ptr). Lists l p q) (sym none) same)
 
   pub past-did : AddsServed m cache.config stands.valid pools devices ptr t size served.Past p q → DidAnswer cache.config size t ptr served.Past p q
   past-did a = did-answer m cache.config stands.valid pools devices ptr t size p q served.Past a
 
   pub fault-stands : (why : ReadFault) → result ≡ Err why → Stands cache q kept
-  fault-stands why is = stands-same cache p q kept stands stays seen (subst (ListsAnswer ptr p q) is lists)
+  fault-stands why is = stands-same cache p q kept stands left seen (subst (ListsAnswer ptr p q) is lists)
 
   pub fault-did : (why : ReadFault) → result ≡ Err why → DidRead cache.config size t ptr p q (Err why)
   fault-did why is = go why (subst (AddsRead m cache.config stands.valid pools devices ptr t size p q) is adds)

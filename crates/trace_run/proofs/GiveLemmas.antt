@@ -22,7 +22,8 @@ use Rattle.trace_run.specs.KeptBlocks.{DroppedAlone, Drops, GivesAll, GivesBack,
 use Rattle.trace_run.specs.OneCaller.{events_of_drops}
 use Rattle.arc_table.specs.Seen.{HasAll, seen_of, turn_of}
 use Rattle.arc_table.specs.Told.{IsTold}
-use Rattle.trace_run.proofs.KeptBlockLemmas.{KeepsJoined, given-drops, given-keeps, given-stands, keeps-same}
+use Rattle.trace_run.proofs.CellsLeft.{LeavesCells, leaves-same, leaves-then}
+use Rattle.trace_run.proofs.KeptBlockLemmas.{KeepsJoined, given-drops, given-keeps, given-leaves, given-stands, keeps-same}
 use Rattle.trace_run.proofs.MeetLemmas.{starts-then}
 
 module _ {C : Type 0} (g : Config) (p q : Place (Known C)) where
@@ -77,6 +78,13 @@ module _ {C : Type 0} (m : Meanings C) (cache : Cache) where
       let one = given-keeps m cache p r [] bs b stands b.kept refl gives.1 in
       let rest = all-keep bs r q (step b bs p r stands gives.1).0 gives.2 in
       (rest.0 ∙ one.0, λ i. starts-then (front_of (turn_of g i) q.own.seen) (front_of (turn_of g i) r.own.seen) (front_of (turn_of g i) p.own.seen) (rest.1 i) (one.1 i))
+
+  -- cells are left as they were
+  pub all-leave : (kept : List KeptBlock) (p q : Place (Known C)) → Stands cache p kept → GivesAll m g kept p q → LeavesCells g p q
+  all-leave [] p q stands is = leaves-same g p q is
+  all-leave (b ∷ bs) p q stands gives =
+      let r = gives.0 in
+      leaves-then g p r q (given-leaves m cache.config stands.valid p r stands.of.config b.kept gives.1) (all-leave bs r q (step b bs p r stands gives.1).0 gives.2)
 
   pub all-number : (kept : List KeptBlock) (p q : Place (Known C)) → Stands cache p kept → GivesAll m g kept p q → q.number ≡ p.number
   all-number [] p q stands is = ap (λ (x : Place (Known C)). x.number) is

@@ -17,18 +17,19 @@ use Rattle.arc_core.specs.Config.{IsConfig}
 use Rattle.arc_core.specs.declared.config.Config.{Config}
 use Rattle.arc_core.specs.declared.event.Event.{Event}
 use Rattle.arc_core.specs.declared.served.Restored.{Restored}
-use Rattle.arc_core.specs.Operations.{Act, HoldEveryCallOnce, pool_reads}
+use Rattle.arc_core.specs.Operations.{Act, HoldEveryCallOnce, Tell, acts_in, moments, own_events, own_moments, pool_reads}
 use Rattle.arc_core.specs.ShardLog.{ShardLog}
 use Rattle.vdev_io.specs.Faults.{Rose, last_count}
 use Rattle.vdev_io.specs.declared.pool.Pool.{Ghosts}
 use Rattle.turn_table.specs.Places.{Place, SomeHas}
 use Rattle.arc_table.specs.declared.view.Known.{Known}
+use Rattle.arc_table.specs.declared.view.Line.{Line}
 use Rattle.arc_table.specs.Cache.{Cache}
 use Rattle.arc_table.specs.Ended.{AreAtRest, Ended, Ends}
 use Rattle.arc_table.specs.Fronts.{StartsWith}
 use Rattle.arc_table.specs.Geometry.{parties_of}
 use Rattle.arc_table.specs.Items.{Meanings}
-use Rattle.arc_table.specs.Seen.{seen_of}
+use Rattle.arc_table.specs.Seen.{events_in, seen_of}
 use Rattle.arc_table.specs.TableLaws.{get_last, get_more, there, within}
 use Rattle.arc_table.specs.Telling.{opening_of}
 use Rattle.trace_text.specs.declared.ends.ShardEnd.{ShardEnd}
@@ -44,11 +45,12 @@ use Rattle.trace_run.specs.Acts.{acts_of_all, acts_of_caller, acts_of_callers, a
 use Rattle.trace_run.specs.Alone.{ends_in, histories_of}
 use Rattle.trace_run.specs.Answers.{AnswersAll, is_pool_fault}
 use Rattle.trace_run.specs.Callers.{AreAtStart}
+use Rattle.trace_run.specs.CellEnds.{end_entry}
 use Rattle.trace_run.specs.Effects.{calls_of_all}
 use Rattle.trace_run.specs.Explaining.{EndsWith, Explain, drops_at_end}
 use Rattle.trace_run.specs.GroupRun.{HaveClosed, HaveStopped, RanTogether}
 use Rattle.trace_run.specs.Groups.{AreCapped, AreDone, AreNamedAll, HaveCome}
-use Rattle.trace_run.specs.KeptBlocks.{Stands, holds_in, read_of}
+use Rattle.trace_run.specs.KeptBlocks.{Stands, StandsWith, holds_in, no_entries, read_of}
 use Rattle.trace_run.specs.KeptReads.{KeptRead}
 use Rattle.trace_run.specs.Lines.{caller_of, is_of_caller, replies_where}
 use Rattle.trace_run.specs.Meeting.{AllGave, AreWaiting, HaveGivenBack, IsApart, IsLevel, MayGoOn, Waits, drops_from}
@@ -58,8 +60,9 @@ use Rattle.trace_run.specs.Restores.{events_by_feeder, restores_in}
 use Rattle.trace_run.specs.Tally.{AreDeclared}
 use Rattle.trace_run.specs.Together.{AreCut, Lines, WorkInGroups, answered_ops, faults_told, groups_of, over_callers, reads_of_caller, replies_of_caller}
 use Rattle.trace_run.proofs.AbsorbLemmas.{over-few}
+use Rattle.trace_run.proofs.AfterEnds.{AreAfter, crew-after, crew-long}
 use Rattle.trace_run.proofs.CallerActLemmas.{line-kind}
-use Rattle.trace_run.proofs.EndLemmas.{HasEnded, caller-ended, caller-told, callers-counted, closed-level, explains, feeder-ended, history-starts}
+use Rattle.trace_run.proofs.EndLemmas.{HasEnded, caller-ended, caller-told, callers-counted, closed-level, explains, feeder-ended, history-starts, stands-idle}
 use Rattle.trace_run.proofs.GroupCounts.{caller-reads, over-add, over-one, over-same, over-zero}
 use Rattle.trace_run.proofs.GroupsLemmas.{acts-append, are-cut-more, cut-prefix, feeds-append, get-left, groups-prefix, kept-append, some-same, where-append}
 use Rattle.trace_run.proofs.LineLemmas.{named-after}
@@ -92,7 +95,7 @@ module _ (trace : Trace) (formed : IsFormed trace) where
 
 module _ {C : Type 0} (cache : Cache) where
   -- a cache may be closed once its parties have stopped
-  rest-of : (ps : List (Place (Known C))) → ((n : ℕ) (p : Place (Known C)) → get_elem? ps n ≡ some p → Stands cache p []) → AreAtRest cache ps
+  rest-of : {entries : ℕ → List Line} (ps : List (Place (Known C))) → ((n : ℕ) (p : Place (Known C)) → get_elem? ps n ≡ some p → StandsWith entries cache p []) → AreAtRest cache ps
   rest-of [] each = tt
   rest-of (p ∷ ps) each = let h = each 0 p refl in (h.of, h.free, rest-of ps (λ n q at. each (suc n) q at))
 
@@ -101,10 +104,10 @@ module _ {C : Type 0} (cache : Cache) where
   has-at n (x ∷ xs) zero p at is = inl (inl (ap (λ (y : Place (Known C)). y.number) (some-injective x p at) ∙ is))
   has-at n (x ∷ xs) (suc k) p at is = inr (has-at n xs k p at is)
 
-  pub stopped-rest : (ps : List (Place (Known C))) → HaveStopped cache ps → AreAtRest cache ps
+  pub stopped-rest : {entries : ℕ → List Line} (ps : List (Place (Known C))) → HaveStopped entries cache ps → AreAtRest cache ps
   stopped-rest ps stopped = rest-of ps (λ n p at. (stopped.each n p at).1)
 
-  pub stopped-all : (ps : List (Place (Known C))) → HaveStopped cache ps → (n : ℕ) → n < parties_of cache.config → SomeHas n ps
+  pub stopped-all : {entries : ℕ → List Line} (ps : List (Place (Known C))) → HaveStopped entries cache ps → (n : ℕ) → n < parties_of cache.config → SomeHas n ps
   stopped-all ps stopped n below =
       let p = there ps n (subst (λ (x : ℕ). n < x) (sym stopped.count) below) in
       has-at n ps n p.0 p.1 (stopped.each n p.0 p.1).0
@@ -146,11 +149,14 @@ module _ {C : Type 0} (cache : Cache) (acts : ℕ → List Act) where
   gave-length n (k ∷ ks) (p ∷ ps) gave = ap suc (gave-length (suc n) ks ps gave.1)
 
 -- all parties have stopped once the callers gave back what they kept
-module _ {C : Type 0} (cache : Cache) (acts : ℕ → List Act) (feeds since : (shard : ℕ) → List Event) (kept : List (List KeptBlock)) (all : List (Place (Known C))) (count : length kept ≡ cache.config.callers) (gone : HaveGivenBack cache acts feeds since kept all) where
+module _ {C : Type 0} (cache : Cache) (acts : ℕ → List Act) (openings : List (List ℕ)) (feeds since : (shard : ℕ) → List Event) (kept : List (List KeptBlock)) (all : List (Place (Known C))) (count : length kept ≡ cache.config.callers) (gone : HaveGivenBack cache acts openings feeds since kept all) where
   gone-long : length gone.callers ≡ cache.config.callers
   gone-long = gave-length cache acts 0 kept gone.callers gone.gave ∙ count
 
-  pub gone-stopped : HaveStopped cache all
+  pub gone-some : 0 < length all
+  gone-some = omega (arith, ap length gone.are, length-append gone.callers (gone.feeder ∷ []))
+
+  pub gone-stopped : HaveStopped no_entries cache all
   gone-stopped = record {
     count = ap length gone.are ∙ (length-append gone.callers (gone.feeder ∷ []) ∙ ap (λ (x : ℕ). x + 1) gone-long);
     each = λ n p at. elim (get_more gone.callers gone.feeder p n (ap (λ (l : List (Place (Known C))). get_elem? l n) (sym gone.are) ∙ at)) [
@@ -258,7 +264,7 @@ module _ {C : Type 0} (cache : Cache) (restored : List Restored) (len : ℕ) (im
       all-named kept (o ∷ l) [] named = named
       all-named kept (o ∷ l) (x ∷ r) named = all-named (kept_after blocks o x kept) l r (named-after blocks o x kept named)
 
-  module _ (all : List (Place (Known C))) (gone : HaveGivenBack cache lines-acts (events_by_feeder cache.config restored os rs) (λ shard. seen_of cache.config shard crew.feeder) crew.kept.items all) where
+  module _ (all : List (Place (Known C))) (gone : HaveGivenBack cache lines-acts crew.feeder.own.about.openings (events_by_feeder cache.config restored os rs) (λ shard. seen_of cache.config shard crew.feeder) crew.kept.items all) where
     callers-long : length gone.callers ≡ cache.config.callers
     callers-long = gave-length cache lines-acts 0 crew.kept.items gone.callers gone.gave ∙ come.kepts
 
@@ -285,7 +291,7 @@ module _ {C : Type 0} (cache : Cache) (restored : List Restored) (len : ℕ) (im
     all-count : length all ≡ parties_of cache.config
     all-count = ap length gone.are ∙ (length-append gone.callers (gone.feeder ∷ []) ∙ ap (λ (x : ℕ). x + 1) callers-long)
 
-    pub come-stopped : HaveStopped cache all
+    pub come-stopped : HaveStopped no_entries cache all
     come-stopped = record {
       count = all-count;
       each = each-party (λ n p. (p.number ≡ n) × Stands cache p []) (λ n p at. let w = (caller-at n p at).1 in (w.number, w.stands)) (gone.fed.number, gone.fed.stands);
@@ -317,41 +323,73 @@ module _ {C : Type 0} (cache : Cache) (restored : List Restored) (len : ℕ) (im
     feeder-at = ap (λ (l : List (Place (Known C))). get_elem? l cache.config.callers) gone.are
         ∙ (ap (get_elem? (gone.callers ++ gone.feeder ∷ [])) (sym callers-long) ∙ get_last gone.callers gone.feeder)
 
-    module _ (m : Meanings C) (valid : IsConfig cache.config) (closed : Ended C) (ends : Ends m cache all closed) where
-      ends-at : (i : ℕ) (l : ShardLog) → get_elem? closed.shards i ≡ some l → EndsWith l.history (drops_at_end cache.config blocks i cache.config.callers os rs)
-      ends-at i l at = let z : 0 + length crew.kept.items ≡ cache.config.callers = omega (arith, come.kepts) in (
-        gone.first i,
-        closed-level m cache valid restored blocks os rs all closed ends all-count come-ended gone.lines all-level i l at
-            ∙ (gone.drops i ∙ ap (λ (es : List Event). gone.first i ++ es)
-            (drops-are cache.config blocks i 0 crew.kept.items os rs kept-at ∙ ap (λ (c : ℕ). drops_at_end cache.config blocks i c os rs) z)),
-      )
+    -- ---- the parties that close the cache are as these, as far as shards go
 
-      -- each history begins with what the feeder had seen
-      begins-at : (i : ℕ) (l : ShardLog) → get_elem? closed.shards i ≡ some l → StartsWith l.history (restores_in cache.config restored i)
-      begins-at i l at =
-          let inside : i < cache.config.shards = subst (λ (k : ℕ). i < k) ends.shards (within closed.shards i l at) in
-          let first = history-starts m cache valid restored blocks os rs all closed ends all-count come-ended i l at cache.config.callers gone.feeder feeder-at in
-          starts-then l.history (seen_of cache.config i crew.feeder) (restores_in cache.config restored i)
-          (starts-then l.history (seen_of cache.config i gone.feeder) (seen_of cache.config i crew.feeder) first (gone.fed.since i)) (come.begun i inside)
+    module _ (entries : ℕ → List Line) (fin : List (Place (Known C))) (fin-long : length fin ≡ length all) (after : AreAfter cache entries all fin) where
+      fin-count : length fin ≡ parties_of cache.config
+      fin-count = fin-long ∙ all-count
 
-      pub come-explains : Explain (record { config = cache.config; blocks = blocks; objects = []; ops = os }) restored rs (ends_in closed) (histories_of closed)
-      come-explains = explains m cache valid restored blocks os rs all closed ends all-count come-ended begins-at ends-at
+      fin-ended : (n : ℕ) (p : Place (Known C)) → get_elem? fin n ≡ some p → HasEnded cache.config (acts_of_callers blocks cache.config.callers os rs) (events_by_feeder cache.config restored os rs) n p
+      fin-ended n p at =
+          let a = after n p at in
+          let h = come-ended n a.0 a.1 in
+          record {
+            number = a.2.number ∙ h.number;
+            config = a.2.stands.of.config;
+            seen = a.2.stands.seen;
+            idle = stands-idle cache p a.2.stands;
+            told = λ below shard.
+                subst (λ (x : ℕ × List Event). Tell (acts_in (shard_of cache.config.shards) shard x.0 (acts_of_callers blocks cache.config.callers os rs)) (own_moments x.0 (moments (opening_of cache.config) x.1)))
+                (λ i. (sym a.2.number i, sym (a.2.seen shard) i)) (h.told below shard);
+            fed = λ is shard below. ap (own_events n) (a.2.seen shard) ∙ h.fed is shard below;
+          }
 
-      pub come-others : over_callers cache.config.callers (λ n. reads_of_caller n (histories_of closed)) ≡ sum_by pool_reads (histories_of closed)
-      come-others = callers-counted m cache valid restored blocks os rs all closed ends all-count come-ended
+      fin-level : (n : ℕ) (p : Place (Known C)) → get_elem? fin n ≡ some p → (shard : ℕ) → seen_of cache.config shard p ≡ events_in (gone.lines shard)
+      fin-level n p at shard = let a = after n p at in a.2.seen shard ∙ ap events_in (all-level n a.0 a.1 shard)
 
-      pub come-counted : (n : ℕ) → n < cache.config.callers → length (calls_of_all (replies_of_caller n os rs)) ≡ reads_of_caller n (histories_of closed)
-      come-counted n below =
-          caller-reads cache.config len image blocks n os (replies_of_caller n os rs) (histories_of closed) valid (length-map closed.shards _ ∙ ends.shards)
-          (come.each n below).come.answers (caller-told m cache valid restored blocks os rs all closed ends all-count come-ended n below)
+      -- the feeder's, which is the last
+      fin-feeder : (p : Place (Known C)) → get_elem? fin cache.config.callers ≡ some p → (shard : ℕ) → seen_of cache.config shard p ≡ seen_of cache.config shard gone.feeder
+      fin-feeder p at shard =
+          let a = after cache.config.callers p at in
+          a.2.seen shard ∙ ap (λ (o : Place (Known C)). seen_of cache.config shard o) (some-injective a.0 gone.feeder (sym a.1 ∙ feeder-at))
 
-      -- each capacity cuts each history
-      pub come-cut : (i : ℕ) (l : ShardLog) → get_elem? closed.shards i ≡ some l → AreCut cache.config restored blocks i os rs l.history
-      come-cut i l at =
-          let inside : i < cache.config.shards = subst (λ (k : ℕ). i < k) ends.shards (within closed.shards i l at) in
-          let first = history-starts m cache valid restored blocks os rs all closed ends all-count come-ended i l at cache.config.callers gone.feeder feeder-at in
-          are-cut-more cache.config restored blocks i os rs (seen_of cache.config i crew.feeder) l.history
-          (starts-then l.history (seen_of cache.config i gone.feeder) (seen_of cache.config i crew.feeder) first (gone.fed.since i)) (come.cut i inside)
+      module _ (m : Meanings C) (valid : IsConfig cache.config) (closed : Ended C) (ends : Ends m cache fin closed) where
+        ends-at : (i : ℕ) (l : ShardLog) → get_elem? closed.shards i ≡ some l → EndsWith l.history (drops_at_end cache.config blocks i cache.config.callers os rs)
+        ends-at i l at = let z : 0 + length crew.kept.items ≡ cache.config.callers = omega (arith, come.kepts) in (
+          gone.first i,
+          closed-level m cache valid restored blocks os rs fin closed ends fin-count fin-ended (λ shard. events_in (gone.lines shard)) fin-level i l at
+              ∙ (gone.drops i ∙ ap (λ (es : List Event). gone.first i ++ es)
+              (drops-are cache.config blocks i 0 crew.kept.items os rs kept-at ∙ ap (λ (c : ℕ). drops_at_end cache.config blocks i c os rs) z)),
+        )
+
+        -- each history begins with what the feeder had seen
+        begins-at : (i : ℕ) (l : ShardLog) → get_elem? closed.shards i ≡ some l → StartsWith l.history (restores_in cache.config restored i)
+        begins-at i l at =
+            let inside : i < cache.config.shards = subst (λ (k : ℕ). i < k) ends.shards (within closed.shards i l at) in
+            let last = there fin cache.config.callers (omega (arith, fin-count)) in
+            let first = subst (StartsWith l.history) (fin-feeder last.0 last.1 i) (history-starts m cache valid restored blocks os rs fin closed ends fin-count fin-ended i l at cache.config.callers last.0 last.1) in
+            starts-then l.history (seen_of cache.config i crew.feeder) (restores_in cache.config restored i)
+            (starts-then l.history (seen_of cache.config i gone.feeder) (seen_of cache.config i crew.feeder) first (gone.fed.since i)) (come.begun i inside)
+
+        pub come-explains : Explain (record { config = cache.config; blocks = blocks; objects = []; ops = os }) restored rs (ends_in closed) (histories_of closed)
+        come-explains = explains m cache valid restored blocks os rs fin closed ends fin-count fin-ended begins-at ends-at
+
+        pub come-others : over_callers cache.config.callers (λ n. reads_of_caller n (histories_of closed)) ≡ sum_by pool_reads (histories_of closed)
+        come-others = callers-counted m cache valid restored blocks os rs fin closed ends fin-count fin-ended
+
+        pub come-counted : (n : ℕ) → n < cache.config.callers → length (calls_of_all (replies_of_caller n os rs)) ≡ reads_of_caller n (histories_of closed)
+        come-counted n below =
+            caller-reads cache.config len image blocks n os (replies_of_caller n os rs) (histories_of closed) valid (length-map closed.shards _ ∙ ends.shards)
+            (come.each n below).come.answers (caller-told m cache valid restored blocks os rs fin closed ends fin-count fin-ended n below)
+
+        -- each capacity cuts each history
+        pub come-cut : (i : ℕ) (l : ShardLog) → get_elem? closed.shards i ≡ some l → AreCut cache.config restored blocks i os rs l.history
+        come-cut i l at =
+            let inside : i < cache.config.shards = subst (λ (k : ℕ). i < k) ends.shards (within closed.shards i l at) in
+            let last = there fin cache.config.callers (omega (arith, fin-count)) in
+            let first = subst (StartsWith l.history) (fin-feeder last.0 last.1 i) (history-starts m cache valid restored blocks os rs fin closed ends fin-count fin-ended i l at cache.config.callers last.0 last.1) in
+            are-cut-more cache.config restored blocks i os rs (seen_of cache.config i crew.feeder) l.history
+            (starts-then l.history (seen_of cache.config i gone.feeder) (seen_of cache.config i crew.feeder) first (gone.fed.since i)) (come.cut i inside)
 
 -- ---- what the callers' replies tell is what all replies tell
 
@@ -497,15 +535,34 @@ module _ {C P : Type 0} (m : Meanings C) (cache : Cache) (pools : Ghosts P) (bef
   abbrev more : List Op
   more = drop (length rs) trace.ops
 
-  come : HaveCome cache restored (pools.size before) (pools.told before) trace.blocks os rs crew
+  pub come : HaveCome cache restored (pools.size before) (pools.told before) trace.blocks os rs crew
   come = d.between.come
 
   whole-ops : os ++ more ≡ trace.ops
   whole-ops = take-append-drop (length rs) trace.ops
 
-  gave : HaveGivenBack cache (lines-acts cache restored (pools.size before) (pools.told before) trace.blocks os rs crew come) (events_by_feeder cache.config restored os rs) (λ shard. seen_of cache.config shard crew.feeder) crew.kept.items h.parties
+  -- the parties that gave back
+  abbrev all-given : List (Place (Known C))
+  all-given = h.parties
+
+  abbrev closing : List (Place (Known C))
+  closing = h.closing
+
+  abbrev entries : ℕ → List Line
+  entries = end_entry h.ended.feeder.number
+
+  pub gave : HaveGivenBack cache (lines-acts cache restored (pools.size before) (pools.told before) trace.blocks os rs crew come) crew.feeder.own.about.openings (events_by_feeder cache.config restored os rs) (λ shard. seen_of cache.config shard crew.feeder) crew.kept.items all-given
   gave = h.gave (lines-acts cache restored (pools.size before) (pools.told before) trace.blocks os rs crew come) (come-wait cache restored (pools.size before) (pools.told before) trace.blocks os rs crew come)
-      (events_by_feeder cache.config restored os rs) (λ shard. seen_of cache.config shard crew.feeder) come.feeder
+      crew.feeder.own.about.openings (events_by_feeder cache.config restored os rs) (λ shard. seen_of cache.config shard crew.feeder) come.feeder
+
+  pub stopped : HaveStopped no_entries cache all-given
+  stopped = come-stopped cache restored (pools.size before) (pools.told before) trace.blocks os rs crew come all-given gave
+
+  pub closing-long : length closing ≡ length all-given
+  closing-long = crew-long cache h.parties h.closing h.ended
+
+  pub after-ends : AreAfter cache entries all-given closing
+  after-ends = crew-after cache h.parties h.closing h.ended gave.lines gave.level (λ n p at. (stopped.each n p at).1)
 
   long-each : (n : ℕ) → n < callers → length (replies_of_caller n os rs) ≡ length (filter (is_of_caller n) os)
   long-each n below = answered-length (pools.size before) (pools.told before) trace.blocks [] (filter (is_of_caller n) os) (replies_of_caller n os rs) (come.each n below).come.answers
@@ -519,7 +576,7 @@ module _ {C P : Type 0} (m : Meanings C) (cache : Cache) (pools : Ghosts P) (bef
 
   explained : Explain trace restored rs (ends_in closed) (histories_of closed)
   explained =
-      let e = come-explains cache restored (pools.size before) (pools.told before) trace.blocks os rs crew come h.parties gave m valid closed h.ends in
+      let e = come-explains cache restored (pools.size before) (pools.told before) trace.blocks os rs crew come all-given gave entries closing closing-long after-ends m valid closed h.ends in
       explain-mapped trace restored rs (ends_in closed) (histories_of closed)
       (subst (λ (x : Config × List Op). Explain (record { config = x.0; blocks = trace.blocks; objects = []; ops = x.1 }) restored rs (ends_in closed) (histories_of closed)) (λ i. (config i, whole-ops i))
       (explained-more cache.config restored trace.blocks os more rs (ends_in closed) (histories_of closed) come.long long-each e))
@@ -527,8 +584,8 @@ module _ {C P : Type 0} (m : Meanings C) (cache : Cache) (pools : Ghosts P) (bef
   all-reads-are : over_callers callers (λ n. length (calls_of_all (replies_of_caller n os rs))) ≡ sum_by pool_reads (histories_of closed)
   all-reads-are =
       over-same callers (λ n. length (calls_of_all (replies_of_caller n os rs))) (λ n. reads_of_caller n (histories_of closed))
-      (come-counted cache restored (pools.size before) (pools.told before) trace.blocks os rs crew come h.parties gave m valid closed h.ends)
-      ∙ come-others cache restored (pools.size before) (pools.told before) trace.blocks os rs crew come h.parties gave m valid closed h.ends
+      (come-counted cache restored (pools.size before) (pools.told before) trace.blocks os rs crew come all-given gave entries closing closing-long after-ends m valid closed h.ends)
+      ∙ come-others cache restored (pools.size before) (pools.told before) trace.blocks os rs crew come all-given gave entries closing closing-long after-ends m valid closed h.ends
 
   all-faults-are : over_callers callers (λ n. count_by is_pool_fault (replies_of_caller n os rs)) ≡ count_by is_pool_fault rs
   all-faults-are = over-replies is_pool_fault callers (λ c. refl) os rs come.long below-all come.capped
@@ -581,13 +638,13 @@ module _ {C P : Type 0} (m : Meanings C) (cache : Cache) (pools : Ghosts P) (bef
       counted = λ n below.
           ap (λ (l : List Op). length (calls_of_all (replies_of_caller n l rs))) (sym whole-ops)
           ∙ (ap (λ (l : List Reply). length (calls_of_all l)) (replies-prefix trace.blocks os more rs come.long n)
-          ∙ come-counted cache restored (pools.size before) (pools.told before) trace.blocks os rs crew come h.parties gave m valid closed h.ends n (subst (λ (g : Config). n < g.callers) (sym config) below));
+          ∙ come-counted cache restored (pools.size before) (pools.told before) trace.blocks os rs crew come all-given gave entries closing closing-long after-ends m valid closed h.ends n (subst (λ (g : Config). n < g.callers) (sym config) below));
       cut = λ shard below.
           let l = there closed.shards shard (subst (λ (n : ℕ). shard < n) (length-map closed.shards (λ (log : ShardLog). log.history)) below) in
           let here : slice_index_or (histories_of closed) shard [] ≡ l.0.history = index-history closed.shards shard l.0 l.1 in
           subst (λ (x : Config × List Op × List Event × List Restored). AreCut x.0 x.3 trace.blocks shard x.1 rs x.2) (λ i. (config i, whole-ops i, sym here i, sym is i))
           (cut-prefix cache.config restored trace.blocks shard os more rs l.0.history come.long
-          (come-cut cache restored (pools.size before) (pools.told before) trace.blocks os rs crew come h.parties gave m valid closed h.ends shard l.0 l.1));
+          (come-cut cache restored (pools.size before) (pools.told before) trace.blocks os rs crew come all-given gave entries closing closing-long after-ends m valid closed h.ends shard l.0 l.1));
     };
     failed = λ is.
         let f = d.failed is in (

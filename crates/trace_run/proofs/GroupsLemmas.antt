@@ -284,6 +284,7 @@ module _ {C : Type 0} (cache : Cache) (whole : List (Place (Known C))) (crew : C
       number = feeder-new.number;
       alone = feeder-new.joined;
       stands = feeder-new.new.stands;
+      knows = refl;
       fed = λ shard below. none-own shard;
       since = λ shard. starts_whole (seen_of cache.config shard crew.feeder);
     };
@@ -357,6 +358,7 @@ module _ {C : Type 0} (cache : Cache) (restored : List Restored) (len : ℕ) (im
       number = made.number ∙ before.feeder.number;
       alone = made.alone;
       stands = made.stands;
+      knows = refl;
       fed = λ shard below.
           ap (own_events new.feeder.number) (restores-seen shard)
           ∙ (own-restores cache.config new.feeder.number (sym (made.number ∙ before.feeder.number)) restored shard ∙ sym (append-nil (restores_in cache.config restored shard)));
@@ -450,8 +452,8 @@ module _ {C P : Type 0} (cache : Cache) (restored : List Restored) (pools : Ghos
         let below = in-front k op at none in
         let given = before.capped k op (sym (get-left os qs k below) ∙ at) none in
         (given.0, given.1, get-left rs ss k (omega (arith, below, before.long)) ∙ given.2);
-    feeder = subst (λ (p : Place (Known C)). IsFed cache (events_by_feeder cache.config restored (os ++ qs) (rs ++ ss)) (λ shard. seen_of cache.config shard p) p) (sym did.feeder)
-        (subst (λ (fed : ℕ → List Event). IsFed cache fed (λ shard. seen_of cache.config shard old.feeder) old.feeder) (sym feeds-are) before.feeder);
+    feeder = subst (λ (p : Place (Known C)). IsFed cache p.own.about.openings (events_by_feeder cache.config restored (os ++ qs) (rs ++ ss)) (λ shard. seen_of cache.config shard p) p) (sym did.feeder)
+        (subst (λ (fed : ℕ → List Event). IsFed cache old.feeder.own.about.openings fed (λ shard. seen_of cache.config shard old.feeder) old.feeder) (sym feeds-are) before.feeder);
     begun = λ shard below. subst (λ (p : Place (Known C)). StartsWith (seen_of cache.config shard p) (restores_in cache.config restored shard)) (sym did.feeder) (before.begun shard below);
     cut = λ shard below. subst (λ (p : Place (Known C)). AreCut cache.config restored blocks shard (os ++ qs) (rs ++ ss) (seen_of cache.config shard p)) (sym did.feeder)
         (λ k c at inside. cut-before cache.config restored blocks shard os qs rs ss (seen_of cache.config shard old.feeder) before.long (before.cut shard below) k c at (in-front k (ops.Cap c) at refl));
@@ -582,6 +584,7 @@ module _ {C : Type 0} (cache : Cache) (restored : List Restored) (len : ℕ) (im
       number = resized.number ∙ feeder-number;
       alone = resized.alone;
       stands = resized.stands;
+      knows = refl;
       fed = λ shard below.
           ap (λ (n : ℕ). own_events n (seen_of g shard new.feeder)) (resized.number ∙ feeder-number)
           ∙ (ap (own_events g.callers) (seen-is shard below)

@@ -23,7 +23,6 @@ use Rattle.dbuf_cells.specs.declared.kept.Kept.{Kept}
 use Rattle.dbuf_cells.specs.declared.kept.Kept.TheVariants.{Held, Loose}
 use Rattle.turn_table.specs.declared.standing.Kept.{Kept as Joined}
 use Rattle.turn_table.specs.Places.{Apart, Place}
-use Rattle.arc_table.specs.declared.about.About.{About}
 use Rattle.arc_table.specs.declared.hold.Hold.{Hold}
 use Rattle.arc_table.specs.declared.view.Known.{Known}
 use Rattle.arc_table.specs.declared.view.Ledger.{Ledger}
@@ -38,7 +37,7 @@ use Rattle.arc_table.specs.ShardGiving.{ledger_through}
 use Rattle.arc_table.proofs.Afterwards.{does_ledger, does_stays, stays_party}
 use Rattle.arc_table.proofs.Reached.{reached, rests}
 use Rattle.trace_run.specs.declared.kept_blocks.KeptBlock.{KeptBlock}
-use Rattle.trace_run.specs.KeptBlocks.{Adds, AllQuiet, Drops, GivesBack, IsOwnedBy, Stands, held_key, is_ptr, listed_all, listed_for, times}
+use Rattle.trace_run.specs.KeptBlocks.{no_entries, Adds, AllQuiet, Drops, GivesBack, IsOwnedBy, Stands, held_key, is_ptr, listed_all, listed_for, times}
 use Rattle.arc_table.specs.Fronts.{StartsWith, front_of, list_at}
 use Rattle.arc_table.specs.Seen.{AddsAll, AddsOwn, Made, turn_of}
 use Rattle.arc_table.specs.TableLaws.{starts_whole}
@@ -49,6 +48,7 @@ use Rattle.arc_table.proofs.MadeLemmas.{does-made}
 use Rattle.arc_table.proofs.OwnLemmas.{grows, made-all, made-alone, made-own, made-sees}
 use Rattle.arc_table.proofs.ReadMoments.{own-single}
 use Rattle.trace_run.proofs.TellLemmas.{digest_eq-same}
+use Rattle.trace_run.proofs.CellsLeft.{LeavesCells, does-leaves, leaves-same, leaves-seen}
 use Rattle.arc_table.proofs.ToldLemmas.{told-more}
 
 -- ---- pointers counted
@@ -216,7 +216,7 @@ module _ {C : Type 0} (m : Meanings C) (cache : Cache) (p q : Place (Known C)) (
           valid = stands.valid;
           of = stays_party cache p q stays stands.of;
           free = stays.held ∙ stands.free;
-          cells = ap (λ (a : About). a.openings) stays.about ∙ stands.cells;
+          cells = leaves-seen g no_entries p q (does-leaves m g valid hold.key (Drop hold.owner hold.key ∷ []) p q config d) stands.cells;
           idle = ap (λ (l : Ledger). l.readings) ledger-is ∙ stands.idle;
           unclaimed = λ i. ap (λ (l : Ledger). list_at i l.claims) ledger-is ∙ stands.unclaimed i;
           seen = made-sees g (shard_of g.shards hold.key) d.before (Drop hold.owner hold.key ∷ []) p q made stands.seen;
@@ -273,3 +273,8 @@ module _ {C : Type 0} (m : Meanings C) (cache : Cache) (p q : Place (Known C)) (
   pub given-drops : (kept : Kept) → read.kept ≡ kept → GivesBack m g kept p q → Drops g (held_key kept) p q
   given-drops (Held hold) is d = held-adds hold is d
   given-drops (Loose key block) is same = same
+
+-- a read that is given back leaves cells as they were
+pub given-leaves : {C : Type 0} (m : Meanings C) (g : Config) → IsConfig g → (p q : Place (Known C)) → p.own.about.config ≡ g → (kept : Kept) → GivesBack m g kept p q → LeavesCells g p q
+given-leaves m g valid p q config (Held hold) d = does-leaves m g valid hold.key (Drop hold.owner hold.key ∷ []) p q config d
+given-leaves m g valid p q config (Loose key block) same = leaves-same g p q same

@@ -1,4 +1,4 @@
--- What is promised of a run doesn't go by the mappings of its trace: a trace that has one is refused, since the program doesn't do them yet.
+-- What is promised of the shards of a run doesn't go by the mappings of its trace.
 use Rattle.std.proofs.Common.{List, []}
 use Rattle.arc_core.specs.declared.event.Event.{Event}
 use Rattle.arc_core.specs.declared.served.Restored.{Restored}

@@ -21,12 +21,12 @@ use Rattle.arc_table.specs.declared.view.Mine.{Mine}
 use Rattle.arc_table.specs.Attached.{IsShown}
 use Rattle.arc_table.specs.Cache.{Cache, IsPartyOf}
 use Rattle.arc_table.specs.Fronts.{StartsWith, front_of, seen_by_both}
-use Rattle.arc_table.specs.Geometry.{parties_of}
+use Rattle.arc_table.specs.Geometry.{IsCell, parties_of}
 use Rattle.arc_table.specs.Items.{Meanings, lines_in}
 use Rattle.arc_table.specs.Logged.{HasPlace}
 use Rattle.arc_table.specs.Rule.{Pact}
 use Rattle.arc_table.specs.Scene.{Scene}
-use Rattle.arc_table.specs.Seen.{AllSeen, AreSeen, HasSeenItsOwn, IsSeen, events_in, seen_of, turn_of}
+use Rattle.arc_table.specs.Seen.{AllEntriesSeen, AllSeen, AreSeen, HasSeenItsOwn, IsSeen, events_in, seen_of, turn_of}
 use Rattle.arc_table.specs.TableLaws.{get_front, starts_whole, within}
 use Rattle.arc_table.specs.Telling.{opening_of}
 use Rattle.arc_table.specs.Views.{after_learned}
@@ -34,7 +34,9 @@ use Rattle.arc_table.proofs.OwnLemmas.{no-own-moments, own-append, seen-more}
 use Rattle.arc_table.proofs.SeenLemmas.{events-append, get-behind}
 use Rattle.arc_table.specs.declared.about.About.{About}
 use Rattle.trace_run.specs.declared.kept_blocks.KeptBlock.{KeptBlock}
-use Rattle.trace_run.specs.Meeting.{AreLast, HasLearned, HasParted, HasSameOwn, IsFed, IsLevel, JoinAll, Joins, MayJoin, PartAll, Waits}
+use Rattle.trace_run.specs.KeptBlocks.{HasSeenCells, no_entries}
+use Rattle.trace_run.specs.Meeting.{AreLast, HasLearned, HasParted, HasPartedWith, HasSameOwn, IsFed, IsLevel, JoinAll, Joins, MayJoin, PartAll, Waits}
+use Rattle.trace_run.proofs.CellsLeft.{all-entries-as, entries-as}
 
 -- ---- lists that begin alike
 
@@ -248,6 +250,7 @@ module _ {C : Type 0} (m : Meanings C) (cache : Cache) (p : Place (Known C)) whe
     pub self : HasLearned gc p q
     pub all : AllByRecursion (λ o. HasLearned gc o q) others
     pub level : (lines : ℕ → List Line) → IsLevel gc lines p → AllByRecursion (IsLevel gc lines) others → IsLevel gc lines q
+    pub cells : (entries : ℕ → List Line) → HasSeenCells gc entries p → AllByRecursion (HasSeenCells gc entries) others → HasSeenCells gc entries q
 
   none-joined : MayJoin cache p → HaveJoined [] p
   none-joined may = record {
@@ -262,6 +265,7 @@ module _ {C : Type 0} (m : Meanings C) (cache : Cache) (p : Place (Known C)) whe
     self = record { starts = λ i. starts_whole (front_of (turn_of gc i) p.own.seen); own = λ shard. refl };
     all = tt;
     level = λ lines own rest. own;
+    cells = λ entries own rest. own;
   }
 
   -- one more
@@ -291,6 +295,28 @@ module _ {C : Type 0} (m : Meanings C) (cache : Cache) (p : Place (Known C)) whe
       each-then ks shown.1 seen.1 all.1,
     )
 
+    -- where both have seen the same entries of cells
+    cells-more : (entries : ℕ → List Line) → HasSeenCells gc entries r → HasSeenCells gc entries o → HasSeenCells gc entries q
+    cells-more entries has_r has_o = record {
+      fronts = λ i in_range. same_r i in_range ∙ has_r.fronts i in_range;
+      made = record {
+        own = entries-as gc r.number r.own.mine r.own.seen q.own.seen same_r has_r.made.own;
+        joined = subst (λ (ks : List (Kept (Known C))). AllEntriesSeen gc ks q.own.seen) (sym joined-is) (
+          entries-as gc o.number o.own.mine o.own.seen q.own.seen same_o has_o.made.own,
+          all-entries-as gc (joined_of os) r.own.seen q.own.seen same_r (subst (λ (ks : List (Kept (Known C))). AllEntriesSeen gc ks r.own.seen) have.joined has_r.made.joined),
+        );
+      };
+    }
+      where
+        same_r : (i : ℕ) → IsCell gc i → front_of i q.own.seen ≡ front_of i r.own.seen
+        same_r i in_range = elim (front_both i r.own.seen o.own.seen) [
+          | inl is ↦ is
+          | inr is ↦ is ∙ (has_o.fronts i in_range ∙ sym (has_r.fronts i in_range))
+        ]
+
+        same_o : (i : ℕ) → IsCell gc i → front_of i q.own.seen ≡ front_of i o.own.seen
+        same_o i in_range = same_r i in_range ∙ (has_r.fronts i in_range ∙ sym (has_o.fronts i in_range))
+
     one-more : HaveJoined (o ∷ os) q
     one-more = record {
       of = record { row = have.of.row; config = have.of.config };
@@ -316,6 +342,7 @@ module _ {C : Type 0} (m : Meanings C) (cache : Cache) (p : Place (Known C)) whe
         | inl is ↦ is ∙ have.level lines own rest.1 shard
         | inr is ↦ is ∙ rest.0 shard
       ];
+      cells = λ entries own rest. cells-more entries (have.cells entries own rest.1) rest.0;
     }
 
   pub have-joined : MayJoin cache p → (others : List (Place (Known C))) (q : Place (Known C)) → AllByRecursion (MayJoin cache) others → JoinAll m others p q → HaveJoined others q
@@ -368,7 +395,8 @@ starts-events h f starts = (events_in starts.0, ap events_in starts.1 ∙ events
 
 -- ---- another party parts from r, which has made since nothing of its number
 
-module _ {C : Type 0} (cache : Cache) (q r o : Place (Known C)) (learned : HasLearned cache.config o q) (of : IsPartyOf cache r)
+module _ {C : Type 0} (entries : ℕ → List Line) (cache : Cache) (q r o : Place (Known C)) (learned : HasLearned cache.config o q) (of : IsPartyOf cache r)
+    (of_cells : (i : ℕ) → IsCell cache.config i → front_of i r.own.seen ≡ entries i)
     (more : (i : ℕ) → StartsWith (front_of (turn_of cache.config i) r.own.seen) (front_of (turn_of cache.config i) q.own.seen))
     (unmade : (shard : ℕ) → own_moments o.number (moments (opening_of cache.config) (seen_of cache.config shard r)) ≡ own_moments o.number (moments (opening_of cache.config) (seen_of cache.config shard q))) where
   abbrev parting : Place (Known C)
@@ -389,16 +417,30 @@ module _ {C : Type 0} (cache : Cache) (q r o : Place (Known C)) (learned : HasLe
   x-own : HasSameOwn cache.config o.number o.own.seen parting.own.seen
   x-own shard = ap (λ (l : List Line). own_moments o.number (moments (opening_of cache.config) (events_in l))) (x-front shard) ∙ (unmade shard ∙ learned.own shard)
 
-  pub parted-then : HasParted cache r-front o parting
+  -- where o has seen no entry of a cell
+  cells-then : HasSeenCells cache.config no_entries o → (i : ℕ) → IsCell cache.config i → front_of i parting.own.seen ≡ entries i
+  cells-then has i in_range =
+      parted-front i o.own.seen r.own.seen (front_of i r.own.seen, ap (λ (l : List Line). l ++ front_of i r.own.seen) (sym (has.fronts i in_range))) ∙ of_cells i in_range
+
+  pub parted-then : HasPartedWith entries cache r-front o parting
   parted-then = record {
     level = x-front;
     number = refl;
+    about = refl;
     alone = refl;
     stands = λ kept stands. record {
       valid = stands.valid;
       of = record { row = of.row; config = stands.of.config };
       free = refl;
-      cells = stands.cells;
+      cells = record {
+        fronts = cells-then stands.cells;
+        made = record {
+          own = λ i j a in_range at is.
+              let h = stands.cells.made.own i j a in_range at is in
+              absurd (some-ne-none (line.Entry (o.number ∷ h.rest)) (sym (ap (λ (l : List Line). get_elem? l a.place) (sym (stands.cells.fronts i in_range)) ∙ h.there)));
+          joined = tt;
+        };
+      };
       idle = stands.idle;
       unclaimed = stands.unclaimed;
       seen = record { own = are-seen-more cache.config o.number o.own.mine o.own.seen parting.own.seen x-starts stands.seen.own; joined = tt };
@@ -422,11 +464,12 @@ parted-waits cache lines old new parted n acts kept waits = record {
 }
 
 -- and the feeder's has made what it had
-pub parted-fed : {C : Type 0} (cache : Cache) (lines : ℕ → List Line) (old new : Place (Known C)) → HasParted cache lines old new → (fed since : (shard : ℕ) → List Event) → IsFed cache fed since old → IsFed cache fed since new
-parted-fed cache lines old new parted fed since is = record {
+pub parted-fed : {C : Type 0} (cache : Cache) (lines : ℕ → List Line) (old new : Place (Known C)) → HasParted cache lines old new → (openings : List (List ℕ)) (fed since : (shard : ℕ) → List Event) → IsFed cache openings fed since old → IsFed cache openings fed since new
+parted-fed cache lines old new parted openings fed since is = record {
   number = parted.number ∙ is.number;
   alone = parted.alone;
   stands = parted.stands [] is.stands;
+  knows = ap (λ (a : About). a.openings) parted.about ∙ is.knows;
   fed = λ shard below.
       ap (λ (k : ℕ). own_events k (seen_of cache.config shard new)) parted.number
       ∙ (same-own-events cache.config old.number (seen_of cache.config shard old) (seen_of cache.config shard new) (parted.own shard) ∙ is.fed shard below);

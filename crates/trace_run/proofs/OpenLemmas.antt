@@ -1,6 +1,6 @@
 -- What a party of a new cache is, and one that others have joined before anything was done.
-use Rattle.std.proofs.Common.{◌≡◌, ◌≢◌, ◌⊎◌, ℕ, zero, suc, ◌+◌, ◌<◌, List, [], ◌∷◌, ◌++◌, length, map, replicate, get_or, refl, sym, ap, ◌∙◌, subst, inl, inr, arith}
-use Rattle.std.specs.List.{AllByRecursion, remove}
+use Rattle.std.proofs.Common.{◌≡◌, ◌≢◌, ◌⊎◌, ℕ, zero, suc, ◌+◌, ◌<◌, List, [], ◌∷◌, ◌++◌, length, get_or, refl, sym, ap, ◌∙◌, subst, inl, inr, arith}
+use Rattle.std.specs.List.{remove}
 use Rattle.std.specs.declared.alloc.Global.{Global}
 use Rattle.std.specs.declared.boxed.Box.{Box}
 use mathlib.Core.Logic.{dite}
@@ -11,10 +11,7 @@ use Rattle.arc_core.specs.Config.{IsConfig}
 use Rattle.arc_core.specs.declared.config.Config.{Config}
 use Rattle.arc_core.specs.Operations.{moments, own_moments}
 use Rattle.dbuf_cells.specs.declared.kept.Kept.{Kept}
-use Rattle.dbuf_state.specs.CellLog.{CellLog, opening_log}
-use Rattle.dbuf_state.specs.Numbers.{opening_numbers}
-use Rattle.dbuf_state.specs.Objects.{Never}
-use Rattle.dbuf_state.specs.Soundness.{IsSound}
+use Rattle.dbuf_state.specs.CellLog.{CellLog}
 use Rattle.turn_table.specs.declared.standing.Kept.{Kept as Joined}
 use Rattle.turn_table.specs.Places.{Apart, HasNumber, IsIn, Place, kept, met, newcomer, newcomers}
 use Rattle.arc_table.specs.declared.about.About.{About}
@@ -23,16 +20,15 @@ use Rattle.arc_table.specs.declared.view.Ledger.{Ledger}
 use Rattle.arc_table.specs.declared.view.Line.{Line}
 use Rattle.arc_table.specs.Cache.{Cache, all_newcomers}
 use Rattle.arc_table.specs.Fronts.{front_of, seen_by_both}
-use Rattle.arc_table.specs.Geometry.{parties_of}
-use Rattle.arc_table.specs.Items.{Meanings}
-use Rattle.arc_table.specs.Opening.{AreFreshCells, IsFreshCell}
+use Rattle.arc_table.specs.Geometry.{IsCell, parties_of}
 use Rattle.arc_table.specs.TableLaws.{there}
 use Rattle.arc_table.specs.Views.{after_learned, newcomer as known}
 use Rattle.arc_table.specs.Telling.{opening_of}
 use Rattle.trace_run.specs.KeptBlocks.{AllQuiet, Stands}
+use Rattle.trace_run.proofs.CellsLeft.{all-entries-as, entries-as}
 use Rattle.trace_run.specs.Opened.{AreOpened, HasJoined, IsNew, IsOpened}
-use Rattle.trace_run.specs.Openings.{openings_of}
-use Rattle.arc_table.specs.Seen.{AllSeen, AreSeen, HasAll, HasSeenItsOwn, events_in, seen_of, turn_of}
+use Rattle.trace_run.specs.Openings.{AllKnow, Knows}
+use Rattle.arc_table.specs.Seen.{AllEntriesSeen, AllSeen, AreEntriesSeen, AreSeen, HasAll, HasSeenItsOwn, events_in, seen_of, turn_of}
 use Rattle.arc_table.specs.Told.{IsTold}
 
 -- ---- a party at the start
@@ -40,7 +36,10 @@ use Rattle.arc_table.specs.Told.{IsTold}
 no-mine : (g : Config) (n : ℕ) (seen : List (List Line)) → AreSeen g n [] seen
 no-mine g n seen i j a at is = absurd (some-ne-none a (sym at))
 
-module _ (C : Type 0) (cache : Cache) (about : About) (is : about.config ≡ cache.config) (cells : about.openings ≡ openings_of cache.config) (row : cache.row.parties ≡ parties_of cache.config) (valid : IsConfig cache.config) where
+no-entries : (g : Config) (n : ℕ) (seen : List (List Line)) → AreEntriesSeen g n [] seen
+no-entries g n seen i j a in_range at is = absurd (some-ne-none a (sym at))
+
+module _ (C : Type 0) (cache : Cache) (about : About) (is : about.config ≡ cache.config) (row : cache.row.parties ≡ parties_of cache.config) (valid : IsConfig cache.config) where
   abbrev one : ℕ → Place (Known C)
   one n = newcomer cache.row.table (parties_of cache.config) n (known about n)
 
@@ -49,7 +48,7 @@ module _ (C : Type 0) (cache : Cache) (about : About) (is : about.config ≡ cac
     valid = valid;
     of = record { row = (refl, sym row); config = is };
     free = refl;
-    cells = cells;
+    cells = record { fronts = λ i in_range. refl; made = record { own = no-entries cache.config n []; joined = tt } };
     idle = refl;
     unclaimed = λ i. refl;
     seen = record { own = no-mine cache.config n []; joined = tt };
@@ -86,9 +85,9 @@ module _ (C : Type 0) (cache : Cache) (about : About) (is : about.config ≡ cac
 
 -- the parties of a cache that was given so
 pub all-opened : {C : Type 0} (given cache : Cache) (about : About) (ps : List (Place (Known C))) → ps ≡ all_newcomers given about → cache ≡ given → about.config ≡ cache.config
-    → about.openings ≡ openings_of cache.config → cache.row.parties ≡ parties_of cache.config → IsConfig cache.config → AreOpened cache ps
-all-opened {C} given cache about ps all same is cells row valid =
-    subst (AreOpened cache) (sym (all ∙ ap (λ (x : Cache). all_newcomers x about) (sym same))) (newcomers-opened C cache about is cells row valid)
+    → cache.row.parties ≡ parties_of cache.config → IsConfig cache.config → AreOpened cache ps
+all-opened {C} given cache about ps all same is row valid =
+    subst (AreOpened cache) (sym (all ∙ ap (λ (x : Cache). all_newcomers x about) (sym same))) (newcomers-opened C cache about is row valid)
 
 -- ---- parties that are taken out of the row
 
@@ -105,6 +104,16 @@ pub opened-at : {C : Type 0} (cache : Cache) (ps : List (Place (Known C))) → A
 opened-at cache ps opened n p inside is =
     let h = there ps n inside in
     subst (IsOpened cache n) (sym (is ∙ at-place ps n h.0 p h.1)) (opened.each n h.0 h.1)
+
+-- what all know one of them knows
+pub known-at : {C : Type 0} (openings : List (List ℕ)) (ps : List (Place (Known C))) (n : ℕ) (p : Place (Known C)) → AllKnow openings ps → n < length ps → p ≡ get_or ps n p → Knows openings p
+known-at openings [] n p all inside is = absurd (omega (arith, inside))
+known-at openings (x ∷ xs) zero p all inside is = subst (Knows openings) (sym is) all.0
+known-at openings (x ∷ xs) (suc n) p all inside is = known-at openings xs n p all.1 (omega (arith, inside)) is
+
+pub last-knows : {C : Type 0} (openings : List (List ℕ)) (ps : List (Place (Known C))) (p : Place (Known C)) → AllKnow openings (ps ++ p ∷ []) → Knows openings p
+last-knows openings [] p all = all.0
+last-knows openings (x ∷ xs) p all = last-knows openings xs p all.1
 
 -- the first and the second of two parties, where the second was taken out first
 pub two-opened : {C : Type 0} (cache : Cache) (ps rest : List (Place (Known C))) (p q : Place (Known C)) → cache.config.callers ≡ 1 → AreOpened cache ps → q ≡ get_or ps 1 q → rest ≡ remove ps 1 → p ≡ get_or rest 0 p
@@ -178,12 +187,24 @@ module _ {C : Type 0} (cache : Cache) where
     told-then : IsTold cache.config [] then
     told-then shard = ap (λ (s : List (List Line)). own_moments p.number (moments (opening_of cache.config) (events_in (front_of (turn_of cache.config shard) s)))) seen-none
 
+    same-first : (i : ℕ) → IsCell cache.config i → front_of i then.own.seen ≡ front_of i p.own.seen
+    same-first i in_range = ap (front_of i) (seen-none ∙ sym first.new.seen)
+
     stands-then : Stands cache then []
     stands-then = record {
       valid = first.new.stands.valid;
       of = record { row = first.new.stands.of.row; config = first.new.stands.of.config };
       free = first.new.stands.free;
-      cells = first.new.stands.cells;
+      cells = record {
+        fronts = λ i in_range. ap (front_of i) seen-none;
+        made = record {
+          own = entries-as cache.config p.number p.own.mine p.own.seen then.own.seen same-first first.new.stands.cells.made.own;
+          joined = subst (λ (ks : List (Joined (Known C))). AllEntriesSeen cache.config ks then.own.seen) (sym joined-is) (
+            entries-as cache.config q.number q.own.mine q.own.seen then.own.seen (λ i in_range. ap (front_of i) (sym same-seen)) next.new.stands.cells.made.own,
+            all-entries-as cache.config p.joined p.own.seen then.own.seen same-first first.new.stands.cells.made.joined,
+          );
+        };
+      };
       idle = first.new.stands.idle;
       unclaimed = first.new.stands.unclaimed;
       seen = own-seen;
@@ -218,49 +239,14 @@ module _ {C : Type 0} (cache : Cache) (p : Place (Known C)) where
 
 -- ---- cells
 
--- a cell at its start is what the replay of no event gives
-pub opening-sound : (limit : ℕ) → IsSound (opening_log {H = Kept} limit)
-opening-sound limit = record { evicting = Never; bases = []; history = record { legal = (refl, refl); settled = refl }; at_rest = refl; fit = tt }
-
 -- a cell on the heap
 abbrev pub HeapCell : Type 0
 HeapCell = Box (CellLog Kept) Global
 
--- it is at its start
-abbrev pub IsOpening : ℕ → HeapCell → Type 0
-IsOpening limit b = b.value ≡ opening_log limit
-
--- so many cells on the heap at their start
-abbrev pub AreOpening : ℕ → ℕ → List HeapCell → Type 0
-AreOpening limit n cells = (length cells ≡ n) × AllByRecursion (IsOpening limit) cells
-
-module _ (limit : ℕ) where
-  more-opening : (cells : List HeapCell) (b : HeapCell) (n : ℕ) → AreOpening limit n cells → IsOpening limit b → AreOpening limit (suc n) (cells ++ b ∷ [])
-  more-opening [] b n are one = (ap suc are.0, (one, tt))
-  more-opening (c ∷ cs) b zero are one = absurd (omega (arith, are.0))
-  more-opening (c ∷ cs) b (suc n) are one =
-      let rest = more-opening cs b n (omega (arith, are.0), are.1.1) one in
-      (ap suc rest.0, (are.1.0, rest.1))
-
-  -- one more is made
-  pub one-opening : (cells : List HeapCell) (b : HeapCell) (n : ℕ) (more : List HeapCell) → AreOpening limit n cells → IsOpening limit b → more ≡ cells ++ b ∷ [] → AreOpening limit (n + 1) more
-  one-opening cells b n more are one is =
-      let h = more-opening cells b n are one in
-      subst (AreOpening limit (n + 1)) (sym is) (omega (arith, h.0), h.1)
-
--- what such cells tell of how they began
-pub all-openings : (opening : HeapCell → List ℕ) (limit : ℕ) → ((b : HeapCell) → IsOpening limit b → opening b ≡ opening_numbers limit []) → (n : ℕ) (cells : List HeapCell) → AreOpening limit n cells
-    → map opening cells ≡ replicate n (opening_numbers limit [])
-all-openings opening limit one zero [] are = refl
-all-openings opening limit one zero (c ∷ cs) are = absurd (omega (arith, are.0))
-all-openings opening limit one (suc n) [] are = absurd (omega (arith, are.0))
-all-openings opening limit one (suc n) (c ∷ cs) are = λ i. one c are.1.0 i ∷ all-openings opening limit one n cs (omega (arith, are.0), are.1.1) i
-
-module _ (m : Meanings HeapCell) (limit : ℕ) (fresh : (b : HeapCell) → IsOpening limit b → IsFreshCell m b) where
-  fresh-at : (cells : List HeapCell) → AllByRecursion (IsOpening limit) cells → (i : ℕ) (b : HeapCell) → get_elem? cells i ≡ some b → IsFreshCell m b
-  fresh-at [] all i b at = absurd (some-ne-none b (sym at))
-  fresh-at (c ∷ cs) all zero b at = fresh b (subst (IsOpening limit) (some-injective c b at) all.0)
-  fresh-at (c ∷ cs) all (suc i) b at = fresh-at cs all.1 i b at
-
-  pub all-fresh : (g : Config) (cells : List HeapCell) → AreOpening limit g.cells cells → AreFreshCells m g cells
-  all-fresh g cells are = record { count = are.0; each = fresh-at cells are.1 }
+-- the parties of a new cache know how its cells began
+pub all-known : {C : Type 0} (given : Cache) (about : About) (openings : List (List ℕ)) (ps : List (Place (Known C))) → ps ≡ all_newcomers given about → about.openings ≡ openings → AllKnow openings ps
+all-known {C} given about openings ps all is = subst (AllKnow openings) (sym all) (go 0 (parties_of given.config))
+  where
+    go : (n k : ℕ) → AllKnow openings (newcomers given.row.table (parties_of given.config) (known {C = C} about) n k)
+    go n zero = tt
+    go n (suc k) = (is, go (suc n) k)

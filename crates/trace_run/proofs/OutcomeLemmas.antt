@@ -1,6 +1,7 @@
 -- What a status says that came behind the words.
 use Rattle.std.proofs.Common.{◌≡◌, ℕ, List, false, Option, Some, None, is_some, IfSome, sym, subst, arith}
 use Rattle.arc_table.specs.Ended.{Ended}
+use Rattle.dbuf_cells.specs.Turns.{OnHeap}
 use Rattle.l2_dev.proofs.Walks.{not_read}
 use Rattle.vdev_io.specs.declared.pool.Pool.{Ghosts}
 use Rattle.std.proofs.lemmas.Bool.{false≢true}
@@ -62,9 +63,9 @@ nothing-lost device None = tt
 nothing-lost device (Some d) = not_read device.size device.told device.has_sectors device.may_leave device.moment device.left_since device.faults d
 
 -- the report of a run is there as it was made, or there is none
-pub reported-so : {C P D : Type 0} (pool : Ghosts P) (device : Devices D) (before after : Handed P D) (made : Report) (end : Ended C) (report : Option Report) (closed : Option (Ended C))
+pub reported-so : {P D : Type 0} (pool : Ghosts P) (device : Devices D) (before after : Handed P D) (made : Report) (end : Ended OnHeap) (report : Option Report) (closed : Option (Ended OnHeap))
     → IfReported report closed (λ c t. (t ≡ made) × (c ≡ end)) → IsReport pool device before after end made → IfReported report closed (IsReport pool device before after)
 reported-so pool device before after made end None None same is = tt
 reported-so pool device before after made end None (Some c) same is = absurd same
 reported-so pool device before after made end (Some r) None same is = absurd same
-reported-so {C} pool device before after made end (Some r) (Some c) same is = subst (λ (x : Ended C × Report). IsReport pool device before after x.0 x.1) (λ i. (sym same.1 i, sym same.0 i)) is
+reported-so pool device before after made end (Some r) (Some c) same is = subst (λ (x : Ended OnHeap × Report). IsReport pool device before after x.0 x.1) (λ i. (sym same.1 i, sym same.0 i)) is

@@ -13,7 +13,6 @@ use Rattle.arc_core.specs.Operations.{Moment, goes_on, is_pass, moments, number_
 use Rattle.arc_core.specs.PlainShard.{PlainShard}
 use Rattle.turn_table.specs.declared.standing.Kept.{Kept}
 use Rattle.turn_table.specs.Places.{Apart, IsIn, Place, SomeHas}
-use Rattle.arc_table.specs.declared.about.About.{About}
 use Rattle.arc_table.specs.declared.view.Known.{Known}
 use Rattle.arc_table.specs.declared.view.Ledger.{Ledger}
 use Rattle.arc_table.specs.declared.view.Line.{Line}
@@ -32,8 +31,9 @@ use Rattle.arc_table.proofs.OwnLemmas.{grows, no-own-moments, own-append}
 use Rattle.arc_table.proofs.RoomyAfter.{does_roomy_ledger, does_roomy_stays}
 use Rattle.arc_table.proofs.RoomyLemmas.{roomy-made}
 use Rattle.arc_table.proofs.ScanAlone.{scan-alone}
-use Rattle.trace_run.specs.KeptBlocks.{AllQuiet, ClaimsNothing, Stands, times}
+use Rattle.trace_run.specs.KeptBlocks.{AllQuiet, ClaimsNothing, Stands, no_entries, times}
 use Rattle.trace_run.specs.Meeting.{AreLast, HasLearned, HaveParted, IsApart, JoinAll, Joins, MadeJoined, PartAll, resizes_in}
+use Rattle.trace_run.proofs.CellsLeft.{leaves-seen, roomy-leaves}
 use Rattle.trace_run.proofs.MeetLemmas.{HaveJoined, all-parted, are-last, joined-front, joined_of, left_alone, parted-then, parted_from, starts-events, starts-then}
 use Rattle.trace_run.proofs.TurnLemmas.{joined, joined-all, joined-stands}
 
@@ -92,7 +92,7 @@ module _ {C : Type 0} (m : Meanings C) (cache : Cache) (c : ℕ) where
       valid = stands.valid;
       of = stays_party cache p q one-stays stands.of;
       free = one-stays.held ∙ stands.free;
-      cells = ap (λ (a : About). a.openings) one-stays.about ∙ stands.cells;
+      cells = leaves-seen gc no_entries p q (roomy-leaves m gc stands.valid (key_in s) e p q stands.of.config one.does) stands.cells;
       idle = one-readings ∙ stands.idle;
       unclaimed = one-unclaimed;
       seen = moves.seen;
@@ -247,7 +247,7 @@ module _ {C : Type 0} (m : Meanings C) (cache : Cache) (p : Place (Known C)) (ot
 
     all-parted-from : (os : List (Place (Known C))) → AllByRecursion (λ o. HasLearned g o q) os → AllByRecursion (λ o. o.number ≢ p.number) os → HaveParted cache lines os (map (parted_from r) os)
     all-parted-from [] learned others_differ = tt
-    all-parted-from (o ∷ os) learned others_differ = (parted-then cache q r o learned.0 given.stands.of given.starts (unmade o others_differ.0), all-parted-from os learned.1 others_differ.1)
+    all-parted-from (o ∷ os) learned others_differ = (parted-then no_entries cache q r o learned.0 given.stands.of given.stands.cells.fronts given.starts (unmade o others_differ.0), all-parted-from os learned.1 others_differ.1)
 
     all-own : (shard : ℕ) (os : List (Place (Known C))) → AllByRecursion (λ o. HasLearned g o q) os
         → AllByRecursion (λ o. own_moments o.number (moments (opening_of g) (seen_of g shard q)) ≡ own_moments o.number (moments (opening_of g) (seen_of g shard o))) os
@@ -259,7 +259,7 @@ module _ {C : Type 0} (m : Meanings C) (cache : Cache) (p : Place (Known C)) (ot
       valid = given.stands.valid;
       of = record { row = given.stands.of.row; config = given.stands.of.config };
       free = given.stands.free;
-      cells = given.stands.cells;
+      cells = record { fronts = given.stands.cells.fronts; made = record { own = given.stands.cells.made.own; joined = tt } };
       idle = given.stands.idle;
       unclaimed = given.stands.unclaimed;
       seen = record { own = given.stands.seen.own; joined = tt };
@@ -282,6 +282,7 @@ module _ {C : Type 0} (m : Meanings C) (cache : Cache) (p : Place (Known C)) (ot
         parted = all-parted-from others have.all differ;
         level = λ shard. refl;
         number = number;
+        about = given.stays.about ∙ have.about;
         alone = refl;
         stands = last-stands;
         front = λ shard. seen_of g shard q;

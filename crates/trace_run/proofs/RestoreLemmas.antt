@@ -16,7 +16,6 @@ use Rattle.arc_core.specs.declared.served.Restored.{Restored}
 use Rattle.arc_core.specs.Operations.{Moment, number_of}
 use Rattle.turn_table.specs.declared.standing.Kept.{Kept}
 use Rattle.turn_table.specs.Places.{Apart, Place}
-use Rattle.arc_table.specs.declared.about.About.{About}
 use Rattle.arc_table.specs.declared.view.Known.{Known}
 use Rattle.arc_table.specs.declared.view.Ledger.{Ledger}
 use Rattle.arc_table.specs.Both.{Does}
@@ -32,8 +31,9 @@ use Rattle.arc_table.proofs.MoveLemmas.{Moves, one-moves}
 use Rattle.arc_table.proofs.OwnLemmas.{grows}
 use Rattle.arc_table.proofs.ReadMoments.{moment, own-single}
 use Rattle.l2_dev.specs.Rebuilding.{HaveKeys}
-use Rattle.trace_run.specs.KeptBlocks.{AllQuiet, ClaimsNothing, Stands, times}
+use Rattle.trace_run.specs.KeptBlocks.{AllQuiet, ClaimsNothing, Stands, no_entries, times}
 use Rattle.trace_run.specs.Restores.{restores_in}
+use Rattle.trace_run.proofs.CellsLeft.{does-leaves, leaves-seen}
 use Rattle.trace_run.proofs.MeetLemmas.{starts-then}
 use Rattle.trace_run.proofs.ResizeLemmas.{HasMade}
 
@@ -79,7 +79,7 @@ module _ {C : Type 0} (m : Meanings C) (cache : Cache) where
       valid = stands.valid;
       of = stays_party cache p q one-stays stands.of;
       free = one-stays.held ∙ stands.free;
-      cells = ap (λ (a : About). a.openings) one-stays.about ∙ stands.cells;
+      cells = leaves-seen cache.config no_entries p q (does-leaves m cache.config stands.valid r.key (e ∷ []) p q stands.of.config does) stands.cells;
       idle = one-readings ∙ stands.idle;
       unclaimed = one-unclaimed;
       seen = moves.seen;

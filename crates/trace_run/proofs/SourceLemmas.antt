@@ -1,23 +1,16 @@
 -- Why a source's text is not run.
-use Rattle.std.proofs.Common.{◌≡◌, ◌↔◌, ◌||◌, ◌==◌, not, Bool, true, IsTrue, ℕ, List, [], ◌∷◌, length, Result, Err, inl, inr, refl, ap, ◌∙◌, subst, arith}
+use Rattle.std.proofs.Common.{◌≡◌, true, ℕ, List, Result, Err, inl, inr, refl, ap, ◌∙◌, subst}
 use Rattle.std.specs.Prelude.{IfErr}
 use Rattle.trace_text.specs.Grammar.{IsCause, IsFirstFault, IsTraceText, longest_text}
 use Rattle.trace_text.specs.declared.fault.Kind.{Kind}
 use Rattle.trace_text.specs.declared.fault.Kind.TheVariants as kinds
 use Rattle.trace_text.specs.declared.fault.TraceFault.{TraceFault}
 use Rattle.trace_text.specs.declared.fault.TraceFault.TheVariants.{Bad}
-use Rattle.trace_text.specs.declared.mapping.Mapping.{Mapping}
 use Rattle.trace_text.specs.declared.trace.Trace.{Trace}
 use Rattle.trace_run.specs.Lines.{has_undone}
 use Rattle.trace_run.specs.Outcome.{IsBadTrace}
 use Rattle.trace_run.specs.States.{NoneFailed, StreamState}
 use Rattle.trace_run.specs.Stream.{Gives}
-
--- no block of an object is mapped, and an operation is not done yet, or none
-pub undone-operation : (objects : List Mapping) (none undone found : Bool) → (IsTrue none ↔ (length objects ≡ 0)) → IsTrue none → undone ≡ found
-    → undone ≡ (not (length objects == 0) || found)
-undone-operation [] none undone found empty is same = same
-undone-operation (m ∷ objects) none undone found empty is same = absurd (omega (arith, empty.0 is))
 
 -- a line of its trace is not done yet
 pub undone-trace : (before after : StreamState) (text shown : List ℕ) (trace : Trace) (line : ℕ) → Gives before.told after.told longest_text text → NoneFailed before after

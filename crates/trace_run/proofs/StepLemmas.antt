@@ -8,6 +8,7 @@ use Rattle.std.proofs.lemmas.Option.{get_or_from_slice_get, slice_get_within}
 use Rattle.std.proofs.Math.Seq.{take-add, take-suc}
 use Rattle.blk_ptr.specs.declared.ptr.Ptr.{Ptr}
 use Rattle.turn_table.specs.Places.{Place}
+use Rattle.arc_table.specs.declared.about.About.{About}
 use Rattle.arc_table.specs.declared.view.Known.{Known}
 use Rattle.arc_core.specs.declared.served.Restored.{Restored}
 use Rattle.arc_table.specs.Cache.{Cache}
@@ -33,6 +34,7 @@ use Rattle.trace_run.specs.Group.{HaveWorked, LeavesPool}
 use Rattle.trace_run.specs.Groups.{AreBetween, AreDone, AreOfCallers, DidEndLine, DidLinesAtOnce, HaveCome, HaveCounted, KeepNothing, StepsOn}
 use Rattle.trace_run.specs.InOrder.{AreInOrder}
 use Rattle.trace_run.specs.Lines.{caller_of, is_of_caller}
+use Rattle.trace_run.specs.Openings.{Knows, openings_of}
 use Rattle.trace_run.specs.Tally.{AreDeclared}
 use Rattle.trace_run.specs.Together.{BeginsGroup, Lines, WorkAtOnce, WorkInGroups, ends_group, groups_of, over_callers, replies_of_caller}
 use Rattle.trace_run.proofs.AbsorbLemmas.{over-few}
@@ -174,11 +176,13 @@ in-groups-more pools callers (g ∷ gs) last a b c done once = (done.0, done.1, 
 
 -- ---- between two groups
 
-pub between-none : {C P : Type 0} (cache : Cache) (restored : List Restored) (pools : Ghosts P) (trace : Trace) (pool : P) (crew : Crew C) → HaveCome cache restored (pools.size pool) (pools.told pool) trace.blocks [] [] crew → AreBetween cache restored pools trace pool pool [] crew
-between-none cache restored pools trace pool crew come = record {
+pub between-none : {C P : Type 0} (cache : Cache) (restored : List Restored) (pools : Ghosts P) (trace : Trace) (pool : P) (crew : Crew C) → HaveCome cache restored (pools.size pool) (pools.told pool) trace.blocks [] [] crew
+    → Knows (openings_of trace) crew.feeder → AreBetween cache restored pools trace pool pool [] crew
+between-none cache restored pools trace pool crew come knows = record {
   few = omega arith;
   begins = λ more. tt;
   come = come;
+  knows = knows;
   counted = record {
     keeps = leaves-same pools pool;
     reads = λ room. let none = over-zero cache.config.callers (asked [] []) (λ n below. refl) in omega (arith, none);
@@ -190,10 +194,12 @@ between-none cache restored pools trace pool crew come = record {
 -- before the first one, behind the restores
 pub between-begun : {C P : Type 0} (cache : Cache) (restored : List Restored) (pools : Ghosts P) (trace : Trace) (pool : P) (whole : List (Place (Known C))) (old new : Crew C) → AreOpened cache whole
     → whole ≡ old.parties.items ++ old.feeder ∷ [] → KeepNothing old.kept.items → length old.kept.items ≡ length old.parties.items
-    → MadeJoined cache (restores_in cache.config restored) old.feeder old.parties.items new.feeder new.parties.items → new.kept.items ≡ old.kept.items → AreBetween cache restored pools trace pool pool [] new
-between-begun cache restored pools trace pool whole old new opened is none many made kept =
+    → MadeJoined cache (restores_in cache.config restored) old.feeder old.parties.items new.feeder new.parties.items → new.kept.items ≡ old.kept.items → Knows (openings_of trace) old.feeder
+    → AreBetween cache restored pools trace pool pool [] new
+between-begun cache restored pools trace pool whole old new opened is none many made kept knows =
     between-none cache restored pools trace pool new
     (have-restored cache restored (pools.size pool) (pools.told pool) trace.blocks old new whole opened is (have-started cache whole old opened is none many (pools.size pool) (pools.told pool) trace.blocks) made kept)
+    (ap (λ (a : About). a.openings) made.about ∙ knows)
 
 module _ {C P : Type 0} (cache : Cache) (restored : List Restored) (pools : Ghosts P) (trace : Trace) (start was from to : P) (rs ss : List Reply) (qs : List Op) (old new : Crew C) (few : length trace.ops ≤ 1000000) (some_callers : cache.config.callers ≤ 16)
     (between : AreBetween cache restored pools trace start was rs old) (more : length rs < length trace.ops) (unused : IsUnused pools was from) (did : DidLinesAtOnce cache pools trace.blocks qs from to old new ss) (leaves : LeavesPool pools from to)
@@ -245,6 +251,7 @@ module _ {C P : Type 0} (cache : Cache) (restored : List Restored) (pools : Ghos
     few = omega (arith, both-long, all);
     begins = λ less. absurd (omega (arith, both-long, all, less));
     come = subst (λ (l : List Op). HaveCome cache restored (pools.size start) (pools.told start) trace.blocks l (rs ++ ss) new) (sym taken) come-lines;
+    knows = ap (λ (p : Place (Known C)). p.own.about.openings) did.feeder ∙ between.knows;
     counted = subst (λ (l : List Op). HaveCounted pools callers l (rs ++ ss) start to) (sym taken) counted-lines;
     groups = subst (λ (gs : List Lines). WorkInGroups pools callers gs start to)
         (sym (ap (λ (l : List Op). groups_of l (rs ++ ss)) taken
@@ -290,6 +297,7 @@ module _ {C P : Type 0} (cache : Cache) (restored : List Restored) (pools : Ghos
       few = omega (arith, all-long, room);
       begins = λ less. subst (BeginsGroup trace.ops) (sym all-long) (op, at, ends);
       come = subst (λ (l : List Op). HaveCome cache restored (pools.size start) (pools.told start) trace.blocks l all-replies last) (sym all-taken) come-ended-lines;
+      knows = ap (λ (a : About). a.openings) ended.resized.about ∙ (ap (λ (p : Place (Known C)). p.own.about.openings) did.feeder ∙ between.knows);
       counted = subst (λ (l : List Op). HaveCounted pools callers l all-replies start to) (sym all-taken) counted-end;
       groups = subst (λ (gs : List Lines). WorkInGroups pools callers gs start to)
           (sym (ap (λ (l : List Op). groups_of l all-replies) all-taken

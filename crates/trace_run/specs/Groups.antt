@@ -26,6 +26,7 @@ use Rattle.trace_run.specs.KeptBlocks.{read_of}
 use Rattle.trace_run.specs.Lines.{caller_of, is_of_caller}
 use Rattle.trace_run.specs.Meeting.{IsFed, Resized, Waits}
 use Rattle.trace_run.specs.OneCaller.{kept_after_all}
+use Rattle.trace_run.specs.Openings.{Knows, openings_of}
 use Rattle.trace_run.specs.OverShards.{AreNamed}
 use Rattle.trace_run.specs.Restores.{events_by_feeder, restores_in}
 use Rattle.trace_run.specs.Tally.{AreAnswered}
@@ -66,7 +67,7 @@ module _ {C : Type 0} where
     pub parties : length crew.parties.items ≡ cache.config.callers
     pub each : (n : ℕ) → n < cache.config.callers → ComesAt cache pool_len image blocks ops replies n crew
     pub capped : AreCapped ops replies
-    pub feeder : IsFed cache (events_by_feeder cache.config restored ops replies) (λ shard. seen_of cache.config shard crew.feeder) crew.feeder
+    pub feeder : IsFed cache crew.feeder.own.about.openings (events_by_feeder cache.config restored ops replies) (λ shard. seen_of cache.config shard crew.feeder) crew.feeder
     pub begun : (shard : ℕ) → shard < cache.config.shards → StartsWith (seen_of cache.config shard crew.feeder) (restores_in cache.config restored shard)
     pub cut : (shard : ℕ) → shard < cache.config.shards → AreCut cache.config restored blocks shard ops replies (seen_of cache.config shard crew.feeder)
 
@@ -81,6 +82,8 @@ pub record AreBetween {C P : Type 0} (cache : Cache) (restored : List Restored) 
   pub few : length replies ≤ length trace.ops
   pub begins : length replies < length trace.ops → BeginsGroup trace.ops (length replies)
   pub come : HaveCome cache restored (pools.size before) (pools.told before) trace.blocks (take (length replies) trace.ops) replies crew
+  -- the feeder knows how the cells began
+  pub knows : Knows (openings_of trace) crew.feeder
   pub counted : HaveCounted pools cache.config.callers (take (length replies) trace.ops) replies before now
   pub groups : WorkInGroups pools cache.config.callers (groups_of (take (length replies) trace.ops) replies) before now
 

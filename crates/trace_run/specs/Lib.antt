@@ -6,6 +6,7 @@ pub mod Answers
 pub mod Bounded
 pub mod CallerLines
 pub mod Callers
+pub mod CellEnds
 pub mod CheckText
 pub mod Devices
 pub mod Effects
@@ -18,8 +19,8 @@ pub mod InOrder
 pub mod KeptBlocks
 pub mod KeptQueue
 pub mod KeptReads
-pub mod Meeting
 pub mod Lines
+pub mod Meeting
 pub mod OneCaller
 pub mod Opened
 pub mod Openings

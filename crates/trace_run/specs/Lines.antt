@@ -1,5 +1,5 @@
 -- Which lines of a trace are one caller's, and which are done in one shard.
-use Rattle.std.specs.Prelude.{ℕ, ◌==◌, ◌||◌, nat_lt, not, length, Bool, true, false, if◌then◌else◌, List, [], ◌∷◌, Option, Some, None, slice_get}
+use Rattle.std.specs.Prelude.{ℕ, ◌==◌, nat_lt, Bool, true, false, if◌then◌else◌, List, [], ◌∷◌, Option, Some, None, slice_get}
 use Rattle.std.specs.List.{list_any}
 use Rattle.std.specs.Option.{option_map_or}
 use Rattle.blk_ptr.specs.declared.ptr.Ptr.{Ptr}
@@ -25,9 +25,9 @@ is_undone (ops.Drop n x) = false
 is_undone (ops.Cap c) = false
 is_undone other = true
 
--- a line of the trace is none that the program does yet: so far it maps no block of an object
+-- an operation of the trace is none that the program does yet
 abbrev pub has_undone : Trace → Bool
-has_undone trace = not (length trace.objects == 0) || list_any is_undone trace.ops
+has_undone trace = list_any is_undone trace.ops
 
 -- the operation is this caller's
 abbrev pub is_of_caller : ℕ → Op → Bool

@@ -21,8 +21,9 @@ use Rattle.arc_table.specs.Told.{IsTold}
 use Rattle.arc_table.specs.Views.{after_learned}
 use Rattle.trace_run.specs.declared.kept_blocks.KeptBlock.{KeptBlock}
 use Rattle.trace_run.specs.Acts.{acts_of_drops}
-use Rattle.trace_run.specs.KeptBlocks.{Stands, holds_in, read_of}
+use Rattle.trace_run.specs.KeptBlocks.{Stands, StandsWith, holds_in, no_entries, read_of}
 use Rattle.trace_run.specs.OneCaller.{events_of_drops}
+use Rattle.trace_run.specs.Openings.{Knows}
 
 -- of the number n's own events two have seen the same
 abbrev pub HasSameOwn : Config → (n : ℕ) → (s t : List (List Line)) → Type 0
@@ -39,9 +40,12 @@ module _ {C : Type 0} where
     pub alone : p.joined ≡ []
     pub seen : HasSeenItsOwn cache.config p
 
-  -- a party that no other has joined, and that keeps something or nothing
+  -- a party that no other has joined, that keeps something or nothing, and has seen these entries of cells
+  abbrev pub IsApartWith : (entries : ℕ → List Line) → Cache → Place (Known C) → Type 0
+  IsApartWith entries cache p = (kept : List KeptBlock) × StandsWith entries cache p kept × (p.joined ≡ [])
+
   abbrev pub IsApart : Cache → Place (Known C) → Type 0
-  IsApart cache p = (kept : List KeptBlock) × Stands cache p kept × (p.joined ≡ [])
+  IsApart = IsApartWith no_entries
 
   -- a party from which others may part
   abbrev pub MayPart : Cache → Place (Known C) → Type 0
@@ -84,11 +88,13 @@ module _ {C : Type 0} where
     pub stands : Stands cache p kept
     pub told : IsTold cache.config acts p
 
-  -- The feeder's party stands by itself and keeps nothing. These are the events of each shard that it made, and what it has seen begins with these.
-  pub record IsFed (cache : Cache) (feeds begun : (shard : ℕ) → List Event) (p : Place (Known C)) : Type 0 where
+  -- The feeder's party stands by itself and keeps nothing, and knows that the cells began so. These are the events of each shard that it made, and what
+  -- it has seen begins with these.
+  pub record IsFed (cache : Cache) (openings : List (List ℕ)) (feeds begun : (shard : ℕ) → List Event) (p : Place (Known C)) : Type 0 where
     pub number : p.number ≡ cache.config.callers
     pub alone : p.joined ≡ []
     pub stands : Stands cache p []
+    pub knows : Knows openings p
     pub fed : (shard : ℕ) → shard < cache.config.shards → own_events p.number (seen_of cache.config shard p) ≡ feeds shard
     pub since : (shard : ℕ) → StartsWith (seen_of cache.config shard p) (begun shard)
 
@@ -97,29 +103,38 @@ module _ {C : Type 0} where
     pub starts : (i : ℕ) → StartsWith (front_of (turn_of g i) q.own.seen) (front_of (turn_of g i) o.own.seen)
     pub own : HasSameOwn g o.number o.own.seen q.own.seen
 
-  -- The feeder's party, which is this one, has joined p and no other has. It keeps nothing.
-  pub record IsJoinedBy (cache : Cache) (o p : Place (Known C)) : Type 0 where
+  -- The feeder's party, which is this one, has joined p and no other has. It keeps nothing, and knows that the cells began so.
+  pub record IsJoinedBy (cache : Cache) (openings : List (List ℕ)) (o p : Place (Known C)) : Type 0 where
     pub number : o.number ≡ cache.config.callers
     pub stands : Stands cache o []
+    pub knows : Knows openings o
     pub alone : o.joined ≡ []
     pub joined : p.joined ≡ as_kept o.number o.own 0 ∷ []
 
-  abbrev pub HasFeeder : Cache → Place (Known C) → Type 0
-  HasFeeder cache p = (o : Place (Known C)) × IsJoinedBy cache o p
+  abbrev pub HasFeeder : Cache → (openings : List (List ℕ)) → Place (Known C) → Type 0
+  HasFeeder cache openings p = (o : Place (Known C)) × IsJoinedBy cache openings o p
 
-  -- What another party is once it has parted: it has its number, what it keeps and what it did, and has seen what all have.
-  pub record HasParted (cache : Cache) (lines : ℕ → List Line) (old new : Place (Known C)) : Type 0 where
+  -- What another party is once it has parted: it has its number, what it keeps and what it did, and has seen what all have, these entries of cells
+  -- among it.
+  pub record HasPartedWith (entries : ℕ → List Line) (cache : Cache) (lines : ℕ → List Line) (old new : Place (Known C)) : Type 0 where
     pub level : IsLevel cache.config lines new
     pub number : new.number ≡ old.number
+    pub about : new.own.about ≡ old.own.about
     pub alone : new.joined ≡ []
-    pub stands : (kept : List KeptBlock) → Stands cache old kept → Stands cache new kept
+    pub stands : (kept : List KeptBlock) → Stands cache old kept → StandsWith entries cache new kept
     pub own : HasSameOwn cache.config old.number old.own.seen new.own.seen
     pub starts : (shard : ℕ) → StartsWith (seen_of cache.config shard new) (seen_of cache.config shard old)
 
+  abbrev pub HavePartedWith : (entries : ℕ → List Line) → Cache → (ℕ → List Line) → (olds news : List (Place (Known C))) → Type 0
+  HavePartedWith entries cache lines [] [] = Unit {0}
+  HavePartedWith entries cache lines (o ∷ os) (x ∷ xs) = HasPartedWith entries cache lines o x × HavePartedWith entries cache lines os xs
+  HavePartedWith entries cache lines _ _ = ⊥
+
+  abbrev pub HasParted : Cache → (ℕ → List Line) → (old new : Place (Known C)) → Type 0
+  HasParted = HasPartedWith no_entries
+
   abbrev pub HaveParted : Cache → (ℕ → List Line) → (olds news : List (Place (Known C))) → Type 0
-  HaveParted cache lines [] [] = Unit {0}
-  HaveParted cache lines (o ∷ os) (x ∷ xs) = HasParted cache lines o x × HaveParted cache lines os xs
-  HaveParted cache lines _ _ = ⊥
+  HaveParted = HavePartedWith no_entries
 
   -- While all others had joined it, the party gave back what it kept. Then all have seen the same: where they had before, just its drops more.
   -- The others stand in their order, and then the party.
@@ -131,7 +146,7 @@ module _ {C : Type 0} where
     pub parted : HaveParted cache lines others rest
     pub level : IsLevel cache.config lines last
     pub gave : (n : ℕ) (acts : List Act) → Waits cache n acts kept p → Waits cache n (acts ++ acts_of_drops n (map read_of kept)) [] last
-    pub fed : (fed since : (shard : ℕ) → List Event) → kept ≡ [] → IsFed cache fed since p → IsFed cache fed since last
+    pub fed : (openings : List (List ℕ)) (fed since : (shard : ℕ) → List Event) → kept ≡ [] → IsFed cache openings fed since p → IsFed cache openings fed since last
     pub drops : (before : ℕ → List Line) → IsLevel cache.config before p → AllByRecursion (IsLevel cache.config before) others
         → (shard : ℕ) → events_in (lines shard) ≡ events_in (before shard) ++ events_of_drops p.number (holds_in cache.config shard (map read_of kept))
 
@@ -176,12 +191,12 @@ module _ {C : Type 0} where
 
   -- All callers gave back what they kept, by rising caller; the feeder's party stands behind theirs. All have seen the same: of each shard what was
   -- so before, and then their drops.
-  pub record HaveGivenBack (cache : Cache) (acts : ℕ → List Act) (feeds since : (shard : ℕ) → List Event) (kept : List (List KeptBlock)) (ps : List (Place (Known C))) : Type 0 where
+  pub record HaveGivenBack (cache : Cache) (acts : ℕ → List Act) (openings : List (List ℕ)) (feeds since : (shard : ℕ) → List Event) (kept : List (List KeptBlock)) (ps : List (Place (Known C))) : Type 0 where
     pub callers : List (Place (Known C))
     pub feeder : Place (Known C)
     pub are : ps ≡ callers ++ feeder ∷ []
     pub gave : AllGave cache acts 0 kept callers
-    pub fed : IsFed cache feeds since feeder
+    pub fed : IsFed cache openings feeds since feeder
     pub first : ℕ → List Event
     pub lines : ℕ → List Line
     pub level : AllByRecursion (IsLevel cache.config lines) ps
@@ -201,6 +216,7 @@ module _ {C : Type 0} where
     pub parted : HaveParted cache lines olds news
     pub level : IsLevel cache.config lines q
     pub number : q.number ≡ p.number
+    pub about : q.own.about ≡ p.own.about
     pub alone : q.joined ≡ []
     pub stands : Stands cache q []
     pub front : ℕ → List Event

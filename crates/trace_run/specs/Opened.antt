@@ -1,5 +1,5 @@
 -- The parties of a cache that has just been made.
-use Rattle.std.specs.Prelude.{◌≡◌, ℕ, ◌<◌, List, [], length}
+use Rattle.std.specs.Prelude.{◌≡◌, ℕ, ◌<◌, List, [], length, map}
 use mathlib.Core.Option.{some}
 use lib.ListN.{get_elem?}
 use Rattle.arc_core.specs.declared.keeps.Keeps.{Ghosts}
@@ -9,12 +9,24 @@ use Rattle.arc_table.specs.Cache.{Cache}
 use Rattle.arc_table.specs.Geometry.{parties_of}
 use Rattle.arc_table.specs.Items.{Meanings}
 use Rattle.arc_table.specs.Views.{no_ledger}
+use Rattle.dbuf_cells.specs.declared.kept.Kept.{Kept}
+use Rattle.dbuf_state.specs.CellLog.{CellLog, fresh}
+use Rattle.dbuf_state.specs.declared.dbuf.Content.TheVariants.{Clean}
+use Rattle.dbuf_state.specs.declared.state.DbState.TheVariants as state
+use Rattle.dbuf_state.specs.declared.state.Mapping.{Mapping}
 use Rattle.trace_run.specs.KeptBlocks.{Stands}
 use Rattle.arc_table.specs.Told.{IsTold}
 
 -- what a cell of this type means to the cache
 abbrev pub meanings_of : {C : Type 0} → Ghosts C → Meanings C
 meanings_of cells = record { holds = cells.holds; entries = cells.entries; opening = cells.opening; claims = cells.claims; sound = cells.sound }
+
+-- a cell at its start: it has this limit and maps this, and nothing was done to it
+pub record HasBegun (limit : ℕ) (opening : List Mapping) (cell : CellLog Kept) : Type 0 where
+  pub limit_is : cell.limit ≡ limit
+  pub opening_is : cell.opening ≡ opening
+  pub dbufs : cell.dbufs ≡ map (λ m. fresh m.at (Clean m.ptr) state.Uncached) opening
+  pub history : cell.history ≡ []
 
 module _ {C : Type 0} where
   -- A party that has done nothing yet, and seen nothing: it is one of so many as the cache has, and has begun nothing.

@@ -27,9 +27,11 @@ use Rattle.vdev_io.specs.declared.device.CacheDev.{Ghosts as Devices}
 use Rattle.vdev_io.specs.declared.pool.Pool.{Ghosts}
 use Rattle.arc_core.specs.Operations.{pool_reads}
 use Rattle.arc_table.specs.Ended.{Ended}
+use Rattle.dbuf_cells.specs.Turns.{OnHeap}
 use Rattle.trace_text.specs.Generator.{generated_block, generated_read, generated_sizes}
 use Rattle.trace_run.specs.Answers.{AnswersAll}
 use Rattle.trace_run.specs.Bounded.{device_len, with_bound}
+use Rattle.trace_run.specs.CellEnds.{AreCellsOf}
 use Rattle.trace_run.specs.CheckText.{check_text}
 use Rattle.trace_run.specs.Devices.{Finds, MayLose}
 use Rattle.trace_run.specs.Explaining.{Explain, RunsAlone}
@@ -60,7 +62,7 @@ pub record WasRead (before after : StreamState) (trace : Trace) : Type 0 where
   pub unfailed : NoneFailed before after
   pub is_trace : IsTraceText text trace
 
--- The text is a trace, and it has a line that the program does not do yet, a mapping or an operation: that is told as an unknown word is.
+-- The text is a trace, and it has an operation that the program does not do yet: that is told as an unknown word is.
 pub record IsUndone (text : List ℕ) (kind : Kind) : Type 0 where
   pub trace : Trace
   pub is_trace : IsTraceText text trace
@@ -97,13 +99,15 @@ pub record IsRun {C P : Type 0} (pool : Ghosts P) (before after : P) (trace : Tr
 
 -- The report is that of a run of the trace that the source gave, all of whose lines the program does. The trace's bound of one feed is at most half of
 -- the device's ring. What is reported of the device is what its start found, and it is handed back.
-pub record IsReport {C P D : Type 0} (pool : Ghosts P) (device : Devices D) (before after : Handed P D) (closed : Ended C) (report : Report) : Type 0 where
+pub record IsReport {P D : Type 0} (pool : Ghosts P) (device : Devices D) (before after : Handed P D) (closed : Ended OnHeap) (report : Report) : Type 0 where
   pub trace : Trace
   pub read : WasRead before.source after.source trace
   pub done : has_undone trace ≡ false
   pub found : Finds device before.cache after.cache report.rebuilt
   pub fork_failed : Bool
   pub run : IsRun pool before.pool after.pool (with_bound trace (device_len device.size before.cache)) fork_failed closed report
+  -- the cells began with the trace's lines, and were ended
+  pub cells : AreCellsOf (with_bound trace (device_len device.size before.cache)) closed
   pub status : report.status ≡ report_status fork_failed report.replies
   pub whole : report.short ≡ false
 
@@ -122,12 +126,13 @@ zeros_of blocks = replicate (blocks * 512) 0
 
 -- The report is that of a made trace, whose zero bytes are a pool that doesn't fail: a plain function of the three numbers. No reply is
 -- a refusal, and none is printed.
-pub record IsGenReport {C : Type 0} (seed blocks ops : ℕ) (closed : Ended C) (report : Report) : Type 0 where
+pub record IsGenReport (seed blocks ops : ℕ) (closed : Ended OnHeap) (report : Report) : Type 0 where
   pub plain : report ≡ record (report_of (generated seed blocks ops) None (zeros_of blocks) []) { short = true }
   pub answers : AnswersAll (blocks * 512) (Some (zeros_of blocks)) (generated seed blocks ops).blocks (generated seed blocks ops).ops report.replies
   pub explained : Explain (generated seed blocks ops) [] report.replies report.ends report.histories
   pub tells : TellsClosed closed report
   pub config : closed.config ≡ generated_sizes blocks
+  pub cells : AreCellsOf (generated seed blocks ops) closed
   pub status : report.status ≡ 0
 
 -- the report is there exactly where the trace was run
@@ -299,7 +304,7 @@ IfReported (Some report) (Some closed) fact = fact closed report
 
 -- A run answers by what the source gave, and takes at most one byte past the longest text. Its report is that of the trace, and where none was
 -- run the pool and the cache device are as they were. The device is only read, or it is lost where memory was refused.
-pub record DoesRun {C P D : Type 0} (pool : Ghosts P) (device : Devices D) (events : Bool) (before after : Handed P D) (status : Status) (report : Option Report) (closed : Option (Ended C)) : Type 0 where
+pub record DoesRun {P D : Type 0} (pool : Ghosts P) (device : Devices D) (events : Bool) (before after : Handed P D) (status : Status) (report : Option Report) (closed : Option (Ended OnHeap)) : Type 0 where
   pub source : AnswersSource before.source after.source status
   pub took : TakesAtMost before.source.told after.source.told (longest_text + 1)
   pub unrun : OnFalse (ran status) ((after.pool ≡ before.pool) × (after.cache ≡ before.cache))
@@ -321,7 +326,7 @@ IsGenStatus statuses.SourceFault = ⊥
 IsGenStatus (statuses.Illegal shard index) = ⊥
 
 -- A made trace reads no source and leaves the pool and the cache device that were handed in alone.
-pub record DoesGen {C P D : Type 0} (seed blocks ops : ℕ) (before after : Handed P D) (status : Status) (report : Option Report) (closed : Option (Ended C)) : Type 0 where
+pub record DoesGen {P D : Type 0} (seed blocks ops : ℕ) (before after : Handed P D) (status : Status) (report : Option Report) (closed : Option (Ended OnHeap)) : Type 0 where
   pub fair : IsGenStatus status
   pub source : after.source ≡ before.source
   pub pool : after.pool ≡ before.pool
@@ -348,7 +353,7 @@ pub record DoesCheck {C P D : Type 0} (before after : Handed P D) (status : Stat
   pub cache : after.cache ≡ before.cache
   pub none : (report ≡ None) × (closed ≡ None)
 
-abbrev pub Does : {C P D : Type 0} → Ghosts P → Devices D → (before after : Handed P D) → Status → Option Report → Option (Ended C) → Command → Type 0
+abbrev pub Does : {P D : Type 0} → Ghosts P → Devices D → (before after : Handed P D) → Status → Option Report → Option (Ended OnHeap) → Command → Type 0
 Does pool device before after status report closed (Run events) = DoesRun pool device events before after status report closed
 Does pool device before after status report closed (Gen seed blocks ops) = DoesGen seed blocks ops before after status report closed
 Does pool device before after status report closed (Paper c) = DoesPaper c before after status report closed

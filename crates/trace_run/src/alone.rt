@@ -8,20 +8,22 @@ ghost use Rattle.trace_text.specs.Grammar.{IsFormed, IsOperation};
 ghost use Rattle.trace_run.specs.declared.kept_blocks.KeptBlock.{KeptBlock};
 ghost use Rattle.trace_run.specs.Alone.{RanAlone};
 ghost use Rattle.trace_run.specs.CallerLines.{DidLines, HasFed, HasResized, at};
+ghost use Rattle.trace_run.specs.CellEnds.{AreCellsOf, HasSeenEnds};
 ghost use Rattle.trace_run.specs.KeptBlocks.{Stands, read_of};
 ghost use Rattle.trace_run.specs.Meeting.{HasFeeder};
 ghost use Rattle.trace_run.specs.Opened.{AreOpened, HasJoined};
-ghost use Rattle.trace_run.specs.Openings.{HaveBegunEmpty};
+ghost use Rattle.trace_run.specs.Openings.{AllKnow, openings_of};
 ghost use Rattle.trace_run.specs.OverShards.{AreNamed};
 ghost use Rattle.trace_run.specs.Restores.{restores_in};
 
+use crate::cells::end_cells_joined;
 use crate::kept_blocks::{KeptBlocks, give_back_all};
 use crate::lines::{is_of_caller, line};
 use crate::opening::open_cache;
 use crate::ran::Ran;
 use crate::resizing::resize_joined;
 use crate::restoring::restore_joined;
-use arc_core::{Keeps, Restored};
+use arc_core::Restored;
 use arc_table::Party;
 use blk_ptr::NoMemory;
 use dbuf_cells::{Cells, HeapCell};
@@ -35,7 +37,7 @@ fn only_party(arcs: &Cells, mut parties: Vec<Party<HeapCell>>) -> Party<HeapCell
     requires one { arcs.now.config.callers ≡ 1 }
     requires opened { AreOpened arcs.now parties.items }
     ensures joined { HasJoined arcs.now (parties_of arcs.now.config) result }
-    ensures feeder { HasFeeder arcs.now result }
+    ensures feeder { (openings : List (List ℕ)) → AllKnow openings parties.items → HasFeeder arcs.now openings result }
 {
     let feeder = parties.remove(1);
     let mut party = parties.remove(0);
@@ -55,16 +57,40 @@ fn resize_alone(
     requires one { arcs.now.config.callers ≡ 1 }
     requires number { party.number ≡ 0 }
     requires stands { (kept : List KeptBlock) × Stands arcs.now party kept }
-    requires joined { HasFeeder arcs.now party }
+    requires joined { (openings : List (List ℕ)) × HasFeeder arcs.now openings party }
     requires rows { arcs.now.row.parties ≡ parties_of arcs.now.config }
     requires capacity { IsCapacity c }
     ensures stands { (kept : List KeptBlock) → Stands arcs.now party kept → IfOk result (λ q. Stands arcs.now q kept) }
-    ensures joined { IfOk result (HasFeeder arcs.now) }
+    ensures joined { (openings : List (List ℕ)) → HasFeeder arcs.now openings party → IfOk result (HasFeeder arcs.now openings) }
     ensures did { IfOk result (HasResized arcs.now.config c party) }
 {
     let feeder = arcs.part(&mut party, 1);
     let callers = vec![in alloc; party]?;
     let (feeder, mut callers) = resize_joined(alloc, rt, arcs, feeder, callers, c)?;
+    let Some(mut party) = callers.pop() else {
+        unreachable!()
+    };
+    arcs.join(&mut party, feeder);
+    Ok(party)
+}
+
+/// Ends all cells. The feeder does it: it parts from the caller's party, which joins it for that time, and then joins that party again.
+fn end_alone(
+    alloc: Global,
+    rt: &impl Wait,
+    arcs: &Cells,
+    mut party: Party<HeapCell>,
+) -> Result<Party<HeapCell>, NoMemory>
+    requires one { arcs.now.config.callers ≡ 1 }
+    requires number { party.number ≡ 0 }
+    requires stands { Stands arcs.now party [] }
+    requires joined { (openings : List (List ℕ)) × HasFeeder arcs.now openings party }
+    requires rows { arcs.now.row.parties ≡ parties_of arcs.now.config }
+    ensures { (openings : List (List ℕ)) → HasFeeder arcs.now openings party → IfOk result (HasSeenEnds arcs.now openings party) }
+{
+    let feeder = arcs.part(&mut party, 1);
+    let callers = vec![in alloc; party]?;
+    let (feeder, mut callers) = end_cells_joined(alloc, rt, arcs, feeder, callers)?;
     let Some(mut party) = callers.pop() else {
         unreachable!()
     };
@@ -83,11 +109,11 @@ fn restore_alone(
     requires one { arcs.now.config.callers ≡ 1 }
     requires number { party.number ≡ 0 }
     requires stands { Stands arcs.now party [] }
-    requires joined { HasFeeder arcs.now party }
+    requires joined { (openings : List (List ℕ)) × HasFeeder arcs.now openings party }
     requires rows { arcs.now.row.parties ≡ parties_of arcs.now.config }
     requires keys { HaveKeys restored.now }
     ensures stands { IfOk result (λ q. Stands arcs.now q []) }
-    ensures joined { IfOk result (HasFeeder arcs.now) }
+    ensures joined { (openings : List (List ℕ)) → HasFeeder arcs.now openings party → IfOk result (HasFeeder arcs.now openings) }
     ensures fed { IfOk result (HasFed arcs.now.config (restores_in arcs.now.config restored.now) party) }
 {
     let feeder = arcs.part(&mut party, 1);
@@ -111,11 +137,11 @@ fn other_line(
     requires one { arcs.now.config.callers ≡ 1 }
     requires number { party.number ≡ 0 }
     requires stands { (kept : List KeptBlock) × Stands arcs.now party kept }
-    requires joined { HasFeeder arcs.now party }
+    requires joined { (openings : List (List ℕ)) × HasFeeder arcs.now openings party }
     requires rows { arcs.now.row.parties ≡ parties_of arcs.now.config }
     requires possible { IsOperation arcs.now.config.callers arcs.now.config.shards op.now }
     ensures stands { (kept : List KeptBlock) → Stands arcs.now party kept → IfOk result (λ r. Stands arcs.now r.0 kept) }
-    ensures joined { IfOk result (λ r. HasFeeder arcs.now r.0) }
+    ensures joined { (openings : List (List ℕ)) → HasFeeder arcs.now openings party → IfOk result (λ r. HasFeeder arcs.now openings r.0) }
     ensures did { IfOk result (λ r. (c : ℕ) × (op.now ≡ Op.Cap c) × (r.1 ≡ Reply.Capped c) × HasResized arcs.now.config c party r.0) }
 {
     // A trace with a line that is not done yet is refused before it is run.
@@ -144,10 +170,11 @@ fn lines_alone<P: Pool, G: Gate>(
     requires number { party.number ≡ 0 }
     requires stands { Stands arcs.now party kept.old }
     requires named { AreNamed trace.now.blocks (map read_of kept.old) }
-    requires joined { HasFeeder arcs.now party }
+    requires joined { HasFeeder arcs.now (openings_of trace.now) party }
     ensures stands { IfOk result (λ r. Stands arcs.now r.0 kept.new) }
     ensures did { IfOk result (λ r. DidLines arcs.now.config P.Pool 0 trace.now.blocks trace.now.ops r.1.items
         (at party (map read_of kept.old) pool.old) (at r.0 (map read_of kept.new) pool.new)) }
+    ensures joined { IfOk result (λ r. HasFeeder arcs.now (openings_of trace.now) r.0) }
     ensures pool { KeepsPool P.Pool pool.old pool.new }
 {
     let caller = party.number();
@@ -184,7 +211,7 @@ pub(crate) fn run_alone<P: Pool, G: Gate>(
     requires one { trace.now.config.callers ≡ 1 }
     requires keys { HaveKeys restored.now }
     ensures ran { IfOk result (λ ran. RanAlone P.Pool pool.old pool.new trace.now restored.now ran.replies.items ran.closed) }
-    ensures cells { IfOk result (λ ran. HaveBegunEmpty ⟦<HeapCell as Keeps>⟧ ran.closed) }
+    ensures cells { IfOk result (λ ran. AreCellsOf trace.now ran.closed) }
     ensures fork { IfOk result (λ ran. ran.fork_failed ≡ false) }
     ensures pool { KeepsPool P.Pool pool.old pool.new }
 {
@@ -194,6 +221,7 @@ pub(crate) fn run_alone<P: Pool, G: Gate>(
     let mut kept = KeptBlocks::new(alloc);
     let (mut party, replies) = lines_alone(alloc, rt, &arcs, trace, party, &mut kept, pool, gate)?;
     give_back_all(rt, &arcs, &mut party, kept);
+    let party = end_alone(alloc, rt, &arcs, party)?;
     let closed = arcs.close(vec![in alloc; party]?)?;
     Ok(Ran {
         replies,

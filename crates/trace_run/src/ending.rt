@@ -106,9 +106,9 @@ pub(crate) fn all_give_back<C: Keeps>(
     requires parties { arcs.now.row.parties ≡ parties_of arcs.now.config }
     requires count { vec_len kept ≡ arcs.now.config.callers }
     requires callers { (acts : ℕ → List Act) × AreWaiting arcs.now acts 0 kept.items callers.items }
-    requires feeder { (feeds since : (shard : ℕ) → List Event) × IsFed arcs.now feeds since feeder }
+    requires feeder { (openings : List (List ℕ)) × (feeds since : (shard : ℕ) → List Event) × IsFed arcs.now openings feeds since feeder }
     ensures { IfOk result (λ parties. (acts : ℕ → List Act) → AreWaiting arcs.now acts 0 kept.items callers.items
-        → (feeds since : (shard : ℕ) → List Event) → IsFed arcs.now feeds since feeder → HaveGivenBack arcs.now acts feeds since kept.items parties.items) }
+        → (openings : List (List ℕ)) (feeds since : (shard : ℕ) → List Event) → IsFed arcs.now openings feeds since feeder → HaveGivenBack arcs.now acts openings feeds since kept.items parties.items) }
 {
     let mut parties = give_back_joined(alloc, rt, arcs, feeder, KeptBlocks::new(alloc), callers)?;
     for reads in kept {

@@ -3,6 +3,7 @@
 
 mod alone;
 mod bounded;
+mod cells;
 mod check;
 mod device;
 mod ending;

@@ -1,32 +1,68 @@
-//! How the shared cache of a run begins: its cells are empty, and each caller and the feeder has a party.
-ghost use Rattle.std.specs.Prelude.{◌≡◌, [], IfOk, map, replicate};
+//! How the shared cache of a run begins: its cells map what the trace's lines say, and each caller and the feeder has a party.
+ghost use Rattle.std.specs.Prelude.{◌≡◌, ◌<◌, All, IfOk, length, map};
 ghost use Rattle.arc_core.specs.Config.{IsConfig};
 ghost use Rattle.arc_table.specs.Geometry.{parties_of};
 ghost use Rattle.arc_table.specs.Opening.{AreFreshCells};
-ghost use Rattle.dbuf_state.specs.Numbers.{opening_numbers};
-ghost use Rattle.trace_run.specs.Opened.{AreOpened, meanings_of};
+ghost use Rattle.dbuf_cells.specs.Places.{cell_of};
+ghost use Rattle.trace_text.specs.Grammar.{AreApart, IsFormed, IsMappingOn};
+ghost use Rattle.trace_run.specs.Opened.{AreOpened, HasBegun, meanings_of};
+ghost use Rattle.trace_run.specs.Openings.{AllKnow, mappings_in, openings_of};
 
-use arc_core::{Config, Keeps};
+use arc_core::Keeps;
 use arc_table::{Arcs, Party};
-use blk_ptr::NoMemory;
+use blk_ptr::{NoMemory, Ptr};
 use dbuf_cells::{Cells, HeapCell};
-use dbuf_state::Cell;
+use dbuf_state::{Cell, Oid};
 use std::alloc::Global;
-use trace_text::Trace;
+use trace_text::{Mapping, Trace};
 
-/// As many cells as the configuration says, each on the heap and at its start with this limit of clean bytes.
-pub(crate) fn fresh_cells(
-    alloc: Global,
-    config: &Config,
-    limit: u64,
-) -> Result<Vec<HeapCell>, NoMemory>
-    ensures fresh { IfOk result (λ cells. AreFreshCells (meanings_of ⟦<HeapCell as Keeps>⟧) config.now cells.items) }
-    ensures openings { IfOk result (λ cells. map (meanings_of ⟦<HeapCell as Keeps>⟧).opening cells.items ≡ replicate config.now.cells (opening_numbers limit [])) }
+/// The number of a block's cell, of so many.
+#[tactic(auto, using(crate::proofs::BeginLemmas::mod_below))]
+fn place_among(cells: u32, at: Oid) -> u32
+    requires { 0 < cells }
+    ensures { result ≡ cell_of cells at }
 {
+    let cells = u64::from(cells);
+    ((at.object % cells + at.block % cells) % cells) as u32
+}
+
+/// The cell of this number, of so many, at its start: it maps what these lines say of its Oids, and has this limit of clean bytes.
+fn begun_cell(
+    alloc: Global,
+    limit: u64,
+    cells: u32,
+    i: u32,
+    blocks: &[Ptr],
+    lines: &[Mapping],
+) -> Result<HeapCell, NoMemory>
+    requires some { 0 < cells }
+    requires on { All (IsMappingOn (length blocks.now)) lines.now }
+    requires apart { AreApart lines.now }
+    ensures { IfOk result (λ cell. HasBegun limit (mappings_in cells i blocks.now lines.now) cell.value) }
+{
+    let mut cell = Cell::new(alloc, limit);
+    for number in 0..lines.len() {
+        let line = lines[number];
+        if place_among(cells, line.at) == i {
+            cell.map(line.at, blocks[line.block as usize])?;
+        }
+    }
+    Ok(Box::new(alloc, cell)?)
+}
+
+/// The cells of a trace at their start.
+fn begun_cells(alloc: Global, trace: &Trace) -> Result<Vec<HeapCell>, NoMemory>
+    requires { IsFormed trace.now }
+    ensures fresh { IfOk result (λ cells. AreFreshCells (meanings_of ⟦<HeapCell as Keeps>⟧) trace.now.config cells.items) }
+    ensures openings { IfOk result (λ cells. map (meanings_of ⟦<HeapCell as Keeps>⟧).opening cells.items ≡ openings_of trace.now) }
+{
+    let limit = trace.config.dbuf_bytes;
+    let count = trace.config.cells;
+    let blocks = trace.blocks.as_slice();
+    let lines = trace.objects.as_slice();
     let mut cells = Vec::new(alloc);
-    for made in 0..config.cells {
-        let _ = made;
-        cells.push(Box::new(alloc, Cell::new(alloc, limit))?)?;
+    for made in 0..count {
+        cells.push(begun_cell(alloc, limit, count, made, blocks, lines)?)?;
     }
     Ok(cells)
 }
@@ -44,12 +80,12 @@ pub(crate) fn open_cache(
     alloc: Global,
     trace: &Trace,
 ) -> Result<(Cells, Vec<Party<HeapCell>>), NoMemory>
-    requires { IsConfig trace.now.config }
+    requires { IsFormed trace.now }
     ensures config { IfOk result (λ r. r.0.config ≡ trace.now.config) }
     ensures parties { IfOk result (λ r. AreOpened r.0 r.1.items) }
+    ensures known { IfOk result (λ r. AllKnow (openings_of trace.now) r.1.items) }
 {
-    let config = trace.config;
-    let cells = fresh_cells(alloc, &config, config.dbuf_bytes)?;
-    let (arcs, parties) = Arcs::new(alloc, &config, cells)?;
+    let cells = begun_cells(alloc, trace)?;
+    let (arcs, parties) = Arcs::new(alloc, &trace.config, cells)?;
     Ok((with_parties(arcs), parties))
 }

@@ -3,8 +3,8 @@ ghost use Rattle.std.specs.Prelude.{◌≡◌, Bool, IfOk, false};
 ghost use Rattle.l2_dev.specs.Rebuilding.{HaveKeys};
 ghost use Rattle.trace_text.specs.Grammar.{IsFormed};
 ghost use Rattle.trace_run.specs.Outcome.{IsGenReport, IsRun};
+ghost use Rattle.trace_run.specs.CellEnds.{AreCellsOf};
 ghost use Rattle.trace_run.specs.Group.{LeavesPool};
-ghost use Rattle.trace_run.specs.Openings.{HaveBegunEmpty};
 ghost use Rattle.trace_run.specs.Restores.{restored_of};
 ghost use Rattle.trace_run.specs.Together.{report_status};
 ghost use Rattle.trace_run.specs.Words.{IsInRange};
@@ -14,9 +14,8 @@ use crate::alone::run_alone;
 use crate::ran::Reported;
 use crate::together::run_together;
 use crate::zero_pool::ZeroPool;
-use arc_core::{Keeps, Restored};
+use arc_core::Restored;
 use blk_ptr::{NoMemory, SECTOR};
-use dbuf_cells::HeapCell;
 use std::alloc::Global;
 use std::sync::Wait;
 use std::thread::Threads;
@@ -47,7 +46,7 @@ pub(crate) fn run_trace<R: Threads + Wait + Sync, P: Pool, G: Gate>(
     requires keys { HaveKeys (restored_of rebuilt) }
     ensures run { IfOk result (λ told. (fork_failed : Bool) × IsRun P.Pool pool.old pool.new trace.now fork_failed told.closed told.report
         × (told.report.status ≡ report_status fork_failed told.report.replies)) }
-    ensures cells { IfOk result (λ told. HaveBegunEmpty ⟦<HeapCell as Keeps>⟧ told.closed) }
+    ensures cells { IfOk result (λ told. AreCellsOf trace.now told.closed) }
     ensures rebuilt { IfOk result (λ told. told.report.rebuilt ≡ rebuilt) }
     ensures whole { IfOk result (λ told. told.report.short ≡ false) }
     ensures pool { LeavesPool P.Pool pool.old pool.new }
@@ -71,8 +70,7 @@ pub(crate) fn run_generated_trace<R: Threads + Wait + Sync, G: Gate>(
     gate: &G,
 ) -> Result<Reported, NoMemory>
     requires { IsInRange (command.Gen seed blocks ops) }
-    ensures report { IfOk result (λ told. IsGenReport seed blocks ops told.closed told.report) }
-    ensures cells { IfOk result (λ told. HaveBegunEmpty ⟦<HeapCell as Keeps>⟧ told.closed) }
+    ensures { IfOk result (λ told. IsGenReport seed blocks ops told.closed told.report) }
 {
     let trace = gen_trace(alloc, seed, blocks, ops)?;
     let mut pool = ZeroPool::new(u64::from(blocks) * SECTOR);

@@ -4,15 +4,17 @@ ghost use Rattle.arc_core.specs.declared.event.Event.{Event};
 ghost use Rattle.arc_core.specs.Operations.{Act};
 ghost use Rattle.arc_table.specs.Ended.{Ends};
 ghost use Rattle.arc_table.specs.Geometry.{parties_of};
+ghost use Rattle.arc_table.specs.declared.view.Line.{Line};
 ghost use Rattle.l2_dev.specs.Rebuilding.{HaveKeys};
 ghost use Rattle.trace_text.specs.Grammar.{IsFormed};
+ghost use Rattle.trace_run.specs.CellEnds.{AreCellsOf};
 ghost use Rattle.trace_run.specs.Group.{LeavesPool};
 ghost use Rattle.trace_run.specs.GroupRun.{HaveClosed, HaveStopped, RanTogether};
 ghost use Rattle.trace_run.specs.Meeting.{AreWaiting, IsFed, MadeJoined, MayGoOn};
 ghost use Rattle.trace_run.specs.Opened.{meanings_of};
-ghost use Rattle.trace_run.specs.Openings.{HaveBegunEmpty};
 ghost use Rattle.trace_run.specs.Restores.{restores_in};
 
+use crate::cells::end_crew;
 use crate::ending::all_give_back;
 use crate::groups::{Came, Crew, all_groups, crew_of};
 use crate::opening::open_cache;
@@ -30,14 +32,13 @@ use vdev_io::{Gate, Pool};
 
 /// Closes the cache of a run, once each party has given all back.
 fn close_run(arcs: Cells, parties: Vec<Party<HeapCell>>) -> Result<Closed<HeapCell>, NoMemory>
-    requires { HaveStopped arcs parties.items }
-    ensures ends { IfOk result (λ closed. Ends (meanings_of ⟦<HeapCell as Keeps>⟧) arcs parties.items closed) }
-    ensures cells { IfOk result (HaveBegunEmpty ⟦<HeapCell as Keeps>⟧) }
+    requires { (entries : ℕ → List Line) × HaveStopped entries arcs parties.items }
+    ensures { IfOk result (λ closed. Ends (meanings_of ⟦<HeapCell as Keeps>⟧) arcs parties.items closed) }
 {
     arcs.close(parties)
 }
 
-/// The callers give back what they still keep, and the cache is closed.
+/// The callers give back what they still keep, the feeder ends all cells, and the cache is closed.
 fn close_crew(
     alloc: Global,
     rt: &impl Wait,
@@ -47,9 +48,8 @@ fn close_crew(
     requires rows { arcs.row.parties ≡ parties_of arcs.config }
     requires count { vec_len crew.kept ≡ arcs.config.callers }
     requires callers { (acts : ℕ → List Act) × AreWaiting arcs acts 0 crew.kept.items crew.parties.items }
-    requires feeder { (feeds since : (shard : ℕ) → List Event) × IsFed arcs feeds since crew.feeder }
-    ensures closed { IfOk result (λ closed. HaveClosed (meanings_of ⟦<HeapCell as Keeps>⟧) arcs crew closed) }
-    ensures cells { IfOk result (HaveBegunEmpty ⟦<HeapCell as Keeps>⟧) }
+    requires feeder { (openings : List (List ℕ)) × (feeds since : (shard : ℕ) → List Event) × IsFed arcs openings feeds since crew.feeder }
+    ensures { IfOk result (λ closed. HaveClosed (meanings_of ⟦<HeapCell as Keeps>⟧) arcs crew closed) }
 {
     let Crew {
         feeder,
@@ -57,6 +57,7 @@ fn close_crew(
         kept,
     } = crew;
     let parties = all_give_back(alloc, rt, &arcs, parties, kept, feeder)?;
+    let parties = end_crew(alloc, rt, &arcs, parties)?;
     close_run(arcs, parties)
 }
 
@@ -100,7 +101,7 @@ pub(crate) fn run_together<R: Threads + Wait + Sync, P: Pool, G: Gate>(
     requires formed { IsFormed trace.now }
     requires keys { HaveKeys restored.now }
     ensures ran { IfOk result (λ ran. RanTogether P.Pool pool.old pool.new trace.now ran.fork_failed restored.now ran.replies.items ran.closed) }
-    ensures cells { IfOk result (λ ran. HaveBegunEmpty ⟦<HeapCell as Keeps>⟧ ran.closed) }
+    ensures cells { IfOk result (λ ran. AreCellsOf trace.now ran.closed) }
     ensures pool { LeavesPool P.Pool pool.old pool.new }
 {
     let (arcs, parties) = open_cache(alloc, trace)?;

@@ -1,11 +1,10 @@
 //! The top call: from the words and the source to the report on the sink.
-ghost use Rattle.std.specs.Prelude.{◌≡◌, ◌<◌, ◌^◌, IfOk, IfErr, IfSome, None, false, is_some, ◌+◌};
+ghost use Rattle.std.specs.Prelude.{◌≡◌, ◌<◌, ◌^◌, IfOk, IfErr, None, false, is_some, ◌+◌};
 ghost use Rattle.trace_text.specs.Grammar.{IsFormed, longest_text};
 ghost use Rattle.trace_run.specs.Lines.{has_undone};
 ghost use Rattle.trace_run.specs.Stream.{TakesAtMost};
 ghost use Rattle.trace_run.specs.Outcome.{AnswersWords, AnswersSource, AnswersSink, Does, DoesRun, IfReported, IfUsage, IsDelivered, IsGenReport, IsGenStatus, IsReadStatus, IsReportStatus, WasRead, has_report};
 ghost use Rattle.trace_run.specs.Group.{LeavesPool};
-ghost use Rattle.trace_run.specs.Openings.{HaveBegunEmpty};
 ghost use Rattle.trace_run.specs.States.{handed, sink_state, source_state};
 ghost use Rattle.trace_run.specs.Words.{IsInRange, texts};
 ghost use Rattle.trace_run.specs.declared.words.Command.TheVariants as command;
@@ -20,9 +19,7 @@ use crate::status::{Outcome, Status};
 use crate::stream::{ReadAllFault, read_all, write_all};
 use crate::undone::{first_undone, has_undone};
 use crate::words::Command;
-use arc_core::Keeps;
 use blk_ptr::NoMemory;
-use dbuf_cells::HeapCell;
 use std::alloc::Global;
 use std::sync::Wait;
 use std::thread::Threads;
@@ -55,9 +52,6 @@ pub fn run<R: Threads + Wait + Sync, S: Source, K: Sink, P: Pool, D: CacheDev, G
     // Where the words are refused nothing is touched, and where nothing is run the pool and the device aren't.
     ensures untouched { IfUsage result.status
         ((source.new ≡ source.old) × (sink.new ≡ sink.old) × (pool.new ≡ pool.old) × (cache.new ≡ cache.old) × (result.report ≡ None) × (result.closed ≡ None)) }
-
-    // Each cell of the closed cache began empty, with the configuration's bytes of clean dbufs.
-    ensures cells { IfSome result.closed (HaveBegunEmpty ⟦<HeapCell as Keeps>⟧) }
 
     // The pool holds what it held.
     ensures pool { LeavesPool P.Pool pool.old pool.new }
@@ -100,7 +94,6 @@ fn run_source<R: Threads + Wait + Sync, S: Source, K: Sink, P: Pool, D: CacheDev
     ensures past_words { IfUsage result.status ⊥ }
     ensures does { DoesRun P.Pool D.CacheDev events
         (handed S.Source K.Sink source.old sink.old pool.old cache.old) (handed S.Source K.Sink source.new sink.new pool.new cache.new) result.status result.report result.closed }
-    ensures cells { IfSome result.closed (HaveBegunEmpty ⟦<HeapCell as Keeps>⟧) }
     ensures pool { LeavesPool P.Pool pool.old pool.new }
 {
     let trace = match read_source(alloc, source) {
@@ -136,7 +129,6 @@ fn run_generated<R: Threads + Wait + Sync, K: Sink, G: Gate>(
     ensures past_words { IfUsage result.status ⊥ }
     ensures fair { IsGenStatus result.status }
     ensures reported { IfReported result.report result.closed (IsGenReport seed blocks ops) }
-    ensures cells { IfSome result.closed (HaveBegunEmpty ⟦<HeapCell as Keeps>⟧) }
     ensures sink { AnswersSink false (sink_state K.Sink sink.old) (sink_state K.Sink sink.new) result.status result.report }
     ensures present { is_some result.report ≡ has_report result.status }
 {
@@ -174,10 +166,8 @@ fn read_source<S: Source>(alloc: Global, source: &mut S) -> Result<Trace, Status
 /// Writes a report's text to the sink.
 fn deliver<K: Sink>(alloc: Global, events: bool, sink: &mut K, reported: Reported) -> Outcome
     requires status { IsReportStatus reported.report.status }
-    requires cells { HaveBegunEmpty ⟦<HeapCell as Keeps>⟧ reported.closed }
     ensures sink { AnswersSink events (sink_state K.Sink sink.old) (sink_state K.Sink sink.new) result.status result.report }
     ensures present { is_some result.report ≡ has_report result.status }
-    ensures cells { IfSome result.closed (HaveBegunEmpty ⟦<HeapCell as Keeps>⟧) }
     ensures same { IfReported result.report result.closed (λ closed told. (told ≡ reported.report) × (closed ≡ reported.closed)) }
     ensures which { IsDelivered result.status }
 {

@@ -6,15 +6,13 @@ ghost use Rattle.trace_run.specs.Lines.{has_undone, is_undone};
 use trace_text::{Op, Trace};
 
 /// The words of these lines.
-const UNDONE: [&[u8]; 8] = [
-    b"object", b"get", b"put", b"patch", b"pin", b"unpin", b"feed", b"txg",
-];
+const UNDONE: [&[u8]; 7] = [b"get", b"put", b"patch", b"pin", b"unpin", b"feed", b"txg"];
 
 /// Whether a line of the trace is not done yet.
 pub(crate) fn has_undone(trace: &Trace) -> bool
     ensures { result ≡ has_undone trace.now }
 {
-    !trace.objects.is_empty() || has_undone_op(trace.ops.as_slice())
+    has_undone_op(trace.ops.as_slice())
 }
 
 /// Whether one of the operations is not done yet.

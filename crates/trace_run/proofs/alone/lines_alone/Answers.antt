@@ -7,6 +7,7 @@ use Rattle.trace_text.specs.declared.reply.Reply.{Reply}
 use Rattle.trace_run.specs.CallerLines.{DidLine, DidLines, at}
 use Rattle.trace_run.specs.KeptBlocks.{read_of}
 use Rattle.trace_run.specs.Lines.{is_of_caller}
+use Rattle.trace_run.specs.Openings.{openings_of}
 use Rattle.trace_run.proofs.AnswerLemmas.{take_one}
 use Rattle.trace_run.proofs.CapLemmas.{capped-line, feeder-after}
 use Rattle.trace_run.proofs.LinesLemmas.{line-named, lines-more}
@@ -34,7 +35,7 @@ loop-number-preserved-then-not-is_of_caller g c =
       stands = c.in_ok-after.ensures.stands c.loop-number.kept was.stands;
       named = was.named;
       number = one.did.number ∙ was.number;
-      joined = c.in_ok-after.ensures.joined;
+      joined = c.in_ok-after.ensures.joined (openings_of c.args.trace.now) was.joined;
       did = subst (λ (x : List Op × List Reply). DidLines config g.P.Pool 0 blocks x.0 x.1 start after) (λ i. (sym (take_one ops c.loop-number.number op here) i, sym c.in_ok-push.ensures.items i))
           (lines-more config g.P.Pool 0 blocks (take c.loop-number.number ops) replies op reply start before after was.did one);
       keeps = was.keeps;
@@ -61,7 +62,7 @@ loop-number-preserved g c =
       stands = c.in_ok-reply.ensures.stands;
       named = line-named config g.P.Pool 0 blocks op reply before after was.named one;
       number = one.did.number ∙ was.number;
-      joined = feeder-after c.args.arcs.now g.P.Pool 0 0 blocks op reply before after his one was.joined;
+      joined = feeder-after c.args.arcs.now (openings_of c.args.trace.now) g.P.Pool 0 0 blocks op reply before after his one was.joined;
       did = subst (λ (x : List Op × List Reply). DidLines config g.P.Pool 0 blocks x.0 x.1 start after) (λ i. (sym (take_one ops c.loop-number.number op here) i, sym c.in_ok-push-2.ensures.items i))
           (lines-more config g.P.Pool 0 blocks (take c.loop-number.number ops) replies op reply start before after was.did one);
       keeps = keeps-then g.P.Pool c.args.pool.now c.loop-number.pool c.line.new.pool was.keeps c.in_ok-reply.ensures.pool;

@@ -1,14 +1,18 @@
-use Rattle.std.proofs.Common.{◌<◌, List, map, sym, ◌∙◌, subst}
+use Rattle.std.proofs.Common.{◌<◌, List, map, sym, ap, ◌∙◌, subst}
 use Rattle.turn_table.specs.Places.{Place, SomeHas}
+use Rattle.arc_core.specs.declared.config.Config.{Config}
 use Rattle.arc_table.specs.declared.view.Known.{Known}
 use Rattle.arc_table.specs.Cache.{Cache}
+use Rattle.arc_table.specs.Ended.{AreAtRest}
 use Rattle.arc_table.specs.Geometry.{parties_of}
 use Rattle.trace_run.specs.declared.kept_blocks.KeptBlock.{KeptBlock}
 use Rattle.trace_run.specs.CallerLines.{DidLines, at}
 use Rattle.trace_run.specs.KeptBlocks.{Stands, read_of}
+use Rattle.trace_run.specs.Openings.{openings_of}
 use Rattle.trace_run.specs.OverShards.{AreNamed}
-use Rattle.trace_run.proofs.AloneLemmas.{end-there, ran-alone}
-use Rattle.trace_run.proofs.CellLemmas.{one-closed}
+use Rattle.trace_run.proofs.AloneLemmas.{end-there, ran-alone, still-0, still-joined, still-rows}
+use Rattle.trace_run.proofs.CapLemmas.{feeder-still}
+use Rattle.trace_run.proofs.CellRun.{alone-cells}
 use Rattle.trace_run.proofs.OpenLemmas.{HeapCell}
 use Rattle.trace_run.proofs.alone.run_alone.Goals as goal
 
@@ -18,11 +22,76 @@ lines_alone-requires-clause-rows g c κs within = let new = c.only_party-party.e
 pub restore_alone-requires-clause-rows : goal.restore_alone-requires-clause-rows
 restore_alone-requires-clause-rows g c = let new = c.only_party-party.ensures.joined.new in sym new.stands.of.row.1 ∙ new.parties
 
+pub restore_alone-requires-clause-joined : goal.restore_alone-requires-clause-joined
+restore_alone-requires-clause-joined g c = (openings_of c.args.trace.now, c.only_party-party.ensures.feeder (openings_of c.args.trace.now) c.in_ok-arcs.ensures.known)
+
 pub lines_alone-requires-clause-stands : goal.lines_alone-requires-clause-stands
 lines_alone-requires-clause-stands g c κs within = subst (Stands c.in_ok-arcs.arcs c.in_ok-party.party) (sym c.new-kept.ensures) c.in_ok-party.ensures.stands
 
 pub lines_alone-requires-clause-named : goal.lines_alone-requires-clause-named
 lines_alone-requires-clause-named g c κs within = subst (λ (l : List KeptBlock). AreNamed c.args.trace.now.blocks (map read_of l)) (sym c.new-kept.ensures) tt
+
+pub lines_alone-requires-clause-joined : goal.lines_alone-requires-clause-joined
+lines_alone-requires-clause-joined g c κs within = c.in_ok-party.ensures.joined (openings_of c.args.trace.now) (c.only_party-party.ensures.feeder (openings_of c.args.trace.now) c.in_ok-arcs.ensures.known)
+
+pub end_alone-requires-clause-one : goal.end_alone-requires-clause-one
+end_alone-requires-clause-one g c = ap (λ (x : Config). x.callers) c.in_ok-arcs.ensures.config ∙ c.requires.one
+
+pub end_alone-requires-clause-number : goal.end_alone-requires-clause-number
+end_alone-requires-clause-number g c =
+    let cache : Cache = c.in_ok-arcs.arcs in
+    let new = c.only_party-party.result in
+    let p = c.in_ok-party.party in
+    let q = c.in_ok-party-2.party in
+    let r = c.give_back_all.new.party in
+    let kept : List KeptBlock = c.lines_alone.new.kept in
+    let did = subst (λ (l : List KeptBlock). DidLines cache.config g.P.Pool 0 c.args.trace.now.blocks c.args.trace.now.ops c.in_ok-party-2.replies.items (at p (map read_of l) c.args.pool.now) (at q (map read_of kept) c.lines_alone.new.pool))
+    c.new-kept.ensures c.in_ok-party-2.ensures.did in
+    still-0 _ cache g.P.Pool c.args.trace.now c.in_ok-party-2.replies.items c.args.pool.now c.lines_alone.new.pool p q r kept c.in_ok-arcs.ensures.config c.requires.formed c.requires.one
+    c.args.restored.now new c.only_party-party.ensures.joined c.in_ok-party.ensures.fed did c.in_ok-party-2.ensures.stands c.give_back_all.ensures.gives c.give_back_all.ensures.stands
+
+pub end_alone-requires-clause-joined : goal.end_alone-requires-clause-joined
+end_alone-requires-clause-joined g c =
+    let cache : Cache = c.in_ok-arcs.arcs in
+    let new = c.only_party-party.result in
+    let p = c.in_ok-party.party in
+    let q = c.in_ok-party-2.party in
+    let r = c.give_back_all.new.party in
+    let kept : List KeptBlock = c.lines_alone.new.kept in
+    let did = subst (λ (l : List KeptBlock). DidLines cache.config g.P.Pool 0 c.args.trace.now.blocks c.args.trace.now.ops c.in_ok-party-2.replies.items (at p (map read_of l) c.args.pool.now) (at q (map read_of kept) c.lines_alone.new.pool))
+    c.new-kept.ensures c.in_ok-party-2.ensures.did in (
+      openings_of c.args.trace.now,
+      feeder-still cache (openings_of c.args.trace.now) q r (still-joined _ cache g.P.Pool c.args.trace.now c.in_ok-party-2.replies.items c.args.pool.now c.lines_alone.new.pool p q r kept c.in_ok-arcs.ensures.config c.requires.formed c.requires.one
+          c.args.restored.now new c.only_party-party.ensures.joined c.in_ok-party.ensures.fed did c.in_ok-party-2.ensures.stands c.give_back_all.ensures.gives c.give_back_all.ensures.stands) c.in_ok-party-2.ensures.joined,
+    )
+
+pub end_alone-requires-clause-rows : goal.end_alone-requires-clause-rows
+end_alone-requires-clause-rows g c =
+    let cache : Cache = c.in_ok-arcs.arcs in
+    let new = c.only_party-party.result in
+    let p = c.in_ok-party.party in
+    let q = c.in_ok-party-2.party in
+    let r = c.give_back_all.new.party in
+    let kept : List KeptBlock = c.lines_alone.new.kept in
+    let did = subst (λ (l : List KeptBlock). DidLines cache.config g.P.Pool 0 c.args.trace.now.blocks c.args.trace.now.ops c.in_ok-party-2.replies.items (at p (map read_of l) c.args.pool.now) (at q (map read_of kept) c.lines_alone.new.pool))
+    c.new-kept.ensures c.in_ok-party-2.ensures.did in
+    still-rows _ cache g.P.Pool c.args.trace.now c.in_ok-party-2.replies.items c.args.pool.now c.lines_alone.new.pool p q r kept c.in_ok-arcs.ensures.config c.requires.formed c.requires.one
+    c.args.restored.now new c.only_party-party.ensures.joined c.in_ok-party.ensures.fed did c.in_ok-party-2.ensures.stands c.give_back_all.ensures.gives c.give_back_all.ensures.stands
+
+pub close-requires-clause-rest : goal.close-requires-clause-rest
+close-requires-clause-rest g c =
+    let cache : Cache = c.in_ok-arcs.arcs in
+    let new = c.only_party-party.result in
+    let p = c.in_ok-party.party in
+    let q = c.in_ok-party-2.party in
+    let r = c.give_back_all.new.party in
+    let kept : List KeptBlock = c.lines_alone.new.kept in
+    let did = subst (λ (l : List KeptBlock). DidLines cache.config g.P.Pool 0 c.args.trace.now.blocks c.args.trace.now.ops c.in_ok-party-2.replies.items (at p (map read_of l) c.args.pool.now) (at q (map read_of kept) c.lines_alone.new.pool))
+    c.new-kept.ensures c.in_ok-party-2.ensures.did in
+    let joined = feeder-still cache (openings_of c.args.trace.now) q r (still-joined _ cache g.P.Pool c.args.trace.now c.in_ok-party-2.replies.items c.args.pool.now c.lines_alone.new.pool p q r kept c.in_ok-arcs.ensures.config c.requires.formed c.requires.one
+    c.args.restored.now new c.only_party-party.ensures.joined c.in_ok-party.ensures.fed did c.in_ok-party-2.ensures.stands c.give_back_all.ensures.gives c.give_back_all.ensures.stands) c.in_ok-party-2.ensures.joined in
+    let h = c.in_ok-party-3.ensures (openings_of c.args.trace.now) joined in
+    subst (λ (x : Cache × List (Place (Known HeapCell))). AreAtRest x.0 x.1) (λ i. (sym c.arcs.view_is i, sym c.in_ok-vec.ensures.items i)) (h.stands.of, h.stands.free, tt)
 
 pub close-requires-clause-all : goal.close-requires-clause-all
 close-requires-clause-all g c =
@@ -34,8 +103,11 @@ close-requires-clause-all g c =
     let kept : List KeptBlock = c.lines_alone.new.kept in
     let did = subst (λ (l : List KeptBlock). DidLines cache.config g.P.Pool 0 c.args.trace.now.blocks c.args.trace.now.ops c.in_ok-party-2.replies.items (at p (map read_of l) c.args.pool.now) (at q (map read_of kept) c.lines_alone.new.pool))
     c.new-kept.ensures c.in_ok-party-2.ensures.did in
+    let joined = feeder-still cache (openings_of c.args.trace.now) q r (still-joined _ cache g.P.Pool c.args.trace.now c.in_ok-party-2.replies.items c.args.pool.now c.lines_alone.new.pool p q r kept c.in_ok-arcs.ensures.config c.requires.formed c.requires.one
+    c.args.restored.now new c.only_party-party.ensures.joined c.in_ok-party.ensures.fed did c.in_ok-party-2.ensures.stands c.give_back_all.ensures.gives c.give_back_all.ensures.stands) c.in_ok-party-2.ensures.joined in
+    let h = c.in_ok-party-3.ensures (openings_of c.args.trace.now) joined in
     let here = end-there _ cache g.P.Pool c.args.trace.now c.in_ok-party-2.replies.items c.args.pool.now c.lines_alone.new.pool p q r kept c.in_ok-arcs.ensures.config c.requires.formed c.requires.one
-    c.args.restored.now new c.only_party-party.ensures.joined c.in_ok-party.ensures.fed did c.in_ok-party-2.ensures.stands c.give_back_all.ensures.gives c.give_back_all.ensures.stands in
+    c.args.restored.now new c.only_party-party.ensures.joined c.in_ok-party.ensures.fed did c.in_ok-party-2.ensures.stands c.give_back_all.ensures.gives c.give_back_all.ensures.stands _ c.in_ok-party-3.party h.number h.parties h.stands h.all h.seen in
     λ n below. subst (λ (x : List (Place (Known HeapCell))). SomeHas n x) (sym c.in_ok-vec.ensures.items) (here n (subst (λ (x : Cache). n < parties_of x.config) c.arcs.view_is below))
 
 pub returns-clause-ran : goal.returns-clause-ran
@@ -48,9 +120,26 @@ returns-clause-ran g c =
     let kept : List KeptBlock = c.lines_alone.new.kept in
     let did = subst (λ (l : List KeptBlock). DidLines cache.config g.P.Pool 0 c.args.trace.now.blocks c.args.trace.now.ops c.in_ok-party-2.replies.items (at p (map read_of l) c.args.pool.now) (at q (map read_of kept) c.lines_alone.new.pool))
     c.new-kept.ensures c.in_ok-party-2.ensures.did in
+    let joined = feeder-still cache (openings_of c.args.trace.now) q r (still-joined _ cache g.P.Pool c.args.trace.now c.in_ok-party-2.replies.items c.args.pool.now c.lines_alone.new.pool p q r kept c.in_ok-arcs.ensures.config c.requires.formed c.requires.one
+    c.args.restored.now new c.only_party-party.ensures.joined c.in_ok-party.ensures.fed did c.in_ok-party-2.ensures.stands c.give_back_all.ensures.gives c.give_back_all.ensures.stands) c.in_ok-party-2.ensures.joined in
+    let h = c.in_ok-party-3.ensures (openings_of c.args.trace.now) joined in
     ran-alone _ cache g.P.Pool c.args.trace.now c.in_ok-party-2.replies.items c.args.pool.now c.lines_alone.new.pool p q r kept c.in_ok-arcs.ensures.config c.requires.formed c.requires.one
-    c.args.restored.now new c.only_party-party.ensures.joined c.in_ok-party.ensures.fed did c.in_ok-party-2.ensures.stands c.give_back_all.ensures.gives c.give_back_all.ensures.stands
+    c.args.restored.now new c.only_party-party.ensures.joined c.in_ok-party.ensures.fed did c.in_ok-party-2.ensures.stands c.give_back_all.ensures.gives c.give_back_all.ensures.stands _ c.in_ok-party-3.party h.number h.parties h.stands h.all h.seen
     _ c.in_ok-vec.field-0.items c.in_ok-closed.closed c.arcs.view_is c.in_ok-vec.ensures.items c.in_ok-closed.ensures
 
 pub returns-clause-cells : goal.returns-clause-cells
-returns-clause-cells g c = one-closed _ c.in_ok-arcs.arcs c.give_back_all.new.party _ c.in_ok-vec.field-0.items c.in_ok-closed.closed c.arcs.view_is c.in_ok-vec.ensures.items c.in_ok-closed.ensures c.give_back_all.ensures.stands
+returns-clause-cells g c =
+    let cache : Cache = c.in_ok-arcs.arcs in
+    let new = c.only_party-party.result in
+    let p = c.in_ok-party.party in
+    let q = c.in_ok-party-2.party in
+    let r = c.give_back_all.new.party in
+    let kept : List KeptBlock = c.lines_alone.new.kept in
+    let did = subst (λ (l : List KeptBlock). DidLines cache.config g.P.Pool 0 c.args.trace.now.blocks c.args.trace.now.ops c.in_ok-party-2.replies.items (at p (map read_of l) c.args.pool.now) (at q (map read_of kept) c.lines_alone.new.pool))
+    c.new-kept.ensures c.in_ok-party-2.ensures.did in
+    let joined = feeder-still cache (openings_of c.args.trace.now) q r (still-joined _ cache g.P.Pool c.args.trace.now c.in_ok-party-2.replies.items c.args.pool.now c.lines_alone.new.pool p q r kept c.in_ok-arcs.ensures.config c.requires.formed c.requires.one
+    c.args.restored.now new c.only_party-party.ensures.joined c.in_ok-party.ensures.fed did c.in_ok-party-2.ensures.stands c.give_back_all.ensures.gives c.give_back_all.ensures.stands) c.in_ok-party-2.ensures.joined in
+    let h = c.in_ok-party-3.ensures (openings_of c.args.trace.now) joined in
+    alone-cells cache r c.in_ok-party-3.party _ c.in_ok-vec.field-0.items c.in_ok-closed.closed c.args.trace.now c.in_ok-arcs.ensures.config (ap (λ (x : Config). x.callers) c.in_ok-arcs.ensures.config ∙ c.requires.one)
+    c.arcs.view_is c.in_ok-vec.ensures.items c.in_ok-closed.ensures (still-0 _ cache g.P.Pool c.args.trace.now c.in_ok-party-2.replies.items c.args.pool.now c.lines_alone.new.pool p q r kept c.in_ok-arcs.ensures.config c.requires.formed c.requires.one
+    c.args.restored.now new c.only_party-party.ensures.joined c.in_ok-party.ensures.fed did c.in_ok-party-2.ensures.stands c.give_back_all.ensures.gives c.give_back_all.ensures.stands) h

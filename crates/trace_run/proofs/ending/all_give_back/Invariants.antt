@@ -6,4 +6,4 @@ use Rattle.trace_run.proofs.TurningLemmas.{Turning}
 use Rattle.trace_run.proofs.ending.all_give_back.Given as goal
 
 abbrev pub invariant-loop-reads : goal.invariant-loop-reads
-invariant-loop-reads g l = (acts : ℕ → List Act) → AreWaiting l.arcs acts 0 l.fn.kept.items l.fn.callers.items → (feeds since : (shard : ℕ) → List Event) → IsFed l.arcs feeds since l.fn.feeder → Turning l.arcs acts feeds since l.fn.kept.items l.reads-iterator.rest.items l.parties.items
+invariant-loop-reads g l = (acts : ℕ → List Act) → AreWaiting l.arcs acts 0 l.fn.kept.items l.fn.callers.items → (openings : List (List ℕ)) (feeds since : (shard : ℕ) → List Event) → IsFed l.arcs openings feeds since l.fn.feeder → Turning l.arcs acts openings feeds since l.fn.kept.items l.reads-iterator.rest.items l.parties.items

@@ -4,6 +4,7 @@ use Rattle.trace_text.specs.declared.rebuilt.Rebuilt.{Rebuilt}
 use Rattle.trace_text.specs.declared.report.Report.{Report}
 use Rattle.trace_text.specs.declared.trace.Trace.{Trace}
 use Rattle.trace_run.specs.Answers.{AnswersAll, is_pool_fault}
+use Rattle.trace_run.specs.CellEnds.{AreCellsOf}
 use Rattle.trace_run.specs.Explaining.{Explain}
 use Rattle.trace_run.specs.Outcome.{generated, zeros_of}
 use Rattle.trace_run.specs.PlainReport.{IsPlainReport}
@@ -12,8 +13,8 @@ use Rattle.trace_run.specs.Restores.{restored_of}
 use Rattle.trace_run.proofs.GenLemmas.{made-plain, made-report, made-trace, never-failed, none-refused}
 use Rattle.trace_run.proofs.run_trace.run_generated_trace.Goals as goal
 
-pub returns-clause-report : goal.returns-clause-report
-returns-clause-report g c =
+pub returns : goal.returns
+returns g c =
     let len : c.new-pool.result.len ≡ c.args.blocks * 512 = c.new-pool.ensures.len ∙ ap (λ n. n * 512) c.from.ensures in
     let trace = c.in_ok-trace.trace in
     let reported = c.in_ok-reported.reported in
@@ -40,5 +41,6 @@ returns-clause-report g c =
       explained = subst (λ (x : Trace × Option Rebuilt). Explain x.0 (restored_of x.1) report.replies report.ends report.histories) (λ i. (is i, nothing i)) run.explained;
       tells = record { histories = run.tells.histories; ends = run.tells.ends };
       config = run.config ∙ ap (λ (t : Trace). t.config) is;
+      cells = subst (λ (t : Trace). AreCellsOf t reported.closed) is c.in_ok-reported.ensures.cells;
       status = ran.2 ∙ rw (one.0, none) refl;
     }

@@ -1,6 +1,7 @@
 use Rattle.std.proofs.Common.{List, refl, subst, arith}
 use Rattle.arc_core.specs.declared.served.Restored.{Restored}
 use Rattle.trace_run.specs.Alone.{RanAlone}
+use Rattle.trace_run.specs.CellEnds.{AreCellsOf}
 use Rattle.trace_run.specs.GroupRun.{RanTogether}
 use Rattle.trace_run.specs.Outcome.{IsRun}
 use Rattle.trace_run.specs.Together.{report_of_closed}
@@ -27,3 +28,12 @@ returns-clause-run g c =
           (subst (λ (l : List Restored). RanTogether g.P.Pool c.args.pool.now w.run_together.new.pool trace did.fork_failed l did.replies.items did.closed) w.restored_of-else-trace-eq1.ensures w.in_ok-ran-2.ensures.ran))
     ] in
     (ran.fork_failed, rw (told.report, told.closed) run, rw told.report refl)
+
+pub returns-clause-cells : goal.returns-clause-cells
+returns-clause-cells g c =
+    let ran = c.if-trace-eq1.ran in
+    let here : AreCellsOf c.args.trace.now ran.closed = elim c.if-trace-eq1.branch [
+      | then-trace-eq1+in_ok-ran w ↦ rw w.ran-is w.in_ok-ran.ensures.cells
+      | else-trace-eq1+in_ok-ran-2 w ↦ rw w.ran-is w.in_ok-ran-2.ensures.cells
+    ] in
+    rw c.in_ok-reported.ensures.closed here

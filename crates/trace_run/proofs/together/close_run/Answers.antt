@@ -1,13 +1,9 @@
 -- A cache whose parties have stopped may be closed.
-use Rattle.trace_run.proofs.CellLemmas.{all-closed}
-use Rattle.trace_run.proofs.GroupRunLemmas.{ok-both, stopped-all, stopped-rest}
+use Rattle.trace_run.proofs.GroupRunLemmas.{stopped-all, stopped-rest}
 use Rattle.trace_run.proofs.together.close_run.Goals as goal
 
 pub close-requires-clause-rest : goal.close-requires-clause-rest
-close-requires-clause-rest c = stopped-rest c.args.arcs c.args.parties.items c.requires
+close-requires-clause-rest c = stopped-rest c.args.arcs c.args.parties.items c.requires.1
 
 pub close-requires-clause-all : goal.close-requires-clause-all
-close-requires-clause-all c = stopped-all c.args.arcs c.args.parties.items c.requires
-
-pub returns-clause-cells : goal.returns-clause-cells
-returns-clause-cells c = ok-both _ _ _ c.close.result c.close.ensures c.close.ensures (λ closed ends again. all-closed _ c.args.arcs c.args.parties.items c.requires closed ends)
+close-requires-clause-all c = stopped-all c.args.arcs c.args.parties.items c.requires.1

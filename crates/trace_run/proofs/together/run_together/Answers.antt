@@ -1,8 +1,11 @@
 -- The run of several callers, group by group.
 use Rattle.std.proofs.Common.{◌≡◌, [], length, sym, subst, arith}
 use Rattle.arc_core.specs.Config.{IsConfig}
+use Rattle.trace_run.specs.Openings.{AllKnow, openings_of}
+use Rattle.trace_run.proofs.CellRun.{closed-cells}
 use Rattle.trace_run.proofs.GroupRunLemmas.{come-wait, group-together, lines-acts, may-resize}
 use Rattle.trace_run.proofs.GroupsLemmas.{crew-rows, have-started}
+use Rattle.trace_run.proofs.OpenLemmas.{last-knows}
 use Rattle.trace_run.proofs.StepLemmas.{between-begun}
 use Rattle.trace_run.proofs.together.run_together.Goals as goal
 
@@ -31,14 +34,16 @@ all_groups-requires-clause-between g c κs within =
     let many : length c.in_ok-crew.crew.kept.items ≡ length c.in_ok-crew.crew.parties.items = let a = c.in_ok-crew.crew.kept.ok.0 in let b = c.in_ok-crew.crew.parties.ok.0 in let e = c.in_ok-crew.ensures.count in omega (arith, a, b, e) in (
       c.args.restored.now,
       between-begun c.in_ok-arcs.arcs c.args.restored.now g.P.Pool c.args.trace.now c.args.pool.now c.in_ok-arcs.parties.items c.in_ok-crew.crew c.in_ok-crew-2.crew
-          c.in_ok-arcs.ensures.parties c.in_ok-crew.ensures.parties c.in_ok-crew.ensures.none many c.in_ok-crew-2.ensures.made c.in_ok-crew-2.ensures.kept,
+          c.in_ok-arcs.ensures.parties c.in_ok-crew.ensures.parties c.in_ok-crew.ensures.none many c.in_ok-crew-2.ensures.made c.in_ok-crew-2.ensures.kept
+          (last-knows (openings_of c.args.trace.now) c.in_ok-crew.crew.parties.items c.in_ok-crew.crew.feeder (subst (AllKnow (openings_of c.args.trace.now)) c.in_ok-crew.ensures.parties c.in_ok-arcs.ensures.known)),
     )
 
 pub close_crew-requires-clause-callers : goal.close_crew-requires-clause-callers
 close_crew-requires-clause-callers g c =
     let many : length c.in_ok-crew.crew.kept.items ≡ length c.in_ok-crew.crew.parties.items = let a = c.in_ok-crew.crew.kept.ok.0 in let b = c.in_ok-crew.crew.parties.ok.0 in let e = c.in_ok-crew.ensures.count in omega (arith, a, b, e) in
     let begun = between-begun c.in_ok-arcs.arcs c.args.restored.now g.P.Pool c.args.trace.now c.args.pool.now c.in_ok-arcs.parties.items c.in_ok-crew.crew c.in_ok-crew-2.crew
-    c.in_ok-arcs.ensures.parties c.in_ok-crew.ensures.parties c.in_ok-crew.ensures.none many c.in_ok-crew-2.ensures.made c.in_ok-crew-2.ensures.kept in
+    c.in_ok-arcs.ensures.parties c.in_ok-crew.ensures.parties c.in_ok-crew.ensures.none many c.in_ok-crew-2.ensures.made c.in_ok-crew-2.ensures.kept
+    (last-knows (openings_of c.args.trace.now) c.in_ok-crew.crew.parties.items c.in_ok-crew.crew.feeder (subst (AllKnow (openings_of c.args.trace.now)) c.in_ok-crew.ensures.parties c.in_ok-arcs.ensures.known)) in
     let come = (c.in_ok-crew-3.ensures.stopped c.args.restored.now begun).between.come in
     (lines-acts c.in_ok-arcs.arcs _ _ _ _ _ _ _ come, come-wait c.in_ok-arcs.arcs _ _ _ _ _ _ _ come)
 
@@ -46,15 +51,17 @@ pub close_crew-requires-clause-feeder : goal.close_crew-requires-clause-feeder
 close_crew-requires-clause-feeder g c =
     let many : length c.in_ok-crew.crew.kept.items ≡ length c.in_ok-crew.crew.parties.items = let a = c.in_ok-crew.crew.kept.ok.0 in let b = c.in_ok-crew.crew.parties.ok.0 in let e = c.in_ok-crew.ensures.count in omega (arith, a, b, e) in
     let begun = between-begun c.in_ok-arcs.arcs c.args.restored.now g.P.Pool c.args.trace.now c.args.pool.now c.in_ok-arcs.parties.items c.in_ok-crew.crew c.in_ok-crew-2.crew
-    c.in_ok-arcs.ensures.parties c.in_ok-crew.ensures.parties c.in_ok-crew.ensures.none many c.in_ok-crew-2.ensures.made c.in_ok-crew-2.ensures.kept in
+    c.in_ok-arcs.ensures.parties c.in_ok-crew.ensures.parties c.in_ok-crew.ensures.none many c.in_ok-crew-2.ensures.made c.in_ok-crew-2.ensures.kept
+    (last-knows (openings_of c.args.trace.now) c.in_ok-crew.crew.parties.items c.in_ok-crew.crew.feeder (subst (AllKnow (openings_of c.args.trace.now)) c.in_ok-crew.ensures.parties c.in_ok-arcs.ensures.known)) in
     let come = (c.in_ok-crew-3.ensures.stopped c.args.restored.now begun).between.come in
-    (_, _, come.feeder)
+    (_, _, _, come.feeder)
 
 pub close_crew-requires-clause-count : goal.close_crew-requires-clause-count
 close_crew-requires-clause-count g c =
     let many : length c.in_ok-crew.crew.kept.items ≡ length c.in_ok-crew.crew.parties.items = let a = c.in_ok-crew.crew.kept.ok.0 in let b = c.in_ok-crew.crew.parties.ok.0 in let e = c.in_ok-crew.ensures.count in omega (arith, a, b, e) in
     let begun = between-begun c.in_ok-arcs.arcs c.args.restored.now g.P.Pool c.args.trace.now c.args.pool.now c.in_ok-arcs.parties.items c.in_ok-crew.crew c.in_ok-crew-2.crew
-    c.in_ok-arcs.ensures.parties c.in_ok-crew.ensures.parties c.in_ok-crew.ensures.none many c.in_ok-crew-2.ensures.made c.in_ok-crew-2.ensures.kept in
+    c.in_ok-arcs.ensures.parties c.in_ok-crew.ensures.parties c.in_ok-crew.ensures.none many c.in_ok-crew-2.ensures.made c.in_ok-crew-2.ensures.kept
+    (last-knows (openings_of c.args.trace.now) c.in_ok-crew.crew.parties.items c.in_ok-crew.crew.feeder (subst (AllKnow (openings_of c.args.trace.now)) c.in_ok-crew.ensures.parties c.in_ok-arcs.ensures.known)) in
     let kepts = (c.in_ok-crew-3.ensures.stopped c.args.restored.now begun).between.come.kepts in
     let long = c.in_ok-crew-3.crew.kept.ok.0 in
     omega (arith, kepts, long)
@@ -63,6 +70,16 @@ pub returns-clause-ran : goal.returns-clause-ran
 returns-clause-ran g c =
     let many : length c.in_ok-crew.crew.kept.items ≡ length c.in_ok-crew.crew.parties.items = let a = c.in_ok-crew.crew.kept.ok.0 in let b = c.in_ok-crew.crew.parties.ok.0 in let e = c.in_ok-crew.ensures.count in omega (arith, a, b, e) in
     let begun = between-begun c.in_ok-arcs.arcs c.args.restored.now g.P.Pool c.args.trace.now c.args.pool.now c.in_ok-arcs.parties.items c.in_ok-crew.crew c.in_ok-crew-2.crew
-    c.in_ok-arcs.ensures.parties c.in_ok-crew.ensures.parties c.in_ok-crew.ensures.none many c.in_ok-crew-2.ensures.made c.in_ok-crew-2.ensures.kept in
+    c.in_ok-arcs.ensures.parties c.in_ok-crew.ensures.parties c.in_ok-crew.ensures.none many c.in_ok-crew-2.ensures.made c.in_ok-crew-2.ensures.kept
+    (last-knows (openings_of c.args.trace.now) c.in_ok-crew.crew.parties.items c.in_ok-crew.crew.feeder (subst (AllKnow (openings_of c.args.trace.now)) c.in_ok-crew.ensures.parties c.in_ok-arcs.ensures.known)) in
     let config = c.in_ok-arcs.ensures.config in
-    group-together _ c.in_ok-arcs.arcs g.P.Pool c.args.pool.now c.all_groups.new.pool c.args.trace.now c.requires.formed config (subst IsConfig (sym config) c.requires.formed.config) _ c.args.restored.now _ _ (c.in_ok-crew-3.ensures.stopped c.args.restored.now begun) c.in_ok-closed.closed c.in_ok-closed.ensures.closed
+    group-together _ c.in_ok-arcs.arcs g.P.Pool c.args.pool.now c.all_groups.new.pool c.args.trace.now c.requires.formed config (subst IsConfig (sym config) c.requires.formed.config) _ c.args.restored.now _ _ (c.in_ok-crew-3.ensures.stopped c.args.restored.now begun) c.in_ok-closed.closed c.in_ok-closed.ensures
+
+pub returns-clause-cells : goal.returns-clause-cells
+returns-clause-cells g c =
+    let many : length c.in_ok-crew.crew.kept.items ≡ length c.in_ok-crew.crew.parties.items = let a = c.in_ok-crew.crew.kept.ok.0 in let b = c.in_ok-crew.crew.parties.ok.0 in let e = c.in_ok-crew.ensures.count in omega (arith, a, b, e) in
+    let begun = between-begun c.in_ok-arcs.arcs c.args.restored.now g.P.Pool c.args.trace.now c.args.pool.now c.in_ok-arcs.parties.items c.in_ok-crew.crew c.in_ok-crew-2.crew
+    c.in_ok-arcs.ensures.parties c.in_ok-crew.ensures.parties c.in_ok-crew.ensures.none many c.in_ok-crew-2.ensures.made c.in_ok-crew-2.ensures.kept
+    (last-knows (openings_of c.args.trace.now) c.in_ok-crew.crew.parties.items c.in_ok-crew.crew.feeder (subst (AllKnow (openings_of c.args.trace.now)) c.in_ok-crew.ensures.parties c.in_ok-arcs.ensures.known)) in
+    let config = c.in_ok-arcs.ensures.config in
+    closed-cells c.in_ok-arcs.arcs g.P.Pool c.args.pool.now c.all_groups.new.pool c.args.trace.now c.requires.formed config (subst IsConfig (sym config) c.requires.formed.config) _ c.args.restored.now _ _ (c.in_ok-crew-3.ensures.stopped c.args.restored.now begun) c.in_ok-closed.closed c.in_ok-closed.ensures

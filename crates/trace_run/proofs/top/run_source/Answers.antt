@@ -1,6 +1,7 @@
 use Rattle.std.proofs.Common.{rules, ◌≡◌, Option, sym, ap, ◌∙◌, subst}
 use Rattle.trace_text.specs.declared.trace.Trace.{Trace}
 use Rattle.trace_run.specs.Bounded.{device_len, with_bound}
+use Rattle.trace_run.specs.CellEnds.{AreCellsOf}
 use Rattle.trace_run.specs.Devices.{Finds}
 use Rattle.trace_run.specs.Outcome.{IsReport, IsRun}
 use Rattle.trace_run.specs.States.{handed}
@@ -40,6 +41,7 @@ returns-in-Ok-ran-clause-does g c =
         run = subst (λ (t : Trace). IsRun g.P.Pool c.args.pool.now c.run_trace-ran.new.pool t run.0 told.closed told.report) bounded run.1;
         status = run.2;
         whole = c.in-Ok-ran.ensures.whole;
+        cells = subst (λ (t : Trace). AreCellsOf t told.closed) bounded c.in-Ok-ran.ensures.cells;
       });
       sink = search rules;
       present = search rules;
