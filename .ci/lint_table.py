@@ -249,7 +249,7 @@ def run(program, words, text, special=None):
     stdin = os.open('folder' if text == 'folder' else 'source', os.O_RDONLY)
     stdout = {'cut': 'cut', 'full': '/dev/full'}.get(special, 'out')
     opened = os.open(stdout, os.O_WRONLY | os.O_CREAT | os.O_TRUNC)
-    ended = subprocess.run([program, *words], stdin=stdin, stdout=opened, stderr=subprocess.PIPE, preexec_fn=prepare, timeout=60)
+    ended = subprocess.run([program, *words], stdin=stdin, stdout=opened, stderr=subprocess.PIPE, preexec_fn=prepare if special else None, timeout=60)
     os.close(stdin)
     os.close(opened)
     output = b'' if special == 'full' else open(stdout, 'rb').read()

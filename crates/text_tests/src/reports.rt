@@ -325,8 +325,8 @@ fn has_lines(
 /// What a start found that restored so many keys.
 fn found(alloc: Global, keys: u64, stop: Stop) -> Result<Rebuilt, AllocError> {
     let mut list = Vec::new(alloc);
-    for number in 0..keys {
-        let place = number * 512;
+    for _ in 0..keys {
+        let place = 4096;
         let digest = None;
         list.push(Restored {
             key: KEY,
