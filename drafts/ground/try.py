@@ -1,0 +1,28 @@
+#!/usr/bin/env python3
+"""try.py CRATE LABEL NAME..: plants wrong bodies of one crate in the scratch clone, checks their functions, reverts."""
+import subprocess, sys, os, time, resource
+sys.path.insert(0, '/tmp/g')
+from bodies2 import BODIES
+pass
+crate, label = sys.argv[1:3]; names = sys.argv[3:]
+root = f'/work/ground-scratch/crates/{crate}'
+saved = {}; only = []
+try:
+    for name, fs, pairs in BODIES[crate]:
+        if names and name not in names: continue
+        for file, old, new in pairs:
+            p = f'{root}/{file}'; t = open(p).read(); saved.setdefault(p, t)
+            if old is None: open(p,'w').write(new(t)); continue
+            assert t.count(old) == 1, (name, file, old, t.count(old))
+            open(p, 'w').write(t.replace(old, new))
+        for f in fs:
+            if f not in only: only.append(f)
+    words = ['rt','check','--jobs','1','--allow-holes']
+    for f in only: words += ['--only', f]
+    t0 = time.time()
+    r = subprocess.run(words, cwd=root, stdout=open(f'/tmp/g/{crate}.{label}.log','w'), stderr=subprocess.STDOUT)
+    rc = r.returncode
+finally:
+    for p, t in saved.items(): open(p, 'w').write(t)
+ru = resource.getrusage(resource.RUSAGE_CHILDREN)
+print(time.strftime('%H:%M:%S'), crate, label, 'status', rc, 'wall', int(time.time()-t0), 'cpu', int(ru.ru_utime+ru.ru_stime), flush=True)
