@@ -23,7 +23,7 @@ use Rattle.arc_table.specs.Holding.{IsHeld, IsHoldOf}
 use Rattle.arc_table.specs.Items.{Meanings}
 use Rattle.arc_table.specs.Reading.{AnswersRead, Outside}
 use Rattle.arc_table.specs.Trying.{FindsBusy}
-use Rattle.arc_table.proofs.AfterRead.{read_stays}
+use Rattle.arc_table.proofs.reads.AfterRead.{read_stays}
 use Rattle.arc_table.proofs.Afterwards.{Stays, does_seen, does_stays}
 use Rattle.arc_examples.specs.Ready.{Gets, HasGivenBack, HasGot, IsAsBefore, IsReady, IsReadyAs}
 use Rattle.arc_examples.proofs.Holds.{drop-holds, gained-back, hit-gains, none-holds, own-hold, release-holds}

@@ -21,16 +21,16 @@ use Rattle.arc_table.specs.declared.view.Known.{Known}
 use Rattle.arc_table.specs.declared.view.Ledger.{Ledger}
 use Rattle.arc_table.specs.Booking.{digest_at, with_hold, without_hold}
 use Rattle.arc_table.specs.Both.{Does}
-use Rattle.arc_table.specs.Counted.{Rests}
-use Rattle.arc_table.specs.Ending.{DoesRoomy}
+use Rattle.arc_table.specs.pact.Counted.{Rests}
+use Rattle.arc_table.specs.scans.Ending.{DoesRoomy}
 use Rattle.arc_table.specs.Geometry.{shard_turn}
 use Rattle.arc_table.specs.Holding.{IsHeld, IsOneOf, cell, own, ptr_of}
 use Rattle.arc_table.specs.Items.{Meanings}
-use Rattle.arc_table.specs.Scanning.{ArePasses}
+use Rattle.arc_table.specs.scans.Scanning.{ArePasses}
 use Rattle.arc_table.specs.ShardGiving.{holds_through}
 use Rattle.arc_table.proofs.Afterwards.{does_ledger, does_stays}
 use Rattle.arc_table.proofs.Reached.{reached, rests}
-use Rattle.arc_table.proofs.RoomyAfter.{does_roomy_ledger}
+use Rattle.arc_table.proofs.scans.RoomyAfter.{does_roomy_ledger}
 use Rattle.arc_examples.specs.Ready.{Gains}
 
 -- a scan and its miss give no hold

@@ -24,9 +24,9 @@ use Rattle.arc_table.specs.Both.{Does}
 use Rattle.arc_table.specs.Holding.{IsHeld}
 use Rattle.arc_table.specs.Items.{Meanings}
 use Rattle.arc_table.specs.Reading.{Answers, AnswersRead, EndsAtPool, EndsMiss, EndsPast, GoesToPool, Outside, TurnsToPool, Waits, answered, cleared, from_device, from_none, from_pool, hit, missed, no_memory, past, read, refused, unread, unserved}
-use Rattle.arc_table.proofs.AfterRead.{stays_config, turns_stays, waits_stays}
+use Rattle.arc_table.proofs.reads.AfterRead.{stays_config, turns_stays, waits_stays}
 use Rattle.arc_table.proofs.Afterwards.{does_ledger}
-use Rattle.arc_table.proofs.RoomyAfter.{does_roomy_stays}
+use Rattle.arc_table.proofs.scans.RoomyAfter.{does_roomy_stays}
 use Rattle.arc_examples.specs.Ready.{Gains}
 use Rattle.arc_examples.proofs.Holds.{arrive-gains, hit-gains, miss-holds, none-holds, same-gains}
 

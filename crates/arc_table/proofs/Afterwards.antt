@@ -12,7 +12,7 @@ use Rattle.arc_table.specs.declared.view.Known.{Known}
 use Rattle.arc_table.specs.declared.view.Line.TheVariants as line
 use Rattle.arc_table.specs.Both.{Does}
 use Rattle.arc_table.specs.Cache.{Cache, IsPartyOf}
-use Rattle.arc_table.specs.Feeding.{Restores}
+use Rattle.arc_table.specs.feeder.Feeding.{Restores}
 use Rattle.arc_table.specs.Fronts.{front_of}
 use Rattle.arc_table.specs.Geometry.{shard_turn}
 use Rattle.arc_table.specs.Items.{Meanings}

@@ -13,9 +13,9 @@ use Rattle.arc_table.specs.declared.view.Mine.{Mine}
 use Rattle.arc_table.specs.Fronts.{with_at, front_of, put, StartsWith}
 use Rattle.arc_table.specs.Geometry.{parties_of}
 use Rattle.arc_table.specs.Items.{Meanings, lines_in}
-use Rattle.arc_table.specs.Logged.{HasPlace, IsOwn, IsSoundItem, Logged}
-use Rattle.arc_table.specs.Passed.{IsPassNoted, Passed}
-use Rattle.arc_table.specs.Scene.{Scene}
+use Rattle.arc_table.specs.pact.Logged.{HasPlace, IsOwn, IsSoundItem, Logged}
+use Rattle.arc_table.specs.pact.Passed.{IsPassNoted, Passed}
+use Rattle.arc_table.specs.pact.Scene.{Scene}
 use Rattle.arc_table.specs.TableLaws.{at_here, at_else, front_here, front_else, get_front, starts_more, starts_whole, there, within}
 use Rattle.arc_table.proofs.Begun.{InEither, front, rest, in_either}
 

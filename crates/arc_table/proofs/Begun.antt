@@ -10,7 +10,7 @@ use Rattle.arc_table.specs.declared.item.Item.{Item}
 use Rattle.arc_table.specs.declared.item.Item.TheVariants as item
 use Rattle.arc_table.specs.Geometry.{turns_of}
 use Rattle.arc_table.specs.Items.{no_chain}
-use Rattle.arc_table.specs.Opening.{AreFresh, AreOpeningLogs, IsFresh, IsOpeningLog}
+use Rattle.arc_table.specs.opening.Opening.{AreFresh, AreOpeningLogs, IsFresh, IsOpeningLog}
 use Rattle.arc_table.specs.TableLaws.{get_more, within}
 
 -- one more shard at its start

@@ -15,15 +15,15 @@ use Rattle.arc_table.specs.declared.about.About.{About}
 use Rattle.arc_table.specs.declared.item.Item.{Item}
 use Rattle.arc_table.specs.declared.item.Item.TheVariants as item
 use Rattle.arc_table.specs.declared.view.Known.{Known}
-use Rattle.arc_table.specs.Attached.{Attached, IsKind}
+use Rattle.arc_table.specs.pact.Attached.{Attached, IsKind}
 use Rattle.arc_table.specs.Geometry.{IsBucket, IsCell, IsShard, turns_of}
 use Rattle.arc_table.specs.Fronts.{item_at, list_at, without_item}
 use Rattle.arc_table.specs.Giving.{IsAsTaken}
 use Rattle.arc_table.specs.Items.{Meanings, holds_in}
-use Rattle.arc_table.specs.Rule.{Pact}
-use Rattle.arc_table.specs.Scene.{Scene}
+use Rattle.arc_table.specs.pact.Rule.{Pact}
+use Rattle.arc_table.specs.pact.Scene.{Scene}
 use Rattle.arc_table.specs.Views.{after_lost, after_same}
-use Rattle.arc_table.specs.AttachedLaws.{StillTaken, mine, theirs, attached_moved, free_taken, free_same}
+use Rattle.arc_table.specs.pact.AttachedLaws.{StillTaken, mine, theirs, attached_moved, free_taken, free_same}
 use Rattle.arc_table.specs.TableLaws.{same_at, without_else}
 
 some_same : {A : Type 0} (x y : A) → ◌≡◌ {A = Option A} (Some x) (Some y) → x ≡ y

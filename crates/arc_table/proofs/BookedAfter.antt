@@ -36,7 +36,7 @@ use Rattle.arc_core.proofs.Counting.{counting, held-cached, held-kept}
 use Rattle.arc_core.proofs.Others.{own-entry, sparing}
 use Rattle.arc_core.proofs.Sparing.{spared-held}
 use Rattle.arc_table.specs.Booking.{AreBooked, IsBookedAfter, digest_at, holds_after, readings_after, with_hold, without_hold, without_reading}
-use Rattle.arc_table.specs.Counted.{IsRead, Rests, readings_of}
+use Rattle.arc_table.specs.pact.Counted.{IsRead, Rests, readings_of}
 use Rattle.arc_table.proofs.Bookings.{begun_reading, from_without, holds_cons, readings_cons, reading_without, without_else, reading_else}
 use Rattle.arc_table.proofs.ShardGives.{entry_sound, option_case}
 

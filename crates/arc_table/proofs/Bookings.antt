@@ -19,7 +19,7 @@ use Rattle.arc_core.specs.Sound.{IsSound}
 use Rattle.arc_core.specs.Step.{after, legal}
 use Rattle.arc_core.proofs.Soundness.{IsSound-after}
 use Rattle.arc_table.specs.Booking.{AreBooked, IsBookedAfter, digest_at, holds_after, readings_after, with_hold, without_hold, without_reading}
-use Rattle.arc_table.specs.Counted.{readings_of}
+use Rattle.arc_table.specs.pact.Counted.{readings_of}
 use Rattle.arc_table.specs.ShardGiving.{holds_through, readings_through}
 
 -- ---- a number that the events are not of

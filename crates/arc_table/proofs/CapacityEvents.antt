@@ -17,16 +17,16 @@ use Rattle.arc_table.specs.declared.both.Both.{Both}
 use Rattle.arc_table.specs.declared.scan.Scan.{Scan}
 use Rattle.arc_table.specs.declared.view.Known.{Known}
 use Rattle.arc_table.specs.Both.{Does}
-use Rattle.arc_table.specs.Ending.{HasMade}
-use Rattle.arc_table.specs.Evicting.{HasScanned}
+use Rattle.arc_table.specs.scans.Ending.{HasMade}
+use Rattle.arc_table.specs.scans.Evicting.{HasScanned}
 use Rattle.arc_table.specs.Geometry.{shard_turn}
 use Rattle.arc_table.specs.Items.{Meanings}
-use Rattle.arc_table.specs.Picking.{nth_shard_turn}
+use Rattle.arc_table.specs.feeder.Picking.{nth_shard_turn}
 use Rattle.arc_table.specs.Resizing.{ResizesOne, key_in}
 use Rattle.arc_table.proofs.Afterwards.{Stays, does_stays}
-use Rattle.arc_table.proofs.FeedEvents.{number_is}
-use Rattle.arc_table.proofs.MissEvents.{same_number}
-use Rattle.arc_table.proofs.RoomyAfter.{does_roomy_stays}
+use Rattle.arc_table.proofs.feeder.FeedEvents.{number_is}
+use Rattle.arc_table.proofs.reads.MissEvents.{same_number}
+use Rattle.arc_table.proofs.scans.RoomyAfter.{does_roomy_stays}
 
 -- ---- the key by which the first bucket of a shard is taken
 

@@ -12,12 +12,12 @@ use Rattle.turn_table.specs.Places.{Place, AreFree, SomeHas, ShowAll, newcomers}
 use Rattle.arc_table.specs.declared.item.Item.{Item}
 use Rattle.arc_table.specs.declared.item.Item.TheVariants as item
 use Rattle.arc_table.specs.declared.view.Known.{Known}
-use Rattle.arc_table.specs.Attached.{IsKind}
+use Rattle.arc_table.specs.pact.Attached.{IsKind}
 use Rattle.arc_table.specs.Cache.{Cache, all_newcomers}
 use Rattle.arc_table.specs.Ended.{Ended, AreAtRest, Ends, cells_in, chains_in, shards_in}
 use Rattle.arc_table.specs.Geometry.{parties_of, turns_of}
 use Rattle.arc_table.specs.Items.{Meanings}
-use Rattle.arc_table.specs.Rule.{Pact}
+use Rattle.arc_table.specs.pact.Rule.{Pact}
 use Rattle.arc_table.specs.Views.{newcomer}
 use Rattle.arc_table.specs.declared.about.About.{About}
 

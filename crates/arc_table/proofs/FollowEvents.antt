@@ -22,13 +22,13 @@ use Rattle.turn_table.specs.Places.{Place}
 use Rattle.arc_table.specs.declared.both.Both.{Both}
 use Rattle.arc_table.specs.declared.view.Known.{Known}
 use Rattle.arc_table.specs.Geometry.{shard_turn}
-use Rattle.arc_table.specs.Headed.{IsHead, Says}
+use Rattle.arc_table.specs.pact.Headed.{IsHead, Says}
 use Rattle.arc_table.specs.InHand.{made_since}
 use Rattle.arc_table.specs.Items.{Meanings}
 use Rattle.arc_table.specs.Making.{IsMade, IsTaken}
 use Rattle.arc_table.specs.ShardGiving.{IsActor}
-use Rattle.arc_table.specs.Standing.{Follows, followed}
-use Rattle.arc_table.proofs.HitEvents.{head_there, says_changed}
+use Rattle.arc_table.specs.pact.Standing.{Follows, followed}
+use Rattle.arc_table.proofs.reads.HitEvents.{head_there, says_changed}
 use Rattle.arc_table.proofs.OneEvent.{is_lone, one_made, some_is, taken_head}
 
 -- the entry f is e with another state and place, and other holds

@@ -17,9 +17,9 @@ use Rattle.arc_table.specs.declared.item.Item.TheVariants as item
 use Rattle.arc_table.specs.declared.view.Known.{Known}
 use Rattle.arc_table.specs.Fronts.{item_at}
 use Rattle.arc_table.specs.Geometry.{bucket_turn, shard_turn}
-use Rattle.arc_table.specs.Headed.{IsHead}
+use Rattle.arc_table.specs.pact.Headed.{IsHead}
 use Rattle.arc_table.specs.Items.{Meanings, headers_in, shard_in}
-use Rattle.arc_table.specs.Rule.{Pact}
+use Rattle.arc_table.specs.pact.Rule.{Pact}
 
 module _ {C : Type 0} (m : Meanings C) (p : Place (Known C)) (i : ℕ) (l : ShardLog) (f : WasFree (Pact m) p i (item.Shard l)) where
   -- the configuration that the party knows is the one of that moment

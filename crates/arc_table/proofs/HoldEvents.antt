@@ -32,7 +32,7 @@ use Rattle.arc_table.specs.Booking.{digest_at, with_hold, without_hold}
 use Rattle.arc_table.specs.Both.{Makes, TakesBoth}
 use Rattle.arc_table.specs.Fronts.{list_at}
 use Rattle.arc_table.specs.Geometry.{IsCell, cell_number}
-use Rattle.arc_table.specs.Headed.{IsHead}
+use Rattle.arc_table.specs.pact.Headed.{IsHead}
 use Rattle.arc_table.specs.Holding.{IsListed, own, cell}
 use Rattle.arc_table.specs.Items.{Meanings}
 use Rattle.arc_table.specs.ShardGiving.{ActsFor, SameHead, holds_through, listed_after}

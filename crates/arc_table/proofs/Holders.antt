@@ -23,8 +23,8 @@ use Rattle.arc_table.specs.declared.view.Known.{Known}
 use Rattle.arc_table.specs.Both.{TakesBoth}
 use Rattle.arc_table.specs.Holding.{IsListed}
 use Rattle.arc_table.specs.Items.{Meanings}
-use Rattle.arc_table.specs.Standing.{StandsSo}
-use Rattle.arc_table.proofs.HitEvents.{kept_is, passing}
+use Rattle.arc_table.specs.pact.Standing.{StandsSo}
+use Rattle.arc_table.proofs.reads.HitEvents.{kept_is, passing}
 use Rattle.arc_table.proofs.Reached.{IsHolding, holding, listed_still, sound_log}
 use Rattle.arc_table.proofs.ShardGives.{entry_sound}
 use Rattle.arc_table.proofs.Standings.{both_true}

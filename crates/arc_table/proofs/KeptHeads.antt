@@ -16,7 +16,7 @@ use Rattle.arc_core.specs.PlainShard.{is_resident}
 use Rattle.hash_chain.specs.declared.header.Header.{Header}
 use Rattle.hash_chain.specs.Chain.{Chain, IsWith, given, header_at, lent}
 use Rattle.hash_chain.specs.Keeping.{KeptBlock, with_spare, without_spare}
-use Rattle.arc_table.specs.Headed.{IsHead, Says}
+use Rattle.arc_table.specs.pact.Headed.{IsHead, Says}
 use Rattle.arc_table.specs.Ready.{IsReady}
 
 -- its block is the one that it was

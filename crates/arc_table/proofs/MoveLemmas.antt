@@ -11,15 +11,15 @@ use Rattle.arc_core.specs.ShardLog.{ShardLog}
 use Rattle.turn_table.specs.Places.{Place}
 use Rattle.arc_table.specs.declared.view.Known.{Known}
 use Rattle.arc_table.specs.Both.{Does}
-use Rattle.arc_table.specs.Ending.{DoesRoomy}
+use Rattle.arc_table.specs.scans.Ending.{DoesRoomy}
 use Rattle.arc_table.specs.Geometry.{parties_of}
 use Rattle.arc_table.specs.Items.{Meanings}
 use Rattle.arc_table.specs.Telling.{opening_of}
 use Rattle.arc_table.specs.Seen.{AddsAll, AddsOwn, AreOwn, HasAll, HasSeenItsOwn, Made, seen_of}
 use Rattle.arc_table.proofs.MadeLemmas.{does-made}
 use Rattle.arc_table.proofs.OwnLemmas.{made-all, made-alone, made-now, made-own, made-sees}
-use Rattle.arc_table.proofs.ReadMoments.{moment, own-one, own-single}
-use Rattle.arc_table.proofs.RoomyLemmas.{roomy-made}
+use Rattle.arc_table.proofs.reads.ReadMoments.{moment, own-one, own-single}
+use Rattle.arc_table.proofs.scans.RoomyLemmas.{roomy-made}
 use Rattle.arc_table.proofs.ToldLemmas.{adds-all-then, adds-own-then}
 
 -- In this shard the party p made these moments, of these events: it is q.

@@ -44,11 +44,11 @@ use Rattle.arc_table.specs.declared.view.Note.{Note}
 use Rattle.arc_table.specs.Both.{Makes, TakesBoth}
 use Rattle.arc_table.specs.Fronts.{item_at, list_at}
 use Rattle.arc_table.specs.Geometry.{IsBucket, bucket_turn, shard_turn}
-use Rattle.arc_table.specs.Headed.{IsHead}
+use Rattle.arc_table.specs.pact.Headed.{IsHead}
 use Rattle.arc_table.specs.Holding.{IsListed}
 use Rattle.arc_table.specs.InHand.{made_since}
 use Rattle.arc_table.specs.Items.{Meanings}
-use Rattle.arc_table.specs.Logged.{is_picking}
+use Rattle.arc_table.specs.pact.Logged.{is_picking}
 use Rattle.arc_table.specs.Making.{IsMade, IsTaken}
 use Rattle.arc_table.specs.ShardGiving.{ArePassesNoted, IsActor, IsGivenShard, SameHead, passes_in}
 use Rattle.arc_table.specs.TableLaws.{item_here, list_here}

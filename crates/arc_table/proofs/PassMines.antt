@@ -11,7 +11,7 @@ use Rattle.arc_table.specs.declared.view.Line.TheVariants as line
 use Rattle.arc_table.specs.declared.view.Mine.{Mine}
 use Rattle.arc_table.specs.declared.view.Note.{Note}
 use Rattle.arc_table.specs.Geometry.{bucket_turn}
-use Rattle.arc_table.specs.Passed.{IsPassNoted}
+use Rattle.arc_table.specs.pact.Passed.{IsPassNoted}
 use Rattle.arc_table.specs.ShardGiving.{ArePassesNoted, mines_of}
 use Rattle.arc_table.specs.Views.{note}
 use Rattle.arc_table.proofs.Appending.{AreMines}

@@ -31,23 +31,23 @@ use Rattle.arc_table.specs.declared.view.Line.TheVariants as line
 use Rattle.arc_table.specs.declared.view.Mine.{Mine}
 use Rattle.arc_table.specs.declared.view.Note.{Note}
 use Rattle.arc_table.specs.Arriving.{IsReading}
-use Rattle.arc_table.specs.Attached.{IsShown}
+use Rattle.arc_table.specs.pact.Attached.{IsShown}
 use Rattle.arc_table.specs.Both.{Takes, TakesBoth}
-use Rattle.arc_table.specs.Counted.{IsRead, Rests, begun, shard_at}
+use Rattle.arc_table.specs.pact.Counted.{IsRead, Rests, begun, shard_at}
 use Rattle.arc_table.specs.Fronts.{StartsWith, front_of, item_at, list_at, put, without_item}
 use Rattle.arc_table.specs.Giving.{IsAsTaken}
 use Rattle.arc_table.specs.Geometry.{IsCell, IsShard, bucket_turn, cell_number, numbers_of, parties_of, shard_turn}
-use Rattle.arc_table.specs.Headed.{IsHead}
+use Rattle.arc_table.specs.pact.Headed.{IsHead}
 use Rattle.arc_table.specs.Holding.{IsListed, IsOneOf, own, cell}
 use Rattle.arc_table.specs.Items.{Meanings, holds_in, lines_in, shard_in}
-use Rattle.arc_table.specs.Logged.{IsSoundItem, IsSoundLog}
-use Rattle.arc_table.specs.Rule.{Pact}
-use Rattle.arc_table.specs.Scene.{Scene}
+use Rattle.arc_table.specs.pact.Logged.{IsSoundItem, IsSoundLog}
+use Rattle.arc_table.specs.pact.Rule.{Pact}
+use Rattle.arc_table.specs.pact.Scene.{Scene}
 use Rattle.arc_table.specs.ShardGiving.{after_shard, holds_through}
 use Rattle.arc_table.specs.TableLaws.{front_else, item_else, item_here, list_else, list_here, within}
 use Rattle.arc_table.specs.Views.{after_lost}
 use Rattle.arc_table.proofs.Bookings.{holds_cons}
-use Rattle.arc_table.proofs.CellGives.{note_within}
+use Rattle.arc_table.proofs.cells.CellGives.{note_within}
 use Rattle.arc_table.proofs.HandHeads.{config_then, hand_entries, hand_headers, hand_heads, shard_then}
 use Rattle.arc_table.proofs.Ranges.{bucket_range, shard_range}
 use Rattle.arc_table.proofs.Rows.{same_shard}

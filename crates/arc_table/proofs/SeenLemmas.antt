@@ -19,14 +19,14 @@ use Rattle.arc_table.specs.declared.view.Known.{Known}
 use Rattle.arc_table.specs.declared.view.Line.{Line}
 use Rattle.arc_table.specs.declared.view.Line.TheVariants as line
 use Rattle.arc_table.specs.declared.view.Mine.{Mine}
-use Rattle.arc_table.specs.Attached.{IsShown}
+use Rattle.arc_table.specs.pact.Attached.{IsShown}
 use Rattle.arc_table.specs.Both.{TakesBoth}
 use Rattle.arc_table.specs.Fronts.{StartsWith, front_of}
 use Rattle.arc_table.specs.Geometry.{bucket_turn, parties_of, shard_turn}
 use Rattle.arc_table.specs.Items.{Meanings, lines_in}
-use Rattle.arc_table.specs.Logged.{HasPlace}
-use Rattle.arc_table.specs.Rule.{Pact}
-use Rattle.arc_table.specs.Scene.{Scene}
+use Rattle.arc_table.specs.pact.Logged.{HasPlace}
+use Rattle.arc_table.specs.pact.Rule.{Pact}
+use Rattle.arc_table.specs.pact.Scene.{Scene}
 use Rattle.arc_table.specs.TableLaws.{front_else, within}
 use Rattle.arc_table.proofs.HandHeads.{config_then, shard_then}
 use Rattle.arc_table.proofs.Ranges.{bucket_range}

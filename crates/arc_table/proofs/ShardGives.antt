@@ -46,19 +46,19 @@ use Rattle.arc_table.specs.declared.view.Line.{Line}
 use Rattle.arc_table.specs.declared.view.Line.TheVariants as line
 use Rattle.arc_table.specs.declared.view.Mine.{Mine}
 use Rattle.arc_table.specs.declared.view.Note.{Note}
-use Rattle.arc_table.specs.Attached.{Attached, IsKind, IsShown}
+use Rattle.arc_table.specs.pact.Attached.{Attached, IsKind, IsShown}
 use Rattle.arc_table.specs.Booking.{AreBooked, IsBookedAfter}
-use Rattle.arc_table.specs.Counted.{Counted, IsRead, Rests, begun, readings_of, shard_at}
+use Rattle.arc_table.specs.pact.Counted.{Counted, IsRead, Rests, begun, readings_of, shard_at}
 use Rattle.arc_table.specs.Fronts.{item_at, list_at, put, with_at, without_item}
 use Rattle.arc_table.specs.Geometry.{IsBucket, IsCell, IsShard, bucket_turn, cell_number, parties_of, numbers_of, shard_turn, turns_of}
-use Rattle.arc_table.specs.Headed.{HasBlock, Headed, IsHead}
+use Rattle.arc_table.specs.pact.Headed.{HasBlock, Headed, IsHead}
 use Rattle.arc_table.specs.Items.{Meanings, claims_in, headers_in, holds_in, lines_in, shard_in}
-use Rattle.arc_table.specs.Logged.{IsOwn, IsSoundItem, IsSoundLog, Logged}
-use Rattle.arc_table.specs.Passed.{IsPassNoted, Passed}
-use Rattle.arc_table.specs.Rule.{Pact}
-use Rattle.arc_table.specs.Scene.{Scene}
+use Rattle.arc_table.specs.pact.Logged.{IsOwn, IsSoundItem, IsSoundLog, Logged}
+use Rattle.arc_table.specs.pact.Passed.{IsPassNoted, Passed}
+use Rattle.arc_table.specs.pact.Rule.{Pact}
+use Rattle.arc_table.specs.pact.Scene.{Scene}
 use Rattle.arc_table.specs.ShardGiving.{ActsFor, AreAlike, ArePassesNoted, IsActor, IsGivenShard, SameHead, after_shard, buckets_in, holds_through, ledger_through, listed_after, mines_of, passes_in, readings_through}
-use Rattle.arc_table.specs.AttachedLaws.{StillTaken, mine, theirs, attached_moved, free_taken, free_same}
+use Rattle.arc_table.specs.pact.AttachedLaws.{StillTaken, mine, theirs, attached_moved, free_taken, free_same}
 use Rattle.arc_table.specs.TableLaws.{at_here, at_else, list_here, list_else, same_at, within, without_else}
 use Rattle.arc_table.proofs.Appending.{AreMines, Appends, append_logged, append_passed, appended, owned, owned_new}
 use Rattle.arc_table.proofs.Boards.{bucket_of, in_hand}

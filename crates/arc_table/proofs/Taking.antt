@@ -30,7 +30,7 @@ use Rattle.arc_table.specs.InHand.{buckets_of}
 use Rattle.arc_table.specs.Items.{Meanings, holds_in}
 use Rattle.arc_table.specs.Making.{IsMade}
 use Rattle.arc_table.specs.ShardGiving.{after_shard}
-use Rattle.arc_table.specs.Rule.{Pact}
+use Rattle.arc_table.specs.pact.Rule.{Pact}
 use Rattle.arc_table.specs.TableLaws.{front_here, item_here, list_here}
 use Rattle.arc_table.specs.Telling.{Tells}
 use Rattle.arc_table.specs.Trying.{FindsBusy, at_shard}

@@ -16,10 +16,10 @@ use Rattle.arc_table.specs.declared.view.Known.{Known}
 use Rattle.arc_table.specs.declared.view.Note.{Note}
 use Rattle.arc_table.specs.Fronts.{item_at, without_item}
 use Rattle.arc_table.specs.Geometry.{IsBucket, IsCell, IsShard, bucket_turn, shard_turn}
-use Rattle.arc_table.specs.Headed.{IsHead}
+use Rattle.arc_table.specs.pact.Headed.{IsHead}
 use Rattle.arc_table.specs.Items.{Meanings, headers_in, shard_in}
-use Rattle.arc_table.specs.Picking.{HasTried}
-use Rattle.arc_table.specs.Rule.{Pact}
+use Rattle.arc_table.specs.feeder.Picking.{HasTried}
+use Rattle.arc_table.specs.pact.Rule.{Pact}
 use Rattle.arc_table.specs.TableLaws.{front_else, list_else, without_else}
 use Rattle.arc_table.specs.Views.{after_lost, after_same, after_won, note, under_of}
 

@@ -13,7 +13,7 @@ use Rattle.arc_core.specs.Operations.{event_key}
 use Rattle.arc_core.specs.PlainShard.{PlainShard, count_of, entry_of, numbers}
 use Rattle.arc_core.specs.Sound.{IsSound}
 use Rattle.arc_core.specs.Step.{after, legal}
-use Rattle.arc_table.specs.Counted.{IsRead, Rests, readings_of}
+use Rattle.arc_table.specs.pact.Counted.{IsRead, Rests, readings_of}
 
 -- one hold more, of the digest that the key's entry has; and one hold of the key less
 abbrev pub with_hold : Key → Option Digest → List Ptr → List Ptr

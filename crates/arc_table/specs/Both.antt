@@ -13,7 +13,7 @@ use Rattle.arc_table.specs.declared.item.Item.TheVariants as item
 use Rattle.arc_table.specs.declared.view.Known.{Known}
 use Rattle.arc_table.specs.Geometry.{bucket_turn, shard_turn}
 use Rattle.arc_table.specs.Items.{Meanings}
-use Rattle.arc_table.specs.Rule.{Pact}
+use Rattle.arc_table.specs.pact.Rule.{Pact}
 use Rattle.arc_table.specs.ShardGiving.{after_shard}
 use Rattle.arc_table.specs.Views.{after_lost, after_same, after_won}
 

@@ -10,7 +10,7 @@ use Rattle.arc_table.specs.declared.inserts.Inserted.{Inserted}
 use Rattle.arc_table.specs.declared.inserts.Inserted.TheVariants as inserts
 use Rattle.arc_table.specs.declared.view.Known.{Known}
 use Rattle.arc_table.specs.Both.{Does}
-use Rattle.arc_table.specs.Ending.{DoesRoomy}
+use Rattle.arc_table.specs.scans.Ending.{DoesRoomy}
 use Rattle.arc_table.specs.Geometry.{cell_number}
 use Rattle.arc_table.specs.Holding.{IsHeld}
 use Rattle.arc_table.specs.Items.{Meanings}

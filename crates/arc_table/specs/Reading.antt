@@ -36,12 +36,12 @@ use Rattle.arc_table.specs.declared.read.Round.TheVariants as round
 use Rattle.arc_table.specs.declared.view.Known.{Known}
 use Rattle.arc_table.specs.Arriving.{FindsCleared}
 use Rattle.arc_table.specs.Both.{Does}
-use Rattle.arc_table.specs.Ending.{DoesRoomy}
+use Rattle.arc_table.specs.scans.Ending.{DoesRoomy}
 use Rattle.arc_table.specs.Fetching.{CameFromCache, IsAskedAtMost, IsFound, Unserved}
 use Rattle.arc_table.specs.Holding.{IsHeld, IsHoldOf}
 use Rattle.arc_table.specs.Items.{Meanings}
 use Rattle.vdev_io.specs.Calls.{Failed, Gave, MakesCall}
-use Rattle.arc_table.specs.Standing.{is_cached_with}
+use Rattle.arc_table.specs.pact.Standing.{is_cached_with}
 
 -- ---- words
 

@@ -7,10 +7,10 @@ use Rattle.turn_table.specs.Places.{Place}
 use Rattle.arc_table.specs.declared.resizes.ResizeStop.{ResizeStop}
 use Rattle.arc_table.specs.declared.view.Known.{Known}
 use Rattle.arc_table.specs.Both.{Does}
-use Rattle.arc_table.specs.Ending.{DoesRoomy}
+use Rattle.arc_table.specs.scans.Ending.{DoesRoomy}
 use Rattle.arc_table.specs.Geometry.{shard_turn}
 use Rattle.arc_table.specs.Items.{Meanings}
-use Rattle.arc_table.specs.Picking.{nth_shard_turn}
+use Rattle.arc_table.specs.feeder.Picking.{nth_shard_turn}
 
 -- A key of this shard, in its first bucket. No block has it, since its size is 0: by it a resize takes a bucket and then the shard, as
 -- every call that makes room does

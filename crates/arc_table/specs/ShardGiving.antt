@@ -25,9 +25,9 @@ use Rattle.arc_table.specs.declared.view.Note.{Note}
 use Rattle.arc_table.specs.Booking.{holds_after, readings_after}
 use Rattle.arc_table.specs.Fronts.{item_at, list_at, put, without_item}
 use Rattle.arc_table.specs.Geometry.{IsBucket, IsCell, bucket_turn, cell_number, shard_turn}
-use Rattle.arc_table.specs.Headed.{IsHead}
+use Rattle.arc_table.specs.pact.Headed.{IsHead}
 use Rattle.arc_table.specs.Items.{Meanings, lines_in}
-use Rattle.arc_table.specs.Logged.{is_picking}
+use Rattle.arc_table.specs.pact.Logged.{is_picking}
 use Rattle.arc_table.specs.Views.{note}
 
 -- ---- what follows from the events that were made

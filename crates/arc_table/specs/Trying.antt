@@ -20,7 +20,7 @@ use Rattle.arc_table.specs.Both.{Does}
 use Rattle.arc_table.specs.Geometry.{bucket_turn, shard_turn}
 use Rattle.arc_table.specs.Holding.{IsHeld, IsHoldOf}
 use Rattle.arc_table.specs.Items.{Meanings}
-use Rattle.arc_table.specs.Rule.{Pact}
+use Rattle.arc_table.specs.pact.Rule.{Pact}
 use Rattle.arc_table.specs.Telling.{Tells}
 use Rattle.arc_table.specs.Views.{after_lost, after_same, after_won}
 

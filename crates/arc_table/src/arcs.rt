@@ -5,8 +5,8 @@ ghost use Rattle.turn_table.specs.Moments.{WasSo};
 ghost use Rattle.turn_table.specs.Places.{met, IsLast, stayed, parted};
 ghost use Rattle.arc_table.specs.Cache.{IsPartyOf, all_newcomers};
 ghost use Rattle.arc_table.specs.Items.{meanings};
-ghost use Rattle.arc_table.specs.Opening.{AreFresh, AreFreshCells, about_of};
-ghost use Rattle.arc_table.specs.Rule.{Pact as pact};
+ghost use Rattle.arc_table.specs.opening.Opening.{AreFresh, AreFreshCells, about_of};
+ghost use Rattle.arc_table.specs.pact.Rule.{Pact as pact};
 ghost use Rattle.arc_table.specs.Views.{after_learned};
 
 use crate::item::Item;

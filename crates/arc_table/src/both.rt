@@ -11,7 +11,7 @@ ghost use Rattle.arc_table.specs.Items.{meanings};
 ghost use Rattle.arc_table.specs.Looking.{HasNoLook};
 ghost use Rattle.arc_table.specs.Making.{IsMade, IsOf, IsTaken};
 ghost use Rattle.arc_table.specs.Ready.{IsReady};
-ghost use Rattle.arc_table.specs.Standing.{is_cached_with};
+ghost use Rattle.arc_table.specs.pact.Standing.{is_cached_with};
 ghost use Rattle.arc_table.specs.Trying.{FindsBusy};
 ghost use Rattle.turn_table.specs.Board.{IsAmong};
 ghost use Rattle.turn_table.specs.Places.{IsOther};

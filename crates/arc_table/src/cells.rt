@@ -9,7 +9,7 @@ ghost use Rattle.arc_table.specs.Geometry.{IsCell};
 ghost use Rattle.arc_table.specs.Giving.{IsGivenCell};
 ghost use Rattle.arc_table.specs.Items.{meanings};
 ghost use Rattle.arc_table.specs.Looking.{HasNoLook};
-ghost use Rattle.arc_table.specs.Rule.{Pact as pact};
+ghost use Rattle.arc_table.specs.pact.Rule.{Pact as pact};
 ghost use Rattle.arc_table.specs.Views.{after_cell, after_lost, after_won};
 ghost use Rattle.arc_table.specs.declared.item.Item.TheVariants as item;
 ghost use Rattle.arc_table.specs.declared.view.Known.{Known};

@@ -7,11 +7,11 @@ ghost use Rattle.arc_table.specs.Cache.{IsPartyOf};
 ghost use Rattle.arc_table.specs.Items.{meanings};
 ghost use Rattle.turn_table.specs.Places.{Place, gave_back};
 ghost use Rattle.arc_table.specs.Views.{after_same};
-ghost use Rattle.arc_table.specs.Ending.{GivesAll, HasMade};
+ghost use Rattle.arc_table.specs.scans.Ending.{GivesAll, HasMade};
 ghost use Rattle.arc_table.specs.InHand.{buckets_of, made_since};
-ghost use Rattle.arc_table.specs.Sparing.{turns_in};
+ghost use Rattle.arc_table.specs.scans.Sparing.{turns_in};
 ghost use Rattle.arc_table.specs.declared.view.Known.{Known};
-ghost use Rattle.arc_table.specs.Scanning.{AllPairs, AreApart, IsInHand, gave_all, pairs_of};
+ghost use Rattle.arc_table.specs.scans.Scanning.{AllPairs, AreApart, IsInHand, gave_all, pairs_of};
 
 use crate::arcs::{Arcs, Party};
 use crate::both::Both;

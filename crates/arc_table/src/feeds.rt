@@ -5,7 +5,7 @@ ghost use Rattle.arc_core.specs.PlainShard.{is_number};
 ghost use Rattle.arc_core.specs.Step.{is_writing, may_set};
 ghost use Rattle.arc_table.specs.Both.{Does};
 ghost use Rattle.arc_table.specs.Cache.{IsPartyOf};
-ghost use Rattle.arc_table.specs.Feeding.{AnswersClear, AnswersSet, IsFeeder, IsPicked, Leaves, has_place};
+ghost use Rattle.arc_table.specs.feeder.Feeding.{AnswersClear, AnswersSet, IsFeeder, IsPicked, Leaves, has_place};
 ghost use Rattle.arc_table.specs.Items.{meanings};
 ghost use Rattle.arc_table.specs.Looking.{HasNoLook};
 

@@ -5,7 +5,7 @@ ghost use Rattle.arc_core.specs.PlainShard.{entry_of};
 ghost use Rattle.hash_chain.specs.Chain.{IsAlikeTo, IsWith, given, header_at};
 ghost use Rattle.hash_chain.specs.declared.header.Header.{Header};
 ghost use Rattle.arc_table.specs.Ready.{IsReady, has_block, keeps_block, said_near};
-ghost use Rattle.arc_table.specs.Standing.{Follows, bytes_at, bytes_of, followed};
+ghost use Rattle.arc_table.specs.pact.Standing.{Follows, bytes_at, bytes_of, followed};
 
 use crate::heap_bucket::HeapBucket;
 use arc_core::Shard;

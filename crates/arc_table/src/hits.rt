@@ -12,7 +12,7 @@ ghost use Rattle.arc_table.specs.Items.{meanings};
 ghost use Rattle.arc_table.specs.Looking.{HasNoLook};
 ghost use Rattle.arc_table.specs.Making.{IsTaken};
 ghost use Rattle.arc_table.specs.Ready.{IsReady};
-ghost use Rattle.arc_table.specs.Standing.{StandsSo, is_cached_with};
+ghost use Rattle.arc_table.specs.pact.Standing.{StandsSo, is_cached_with};
 ghost use Rattle.arc_table.specs.Trying.{AnswersHit, MayAnswerHolder};
 
 use crate::arcs::{Arcs, Party};

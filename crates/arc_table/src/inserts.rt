@@ -10,7 +10,7 @@ ghost use Rattle.turn_table.specs.Board.{IsAmong};
 ghost use Rattle.hash_chain.specs.Keeping.{kept};
 ghost use Rattle.arc_table.specs.Both.{Does, Makes};
 ghost use Rattle.arc_table.specs.Cache.{IsPartyOf};
-ghost use Rattle.arc_table.specs.Ending.{MakesRoomy};
+ghost use Rattle.arc_table.specs.scans.Ending.{MakesRoomy};
 ghost use Rattle.arc_table.specs.Geometry.{IsBucket, IsCell, bucket_turn};
 ghost use Rattle.arc_table.specs.Handing.{IsCellInHand};
 ghost use Rattle.arc_table.specs.Inserting.{AnswersInsert};

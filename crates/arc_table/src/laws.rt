@@ -1,7 +1,7 @@
 //! The laws of what a party knows after its calls: each is the contract of a function with nothing to do.
 ghost use Rattle.arc_table.specs.Cells.{IsCellKept, IsCellKeptByRead, IsCellKeptByRoomy, IsCellTaken, IsSeenAtGive, IsSeenAtTake};
 ghost use Rattle.arc_table.specs.Items.{meanings};
-ghost use Rattle.arc_table.specs.Listing.{IsPickFew, IsPickKeptByClear, IsPickKeptByRestore, IsPickLeft, IsPickOfOne, IsPickPlain, IsPickSet};
+ghost use Rattle.arc_table.specs.feeder.Listing.{IsPickFew, IsPickKeptByClear, IsPickKeptByRestore, IsPickLeft, IsPickOfOne, IsPickPlain, IsPickSet};
 
 use arc_core::Keeps;
 use vdev_io::{CacheDev, Pool};

@@ -7,7 +7,7 @@ ghost use Rattle.arc_table.specs.Cache.{IsPartyOf};
 ghost use Rattle.arc_table.specs.Geometry.{bucket_turn};
 ghost use Rattle.arc_table.specs.Items.{meanings};
 ghost use Rattle.arc_table.specs.Looking.{HasNoLook, IfLookBusy, IfSeen, IsOpen};
-ghost use Rattle.arc_table.specs.Rule.{Pact as pact};
+ghost use Rattle.arc_table.specs.pact.Rule.{Pact as pact};
 ghost use Rattle.arc_table.specs.Views.{after_lost, after_same, after_won};
 ghost use Rattle.arc_table.specs.declared.item.Item.TheVariants as item;
 

@@ -10,7 +10,7 @@ ghost use Rattle.hash_chain.specs.Chain.{IsWith};
 ghost use Rattle.turn_table.specs.Board.{IsAmong};
 ghost use Rattle.arc_table.specs.Both.{Makes};
 ghost use Rattle.arc_table.specs.Cache.{IsPartyOf};
-ghost use Rattle.arc_table.specs.Ending.{MakesRoomy};
+ghost use Rattle.arc_table.specs.scans.Ending.{MakesRoomy};
 ghost use Rattle.arc_table.specs.Geometry.{IsBucket, bucket_turn};
 ghost use Rattle.arc_table.specs.Items.{meanings};
 ghost use Rattle.arc_table.specs.Making.{IsTaken};

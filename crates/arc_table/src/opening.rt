@@ -4,7 +4,7 @@ ghost use Rattle.arc_core.specs.Config.{IsConfig};
 ghost use Rattle.arc_lists.specs.Adapting.{IsCapacity};
 ghost use Rattle.arc_core.specs.ShardLog.{ShardLog};
 ghost use Rattle.arc_table.specs.Items.{no_chain};
-ghost use Rattle.arc_table.specs.Opening.{AreFresh, AreFreshCells, AreOpeningLogs};
+ghost use Rattle.arc_table.specs.opening.Opening.{AreFresh, AreFreshCells, AreOpeningLogs};
 ghost use Rattle.arc_table.specs.declared.item.Item.TheVariants as item;
 
 use crate::heap_bucket::HeapBucket;

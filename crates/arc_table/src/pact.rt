@@ -22,10 +22,10 @@ pub struct Pact<C> {
 
 impl<C: Keeps> TurnRule<Item<C>> for Pact<C> {
     ghost use Rattle.arc_table.specs.Items.{meanings};
-    ghost use Rattle.arc_table.specs.Opening.{about_of};
-    ghost use Rattle.arc_table.specs.Rule.{Pact as pact};
+    ghost use Rattle.arc_table.specs.opening.Opening.{about_of};
+    ghost use Rattle.arc_table.specs.pact.Rule.{Pact as pact};
     ghost use Rattle.arc_table.specs.Views.{newcomer, after_won, after_lost, after_learned, no_one, IsFair};
-    ghost use Rattle.arc_table.specs.RuleLaws.{keeps_won as won_keeps, keeps_lost as lost_keeps, keeps_learned as learned_keeps};
+    ghost use Rattle.arc_table.specs.pact.RuleLaws.{keeps_won as won_keeps, keeps_lost as lost_keeps, keeps_learned as learned_keeps};
 
     type View = Known<C>;
 

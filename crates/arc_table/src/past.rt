@@ -5,7 +5,7 @@ ghost use Rattle.arc_table.specs.Both.{Makes};
 ghost use Rattle.arc_table.specs.Cache.{IsPartyOf};
 ghost use Rattle.arc_table.specs.Items.{meanings};
 ghost use Rattle.arc_table.specs.Making.{IsTaken};
-ghost use Rattle.arc_table.specs.Standing.{is_cached_with};
+ghost use Rattle.arc_table.specs.pact.Standing.{is_cached_with};
 
 use crate::arcs::{Arcs, Party};
 use crate::both::Both;

@@ -8,13 +8,13 @@ ghost use Rattle.turn_table.specs.Taken.{IfBusy, IfTaken};
 ghost use Rattle.arc_table.specs.declared.item.Item.TheVariants as item;
 ghost use Rattle.arc_table.specs.Both.{Takes};
 ghost use Rattle.arc_table.specs.Cache.{IsPartyOf};
-ghost use Rattle.arc_table.specs.Feeding.{IsFeeder};
+ghost use Rattle.arc_table.specs.feeder.Feeding.{IsFeeder};
 ghost use Rattle.arc_table.specs.Fronts.{list_at};
 ghost use Rattle.arc_table.specs.Geometry.{IsShard};
 ghost use Rattle.arc_table.specs.InHand.{made_since};
 ghost use Rattle.arc_table.specs.Items.{meanings};
 ghost use Rattle.arc_table.specs.Looking.{HasNoLook};
-ghost use Rattle.arc_table.specs.Picking.{EndsFeed, Feeds, HasNoted, HasPicked, IsBlockOf, IsFeeding, KeepsFeed, PicksAll, left_to_pick, nth_shard_turn};
+ghost use Rattle.arc_table.specs.feeder.Picking.{EndsFeed, Feeds, HasNoted, HasPicked, IsBlockOf, IsFeeding, KeepsFeed, PicksAll, left_to_pick, nth_shard_turn};
 ghost use Rattle.arc_table.specs.ShardGiving.{IsGivenShard, after_shard};
 
 use crate::arcs::{Arcs, Party};

@@ -9,7 +9,7 @@ ghost use Rattle.arc_table.specs.Items.{meanings};
 ghost use Rattle.arc_table.specs.Looking.{HasNoLook};
 ghost use Rattle.vdev_io.specs.Calls.{KeepsPool};
 ghost use Rattle.arc_table.specs.Reading.{Answers, AnswersRead, AnswersRound, EndsMiss, GoesToPool, KeepsDevice, Waits, failed_at, fault_of, outside, served_as};
-ghost use Rattle.arc_table.specs.Waiting.{HasAllIdle};
+ghost use Rattle.arc_table.specs.pact.Waiting.{HasAllIdle};
 
 use crate::arcs::{Arcs, Party};
 use crate::fetch::Unfetched;

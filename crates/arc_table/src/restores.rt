@@ -6,7 +6,7 @@ ghost use Rattle.arc_core.specs.declared.served.Restored.{Restored};
 ghost use Rattle.blk_ptr.specs.Key.{is_well_formed};
 ghost use Rattle.blk_ptr.specs.declared.state.State.{State};
 ghost use Rattle.arc_table.specs.Cache.{IsPartyOf};
-ghost use Rattle.arc_table.specs.Feeding.{AnswersOne, AnswersRestore, IsFeeder, stop_after};
+ghost use Rattle.arc_table.specs.feeder.Feeding.{AnswersOne, AnswersRestore, IsFeeder, stop_after};
 ghost use Rattle.arc_table.specs.Items.{meanings};
 ghost use Rattle.arc_table.specs.Looking.{HasNoLook};
 

@@ -10,11 +10,11 @@ ghost use Rattle.arc_core.specs.ShardLog.{AreAllNamed, IsUnnamed};
 ghost use Rattle.arc_core.specs.Step.{legal};
 ghost use Rattle.turn_table.specs.Places.{Place};
 ghost use Rattle.arc_table.specs.Cache.{IsPartyOf};
-ghost use Rattle.arc_table.specs.Evicting.{HasBothRoom, HasScanRoom, HasScanned, IsScan, IsScanning, KeepsBoth, KeepsHand, MayBegin, left_of};
+ghost use Rattle.arc_table.specs.scans.Evicting.{HasBothRoom, HasScanRoom, HasScanned, IsScan, IsScanning, KeepsBoth, KeepsHand, MayBegin, left_of};
 ghost use Rattle.arc_table.specs.Fronts.{item_at};
 ghost use Rattle.arc_table.specs.InHand.{buckets_of};
 ghost use Rattle.arc_table.specs.Items.{meanings};
-ghost use Rattle.arc_table.specs.Scanning.{takes_room};
+ghost use Rattle.arc_table.specs.scans.Scanning.{takes_room};
 ghost use Rattle.arc_table.specs.declared.view.Known.{Known};
 
 use crate::arcs::{Arcs, Party};

@@ -8,8 +8,8 @@ ghost use Rattle.hash_chain.specs.Chain.{Chain, header_at, IsWith};
 ghost use Rattle.arc_table.specs.Fronts.{item_at};
 ghost use Rattle.arc_table.specs.Geometry.{bucket_turn};
 ghost use Rattle.arc_table.specs.InHand.{buckets_of};
-ghost use Rattle.arc_table.specs.Scanning.{AllPairs, AreApart};
-ghost use Rattle.arc_table.specs.Sparing.{AreHeadsBut, spared_header, turn_place, turns_in, with_bucket};
+ghost use Rattle.arc_table.specs.scans.Scanning.{AllPairs, AreApart};
+ghost use Rattle.arc_table.specs.scans.Sparing.{AreHeadsBut, spared_header, turn_place, turns_in, with_bucket};
 
 use crate::hand::{Hand, Taken};
 use crate::heap_bucket::HeapBucket;

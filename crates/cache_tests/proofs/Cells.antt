@@ -29,14 +29,14 @@ use Rattle.arc_table.specs.Geometry.{IsCell, cell_number}
 use Rattle.arc_table.specs.Giving.{IsGivenCell}
 use Rattle.arc_table.specs.Holding.{IsHeld, cell, own, ptr_of}
 use Rattle.arc_table.specs.Items.{Meanings}
-use Rattle.arc_table.specs.Logged.{IsSoundItem}
+use Rattle.arc_table.specs.pact.Logged.{IsSoundItem}
 use Rattle.arc_table.specs.Looking.{HasNoLook}
-use Rattle.arc_table.specs.Rule.{Pact}
+use Rattle.arc_table.specs.pact.Rule.{Pact}
 use Rattle.arc_table.specs.ShardGiving.{holds_through}
 use Rattle.arc_table.specs.TableLaws.{item_here, list_here}
 use Rattle.arc_table.specs.Views.{after_won}
 use Rattle.arc_table.proofs.Afterwards.{Stays, does_stays, stays_party}
-use Rattle.arc_table.proofs.CellsInHand.{cell-lists, cell-recorded}
+use Rattle.arc_table.proofs.cells.CellsInHand.{cell-lists, cell-recorded}
 use Rattle.arc_table.proofs.Reached.{Took, holding, listed_still}
 use Rattle.arc_examples.specs.Ready.{IsReady, IsReadyAs}
 use Rattle.arc_examples.proofs.Holds.{own-hold, without-first}

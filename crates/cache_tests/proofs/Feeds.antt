@@ -15,12 +15,12 @@ use Rattle.arc_table.specs.declared.restores.RestoreStop.TheVariants as stop
 use Rattle.arc_table.specs.declared.view.Known.{Known}
 use Rattle.arc_table.specs.Both.{Does}
 use Rattle.arc_table.specs.Cache.{Cache}
-use Rattle.arc_table.specs.Feeding.{AnswersClear, AnswersRestore, AnswersSet, IsPicked, Leaves, StopsAt}
+use Rattle.arc_table.specs.feeder.Feeding.{AnswersClear, AnswersRestore, AnswersSet, IsPicked, Leaves, StopsAt}
 use Rattle.arc_table.specs.Items.{Meanings}
-use Rattle.arc_table.specs.Picking.{Feeds, PicksAll}
-use Rattle.arc_table.proofs.AfterRead.{stays_config}
+use Rattle.arc_table.specs.feeder.Picking.{Feeds, PicksAll}
+use Rattle.arc_table.proofs.reads.AfterRead.{stays_config}
 use Rattle.arc_table.proofs.Afterwards.{Stays, does_stays, restores_stays, stays_then}
-use Rattle.arc_table.proofs.FeedEnds.{feeds_stays}
+use Rattle.arc_table.proofs.feeder.FeedEnds.{feeds_stays}
 use Rattle.arc_examples.specs.Ready.{IsReady, IsReadyAs}
 use Rattle.arc_examples.proofs.Ready.{ready-stays}
 

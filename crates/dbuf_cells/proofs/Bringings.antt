@@ -18,7 +18,7 @@ use Rattle.arc_table.specs.Holding.{IsHoldOf, IsOneOf, ptr_of}
 use Rattle.arc_table.specs.Reading.{AnswersRead, Outside}
 use Rattle.arc_table.specs.declared.read.Read.{Read}
 use Rattle.arc_table.specs.declared.read.Read.TheVariants as gave
-use Rattle.arc_table.proofs.AfterRead.{stays_same}
+use Rattle.arc_table.proofs.reads.AfterRead.{stays_same}
 use Rattle.arc_table.proofs.Afterwards.{Stays, does_stays}
 use Rattle.dbuf_state.specs.Answers.{IsAnswer, AreBytesAt}
 use Rattle.dbuf_state.specs.CellLog.{CellLog}

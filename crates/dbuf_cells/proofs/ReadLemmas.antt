@@ -21,7 +21,7 @@ use Rattle.arc_table.specs.declared.read.Read.TheVariants as gave
 use Rattle.arc_table.specs.declared.view.Known.{Known}
 use Rattle.arc_table.specs.declared.view.Ledger.{Ledger}
 use Rattle.arc_table.specs.Both.{Does}
-use Rattle.arc_table.specs.Ending.{DoesRoomy}
+use Rattle.arc_table.specs.scans.Ending.{DoesRoomy}
 use Rattle.arc_table.specs.Holding.{IsHeld, IsHoldOf, IsListed, IsOneOf, own, cell, ptr_of}
 use Rattle.arc_table.specs.Items.{Meanings}
 use Rattle.dbuf_cells.specs.Loading.{IsReadOf}
@@ -29,8 +29,8 @@ use Rattle.dbuf_cells.specs.Turns.{PartyPlace, dbuf_meanings}
 use Rattle.blk_ptr.specs.Ptr.{IsOf}
 use Rattle.arc_table.specs.Reading.{Answers, AnswersRead, EndsAtPool, EndsMiss, EndsPast, GoesToPool, Outside, TurnsToPool, Waits, answered, cleared, from_device, from_none, from_pool, hit, missed, no_memory, past, read, refused, unread, unserved}
 use Rattle.arc_table.proofs.Afterwards.{Stays, does_ledger, does_stays, stays_then}
-use Rattle.arc_table.proofs.AfterRead.{stays_config, stays_same}
-use Rattle.arc_table.proofs.RoomyAfter.{does_roomy_ledger, does_roomy_stays}
+use Rattle.arc_table.proofs.reads.AfterRead.{stays_config, stays_same}
+use Rattle.arc_table.proofs.scans.RoomyAfter.{does_roomy_ledger, does_roomy_stays}
 
 -- the party is what it was to the cache, and claims what it claimed
 pub record Claiming {C : Type 0} (p q : Place (Known C)) : Type 0 where

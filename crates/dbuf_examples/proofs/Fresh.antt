@@ -5,7 +5,7 @@ use mathlib.Core.Option.{some, some-injective, some-ne-none}
 use lib.ListN.{get_elem?}
 use Rattle.blk_ptr.specs.declared.ptr.Ptr.{Ptr}
 use Rattle.arc_core.specs.declared.config.Config.{Config}
-use Rattle.arc_table.specs.Opening.{AreFreshCells, IsFreshCell}
+use Rattle.arc_table.specs.opening.Opening.{AreFreshCells, IsFreshCell}
 use Rattle.dbuf_state.specs.CellLog.{CellLog, fresh}
 use Rattle.dbuf_state.specs.Numbers.{claims_in, event_numbers, mapping_numbers}
 use Rattle.dbuf_state.specs.Soundness.{holds_in}

@@ -10,7 +10,7 @@ use Rattle.arc_table.specs.Both.{Does}
 use Rattle.arc_table.specs.Cache.{Cache}
 use Rattle.arc_table.specs.Geometry.{parties_of}
 use Rattle.arc_table.specs.Items.{Meanings}
-use Rattle.arc_table.specs.Listing.{IsFeederOf}
+use Rattle.arc_table.specs.feeder.Listing.{IsFeederOf}
 use Rattle.arc_table.specs.Seen.{AreOwnBy, IsNumberOrCell}
 use Rattle.arc_table.proofs.Afterwards.{does_stays, stays_free, stays_party}
 use Rattle.arc_table.proofs.MadeLemmas.{does-made}

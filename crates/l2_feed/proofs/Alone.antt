@@ -21,14 +21,14 @@ use Rattle.turn_table.specs.Places.{Place}
 use Rattle.arc_table.specs.declared.front.Front.{Front}
 use Rattle.arc_table.specs.declared.picks.Picked.{Picked as Block}
 use Rattle.arc_table.specs.declared.view.Known.{Known}
-use Rattle.arc_table.specs.Feeding.{has_place}
+use Rattle.arc_table.specs.feeder.Feeding.{has_place}
 use Rattle.arc_table.specs.Items.{Meanings}
-use Rattle.arc_table.specs.Listing.{all_picks, picks_of}
-use Rattle.arc_table.specs.Picking.{ArePicks, ArePicksOf, PicksAll}
+use Rattle.arc_table.specs.feeder.Listing.{all_picks, picks_of}
+use Rattle.arc_table.specs.feeder.Picking.{ArePicks, ArePicksOf, PicksAll}
 use Rattle.arc_table.specs.Seen.{HasAll, events_in, seen_of, turn_of}
 use Rattle.arc_table.specs.Telling.{Tells, opening_of}
 use Rattle.arc_table.proofs.OwnLemmas.{made-all, made-alone, made-now}
-use Rattle.arc_table.proofs.PickLaws.{plain_picks}
+use Rattle.arc_table.proofs.feeder.PickLaws.{plain_picks}
 use Rattle.arc_table.proofs.SeenLemmas.{events-map}
 use Rattle.l2_feed.specs.Acts.{Act, Absent, Cleared, DoesAct, DoesActs, Left, Picked, Placed, Refused, Unpicked, keys_of}
 use Rattle.l2_feed.specs.Alone.{AreAlone, AreOfShards, IsOfShards, events_at, listed_by, pick_of_block, picks_from, shards_after, shards_seen}

@@ -11,7 +11,7 @@ use Rattle.arc_table.specs.declared.picks.Picked.{Picked as Block}
 use Rattle.arc_table.specs.declared.view.Known.{Known}
 use Rattle.arc_table.specs.Both.{Does}
 use Rattle.arc_table.specs.Cache.{Cache}
-use Rattle.arc_table.specs.Feeding.{AnswersClear, AnswersSet, IsPicked, Leaves}
+use Rattle.arc_table.specs.feeder.Feeding.{AnswersClear, AnswersSet, IsPicked, Leaves}
 use Rattle.arc_table.specs.Items.{Meanings}
 use Rattle.l2_ring.specs.declared.live.Live.{Live}
 use Rattle.l2_feed.specs.Acts.{Act, Absent, Cleared, DoesAct, DoesActs, Left, Placed, Refused}

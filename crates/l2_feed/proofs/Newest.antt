@@ -16,9 +16,9 @@ use Rattle.turn_table.specs.Places.{Place}
 use Rattle.arc_table.specs.declared.picks.Picked.{Picked as Block}
 use Rattle.arc_table.specs.declared.view.Known.{Known}
 use Rattle.arc_table.specs.Items.{Meanings}
-use Rattle.arc_table.specs.Listing.{picks_of}
-use Rattle.arc_table.specs.Picking.{ArePicksOf, nth_shard_turn}
-use Rattle.arc_table.proofs.PickLaws.{few_picks}
+use Rattle.arc_table.specs.feeder.Listing.{picks_of}
+use Rattle.arc_table.specs.feeder.Picking.{ArePicksOf, nth_shard_turn}
+use Rattle.arc_table.proofs.feeder.PickLaws.{few_picks}
 use Rattle.l2_log.specs.Rules.{log_len}
 use Rattle.l2_ring.specs.declared.live.Written.{Written}
 use Rattle.l2_ring.specs.declared.plan.Plan.{Plan}

@@ -20,18 +20,18 @@ use Rattle.arc_table.specs.Cache.{Cache}
 use Rattle.arc_table.specs.Fronts.{list_at}
 use Rattle.arc_table.specs.Geometry.{parties_of}
 use Rattle.arc_table.specs.Items.{Meanings}
-use Rattle.arc_table.specs.Listing.{picks_of}
-use Rattle.arc_table.specs.Picking.{ArePicksOf, Feeds, PicksAll, nth_shard_turn}
-use Rattle.arc_table.specs.Rule.{Pact}
+use Rattle.arc_table.specs.feeder.Listing.{picks_of}
+use Rattle.arc_table.specs.feeder.Picking.{ArePicksOf, Feeds, PicksAll, nth_shard_turn}
+use Rattle.arc_table.specs.pact.Rule.{Pact}
 use Rattle.arc_table.specs.TableLaws.{list_here}
 use Rattle.arc_table.proofs.Afterwards.{stays_free, stays_party}
-use Rattle.arc_table.proofs.FeedBegins.{nth_range, picked_there}
-use Rattle.arc_table.proofs.FeedEnds.{feeds_stays}
-use Rattle.arc_table.proofs.FeedMade.{feeds_made, picks_made}
+use Rattle.arc_table.proofs.feeder.FeedBegins.{nth_range, picked_there}
+use Rattle.arc_table.proofs.feeder.FeedEnds.{feeds_stays}
+use Rattle.arc_table.proofs.feeder.FeedMade.{feeds_made, picks_made}
 use Rattle.arc_table.proofs.HandHeads.{config_then}
 use Rattle.arc_table.proofs.OwnLemmas.{made-sees}
-use Rattle.arc_table.proofs.PickLaws.{few_picks}
-use Rattle.arc_table.proofs.PicksAfter.{feeds_picks}
+use Rattle.arc_table.proofs.feeder.PickLaws.{few_picks}
+use Rattle.arc_table.proofs.feeder.PicksAfter.{feeds_picks}
 use Rattle.arc_table.proofs.Reached.{SameButNotes, loses_same, took_is}
 use Rattle.l2_feed.specs.Ready.{IsFeederReady, IsFeeding}
 use Rattle.l2_feed.specs.Runs.{AreWhole, bytes_of}

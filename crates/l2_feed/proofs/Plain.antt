@@ -19,7 +19,7 @@ use Rattle.arc_core.specs.PlainShard.{PlainShard}
 use Rattle.arc_core.specs.Replay.{replay}
 use Rattle.arc_core.specs.Step.{is_gone, may_set}
 use Rattle.arc_table.specs.declared.picks.Picked.{Picked as Block}
-use Rattle.arc_table.specs.Feeding.{has_place}
+use Rattle.arc_table.specs.feeder.Feeding.{has_place}
 use Rattle.l2_log.specs.Rules.{log_len}
 use Rattle.l2_ring.specs.declared.live.Live.{Live}
 use Rattle.l2_ring.specs.declared.live.Written.{Written}

@@ -19,14 +19,14 @@ use Rattle.arc_table.specs.declared.picks.Picked.{Picked as Block}
 use Rattle.arc_table.specs.declared.view.Known.{Known}
 use Rattle.arc_table.specs.Both.{Does}
 use Rattle.arc_table.specs.Cache.{Cache}
-use Rattle.arc_table.specs.Feeding.{AnswersClear, AnswersSet, IsPicked, Leaves}
+use Rattle.arc_table.specs.feeder.Feeding.{AnswersClear, AnswersSet, IsPicked, Leaves}
 use Rattle.arc_table.specs.Geometry.{parties_of, shard_turn}
 use Rattle.arc_table.specs.Items.{Meanings}
-use Rattle.arc_table.specs.Listing.{PicksAre, picks_of}
+use Rattle.arc_table.specs.feeder.Listing.{PicksAre, picks_of}
 use Rattle.arc_table.specs.Seen.{AreOwnBy, IsNumberOrCell}
-use Rattle.arc_table.specs.Picking.{ArePicksOf}
-use Rattle.arc_table.proofs.PicksAfter.{clear_picks, leave_picks, same_picks, set_picks}
-use Rattle.arc_table.proofs.ReadMoments.{own-single-by}
+use Rattle.arc_table.specs.feeder.Picking.{ArePicksOf}
+use Rattle.arc_table.proofs.feeder.PicksAfter.{clear_picks, leave_picks, same_picks, set_picks}
+use Rattle.arc_table.proofs.reads.ReadMoments.{own-single-by}
 use Rattle.l2_feed.specs.Ready.{IsFeederOn, IsFeeding}
 use Rattle.l2_feed.proofs.Acted.{does_on, feeder_of}
 

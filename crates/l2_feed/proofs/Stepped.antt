@@ -29,14 +29,14 @@ use Rattle.arc_table.specs.declared.view.Known.{Known}
 use Rattle.arc_table.specs.Both.{Does}
 use Rattle.arc_table.specs.Geometry.{parties_of}
 use Rattle.arc_table.specs.Items.{Meanings}
-use Rattle.arc_table.specs.Logged.{IsSoundItem, IsSoundLog}
-use Rattle.arc_table.specs.OpeningLaws.{opening_sound}
-use Rattle.arc_table.specs.Picking.{ArePicks, Feeds}
-use Rattle.arc_table.specs.Rule.{Pact}
-use Rattle.arc_table.specs.Scanning.{AreOfOthers}
+use Rattle.arc_table.specs.pact.Logged.{IsSoundItem, IsSoundLog}
+use Rattle.arc_table.specs.opening.OpeningLaws.{opening_sound}
+use Rattle.arc_table.specs.feeder.Picking.{ArePicks, Feeds}
+use Rattle.arc_table.specs.pact.Rule.{Pact}
+use Rattle.arc_table.specs.scans.Scanning.{AreOfOthers}
 use Rattle.arc_table.specs.Seen.{AreOwnBy, HasSeenBy, IsNumberOrCell, MadeBy, events_in, seen_of, turn_of}
 use Rattle.arc_table.specs.Telling.{opening_of}
-use Rattle.arc_table.proofs.FeedMade.{feeds_made, picks_made}
+use Rattle.arc_table.proofs.feeder.FeedMade.{feeds_made, picks_made}
 use Rattle.arc_table.proofs.HandHeads.{config_then, shard_then}
 use Rattle.arc_table.proofs.MadeLemmas.{does-made}
 use Rattle.arc_table.proofs.OwnLemmas.{made-sees}

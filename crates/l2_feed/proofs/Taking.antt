@@ -31,16 +31,16 @@ use Rattle.arc_table.specs.declared.view.Known.{Known}
 use Rattle.arc_table.specs.Both.{Does}
 use Rattle.arc_table.specs.Geometry.{shard_turn}
 use Rattle.arc_table.specs.Items.{Meanings}
-use Rattle.arc_table.specs.Listing.{picks_of}
-use Rattle.arc_table.specs.Picking.{ArePicks, ArePicksOf, nth_shard_turn}
+use Rattle.arc_table.specs.feeder.Listing.{picks_of}
+use Rattle.arc_table.specs.feeder.Picking.{ArePicks, ArePicksOf, nth_shard_turn}
 use Rattle.arc_table.specs.Seen.{events_in, turn_of}
 use Rattle.arc_table.specs.Telling.{opening_of}
-use Rattle.arc_table.proofs.PickLaws.{few_picks}
+use Rattle.arc_table.proofs.feeder.PickLaws.{few_picks}
 use Rattle.arc_table.proofs.SeenLemmas.{events-map}
 use Rattle.l2_feed.specs.Acts.{Act, Absent, Cleared, DoesAct, DoesActs, Left, Picked, Placed, Refused, Unpicked, keys_of}
 use Rattle.l2_feed.specs.Places.{IsAmongActs, IsAmongKeys, place_seen}
 use Rattle.arc_table.proofs.Afterwards.{Stays, does_stays, stays_then}
-use Rattle.arc_table.proofs.FeedEnds.{feeds_stays}
+use Rattle.arc_table.proofs.feeder.FeedEnds.{feeds_stays}
 use Rattle.l2_feed.proofs.Settling.{own_event, own_no_event}
 use Rattle.l2_feed.proofs.Stepped.{GiveNone, Knows, Stepped, does_stepped, feeds_stepped, had_before, here_now, knows_then, picks_stepped, takes_only}
 

@@ -29,15 +29,15 @@ use Rattle.arc_table.specs.declared.picks.Picked.{Picked as Block}
 use Rattle.arc_table.specs.declared.view.Known.{Known}
 use Rattle.arc_table.specs.Fronts.{list_at}
 use Rattle.arc_table.specs.Items.{Meanings}
-use Rattle.arc_table.specs.Listing.{picks_of}
-use Rattle.arc_table.specs.Logged.{is_picking}
-use Rattle.arc_table.specs.Picking.{ArePicks, ArePicksOf, Feeds, PicksAll}
-use Rattle.arc_table.specs.Rule.{Pact}
+use Rattle.arc_table.specs.feeder.Listing.{picks_of}
+use Rattle.arc_table.specs.pact.Logged.{is_picking}
+use Rattle.arc_table.specs.feeder.Picking.{ArePicks, ArePicksOf, Feeds, PicksAll}
+use Rattle.arc_table.specs.pact.Rule.{Pact}
 use Rattle.arc_table.specs.Seen.{AddsOwn, seen_of, turn_of}
 use Rattle.arc_table.specs.TableLaws.{list_here}
 use Rattle.arc_table.specs.Telling.{opening_of}
 use Rattle.arc_table.proofs.OwnLemmas.{made-own}
-use Rattle.arc_table.proofs.ReadMoments.{moment, own-one}
+use Rattle.arc_table.proofs.reads.ReadMoments.{moment, own-one}
 use Rattle.arc_table.proofs.Reached.{loses_same, took_is}
 use Rattle.l2_feed.specs.Acts.{Act, Absent, Cleared, DoesAct, DoesActs, Left, Picked, Placed, Refused, Unpicked, keys_of}
 use Rattle.l2_feed.specs.Told.{AreTold, FoundPlace, TellActs, acts_at, events_of, shard_of_act}

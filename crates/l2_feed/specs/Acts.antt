@@ -10,9 +10,9 @@ use Rattle.arc_table.specs.declared.front.Front.{Front}
 use Rattle.arc_table.specs.declared.picks.Picked.{Picked as Block}
 use Rattle.arc_table.specs.declared.view.Known.{Known}
 use Rattle.arc_table.specs.Both.{Does}
-use Rattle.arc_table.specs.Feeding.{AnswersClear, AnswersSet}
+use Rattle.arc_table.specs.feeder.Feeding.{AnswersClear, AnswersSet}
 use Rattle.arc_table.specs.Items.{Meanings}
-use Rattle.arc_table.specs.Picking.{Feeds, PicksAll, nth_shard_turn}
+use Rattle.arc_table.specs.feeder.Picking.{Feeds, PicksAll, nth_shard_turn}
 
 pub data Act : Type 0 where
   -- these blocks of the shard were picked, one after another, until there was none to pick: the feed's picks and its end there

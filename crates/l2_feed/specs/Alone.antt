@@ -13,8 +13,8 @@ use Rattle.turn_table.specs.Places.{Place}
 use Rattle.arc_table.specs.declared.picks.Picked.{Picked as Block}
 use Rattle.arc_table.specs.declared.view.Known.{Known}
 use Rattle.arc_table.specs.Booking.{digest_at}
-use Rattle.arc_table.specs.Feeding.{has_place}
-use Rattle.arc_table.specs.Listing.{all_picks}
+use Rattle.arc_table.specs.feeder.Feeding.{has_place}
+use Rattle.arc_table.specs.feeder.Listing.{all_picks}
 use Rattle.arc_table.specs.Seen.{seen_of}
 use Rattle.arc_table.specs.Telling.{opening_of}
 use Rattle.l2_feed.specs.Acts.{Act, Absent, Cleared, Left, Picked, Placed, Refused, Unpicked}

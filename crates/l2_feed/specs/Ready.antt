@@ -6,10 +6,10 @@ use Rattle.turn_table.specs.Places.{Place}
 use Rattle.arc_table.specs.declared.picks.Picked.{Picked as Block}
 use Rattle.arc_table.specs.declared.view.Known.{Known}
 use Rattle.arc_table.specs.Cache.{Cache, IsPartyOf}
-use Rattle.arc_table.specs.Feeding.{IsFeeder}
-use Rattle.arc_table.specs.Listing.{picks_of}
+use Rattle.arc_table.specs.feeder.Feeding.{IsFeeder}
+use Rattle.arc_table.specs.feeder.Listing.{picks_of}
 use Rattle.arc_table.specs.Looking.{HasNoLook}
-use Rattle.arc_table.specs.Picking.{ArePicksOf}
+use Rattle.arc_table.specs.feeder.Picking.{ArePicksOf}
 use Rattle.arc_table.specs.Seen.{HasSeenBy, IsNumberOrCell}
 use Rattle.l2_log.specs.Rules.{ring_start}
 use Rattle.l2_dev.specs.Cursor.{CursorState}

@@ -14,7 +14,7 @@ use Rattle.trace_text.specs.declared.reply.Reply.TheVariants.{Dropped, Refused}
 use Rattle.trace_text.specs.declared.reply.Refusal.TheVariants.{NoHold}
 use Rattle.trace_run.specs.Answers.{Answers, AnswersDrop, keeps, keeps_one, drops, drops_one, kept_reads, dropped_reads}
 use Rattle.trace_run.specs.Effects.{Effect, Answered, GivenBack, PoolRefused, NoEffect, effect_of}
-use Rattle.trace_run.specs.OneCaller.{is_of_block, kept_after, kept_after_drop, kept_after_hold, key_held_by, without_oldest}
+use Rattle.trace_run.specs.one_caller.OneCaller.{is_of_block, kept_after, kept_after_drop, kept_after_hold, key_held_by, without_oldest}
 use Rattle.trace_run.specs.KeptReads.{KeptRead, kept_read}
 use Rattle.arc_lists.proofs.Tables.{cases_true}
 use Rattle.std.proofs.lemmas.Bool.{eqb-true, false≢true}

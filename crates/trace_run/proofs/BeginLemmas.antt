@@ -9,7 +9,7 @@ use mathlib.Core.Option.{some}
 use lib.ListN.{get_elem?}
 use Rattle.arc_lists.proofs.Tables.{cases_true}
 use Rattle.blk_ptr.specs.declared.ptr.Ptr.{Ptr}
-use Rattle.arc_table.specs.Opening.{AreFreshCells, IsFreshCell}
+use Rattle.arc_table.specs.opening.Opening.{AreFreshCells, IsFreshCell}
 use Rattle.arc_table.specs.TableLaws.{get_more}
 use Rattle.dbuf_cells.specs.Kept.{bytes_of, is_held, key_of}
 use Rattle.dbuf_cells.specs.Places.{cell_of}

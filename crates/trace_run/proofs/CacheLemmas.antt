@@ -8,8 +8,8 @@ use Rattle.blk_ptr.specs.Order.{digest_eq}
 use Rattle.arc_lists.proofs.Tables.{cases_true}
 use Rattle.arc_core.specs.declared.entry.Entry.{Entry}
 use Rattle.arc_core.specs.PlainShard.{PlainShard, is_resident, resident_digest}
-use Rattle.trace_run.specs.Access as access
-use Rattle.trace_run.specs.Access.{access_of, found}
+use Rattle.trace_run.specs.one_caller.Access as access
+use Rattle.trace_run.specs.one_caller.Access.{access_of, found}
 
 -- ---- what an access says of the shard
 

@@ -15,7 +15,7 @@ use Rattle.trace_text.specs.declared.reply.Reply.{Reply}
 use Rattle.trace_text.specs.declared.reply.Reply.TheVariants.{Capped}
 use Rattle.vdev_io.specs.declared.pool.Pool.{Ghosts}
 use Rattle.trace_run.specs.KeptReads.{KeptRead}
-use Rattle.trace_run.specs.CallerLines.{At, DidLine, DidThere, HasResized, at}
+use Rattle.trace_run.specs.callers.CallerLines.{At, DidLine, DidThere, HasResized, at}
 use Rattle.trace_run.specs.Lines.{caller_of, is_of_caller}
 use Rattle.trace_run.specs.Meeting.{HasFeeder}
 

@@ -29,12 +29,12 @@ use Rattle.arc_table.specs.Seen.{HasAll, HasSeenBy, HasSeenItsOwn, IsNumberOf, I
 use Rattle.arc_table.specs.TableLaws.{front_else, front_here, item_here, starts_whole}
 use Rattle.arc_table.specs.Views.{after_cell}
 use Rattle.arc_table.proofs.Afterwards.{does_ledger}
-use Rattle.arc_table.proofs.CellsInHand.{cell-recorded}
-use Rattle.arc_table.proofs.EntriesSeen.{given-entries, given-sees, seen-at-take, took-sees}
+use Rattle.arc_table.proofs.cells.CellsInHand.{cell-recorded}
+use Rattle.arc_table.proofs.cells.EntriesSeen.{given-entries, given-sees, seen-at-take, took-sees}
 use Rattle.arc_table.proofs.MadeLemmas.{does-made}
 use Rattle.arc_table.proofs.MoveLemmas.{does-moves}
 use Rattle.arc_table.proofs.OwnLemmas.{grows}
-use Rattle.arc_table.proofs.ReadMoments.{own-none}
+use Rattle.arc_table.proofs.reads.ReadMoments.{own-none}
 use Rattle.arc_table.proofs.Reached.{Took, took_is}
 use Rattle.turn_table.specs.declared.standing.Kept.{Kept}
 use Rattle.dbuf_cells.specs.Ending.{DropsEach, EndsCell, EndsFrom}
@@ -50,7 +50,7 @@ use Rattle.dbuf_state.specs.declared.state.Mapping.{Mapping}
 use Rattle.trace_run.specs.CellEnds.{end_entry}
 use Rattle.trace_run.specs.KeptBlocks.{HasSeenCells}
 use Rattle.trace_run.proofs.CellsLeft.{LeavesCells, does-leaves, leaves-same, leaves-seen, leaves-then}
-use Rattle.trace_run.proofs.MeetLemmas.{starts-then}
+use Rattle.trace_run.proofs.callers.MeetLemmas.{starts-then}
 
 -- ---- a cell to which nothing was done
 

@@ -17,8 +17,8 @@ use Rattle.arc_table.specs.Ended.{Ended, Ends}
 use Rattle.arc_table.specs.Fronts.{StartsWith, front_of}
 use Rattle.arc_table.specs.Geometry.{IsCell, parties_of}
 use Rattle.arc_table.specs.Items.{lines_in}
-use Rattle.arc_table.specs.Logged.{IsSoundItem}
-use Rattle.arc_table.specs.Scene.{Scene}
+use Rattle.arc_table.specs.pact.Logged.{IsSoundItem}
+use Rattle.arc_table.specs.pact.Scene.{Scene}
 use Rattle.arc_table.specs.Seen.{AreEntriesSeen}
 use Rattle.arc_table.specs.TableLaws.{get_front, within}
 use Rattle.dbuf_cells.specs.Turns.{OnHeap, PartyPlace, dbuf_meanings}
@@ -31,7 +31,7 @@ use Rattle.dbuf_state.proofs.NumberLemmas.{events-read, mappings-read}
 use Rattle.trace_text.specs.declared.trace.Trace.{Trace}
 use Rattle.trace_run.specs.CellEnds.{AreCellsOf, IsCellOf, end_entry}
 use Rattle.trace_run.specs.Openings.{opening_map, openings_of}
-use Rattle.trace_run.proofs.CloseLemmas.{get-map}
+use Rattle.trace_run.proofs.theorem.CloseLemmas.{get-map}
 
 -- ---- what numbers tell
 

@@ -25,24 +25,24 @@ use Rattle.arc_table.specs.declared.view.Line.{Line}
 use Rattle.arc_table.specs.declared.view.Line.TheVariants as line
 use Rattle.arc_table.specs.declared.view.Mine.{Mine}
 use Rattle.arc_table.specs.Both.{Does}
-use Rattle.arc_table.specs.Ending.{DoesRoomy}
+use Rattle.arc_table.specs.scans.Ending.{DoesRoomy}
 use Rattle.arc_table.specs.Fronts.{front_of}
 use Rattle.arc_table.specs.Geometry.{IsCell, bucket_turn, shard_turn}
 use Rattle.arc_table.specs.Items.{Meanings}
 use Rattle.arc_table.specs.Reading.{Answers, AnswersRead, EndsAtPool, EndsMiss, GoesToPool, Outside, TurnsToPool, Waits, answered, cleared, from_device, from_none, from_pool, hit, missed, no_memory, past, read, refused, unread, unserved}
 use Rattle.arc_table.specs.Seen.{AllEntriesSeen, AreEntriesSeen, IsEntrySeen}
-use Rattle.arc_table.specs.Scanning.{AllPairs, after_scan, gave_all, won_all}
+use Rattle.arc_table.specs.scans.Scanning.{AllPairs, after_scan, gave_all, won_all}
 use Rattle.arc_table.specs.ShardGiving.{after_shard, mines_of}
 use Rattle.arc_table.specs.TableLaws.{front_else}
 use Rattle.arc_table.specs.Views.{after_same, after_won}
-use Rattle.arc_table.proofs.AfterRead.{stays_config}
+use Rattle.arc_table.proofs.reads.AfterRead.{stays_config}
 use Rattle.arc_table.proofs.Afterwards.{Stays, does_mine, does_stays, stays_then}
-use Rattle.arc_table.proofs.CellsInHand.{cell-front, cell-no-bucket, cell-no-shard}
+use Rattle.arc_table.proofs.cells.CellsInHand.{cell-front, cell-no-bucket, cell-no-shard}
 use Rattle.arc_table.proofs.OwnLemmas.{get-either}
 use Rattle.arc_table.proofs.PassMines.{mines_of_are}
 use Rattle.arc_table.proofs.Reached.{reached}
-use Rattle.arc_table.proofs.RoomyGives.{cell_far}
-use Rattle.arc_table.proofs.RoomyAfter.{does_roomy_mine, does_roomy_stays}
+use Rattle.arc_table.proofs.scans.RoomyGives.{cell_far}
+use Rattle.arc_table.proofs.scans.RoomyAfter.{does_roomy_mine, does_roomy_stays}
 use Rattle.trace_run.specs.KeptBlocks.{HasSeenCells}
 
 -- ---- entries that are seen

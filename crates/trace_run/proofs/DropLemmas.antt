@@ -2,7 +2,7 @@
 use Rattle.std.proofs.Common.{◌≡◌, ℕ, ◌<◌, true, false, cond, List, [], ◌∷◌, Some, None, is_some, inl, inr, refl, sym, ap, arith}
 use Rattle.std.specs.List.{AllByRecursion}
 use Rattle.std.proofs.lemmas.List.Sums.{sum_by-cons}
-use Rattle.trace_run.specs.OneCaller.{is_of_block, oldest_kept, without_oldest}
+use Rattle.trace_run.specs.one_caller.OneCaller.{is_of_block, oldest_kept, without_oldest}
 use Rattle.trace_run.specs.Tally.{kept_of_block}
 use Rattle.std.proofs.lemmas.Bool.{false≢true}
 use Rattle.blk_ptr.specs.declared.key.Key.{Key}

@@ -20,8 +20,8 @@ use Rattle.trace_run.specs.CellEnds.{EndedCells, end_entry}
 use Rattle.trace_run.specs.KeptBlocks.{HasSeenCells, Stands, StandsWith, times}
 use Rattle.trace_run.specs.Meeting.{AreLast, HasLearned, HavePartedWith, IsApart, JoinAll, Joins, MayPart, PartAll}
 use Rattle.trace_run.proofs.CellEnds.{IsQuiet, all-ended, ended_below}
-use Rattle.trace_run.proofs.MeetLemmas.{HaveJoined, all-parted, are-last, joined-front, joined_of, left_alone, parted-then, parted_from}
-use Rattle.trace_run.proofs.TurnLemmas.{joined, joined-all, joined-stands}
+use Rattle.trace_run.proofs.callers.MeetLemmas.{HaveJoined, all-parted, are-last, joined-front, joined_of, left_alone, parted-then, parted_from}
+use Rattle.trace_run.proofs.callers.TurnLemmas.{joined, joined-all, joined-stands}
 
 module _ (cache : Cache) (p : PartyPlace) (others : List PartyPlace) (stands : Stands cache p []) (alone : p.joined ≡ [])
     (apart : AllByRecursion (IsApart cache) others) (everyone : (n : ℕ) → n < parties_of cache.config → SomeHas n (p ∷ others)) (count : p.parties ≡ parties_of cache.config)

@@ -10,7 +10,7 @@ use Rattle.arc_core.specs.declared.event.Event.TheVariants as event
 use Rattle.arc_core.specs.declared.served.Restored.{Restored}
 use Rattle.arc_core.specs.Operations.{is_pool_read, number_of, own_events}
 use Rattle.trace_run.specs.Restores.{restores_in}
-use Rattle.trace_run.proofs.TellLemmas.{is_given}
+use Rattle.trace_run.proofs.one_caller.TellLemmas.{is_given}
 
 -- what the feeder gives is no read of the pool
 pub given-unread : (e : Event) → is_given e ≡ true → is_pool_read e ≡ false

@@ -16,15 +16,15 @@ use Rattle.arc_table.specs.Fronts.{front_of}
 use Rattle.arc_table.specs.Items.{Meanings}
 use Rattle.trace_run.specs.KeptReads.{KeptRead}
 use Rattle.trace_run.specs.declared.kept_blocks.KeptBlock.{KeptBlock}
-use Rattle.trace_run.specs.Access.{events_of_drop}
+use Rattle.trace_run.specs.one_caller.Access.{events_of_drop}
 use Rattle.trace_run.specs.Acts.{acts_of_drop, acts_of_drops}
 use Rattle.trace_run.specs.KeptBlocks.{DroppedAlone, Drops, GivesAll, GivesBack, Stands, held_key, holds_in, read_of}
-use Rattle.trace_run.specs.OneCaller.{events_of_drops}
+use Rattle.trace_run.specs.one_caller.OneCaller.{events_of_drops}
 use Rattle.arc_table.specs.Seen.{HasAll, seen_of, turn_of}
 use Rattle.arc_table.specs.Told.{IsTold}
 use Rattle.trace_run.proofs.CellsLeft.{LeavesCells, leaves-same, leaves-then}
 use Rattle.trace_run.proofs.KeptBlockLemmas.{KeepsJoined, given-drops, given-keeps, given-leaves, given-stands, keeps-same}
-use Rattle.trace_run.proofs.MeetLemmas.{starts-then}
+use Rattle.trace_run.proofs.callers.MeetLemmas.{starts-then}
 
 module _ {C : Type 0} (g : Config) (p q : Place (Known C)) where
   drop-number : (o : Option Key) → Drops g o p q → q.number ≡ p.number

@@ -29,7 +29,7 @@ use Rattle.arc_table.specs.declared.view.Ledger.{Ledger}
 use Rattle.arc_table.specs.Booking.{without_hold}
 use Rattle.arc_table.specs.Both.{Does}
 use Rattle.arc_table.specs.Cache.{Cache}
-use Rattle.arc_table.specs.Counted.{Rests}
+use Rattle.arc_table.specs.pact.Counted.{Rests}
 use Rattle.arc_table.specs.Geometry.{shard_turn}
 use Rattle.arc_table.specs.Holding.{IsHeld, IsOneOf, own, ptr_of}
 use Rattle.arc_table.specs.Items.{Meanings}
@@ -41,13 +41,13 @@ use Rattle.trace_run.specs.KeptBlocks.{no_entries, Adds, AllQuiet, Drops, GivesB
 use Rattle.arc_table.specs.Fronts.{StartsWith, front_of, list_at}
 use Rattle.arc_table.specs.Seen.{AddsAll, AddsOwn, Made, turn_of}
 use Rattle.arc_table.specs.TableLaws.{starts_whole}
-use Rattle.trace_run.specs.Access.{events_of_drop}
+use Rattle.trace_run.specs.one_caller.Access.{events_of_drop}
 use Rattle.trace_run.specs.Acts.{acts_of_drop}
 use Rattle.trace_run.proofs.CacheLemmas.{digest_eq-is}
 use Rattle.arc_table.proofs.MadeLemmas.{does-made}
 use Rattle.arc_table.proofs.OwnLemmas.{grows, made-all, made-alone, made-own, made-sees}
-use Rattle.arc_table.proofs.ReadMoments.{own-single}
-use Rattle.trace_run.proofs.TellLemmas.{digest_eq-same}
+use Rattle.arc_table.proofs.reads.ReadMoments.{own-single}
+use Rattle.trace_run.proofs.one_caller.TellLemmas.{digest_eq-same}
 use Rattle.trace_run.proofs.CellsLeft.{LeavesCells, does-leaves, leaves-same, leaves-seen}
 use Rattle.arc_table.proofs.ToldLemmas.{told-more}
 

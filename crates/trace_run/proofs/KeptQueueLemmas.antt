@@ -8,7 +8,7 @@ use Rattle.trace_run.specs.declared.kept_blocks.KeptBlock.{KeptBlock}
 use Rattle.trace_run.specs.KeptBlocks.{AreOfOthers, IsTakenOut, read_of}
 use Rattle.trace_run.specs.KeptQueue.{IsUnderItsBlock, read_in}
 use Rattle.trace_run.specs.KeptReads.{KeptRead}
-use Rattle.trace_run.specs.OneCaller.{oldest_kept, without_oldest}
+use Rattle.trace_run.specs.one_caller.OneCaller.{oldest_kept, without_oldest}
 
 module _ {X : Type 0} (P : X → Type 0) where
   all-front : (front rest : List X) → AllByRecursion P (front ++ rest) → AllByRecursion P front

@@ -38,24 +38,24 @@ use Rattle.trace_text.specs.declared.reply.Refusal.TheVariants as refusals
 use Rattle.trace_text.specs.declared.reply.Reply.{Reply}
 use Rattle.trace_text.specs.declared.reply.Reply.TheVariants.{Dropped, Refused}
 use Rattle.trace_run.specs.KeptReads.{KeptRead}
-use Rattle.trace_run.specs.Access as access
-use Rattle.trace_run.specs.Access.{Access, events_of_answered, events_of_drop, held_key as access_key, source_of}
+use Rattle.trace_run.specs.one_caller.Access as access
+use Rattle.trace_run.specs.one_caller.Access.{Access, events_of_answered, events_of_drop, held_key as access_key, source_of}
 use Rattle.trace_run.specs.Acts.{acts_of, acts_of_drop, acts_of_dropping, acts_of_hold, acts_of_read}
 use Rattle.trace_run.specs.Answering.{KeepsImage, ReadsImage}
 use Rattle.trace_run.specs.Answers.{AnswersDrop, AnswersHold, AnswersRead}
 use Rattle.trace_run.specs.Effects.{Effect, Answered, GivenBack, PoolRefused, NoEffect, calls_of, effect_of}
-use Rattle.trace_run.specs.CallerLines.{DidLine, DidThere, at}
+use Rattle.trace_run.specs.callers.CallerLines.{DidLine, DidThere, at}
 use Rattle.trace_run.specs.KeptBlocks.{Drops, GivesBack, IsOwnedBy, held_key}
 use Rattle.trace_run.specs.Lines.{is_in_shard, shard_of_block}
-use Rattle.trace_run.specs.OneCaller.{NamesSource, events_of, events_of_dropping, events_of_hold, events_of_read, events_there, is_of_block, kept_after, kept_after_drop, kept_after_hold, key_held_by, oldest_key, without_oldest}
-use Rattle.trace_run.specs.OverShards.{AreNamed, IsNamed}
+use Rattle.trace_run.specs.one_caller.OneCaller.{NamesSource, events_of, events_of_dropping, events_of_hold, events_of_read, events_there, is_of_block, kept_after, kept_after_drop, kept_after_hold, key_held_by, oldest_key, without_oldest}
+use Rattle.trace_run.specs.one_caller.OverShards.{AreNamed, IsNamed}
 use Rattle.trace_run.specs.Reads.{CameFromPool, DidAct, DidActs, DidAnswer, DidRead, IsAlone, IsRefused, access_now, now_of}
 use Rattle.arc_table.specs.Seen.{AddsAll, HasSeenItsOwn, seen_of}
 use Rattle.trace_run.specs.Tally.{kept_of_block}
 use Rattle.arc_table.specs.Told.{IsTold}
 use Rattle.trace_run.proofs.GetLemmas.{all-last}
 use Rattle.arc_table.proofs.MoveLemmas.{Moves, one-moves}
-use Rattle.arc_table.proofs.ReadMoments.{moment}
+use Rattle.arc_table.proofs.reads.ReadMoments.{moment}
 use Rattle.trace_run.proofs.RunLemmas.{told-all}
 use Rattle.arc_table.proofs.ToldLemmas.{adds-all-then, adds-own-then, told-more}
 

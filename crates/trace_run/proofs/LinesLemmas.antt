@@ -18,13 +18,13 @@ use Rattle.trace_text.specs.declared.reply.Reply.{Reply}
 use Rattle.trace_run.specs.KeptReads.{KeptRead}
 use Rattle.trace_run.specs.Acts.{acts_of, acts_of_all}
 use Rattle.trace_run.specs.Answers.{AnswersAll}
-use Rattle.trace_run.specs.CallerLines.{At, DidLine, DidLines}
+use Rattle.trace_run.specs.callers.CallerLines.{At, DidLine, DidLines}
 use Rattle.trace_run.specs.Effects.{calls_of, calls_of_all, effect_of}
 use Rattle.arc_table.specs.Telling.{opening_of}
 use Rattle.trace_run.specs.Lines.{caller_of, is_of_caller}
-use Rattle.trace_run.specs.OneCaller.{IsFoundAs, events_there, kept_after, kept_after_all}
-use Rattle.trace_run.specs.OverShards.{AllLinesOver, AreNamed, events_over}
-use Rattle.trace_run.specs.PlainRun.{shards_after}
+use Rattle.trace_run.specs.one_caller.OneCaller.{IsFoundAs, events_there, kept_after, kept_after_all}
+use Rattle.trace_run.specs.one_caller.OverShards.{AllLinesOver, AreNamed, events_over}
+use Rattle.trace_run.specs.one_caller.PlainRun.{shards_after}
 use Rattle.trace_run.specs.Reads.{IsAlone, now_of}
 use Rattle.arc_table.specs.Seen.{HasAll, seen_of}
 use Rattle.trace_run.specs.Tally.{AnswersNow, IsTally, kept_of_block}

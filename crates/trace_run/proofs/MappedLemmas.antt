@@ -7,7 +7,7 @@ use Rattle.trace_text.specs.declared.ends.ShardEnd.{ShardEnd}
 use Rattle.trace_text.specs.declared.reply.Reply.{Reply}
 use Rattle.trace_text.specs.declared.trace.Trace.{Trace}
 use Rattle.vdev_io.specs.declared.pool.Pool.{Ghosts}
-use Rattle.trace_run.specs.Alone.{LinesAlone, RanAlone}
+use Rattle.trace_run.specs.one_caller.Alone.{LinesAlone, RanAlone}
 use Rattle.trace_run.specs.Explaining.{Explain}
 
 pub explain-mapped : (trace : Trace) (restored : List Restored) (replies : List Reply) (ends : List ShardEnd) (histories : List (List Event))

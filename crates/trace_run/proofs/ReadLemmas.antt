@@ -29,22 +29,22 @@ use Rattle.arc_table.specs.declared.read.Read.{Read}
 use Rattle.arc_table.specs.declared.read.Read.TheVariants as gave
 use Rattle.arc_table.specs.declared.view.Known.{Known}
 use Rattle.arc_table.specs.Both.{Does}
-use Rattle.arc_table.specs.Ending.{DoesRoomy}
+use Rattle.arc_table.specs.scans.Ending.{DoesRoomy}
 use Rattle.arc_table.specs.Geometry.{shard_turn}
 use Rattle.arc_table.specs.Items.{Meanings}
 use Rattle.arc_table.specs.Reading.{Answers, AnswersRead, EndsAtPool, EndsMiss, EndsPast, GoesToPool, Outside, TurnsToPool, Waits, answered, cleared, from_device, from_none, from_pool, hit, missed, no_memory, past, read, refused, unread, unserved}
-use Rattle.arc_table.specs.Scanning.{ArePasses}
-use Rattle.arc_table.specs.Standing.{is_cached_with}
+use Rattle.arc_table.specs.scans.Scanning.{ArePasses}
+use Rattle.arc_table.specs.pact.Standing.{is_cached_with}
 use Rattle.arc_table.proofs.Reached.{reached}
-use Rattle.trace_run.specs.Access as access
-use Rattle.trace_run.specs.Access.{Access, AsksPool, access_of, events_of_answered, events_of_refused, source_of}
+use Rattle.trace_run.specs.one_caller.Access as access
+use Rattle.trace_run.specs.one_caller.Access.{Access, AsksPool, access_of, events_of_answered, events_of_refused, source_of}
 use Rattle.arc_table.specs.Telling.{opening_of}
 use Rattle.trace_run.specs.Reads.{IsAlone, access_now, now_of}
 use Rattle.arc_table.specs.Seen.{HasSeenItsOwn, seen_of}
-use Rattle.trace_run.proofs.AccessLemmas.{access-cached, access-missed, access-other}
+use Rattle.trace_run.proofs.one_caller.AccessLemmas.{access-cached, access-missed, access-other}
 use Rattle.arc_table.proofs.MoveLemmas.{Moves, does-moves, does-now, moves-none, moves-then, one-moves, roomy-moves, roomy-now}
-use Rattle.arc_table.proofs.ScanAlone.{scan-alone}
-use Rattle.arc_table.proofs.ReadMoments.{moment, own-behind, own-none, own-one, own-single}
+use Rattle.arc_table.proofs.scans.ScanAlone.{scan-alone}
+use Rattle.arc_table.proofs.reads.ReadMoments.{moment, own-behind, own-none, own-one, own-single}
 
 -- bytes that are cached with a digest are kept with it
 cached-keeps : (ptr : Ptr) (s : PlainShard) → is_cached_with ptr s → IsTrue (entry_is (keeps_digest ptr.digest) ptr.key s)

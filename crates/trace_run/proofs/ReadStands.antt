@@ -33,18 +33,18 @@ use Rattle.arc_table.specs.declared.view.Known.{Known}
 use Rattle.arc_table.specs.declared.view.Ledger.{Ledger}
 use Rattle.arc_table.specs.Booking.{digest_at, without_reading}
 use Rattle.arc_table.specs.Both.{Does}
-use Rattle.arc_table.specs.Ending.{DoesRoomy}
+use Rattle.arc_table.specs.scans.Ending.{DoesRoomy}
 use Rattle.arc_table.specs.Geometry.{shard_turn}
 use Rattle.arc_table.specs.Holding.{IsHoldOf}
 use Rattle.arc_table.specs.Items.{Meanings}
 use Rattle.arc_table.specs.Reading.{Answers, AnswersRead, EndsAtPool, EndsMiss, EndsPast, GoesToPool, Outside, TurnsToPool, Waits, answered, cleared, from_device, from_none, from_pool, hit, missed, no_memory, past, read, refused, unread, unserved}
-use Rattle.arc_table.specs.Scanning.{ArePasses}
+use Rattle.arc_table.specs.scans.Scanning.{ArePasses}
 use Rattle.arc_table.specs.ShardGiving.{holds_through}
-use Rattle.arc_table.specs.Standing.{is_cached_with}
-use Rattle.arc_table.proofs.AfterRead.{stays_config, turns_stays, waits_stays}
+use Rattle.arc_table.specs.pact.Standing.{is_cached_with}
+use Rattle.arc_table.proofs.reads.AfterRead.{stays_config, turns_stays, waits_stays}
 use Rattle.arc_table.proofs.Afterwards.{does_ledger}
 use Rattle.arc_table.proofs.Reached.{reached}
-use Rattle.arc_table.proofs.RoomyAfter.{does_roomy_ledger, does_roomy_stays, missed_readings}
+use Rattle.arc_table.proofs.scans.RoomyAfter.{does_roomy_ledger, does_roomy_stays, missed_readings}
 use Rattle.trace_run.proofs.CacheLemmas.{digest_eq-is}
 
 -- a party lists these holds more, and reads and claims what it did

@@ -28,14 +28,14 @@ use Rattle.arc_table.specs.Telling.{opening_of}
 use Rattle.arc_table.proofs.Afterwards.{Stays, stays_party, stays_then}
 use Rattle.arc_table.proofs.MoveLemmas.{Moves, roomy-moves}
 use Rattle.arc_table.proofs.OwnLemmas.{grows, no-own-moments, own-append}
-use Rattle.arc_table.proofs.RoomyAfter.{does_roomy_ledger, does_roomy_stays}
-use Rattle.arc_table.proofs.RoomyLemmas.{roomy-made}
-use Rattle.arc_table.proofs.ScanAlone.{scan-alone}
+use Rattle.arc_table.proofs.scans.RoomyAfter.{does_roomy_ledger, does_roomy_stays}
+use Rattle.arc_table.proofs.scans.RoomyLemmas.{roomy-made}
+use Rattle.arc_table.proofs.scans.ScanAlone.{scan-alone}
 use Rattle.trace_run.specs.KeptBlocks.{AllQuiet, ClaimsNothing, Stands, no_entries, times}
 use Rattle.trace_run.specs.Meeting.{AreLast, HasLearned, HaveParted, IsApart, JoinAll, Joins, MadeJoined, PartAll, resizes_in}
 use Rattle.trace_run.proofs.CellsLeft.{leaves-seen, roomy-leaves}
-use Rattle.trace_run.proofs.MeetLemmas.{HaveJoined, all-parted, are-last, joined-front, joined_of, left_alone, parted-then, parted_from, starts-events, starts-then}
-use Rattle.trace_run.proofs.TurnLemmas.{joined, joined-all, joined-stands}
+use Rattle.trace_run.proofs.callers.MeetLemmas.{HaveJoined, all-parted, are-last, joined-front, joined_of, left_alone, parted-then, parted_from, starts-events, starts-then}
+use Rattle.trace_run.proofs.callers.TurnLemmas.{joined, joined-all, joined-stands}
 
 module _ {C : Type 0} (m : Meanings C) (cache : Cache) (c : ℕ) where
   abbrev gc : Config

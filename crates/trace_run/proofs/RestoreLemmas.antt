@@ -20,7 +20,7 @@ use Rattle.arc_table.specs.declared.view.Known.{Known}
 use Rattle.arc_table.specs.declared.view.Ledger.{Ledger}
 use Rattle.arc_table.specs.Both.{Does}
 use Rattle.arc_table.specs.Cache.{Cache}
-use Rattle.arc_table.specs.Feeding.{Restores}
+use Rattle.arc_table.specs.feeder.Feeding.{Restores}
 use Rattle.arc_table.specs.Fronts.{StartsWith, front_of, list_at}
 use Rattle.arc_table.specs.Items.{Meanings}
 use Rattle.arc_table.specs.Seen.{AddsAll, HasAll, seen_of, turn_of}
@@ -29,12 +29,12 @@ use Rattle.arc_table.proofs.Afterwards.{Stays, does_ledger, does_stays, stays_pa
 use Rattle.arc_table.proofs.MadeLemmas.{does-made}
 use Rattle.arc_table.proofs.MoveLemmas.{Moves, one-moves}
 use Rattle.arc_table.proofs.OwnLemmas.{grows}
-use Rattle.arc_table.proofs.ReadMoments.{moment, own-single}
+use Rattle.arc_table.proofs.reads.ReadMoments.{moment, own-single}
 use Rattle.l2_dev.specs.Rebuilding.{HaveKeys}
 use Rattle.trace_run.specs.KeptBlocks.{AllQuiet, ClaimsNothing, Stands, no_entries, times}
 use Rattle.trace_run.specs.Restores.{restores_in}
 use Rattle.trace_run.proofs.CellsLeft.{does-leaves, leaves-seen}
-use Rattle.trace_run.proofs.MeetLemmas.{starts-then}
+use Rattle.trace_run.proofs.callers.MeetLemmas.{starts-then}
 use Rattle.trace_run.proofs.ResizeLemmas.{HasMade}
 
 -- the restores of a shard are the feeder's

@@ -12,7 +12,7 @@ use Rattle.trace_text.specs.declared.reply.Reply.{Reply}
 use Rattle.trace_run.specs.KeptReads.{KeptRead}
 use Rattle.trace_run.specs.Effects.{Effect, Answered, GivenBack, PoolRefused, NoEffect, effect_of}
 use Rattle.trace_run.specs.Lines.{is_of_caller, replies_where}
-use Rattle.trace_run.specs.OneCaller.{kept_after, kept_after_all, oldest_key}
+use Rattle.trace_run.specs.one_caller.OneCaller.{kept_after, kept_after_all, oldest_key}
 
 -- a read that was answered, or that the pool refused
 abbrev pub acts_of_read : (n t : ℕ) → Ptr → Effect → List Act

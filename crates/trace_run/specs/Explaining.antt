@@ -21,9 +21,9 @@ use Rattle.trace_run.specs.Ends.{ends_of}
 use Rattle.arc_table.specs.Telling.{opening_of}
 use Rattle.trace_run.specs.KeptBlocks.{holds_in}
 use Rattle.trace_run.specs.Lines.{is_in_shard, is_of_caller, replies_where}
-use Rattle.trace_run.specs.OneCaller.{AreFoundAs, events_of_drops, kept_after_all, one_caller_histories}
-use Rattle.trace_run.specs.PlainReport.{IsPlainReport}
-use Rattle.trace_run.specs.PlainRun.{report_of}
+use Rattle.trace_run.specs.one_caller.OneCaller.{AreFoundAs, events_of_drops, kept_after_all, one_caller_histories}
+use Rattle.trace_run.specs.one_caller.PlainReport.{IsPlainReport}
+use Rattle.trace_run.specs.one_caller.PlainRun.{report_of}
 use Rattle.trace_run.specs.Restores.{events_by_feeder, restored_of, restored_shard, restores_in}
 use Rattle.vdev_io.specs.Calls.{MakesCalls, Call}
 

@@ -26,9 +26,9 @@ use Rattle.arc_table.specs.Holding.{ptr_of}
 use Rattle.arc_table.specs.Items.{Meanings}
 use Rattle.trace_run.specs.declared.kept_blocks.KeptBlock.{KeptBlock}
 use Rattle.trace_run.specs.KeptReads.{KeptRead, kept_read}
-use Rattle.trace_run.specs.OneCaller.{events_of_drops}
+use Rattle.trace_run.specs.one_caller.OneCaller.{events_of_drops}
 use Rattle.arc_table.specs.Seen.{AddsAll, HasAll, HasSeenItsEntries, HasSeenItsOwn, seen_of}
-use Rattle.trace_run.specs.Access.{events_of_drop}
+use Rattle.trace_run.specs.one_caller.Access.{events_of_drop}
 use Rattle.trace_run.specs.Acts.{acts_of_drop}
 use Rattle.arc_table.specs.Told.{IsTold}
 

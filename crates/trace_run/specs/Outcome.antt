@@ -36,11 +36,11 @@ use Rattle.trace_run.specs.CheckText.{check_text}
 use Rattle.trace_run.specs.Devices.{Finds, MayLose}
 use Rattle.trace_run.specs.Explaining.{Explain, RunsAlone}
 use Rattle.trace_run.specs.Lines.{has_undone}
-use Rattle.trace_run.specs.PlainRun.{report_of}
+use Rattle.trace_run.specs.one_caller.PlainRun.{report_of}
 use Rattle.trace_run.specs.Restores.{restored_of}
 use Rattle.trace_run.specs.States.{Handed, NoneFailed, OneFailed, StreamState}
 use Rattle.trace_run.specs.Stream.{Gives, AppendsFront, TakesAtMost}
-use Rattle.trace_run.specs.Together.{RunsTogether, StopsAtGroup, TellsClosed, answered_ops, faults_told, report_status}
+use Rattle.trace_run.specs.callers.Together.{RunsTogether, StopsAtGroup, TellsClosed, answered_ops, faults_told, report_status}
 use Rattle.trace_run.specs.Words.{IsCommand, IsFirstWrong}
 
 -- The words are a command, and this is what it did; or they are none, and their first wrong word is told.

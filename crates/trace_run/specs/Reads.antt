@@ -20,11 +20,11 @@ use Rattle.trace_text.specs.declared.reply.Refusal.{Refusal}
 use Rattle.trace_text.specs.declared.reply.Refusal.TheVariants as refusals
 use Rattle.trace_run.specs.declared.get.Got.{Got}
 use Rattle.trace_run.specs.declared.kept_blocks.KeptBlock.{KeptBlock}
-use Rattle.trace_run.specs.Access.{Access, AsksPool, access_of, events_of_answered, events_of_refused, source_of}
+use Rattle.trace_run.specs.one_caller.Access.{Access, AsksPool, access_of, events_of_answered, events_of_refused, source_of}
 use Rattle.trace_run.specs.Effects.{Effect, Answered, GivenBack, PoolRefused, NoEffect, calls_from}
 use Rattle.arc_table.specs.Telling.{opening_of}
 use Rattle.trace_run.specs.KeptBlocks.{read_of}
-use Rattle.trace_run.specs.OneCaller.{key_held_by}
+use Rattle.trace_run.specs.one_caller.OneCaller.{key_held_by}
 use Rattle.trace_run.specs.KeptReads.{kept_read}
 use Rattle.trace_run.specs.Read.{IsFromPool, IsMismatch, IsReadOf}
 use Rattle.arc_table.specs.Seen.{AddsAll, AddsOwn, HasAll, seen_of}

@@ -6,14 +6,14 @@ ghost use Rattle.vdev_io.specs.Calls.{KeepsPool};
 ghost use Rattle.l2_dev.specs.Rebuilding.{HaveKeys};
 ghost use Rattle.trace_text.specs.Grammar.{IsFormed, IsOperation};
 ghost use Rattle.trace_run.specs.declared.kept_blocks.KeptBlock.{KeptBlock};
-ghost use Rattle.trace_run.specs.Alone.{RanAlone};
-ghost use Rattle.trace_run.specs.CallerLines.{DidLines, HasFed, HasResized, at};
+ghost use Rattle.trace_run.specs.one_caller.Alone.{RanAlone};
+ghost use Rattle.trace_run.specs.callers.CallerLines.{DidLines, HasFed, HasResized, at};
 ghost use Rattle.trace_run.specs.CellEnds.{AreCellsOf, HasSeenEnds};
 ghost use Rattle.trace_run.specs.KeptBlocks.{Stands, read_of};
 ghost use Rattle.trace_run.specs.Meeting.{HasFeeder};
 ghost use Rattle.trace_run.specs.Opened.{AreOpened, HasJoined};
 ghost use Rattle.trace_run.specs.Openings.{AllKnow, openings_of};
-ghost use Rattle.trace_run.specs.OverShards.{AreNamed};
+ghost use Rattle.trace_run.specs.one_caller.OverShards.{AreNamed};
 ghost use Rattle.trace_run.specs.Restores.{restores_in};
 
 use crate::cells::end_cells_joined;

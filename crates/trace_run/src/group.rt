@@ -5,8 +5,8 @@ ghost use Rattle.vdev_io.specs.Calls.{KeepsPool};
 ghost use Rattle.trace_text.specs.declared.reply.Reply.{Reply};
 ghost use Rattle.vdev_io.specs.Faults.{CountsIoFault, Rose, last_count};
 ghost use Rattle.vdev_io.specs.declared.fault.IoFault.{IoFault};
-ghost use Rattle.trace_run.specs.Callers.{Absorbs, AbsorbsAll, AreAtStart, AreEnlisted, HasTried, HaveComeBack, IsReady, Replied};
-ghost use Rattle.trace_run.specs.Group.{HaveWorked, IsFork, LeavesPool};
+ghost use Rattle.trace_run.specs.callers.Callers.{Absorbs, AbsorbsAll, AreAtStart, AreEnlisted, HasTried, HaveComeBack, IsReady, Replied};
+ghost use Rattle.trace_run.specs.callers.Group.{HaveWorked, IsFork, LeavesPool};
 ghost use Rattle.trace_run.specs.Tally.{AreDeclared};
 
 use crate::kept_blocks::KeptBlocks;

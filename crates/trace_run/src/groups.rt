@@ -6,12 +6,12 @@ ghost use Rattle.arc_table.specs.Geometry.{parties_of};
 ghost use Rattle.trace_text.specs.Grammar.{IsFormed, IsOperation};
 ghost use Rattle.trace_text.specs.declared.op.Op.{Op};
 ghost use Rattle.trace_text.specs.declared.reply.Reply.{Reply};
-ghost use Rattle.trace_run.specs.Callers.{AreAtStart};
-ghost use Rattle.trace_run.specs.Group.{IsFork, LeavesPool};
-ghost use Rattle.trace_run.specs.Groups.{AreBetween, AreOfCallers, DidEndLine, DidLinesAtOnce, AreDone, KeepNothing, StepsOn};
+ghost use Rattle.trace_run.specs.callers.Callers.{AreAtStart};
+ghost use Rattle.trace_run.specs.callers.Group.{IsFork, LeavesPool};
+ghost use Rattle.trace_run.specs.callers.Groups.{AreBetween, AreOfCallers, DidEndLine, DidLinesAtOnce, AreDone, KeepNothing, StepsOn};
 ghost use Rattle.trace_run.specs.Meeting.{MayGoOn};
 ghost use Rattle.trace_run.specs.Tally.{AreDeclared};
-ghost use Rattle.trace_run.specs.Together.{BeginsGroup, ends_group};
+ghost use Rattle.trace_run.specs.callers.Together.{BeginsGroup, ends_group};
 
 use crate::group::{Worked, forks, run_group};
 use crate::in_order::in_order;

@@ -1,6 +1,6 @@
 //! The callers' replies, put together in the order of the trace's lines.
 ghost use Rattle.std.specs.Prelude.{IfOk, map};
-ghost use Rattle.trace_run.specs.InOrder.{AreInOrder, HaveReplies};
+ghost use Rattle.trace_run.specs.callers.InOrder.{AreInOrder, HaveReplies};
 
 use crate::lines::caller_of;
 use blk_ptr::NoMemory;

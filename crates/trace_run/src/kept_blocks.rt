@@ -5,7 +5,7 @@ ghost use Rattle.arc_core.specs.Operations.{Act};
 ghost use Rattle.arc_table.specs.Items.{meanings};
 ghost use Rattle.trace_run.specs.Acts.{acts_of_drops};
 ghost use Rattle.trace_run.specs.KeptBlocks.{AreOfOthers, DroppedAlone, Drops, GivesAll, GivesBack, IsTakenOut, Stands, read_of};
-ghost use Rattle.trace_run.specs.OneCaller.{oldest_key, oldest_kept, without_oldest};
+ghost use Rattle.trace_run.specs.one_caller.OneCaller.{oldest_key, oldest_kept, without_oldest};
 ghost use Rattle.arc_table.specs.Seen.{HasAll};
 ghost use Rattle.arc_table.specs.Told.{IsTold};
 ghost use Rattle.trace_run.specs.declared.kept_blocks.KeptBlock.{KeptBlock};

@@ -2,7 +2,7 @@
 ghost use Rattle.std.specs.Prelude.{◌≡◌, ◌<◌, All, IfOk, length, map};
 ghost use Rattle.arc_core.specs.Config.{IsConfig};
 ghost use Rattle.arc_table.specs.Geometry.{parties_of};
-ghost use Rattle.arc_table.specs.Opening.{AreFreshCells};
+ghost use Rattle.arc_table.specs.opening.Opening.{AreFreshCells};
 ghost use Rattle.dbuf_cells.specs.Places.{cell_of};
 ghost use Rattle.trace_text.specs.Grammar.{AreApart, IsFormed, IsMappingOn};
 ghost use Rattle.trace_run.specs.Opened.{AreOpened, HasBegun, meanings_of};

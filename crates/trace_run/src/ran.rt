@@ -2,8 +2,8 @@
 ghost use Rattle.std.specs.Prelude.{◌≡◌, IfOk, map};
 ghost use Rattle.std.specs.Arc.{arc_value};
 ghost use Rattle.trace_run.specs.Ends.{end_of};
-ghost use Rattle.trace_run.specs.PlainRun.{status_of};
-ghost use Rattle.trace_run.specs.Together.{report_of_closed};
+ghost use Rattle.trace_run.specs.one_caller.PlainRun.{status_of};
+ghost use Rattle.trace_run.specs.callers.Together.{report_of_closed};
 
 use arc_core::Shard;
 use arc_table::Closed;

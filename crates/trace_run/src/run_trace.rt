@@ -4,9 +4,9 @@ ghost use Rattle.l2_dev.specs.Rebuilding.{HaveKeys};
 ghost use Rattle.trace_text.specs.Grammar.{IsFormed};
 ghost use Rattle.trace_run.specs.Outcome.{IsGenReport, IsRun};
 ghost use Rattle.trace_run.specs.CellEnds.{AreCellsOf};
-ghost use Rattle.trace_run.specs.Group.{LeavesPool};
+ghost use Rattle.trace_run.specs.callers.Group.{LeavesPool};
 ghost use Rattle.trace_run.specs.Restores.{restored_of};
-ghost use Rattle.trace_run.specs.Together.{report_status};
+ghost use Rattle.trace_run.specs.callers.Together.{report_status};
 ghost use Rattle.trace_run.specs.Words.{IsInRange};
 ghost use Rattle.trace_run.specs.declared.words.Command.TheVariants as command;
 

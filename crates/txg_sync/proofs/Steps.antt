@@ -13,15 +13,15 @@ use Rattle.turn_table.specs.Board.{IsAmong}
 use Rattle.arc_table.specs.Both.{Does}
 use Rattle.arc_table.specs.Cache.{Cache}
 use Rattle.arc_table.specs.Cells.{KeepsCell}
-use Rattle.arc_table.specs.Ending.{DoesRoomy}
+use Rattle.arc_table.specs.scans.Ending.{DoesRoomy}
 use Rattle.arc_table.specs.Fronts.{item_at, list_at}
 use Rattle.arc_table.specs.Geometry.{IsCell, cell_number, shard_turn}
-use Rattle.arc_table.specs.Scanning.{ArePasses, gave_all, won_all}
+use Rattle.arc_table.specs.scans.Scanning.{ArePasses, gave_all, won_all}
 use Rattle.arc_table.specs.ShardGiving.{holds_through}
 use Rattle.arc_table.proofs.Afterwards.{Stays, does_stays, stays_free, stays_party, does_ledger}
-use Rattle.arc_table.proofs.CellsInHand.{cell-kept, cell-kept-roomy}
+use Rattle.arc_table.proofs.cells.CellsInHand.{cell-kept, cell-kept-roomy}
 use Rattle.arc_table.proofs.Reached.{reached}
-use Rattle.arc_table.proofs.RoomyAfter.{does_roomy_stays, does_roomy_ledger}
+use Rattle.arc_table.proofs.scans.RoomyAfter.{does_roomy_stays, does_roomy_ledger}
 use Rattle.dbuf_state.proofs.IndexLemmas.{bool_cases}
 use Rattle.dbuf_state.specs.declared.event.CellEvent.{CellEvent}
 use Rattle.dbuf_state.specs.declared.event.CellEvent.TheVariants.{Synced}

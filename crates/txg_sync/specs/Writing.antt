@@ -11,7 +11,7 @@ use Rattle.arc_core.specs.declared.config.Config.{Config}
 use Rattle.arc_core.specs.declared.event.Event.TheVariants.{Insert}
 use Rattle.arc_table.specs.Both.{Does}
 use Rattle.arc_table.specs.Cache.{Cache}
-use Rattle.arc_table.specs.Ending.{DoesRoomy}
+use Rattle.arc_table.specs.scans.Ending.{DoesRoomy}
 use Rattle.arc_table.specs.Geometry.{cell_number}
 use Rattle.arc_table.specs.Telling.{Tells}
 use Rattle.arc_table.specs.declared.front.Front.{Front}

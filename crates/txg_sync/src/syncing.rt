@@ -3,7 +3,7 @@ ghost use Rattle.std.specs.Prelude.{◌≡◌, ◌+◌, ◌-◌, ◌<◌, ◌≤
 ghost use Rattle.blk_ptr.specs.Size.{sector};
 ghost use Rattle.arc_core.specs.Config.{IsConfig};
 ghost use Rattle.arc_table.specs.Cache.{IsPartyOf};
-ghost use Rattle.arc_table.specs.Feeding.{IsFeeder};
+ghost use Rattle.arc_table.specs.feeder.Feeding.{IsFeeder};
 ghost use Rattle.dbuf_cells.specs.Turns.{KeepsClaims};
 ghost use Rattle.txg_sync.specs.InHand.{AreDueIn, HasTakenAll, MayGiveAll, SyncsInHand};
 ghost use Rattle.txg_sync.specs.Items.{AreApart, need_of};

@@ -4,7 +4,7 @@ ghost use mathlib.Core.Option.{some};
 ghost use lib.ListN.{get_elem?};
 ghost use Rattle.blk_ptr.specs.Key.{is_well_formed};
 ghost use Rattle.arc_core.specs.declared.served.Restored.{Restored};
-ghost use Rattle.arc_table.specs.Feeding.{IsFeeder};
+ghost use Rattle.arc_table.specs.feeder.Feeding.{IsFeeder};
 ghost use Rattle.arc_examples.specs.Ready.{IsReady, IsReadyAs};
 
 use super::{FIRST, opened};

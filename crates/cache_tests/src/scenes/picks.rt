@@ -3,7 +3,7 @@ ghost use Rattle.std.specs.Prelude.{◌≡◌, ℕ, ◌<◌, [], IfOk, IfSome};
 ghost use mathlib.Core.Option.{some};
 ghost use lib.ListN.{get_elem?};
 ghost use Rattle.arc_core.specs.Config.{IsConfig};
-ghost use Rattle.arc_table.specs.Feeding.{IsFeeder, IsPicked};
+ghost use Rattle.arc_table.specs.feeder.Feeding.{IsFeeder, IsPicked};
 ghost use Rattle.arc_table.specs.declared.picks.Picked.{Picked};
 ghost use Rattle.arc_examples.specs.Ready.{IsReady, IsReadyAs};
 

@@ -1,5 +1,5 @@
 //! Reads, one of each kind, over a pool and a cache device in memory.
-ghost use Rattle.arc_table.specs.Feeding.{IsFeeder};
+ghost use Rattle.arc_table.specs.feeder.Feeding.{IsFeeder};
 ghost use Rattle.arc_examples.specs.Ready.{IsReady, IsReadyAs};
 
 use super::opened;

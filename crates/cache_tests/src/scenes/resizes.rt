@@ -1,5 +1,5 @@
 //! The feeder makes the shard smaller.
-ghost use Rattle.arc_table.specs.Feeding.{IsFeeder};
+ghost use Rattle.arc_table.specs.feeder.Feeding.{IsFeeder};
 ghost use Rattle.arc_examples.specs.Ready.{IsReady, IsReadyAs};
 
 use super::big;

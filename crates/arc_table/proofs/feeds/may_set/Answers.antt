@@ -1,4 +1,4 @@
-use Rattle.arc_table.proofs.FeedEvents.{may_is}
+use Rattle.arc_table.proofs.feeder.FeedEvents.{may_is}
 use Rattle.arc_table.proofs.feeds.may_set.Goals as goal
 
 pub returns : goal.returns

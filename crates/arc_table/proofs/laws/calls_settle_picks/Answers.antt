@@ -1,5 +1,5 @@
 use Rattle.arc_table.specs.Items.{meanings}
-use Rattle.arc_table.proofs.PicksAfter.{clear_picks, feeds_picks, leave_picks, restores_picks, set_picks}
+use Rattle.arc_table.proofs.feeder.PicksAfter.{clear_picks, feeds_picks, leave_picks, restores_picks, set_picks}
 use Rattle.arc_table.proofs.laws.calls_settle_picks.Goals as goal
 
 pub returns-clause-set : goal.returns-clause-set

@@ -1,5 +1,5 @@
 use Rattle.arc_table.specs.Items.{meanings}
-use Rattle.arc_table.proofs.PickLaws.{few_picks, plain_picks}
+use Rattle.arc_table.proofs.feeder.PickLaws.{few_picks, plain_picks}
 use Rattle.arc_table.proofs.laws.picks_are_candidates.Goals as goal
 
 pub returns-clause-few : goal.returns-clause-few

@@ -1,6 +1,6 @@
 use Rattle.std.proofs.Common.{◌≡◌, ◌++◌, List, map}
 use Rattle.arc_core.specs.ShardLog.{ShardLog}
-use Rattle.arc_table.specs.Opening.{AreOpeningLogs}
+use Rattle.arc_table.specs.opening.Opening.{AreOpeningLogs}
 use Rattle.arc_table.specs.declared.item.Item.TheVariants as item
 use Rattle.arc_table.proofs.opening.add_shards.Given as goal
 

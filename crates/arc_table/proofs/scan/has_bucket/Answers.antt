@@ -1,8 +1,8 @@
 use Rattle.std.proofs.Common.{◌≡◌, List, IsTrue, sym, ap, ◌∙◌, subst}
 use Rattle.std.specs.Prelude.{is_some}
 use Rattle.arc_table.specs.declared.hand.Taken.{Taken}
-use Rattle.arc_table.specs.Sparing.{turn_place}
-use Rattle.arc_table.proofs.Spares.{hand_has, hand_lacks}
+use Rattle.arc_table.specs.scans.Sparing.{turn_place}
+use Rattle.arc_table.proofs.scans.Spares.{hand_has, hand_lacks}
 use Rattle.arc_table.proofs.scan.has_bucket.Goals as goal
 
 pub returns-else-hand-turn-clause-yes : goal.returns-else-hand-turn-clause-yes

@@ -15,11 +15,11 @@ use Rattle.hash_chain.specs.Chain.{Chain, IsWith, header_at}
 use Rattle.arc_table.specs.Fronts.{item_at}
 use Rattle.arc_table.specs.Geometry.{bucket_turn}
 use Rattle.arc_table.specs.InHand.{buckets_of}
-use Rattle.arc_table.specs.Scanning.{AllPairs}
-use Rattle.arc_table.specs.Sparing.{AreHeadsBut, spared_header, turns_in, with_bucket}
-use Rattle.arc_table.proofs.Scans.{some_is}
-use Rattle.arc_table.proofs.ScanGives.{apart_turns, same_some}
-use Rattle.arc_table.proofs.Spares.{heads_step, with_turns}
+use Rattle.arc_table.specs.scans.Scanning.{AllPairs}
+use Rattle.arc_table.specs.scans.Sparing.{AreHeadsBut, spared_header, turns_in, with_bucket}
+use Rattle.arc_table.proofs.scans.Scans.{some_is}
+use Rattle.arc_table.proofs.scans.ScanGives.{apart_turns, same_some}
+use Rattle.arc_table.proofs.scans.Spares.{heads_step, with_turns}
 use Rattle.arc_table.proofs.spare.spare_all.Goals as goal
 
 or_right : (a b : Bool) → b ≡ true → (a || b) ≡ true

@@ -1,7 +1,7 @@
 use Rattle.std.proofs.Common.{◌≡◌, drop}
 use Rattle.arc_table.specs.InHand.{buckets_of}
-use Rattle.arc_table.specs.Scanning.{AllPairs}
-use Rattle.arc_table.specs.Sparing.{AreHeadsBut, turns_in}
+use Rattle.arc_table.specs.scans.Scanning.{AllPairs}
+use Rattle.arc_table.specs.scans.Sparing.{AreHeadsBut, turns_in}
 use Rattle.arc_table.proofs.spare.spare_all.Given as goal
 
 abbrev pub invariant-loop-key : goal.invariant-loop-key

@@ -1,8 +1,8 @@
 use Rattle.std.proofs.Common.{◌++◌, ℕ, List, [], ◌∷◌, length, ◌+◌, inl, inr, refl, sym, ap, ◌∙◌, subst, arith}
 use Rattle.arc_table.specs.declared.picks.Picked.{Picked as Block}
 use Rattle.arc_table.specs.Items.{meanings}
-use Rattle.arc_table.specs.Listing.{picks_of}
-use Rattle.arc_table.specs.Picking.{PicksAll, nth_shard_turn}
+use Rattle.arc_table.specs.feeder.Listing.{picks_of}
+use Rattle.arc_table.specs.feeder.Picking.{PicksAll, nth_shard_turn}
 use Rattle.l2_dev.specs.declared.report.FeedReport.{FeedReport}
 use Rattle.l2_feed.specs.Acts.{Picked, Unpicked}
 use Rattle.l2_feed.specs.Ready.{IsFeeding}

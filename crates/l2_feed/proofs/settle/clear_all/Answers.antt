@@ -1,5 +1,5 @@
 use Rattle.std.proofs.Common.{None, get_or, subst}
-use Rattle.arc_table.specs.Feeding.{AnswersClear}
+use Rattle.arc_table.specs.feeder.Feeding.{AnswersClear}
 use Rattle.l2_ring.specs.declared.live.Live.{Live}
 use Rattle.std.proofs.lemmas.List.{drop_all}
 use Rattle.arc_table.specs.Items.{meanings}

@@ -1,7 +1,7 @@
 use Rattle.std.proofs.Common.{[], subst}
 use Rattle.std.proofs.lemmas.List.{drop_all}
 use Rattle.arc_core.specs.declared.event.Why.{Why}
-use Rattle.arc_table.specs.Feeding.{Leaves}
+use Rattle.arc_table.specs.feeder.Feeding.{Leaves}
 use Rattle.arc_table.specs.Items.{meanings}
 use Rattle.l2_feed.specs.Shape.{stop_of, why_of}
 use Rattle.l2_feed.proofs.Loops.{left_end, left_turn, only, picked_at}

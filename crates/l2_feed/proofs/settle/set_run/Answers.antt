@@ -1,6 +1,6 @@
 use Rattle.std.proofs.lemmas.List.{drop_all}
 use Rattle.std.proofs.Common.{subst}
-use Rattle.arc_table.specs.Feeding.{AnswersSet}
+use Rattle.arc_table.specs.feeder.Feeding.{AnswersSet}
 use Rattle.arc_table.specs.Items.{meanings}
 use Rattle.l2_feed.proofs.Loops.{gone_turn, picked_at, set_end, set_turn}
 use Rattle.l2_feed.proofs.settle.set_run.Goals as goal

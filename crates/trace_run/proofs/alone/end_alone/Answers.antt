@@ -1,4 +1,4 @@
-use Rattle.trace_run.proofs.EndAlone.{again-free, again-row, end-last, ended-as, may-end-as, seen-ends}
+use Rattle.trace_run.proofs.one_caller.EndAlone.{again-free, again-row, end-last, ended-as, may-end-as, seen-ends}
 use Rattle.trace_run.proofs.alone.end_alone.Goals as goal
 
 pub part-feeder-requires-clause-row : goal.part-feeder-requires-clause-row

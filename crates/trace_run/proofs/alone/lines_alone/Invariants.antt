@@ -1,10 +1,10 @@
 use Rattle.std.proofs.Common.{◌≡◌, map, take}
 use Rattle.vdev_io.specs.Calls.{KeepsPool}
-use Rattle.trace_run.specs.CallerLines.{DidLines, at}
+use Rattle.trace_run.specs.callers.CallerLines.{DidLines, at}
 use Rattle.trace_run.specs.KeptBlocks.{Stands, read_of}
 use Rattle.trace_run.specs.Meeting.{HasFeeder}
 use Rattle.trace_run.specs.Openings.{openings_of}
-use Rattle.trace_run.specs.OverShards.{AreNamed}
+use Rattle.trace_run.specs.one_caller.OverShards.{AreNamed}
 use Rattle.trace_run.proofs.alone.lines_alone.Given as goal
 
 abbrev pub invariant-loop-number : goal.invariant-loop-number

@@ -1,7 +1,7 @@
 use Rattle.std.proofs.Common.{ℕ, subst}
-use Rattle.trace_run.specs.CallerLines.{HasFed}
+use Rattle.trace_run.specs.callers.CallerLines.{HasFed}
 use Rattle.trace_run.specs.Meeting.{resizes_in}
-use Rattle.trace_run.proofs.FedAlone.{again-feeder, again-free, again-row, again-stands, alone-fed, made-as, may-feed-as, part-last}
+use Rattle.trace_run.proofs.one_caller.FedAlone.{again-feeder, again-free, again-row, again-stands, alone-fed, made-as, may-feed-as, part-last}
 use Rattle.trace_run.proofs.alone.resize_alone.Goals as goal
 
 pub part-feeder-requires-clause-row : goal.part-feeder-requires-clause-row

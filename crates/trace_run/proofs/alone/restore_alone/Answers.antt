@@ -1,6 +1,6 @@
 use Rattle.std.proofs.Common.{[]}
 use Rattle.trace_run.specs.Restores.{restores_in}
-use Rattle.trace_run.proofs.FedAlone.{again-feeder, again-free, again-row, again-stands, alone-fed, made-as, may-feed-as, part-last}
+use Rattle.trace_run.proofs.one_caller.FedAlone.{again-feeder, again-free, again-row, again-stands, alone-fed, made-as, may-feed-as, part-last}
 use Rattle.trace_run.proofs.alone.restore_alone.Goals as goal
 
 pub part-feeder-requires-clause-row : goal.part-feeder-requires-clause-row

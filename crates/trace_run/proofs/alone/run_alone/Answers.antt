@@ -6,13 +6,13 @@ use Rattle.arc_table.specs.Cache.{Cache}
 use Rattle.arc_table.specs.Ended.{AreAtRest}
 use Rattle.arc_table.specs.Geometry.{parties_of}
 use Rattle.trace_run.specs.declared.kept_blocks.KeptBlock.{KeptBlock}
-use Rattle.trace_run.specs.CallerLines.{DidLines, at}
+use Rattle.trace_run.specs.callers.CallerLines.{DidLines, at}
 use Rattle.trace_run.specs.KeptBlocks.{Stands, read_of}
 use Rattle.trace_run.specs.Openings.{openings_of}
-use Rattle.trace_run.specs.OverShards.{AreNamed}
-use Rattle.trace_run.proofs.AloneLemmas.{end-there, ran-alone, still-0, still-joined, still-rows}
+use Rattle.trace_run.specs.one_caller.OverShards.{AreNamed}
+use Rattle.trace_run.proofs.one_caller.AloneLemmas.{end-there, ran-alone, still-0, still-joined, still-rows}
 use Rattle.trace_run.proofs.CapLemmas.{feeder-still}
-use Rattle.trace_run.proofs.CellRun.{alone-cells}
+use Rattle.trace_run.proofs.theorem.CellRun.{alone-cells}
 use Rattle.trace_run.proofs.OpenLemmas.{HeapCell}
 use Rattle.trace_run.proofs.alone.run_alone.Goals as goal
 

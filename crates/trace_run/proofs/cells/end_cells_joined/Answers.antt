@@ -2,7 +2,7 @@ use Rattle.std.proofs.Common.{[], map, ap, ◌∙◌}
 use Rattle.dbuf_cells.specs.Turns.{PartyPlace}
 use Rattle.trace_run.specs.KeptBlocks.{no_entries}
 use Rattle.trace_run.proofs.EndSteps.{ended-cells, last-of, q-stands}
-use Rattle.trace_run.proofs.TurnLemmas.{all-may, may-join}
+use Rattle.trace_run.proofs.callers.TurnLemmas.{all-may, may-join}
 use Rattle.trace_run.proofs.cells.end_cells_joined.Goals as goal
 
 pub join_all-requires-clause-party : goal.join_all-requires-clause-party

@@ -2,7 +2,7 @@ use Rattle.std.proofs.Common.{◌≡◌, [], List, length, sym, subst, arith}
 use Rattle.arc_table.proofs.Ends.{nothing_left}
 use Rattle.trace_run.specs.declared.kept_blocks.KeptBlock.{KeptBlock}
 use Rattle.trace_run.specs.Meeting.{GaveBackJoined, MayGoOn}
-use Rattle.trace_run.proofs.TurningLemmas.{Turning, begun, may-begin, may-turn, turned, turned-all, turning-some}
+use Rattle.trace_run.proofs.callers.TurningLemmas.{Turning, begun, may-begin, may-turn, turned, turned-all, turning-some}
 use Rattle.trace_run.proofs.ending.all_give_back.Goals as goal
 
 pub give_back_joined-requires : goal.give_back_joined-requires

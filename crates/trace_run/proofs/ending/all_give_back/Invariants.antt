@@ -2,7 +2,7 @@ use Rattle.std.proofs.Common.{ℕ, List}
 use Rattle.arc_core.specs.declared.event.Event.{Event}
 use Rattle.arc_core.specs.Operations.{Act}
 use Rattle.trace_run.specs.Meeting.{AreWaiting, IsFed}
-use Rattle.trace_run.proofs.TurningLemmas.{Turning}
+use Rattle.trace_run.proofs.callers.TurningLemmas.{Turning}
 use Rattle.trace_run.proofs.ending.all_give_back.Given as goal
 
 abbrev pub invariant-loop-reads : goal.invariant-loop-reads

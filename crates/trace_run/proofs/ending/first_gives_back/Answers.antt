@@ -1,7 +1,7 @@
 use Rattle.std.proofs.Common.{arith}
 use Rattle.std.proofs.lemmas.Result.{IfOk-weaker}
 use Rattle.trace_run.specs.Meeting.{FirstGaveBack, GaveBackJoined}
-use Rattle.trace_run.proofs.TurningLemmas.{first-gave, first-goes, first-some}
+use Rattle.trace_run.proofs.callers.TurningLemmas.{first-gave, first-goes, first-some}
 use Rattle.trace_run.proofs.ending.first_gives_back.Goals as goal
 
 pub remove-party-requires : goal.remove-party-requires

@@ -4,7 +4,7 @@ use Rattle.arc_table.specs.declared.view.Known.{Known}
 use Rattle.arc_table.specs.Items.{Meanings, meanings}
 use Rattle.trace_run.specs.KeptBlocks.{no_entries}
 use Rattle.trace_run.specs.Meeting.{GaveBackJoined}
-use Rattle.trace_run.proofs.TurnLemmas.{all-may, gave-back, joined-stands, last-numbers, may-join}
+use Rattle.trace_run.proofs.callers.TurnLemmas.{all-may, gave-back, joined-stands, last-numbers, may-join}
 use Rattle.trace_run.proofs.ending.give_back_joined.Goals as goal
 
 pub join_all-requires-clause-party : goal.join_all-requires-clause-party

@@ -5,7 +5,7 @@ use Rattle.arc_table.specs.declared.view.Known.{Known}
 use Rattle.arc_table.specs.Items.{Meanings, meanings}
 use Rattle.arc_table.proofs.Ends.{nothing_left}
 use Rattle.trace_run.specs.Meeting.{JoinAll, MayJoin, MayPart}
-use Rattle.trace_run.proofs.MeetLemmas.{all-before, joins-first}
+use Rattle.trace_run.proofs.callers.MeetLemmas.{all-before, joins-first}
 use Rattle.trace_run.proofs.ending.join_all.Goals as goal
 
 pub loop-other-init : goal.loop-other-init

@@ -3,7 +3,7 @@ use Rattle.turn_table.specs.Places.{Place}
 use Rattle.arc_table.specs.declared.view.Known.{Known}
 use Rattle.arc_table.proofs.Ends.{nothing_left}
 use Rattle.trace_run.specs.Meeting.{AreLast, MayPart, PartAll}
-use Rattle.trace_run.proofs.MeetLemmas.{is-last, rest-last}
+use Rattle.trace_run.proofs.callers.MeetLemmas.{is-last, rest-last}
 use Rattle.trace_run.proofs.ending.part_all.Goals as goal
 
 pub loop-number-init : goal.loop-number-init

@@ -1,6 +1,6 @@
 use Rattle.std.proofs.Common.{◌≡◌, [], List, sym, subst, refl, arith}
 use Rattle.arc_table.proofs.Ends.{nothing_left}
-use Rattle.trace_run.specs.Callers.{AbsorbsAll}
+use Rattle.trace_run.specs.callers.Callers.{AbsorbsAll}
 use Rattle.trace_run.proofs.group.absorb_all.Goals as goal
 
 pub loop-fork-init : goal.loop-fork-init

@@ -1,4 +1,4 @@
-use Rattle.trace_run.specs.Callers.{AbsorbsAll}
+use Rattle.trace_run.specs.callers.Callers.{AbsorbsAll}
 use Rattle.trace_run.proofs.group.absorb_all.Given as goal
 
 abbrev pub invariant-loop-fork : goal.invariant-loop-fork

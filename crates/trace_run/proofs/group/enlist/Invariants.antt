@@ -1,5 +1,5 @@
 use Rattle.std.proofs.Common.{◌≡◌, ◌++◌, List, length}
-use Rattle.trace_run.specs.Callers.{AreEnlisted}
+use Rattle.trace_run.specs.callers.Callers.{AreEnlisted}
 use Rattle.trace_run.specs.declared.group.Caller.{Caller}
 use Rattle.trace_run.proofs.group.enlist.Given as goal
 

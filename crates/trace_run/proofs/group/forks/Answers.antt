@@ -5,8 +5,8 @@ use Rattle.std.specs.List.{AllByRecursion}
 use Rattle.vdev_io.specs.Faults.{CountsIoFault, CountsOne, Rose, last_count}
 use Rattle.vdev_io.specs.declared.fault.IoFault.{IoFault}
 use Rattle.vdev_io.specs.declared.fault.IoFault.TheVariants.{Failed}
-use Rattle.trace_run.specs.Group.{IsFork}
-use Rattle.trace_run.proofs.AbsorbLemmas.{absorbed-faults, absorbed-leaves, absorbed-reads, forks-moved, fresh-faults, fresh-reads, fresh-then, kept-leaves}
+use Rattle.trace_run.specs.callers.Group.{IsFork}
+use Rattle.trace_run.proofs.callers.AbsorbLemmas.{absorbed-faults, absorbed-leaves, absorbed-reads, forks-moved, fresh-faults, fresh-reads, fresh-then, kept-leaves}
 use Rattle.trace_run.proofs.RunLemmas.{keeps-then}
 use Rattle.trace_run.proofs.group.forks.Goals as goal
 

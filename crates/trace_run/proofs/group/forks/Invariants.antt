@@ -1,7 +1,7 @@
 use Rattle.std.proofs.Common.{◌≡◌, length}
 use Rattle.std.specs.List.{AllByRecursion}
 use Rattle.vdev_io.specs.Calls.{KeepsPool}
-use Rattle.trace_run.specs.Group.{IsFork}
+use Rattle.trace_run.specs.callers.Group.{IsFork}
 use Rattle.trace_run.proofs.group.forks.Given as goal
 
 abbrev pub invariant-loop : goal.invariant-loop

@@ -4,11 +4,11 @@ use Rattle.std.proofs.Math.Seq.{take-append_seam}
 use Rattle.std.proofs.lemmas.Result.{IfOk-weaker}
 use Rattle.dbuf_state.proofs.CellLemmas.{all-at}
 use Rattle.trace_text.specs.declared.reply.Reply.{Reply}
-use Rattle.trace_run.specs.Callers.{AbsorbsAll, HasTried, HaveComeBack, IsReady}
-use Rattle.trace_run.specs.Group.{HaveWorked}
+use Rattle.trace_run.specs.callers.Callers.{AbsorbsAll, HasTried, HaveComeBack, IsReady}
+use Rattle.trace_run.specs.callers.Group.{HaveWorked}
 use Rattle.trace_run.specs.declared.group.Caller.{Caller}
-use Rattle.trace_run.proofs.AbsorbLemmas.{absorbed-leaves}
-use Rattle.trace_run.proofs.GroupLemmas.{enlisted-ready, have-worked, start-length}
+use Rattle.trace_run.proofs.callers.AbsorbLemmas.{absorbed-leaves}
+use Rattle.trace_run.proofs.callers.GroupLemmas.{enlisted-ready, have-worked, start-length}
 use Rattle.trace_run.proofs.group.run_group.Goals as goal
 
 -- what a slice of a whole vector leaves there

@@ -5,7 +5,7 @@ use Rattle.turn_table.specs.Places.{Place}
 use Rattle.arc_table.specs.declared.view.Known.{Known}
 use Rattle.arc_table.proofs.Ends.{nothing_left}
 use Rattle.trace_text.specs.declared.reply.Reply.{Reply}
-use Rattle.trace_run.specs.Callers.{AbsorbsAll, AllReplied}
+use Rattle.trace_run.specs.callers.Callers.{AbsorbsAll, AllReplied}
 use Rattle.trace_run.specs.declared.group.Caller.{Caller}
 use Rattle.trace_run.specs.declared.kept_blocks.KeptBlock.{KeptBlock}
 use Rattle.trace_run.proofs.group.take_all_back.Goals as goal

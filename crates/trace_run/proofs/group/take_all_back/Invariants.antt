@@ -1,6 +1,6 @@
 use Rattle.std.proofs.Common.{◌≡◌, ◌++◌, List, map, false}
 use Rattle.trace_text.specs.declared.reply.Reply.{Reply}
-use Rattle.trace_run.specs.Callers.{AbsorbsAll, AllReplied}
+use Rattle.trace_run.specs.callers.Callers.{AbsorbsAll, AllReplied}
 use Rattle.trace_run.proofs.group.take_all_back.Given as goal
 
 abbrev pub invariant-loop-caller : goal.invariant-loop-caller

@@ -1,4 +1,4 @@
-use Rattle.trace_run.proofs.GroupLemmas.{lines-tried}
+use Rattle.trace_run.proofs.callers.GroupLemmas.{lines-tried}
 use Rattle.trace_run.proofs.group.work.Goals as goal
 
 pub returns : goal.returns

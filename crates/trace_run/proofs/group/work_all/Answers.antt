@@ -1,7 +1,7 @@
 use Rattle.std.proofs.Common.{◌≡◌, length, subst, arith}
-use Rattle.trace_run.specs.Callers.{HasTried}
+use Rattle.trace_run.specs.callers.Callers.{HasTried}
 use Rattle.trace_run.specs.declared.group.Caller.{Caller}
-use Rattle.trace_run.proofs.GroupLemmas.{zip-of}
+use Rattle.trace_run.proofs.callers.GroupLemmas.{zip-of}
 use Rattle.trace_run.proofs.group.work_all.Goals as goal
 
 pub returns : goal.returns

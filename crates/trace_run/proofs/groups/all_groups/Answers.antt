@@ -1,5 +1,5 @@
 use Rattle.std.proofs.Common.{◌≡◌, ◌<◌, ◌≤◌, false, true, length, ap, arith}
-use Rattle.trace_run.proofs.StepLemmas.{all-stepped, leaves-then, not-stepped, stepped}
+use Rattle.trace_run.proofs.callers.StepLemmas.{all-stepped, leaves-then, not-stepped, stepped}
 use Rattle.trace_run.proofs.groups.all_groups.Goals as goal
 
 pub next_group-requires-clause-between : goal.next_group-requires-clause-between

@@ -1,7 +1,7 @@
 use Rattle.std.proofs.Common.{◌-◌, List, [], length, vec_len}
 use Rattle.arc_core.specs.declared.served.Restored.{Restored}
-use Rattle.trace_run.specs.Group.{LeavesPool}
-use Rattle.trace_run.specs.Groups.{AreBetween}
+use Rattle.trace_run.specs.callers.Group.{LeavesPool}
+use Rattle.trace_run.specs.callers.Groups.{AreBetween}
 use Rattle.trace_run.proofs.groups.all_groups.Given as goal
 
 abbrev pub invariant-loop-alloc : goal.invariant-loop-alloc

@@ -1,7 +1,7 @@
 use Rattle.std.proofs.Common.{◌≡◌, ◌<◌, ◌≤◌, ℕ, false}
 use Rattle.std.specs.Prelude.{Some, slice_get}
 use Rattle.trace_text.specs.declared.op.Op.{Op}
-use Rattle.trace_run.specs.Together.{ends_group}
+use Rattle.trace_run.specs.callers.Together.{ends_group}
 use Rattle.trace_run.proofs.groups.group_end.Given as goal
 
 abbrev pub invariant-loop-to : goal.invariant-loop-to

@@ -1,7 +1,7 @@
 use Rattle.std.proofs.Common.{◌≡◌, ℕ, List, Vec, Global, length, map, vec_len, refl, subst, arith}
 use Rattle.trace_text.specs.declared.reply.Reply.{Reply}
-use Rattle.trace_run.specs.Group.{HaveWorked}
-use Rattle.trace_run.proofs.TogetherLemmas.{worked-replies}
+use Rattle.trace_run.specs.callers.Group.{HaveWorked}
+use Rattle.trace_run.proofs.callers.TogetherLemmas.{worked-replies}
 use Rattle.trace_run.proofs.groups.lines_at_once.Goals as goal
 
 pub in_order-requires : goal.in_order-requires

@@ -4,11 +4,11 @@ use Rattle.std.proofs.lemmas.Option.{slice_get_read}
 use Rattle.blk_ptr.specs.declared.ptr.Ptr.{Ptr}
 use Rattle.arc_core.specs.declared.config.Config.{Config}
 use Rattle.trace_text.specs.declared.op.Op.{Op}
-use Rattle.trace_run.specs.Callers.{AreAtStart}
-use Rattle.trace_run.specs.Groups.{AreOfCallers}
+use Rattle.trace_run.specs.callers.Callers.{AreAtStart}
+use Rattle.trace_run.specs.callers.Groups.{AreOfCallers}
 use Rattle.trace_run.specs.Tally.{AreDeclared}
-use Rattle.trace_run.proofs.GroupRunLemmas.{come-named, may-start}
-use Rattle.trace_run.proofs.StepLemmas.{IsUnused, next-ended, next-last, next-may, range-callers, range-declared}
+use Rattle.trace_run.proofs.callers.GroupRunLemmas.{come-named, may-start}
+use Rattle.trace_run.proofs.callers.StepLemmas.{IsUnused, next-ended, next-last, next-may, range-callers, range-declared}
 use Rattle.trace_run.proofs.groups.next_group.Goals as goal
 
 pub lines_at_once-requires-clause-start : goal.lines_at_once-requires-clause-start

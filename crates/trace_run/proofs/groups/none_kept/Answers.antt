@@ -1,6 +1,6 @@
 use Rattle.std.proofs.Common.{◌+◌, ℕ, length, length-append, sym, ap, ◌∙◌, subst}
-use Rattle.trace_run.specs.Groups.{KeepNothing}
-use Rattle.trace_run.proofs.TellLemmas.{all-append}
+use Rattle.trace_run.specs.callers.Groups.{KeepNothing}
+use Rattle.trace_run.proofs.one_caller.TellLemmas.{all-append}
 use Rattle.trace_run.proofs.groups.none_kept.Goals as goal
 
 pub loop-preserved : goal.loop-preserved

@@ -1,5 +1,5 @@
 use Rattle.std.proofs.Common.{◌≡◌, length}
-use Rattle.trace_run.specs.Groups.{KeepNothing}
+use Rattle.trace_run.specs.callers.Groups.{KeepNothing}
 use Rattle.trace_run.proofs.groups.none_kept.Given as goal
 
 abbrev pub invariant-loop : goal.invariant-loop

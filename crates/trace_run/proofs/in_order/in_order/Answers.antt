@@ -6,8 +6,8 @@ use Rattle.std.proofs.lemmas.Option.{slice_get_read}
 use Rattle.trace_text.specs.declared.op.Op.{Op}
 use Rattle.trace_text.specs.declared.reply.Reply.{Reply}
 use Rattle.trace_run.specs.Lines.{caller_of}
-use Rattle.trace_run.proofs.InOrderLemmas.{ArePlaced, one-left, placed-all, placed-more, placed-none}
-use Rattle.trace_run.proofs.TellLemmas.{some-number}
+use Rattle.trace_run.proofs.callers.InOrderLemmas.{ArePlaced, one-left, placed-all, placed-more, placed-none}
+use Rattle.trace_run.proofs.one_caller.TellLemmas.{some-number}
 use Rattle.trace_run.proofs.in_order.in_order.Goals as goal
 
 abbrev lists : List (Vec Reply Global) → List (List Reply)

@@ -1,5 +1,5 @@
 use Rattle.std.proofs.Common.{map, reverse}
-use Rattle.trace_run.proofs.InOrderLemmas.{ArePlaced}
+use Rattle.trace_run.proofs.callers.InOrderLemmas.{ArePlaced}
 use Rattle.trace_run.proofs.in_order.in_order.Given as goal
 
 abbrev pub invariant-loop-number : goal.invariant-loop-number

@@ -1,10 +1,10 @@
 use Rattle.std.proofs.Common.{◌≡◌, map, take}
 use Rattle.std.specs.Prelude.{filter}
 use Rattle.vdev_io.specs.Calls.{KeepsPool}
-use Rattle.trace_run.specs.CallerLines.{DidLines, at}
+use Rattle.trace_run.specs.callers.CallerLines.{DidLines, at}
 use Rattle.trace_run.specs.KeptBlocks.{Stands, read_of}
 use Rattle.trace_run.specs.Lines.{is_of_caller}
-use Rattle.trace_run.specs.OverShards.{AreNamed}
+use Rattle.trace_run.specs.one_caller.OverShards.{AreNamed}
 use Rattle.trace_run.proofs.lines.all_lines.Given as goal
 
 abbrev pub invariant-loop-number : goal.invariant-loop-number

@@ -2,7 +2,7 @@ use Rattle.std.proofs.Common.{◌≡◌, false, true, is_some, refl, sym, ap, �
 use Rattle.std.specs.Prelude.{option_and_then}
 use Rattle.trace_run.specs.KeptReads.{KeptRead}
 use Rattle.trace_run.specs.KeptBlocks.{read_of}
-use Rattle.trace_run.specs.OneCaller.{oldest_kept}
+use Rattle.trace_run.specs.one_caller.OneCaller.{oldest_kept}
 use Rattle.trace_run.proofs.DropLemmas.{absent-counted, found-counted}
 use Rattle.trace_run.proofs.lines.drop_line.Goals as goal
 

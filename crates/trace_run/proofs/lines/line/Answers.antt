@@ -1,9 +1,9 @@
 use Rattle.std.proofs.Common.{map, sym, subst}
 use Rattle.std.specs.Prelude.{IfOk}
 use Rattle.trace_text.specs.declared.op.Op.{Op}
-use Rattle.trace_run.specs.CallerLines.{DidLine, at}
+use Rattle.trace_run.specs.callers.CallerLines.{DidLine, at}
 use Rattle.trace_run.specs.KeptBlocks.{read_of}
-use Rattle.trace_run.proofs.CallerActLemmas.{same-caller}
+use Rattle.trace_run.proofs.callers.CallerActLemmas.{same-caller}
 use Rattle.trace_run.proofs.LineLemmas.{drop-line, hold-line, read-line}
 use Rattle.trace_run.proofs.RunLemmas.{got}
 use Rattle.trace_run.proofs.lines.line.Goals as goal

@@ -9,9 +9,9 @@ use Rattle.arc_table.specs.Cache.{Cache}
 use Rattle.arc_table.specs.Items.{Meanings, meanings}
 use Rattle.trace_run.specs.declared.get.Got.{Got}
 use Rattle.trace_run.specs.declared.kept_blocks.KeptBlock.{KeptBlock}
-use Rattle.trace_run.specs.Access.{events_of_answered, events_of_drop, held_key as access_key}
+use Rattle.trace_run.specs.one_caller.Access.{events_of_answered, events_of_drop, held_key as access_key}
 use Rattle.trace_run.specs.KeptBlocks.{GivesBack, IsOwnedBy, Stands, read_of}
-use Rattle.trace_run.specs.OneCaller.{key_held_by}
+use Rattle.trace_run.specs.one_caller.OneCaller.{key_held_by}
 use Rattle.trace_run.specs.KeptReads.{KeptRead, kept_read}
 use Rattle.trace_run.specs.Reads.{DidActs, DidAnswer, access_now}
 use Rattle.trace_run.proofs.LineLemmas.{acts-none, read-given, read-refused}

@@ -9,7 +9,7 @@ use Rattle.arc_table.specs.Items.{Meanings, meanings}
 use Rattle.arc_table.specs.Resizing.{AnswersResize, Resizes}
 use Rattle.trace_run.specs.KeptBlocks.{no_entries}
 use Rattle.trace_run.proofs.ResizeLemmas.{q-stands, resized, resized-last}
-use Rattle.trace_run.proofs.TurnLemmas.{all-may, joined, may-join}
+use Rattle.trace_run.proofs.callers.TurnLemmas.{all-may, joined, may-join}
 use Rattle.trace_run.proofs.resizing.resize_joined.Goals as goal
 
 -- all shards were resized, where memory was not refused

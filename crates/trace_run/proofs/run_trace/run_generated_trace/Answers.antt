@@ -7,10 +7,10 @@ use Rattle.trace_run.specs.Answers.{AnswersAll, is_pool_fault}
 use Rattle.trace_run.specs.CellEnds.{AreCellsOf}
 use Rattle.trace_run.specs.Explaining.{Explain}
 use Rattle.trace_run.specs.Outcome.{generated, zeros_of}
-use Rattle.trace_run.specs.PlainReport.{IsPlainReport}
-use Rattle.trace_run.specs.PlainRun.{report_of}
+use Rattle.trace_run.specs.one_caller.PlainReport.{IsPlainReport}
+use Rattle.trace_run.specs.one_caller.PlainRun.{report_of}
 use Rattle.trace_run.specs.Restores.{restored_of}
-use Rattle.trace_run.proofs.GenLemmas.{made-plain, made-report, made-trace, never-failed, none-refused}
+use Rattle.trace_run.proofs.theorem.GenLemmas.{made-plain, made-report, made-trace, never-failed, none-refused}
 use Rattle.trace_run.proofs.run_trace.run_generated_trace.Goals as goal
 
 pub returns : goal.returns

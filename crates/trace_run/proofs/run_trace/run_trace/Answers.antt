@@ -1,11 +1,11 @@
 use Rattle.std.proofs.Common.{List, refl, subst, arith}
 use Rattle.arc_core.specs.declared.served.Restored.{Restored}
-use Rattle.trace_run.specs.Alone.{RanAlone}
+use Rattle.trace_run.specs.one_caller.Alone.{RanAlone}
 use Rattle.trace_run.specs.CellEnds.{AreCellsOf}
-use Rattle.trace_run.specs.GroupRun.{RanTogether}
+use Rattle.trace_run.specs.callers.GroupRun.{RanTogether}
 use Rattle.trace_run.specs.Outcome.{IsRun}
-use Rattle.trace_run.specs.Together.{report_of_closed}
-use Rattle.trace_run.proofs.RanLemmas.{alone-told, together-run}
+use Rattle.trace_run.specs.callers.Together.{report_of_closed}
+use Rattle.trace_run.proofs.theorem.RanLemmas.{alone-told, together-run}
 use Rattle.trace_run.proofs.run_trace.run_trace.Goals as goal
 use Rattle.trace_run.proofs.run_trace.run_trace.Goals.{then-trace-eq1+in_ok-ran, else-trace-eq1+in_ok-ran-2}
 

@@ -1,5 +1,5 @@
 use Rattle.std.proofs.Common.{◌+◌, length-take, arith}
-use Rattle.trace_run.proofs.StreamLemmas.{more_taken}
+use Rattle.trace_run.proofs.theorem.StreamLemmas.{more_taken}
 use Rattle.trace_run.proofs.stream.read_all.Goals as goal
 
 pub returns-in_err-read_piece-clause-took : goal.returns-in_err-read_piece-clause-took

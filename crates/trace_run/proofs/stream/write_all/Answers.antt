@@ -1,6 +1,6 @@
 use Rattle.std.proofs.Common.{◌∙◌, arith, length-drop}
 use Rattle.std.proofs.lemmas.List.{take_rest}
-use Rattle.trace_run.proofs.StreamLemmas.{more_written}
+use Rattle.trace_run.proofs.theorem.StreamLemmas.{more_written}
 use Rattle.trace_run.proofs.stream.write_all.Goals as goal
 
 pub loop-at-preserved : goal.loop-at-preserved

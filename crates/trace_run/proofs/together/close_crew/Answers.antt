@@ -1,10 +1,10 @@
 use Rattle.std.proofs.Common.{◌≡◌, length, arith}
 use Rattle.std.proofs.lemmas.Result.{IfOk-weaker}
 use Rattle.arc_table.specs.Ended.{Ends}
-use Rattle.trace_run.specs.GroupRun.{HaveClosed}
-use Rattle.trace_run.proofs.AfterEnds.{crew-stopped}
-use Rattle.trace_run.proofs.GroupRunLemmas.{gone-some, gone-stopped}
-use Rattle.trace_run.proofs.TurningLemmas.{may-end}
+use Rattle.trace_run.specs.callers.GroupRun.{HaveClosed}
+use Rattle.trace_run.proofs.callers.AfterEnds.{crew-stopped}
+use Rattle.trace_run.proofs.callers.GroupRunLemmas.{gone-some, gone-stopped}
+use Rattle.trace_run.proofs.callers.TurningLemmas.{may-end}
 use Rattle.trace_run.proofs.together.close_crew.Goals as goal
 
 pub end_crew-requires-clause-some : goal.end_crew-requires-clause-some

@@ -1,5 +1,5 @@
 -- A cache whose parties have stopped may be closed.
-use Rattle.trace_run.proofs.GroupRunLemmas.{stopped-all, stopped-rest}
+use Rattle.trace_run.proofs.callers.GroupRunLemmas.{stopped-all, stopped-rest}
 use Rattle.trace_run.proofs.together.close_run.Goals as goal
 
 pub close-requires-clause-rest : goal.close-requires-clause-rest

@@ -2,11 +2,11 @@
 use Rattle.std.proofs.Common.{◌≡◌, [], length, sym, subst, arith}
 use Rattle.arc_core.specs.Config.{IsConfig}
 use Rattle.trace_run.specs.Openings.{AllKnow, openings_of}
-use Rattle.trace_run.proofs.CellRun.{closed-cells}
-use Rattle.trace_run.proofs.GroupRunLemmas.{come-wait, group-together, lines-acts, may-resize}
-use Rattle.trace_run.proofs.GroupsLemmas.{crew-rows, have-started}
+use Rattle.trace_run.proofs.theorem.CellRun.{closed-cells}
+use Rattle.trace_run.proofs.callers.GroupRunLemmas.{come-wait, group-together, lines-acts, may-resize}
+use Rattle.trace_run.proofs.callers.GroupsLemmas.{crew-rows, have-started}
 use Rattle.trace_run.proofs.OpenLemmas.{last-knows}
-use Rattle.trace_run.proofs.StepLemmas.{between-begun}
+use Rattle.trace_run.proofs.callers.StepLemmas.{between-begun}
 use Rattle.trace_run.proofs.together.run_together.Goals as goal
 
 pub crew_of-requires : goal.crew_of-requires

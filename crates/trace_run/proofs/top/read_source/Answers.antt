@@ -1,6 +1,6 @@
 use Rattle.std.proofs.Common.{sym, ◌∙◌}
 use Rattle.trace_run.specs.States.{source_state}
-use Rattle.trace_run.proofs.SourceLemmas.{faulty-trace, undone-trace}
+use Rattle.trace_run.proofs.theorem.SourceLemmas.{faulty-trace, undone-trace}
 use Rattle.trace_run.proofs.top.read_source.Goals as goal
 
 pub returns-in-Ok-read_trace-clause-err : goal.returns-in-Ok-read_trace-clause-err

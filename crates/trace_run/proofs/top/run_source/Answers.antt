@@ -5,7 +5,7 @@ use Rattle.trace_run.specs.CellEnds.{AreCellsOf}
 use Rattle.trace_run.specs.Devices.{Finds}
 use Rattle.trace_run.specs.Outcome.{IsReport, IsRun}
 use Rattle.trace_run.specs.States.{handed}
-use Rattle.trace_run.proofs.OutcomeLemmas.{found-kept, nothing-lost, reported-so}
+use Rattle.trace_run.proofs.theorem.OutcomeLemmas.{found-kept, nothing-lost, reported-so}
 use Rattle.trace_run.proofs.top.run_source.Goals as goal
 
 pub returns-in-Err-clause-does : goal.returns-in-Err-clause-does

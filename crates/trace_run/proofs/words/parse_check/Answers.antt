@@ -1,5 +1,5 @@
 use Rattle.trace_run.specs.Words.{texts}
-use Rattle.trace_run.proofs.WordLemmas.{check_alone, check_second}
+use Rattle.trace_run.proofs.theorem.WordLemmas.{check_alone, check_second}
 use Rattle.trace_run.proofs.words.parse_check.Goals as goal
 
 pub returns-in-None : goal.returns-in-None

@@ -1,6 +1,6 @@
 use Rattle.std.proofs.Common.{arith}
 use Rattle.trace_run.specs.Words.{texts}
-use Rattle.trace_run.proofs.WordLemmas.{hands_on, gen_seed, gen_blocks, gen_ops, gen_whole, gen_fifth}
+use Rattle.trace_run.proofs.theorem.WordLemmas.{hands_on, gen_seed, gen_blocks, gen_ops, gen_whole, gen_fifth}
 use Rattle.trace_run.proofs.words.parse_gen.Goals as goal
 
 pub returns-in_err-seed : goal.returns-in_err-seed

@@ -1,5 +1,5 @@
 use Rattle.trace_run.specs.Words.{texts}
-use Rattle.trace_run.proofs.WordLemmas.{hands_on, paper_capacity, paper_third, paper_whole}
+use Rattle.trace_run.proofs.theorem.WordLemmas.{hands_on, paper_capacity, paper_third, paper_whole}
 use Rattle.trace_run.proofs.words.parse_paper.Goals as goal
 
 pub returns-in_err-c : goal.returns-in_err-c

@@ -1,5 +1,5 @@
 use Rattle.trace_run.specs.Words.{texts}
-use Rattle.trace_run.proofs.WordLemmas.{run_alone, run_events, run_second, run_third}
+use Rattle.trace_run.proofs.theorem.WordLemmas.{run_alone, run_events, run_second, run_third}
 use Rattle.trace_run.proofs.words.parse_run.Goals as goal
 
 pub returns-in-None : goal.returns-in-None

@@ -2,7 +2,7 @@ use Rattle.std.proofs.Common.{sym, ◌∙◌}
 use Rattle.std.proofs.lemmas.Option.{none-some}
 use Rattle.arc_table.specs.Items.{meanings}
 use Rattle.arc_table.specs.Making.{IsTaken}
-use Rattle.arc_table.proofs.ArriveEvents.{comes_by, header_read, not_come, read_by, reading_taken}
+use Rattle.arc_table.proofs.reads.ArriveEvents.{comes_by, header_read, not_come, read_by, reading_taken}
 use Rattle.arc_table.proofs.arcs.Arcs.arrive_read.Goals as goal
 
 pub unreachable-requires : goal.unreachable-requires

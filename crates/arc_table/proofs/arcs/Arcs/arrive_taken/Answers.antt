@@ -10,7 +10,7 @@ use Rattle.hash_chain.specs.Chain.{IsWith, header_at}
 use Rattle.hash_chain.specs.declared.header.Header.{Header}
 use Rattle.arc_table.specs.Holding.{IsListed}
 use Rattle.arc_table.specs.Items.{meanings}
-use Rattle.arc_table.proofs.ArriveEvents.{arrive_listed, arrive_made, entry_now, header_says, may_arrive, taken_read}
+use Rattle.arc_table.proofs.reads.ArriveEvents.{arrive_listed, arrive_made, entry_now, header_says, may_arrive, taken_read}
 use Rattle.arc_table.proofs.OneEvent.{makes_these}
 use Rattle.arc_table.proofs.Lent.{lent, lent_taken}
 use Rattle.arc_table.specs.Both.{Makes}

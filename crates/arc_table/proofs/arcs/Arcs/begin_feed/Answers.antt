@@ -12,9 +12,9 @@ use Rattle.arc_table.specs.Cache.{Cache}
 use Rattle.arc_table.specs.Fronts.{list_at}
 use Rattle.arc_table.specs.Geometry.{IsCell, IsShard}
 use Rattle.arc_table.specs.Items.{meanings}
-use Rattle.arc_table.specs.Picking.{nth_shard_turn}
+use Rattle.arc_table.specs.feeder.Picking.{nth_shard_turn}
 use Rattle.arc_table.proofs.Boards.{loses_about, shard_there}
-use Rattle.arc_table.proofs.FeedBegins.{begins, not_cell, nth_range, own_number, picked_there}
+use Rattle.arc_table.proofs.feeder.FeedBegins.{begins, not_cell, nth_range, own_number, picked_there}
 use Rattle.arc_table.proofs.Reached.{took_is}
 use Rattle.arc_table.proofs.arcs.Arcs.begin_feed.Goals as goal
 

@@ -4,10 +4,10 @@ use Rattle.arc_core.specs.Step.{legal}
 use Rattle.arc_table.specs.declared.both.Both.{Both}
 use Rattle.arc_table.specs.declared.hand.Taken.{Taken}
 use Rattle.arc_table.specs.declared.scan.Scan.{Scan}
-use Rattle.arc_table.specs.Evicting.{MayBegin}
+use Rattle.arc_table.specs.scans.Evicting.{MayBegin}
 use Rattle.arc_table.specs.Items.{Meanings, meanings}
-use Rattle.arc_table.proofs.ScanBegins.{may_keeps, scan_begins}
-use Rattle.arc_table.proofs.ScanSteps.{legal_then, may_after}
+use Rattle.arc_table.proofs.scans.ScanBegins.{may_keeps, scan_begins}
+use Rattle.arc_table.proofs.scans.ScanSteps.{legal_then, may_after}
 use Rattle.arc_table.proofs.arcs.Arcs.begin_scan.Goals as goal
 
 pub name_victims-requires-clause-scan : goal.name_victims-requires-clause-scan

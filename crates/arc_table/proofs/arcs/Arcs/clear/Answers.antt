@@ -5,12 +5,12 @@ use Rattle.arc_core.specs.PlainShard.{PlainShard, numbers}
 use Rattle.arc_core.specs.ShardLog.{ShardLog}
 use Rattle.arc_core.specs.Step.{after, legal}
 use Rattle.arc_table.specs.Both.{Makes}
-use Rattle.arc_table.specs.Feeding.{has_place}
+use Rattle.arc_table.specs.feeder.Feeding.{has_place}
 use Rattle.arc_table.specs.Geometry.{shard_turn}
 use Rattle.arc_table.specs.Items.{meanings}
-use Rattle.arc_table.proofs.FeedEvents.{clear_legal, clear_like, clear_there, feeder_is, number_few}
+use Rattle.arc_table.proofs.feeder.FeedEvents.{clear_legal, clear_like, clear_there, feeder_is, number_few}
 use Rattle.arc_table.proofs.FollowEvents.{follow_made, header_there}
-use Rattle.arc_table.proofs.HitEvents.{some_there}
+use Rattle.arc_table.proofs.reads.HitEvents.{some_there}
 use Rattle.arc_table.proofs.OneEvent.{makes_these, some_is, taken_sound}
 use Rattle.arc_table.proofs.Reached.{reached}
 use Rattle.arc_table.proofs.Taking.{tells}

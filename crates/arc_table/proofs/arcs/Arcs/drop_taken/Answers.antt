@@ -8,10 +8,10 @@ use Rattle.hash_chain.specs.declared.header.Header.{Header}
 use Rattle.hash_chain.specs.Chain.{given, header_at}
 use Rattle.arc_table.specs.Both.{Makes}
 use Rattle.arc_table.specs.Geometry.{shard_turn}
-use Rattle.arc_table.specs.Headed.{IsHead}
+use Rattle.arc_table.specs.pact.Headed.{IsHead}
 use Rattle.arc_table.specs.Holding.{ptr_of}
 use Rattle.arc_table.specs.Items.{meanings}
-use Rattle.arc_table.proofs.HitEvents.{head_there}
+use Rattle.arc_table.proofs.reads.HitEvents.{head_there}
 use Rattle.arc_table.proofs.HoldEvents.{acts_for, drop_alike, drop_legal, held_alike}
 use Rattle.arc_table.proofs.KeptHeads.{head_given}
 use Rattle.arc_table.proofs.Lent.{lent, lent_taken}

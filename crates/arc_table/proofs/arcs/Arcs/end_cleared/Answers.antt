@@ -4,7 +4,7 @@ use Rattle.arc_core.specs.declared.event.Origin.{Origin}
 use Rattle.arc_table.specs.Both.{Does}
 use Rattle.arc_table.specs.Items.{meanings}
 use Rattle.arc_table.specs.Reading.{read}
-use Rattle.arc_table.proofs.ReadEnds.{gives_block}
+use Rattle.arc_table.proofs.reads.ReadEnds.{gives_block}
 use Rattle.arc_table.proofs.arcs.Arcs.end_cleared.Goals as goal
 
 pub returns-in-Some-clause-answer : goal.returns-in-Some-clause-answer

@@ -4,8 +4,8 @@ use Rattle.arc_core.specs.declared.event.Event.{Event}
 use Rattle.arc_core.specs.declared.event.Event.TheVariants.{FeedEnd}
 use Rattle.arc_core.specs.Step.{legal}
 use Rattle.arc_table.specs.Items.{meanings}
-use Rattle.arc_table.proofs.Candidates.{end_legal}
-use Rattle.arc_table.proofs.FeedScan.{ended, ended_since, feed_end_is, number_few}
+use Rattle.arc_table.proofs.feeder.Candidates.{end_legal}
+use Rattle.arc_table.proofs.feeder.FeedScan.{ended, ended_since, feed_end_is, number_few}
 use Rattle.arc_table.proofs.Lent.{lent_legal, lent_makes}
 use Rattle.arc_table.proofs.arcs.Arcs.end_feed.Goals as goal
 

@@ -7,9 +7,9 @@ use Rattle.arc_table.specs.Both.{Does}
 use Rattle.arc_table.specs.Fetching.{ServesOrNot}
 use Rattle.arc_table.specs.Items.{meanings}
 use Rattle.arc_table.specs.Reading.{EndsMiss, GoesToPool, cleared, from_pool, outside}
-use Rattle.arc_table.proofs.AfterRead.{reads_still}
+use Rattle.arc_table.proofs.reads.AfterRead.{reads_still}
 use Rattle.arc_table.proofs.Afterwards.{does_stays, stays_free, stays_party}
-use Rattle.arc_table.proofs.ReadEnds.{miss_arrives, miss_fails}
+use Rattle.arc_table.proofs.reads.ReadEnds.{miss_arrives, miss_fails}
 use Rattle.arc_table.proofs.arcs.Arcs.end_miss.Goals as goal
 
 pub returns-in-Err-clause-answer : goal.returns-in-Err-clause-answer

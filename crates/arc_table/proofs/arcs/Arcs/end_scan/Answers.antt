@@ -9,15 +9,15 @@ use Rattle.turn_table.specs.Places.{Place, gave_back}
 use Rattle.arc_table.specs.declared.hand.Hand.{Hand}
 use Rattle.arc_table.specs.declared.view.Known.{Known}
 use Rattle.arc_table.specs.Cache.{Cache, IsPartyOf}
-use Rattle.arc_table.specs.Ending.{HasMade}
+use Rattle.arc_table.specs.scans.Ending.{HasMade}
 use Rattle.arc_table.specs.InHand.{buckets_of, made_since}
 use Rattle.arc_table.specs.Items.{Meanings, meanings}
-use Rattle.arc_table.specs.Scanning.{AllPairs, IsInHand, gave_all, pairs_of}
+use Rattle.arc_table.specs.scans.Scanning.{AllPairs, IsInHand, gave_all, pairs_of}
 use Rattle.arc_table.specs.ShardGiving.{IsGivenShard, after_shard}
-use Rattle.arc_table.specs.Sparing.{AreHeadsBut}
+use Rattle.arc_table.specs.scans.Sparing.{AreHeadsBut}
 use Rattle.arc_table.specs.Views.{after_same}
-use Rattle.arc_table.proofs.Scans.{all_in_hand_else, scan_among, scan_config}
-use Rattle.arc_table.proofs.ScanEnds.{all_heads, all_in_hand, hand_apart, made_events, marked_in_hand, may_give, still_apart}
+use Rattle.arc_table.proofs.scans.Scans.{all_in_hand_else, scan_among, scan_config}
+use Rattle.arc_table.proofs.scans.ScanEnds.{all_heads, all_in_hand, hand_apart, made_events, marked_in_hand, may_give, still_apart}
 use Rattle.arc_table.proofs.arcs.Arcs.end_scan.Goals as goal
 
 pub spare_all-requires-clause-apart : goal.spare_all-requires-clause-apart

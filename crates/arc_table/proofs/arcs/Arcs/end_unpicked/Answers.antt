@@ -1,6 +1,6 @@
 use Rattle.std.proofs.Common.{[], append-nil, sym, ◌∙◌, subst}
 use Rattle.arc_table.specs.Items.{meanings}
-use Rattle.arc_table.proofs.FeedScan.{ended_since, feed_none_is, idle_picks, may_unpick, unended, unpicked_history, unpicked_now}
+use Rattle.arc_table.proofs.feeder.FeedScan.{ended_since, feed_none_is, idle_picks, may_unpick, unended, unpicked_history, unpicked_now}
 use Rattle.arc_core.specs.ShardLog.{IsUnpicked, MayUnpick, ShardLog}
 use Rattle.arc_table.proofs.arcs.Arcs.end_unpicked.Goals as goal
 

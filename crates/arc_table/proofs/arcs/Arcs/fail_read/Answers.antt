@@ -1,5 +1,5 @@
 use Rattle.arc_table.specs.Items.{meanings}
-use Rattle.arc_table.proofs.ArriveEvents.{reading_taken}
+use Rattle.arc_table.proofs.reads.ArriveEvents.{reading_taken}
 use Rattle.arc_table.proofs.arcs.Arcs.fail_read.Goals as goal
 
 pub fail_taken-requires-clause-reading : goal.fail_taken-requires-clause-reading

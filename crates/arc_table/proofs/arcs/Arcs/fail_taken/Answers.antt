@@ -3,8 +3,8 @@ use Rattle.std.specs.Prelude.{IsTrue}
 use Rattle.arc_core.specs.declared.event.Event.TheVariants.{Fail}
 use Rattle.arc_core.specs.Step.{after, legal}
 use Rattle.arc_table.specs.Items.{meanings}
-use Rattle.arc_table.proofs.ArriveEvents.{fail_made, header_read, may_fail}
-use Rattle.arc_table.proofs.HitEvents.{some_there}
+use Rattle.arc_table.proofs.reads.ArriveEvents.{fail_made, header_read, may_fail}
+use Rattle.arc_table.proofs.reads.HitEvents.{some_there}
 use Rattle.arc_table.proofs.OneEvent.{makes_these}
 use Rattle.arc_table.proofs.Lent.{lent, lent_taken}
 use Rattle.arc_table.specs.Both.{Makes}

@@ -2,7 +2,7 @@ use Rattle.std.proofs.Common.{ap, subst}
 use Rattle.std.specs.Prelude.{IfSome, Ok}
 use Rattle.vdev_io.specs.Calls.{Gave}
 use Rattle.arc_table.specs.Fetching.{CameFromCache, once}
-use Rattle.arc_table.proofs.ReadEnds.{asks_pool}
+use Rattle.arc_table.proofs.reads.ReadEnds.{asks_pool}
 use Rattle.arc_table.proofs.arcs.Arcs.fetch.Goals as goal
 
 pub returns-in_default-answer-clause-device : goal.returns-in_default-answer-clause-device

@@ -4,9 +4,9 @@ use Rattle.turn_table.specs.Places.{Place, gave_back}
 use Rattle.arc_table.specs.declared.view.Known.{Known}
 use Rattle.arc_table.specs.Cache.{IsPartyOf}
 use Rattle.arc_table.specs.Items.{Meanings, meanings}
-use Rattle.arc_table.specs.Scanning.{AllPairs, AreApart, IsInHand, gave_all, pairs_of}
+use Rattle.arc_table.specs.scans.Scanning.{AllPairs, AreApart, IsInHand, gave_all, pairs_of}
 use Rattle.arc_table.specs.Views.{after_same}
-use Rattle.arc_table.proofs.Scans.{all_in_hand_else}
+use Rattle.arc_table.proofs.scans.Scans.{all_in_hand_else}
 use Rattle.arc_table.proofs.arcs.Arcs.give_buckets.Goals as goal
 
 pub loop-taken-preserved : goal.loop-taken-preserved

@@ -1,7 +1,7 @@
 use Rattle.std.proofs.Common.{◌≡◌}
 use Rattle.arc_table.specs.Cache.{IsPartyOf}
 use Rattle.arc_table.specs.Items.{meanings}
-use Rattle.arc_table.specs.Scanning.{AllPairs, AreApart, IsInHand, gave_all, pairs_of}
+use Rattle.arc_table.specs.scans.Scanning.{AllPairs, AreApart, IsInHand, gave_all, pairs_of}
 use Rattle.arc_table.proofs.arcs.Arcs.give_buckets.Given as goal
 
 abbrev pub invariant-loop-taken : goal.invariant-loop-taken

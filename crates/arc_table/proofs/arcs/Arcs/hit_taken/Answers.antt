@@ -12,11 +12,11 @@ use Rattle.arc_table.specs.Holding.{IsListed}
 use Rattle.arc_table.specs.InHand.{made_since}
 use Rattle.arc_table.specs.Items.{meanings}
 use Rattle.arc_table.specs.Making.{IsMade, IsTaken}
-use Rattle.arc_table.proofs.HitEvents.{block_of_it, found, hit_legal, hit_listed, hit_made, mfu_says}
+use Rattle.arc_table.proofs.reads.HitEvents.{block_of_it, found, hit_legal, hit_listed, hit_made, mfu_says}
 use Rattle.arc_table.proofs.KeptHeads.{lent_at, own_with}
 use Rattle.arc_table.proofs.OneEvent.{makes_these, none_made, none_since, some_is, taken_few}
 use Rattle.arc_table.proofs.Lent.{lent, lent_taken}
-use Rattle.arc_table.specs.Standing.{is_cached_with}
+use Rattle.arc_table.specs.pact.Standing.{is_cached_with}
 use Rattle.arc_table.proofs.arcs.Arcs.hit_taken.Goals as goal
 
 pub give_back-requires-clause-taken : goal.give_back-requires-clause-taken

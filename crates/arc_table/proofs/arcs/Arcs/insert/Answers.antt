@@ -7,14 +7,14 @@ use Rattle.arc_core.specs.Step.{is_new_here}
 use Rattle.turn_table.specs.Board.{IsAmong}
 use Rattle.arc_table.specs.Both.{Does}
 use Rattle.arc_table.specs.Cache.{Cache}
-use Rattle.arc_table.specs.Ending.{MakesRoomy}
+use Rattle.arc_table.specs.scans.Ending.{MakesRoomy}
 use Rattle.arc_table.specs.Geometry.{cell_number}
 use Rattle.arc_table.specs.Holding.{IsListed}
 use Rattle.arc_table.specs.Items.{meanings}
 use Rattle.arc_table.proofs.Afterwards.{does_stays, stays_free, stays_party}
 use Rattle.arc_table.proofs.Reached.{cell_recorded, reached}
-use Rattle.arc_table.proofs.RoomyAfter.{does_roomy_stays}
-use Rattle.arc_table.proofs.RoomyGives.{inserted_listed, only_bucket}
+use Rattle.arc_table.proofs.scans.RoomyAfter.{does_roomy_stays}
+use Rattle.arc_table.proofs.scans.RoomyGives.{inserted_listed, only_bucket}
 use Rattle.arc_table.proofs.Taking.{tells}
 use Rattle.arc_core.specs.ShardLog.{ShardLog}
 use Rattle.arc_table.proofs.arcs.Arcs.insert.Goals as goal

@@ -11,11 +11,11 @@ use Rattle.arc_table.specs.declared.view.Known.{Known}
 use Rattle.hash_chain.specs.Chain.{IsWith}
 use Rattle.hash_chain.specs.declared.header.Header.{Header}
 use Rattle.arc_table.specs.Cache.{IsPartyOf}
-use Rattle.arc_table.specs.Ending.{MakesRoomy}
+use Rattle.arc_table.specs.scans.Ending.{MakesRoomy}
 use Rattle.arc_table.specs.InHand.{made_since}
 use Rattle.arc_table.specs.Making.{IsMade}
 use Rattle.arc_table.specs.Items.{Meanings, meanings}
-use Rattle.arc_table.proofs.MissEvents.{makes_roomy, may_taken, miss_entry, miss_legal, miss_made, none_makes, none_roomier, reading_is, scanned_entry, scanned_party, scanned_replayed}
+use Rattle.arc_table.proofs.reads.MissEvents.{makes_roomy, may_taken, miss_entry, miss_legal, miss_made, none_makes, none_roomier, reading_is, scanned_entry, scanned_party, scanned_replayed}
 use Rattle.arc_table.proofs.Lent.{lent_legal, lent_makes}
 use Rattle.arc_table.proofs.arcs.Arcs.miss_taken.Goals as goal
 

@@ -10,13 +10,13 @@ use Rattle.arc_table.specs.declared.item.Item.{Item}
 use Rattle.arc_table.specs.declared.item.Item.TheVariants as item
 use Rattle.arc_table.specs.declared.view.Known.{Known}
 use Rattle.arc_table.specs.Cache.{Cache}
-use Rattle.arc_table.specs.Evicting.{IsScan}
+use Rattle.arc_table.specs.scans.Evicting.{IsScan}
 use Rattle.arc_table.specs.Fronts.{item_at}
 use Rattle.arc_table.specs.Geometry.{bucket_turn, parties_of}
 use Rattle.arc_table.specs.InHand.{buckets_of}
 use Rattle.arc_table.specs.Items.{Meanings, meanings}
-use Rattle.arc_table.specs.Rule.{Pact}
-use Rattle.arc_table.proofs.ScanSteps.{free_bucket, free_not_held, mark_room, marked_fewer, marked_room, marked_step, pass_legal, pass_room, passed_fewer, passed_room, passed_step, won_fewer, won_room, won_step}
+use Rattle.arc_table.specs.pact.Rule.{Pact}
+use Rattle.arc_table.proofs.scans.ScanSteps.{free_bucket, free_not_held, mark_room, marked_fewer, marked_room, marked_step, pass_legal, pass_room, passed_fewer, passed_room, passed_step, won_fewer, won_room, won_step}
 use Rattle.arc_table.proofs.Lent.{lent_legal, lent_makes, lent_room}
 use Rattle.arc_core.specs.declared.event.Event.TheVariants.{Pass}
 use Rattle.arc_table.proofs.arcs.Arcs.name_victim.Goals as goal

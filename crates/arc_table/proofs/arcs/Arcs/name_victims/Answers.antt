@@ -5,9 +5,9 @@ use Rattle.arc_core.specs.ShardLog.{IsUnnamed, ShardLog}
 use Rattle.turn_table.specs.Places.{Place}
 use Rattle.arc_table.specs.declared.scan.Scan.{Scan}
 use Rattle.arc_table.specs.declared.view.Known.{Known}
-use Rattle.arc_table.specs.Evicting.{HasScanRoom, IsScan, IsScanning, MayBegin, left_of}
+use Rattle.arc_table.specs.scans.Evicting.{HasScanRoom, IsScan, IsScanning, MayBegin, left_of}
 use Rattle.arc_table.specs.Items.{Meanings, meanings}
-use Rattle.arc_table.proofs.ScanSteps.{keeps_none, keeps_then, legal_then, may_after, party_after, room_below}
+use Rattle.arc_table.proofs.scans.ScanSteps.{keeps_none, keeps_then, legal_then, may_after, party_after, room_below}
 use Rattle.arc_table.proofs.Lent.{lent_legal}
 use Rattle.arc_table.proofs.arcs.Arcs.name_victims.Goals as goal
 

@@ -3,7 +3,7 @@ use Rattle.arc_core.specs.declared.event.Event.{Event}
 use Rattle.arc_core.specs.Owed.{room_for}
 use Rattle.turn_table.specs.Places.{Place}
 use Rattle.arc_table.specs.Cache.{IsPartyOf}
-use Rattle.arc_table.specs.Evicting.{HasScanRoom, IsScan, KeepsHand, MayBegin, left_of}
+use Rattle.arc_table.specs.scans.Evicting.{HasScanRoom, IsScan, KeepsHand, MayBegin, left_of}
 use Rattle.arc_table.specs.Items.{meanings}
 use Rattle.arc_table.specs.declared.view.Known.{Known}
 use Rattle.arc_table.proofs.arcs.Arcs.name_victims.Given as goal

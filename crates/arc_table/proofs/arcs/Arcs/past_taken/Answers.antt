@@ -7,10 +7,10 @@ use Rattle.arc_core.specs.Step.{after, legal}
 use Rattle.arc_table.specs.Geometry.{shard_turn}
 use Rattle.arc_table.specs.Items.{meanings}
 use Rattle.arc_table.proofs.OneEvent.{alike_made, makes_these, same_head, some_is, taken_few}
-use Rattle.arc_table.proofs.PastEvents.{past_legal}
+use Rattle.arc_table.proofs.reads.PastEvents.{past_legal}
 use Rattle.arc_table.proofs.Lent.{lent, lent_taken}
 use Rattle.arc_table.specs.Both.{Makes}
-use Rattle.arc_table.specs.Standing.{is_cached_with}
+use Rattle.arc_table.specs.pact.Standing.{is_cached_with}
 use Rattle.arc_table.proofs.arcs.Arcs.past_taken.Goals as goal
 
 pub past-requires-clause-legal : goal.past-requires-clause-legal

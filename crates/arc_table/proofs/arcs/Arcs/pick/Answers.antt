@@ -6,9 +6,9 @@ use Rattle.arc_table.specs.declared.picks.Picked.{Picked}
 use Rattle.arc_table.specs.declared.view.Known.{Known}
 use Rattle.arc_table.specs.Both.{Takes}
 use Rattle.arc_table.specs.Items.{meanings}
-use Rattle.arc_table.specs.Picking.{Feeds, PicksAll}
+use Rattle.arc_table.specs.feeder.Picking.{Feeds, PicksAll}
 use Rattle.arc_table.proofs.Afterwards.{stays_free}
-use Rattle.arc_table.proofs.FeedEnds.{feeding_begins, feeds_end, feeds_stays, front_is, picks_all}
+use Rattle.arc_table.proofs.feeder.FeedEnds.{feeding_begins, feeds_end, feeds_stays, front_is, picks_all}
 use Rattle.arc_table.proofs.arcs.Arcs.pick.Goals as goal
 
 pub pick_all-requires-clause-feeding : goal.pick_all-requires-clause-feeding

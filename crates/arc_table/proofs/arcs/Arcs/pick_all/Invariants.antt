@@ -1,6 +1,6 @@
 use Rattle.std.proofs.Common.{◌≡◌, ◌≤◌, take}
 use Rattle.arc_table.specs.Cache.{IsPartyOf}
-use Rattle.arc_table.specs.Picking.{IsFeeding, KeepsFeed, left_to_pick}
+use Rattle.arc_table.specs.feeder.Picking.{IsFeeding, KeepsFeed, left_to_pick}
 use Rattle.arc_table.proofs.arcs.Arcs.pick_all.Given as goal
 
 abbrev pub invariant-loop-key : goal.invariant-loop-key

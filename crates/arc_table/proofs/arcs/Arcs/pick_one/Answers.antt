@@ -2,8 +2,8 @@ use Rattle.std.proofs.Common.{◌≡◌, List, [], ◌∷◌, ◌++◌, refl, sy
 use Rattle.std.specs.Prelude.{IfOk}
 use Rattle.arc_core.specs.ShardLog.{ShardLog}
 use Rattle.arc_table.specs.declared.picks.Picked.{Picked}
-use Rattle.arc_table.specs.Picking.{IsBlockOf, IsFeeding}
-use Rattle.arc_table.proofs.PickSteps.{may_pass, passed, passed_fewer, picked, picked_fewer}
+use Rattle.arc_table.specs.feeder.Picking.{IsBlockOf, IsFeeding}
+use Rattle.arc_table.proofs.feeder.PickSteps.{may_pass, passed, passed_fewer, picked, picked_fewer}
 use Rattle.arc_table.proofs.Lent.{lent_legal, lent_makes}
 use Rattle.arc_core.specs.declared.event.Event.TheVariants.{Pass}
 use Rattle.arc_table.proofs.arcs.Arcs.pick_one.Goals as goal

@@ -10,7 +10,7 @@ use Rattle.arc_table.specs.declared.view.Known.{Known}
 use Rattle.arc_table.specs.Items.{Meanings, meanings}
 use Rattle.vdev_io.specs.Calls.{KeepsPool}
 use Rattle.arc_table.specs.Reading.{Answers, FindsReading, KeepsDevice, Outside, Waits, answered, outside, refused}
-use Rattle.arc_table.proofs.Readers.{waits_not}
+use Rattle.arc_table.proofs.reads.Readers.{waits_not}
 use Rattle.arc_table.proofs.arcs.Arcs.read.Goals as goal
 
 -- a key that fails a test is not valid

@@ -5,12 +5,12 @@ use Rattle.arc_core.specs.PlainShard.{entry_of}
 use Rattle.arc_core.specs.View.{view_of}
 use Rattle.arc_table.specs.Items.{meanings}
 use Rattle.arc_table.specs.Reading.{outside}
-use Rattle.arc_table.specs.Standing.{is_cached_with}
-use Rattle.arc_table.proofs.AfterRead.{answers_stays}
+use Rattle.arc_table.specs.pact.Standing.{is_cached_with}
+use Rattle.arc_table.proofs.reads.AfterRead.{answers_stays}
 use Rattle.arc_table.proofs.Afterwards.{does_stays, stays_free, stays_party}
 use Rattle.arc_table.proofs.Reached.{reached, sound_log}
-use Rattle.arc_table.proofs.RoomyGives.{only_bucket}
-use Rattle.arc_table.proofs.Rounds.{does_these, missed_reading, missed_stays, none_stays, round_hit, round_missed, round_none, round_past}
+use Rattle.arc_table.proofs.scans.RoomyGives.{only_bucket}
+use Rattle.arc_table.proofs.reads.Rounds.{does_these, missed_reading, missed_stays, none_stays, round_hit, round_missed, round_none, round_past}
 use Rattle.arc_core.specs.ShardLog.{ShardLog}
 use Rattle.arc_table.proofs.arcs.Arcs.read_round.Goals as goal
 

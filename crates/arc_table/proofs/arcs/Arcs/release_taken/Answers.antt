@@ -4,7 +4,7 @@ use Rattle.arc_table.specs.Geometry.{shard_turn}
 use Rattle.arc_table.specs.Holding.{ptr_of}
 use Rattle.arc_table.specs.Items.{meanings}
 use Rattle.arc_table.proofs.FollowEvents.{follow_made, header_there, release_like, sole_is}
-use Rattle.arc_table.proofs.HitEvents.{some_there}
+use Rattle.arc_table.proofs.reads.HitEvents.{some_there}
 use Rattle.arc_table.proofs.HoldEvents.{acts_for, release_legal}
 use Rattle.arc_table.proofs.OneEvent.{makes_these, some_is, taken_holding, taken_sound}
 use Rattle.arc_table.proofs.Lent.{lent, lent_taken}

@@ -2,13 +2,13 @@ use Rattle.std.proofs.Common.{ℕ, [], ◌∙◌, subst}
 use Rattle.blk_ptr.specs.declared.key.Key.{Key}
 use Rattle.arc_core.specs.declared.event.Event.TheVariants.{Resize}
 use Rattle.arc_table.specs.Both.{Does, Makes}
-use Rattle.arc_table.specs.Ending.{DoesRoomy, MakesRoomy}
+use Rattle.arc_table.specs.scans.Ending.{DoesRoomy, MakesRoomy}
 use Rattle.arc_table.specs.Items.{meanings}
 use Rattle.arc_table.specs.Resizing.{ResizesOne, key_in}
 use Rattle.arc_table.proofs.Afterwards.{stays_party}
 use Rattle.arc_table.proofs.Reached.{reached}
 use Rattle.arc_table.proofs.CapacityEvents.{key_own, on_err, on_ok, one_stays}
-use Rattle.arc_table.proofs.RoomyGives.{only_bucket}
+use Rattle.arc_table.proofs.scans.RoomyGives.{only_bucket}
 use Rattle.arc_table.proofs.arcs.Arcs.resize_one.Goals as goal
 
 pub resize_taken-requires-clause-others : goal.resize_taken-requires-clause-others

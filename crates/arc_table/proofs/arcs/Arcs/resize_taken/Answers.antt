@@ -6,11 +6,11 @@ use Rattle.turn_table.specs.Places.{Place}
 use Rattle.arc_table.specs.declared.scan.Scan.{Scan}
 use Rattle.arc_table.specs.declared.view.Known.{Known}
 use Rattle.arc_table.specs.Cache.{IsPartyOf}
-use Rattle.arc_table.specs.Ending.{MakesRoomy}
+use Rattle.arc_table.specs.scans.Ending.{MakesRoomy}
 use Rattle.arc_table.specs.InHand.{made_since}
 use Rattle.arc_table.specs.Items.{Meanings, meanings}
 use Rattle.arc_table.specs.Making.{IsMade}
-use Rattle.arc_table.proofs.MissEvents.{makes_roomy, may_taken, none_makes, none_roomier, scanned_party, scanned_replayed}
+use Rattle.arc_table.proofs.reads.MissEvents.{makes_roomy, may_taken, none_makes, none_roomier, scanned_party, scanned_replayed}
 use Rattle.arc_table.proofs.OneEvent.{taken_few}
 use Rattle.arc_table.proofs.CapacityEvents.{resize_legal, resize_made}
 use Rattle.arc_table.proofs.Lent.{lent_legal, lent_makes}

@@ -4,8 +4,8 @@ use Rattle.arc_core.specs.declared.served.Restored.{Restored}
 use Rattle.arc_table.specs.Items.{meanings}
 use Rattle.std.specs.Prelude.{Err}
 use Rattle.arc_table.specs.declared.restores.RestoreStop.{RestoreStop}
-use Rattle.arc_table.specs.Feeding.{AnswersRestore}
-use Rattle.arc_table.proofs.FeedEvents.{element_at, restored_more, stopped_at}
+use Rattle.arc_table.specs.feeder.Feeding.{AnswersRestore}
+use Rattle.arc_table.proofs.feeder.FeedEvents.{element_at, restored_more, stopped_at}
 use Rattle.arc_table.proofs.arcs.Arcs.restore.Goals as goal
 
 pub restore_one-requires-clause-look : goal.restore_one-requires-clause-look

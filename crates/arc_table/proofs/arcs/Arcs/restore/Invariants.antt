@@ -1,6 +1,6 @@
 use Rattle.std.proofs.Common.{◌≡◌, take}
 use Rattle.arc_table.specs.Cache.{IsPartyOf}
-use Rattle.arc_table.specs.Feeding.{Restores}
+use Rattle.arc_table.specs.feeder.Feeding.{Restores}
 use Rattle.arc_table.specs.Items.{meanings}
 use Rattle.arc_table.proofs.arcs.Arcs.restore.Given as goal
 

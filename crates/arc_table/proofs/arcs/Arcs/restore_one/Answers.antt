@@ -11,11 +11,11 @@ use Rattle.arc_table.specs.Both.{Makes}
 use Rattle.blk_ptr.specs.declared.key.Key.{Key}
 use Rattle.hash_chain.specs.Chain.{IsWith}
 use Rattle.arc_table.specs.Geometry.{shard_turn}
-use Rattle.arc_table.specs.Headed.{IsHead}
+use Rattle.arc_table.specs.pact.Headed.{IsHead}
 use Rattle.arc_table.specs.InHand.{made_since}
 use Rattle.arc_table.specs.Items.{meanings}
 use Rattle.arc_table.specs.Making.{IsMade}
-use Rattle.arc_table.proofs.FeedEvents.{no_header, none_there, restore_legal, restored_head, shown_there, feeder_is, number_few}
+use Rattle.arc_table.proofs.feeder.FeedEvents.{no_header, none_there, restore_legal, restored_head, shown_there, feeder_is, number_few}
 use Rattle.arc_table.proofs.OneEvent.{makes_these, none_made, one_made, some_is, taken_head, taken_sound}
 use Rattle.arc_table.proofs.Reached.{reached}
 use Rattle.arc_table.proofs.Taking.{tells}

@@ -7,9 +7,9 @@ use Rattle.arc_core.specs.Step.{may_set}
 use Rattle.arc_table.specs.Both.{Makes}
 use Rattle.arc_table.specs.Geometry.{shard_turn}
 use Rattle.arc_table.specs.Items.{meanings}
-use Rattle.arc_table.proofs.FeedEvents.{feeder_is, leave_legal, leave_same, number_few, number_is, pick_there, set_legal, set_like, set_there, writes}
+use Rattle.arc_table.proofs.feeder.FeedEvents.{feeder_is, leave_legal, leave_same, number_few, number_is, pick_there, set_legal, set_like, set_there, writes}
 use Rattle.arc_table.proofs.FollowEvents.{follow_made, header_there}
-use Rattle.arc_table.proofs.HitEvents.{some_there}
+use Rattle.arc_table.proofs.reads.HitEvents.{some_there}
 use Rattle.arc_table.proofs.OneEvent.{alike_made, makes_these, some_is, taken_sound}
 use Rattle.arc_table.proofs.Reached.{reached}
 use Rattle.arc_table.proofs.Lent.{lent, lent_taken, lent_takes}

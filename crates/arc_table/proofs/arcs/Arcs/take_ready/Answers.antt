@@ -4,9 +4,9 @@ use Rattle.hash_chain.specs.Chain.{header_at}
 use Rattle.arc_table.specs.declared.hand.Taken.{Taken}
 use Rattle.arc_table.specs.declared.item.Item.TheVariants as item
 use Rattle.arc_table.specs.Geometry.{bucket_turn}
-use Rattle.arc_table.specs.Headed.{IsHead}
+use Rattle.arc_table.specs.pact.Headed.{IsHead}
 use Rattle.arc_table.specs.Items.{meanings}
-use Rattle.arc_table.proofs.ReadyBlocks.{found_cached, not_found}
+use Rattle.arc_table.proofs.reads.ReadyBlocks.{found_cached, not_found}
 use Rattle.arc_table.proofs.Reached.{heads}
 use Rattle.arc_table.proofs.Taking.{both_taken, no_shard_yet, still_party, took_party}
 use Rattle.arc_table.proofs.arcs.Arcs.take_ready.Goals as goal

@@ -7,10 +7,10 @@ use Rattle.arc_table.specs.declared.item.Item.TheVariants as item
 use Rattle.arc_table.specs.Cache.{Cache}
 use Rattle.arc_table.specs.Geometry.{IsBucket, bucket_turn, parties_of}
 use Rattle.arc_table.specs.Items.{meanings}
-use Rattle.arc_table.specs.Rule.{Pact}
+use Rattle.arc_table.specs.pact.Rule.{Pact}
 use Rattle.arc_table.proofs.Boards.{bucket_there, given_same}
-use Rattle.arc_table.proofs.FeedTries.{block_if, noted, not_held, still_picked, there, won_as_taken}
-use Rattle.arc_table.proofs.HitEvents.{some_there}
+use Rattle.arc_table.proofs.feeder.FeedTries.{block_if, noted, not_held, still_picked, there, won_as_taken}
+use Rattle.arc_table.proofs.reads.HitEvents.{some_there}
 use Rattle.arc_table.proofs.Ranges.{bucket_range}
 use Rattle.arc_table.proofs.arcs.Arcs.try_block.Goals as goal
 

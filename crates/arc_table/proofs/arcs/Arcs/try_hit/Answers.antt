@@ -10,7 +10,7 @@ use Rattle.arc_table.specs.declared.hits.Standing.TheVariants as standing
 use Rattle.arc_table.proofs.Holders.{held_still}
 use Rattle.arc_table.proofs.Taking.{tells}
 use Rattle.arc_core.specs.ShardLog.{ShardLog}
-use Rattle.arc_table.proofs.ReadyBlocks.{block_cached}
+use Rattle.arc_table.proofs.reads.ReadyBlocks.{block_cached}
 use Rattle.arc_table.proofs.Reached.{heads, sound_log}
 use Rattle.arc_table.proofs.arcs.Arcs.try_hit.Goals as goal
 

@@ -1,5 +1,5 @@
 use Rattle.trace_run.specs.Words.{texts}
-use Rattle.trace_run.proofs.WordLemmas.{no_word, other_word}
+use Rattle.trace_run.proofs.theorem.WordLemmas.{no_word, other_word}
 use Rattle.trace_run.proofs.words.Command.parse.Goals as goal
 
 pub returns-in_default-first : goal.returns-in_default-first

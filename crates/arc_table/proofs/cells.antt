@@ -1,0 +1,5 @@
+pub mod CellGives
+pub mod CellsInHand
+pub mod CellsInReads
+pub mod EntriesSeen
+pub mod InsertEvents

@@ -1,0 +1,10 @@
+pub mod Candidates
+pub mod FeedBegins
+pub mod FeedEnds
+pub mod FeedEvents
+pub mod FeedMade
+pub mod FeedScan
+pub mod FeedTries
+pub mod PickLaws
+pub mod PickSteps
+pub mod PicksAfter

@@ -1,0 +1,12 @@
+pub mod AfterRead
+pub mod ArriveEvents
+pub mod Awaiting
+pub mod HitEvents
+pub mod MissEvents
+pub mod PastEvents
+pub mod Placed
+pub mod ReadEnds
+pub mod ReadMoments
+pub mod Readers
+pub mod ReadyBlocks
+pub mod Rounds

@@ -1,0 +1,11 @@
+pub mod RoomyAfter
+pub mod RoomyGives
+pub mod RoomyLemmas
+pub mod ScanAlone
+pub mod ScanBegins
+pub mod ScanEnds
+pub mod ScanGives
+pub mod ScanRoom
+pub mod ScanSteps
+pub mod Scans
+pub mod Spares

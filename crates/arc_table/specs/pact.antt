@@ -1,0 +1,13 @@
+pub mod Attached
+pub mod AttachedLaws
+pub mod Counted
+pub mod Headed
+pub mod Logged
+pub mod LoggedLaws
+pub mod Passed
+pub mod PassedLaws
+pub mod Rule
+pub mod RuleLaws
+pub mod Scene
+pub mod Standing
+pub mod Waiting

@@ -1,0 +1,4 @@
+pub mod Ending
+pub mod Evicting
+pub mod Scanning
+pub mod Sparing

@@ -1,0 +1,13 @@
+pub mod AbsorbLemmas
+pub mod AfterEnds
+pub mod CallerActLemmas
+pub mod GroupCounts
+pub mod GroupLemmas
+pub mod GroupRunLemmas
+pub mod GroupsLemmas
+pub mod InOrderLemmas
+pub mod MeetLemmas
+pub mod StepLemmas
+pub mod TogetherLemmas
+pub mod TurnLemmas
+pub mod TurningLemmas

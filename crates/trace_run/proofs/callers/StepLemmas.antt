@@ -1,0 +1,441 @@
+-- One group more of several callers: what their pool counts then, which groups were done, and what stands before the next one.
+use Rattle.std.proofs.Common.{◌≡◌, ℕ, zero, suc, ◌+◌, ◌<◌, ◌≤◌, Bool, true, false, List, [], ◌∷◌, ◌++◌, Some, None, length, take, drop, refl, sym, ap, ◌∙◌, subst, arith, append_assoc, length-append, ◌-◌, inl, inr}
+use Rattle.std.specs.Prelude.{count_by, slice_get, slice_range}
+use Rattle.std.proofs.lemmas.Bool.{false≢true}
+use Rattle.std.proofs.lemmas.List.{length-drop, length-take-le}
+use Rattle.std.proofs.lemmas.List.Sums.{count_by-le-length, sum_by-append}
+use Rattle.std.proofs.lemmas.Option.{get_or_from_slice_get, slice_get_within}
+use Rattle.std.proofs.Math.Seq.{take-add, take-suc}
+use Rattle.blk_ptr.specs.declared.ptr.Ptr.{Ptr}
+use Rattle.turn_table.specs.Places.{Place}
+use Rattle.arc_table.specs.declared.about.About.{About}
+use Rattle.arc_table.specs.declared.view.Known.{Known}
+use Rattle.arc_core.specs.declared.served.Restored.{Restored}
+use Rattle.arc_table.specs.Cache.{Cache}
+use Rattle.arc_table.specs.Geometry.{parties_of}
+use Rattle.arc_core.specs.declared.config.Config.{Config}
+use Rattle.trace_run.specs.Meeting.{MadeJoined, MayGoOn}
+use Rattle.trace_run.specs.Opened.{AreOpened}
+use Rattle.trace_run.specs.Restores.{restores_in}
+use Rattle.trace_text.specs.declared.op.Op.{Op}
+use Rattle.trace_text.specs.declared.op.Op.TheVariants as ops
+use Rattle.trace_text.specs.declared.reply.Reply.{Reply}
+use Rattle.trace_text.specs.declared.reply.Reply.TheVariants.{Capped}
+use Rattle.trace_text.specs.declared.trace.Trace.{Trace}
+use Rattle.trace_text.specs.Grammar.{IsFormed}
+use Rattle.vdev_io.specs.Calls.{MakesCalls}
+use Rattle.vdev_io.specs.Faults.{last_count}
+use Rattle.vdev_io.specs.declared.pool.Pool.{Ghosts}
+use Rattle.trace_run.specs.declared.groups.Crew.{Crew}
+use Rattle.trace_run.specs.declared.kept_blocks.KeptBlock.{KeptBlock}
+use Rattle.trace_run.specs.Answers.{is_pool_fault}
+use Rattle.trace_run.specs.Effects.{calls_of, calls_of_all, effect_of}
+use Rattle.trace_run.specs.callers.Group.{HaveWorked, LeavesPool}
+use Rattle.trace_run.specs.callers.Groups.{AreBetween, AreDone, AreOfCallers, DidEndLine, DidLinesAtOnce, HaveCome, HaveCounted, KeepNothing, StepsOn}
+use Rattle.trace_run.specs.callers.InOrder.{AreInOrder}
+use Rattle.trace_run.specs.Lines.{caller_of, is_of_caller}
+use Rattle.trace_run.specs.Openings.{Knows, openings_of}
+use Rattle.trace_run.specs.Tally.{AreDeclared}
+use Rattle.trace_run.specs.callers.Together.{BeginsGroup, Lines, WorkAtOnce, WorkInGroups, ends_group, groups_of, over_callers, replies_of_caller}
+use Rattle.trace_run.proofs.callers.AbsorbLemmas.{over-few}
+use Rattle.trace_run.proofs.callers.CallerActLemmas.{line-kind}
+use Rattle.trace_run.proofs.callers.GroupCounts.{over-add, over-same, over-zero}
+use Rattle.trace_run.proofs.callers.GroupRunLemmas.{all-callers, all-declared, may-resize, where-few}
+use Rattle.trace_run.proofs.callers.GroupsLemmas.{group-ended, group-last, groups-append, have-come-cap, have-come-more, have-restored, have-started, where-append, whole-of}
+use Rattle.trace_run.proofs.RunLemmas.{calls-faults, calls-few, calls-reads, failed-all}
+
+pub calls-append : (rs ss : List Reply) → calls_of_all (rs ++ ss) ≡ calls_of_all rs ++ calls_of_all ss
+calls-append [] ss = refl
+calls-append (r ∷ rs) ss = ap (λ l. calls_of (effect_of r) ++ l) (calls-append rs ss) ∙ sym (append_assoc (calls_of (effect_of r)) (calls_of_all rs) (calls_of_all ss))
+
+-- how often callers asked the pool by their lines, and how often it failed
+abbrev pub asked : List Op → List Reply → ℕ → ℕ
+asked os rs n = length (calls_of_all (replies_of_caller n os rs))
+
+abbrev pub failed : List Op → List Reply → ℕ → ℕ
+failed os rs n = count_by is_pool_fault (replies_of_caller n os rs)
+
+asked-few : (os : List Op) (rs : List Reply) (n most : ℕ) → length rs ≤ most → asked os rs n ≤ most
+asked-few os rs n most few = omega (arith, calls-few (replies_of_caller n os rs), where-few (is_of_caller n) os rs, few)
+
+failed-few : (os : List Op) (rs : List Reply) (n most : ℕ) → length rs ≤ most → failed os rs n ≤ most
+failed-few os rs n most few = omega (arith, count_by-le-length is_pool_fault (replies_of_caller n os rs), where-few (is_of_caller n) os rs, few)
+
+module _ (os qs : List Op) (rs ss : List Reply) (long : length rs ≡ length os) (callers : ℕ) where
+  asked-one : (n : ℕ) → asked (os ++ qs) (rs ++ ss) n ≡ asked os rs n + asked qs ss n
+  asked-one n =
+      ap (λ (l : List Reply). length (calls_of_all l)) (where-append n os qs rs ss long)
+      ∙ (ap length (calls-append (replies_of_caller n os rs) (replies_of_caller n qs ss)) ∙ length-append (calls_of_all (replies_of_caller n os rs)) (calls_of_all (replies_of_caller n qs ss)))
+
+  failed-one : (n : ℕ) → failed (os ++ qs) (rs ++ ss) n ≡ failed os rs n + failed qs ss n
+  failed-one n = ap (count_by is_pool_fault) (where-append n os qs rs ss long) ∙ sum_by-append _ (replies_of_caller n os rs) (replies_of_caller n qs ss)
+
+  pub asked-more : over_callers callers (asked (os ++ qs) (rs ++ ss)) ≡ over_callers callers (asked os rs) + over_callers callers (asked qs ss)
+  asked-more = over-same callers (asked (os ++ qs) (rs ++ ss)) (λ n. asked os rs n + asked qs ss n) (λ n below. asked-one n) ∙ over-add callers (asked os rs) (asked qs ss)
+
+  pub failed-more : over_callers callers (failed (os ++ qs) (rs ++ ss)) ≡ over_callers callers (failed os rs) + over_callers callers (failed qs ss)
+  failed-more = over-same callers (failed (os ++ qs) (rs ++ ss)) (λ n. failed os rs n + failed qs ss n) (λ n below. failed-one n) ∙ over-add callers (failed os rs) (failed qs ss)
+
+-- ---- the pool
+
+-- The pool is as it was, and has counted nothing since.
+pub record IsUnused {P : Type 0} (pools : Ghosts P) (old now : P) : Type 0 where
+  pub size : pools.size now ≡ pools.size old
+  pub told : pools.told now ≡ pools.told old
+  pub reads : pools.reads now ≡ pools.reads old
+  pub faults : pools.faults now ≡ pools.faults old
+
+pub leaves-then : {P : Type 0} (pools : Ghosts P) (a b c : P) → LeavesPool pools a b → LeavesPool pools b c → LeavesPool pools a c
+leaves-then pools a b c first second = record { size = second.size ∙ first.size; told = second.told ∙ first.told; faults = omega (arith, first.faults, second.faults) }
+
+pub unused-leaves : {P : Type 0} (pools : Ghosts P) (a b c : P) → IsUnused pools a b → LeavesPool pools b c → LeavesPool pools a c
+unused-leaves pools a b c first second = record { size = second.size ∙ first.size; told = second.told ∙ first.told; faults = omega (arith, first.faults, second.faults) }
+
+pub leaves-same : {P : Type 0} (pools : Ghosts P) (a : P) → LeavesPool pools a a
+leaves-same pools a = record { size = refl; told = refl; faults = omega arith }
+
+-- What callers who worked at once did to the pool. It was the same before their forks were made.
+module _ {C P : Type 0} (cache : Cache) (pools : Ghosts P) (blocks : List Ptr) (qs : List Op) (callers : ℕ) (was from to : P) (own : List (List Reply)) (had : List (List KeptBlock)) (ps : List (Place (Known C))) (kept : List (List KeptBlock)) (xs : List (Place (Known C))) (ss : List Reply)
+    (unused : IsUnused pools was from) (w : HaveWorked cache pools blocks qs callers from to own had ps kept xs) (ordered : AreInOrder qs own ss) where
+  calls-are : (n : ℕ) → n < callers → MakesCalls pools (calls_of_all (replies_of_caller n qs ss)) (w.forks n) (w.done n)
+  calls-are n below =
+      let h = w.each n below in
+      subst (λ (rs : List Reply). MakesCalls pools (calls_of_all rs) (w.forks n) (w.done n)) (sym (ordered.each n h.own h.own_at)) h.worked.calls
+
+  pub at-once : WorkAtOnce pools callers (record { ops = qs; replies = ss }) was to
+  at-once = record {
+    forks = w.forks;
+    done = w.done;
+    size = λ n below. (w.fresh n below).size ∙ unused.size;
+    told = λ n below. (w.fresh n below).told ∙ unused.told;
+    fresh = λ n below. ((w.fresh n below).reads, (w.fresh n below).faults);
+    works = λ n below. record { made = calls-are n below };
+    reads = λ room. let same = unused.reads in omega (arith, same, w.reads (omega (arith, same, room)));
+    faults = λ room. let same = unused.faults in omega (arith, same, w.faults (omega (arith, same, room)));
+    keeps = (w.keeps.size ∙ unused.size, w.keeps.told ∙ unused.told);
+  }
+
+  module _ (few : length ss ≤ 1000000) (some_callers : callers ≤ 16) where
+    reads-one : (n : ℕ) → n < callers → pools.reads (w.done n) ≡ asked qs ss n
+    reads-one n below =
+        let none = (w.fresh n below).reads in
+        let most = asked-few qs ss n 1000000 few in
+        omega (arith, none, calls-reads pools (calls_of_all (replies_of_caller n qs ss)) (w.forks n) (w.done n) (calls-are n below) (omega (arith, none, most)))
+
+    faults-one : (n : ℕ) → n < callers → pools.faults (w.done n) ≡ failed qs ss n
+    faults-one n below =
+        let none = (w.fresh n below).faults in
+        let most = asked-few qs ss n 1000000 few in
+        omega (arith, none, failed-all (replies_of_caller n qs ss), calls-faults pools (calls_of_all (replies_of_caller n qs ss)) (w.forks n) (w.done n) (calls-are n below) (omega (arith, none, most)))
+
+    all-asked : over_callers callers (λ n. pools.reads (w.done n)) ≡ over_callers callers (asked qs ss)
+    all-asked = over-same callers (λ n. pools.reads (w.done n)) (asked qs ss) reads-one
+
+    all-failed : over_callers callers (λ n. pools.faults (w.done n)) ≡ over_callers callers (failed qs ss)
+    all-failed = over-same callers (λ n. pools.faults (w.done n)) (failed qs ss) faults-one
+
+    few-asked : over_callers callers (asked qs ss) ≤ 16000000
+    few-asked = omega (arith, over-few callers (asked qs ss) 1000000 (λ n below. asked-few qs ss n 1000000 few), some_callers)
+
+    few-failed : over_callers callers (failed qs ss) ≤ 16000000
+    few-failed = omega (arith, over-few callers (failed qs ss) 1000000 (λ n below. failed-few qs ss n 1000000 few), some_callers)
+
+    pub group-reads : pools.reads was + 16000000 ≤ last_count → pools.reads to ≡ pools.reads was + over_callers callers (asked qs ss)
+    group-reads room = let same = unused.reads in omega (arith, same, all-asked, w.reads (omega (arith, same, all-asked, few-asked, room)))
+
+    pub group-faults : pools.faults was + 16000000 ≤ last_count → pools.faults to ≡ pools.faults was + over_callers callers (failed qs ss)
+    group-faults room = let same = unused.faults in omega (arith, same, all-failed, w.faults (omega (arith, same, all-failed, few-failed, room)))
+
+module _ {P : Type 0} (pools : Ghosts P) (callers : ℕ) (os qs : List Op) (rs ss : List Reply) (long : length rs ≡ length os) (before was to : P) (few : length rs ≤ 1000000) (some_callers : callers ≤ 16) (so_far : HaveCounted pools callers os rs before was) where
+  most-asked : over_callers callers (asked os rs) ≤ 16000000
+  most-asked = omega (arith, over-few callers (asked os rs) 1000000 (λ n below. asked-few os rs n 1000000 few), some_callers)
+
+  most-failed : over_callers callers (failed os rs) ≤ 16000000
+  most-failed = omega (arith, over-few callers (failed os rs) 1000000 (λ n below. failed-few os rs n 1000000 few), some_callers)
+
+  pub counted-more : LeavesPool pools was to
+      → (pools.reads was + 16000000 ≤ last_count → pools.reads to ≡ pools.reads was + over_callers callers (asked qs ss))
+      → (pools.faults was + 16000000 ≤ last_count → pools.faults to ≡ pools.faults was + over_callers callers (failed qs ss)) → HaveCounted pools callers (os ++ qs) (rs ++ ss) before to
+  counted-more leaves reads faults = record {
+    keeps = leaves-then pools before was to so_far.keeps leaves;
+    reads = λ room.
+        let first = so_far.reads room in
+        let small = most-asked in
+        omega (arith, first, asked-more os qs rs ss long callers, reads (omega (arith, first, small, room)));
+    faults = λ room.
+        let first = so_far.faults room in
+        let small = most-failed in
+        omega (arith, first, failed-more os qs rs ss long callers, faults (omega (arith, first, small, room)));
+  }
+
+-- ---- groups that were done
+
+in-groups-more : {P : Type 0} (pools : Ghosts P) (callers : ℕ) (gs : List Lines) (last : Lines) (a b c : P) → WorkInGroups pools callers gs a b → WorkAtOnce pools callers last b c → WorkInGroups pools callers (gs ++ last ∷ []) a c
+in-groups-more pools callers [] last a b c done once = (c, subst (λ p. WorkAtOnce pools callers last p c) done once, refl)
+in-groups-more pools callers (g ∷ gs) last a b c done once = (done.0, done.1, in-groups-more pools callers gs last done.0 b c done.2 once)
+
+-- ---- between two groups
+
+pub between-none : {C P : Type 0} (cache : Cache) (restored : List Restored) (pools : Ghosts P) (trace : Trace) (pool : P) (crew : Crew C) → HaveCome cache restored (pools.size pool) (pools.told pool) trace.blocks [] [] crew
+    → Knows (openings_of trace) crew.feeder → AreBetween cache restored pools trace pool pool [] crew
+between-none cache restored pools trace pool crew come knows = record {
+  few = omega arith;
+  begins = λ more. tt;
+  come = come;
+  knows = knows;
+  counted = record {
+    keeps = leaves-same pools pool;
+    reads = λ room. let none = over-zero cache.config.callers (asked [] []) (λ n below. refl) in omega (arith, none);
+    faults = λ room. let none = over-zero cache.config.callers (failed [] []) (λ n below. refl) in omega (arith, none);
+  };
+  groups = refl;
+}
+
+-- before the first one, behind the restores
+pub between-begun : {C P : Type 0} (cache : Cache) (restored : List Restored) (pools : Ghosts P) (trace : Trace) (pool : P) (whole : List (Place (Known C))) (old new : Crew C) → AreOpened cache whole
+    → whole ≡ old.parties.items ++ old.feeder ∷ [] → KeepNothing old.kept.items → length old.kept.items ≡ length old.parties.items
+    → MadeJoined cache (restores_in cache.config restored) old.feeder old.parties.items new.feeder new.parties.items → new.kept.items ≡ old.kept.items → Knows (openings_of trace) old.feeder
+    → AreBetween cache restored pools trace pool pool [] new
+between-begun cache restored pools trace pool whole old new opened is none many made kept knows =
+    between-none cache restored pools trace pool new
+    (have-restored cache restored (pools.size pool) (pools.told pool) trace.blocks old new whole opened is (have-started cache whole old opened is none many (pools.size pool) (pools.told pool) trace.blocks) made kept)
+    (ap (λ (a : About). a.openings) made.about ∙ knows)
+
+module _ {C P : Type 0} (cache : Cache) (restored : List Restored) (pools : Ghosts P) (trace : Trace) (start was from to : P) (rs ss : List Reply) (qs : List Op) (old new : Crew C) (few : length trace.ops ≤ 1000000) (some_callers : cache.config.callers ≤ 16)
+    (between : AreBetween cache restored pools trace start was rs old) (more : length rs < length trace.ops) (unused : IsUnused pools was from) (did : DidLinesAtOnce cache pools trace.blocks qs from to old new ss) (leaves : LeavesPool pools from to)
+    (own : AreOfCallers cache.config.callers qs) (inside : length rs + length qs ≤ length trace.ops) (here : take (length qs) (drop (length rs) trace.ops) ≡ qs) where
+  abbrev callers : ℕ
+  callers = cache.config.callers
+
+  abbrev os : List Op
+  os = take (length rs) trace.ops
+
+  long : length rs ≡ length os
+  long = between.come.long
+
+  same-length : length ss ≡ length qs
+  same-length = did.ordered.all
+
+  both-long : length (rs ++ ss) ≡ length rs + length qs
+  both-long = omega (arith, length-append rs ss, same-length)
+
+  taken : take (length (rs ++ ss)) trace.ops ≡ os ++ qs
+  taken = ap (λ (k : ℕ). take k trace.ops) both-long ∙ (take-add (length rs) (length qs) trace.ops ∙ ap (λ (l : List Op). os ++ l) here)
+
+  worked : HaveWorked cache pools trace.blocks qs callers from to did.own old.kept.items old.parties.items new.kept.items new.parties.items
+  worked = subst (λ (k : ℕ). HaveWorked cache pools trace.blocks qs k from to did.own old.kept.items old.parties.items new.kept.items new.parties.items) between.come.parties did.worked
+
+  few-so-far : length rs ≤ 1000000
+  few-so-far = omega (arith, more, few)
+
+  few-here : length ss ≤ 1000000
+  few-here = omega (arith, same-length, inside, few)
+
+  once : WorkAtOnce pools callers (record { ops = qs; replies = ss }) was to
+  once = at-once cache pools trace.blocks qs callers was from to did.own old.kept.items old.parties.items new.kept.items new.parties.items ss unused worked did.ordered
+
+  now-leaves : LeavesPool pools was to
+  now-leaves = unused-leaves pools was from to unused leaves
+
+  counted-lines : HaveCounted pools callers (os ++ qs) (rs ++ ss) start to
+  counted-lines = counted-more pools callers os qs rs ss long start was to few-so-far some_callers between.counted now-leaves
+      (group-reads cache pools trace.blocks qs callers was from to did.own old.kept.items old.parties.items new.kept.items new.parties.items ss unused worked did.ordered few-here some_callers)
+      (group-faults cache pools trace.blocks qs callers was from to did.own old.kept.items old.parties.items new.kept.items new.parties.items ss unused worked did.ordered few-here some_callers)
+
+  come-lines : HaveCome cache restored (pools.size start) (pools.told start) trace.blocks (os ++ qs) (rs ++ ss) new
+  come-lines = have-come-more cache restored pools (pools.size start) (pools.told start) trace.blocks os qs rs ss from to old new between.come did own (unused.size ∙ between.counted.keeps.size) (unused.told ∙ between.counted.keeps.told)
+
+  -- the trace ends with these lines
+  pub between-last : length rs + length qs ≡ length trace.ops → AreBetween cache restored pools trace start to (rs ++ ss) new
+  between-last all = record {
+    few = omega (arith, both-long, all);
+    begins = λ less. absurd (omega (arith, both-long, all, less));
+    come = subst (λ (l : List Op). HaveCome cache restored (pools.size start) (pools.told start) trace.blocks l (rs ++ ss) new) (sym taken) come-lines;
+    knows = ap (λ (p : Place (Known C)). p.own.about.openings) did.feeder ∙ between.knows;
+    counted = subst (λ (l : List Op). HaveCounted pools callers l (rs ++ ss) start to) (sym taken) counted-lines;
+    groups = subst (λ (gs : List Lines). WorkInGroups pools callers gs start to)
+        (sym (ap (λ (l : List Op). groups_of l (rs ++ ss)) taken
+        ∙ (groups-append os qs rs ss long (whole-of trace.ops (length rs) between.few (between.begins more))
+        ∙ ap (λ (gs : List Lines). groups_of os rs ++ gs) (group-last callers qs ss same-length own (omega (arith, more, all))))))
+        (in-groups-more pools callers (groups_of os rs) (record { ops = qs; replies = ss }) start was to between.groups once);
+  }
+
+  -- a line ends them
+  module _ (op : Op) (reply : Reply) (last : Crew C) (at : slice_get trace.ops (length rs + length qs) ≡ Some op) (ends : ends_group op ≡ true) (ended : DidEndLine cache op new last reply) where
+    abbrev all-replies : List Reply
+    all-replies = (rs ++ ss) ++ reply ∷ []
+
+    all-long : length all-replies ≡ suc (length rs + length qs)
+    all-long = omega (arith, length-append (rs ++ ss) (reply ∷ []), both-long)
+
+    room : length rs + length qs < length trace.ops
+    room = slice_get_within trace.ops (length rs + length qs) op at
+
+    all-taken : take (length all-replies) trace.ops ≡ (os ++ qs) ++ op ∷ []
+    all-taken =
+        ap (λ (k : ℕ). take k trace.ops) all-long
+        ∙ (take-suc trace.ops (length rs + length qs) op room
+        ∙ (λ i. (sym (ap (λ (k : ℕ). take k trace.ops) both-long) ∙ taken) i ++ get_or_from_slice_get trace.ops (length rs + length qs) op op at i ∷ []))
+
+    come-ended-lines : HaveCome cache restored (pools.size start) (pools.told start) trace.blocks ((os ++ qs) ++ op ∷ []) all-replies last
+    come-ended-lines =
+        subst (λ (x : Op × Reply). HaveCome cache restored (pools.size start) (pools.told start) trace.blocks ((os ++ qs) ++ x.0 ∷ []) ((rs ++ ss) ++ x.1 ∷ []) last) (λ i. (sym ended.is i, sym ended.answer i))
+        (have-come-cap cache restored (pools.size start) (pools.told start) trace.blocks (os ++ qs) (rs ++ ss) ended.c new last come-lines ended.resized ended.kept)
+
+    none-where : (c n : ℕ) → replies_of_caller n (ops.Cap c ∷ []) (Capped c ∷ []) ≡ []
+    none-where c n = refl
+
+    counted-end : HaveCounted pools callers ((os ++ qs) ++ op ∷ []) all-replies start to
+    counted-end =
+        subst (λ (x : Op × Reply). HaveCounted pools callers ((os ++ qs) ++ x.0 ∷ []) ((rs ++ ss) ++ x.1 ∷ []) start to) (λ i. (sym ended.is i, sym ended.answer i))
+        (counted-more pools callers (os ++ qs) (ops.Cap ended.c ∷ []) (rs ++ ss) (Capped ended.c ∷ []) come-lines.long start to to (omega (arith, both-long, room, few)) some_callers counted-lines (leaves-same pools to)
+        (λ full. let none = over-zero callers (asked (ops.Cap ended.c ∷ []) (Capped ended.c ∷ [])) (λ n below. refl) in omega (arith, none))
+        (λ full. let none = over-zero callers (failed (ops.Cap ended.c ∷ []) (Capped ended.c ∷ [])) (λ n below. refl) in omega (arith, none)))
+
+    pub between-ended : AreBetween cache restored pools trace start to all-replies last
+    between-ended = record {
+      few = omega (arith, all-long, room);
+      begins = λ less. subst (BeginsGroup trace.ops) (sym all-long) (op, at, ends);
+      come = subst (λ (l : List Op). HaveCome cache restored (pools.size start) (pools.told start) trace.blocks l all-replies last) (sym all-taken) come-ended-lines;
+      knows = ap (λ (a : About). a.openings) ended.resized.about ∙ (ap (λ (p : Place (Known C)). p.own.about.openings) did.feeder ∙ between.knows);
+      counted = subst (λ (l : List Op). HaveCounted pools callers l all-replies start to) (sym all-taken) counted-end;
+      groups = subst (λ (gs : List Lines). WorkInGroups pools callers gs start to)
+          (sym (ap (λ (l : List Op). groups_of l all-replies) all-taken
+          ∙ ((λ i. groups_of (append_assoc os qs (op ∷ []) i) (append_assoc rs ss (reply ∷ []) i))
+          ∙ (groups-append os (qs ++ op ∷ []) rs (ss ++ reply ∷ []) long (whole-of trace.ops (length rs) between.few (between.begins more))
+          ∙ ap (λ (gs : List Lines). groups_of os rs ++ gs) (group-ended callers qs ss op reply same-length own ends)))))
+          (in-groups-more pools callers (groups_of os rs) (record { ops = qs; replies = ss }) start was to between.groups once);
+    }
+
+-- ---- the lines of the next group
+
+-- a line that is no caller's ends its group
+none-ends : (op : Op) → caller_of op ≡ None → ends_group op ≡ true
+none-ends (ops.Read n t x window) none = cc
+none-ends (ops.Hold n t x) none = cc
+none-ends (ops.Drop n x) none = cc
+none-ends other none = refl
+
+module _ {X : Type 0} where
+  dropped-at : (xs : List X) (a k : ℕ) → slice_get (drop a xs) k ≡ slice_get xs (a + k)
+  dropped-at xs zero k = let z : k ≡ 0 + k = omega arith in ap (slice_get xs) z
+  dropped-at [] (suc a) k = refl
+  dropped-at (x ∷ xs) (suc a) k = let z : suc (a + k) ≡ suc a + k = omega arith in dropped-at xs a k ∙ ap (slice_get (x ∷ xs)) z
+
+  taken-at : (xs : List X) (n k : ℕ) (x : X) → slice_get (take n xs) k ≡ Some x → (k < n) × (slice_get xs k ≡ Some x)
+  taken-at xs zero k x at = absurd (none-there k at)
+    where
+      none-there : (k : ℕ) → slice_get {X = X} [] k ≡ Some x → ⊥
+      none-there k is = cc
+  taken-at [] (suc n) k x at = absurd (none-there k at)
+    where
+      none-there : (k : ℕ) → slice_get {X = X} [] k ≡ Some x → ⊥
+      none-there k is = cc
+  taken-at (y ∷ xs) (suc n) zero x at = (omega arith, at)
+  taken-at (y ∷ xs) (suc n) (suc k) x at = let h = taken-at xs n k x at in (omega (arith, h.0), h.1)
+
+  pub range-at : (xs : List X) (a b k : ℕ) (x : X) → slice_get (slice_range xs a b) k ≡ Some x → (a + k < b) × (slice_get xs (a + k) ≡ Some x)
+  range-at xs a b k x at = let h = taken-at (drop a xs) (b - a) k x at in (omega (arith, h.0), sym (dropped-at xs a k) ∙ h.1)
+
+  pub range-length : (xs : List X) (a b : ℕ) → a ≤ b → b ≤ length xs → a + length (slice_range xs a b) ≡ b
+  range-length xs a b le inside = omega (arith, le, inside, length-drop a xs, length-take-le (b - a) (drop a xs) (omega (arith, inside, length-drop a xs)))
+
+  pub range-here : (xs : List X) (a b : ℕ) → a ≤ b → b ≤ length xs → take (length (slice_range xs a b)) (drop a xs) ≡ slice_range xs a b
+  range-here xs a b le inside = ap (λ (n : ℕ). take n (drop a xs)) (let long = range-length xs a b le inside in omega (arith, long))
+
+module _ (trace : Trace) (formed : IsFormed trace) (a b : ℕ) where
+  pub range-declared : AreDeclared (length trace.blocks) (slice_range trace.ops a b)
+  range-declared k op at = all-declared trace formed (a + k) op (range-at trace.ops a b k op at).1
+
+  pub range-callers : ((k : ℕ) (op : Op) → a ≤ k → k < b → slice_get trace.ops k ≡ Some op → ends_group op ≡ false) → AreOfCallers trace.config.callers (slice_range trace.ops a b)
+  range-callers inside k op at =
+      let h = range-at trace.ops a b k op at in
+      let within_group = inside (a + k) op (omega arith) h.0 h.1 in
+      elim (line-kind op) [
+        | inl caller ↦ (caller.0, caller.1, all-callers trace formed (a + k) op h.1 caller.0 caller.1)
+        | inr none ↦ absurd (false≢true (sym within_group ∙ none-ends op none))
+      ]
+
+-- ---- one step of all groups
+
+-- What the next group came to, whose lines are these of the trace: they are done at once, and then the line that ends them, where there is one.
+module _ {C P : Type 0} (cache : Cache) (restored : List Restored) (pools : Ghosts P) (trace : Trace) (formed : IsFormed trace) (config : cache.config ≡ trace.config) (start was from to : P) (rs ss : List Reply) (old new : Crew C)
+    (first end : ℕ) (bs : List Ptr) (os : List Op) (is_bs : bs ≡ trace.blocks) (is_os : os ≡ trace.ops) (is_first : first ≡ length rs) (le : first ≤ end) (few : end ≤ length os)
+    (inside : (k : ℕ) (op : Op) → first ≤ k → k < end → slice_get os k ≡ Some op → ends_group op ≡ false) (between : AreBetween cache restored pools trace start was rs old) (more : length rs < length trace.ops)
+    (unused : IsUnused pools was from) (did : DidLinesAtOnce cache pools bs (slice_range os first end) from to old new ss) (leaves : LeavesPool pools from to) where
+  abbrev qs : List Op
+  qs = slice_range trace.ops (length rs) end
+
+  did-these : DidLinesAtOnce cache pools trace.blocks qs from to old new ss
+  did-these = subst (λ (x : List Ptr × List Op × ℕ). DidLinesAtOnce cache pools x.0 (slice_range x.1 x.2 end) from to old new ss) (λ i. (is_bs i, is_os i, is_first i)) did
+
+  few-callers : cache.config.callers ≤ 16
+  few-callers = subst (λ (g : Config). g.callers ≤ 16) (sym config) formed.config.counts.callers.1
+
+  own : AreOfCallers cache.config.callers qs
+  own = subst (λ (g : Config). AreOfCallers g.callers qs) (sym config)
+      (range-callers trace formed (length rs) end (λ k op low high at. inside k op (omega (arith, is_first, low)) high (ap (λ (l : List Op). slice_get l k) is_os ∙ at)))
+
+  few-lines : end ≤ length trace.ops
+  few-lines = subst (λ (l : List Op). end ≤ length l) is_os few
+
+  low : length rs ≤ end
+  low = omega (arith, is_first, le)
+
+  ends-at : length rs + length qs ≡ end
+  ends-at = range-length trace.ops (length rs) end low few-lines
+
+  here : take (length qs) (drop (length rs) trace.ops) ≡ qs
+  here = range-here trace.ops (length rs) end low few-lines
+
+  pub next-last : length os ≤ end → (all : List Reply) → all ≡ rs ++ ss → AreBetween cache restored pools trace start to all new × (length rs < length all)
+  next-last last all is =
+      let long : length os ≡ length trace.ops = ap length is_os in
+      let whole : length rs + length qs ≡ length trace.ops = omega (arith, ends-at, few-lines, last, long) in
+      let size = ap length is in (
+        subst (λ (l : List Reply). AreBetween cache restored pools trace start to l new) (sym is)
+            (between-last cache restored pools trace start was from to rs ss qs old new formed.few_ops few-callers between more unused did-these leaves own (omega (arith, ends-at, few-lines)) here whole),
+        omega (arith, size, length-append rs ss, did-these.ordered.all, whole, more),
+      )
+
+  -- the callers may join the feeder
+  pub next-may : cache.row.parties ≡ parties_of cache.config → MayGoOn cache [] new.feeder new.parties.items
+  next-may rows =
+      may-resize cache restored (pools.size start) (pools.told start) trace.blocks (take (length rs) trace.ops ++ qs) (rs ++ ss) new
+      (come-lines cache restored pools trace start was from to rs ss qs old new formed.few_ops few-callers between more unused did-these leaves own (omega (arith, ends-at, few-lines)) here) rows
+
+  pub next-ended : (op : Op) → slice_get os end ≡ Some op → ends_group op ≡ true → (last : Crew C) (reply : Reply) → DidEndLine cache op new last reply → (so_far all : List Reply) → so_far ≡ rs ++ ss → all ≡ so_far ++ reply ∷ []
+      → AreBetween cache restored pools trace start to all last × (length rs < length all)
+  next-ended op at ends last reply ended so_far all is_far is =
+      let there : slice_get trace.ops (length rs + length qs) ≡ Some op = ap (slice_get trace.ops) ends-at ∙ (ap (λ (l : List Op). slice_get l end) (sym is_os) ∙ at) in
+      let whole : all ≡ (rs ++ ss) ++ reply ∷ [] = is ∙ ap (λ (l : List Reply). l ++ reply ∷ []) is_far in
+      let size = ap length whole in (
+        subst (λ (l : List Reply). AreBetween cache restored pools trace start to l last) (sym whole)
+            (between-ended cache restored pools trace start was from to rs ss qs old new formed.few_ops few-callers between more unused did-these leaves own (omega (arith, ends-at, few-lines)) here op reply last there ends ended),
+        omega (arith, size, length-append (rs ++ ss) (reply ∷ []), length-append rs ss),
+      )
+
+-- what a step says, by whether the group was done
+pub stepped : {C P : Type 0} (cache : Cache) (restored : List Restored) (pools : Ghosts P) (trace : Trace) (start before after : P) (replied replies : List Reply) (done : Bool) (old new : Crew C) → done ≡ true
+    → StepsOn cache restored pools trace start before after replied replies done old new → AreBetween cache restored pools trace start after replies new × (length replied < length replies)
+stepped cache restored pools trace start before after replied replies done old new is step = subst (λ (b : Bool). StepsOn cache restored pools trace start before after replied replies b old new) is step
+
+pub not-stepped : {C P : Type 0} (cache : Cache) (restored : List Restored) (pools : Ghosts P) (trace : Trace) (start before after : P) (replied replies : List Reply) (done : Bool) (old new : Crew C) → done ≡ false
+    → StepsOn cache restored pools trace start before after replied replies done old new → AreBetween cache restored pools trace start before replied old → length replied < length trace.ops → AreDone cache restored pools trace start after true replies new
+not-stepped {C} cache restored pools trace start before after replied replies done old new is step between more =
+    let same = subst (λ (b : Bool). StepsOn cache restored pools trace start before after replied replies b old new) is step in
+    record {
+      reached = before;
+      between = subst (λ (x : List Reply × Crew C). AreBetween cache restored pools trace start before x.0 x.1) (λ i. (sym same.0 i, sym same.1 i)) between;
+      whole = λ no. absurd (false≢true (sym no));
+      failed = λ yes. (omega (arith, ap length same.0, more), same.2);
+    }
+
+pub all-stepped : {C P : Type 0} (cache : Cache) (restored : List Restored) (pools : Ghosts P) (trace : Trace) (start after : P) (replies : List Reply) (crew : Crew C) → AreBetween cache restored pools trace start after replies crew → length trace.ops ≤ length replies
+    → AreDone cache restored pools trace start after false replies crew
+all-stepped cache restored pools trace start after replies crew between all = record {
+  reached = after;
+  between = between;
+  whole = λ no. (omega (arith, between.few, all), refl);
+  failed = λ yes. absurd (false≢true yes);
+}

@@ -1,0 +1,14 @@
+pub mod AccessLemmas
+pub mod AloneLemmas
+pub mod AlonePlainLemmas
+pub mod EndAlone
+pub mod FedAlone
+pub mod NamedLemmas
+pub mod OverShardLemmas
+pub mod PlainLemmas
+pub mod PlainReplyLemmas
+pub mod PlainReportLemmas
+pub mod ResidentLemmas
+pub mod RestAlone
+pub mod SoleLemmas
+pub mod TellLemmas

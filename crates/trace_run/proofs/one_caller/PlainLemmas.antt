@@ -1,0 +1,198 @@
+-- A reply is that of the plain run.
+use Rattle.std.proofs.Common.{◌≡◌, ◌≢◌, ℕ, zero, suc, ◌+◌, ◌%◌, ◌<◌, ◌≤◌, ◌==◌, nat_lt, true, false, List, [], ◌∷◌, ◌++◌, length, drop, Some, None, is_some, inl, inr, refl, sym, ap, subst, ◌∙◌, arith}
+use Rattle.std.proofs.lemmas.Bool.Decides.{nat_tests}
+use Rattle.arc_lists.proofs.Tables.{cases_true}
+use Rattle.blk_ptr.specs.declared.digest.Digest.{Digest}
+use Rattle.blk_ptr.specs.declared.key.Key.{Key}
+use Rattle.blk_ptr.specs.declared.key.KeyFault.{KeyFault}
+use Rattle.blk_ptr.specs.declared.key.KeyFault.TheVariants as fault
+use Rattle.blk_ptr.specs.declared.ptr.Ptr.{Ptr}
+use Rattle.blk_ptr.specs.Key.{IsFirstFault, IsValid, end_of}
+use Rattle.blk_ptr.specs.Order.{digest_eq}
+use Rattle.blk_ptr.specs.Ptr.{IsOf, range_of, sha256_of}
+use Rattle.blk_ptr.specs.Size.{IsBlockSize, is_block_size_of, sector}
+use Rattle.std.proofs.lemmas.Slice.Eq.{bytes_eq-Decides}
+use Rattle.arc_core.specs.PlainShard.{PlainShard}
+use Rattle.trace_text.specs.declared.op.Op.{Op}
+use Rattle.trace_text.specs.declared.op.Op.TheVariants as ops
+use Rattle.trace_text.specs.declared.reply.Reply.{Reply}
+use Rattle.trace_text.specs.declared.reply.Reply.TheVariants.{Read, Kept, Dropped, Refused}
+use Rattle.trace_text.specs.declared.reply.Refusal.TheVariants as refusal
+use Rattle.dbuf_state.specs.declared.window.Window.{Window}
+use Rattle.trace_run.specs.one_caller.Access as access
+use Rattle.trace_run.specs.KeptReads.{KeptRead}
+use Rattle.trace_run.specs.one_caller.Access.{Access, AsksPool, access_of, source_of}
+use Rattle.trace_run.specs.Answering.{IsReadOfImage, KeepsImage, ReadsImage}
+use Rattle.trace_run.specs.Answers.{AnswersDrop, AnswersHold, AnswersRead}
+use Rattle.trace_run.specs.Effects.{calls_from, calls_of, effect_of}
+use Rattle.trace_run.specs.Lines.{shard_of_line}
+use Rattle.trace_run.specs.one_caller.OneCaller.{IsFoundAs, NamesSource, kept_after, oldest_kept}
+use Rattle.trace_run.specs.one_caller.PlainLines.{IsNext, IsPlainLine}
+use Rattle.trace_run.specs.one_caller.PlainRun.{key_fault, next_call, refused_access, replies_to, reply_to, reply_to_drop, reply_to_hold, reply_to_read, shards_after}
+use Rattle.vdev_io.specs.Calls.{Failed, Gave, Call}
+use Rattle.trace_run.specs.Tally.{AnswersNow, kept_of_block}
+use Rattle.trace_run.proofs.CacheLemmas.{digest_eq-is}
+use Rattle.trace_run.proofs.DropLemmas.{absent-counted, found-counted}
+
+-- ---- the tests of a key
+
+zero-test : (n : ℕ) → n ≡ 0 → (n == 0) ≡ true
+zero-test n is = grind (arith, nat_tests)
+
+other-test : (n : ℕ) → (n ≡ 0 → ⊥) → (n == 0) ≡ false
+other-test n is = grind (arith, nat_tests)
+
+less-test : (m n : ℕ) → m < n → nat_lt m n ≡ true
+less-test m n lt = grind (arith, nat_tests)
+
+pub least-test : (m n : ℕ) → n ≤ m → nat_lt m n ≡ false
+least-test m n le = grind (arith, nat_tests)
+
+size-test : (n : ℕ) → IsBlockSize n → is_block_size_of n ≡ true
+size-test n sized = grind (arith, nat_tests, sized.0, sized.1, sized.2)
+
+size-is : (n : ℕ) → is_block_size_of n ≡ true → IsBlockSize n
+size-is n test = (grind (arith, nat_tests, test), grind (arith, nat_tests, test), grind (arith, nat_tests, test))
+
+size-not : (n : ℕ) → (IsBlockSize n → ⊥) → is_block_size_of n ≡ false
+size-not n fails = elim (cases_true (is_block_size_of n)) [
+  | inl sized ↦ absurd (fails (size-is n sized))
+  | inr none ↦ none
+]
+
+pub valid-key : (len : ℕ) (key : Key) → IsValid len key → key_fault len key ≡ None
+valid-key len key valid =
+    let birth : (key.birth == 0) ≡ false = other-test key.birth (λ e. absurd (omega (arith, e, valid.formed.born))) in
+    rw (zero-test (key.offset % sector) valid.formed.aligned, size-test key.size valid.formed.sized, least-test len (end_of key) valid.inside, birth) refl
+
+first-key : (len : ℕ) (key : Key) (why : KeyFault) → IsFirstFault len key why → key_fault len key ≡ Some why
+first-key len key fault.Unaligned fails = rw (other-test (key.offset % sector) fails) refl
+first-key len key fault.Size fails = rw (zero-test (key.offset % sector) fails.0, size-not key.size fails.1) refl
+first-key len key (fault.OutOfPool end most) fails =
+    rw (zero-test (key.offset % sector) fails.0, size-test key.size fails.1, less-test len (end_of key) fails.4, fails.2, fails.3) refl
+first-key len key fault.BirthZero fails =
+    rw (zero-test (key.offset % sector) fails.0, size-test key.size fails.1, least-test len (end_of key) fails.2, zero-test key.birth fails.3) refl
+
+-- ---- what the pool gives
+
+of-test : (bytes : List ℕ) (ptr : Ptr) → IsOf bytes ptr → digest_eq (sha256_of bytes) ptr.digest ≡ true
+of-test bytes ptr one = (bytes_eq-Decides (sha256_of bytes).0 ptr.digest.0).1 (ap (λ (d : Digest). d.0) one.digest)
+
+accepted : (image : List ℕ) (ptr : Ptr) (a : Access) (call : Call) → IsOf (range_of image ptr.key) ptr → IsNext (calls_from (source_of a)) call → refused_access image ptr a call ≡ None
+accepted image ptr access.Hit call one next = refl
+accepted image ptr (access.Past kept) call one next = rw (sym next, of-test (range_of image ptr.key) ptr one) refl
+accepted image ptr access.Miss call one next = rw (sym next, of-test (range_of image ptr.key) ptr one) refl
+
+failed : (image : List ℕ) (ptr : Ptr) (a : Access) (call : Call) → AsksPool a → Failed ≡ call → refused_access image ptr a call ≡ Some refusal.PoolFault
+failed image ptr access.Hit call asks next = absurd asks
+failed image ptr (access.Past kept) call asks next = rw (sym next) refl
+failed image ptr access.Miss call asks next = rw (sym next) refl
+
+differs-test : (image : List ℕ) (ptr : Ptr) (found : Digest) → found ≡ sha256_of (range_of image ptr.key) → found ≢ ptr.digest → digest_eq (sha256_of (range_of image ptr.key)) ptr.digest ≡ false
+differs-test image ptr found is other = elim (cases_true (digest_eq (sha256_of (range_of image ptr.key)) ptr.digest)) [
+  | inl same ↦ absurd (other (is ∙ digest_eq-is (sha256_of (range_of image ptr.key)) ptr.digest same))
+  | inr differs ↦ differs
+]
+
+mismatched : (image : List ℕ) (ptr : Ptr) (a : Access) (call : Call) (found : Digest) → AsksPool a → Gave ≡ call → found ≡ sha256_of (range_of image ptr.key) → found ≢ ptr.digest
+    → refused_access image ptr a call ≡ Some (refusal.Mismatch found)
+mismatched image ptr access.Hit call found asks next is other = absurd asks
+mismatched image ptr (access.Past kept) call found asks next is other = rw (sym next, differs-test image ptr found is other, is) refl
+mismatched image ptr access.Miss call found asks next is other = rw (sym next, differs-test image ptr found is other, is) refl
+
+-- ---- one reply
+
+plain-read : (image : List ℕ) (s : PlainShard) (ptr : Ptr) (window : Window) (reply : Reply) (call : Call) → AnswersRead (length image) (Some image) ptr window reply
+    → NamesSource (access_of s ptr) (effect_of reply) → ReadsImage image ptr window reply → IsNext (calls_of (effect_of reply)) call → reply ≡ reply_to_read image s ptr window call
+plain-read image s ptr window (Read served digest shown) call answer named read next =
+    let inside = least-test ptr.key.size (window.at + window.len) answer.0 in
+    let valid = valid-key (length image) ptr.key answer.1 in
+    let fine = accepted image ptr (access_of s ptr) call read.of (subst (λ f. IsNext (calls_from f) call) named next) in
+    rw (inside, valid, fine, named, answer.2, read.range) refl
+plain-read image s ptr window (Refused refusal.PoolFault) call answer named read next =
+    rw (least-test ptr.key.size (window.at + window.len) answer.0, valid-key (length image) ptr.key answer.1, failed image ptr (access_of s ptr) call named next) refl
+plain-read image s ptr window (Refused (refusal.Mismatch found)) call answer named read next =
+    let miss = answer.1.1 in
+    rw (least-test ptr.key.size (window.at + window.len) answer.0, valid-key (length image) ptr.key answer.1.0, mismatched image ptr (access_of s ptr) call found named next miss.plain.0 miss.other) refl
+plain-read image s ptr window (Refused (refusal.Key why)) call answer named read next =
+    rw (least-test ptr.key.size (window.at + window.len) answer.0, first-key (length image) ptr.key why answer.1) refl
+plain-read image s ptr window (Refused (refusal.Range end size)) call answer named read next =
+    let past : ptr.key.size < window.at + window.len = omega (arith, answer.0, answer.1, answer.2) in
+    rw (less-test ptr.key.size (window.at + window.len) past, answer.0, answer.1) refl
+plain-read image s ptr window (Refused other) call answer named read next = absurd answer
+plain-read image s ptr window other call answer named read next = absurd answer
+
+plain-hold : (image : List ℕ) (s : PlainShard) (ptr : Ptr) (reply : Reply) (call : Call) → AnswersHold (length image) (Some image) ptr reply
+    → NamesSource (access_of s ptr) (effect_of reply) → KeepsImage image ptr reply → IsNext (calls_of (effect_of reply)) call → reply ≡ reply_to_hold image s ptr call
+plain-hold image s ptr (Kept served) call answer named read next =
+    let fine = accepted image ptr (access_of s ptr) call read (subst (λ f. IsNext (calls_from f) call) named next) in
+    rw (valid-key (length image) ptr.key answer.0, fine, named) refl
+plain-hold image s ptr (Refused refusal.PoolFault) call answer named read next = rw (valid-key (length image) ptr.key answer, failed image ptr (access_of s ptr) call named next) refl
+plain-hold image s ptr (Refused (refusal.Mismatch found)) call answer named read next =
+    rw (valid-key (length image) ptr.key answer.0, mismatched image ptr (access_of s ptr) call found named next answer.1.plain.0 answer.1.other) refl
+plain-hold image s ptr (Refused (refusal.Key why)) call answer named read next = rw (first-key (length image) ptr.key why answer) refl
+plain-hold image s ptr (Refused other) call answer named read next = absurd answer
+plain-hold image s ptr other call answer named read next = absurd answer
+
+plain-drop : (x : ℕ) (kept : List KeptRead) (reply : Reply) → AnswersDrop (kept_of_block x kept) 0 x reply → reply ≡ reply_to_drop x kept
+plain-drop x kept Dropped answer = elim (cases_true (is_some (oldest_kept x kept))) [
+  | inl there ↦ rw there refl
+  | inr absent ↦ absurd (omega (arith, answer, (absent-counted x kept absent).0))
+]
+plain-drop x kept (Refused (refusal.NoHold missing)) answer = elim (cases_true (is_some (oldest_kept x kept))) [
+  | inl there ↦ absurd (omega (arith, answer.1, found-counted x kept there))
+  | inr absent ↦ rw (absent, answer.0) refl
+]
+plain-drop x kept (Refused other) answer = absurd answer
+plain-drop x kept other answer = absurd answer
+
+pub plain-line : (image : List ℕ) (blocks : List Ptr) (s : PlainShard) (kept : List KeptRead) (op : Op) (reply : Reply) → AnswersNow (length image) (Some image) blocks kept op reply
+    → IsFoundAs blocks s op reply → IsReadOfImage image blocks op reply → IsPlainLine image blocks s kept op reply
+plain-line image blocks s kept (ops.Read n t x window) reply answer found read = λ call next.
+    rw answer.1 (plain-read image s answer.0 window reply call answer.2 (rw answer.1 at found) (rw answer.1 at read) next)
+plain-line image blocks s kept (ops.Hold n t x) reply answer found read = λ call next.
+    rw answer.1 (plain-hold image s answer.0 reply call answer.2 (rw answer.1 at found) (rw answer.1 at read) next)
+plain-line image blocks s kept (ops.Drop n x) reply answer found read = λ call next. plain-drop x kept reply answer
+plain-line image blocks s kept (ops.Cap c) reply answer found read = λ call next. answer
+plain-line image blocks s kept other reply answer found read = absurd answer
+
+-- ---- all replies
+
+pub next-is : (calls rest : List Call) → IsNext calls (next_call (calls ++ rest))
+next-is [] rest = tt
+next-is (call ∷ calls) rest = refl
+
+pub drop-front : {X : Type 0} (xs ys : List X) → drop (length xs) (xs ++ ys) ≡ ys
+drop-front [] ys = refl
+drop-front (x ∷ xs) ys = drop-front xs ys
+
+-- calls that all give bytes are as none
+abbrev pub AllGive : List Call → Type 0
+AllGive [] = Unit {0}
+AllGive (call ∷ calls) = (call ≡ Gave) × AllGive calls
+
+next-gives : (calls : List Call) → AllGive calls → next_call calls ≡ Gave
+next-gives [] all = refl
+next-gives (call ∷ calls) all = all.0
+
+drop-gives : (n : ℕ) (calls : List Call) → AllGive calls → AllGive (drop n calls)
+drop-gives zero calls all = all
+drop-gives (suc n) [] all = tt
+drop-gives (suc n) (call ∷ calls) all = drop-gives n calls all.1
+
+pub plain-gives : (image : List ℕ) (shards : ℕ) (blocks : List Ptr) (s : ℕ → PlainShard) (kept : List KeptRead) (os : List Op) (calls : List Call) → AllGive calls
+    → replies_to image shards blocks s kept os calls ≡ replies_to image shards blocks s kept os []
+plain-gives image shards blocks s kept [] calls all = refl
+plain-gives image shards blocks s kept (o ∷ os) calls all =
+    let shard = shard_of_line shards blocks o in
+    let next : Call → List Call → List Reply = λ call cs.
+    let reply = reply_to image blocks (s shard) kept o call in
+    reply ∷ replies_to image shards blocks (shards_after shards blocks s kept o reply) (kept_after blocks o reply kept) os (drop (length (calls_of (effect_of reply))) cs) in
+    let reply = reply_to image blocks (s shard) kept o Gave in
+    let count = length (calls_of (effect_of reply)) in
+    let after = shards_after shards blocks s kept o reply in
+    let left = kept_after blocks o reply kept in
+    let gone : replies_to image shards blocks after left os (drop count calls) ≡ replies_to image shards blocks after left os (drop count []) =
+    plain-gives image shards blocks after left os (drop count calls) (drop-gives count calls all)
+    ∙ sym (plain-gives image shards blocks after left os (drop count []) (drop-gives count [] tt)) in
+    ap (λ (call : Call). next call calls) (next-gives calls all) ∙ ap (λ (l : List Reply). reply ∷ l) gone

@@ -1,0 +1,14 @@
+pub mod CellRun
+pub mod CloseLemmas
+pub mod EachLemmas
+pub mod EndLemmas
+pub mod GenLemmas
+pub mod HistoryLemmas
+pub mod OutcomeLemmas
+pub mod PlacedLemmas
+pub mod RanLemmas
+pub mod ReportLemmas
+pub mod RestLemmas
+pub mod SourceLemmas
+pub mod StreamLemmas
+pub mod WordLemmas

@@ -1,0 +1,99 @@
+-- What a run over the shared cache came to is what its report has to say.
+use Rattle.std.proofs.Common.{◌≡◌, ℕ, ◌+◌, ◌<◌, ◌≤◌, ◌^◌, Bool, true, false, List, [], ◌∷◌, length, Option, Some, IfSome, refl, sym, ap, subst, ◌∙◌, arith}
+use Rattle.arc_core.specs.declared.event.Event.{Event}
+use Rattle.arc_table.specs.Ended.{Ended}
+use Rattle.trace_text.specs.Grammar.{IsFormed}
+use Rattle.trace_text.specs.declared.op.Op.{Op}
+use Rattle.trace_text.specs.declared.rebuilt.Rebuilt.{Rebuilt}
+use Rattle.trace_text.specs.declared.reply.Reply.{Reply}
+use Rattle.trace_text.specs.declared.report.Report.{Report}
+use Rattle.trace_text.specs.declared.trace.Trace.{Trace}
+use Rattle.vdev_io.specs.Calls.{Call, MakesCalls}
+use Rattle.vdev_io.specs.declared.pool.Pool.{Ghosts}
+use Rattle.trace_run.specs.one_caller.Alone.{RanAlone, ends_in}
+use Rattle.trace_run.specs.Effects.{calls_of_all}
+use Rattle.trace_run.specs.Ends.{ends_of}
+use Rattle.trace_run.specs.callers.GroupRun.{RanTogether}
+use Rattle.trace_run.specs.Outcome.{IsRun}
+use Rattle.trace_run.specs.one_caller.PlainReport.{IsPlainReport}
+use Rattle.trace_run.specs.one_caller.PlainRun.{report_of, report_with}
+use Rattle.trace_run.specs.Restores.{restored_of}
+use Rattle.trace_run.specs.callers.Together.{RunsTogether, WorkInGroups, groups_of, report_of_closed}
+use Rattle.trace_run.proofs.one_caller.AlonePlainLemmas.{plain-alone}
+use Rattle.trace_run.proofs.theorem.ReportLemmas.{report-is}
+use Rattle.trace_run.proofs.RunLemmas.{calls-faults, calls-few, calls-reads, failed-all}
+
+-- no reply, no read of the pool
+no-calls : (replies : List Reply) → length replies ≡ 0 → calls_of_all replies ≡ []
+no-calls [] none = refl
+no-calls (reply ∷ rest) none = absurd (omega (arith, none))
+
+module _ {C P : Type 0} (pools : Ghosts P) (before after : P) (trace : Trace) (rebuilt : Option Rebuilt) (replies : List Reply) (closed : Ended C) where
+  -- one caller's run
+  pub alone-run : IsFormed trace → trace.config.callers ≡ 1 → ((image : List ℕ) → pools.told before ≡ Some image → length image ≡ pools.size before)
+      → RanAlone pools before after trace (restored_of rebuilt) replies closed → IsRun pools before after trace false closed (report_of_closed false rebuilt replies closed)
+  alone-run formed one sized ran =
+      let report : Report = report_of_closed false rebuilt replies closed in
+      let few : length (calls_of_all replies) < 2 ^ 32 = omega (arith, calls-few replies, ran.answers.all, formed.few_ops) in
+      let ends : ends_in closed ≡ ends_of trace.config _ = ran.explained.ends ∙ ap (λ (hs : List (List Event)). ends_of trace.config hs) ran.histories in
+      let plain : report ≡ report_with trace rebuilt replies = report-is trace report ran.histories ends refl refl refl in
+      let told : (image : List ℕ) → pools.told ran.lines.first.pool ≡ Some image → length image ≡ pools.size ran.lines.first.pool =
+      subst (λ (p : P). (image : List ℕ) → pools.told p ≡ Some image → length image ≡ pools.size p) (sym ran.lines.from) sized in
+      record {
+        answers = ran.answers;
+        explained = ran.explained;
+        tells = record { histories = refl; ends = refl };
+        config = ran.config;
+        no_workers = refl;
+        reads = λ low. calls-reads pools (calls_of_all replies) before after ran.made (omega (arith, low, few)) ∙ ap (λ (n : ℕ). pools.reads before + n) ran.counted;
+        faults = λ low. omega (arith, calls-faults pools (calls_of_all replies) before after ran.made (omega (arith, low, few)), failed-all replies);
+        alone = λ _. (
+          refl,
+          record {
+            histories = ran.histories;
+            found = ran.found;
+            calls = calls_of_all replies;
+            replied = refl;
+            counted = ran.counted;
+            made = ran.made;
+            plain = subst (λ (p : P). IfSome (pools.told p) (λ image. IsPlainReport trace image (report_of trace rebuilt image (calls_of_all replies)) report)) ran.lines.from
+                (plain-alone pools 0 trace report ran.lines.first ran.lines.last ran.lines.lines ran.lines.alone ran.lines.none ran.lines.opens told plain);
+          },
+        );
+        together = λ two. absurd (omega (arith, two, one));
+        idle = λ none. (refl, subst (λ (cs : List Call). MakesCalls pools cs before after) (no-calls replies (ran.answers.all ∙ ap length none)) ran.made);
+        failed = λ is. cc;
+      }
+
+  pub alone-told : (fork_failed : Bool) → fork_failed ≡ false → IsFormed trace → trace.config.callers ≡ 1 → ((image : List ℕ) → pools.told before ≡ Some image → length image ≡ pools.size before)
+      → RanAlone pools before after trace (restored_of rebuilt) replies closed → IsRun pools before after trace fork_failed closed (report_of_closed fork_failed rebuilt replies closed)
+  alone-told fork_failed whole formed one sized ran =
+      subst (λ (b : Bool). IsRun pools before after trace b closed (report_of_closed b rebuilt replies closed)) (sym whole) (alone-run formed one sized ran)
+
+  -- several callers' run
+  pub together-run : (fork_failed : Bool) → 2 ≤ trace.config.callers → RanTogether pools before after trace fork_failed (restored_of rebuilt) replies closed
+      → IsRun pools before after trace fork_failed closed (report_of_closed fork_failed rebuilt replies closed)
+  together-run fork_failed two ran = record {
+    answers = ran.answers;
+    explained = ran.explained;
+    tells = record { histories = refl; ends = refl };
+    config = ran.config;
+    no_workers = refl;
+    reads = ran.reads;
+    faults = ran.faults;
+    alone = λ one. absurd (omega (arith, two, one));
+    together = λ _. told;
+    idle = λ none. let whole = no-fork none fork_failed refl in (
+      whole,
+      told.whole whole ∙ subst (λ (os : List Op). WorkInGroups pools trace.config.callers (groups_of os replies) before told.reached) none told.groups,
+    );
+    failed = ran.failed;
+  }
+    where
+      told : RunsTogether pools before after trace fork_failed (report_of_closed fork_failed rebuilt replies closed)
+      told = ran.together rebuilt refl
+
+      -- no line, no group
+      no-fork : trace.ops ≡ [] → (b : Bool) → fork_failed ≡ b → fork_failed ≡ false
+      no-fork none false is = is
+      no-fork none true is = let some_of = (ran.failed is).1.some in absurd (omega (arith, some_of, ap length none))

@@ -1,0 +1,168 @@
+-- A closed cache whose parties have given all back is at rest.
+use Rattle.std.proofs.Common.{◌≡◌, ℕ, suc, ◌+◌, ◌<◌, ◌≤◌, ◌==◌, true, IsTrue, List, [], ◌∷◌, Option, Some, refl, sym, ap, ◌∙◌, subst, inl, inr, arith}
+use Rattle.std.specs.Prelude.{slice_index, sum}
+use Rattle.std.specs.List.{AllByRecursion, list_all}
+use Rattle.std.specs.Option.{option_map_or}
+use Rattle.std.proofs.lemmas.Bool.{cases_lt, false≢true}
+use Rattle.std.proofs.lemmas.Bool.Decides.{nat_tests}
+use Rattle.std.proofs.lemmas.List.Sums.{sum_by-cons}
+use mathlib.Core.Option.{some}
+use lib.ListN.{get_elem?}
+use Rattle.blk_ptr.specs.declared.key.Key.{Key}
+use Rattle.blk_ptr.specs.declared.ptr.Ptr.{Ptr}
+use Rattle.arc_lists.proofs.Standing.{both}
+use Rattle.arc_lists.proofs.Tables.{All-item, cases_true}
+use Rattle.arc_core.specs.Config.{IsConfig}
+use Rattle.arc_core.specs.declared.config.Config.{Config}
+use Rattle.arc_core.specs.declared.entry.Entry.{Entry}
+use Rattle.arc_core.specs.declared.entry.Phase.{Phase}
+use Rattle.arc_core.specs.declared.entry.Phase.TheVariants.{Idle, Picking, Writing}
+use Rattle.arc_core.specs.declared.entry.Picked.{Picked}
+use Rattle.arc_core.specs.Operations.{IsAtRest}
+use Rattle.arc_core.specs.PlainShard.{PlainShard, count_of, entry_key, entry_of, held_by, is_at_rest, is_free}
+use Rattle.arc_core.specs.Replay.{is_legal_history, replay}
+use Rattle.arc_core.specs.Sound.{IsSound, IsSoundEntry, fits_phase}
+use Rattle.arc_core.specs.Keeps.{holds_on}
+use Rattle.arc_core.specs.ShardLog.{ShardLog}
+use Rattle.turn_table.specs.Board.{free}
+use Rattle.turn_table.specs.declared.standing.Kept.{Kept}
+use Rattle.turn_table.specs.Places.{AllShow, IsIn, Place, ShowAll, SomeHas}
+use Rattle.arc_table.specs.declared.item.Item.{Item}
+use Rattle.arc_table.specs.declared.item.Item.TheVariants as item
+use Rattle.arc_table.specs.declared.view.Known.{Known}
+use Rattle.arc_table.specs.Cache.{Cache}
+use Rattle.arc_table.specs.pact.Counted.{readings_of, shard_at}
+use Rattle.arc_table.specs.Ended.{Ended, Ends}
+use Rattle.arc_table.specs.Geometry.{numbers_of, parties_of, shard_turn}
+use Rattle.arc_table.specs.Items.{Meanings, shard_in}
+use Rattle.arc_table.specs.pact.Logged.{IsSoundLog}
+use Rattle.arc_table.specs.pact.Scene.{Scene}
+use Rattle.arc_table.specs.opening.OpeningLaws.{opening_sound}
+use Rattle.arc_table.specs.Telling.{opening_of}
+use Rattle.trace_run.specs.KeptBlocks.{IsIdle}
+use Rattle.arc_table.specs.Seen.{turn_of}
+use Rattle.trace_run.proofs.theorem.CloseLemmas.{get-map, value-at}
+use Rattle.trace_run.proofs.DropLemmas.{all-items}
+use Rattle.trace_run.proofs.theorem.HistoryLemmas.{IsReadEvent, none-counted, none-picked}
+
+-- ---- a shard of which no number holds anything
+
+unheld : (hs : List ℕ) → ((n : ℕ) → slice_index hs n ≡ 0) → list_all (λ count. count == 0) hs ≡ true
+unheld [] none = refl
+unheld (h ∷ hs) none =
+    let first : h ≡ 0 = none 0 in
+    let test : (h == 0) ≡ true = grind (arith, nat_tests, first) in
+    both (h == 0) (list_all (λ count. count == 0) hs) test (unheld hs (λ n. none (suc n)))
+
+nothing-held : (hs : List ℕ) → ((n : ℕ) → slice_index hs n ≡ 0) → sum hs ≡ 0
+nothing-held [] none = refl
+nothing-held (h ∷ hs) none = let first : h ≡ 0 = none 0 in let rest = nothing-held hs (λ n. none (suc n)) in omega (arith, sum_by-cons (λ (n : ℕ). n) h hs)
+
+unread : (e : Entry) → IsSoundEntry e → sum e.holds ≡ 0 → is_at_rest e ≡ true
+unread e sound none = elim (cases_true (is_at_rest e)) [
+  | inl rest ↦ rest
+  | inr reads ↦ absurd (false≢true (rw (reads, none) at sound.reading))
+]
+
+idle-phase : (phase : Phase) (picked : List Picked) → picked ≡ [] → IsTrue (fits_phase phase picked) → phase ≡ Idle
+idle-phase Idle picked none fits = refl
+idle-phase Picking picked none fits = absurd (false≢true (rw none at fits))
+idle-phase Writing picked none fits = absurd (false≢true (rw none at fits))
+
+pub rests-where-none : (s : PlainShard) → IsSound s → s.picked ≡ [] → ((n : ℕ) (k : Key) (e : Entry) → entry_of k s ≡ Some e → held_by n e ≡ 0) → IsAtRest s
+rests-where-none s sound none counts = record {
+  free = all-items (λ e. IsTrue (is_free e)) s.entries sound.tidy.once (λ k e item.
+      let held : (n : ℕ) → slice_index e.holds n ≡ 0 = λ n. counts n k e item in
+      both _ _ (unheld e.holds held) (unread e (All-item entry_key IsSoundEntry k s.entries e sound.tidy.entries item) (nothing-held e.holds held)));
+  idle = idle-phase s.phase s.picked none sound.feed;
+}
+
+-- ---- a closed cache
+
+-- a shard at its start is sound
+opening-sound : (g : Config) → IsConfig g → IsSound (opening_of g)
+opening-sound g valid = opening_sound g.c g.mintime g.bounds valid.amounts.c
+
+module _ {C : Type 0} where
+  -- so has each that another party keeps by a join
+  abbrev AllIdle : List (Kept (Known C)) → Type 0
+  AllIdle [] = Unit {0}
+  AllIdle (k ∷ ks) = IsIdle k.view.ledger × AllIdle ks
+
+  -- these parties have given all back, and those that they keep by a join
+  abbrev pub AreIdle : List (Place (Known C)) → Type 0
+  AreIdle [] = Unit {0}
+  AreIdle (p ∷ ps) = IsIdle p.own.ledger × AllIdle p.joined × AreIdle ps
+
+  kept-idle : (views : List (Known C)) (n : ℕ) (ks : List (Kept (Known C))) → IsIn n ks → AllShow views ks → AllIdle ks → (w : Known C) × (get_elem? views n ≡ some w) × IsIdle w.ledger
+  kept-idle views n [] among shown idle = absurd among
+  kept-idle views n (k ∷ ks) (inl is) shown idle = (k.view, subst (λ (x : ℕ). get_elem? views x ≡ some k.view) is shown.0, idle.0)
+  kept-idle views n (k ∷ ks) (inr among) shown idle = kept-idle views n ks among shown.1 idle.1
+
+  pub party-idle : (views : List (Known C)) (n : ℕ) (ps : List (Place (Known C))) → SomeHas n ps → ShowAll views ps → AreIdle ps → (w : Known C) × (get_elem? views n ≡ some w) × IsIdle w.ledger
+  party-idle views n [] among shown idle = absurd among
+  party-idle views n (p ∷ ps) (inl (inl is)) shown idle = (p.own, subst (λ (x : ℕ). get_elem? views x ≡ some p.own) is shown.0.0, idle.0)
+  party-idle views n (p ∷ ps) (inl (inr among)) shown idle = kept-idle views n p.joined among shown.0.1 idle.1
+  party-idle views n (p ∷ ps) (inr among) shown idle = party-idle views n ps among shown.1 idle.2
+
+-- the history is one of reads and passes, and each caller has given all back
+module _ {C : Type 0} (m : Meanings C) (cache : Cache) (ps : List (Place (Known C))) (e : Ended C) (ends : Ends m cache ps e) (i : ℕ) (l : ShardLog) (at : get_elem? e.shards i ≡ some l)
+    (config : ends.pact.scene.about.config ≡ cache.config)
+    (idle : (n : ℕ) → n < cache.config.callers → (w : Known C) × (get_elem? ends.views n ≡ some w) × IsIdle w.ledger)
+    (valid : IsConfig cache.config) (sound : IsSoundLog cache.config l) (reads : AllByRecursion (IsReadEvent cache.config.callers) l.history) where
+  abbrev g : Config
+  g = cache.config
+
+  abbrev scene : Scene C
+  scene = ends.pact.scene
+
+  shard-now : scene.now (turn_of g i) ≡ item.Shard l
+  shard-now = (ends.pact.attached.free (turn_of g i) (item.Shard l) (get-map free _ (turn_of g i) (item.Shard l) (value-at m cache ps e ends i l at))).0
+
+  ledger-idle : (n : ℕ) → n < g.callers → IsIdle (scene.ledger n)
+  ledger-idle n below =
+      let h = idle n below in
+      subst IsIdle (ends.pact.attached.views n h.0 h.1).ledger h.2
+
+  -- the shard has entries of its own keys alone
+  own-key : (k : Key) (x : Entry) → entry_of k l.now ≡ Some x → turn_of g i ≡ shard_turn g k
+  own-key k x is = subst (λ (c : Config). turn_of g i ≡ shard_turn c k) config
+      (ends.pact.headed.own_entries (turn_of g i) k x (ap (λ (v : Item C). entry_of k (shard_in scene.about.config v)) shard-now ∙ is))
+
+  shard-of-key : (k : Key) → turn_of g i ≡ shard_turn g k → shard_at scene k ≡ l.now
+  shard-of-key k own = ap (λ (c : Config). shard_in c (scene.now (shard_turn c k))) config ∙ (ap (λ (x : ℕ). shard_in g (scene.now x)) (sym own) ∙ ap (shard_in g) shard-now)
+
+  replay-is : replay (opening_of g) l.history ≡ l.now
+  replay-is = ap (λ (s : PlainShard). replay s l.history) (sym sound.opening) ∙ sound.replayed.replayed
+
+  lawful : IsTrue (is_legal_history (opening_of g) l.history)
+  lawful = subst (λ (s : PlainShard). IsTrue (is_legal_history s l.history)) sound.opening sound.replayed.legal
+
+  -- a number that is no caller's holds nothing
+  other-none : (n : ℕ) (k : Key) → g.callers ≤ n → n < numbers_of g → count_of n k l.now ≡ 0
+  other-none n k above below =
+      let few : n < 33 = let a = valid.counts.callers.1 in let b = valid.counts.cells.1 in omega arith in
+      subst (λ (s : PlainShard). count_of n k s ≡ 0) replay-is (none-counted g.callers n k (opening_of g) l.history above few (opening-sound g valid) lawful reads refl)
+
+  no-count : (n : ℕ) (k : Key) → turn_of g i ≡ shard_turn g k → count_of n k l.now ≡ 0
+  no-count n k own = elim (cases_lt n g.callers) [
+    | inl caller ↦
+        let h = ledger-idle n caller in
+        let below : n < parties_of scene.about.config = subst (λ (c : Config). n < parties_of c) (sym config) (omega (arith, caller)) in
+        ap (count_of n k) (sym (shard-of-key k own)) ∙ (ends.pact.counted.parties n k below
+        ∙ subst (λ (x : List Ptr × List Key). holds_on k x.0 + readings_of k x.1 ≡ 0) (λ q. (sym h.holds q, sym h.readings q)) refl)
+    | inr above ↦ elim (cases_lt n (numbers_of g)) [
+      | inl other ↦ other-none n k above other
+      | inr none ↦
+          let beyond : numbers_of scene.about.config ≤ n = subst (λ (c : Config). numbers_of c ≤ n) (sym config) none in
+          ap (count_of n k) (sym (shard-of-key k own)) ∙ ends.pact.counted.others n k beyond
+    ]
+  ]
+
+  -- nothing is picked
+  nothing-picked : l.now.picked ≡ []
+  nothing-picked = ap (λ (s : PlainShard). s.picked) (sym replay-is) ∙ none-picked g.callers (opening_of g) l.history reads refl
+
+  pub closed-rests : IsAtRest l.now
+  closed-rests = rests-where-none l.now sound.replayed.sound nothing-picked
+      (λ n k x is. ap (λ (o : Option Entry). option_map_or (held_by n) o 0) (sym is) ∙ no-count n k (own-key k x is))

@@ -1,0 +1,7 @@
+pub mod CallerLines
+pub mod Callers
+pub mod Group
+pub mod GroupRun
+pub mod Groups
+pub mod InOrder
+pub mod Together

@@ -1,0 +1,53 @@
+-- The run of a trace with several callers over the shared cache.
+use Rattle.std.specs.Prelude.{◌≡◌, ◌<◌, ◌^◌, ◌+◌, ℕ, Bool, true, List, [], Option, length, sum_by}
+use mathlib.Core.Option.{some}
+use lib.ListN.{get_elem?}
+use Rattle.arc_core.specs.declared.event.Event.{Event}
+use Rattle.arc_core.specs.declared.served.Restored.{Restored}
+use Rattle.arc_core.specs.Operations.{Act, pool_reads}
+use Rattle.turn_table.specs.Places.{Place}
+use Rattle.arc_table.specs.declared.view.Known.{Known}
+use Rattle.arc_table.specs.declared.view.Line.{Line}
+use Rattle.arc_table.specs.Cache.{Cache}
+use Rattle.arc_table.specs.Ended.{Ended, Ends}
+use Rattle.arc_table.specs.Geometry.{parties_of}
+use Rattle.arc_table.specs.Items.{Meanings}
+use Rattle.trace_text.specs.declared.rebuilt.Rebuilt.{Rebuilt}
+use Rattle.trace_text.specs.declared.reply.Reply.{Reply}
+use Rattle.trace_text.specs.declared.trace.Trace.{Trace}
+use Rattle.vdev_io.specs.declared.pool.Pool.{Ghosts}
+use Rattle.vdev_io.specs.Faults.{Rose}
+use Rattle.trace_run.specs.declared.groups.Crew.{Crew}
+use Rattle.trace_run.specs.one_caller.Alone.{ends_in, histories_of}
+use Rattle.trace_run.specs.Answers.{AnswersAll}
+use Rattle.trace_run.specs.Explaining.{Explain}
+use Rattle.trace_run.specs.CellEnds.{EndedCrew}
+use Rattle.trace_run.specs.KeptBlocks.{StandsWith}
+use Rattle.trace_run.specs.Meeting.{AreWaiting, HaveGivenBack, IsFed}
+use Rattle.trace_run.specs.Restores.{restored_of}
+use Rattle.trace_run.specs.callers.Together.{RunsTogether, StopsAtGroup, answered_ops, faults_told, report_of_closed}
+
+-- all parties of a cache, by their numbers, none of which keeps anything, and which have seen these entries of cells
+pub record HaveStopped {C : Type 0} (entries : ℕ → List Line) (cache : Cache) (ps : List (Place (Known C))) : Type 0 where
+  pub count : length ps ≡ parties_of cache.config
+  pub each : (n : ℕ) (p : Place (Known C)) → get_elem? ps n ≡ some p → (p.number ≡ n) × StandsWith entries cache p []
+
+-- The callers gave back what they kept, the feeder ended all cells, and the cache was closed with these parties.
+pub record HaveClosed {C : Type 0} (m : Meanings C) (cache : Cache) (crew : Crew C) (closed : Ended C) : Type 0 where
+  pub parties : List (Place (Known C))
+  pub closing : List (Place (Known C))
+  pub gave : (acts : ℕ → List Act) → AreWaiting cache acts 0 crew.kept.items crew.parties.items → (openings : List (List ℕ)) (feeds since : (shard : ℕ) → List Event) → IsFed cache openings feeds since crew.feeder
+      → HaveGivenBack cache acts openings feeds since crew.kept.items parties
+  pub ended : EndedCrew cache parties closing
+  pub ends : Ends m cache closing closed
+
+-- The operations of several callers were answered, and the histories of the closed cache explain the replies and the reads of the pool; or a
+-- fork of the pool failed, and those before its group were.
+pub record RanTogether {C P : Type 0} (pools : Ghosts P) (before after : P) (trace : Trace) (fork_failed : Bool) (restored : List Restored) (replies : List Reply) (closed : Ended C) : Type 0 where
+  pub answers : AnswersAll (pools.size before) (pools.told before) trace.blocks (answered_ops trace fork_failed replies) replies
+  pub config : closed.config ≡ trace.config
+  pub explained : Explain trace restored replies (ends_in closed) (histories_of closed)
+  pub reads : pools.reads before < 2 ^ 63 → pools.reads after ≡ pools.reads before + sum_by pool_reads (histories_of closed)
+  pub faults : pools.faults before < 2 ^ 63 → pools.faults after ≡ pools.faults before + faults_told fork_failed replies
+  pub together : (rebuilt : Option Rebuilt) → restored_of rebuilt ≡ restored → RunsTogether pools before after trace fork_failed (report_of_closed fork_failed rebuilt replies closed)
+  pub failed : fork_failed ≡ true → Rose (pools.faults before) (pools.faults after) × StopsAtGroup trace replies

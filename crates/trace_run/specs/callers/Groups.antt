@@ -1,0 +1,127 @@
+-- Several callers between two groups of a trace: what all lines so far came to.
+use Rattle.std.specs.Prelude.{◌≡◌, ◌<◌, ◌≤◌, ◌+◌, ◌^◌, ℕ, Bool, true, false, List, [], Option, Some, None, count_by, filter, length, map, slice_get, take}
+use Rattle.std.specs.List.{AllByRecursion}
+use Rattle.blk_ptr.specs.declared.ptr.Ptr.{Ptr}
+use Rattle.turn_table.specs.Places.{Place}
+use Rattle.arc_table.specs.declared.view.Known.{Known}
+use Rattle.arc_core.specs.declared.served.Restored.{Restored}
+use Rattle.arc_table.specs.Cache.{Cache}
+use Rattle.arc_table.specs.Fronts.{StartsWith}
+use Rattle.arc_table.specs.Seen.{seen_of}
+use Rattle.trace_text.specs.declared.op.Op.{Op}
+use Rattle.trace_text.specs.declared.op.Op.TheVariants.{Cap}
+use Rattle.trace_text.specs.declared.reply.Reply.{Reply}
+use Rattle.trace_text.specs.declared.reply.Reply.TheVariants.{Capped}
+use Rattle.trace_text.specs.declared.trace.Trace.{Trace}
+use Rattle.vdev_io.specs.declared.pool.Pool.{Ghosts}
+use Rattle.vdev_io.specs.Faults.{Rose, last_count}
+use Rattle.trace_run.specs.declared.groups.Crew.{Crew}
+use Rattle.trace_run.specs.declared.kept_blocks.KeptBlock.{KeptBlock}
+use Rattle.trace_run.specs.Acts.{acts_of_lines}
+use Rattle.trace_run.specs.Answers.{is_pool_fault}
+use Rattle.trace_run.specs.Effects.{calls_of_all}
+use Rattle.trace_run.specs.callers.Group.{HaveWorked, IsAt, LeavesPool}
+use Rattle.trace_run.specs.callers.InOrder.{AreInOrder}
+use Rattle.trace_run.specs.KeptBlocks.{read_of}
+use Rattle.trace_run.specs.Lines.{caller_of, is_of_caller}
+use Rattle.trace_run.specs.Meeting.{IsFed, Resized, Waits}
+use Rattle.trace_run.specs.one_caller.OneCaller.{kept_after_all}
+use Rattle.trace_run.specs.Openings.{Knows, openings_of}
+use Rattle.trace_run.specs.one_caller.OverShards.{AreNamed}
+use Rattle.trace_run.specs.Restores.{events_by_feeder, restores_in}
+use Rattle.trace_run.specs.Tally.{AreAnswered}
+use Rattle.trace_run.specs.callers.Together.{AreCut, BeginsGroup, WorkInGroups, groups_of, over_callers, replies_of_caller}
+
+-- the lines among these that are no caller's gave a capacity, and are answered so
+abbrev pub AreCapped : List Op → List Reply → Type 0
+AreCapped ops replies = (k : ℕ) (op : Op) → slice_get ops k ≡ Some op → caller_of op ≡ None → (c : ℕ) × (op ≡ Cap c) × (slice_get replies k ≡ Some (Capped c))
+
+-- these callers keep nothing
+abbrev pub KeepNothing : List (List KeptBlock) → Type 0
+KeepNothing = AllByRecursion (λ reads. reads ≡ [])
+
+-- the reads that these callers keep hold the entries of their blocks
+abbrev pub AreNamedAll : List Ptr → List (List KeptBlock) → Type 0
+AreNamedAll blocks = AllByRecursion (λ reads. AreNamed blocks (map read_of reads))
+
+module _ {C : Type 0} where
+  -- What a caller has come to by its own lines among these: they are answered, what it did is told, and it stands by itself with what they say that
+  -- it keeps.
+  pub record HasCome (cache : Cache) (pool_len : ℕ) (image : Option (List ℕ)) (blocks : List Ptr) (ops : List Op) (n : ℕ) (replies : List Reply) (kept : List KeptBlock) (p : Place (Known C)) : Type 0 where
+    pub waits : Waits cache n (acts_of_lines blocks ops n (replies_of_caller n ops replies)) kept p
+    pub keeps : map read_of kept ≡ kept_after_all blocks [] (filter (is_of_caller n) ops) (replies_of_caller n ops replies)
+    pub answers : AreAnswered pool_len image blocks [] (filter (is_of_caller n) ops) (replies_of_caller n ops replies)
+
+  -- the caller of a number in a crew
+  pub record ComesAt (cache : Cache) (pool_len : ℕ) (image : Option (List ℕ)) (blocks : List Ptr) (ops : List Op) (replies : List Reply) (n : ℕ) (crew : Crew C) : Type 0 where
+    pub reads : List KeptBlock
+    pub party : Place (Known C)
+    pub at : IsAt n crew.kept.items crew.parties.items reads party
+    pub come : HasCome cache pool_len image blocks ops n replies reads party
+
+  -- All callers and the feeder have come to this by these lines, where these keys were restored. What the feeder has seen of each shard begins with
+  -- the restores, and is cut by the capacities among the lines.
+  pub record HaveCome (cache : Cache) (restored : List Restored) (pool_len : ℕ) (image : Option (List ℕ)) (blocks : List Ptr) (ops : List Op) (replies : List Reply) (crew : Crew C) : Type 0 where
+    pub long : length replies ≡ length ops
+    pub kepts : length crew.kept.items ≡ cache.config.callers
+    pub parties : length crew.parties.items ≡ cache.config.callers
+    pub each : (n : ℕ) → n < cache.config.callers → ComesAt cache pool_len image blocks ops replies n crew
+    pub capped : AreCapped ops replies
+    pub feeder : IsFed cache crew.feeder.own.about.openings (events_by_feeder cache.config restored ops replies) (λ shard. seen_of cache.config shard crew.feeder) crew.feeder
+    pub begun : (shard : ℕ) → shard < cache.config.shards → StartsWith (seen_of cache.config shard crew.feeder) (restores_in cache.config restored shard)
+    pub cut : (shard : ℕ) → shard < cache.config.shards → AreCut cache.config restored blocks shard ops replies (seen_of cache.config shard crew.feeder)
+
+-- what the pool counts once the callers did these lines, group by group
+pub record HaveCounted {P : Type 0} (pools : Ghosts P) (callers : ℕ) (ops : List Op) (replies : List Reply) (before now : P) : Type 0 where
+  pub keeps : LeavesPool pools before now
+  pub reads : pools.reads before < 2 ^ 63 → pools.reads now ≡ pools.reads before + over_callers callers (λ n. length (calls_of_all (replies_of_caller n ops replies)))
+  pub faults : pools.faults before < 2 ^ 63 → pools.faults now ≡ pools.faults before + over_callers callers (λ n. count_by is_pool_fault (replies_of_caller n ops replies))
+
+-- The callers stand between two groups of a trace, of which so many lines are answered.
+pub record AreBetween {C P : Type 0} (cache : Cache) (restored : List Restored) (pools : Ghosts P) (trace : Trace) (before now : P) (replies : List Reply) (crew : Crew C) : Type 0 where
+  pub few : length replies ≤ length trace.ops
+  pub begins : length replies < length trace.ops → BeginsGroup trace.ops (length replies)
+  pub come : HaveCome cache restored (pools.size before) (pools.told before) trace.blocks (take (length replies) trace.ops) replies crew
+  -- the feeder knows how the cells began
+  pub knows : Knows (openings_of trace) crew.feeder
+  pub counted : HaveCounted pools cache.config.callers (take (length replies) trace.ops) replies before now
+  pub groups : WorkInGroups pools cache.config.callers (groups_of (take (length replies) trace.ops) replies) before now
+
+-- the lines of a group were done at once, and these are the replies to them in their order
+pub record DidLinesAtOnce {C P : Type 0} (cache : Cache) (pools : Ghosts P) (blocks : List Ptr) (ops : List Op) (before after : P) (old new : Crew C) (replies : List Reply) : Type 0 where
+  pub own : List (List Reply)
+  pub worked : HaveWorked cache pools blocks ops (length old.parties.items) before after own old.kept.items old.parties.items new.kept.items new.parties.items
+  pub ordered : AreInOrder ops own replies
+  pub feeder : new.feeder ≡ old.feeder
+
+-- a line that ends a group was done, and this is the reply
+pub record DidEndLine {C : Type 0} (cache : Cache) (op : Op) (old new : Crew C) (reply : Reply) : Type 0 where
+  pub c : ℕ
+  pub is : op ≡ Cap c
+  pub answer : reply ≡ Capped c
+  pub resized : Resized cache c old.feeder old.parties.items new.feeder new.parties.items
+  pub kept : new.kept.items ≡ old.kept.items
+
+-- a fork of the pool failed: the pool has counted that, and nothing else has changed but counts
+pub record ForkFailed {P : Type 0} (pools : Ghosts P) (before after : P) : Type 0 where
+  pub keeps : LeavesPool pools before after
+  pub reads : pools.reads before ≤ last_count → pools.reads after ≡ pools.reads before
+  pub faults : pools.faults before < last_count → pools.faults after ≡ pools.faults before + 1
+  pub rose : Rose (pools.faults before) (pools.faults after)
+
+-- All lines of the trace were done; or a fork of the pool failed before the group of the first line that isn't answered.
+pub record AreDone {C P : Type 0} (cache : Cache) (restored : List Restored) (pools : Ghosts P) (trace : Trace) (before after : P) (fork_failed : Bool) (replies : List Reply) (crew : Crew C) : Type 0 where
+  pub reached : P
+  pub between : AreBetween cache restored pools trace before reached replies crew
+  pub whole : fork_failed ≡ false → (length replies ≡ length trace.ops) × (after ≡ reached)
+  pub failed : fork_failed ≡ true → (length replies < length trace.ops) × ForkFailed pools reached after
+
+-- each of these lines is one of so many callers
+abbrev pub AreOfCallers : (callers : ℕ) → List Op → Type 0
+AreOfCallers callers ops = (k : ℕ) (op : Op) → slice_get ops k ≡ Some op → (n : ℕ) × (caller_of op ≡ Some n) × (n < callers)
+
+-- the next group was done, or none of it was begun, since a fork of the pool failed
+abbrev pub StepsOn : {C P : Type 0} → Cache → List Restored → Ghosts P → Trace → (start before after : P) → (replied replies : List Reply) → (done : Bool) → (old new : Crew C) → Type 0
+StepsOn cache restored pools trace start before after replied replies true old new =
+    AreBetween cache restored pools trace start after replies new × (length replied < length replies)
+StepsOn cache restored pools trace start before after replied replies false old new = (replies ≡ replied) × (new ≡ old) × ForkFailed pools before after

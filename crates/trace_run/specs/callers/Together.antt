@@ -1,0 +1,158 @@
+-- A run of several callers, group by group: which operations were answered, what each caller's work did to its forks of the pool, and what the closed
+-- cache tells.
+use Rattle.std.specs.Prelude.{◌≡◌, ℕ, zero, suc, ◌+◌, ◌<◌, ◌≤◌, ◌==◌, ◌&&◌, Bool, true, false, if◌then◌else◌, List, [], ◌∷◌, ◌++◌, Option, None, Some, count_by, length, map, slice_get, slice_index_or, sum_by, take}
+use Rattle.blk_ptr.specs.declared.ptr.Ptr.{Ptr}
+use Rattle.blk_ptr.specs.Hash.{shard_of}
+use Rattle.arc_core.specs.declared.config.Config.{Config}
+use Rattle.arc_core.specs.declared.event.Event.{Event}
+use Rattle.arc_core.specs.declared.event.Event.TheVariants.{Resize}
+use Rattle.arc_core.specs.declared.served.Restored.{Restored}
+use Rattle.arc_core.specs.Operations.{Tell, acts_in, is_pool_read, moments, number_of, own_events, own_moments}
+use Rattle.arc_table.specs.Telling.{opening_of}
+use Rattle.arc_table.specs.Ended.{Ended}
+use Rattle.trace_text.specs.declared.op.Op.{Op}
+use Rattle.trace_text.specs.declared.op.Op.TheVariants.{Read, Hold, Drop, Cap}
+use Rattle.trace_text.specs.declared.reply.Reply.{Reply}
+use Rattle.trace_text.specs.declared.rebuilt.Rebuilt.{Rebuilt}
+use Rattle.trace_text.specs.declared.report.Report.{Report}
+use Rattle.trace_text.specs.declared.trace.Trace.{Trace}
+use Rattle.vdev_io.specs.declared.pool.Pool.{Ghosts}
+use Rattle.vdev_io.specs.Faults.{last_count}
+use Rattle.trace_run.specs.Acts.{acts_of_lines}
+use Rattle.trace_run.specs.Answers.{is_pool_fault}
+use Rattle.trace_run.specs.Effects.{calls_of_all}
+use Rattle.trace_run.specs.Ends.{end_of}
+use Rattle.trace_run.specs.Lines.{is_of_caller, replies_where}
+use Rattle.trace_run.specs.one_caller.PlainRun.{status_of}
+use Rattle.trace_run.specs.Restores.{events_by_feeder, restored_of}
+use Rattle.vdev_io.specs.Calls.{MakesCalls}
+
+-- The report tells what the closed cache had: the history of each shard, and what the shard ends with.
+pub record TellsClosed {C : Type 0} (closed : Ended C) (report : Report) : Type 0 where
+  pub histories : report.histories ≡ map (λ log. log.history) closed.shards
+  pub ends : report.ends ≡ map (λ log. end_of log.now) closed.shards
+
+-- The operations that were answered: all of the trace; or, where a fork of the pool failed, those before that fork's group.
+abbrev pub answered_ops : Trace → (fork_failed : Bool) → List Reply → List Op
+answered_ops trace false replies = trace.ops
+answered_ops trace true replies = take (length replies) trace.ops
+
+-- the status of a report: 6 where a fork of the pool failed, and else 1 where some reply is a refusal, and 0
+abbrev pub report_status : (fork_failed : Bool) → List Reply → ℕ
+report_status true replies = 6
+report_status false replies = status_of replies
+
+-- how many faults of the pool are told: one for each reply that says so, and one more where a fork failed
+abbrev pub faults_told : (fork_failed : Bool) → List Reply → ℕ
+faults_told true replies = count_by is_pool_fault replies + 1
+faults_told false replies = count_by is_pool_fault replies
+
+-- the report of a run with these replies, over a shared cache that closed so, where this was found on the cache device; no workers read for callers
+abbrev pub report_of_closed : {C : Type 0} → (fork_failed : Bool) → Option Rebuilt → List Reply → Ended C → Report
+report_of_closed fork_failed rebuilt replies closed = record {
+  replies = replies;
+  histories = map (λ log. log.history) closed.shards;
+  ends = map (λ log. end_of log.now) closed.shards;
+  io = None;
+  rebuilt = rebuilt;
+  status = report_status fork_failed replies;
+  short = false;
+}
+
+-- the replies to a caller's own operations
+abbrev pub replies_of_caller : (n : ℕ) → List Op → List Reply → List Reply
+replies_of_caller n ops replies = replies_where (is_of_caller n) ops replies
+
+-- f of each of the first so many callers, added up
+abbrev pub over_callers : (callers : ℕ) → (ℕ → ℕ) → ℕ
+over_callers zero f = 0
+over_callers (suc n) f = over_callers n f + f n
+
+-- A caller's work on a pool of its own: it read that pool once for each of its replies that says so, in their order, and was answered so;
+-- and it did nothing else with it. So it was on a fork, which begins with counts of zero, or on the pool that was handed in.
+pub record Works {P : Type 0} (pool : Ghosts P) (n : ℕ) (ops : List Op) (replies : List Reply) (before after : P) : Type 0 where
+  pub made : MakesCalls pool (calls_of_all (replies_of_caller n ops replies)) before after
+
+-- how many reads of the pool a caller's events stand for, over all shards
+abbrev pub reads_of_caller : (n : ℕ) → List (List Event) → ℕ
+reads_of_caller n histories = sum_by (λ history. count_by (λ e. is_pool_read e && number_of e == n) history) histories
+
+-- ---- groups
+
+-- the line ends its group, and is done once all callers have come back
+abbrev pub ends_group : Op → Bool
+ends_group (Read n t x window) = false
+ends_group (Hold n t x) = false
+ends_group (Drop n x) = false
+ends_group other = true
+
+-- a group begins with the line of this number: it is the first line, or the one before it ends a group
+abbrev pub BeginsGroup : List Op → ℕ → Type 0
+BeginsGroup ops zero = Unit {0}
+BeginsGroup ops (suc k) = (op : Op) × (slice_get ops k ≡ Some op) × (ends_group op ≡ true)
+
+-- the replies end before a group: the line behind the last one that was answered is its first
+pub record StopsAtGroup (trace : Trace) (replies : List Reply) : Type 0 where
+  pub some : length replies < length trace.ops
+  pub begins : BeginsGroup trace.ops (length replies)
+
+-- lines with their replies
+pub record Lines : Type 0 where
+  pub ops : List Op
+  pub replies : List Reply
+
+-- one line more, before these groups
+abbrev pub with_first : Op → Reply → List Lines → List Lines
+with_first op reply [] = record { ops = op ∷ []; replies = reply ∷ [] } ∷ []
+with_first op reply (group ∷ groups) = record { ops = op ∷ group.ops; replies = reply ∷ group.replies } ∷ groups
+
+-- The groups of lines that were answered. A line that ends a group stands in none; behind the last one there is a group only where lines are.
+abbrev pub groups_of : List Op → List Reply → List Lines
+groups_of [] replies = []
+groups_of (op ∷ ops) [] = []
+groups_of (op ∷ ops) (reply ∷ replies) =
+    if ends_group op then (record { ops = []; replies = [] } ∷ groups_of ops replies) else with_first op reply (groups_of ops replies)
+
+-- Callers did their lines of a group at once, each on a fork of the pool as it was then. The pool's counts rose by what the forks counted, as far
+-- as there was room.
+pub record WorkAtOnce {P : Type 0} (pool : Ghosts P) (callers : ℕ) (group : Lines) (before after : P) : Type 0 where
+  pub forks : ℕ → P
+  pub done : ℕ → P
+  pub size : (n : ℕ) → n < callers → pool.size (forks n) ≡ pool.size before
+  pub told : (n : ℕ) → n < callers → pool.told (forks n) ≡ pool.told before
+  pub fresh : (n : ℕ) → n < callers → (pool.reads (forks n) ≡ 0) × (pool.faults (forks n) ≡ 0)
+  pub works : (n : ℕ) → n < callers → Works pool n group.ops group.replies (forks n) (done n)
+  pub reads : pool.reads before + over_callers callers (λ n. pool.reads (done n)) ≤ last_count → pool.reads after ≡ pool.reads before + over_callers callers (λ n. pool.reads (done n))
+  pub faults : pool.faults before + over_callers callers (λ n. pool.faults (done n)) ≤ last_count → pool.faults after ≡ pool.faults before + over_callers callers (λ n. pool.faults (done n))
+  pub keeps : (pool.size after ≡ pool.size before) × (pool.told after ≡ pool.told before)
+
+-- so they did these groups, one after another
+abbrev pub WorkInGroups : {P : Type 0} → Ghosts P → (callers : ℕ) → List Lines → (before after : P) → Type 0
+WorkInGroups pool callers [] before after = after ≡ before
+WorkInGroups {P} pool callers (group ∷ groups) before after = (next : P) × WorkAtOnce pool callers group before next × WorkInGroups pool callers groups next after
+
+-- In the history of a shard stands a Resize to this capacity. Before it stands all that these lines did there, and nothing else that a caller
+-- or the feeder did.
+pub record IsCut (config : Config) (restored : List Restored) (blocks : List Ptr) (shard : ℕ) (ops : List Op) (replies : List Reply) (c : ℕ) (history : List Event) : Type 0 where
+  pub front : List Event
+  pub rest : List Event
+  pub whole : history ≡ front ++ Resize config.callers c ∷ rest
+  pub callers : (n : ℕ) → n < config.callers
+      → Tell (acts_in (shard_of config.shards) shard n (acts_of_lines blocks ops n (replies_of_caller n ops replies))) (own_moments n (moments (opening_of config) front))
+  pub feeder : own_events config.callers front ≡ events_by_feeder config restored ops replies shard
+
+-- each line of these that gives a capacity cuts the history of a shard behind the lines before it
+abbrev pub AreCut : Config → List Restored → List Ptr → (shard : ℕ) → List Op → List Reply → (history : List Event) → Type 0
+AreCut config restored blocks shard lines replies history =
+    (k c : ℕ) → slice_get lines k ≡ Some (Cap c) → k < length replies → IsCut config restored blocks shard (take k lines) (take k replies) c history
+
+-- With two callers or more, each has a fork of the pool in each group, made as the group begins. Where one fails, that group isn't begun, and the
+-- pool has only counted that.
+pub record RunsTogether {P : Type 0} (pool : Ghosts P) (before after : P) (trace : Trace) (fork_failed : Bool) (report : Report) : Type 0 where
+  pub reached : P
+  pub groups : WorkInGroups pool trace.config.callers (groups_of trace.ops report.replies) before reached
+  pub whole : fork_failed ≡ false → after ≡ reached
+  -- each caller's reads of its forks are those that its events stand for
+  pub counted : (n : ℕ) → n < trace.config.callers → length (calls_of_all (replies_of_caller n trace.ops report.replies)) ≡ reads_of_caller n report.histories
+  -- a capacity is given to each shard once all lines before it are done, and before any line behind it is begun
+  pub cut : (shard : ℕ) → shard < length report.histories → AreCut trace.config (restored_of report.rebuilt) trace.blocks shard trace.ops report.replies (slice_index_or report.histories shard [])
