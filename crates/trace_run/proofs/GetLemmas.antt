@@ -37,13 +37,15 @@ use Rattle.trace_run.specs.Effects.{calls_from}
 use Rattle.trace_run.specs.KeptBlocks.{AllQuiet, IsOwnedBy, Stands, held_key, listed_all, listed_for, no_entries, times}
 use Rattle.trace_run.specs.KeptReads.{kept_read}
 use Rattle.trace_run.specs.Read.{IsMismatch}
-use Rattle.trace_run.specs.Reads.{CallsFor, DidAnswer, DidFail, DidRead, IsCauseOf, IsGot}
-use Rattle.arc_table.specs.Seen.{AddsAll, HasSeenItsOwn}
+use Rattle.trace_run.specs.Reads.{CallsFor, DidAnswer, DidFail, DidRead, IsCauseOf, IsGot, now_of}
+use Rattle.arc_table.specs.Seen.{AddsAll, HasAll, HasSeenItsOwn}
 use Rattle.trace_run.proofs.CellsLeft.{LeavesCells, leaves-seen, read-leaves}
 use Rattle.trace_run.proofs.KeptBlockLemmas.{times-append, times-middle}
 use Rattle.trace_run.proofs.ReadLemmas.{AddsFailed, AddsRead, AddsServed, read-adds, read-seen}
 use Rattle.trace_run.proofs.ReadStands.{Lists, ListsAnswer, read-lists}
 use Rattle.trace_run.proofs.ServeLemmas.{read-of}
+use Rattle.trace_run.proofs.one_caller.AskingLemmas.{AsksFor, read-asks}
+use Rattle.trace_run.specs.one_caller.Asking.{AsksGot}
 
 -- ---- what the caller stands with
 
@@ -99,26 +101,26 @@ module _ {C : Type 0} (cache : Cache) (p q : Place (Known C)) (kept : List KeptB
 -- ---- what was done
 
 module _ {C P D : Type 0} (m : Meanings C) (g : Config) (valid : IsConfig g) (pools : PoolGhosts P) (devices : DeviceGhosts D) (ptr : Ptr) (t size : ℕ) (p q : Place (Known C)) where
-  pub did-answer : (from : Served) → AddsServed m g valid pools devices ptr t size from p q → DidAnswer g size t ptr from p q
+  pub did-answer : (from : Served) → AddsServed m g valid pools devices ptr t from p q → DidAnswer g size t ptr from p q
   did-answer from a = record {
     act = record {
       made = a.ms;
       own = a.moves.own;
       act_is = record { events = a.events; digests = a.digests };
-      alone = λ x. subst (λ (es : List Event). AddsAll g _ es p q) (a.alone x).0 (a.moves.alone x.all);
+      alone = λ x. subst (λ (es : List Event). AddsAll g _ es p q) (a.alone x).0 (a.moves.alone x);
       all = a.moves.all;
       joined = a.moves.joined;
     };
     source = λ x. (a.alone x).1;
   }
 
-  pub did-fail : AddsFailed m g valid pools devices ptr t size p q → DidFail g size t ptr p q
+  pub did-fail : AddsFailed m g valid pools devices ptr t p q → DidFail g size t ptr p q
   did-fail a = record {
     act = record {
       made = a.ms;
       own = a.moves.own;
       act_is = record { events = a.events; digests = a.digests };
-      alone = λ x. subst (λ (es : List Event). AddsAll g _ es p q) (a.alone x).0 (a.moves.alone x.all);
+      alone = λ x. subst (λ (es : List Event). AddsAll g _ es p q) (a.alone x).0 (a.moves.alone x);
       all = a.moves.all;
       joined = a.moves.joined;
     };
@@ -229,14 +231,34 @@ module _ {C P D : Type 0} (m : Meanings C) (cache : Cache) (pools : PoolGhosts P
   left : LeavesCells cache.config p q
   left = read-leaves m cache.config stands.valid pools devices ptr t before now p q result stands.of.config answer
 
-  pub adds : AddsRead m cache.config stands.valid pools devices ptr t size p q result
-  adds = read-adds m cache.config stands.valid pools devices ptr t size before now p q result refl stands.of.config stands.seen answer
+  pub adds : AddsRead m cache.config stands.valid pools devices ptr t p q result
+  adds = read-adds m cache.config stands.valid pools devices ptr t before now p q result stands.of.config stands.seen answer
 
   seen : HasSeenItsOwn cache.config q
-  seen = read-seen m cache.config stands.valid pools devices ptr t size p q result stands.seen adds
+  seen = read-seen m cache.config stands.valid pools devices ptr t p q result stands.seen adds
 
   pub lists : ListsAnswer ptr p q result
   lists = read-lists m cache.config stands.valid pools devices ptr t before now p q result stands.of.config answer
+
+  -- what a party that is alone asked the device for
+  module _ (law : (dev : D) (image : List ℕ) → devices.told dev ≡ Some image → length image ≡ devices.size dev) (all : HasAll p) where
+    abbrev there : PlainShard
+    there = now_of cache.config (shard_of cache.config.shards ptr.key) p
+
+    asks : AsksFor m cache.config stands.valid pools devices law ptr t there result before.device now.device
+    asks = read-asks m cache.config stands.valid pools devices law ptr t before now p q result stands.of.config stands.seen all answer
+
+    pub got-asks : (r : Result Read ReadFault) → result ≡ r → AsksFor m cache.config stands.valid pools devices law ptr t there r before.device now.device
+    got-asks r is = subst (λ (x : Result Read ReadFault). AsksFor m cache.config stands.valid pools devices law ptr t there x before.device now.device) is asks
+
+    pub fault-asks : (why : ReadFault) → result ≡ Err why → AsksGot devices there ptr (Err why) before.device now.device
+    fault-asks why is = go why (got-asks (Err why) is)
+      where
+        go : (w : ReadFault) → AsksFor m cache.config stands.valid pools devices law ptr t there (Err w) before.device now.device → AsksGot devices there ptr (Err w) before.device now.device
+        go (fault.PoolFault) a = a
+        go (fault.Mismatch found) a = a
+        go (fault.Key key) a = a
+        go (fault.NoMemory) a = a
 
   module _ (hold : Hold) (from : Served) (is : result ≡ Ok (gave.Held hold from)) where
     held-lists : ListsAnswer ptr p q (Ok (gave.Held hold from))
@@ -246,7 +268,7 @@ module _ {C P D : Type 0} (m : Meanings C) (cache : Cache) (pools : PoolGhosts P
     held-stands = stands-held cache p q kept stands left seen block ptr hold held-lists.1 held-lists.0
 
     pub held-did : DidAnswer cache.config size t ptr from p q
-    held-did = did-answer m cache.config stands.valid pools devices ptr t size p q from (subst (AddsRead m cache.config stands.valid pools devices ptr t size p q) is adds)
+    held-did = did-answer m cache.config stands.valid pools devices ptr t size p q from (subst (AddsRead m cache.config stands.valid pools devices ptr t p q) is adds)
 
     pub held-got : IsGot (pools.told before.pool) block ptr (record { served = from; read = record { block = block; kept = Held hold } })
     held-got = go from (subst (PoolDid pools ptr before.pool now.pool) is (pool-did m pools devices cache.config ptr t before now p q result answer))
@@ -263,16 +285,16 @@ module _ {C P D : Type 0} (m : Meanings C) (cache : Cache) (pools : PoolGhosts P
   pub past-stands : Lists [] p q → (b : KeptBlock) → listed_for b.kept ≡ [] → IsOwnedBy p.number b.kept → Stands cache q (kept ++ b ∷ [])
   past-stands same b none owned = stands-more cache p q kept stands left seen b owned (subst (λ (l : List Ptr). Lists l p q) (sym none) same)
 
-  pub past-did : AddsServed m cache.config stands.valid pools devices ptr t size served.Past p q → DidAnswer cache.config size t ptr served.Past p q
+  pub past-did : AddsServed m cache.config stands.valid pools devices ptr t served.Past p q → DidAnswer cache.config size t ptr served.Past p q
   past-did a = did-answer m cache.config stands.valid pools devices ptr t size p q served.Past a
 
   pub fault-stands : (why : ReadFault) → result ≡ Err why → Stands cache q kept
   fault-stands why is = stands-same cache p q kept stands left seen (subst (ListsAnswer ptr p q) is lists)
 
   pub fault-did : (why : ReadFault) → result ≡ Err why → DidRead cache.config size t ptr p q (Err why)
-  fault-did why is = go why (subst (AddsRead m cache.config stands.valid pools devices ptr t size p q) is adds)
+  fault-did why is = go why (subst (AddsRead m cache.config stands.valid pools devices ptr t p q) is adds)
     where
-      go : (w : ReadFault) → AddsRead m cache.config stands.valid pools devices ptr t size p q (Err w) → DidRead cache.config size t ptr p q (Err w)
+      go : (w : ReadFault) → AddsRead m cache.config stands.valid pools devices ptr t p q (Err w) → DidRead cache.config size t ptr p q (Err w)
       go (fault.PoolFault) a = did-fail m cache.config stands.valid pools devices ptr t size p q a
       go (fault.Mismatch found) a = did-fail m cache.config stands.valid pools devices ptr t size p q a
       go (fault.Key why) a = a

@@ -39,7 +39,7 @@ use Rattle.trace_text.specs.declared.reply.Reply.{Reply}
 use Rattle.trace_text.specs.declared.reply.Reply.TheVariants.{Dropped, Refused}
 use Rattle.trace_run.specs.KeptReads.{KeptRead}
 use Rattle.trace_run.specs.one_caller.Access as access
-use Rattle.trace_run.specs.one_caller.Access.{Access, events_of_answered, events_of_drop, held_key as access_key, source_of}
+use Rattle.trace_run.specs.one_caller.Access.{Access, MayComeFrom, events_of_answered, events_of_drop, held_key as access_key}
 use Rattle.trace_run.specs.Acts.{acts_of, acts_of_drop, acts_of_dropping, acts_of_hold, acts_of_read}
 use Rattle.trace_run.specs.Answering.{KeepsImage, ReadsImage}
 use Rattle.trace_run.specs.Answers.{AnswersDrop, AnswersHold, AnswersRead}
@@ -49,7 +49,7 @@ use Rattle.trace_run.specs.KeptBlocks.{Drops, GivesBack, IsOwnedBy, held_key}
 use Rattle.trace_run.specs.Lines.{is_in_shard, shard_of_block}
 use Rattle.trace_run.specs.one_caller.OneCaller.{NamesSource, events_of, events_of_dropping, events_of_hold, events_of_read, events_there, is_of_block, kept_after, kept_after_drop, kept_after_hold, key_held_by, oldest_key, without_oldest}
 use Rattle.trace_run.specs.one_caller.OverShards.{AreNamed, IsNamed}
-use Rattle.trace_run.specs.Reads.{CameFromPool, DidAct, DidActs, DidAnswer, DidRead, IsAlone, IsRefused, access_now, now_of}
+use Rattle.trace_run.specs.Reads.{CameFromPool, DidAct, DidActs, DidAnswer, DidRead, IsRefused, access_now, now_of}
 use Rattle.arc_table.specs.Seen.{AddsAll, HasSeenItsOwn, seen_of}
 use Rattle.trace_run.specs.Tally.{kept_of_block}
 use Rattle.arc_table.specs.Told.{IsTold}
@@ -85,7 +85,7 @@ module _ {C : Type 0} (g : Config) (device : ℕ) (p q : Place (Known C)) where
     shard = shard_of g.shards ptr.key
 
     -- a read that was kept, and one that was refused
-    pub hold-did : (from : Served) → DidAnswer g device t ptr from p q → DidActs g device shard (Keeps p.number t ptr from ∷ []) (events_of_answered p.number t ptr (access_now g ptr p)) p q
+    pub hold-did : (from : Served) → DidAnswer g device t ptr from p q → DidActs g device shard (Keeps p.number t ptr from ∷ []) (events_of_answered p.number t ptr from (access_now g ptr p)) p q
     hold-did from did = acts-one (Keeps p.number t ptr from) _ refl did.act
 
     pub hold-refused : (why : ReadFault) (refusal : Refusal) → IsRefused why refusal → DidRead g device t ptr p q (Err why)
@@ -105,31 +105,33 @@ module _ {C : Type 0} (g : Config) (device : ℕ) (p q : Place (Known C)) where
 -- ---- a read whose hold is given back at once
 
 -- what a read holds that is alone
-source-key : (ptr : Ptr) (a : Access) → key_held_by ptr (source_of a) ≡ access_key ptr a
-source-key ptr access.Hit = refl
-source-key ptr (access.Past kept) = refl
-source-key ptr access.Miss = refl
+source-key : (ptr : Ptr) (a : Access) (from : Served) → MayComeFrom a from → key_held_by ptr from ≡ access_key ptr a
+source-key ptr access.Hit from is = ap (key_held_by ptr) is
+source-key ptr (access.Past kept) from is = ap (key_held_by ptr) is
+source-key ptr access.Miss from is = elim is [
+  | inl pool ↦ ap (key_held_by ptr) pool
+  | inr l2 ↦ ap (key_held_by ptr) l2
+]
 
 module _ {C : Type 0} (m : Meanings C) (g : Config) (valid : IsConfig g) (device t : ℕ) (ptr : Ptr) (p r q : Place (Known C)) (config : r.own.about.config ≡ g) (seen : HasSeenItsOwn g r) where
   abbrev here : ℕ
   here = shard_of g.shards ptr.key
 
-  abbrev events : List Event
-  events = events_of_answered p.number t ptr (access_now g ptr p) ++ events_of_drop p.number (access_key ptr (access_now g ptr p))
+  abbrev events : Served → List Event
+  events from = events_of_answered p.number t ptr from (access_now g ptr p) ++ events_of_drop p.number (access_key ptr (access_now g ptr p))
 
   -- a block that nothing holds is let go
-  read-loose : (from : Served) → None ≡ key_held_by ptr from → DidAnswer g device t ptr from p r → q ≡ r → DidAct g device (Reads p.number t ptr from) events p q
+  read-loose : (from : Served) → None ≡ key_held_by ptr from → DidAnswer g device t ptr from p r → q ≡ r → DidAct g device (Reads p.number t ptr from) (events from) p q
   read-loose served.Hit none did is = cc
   read-loose served.Pool none did is = cc
   read-loose served.L2 none did is = cc
-  read-loose served.Past none did is = subst (DidAct g device (Reads p.number t ptr served.Past) events p) (sym is) (record {
+  read-loose served.Past none did is = subst (DidAct g device (Reads p.number t ptr served.Past) (events served.Past) p) (sym is) (record {
     made = did.act.made;
     own = did.act.own;
     act_is = record { events = did.act.act_is.events; digests = did.act.act_is.digests };
     alone = λ a. subst (λ (es : List Event). AddsAll g here es p r)
-        (sym (ap (λ (o : Option Key). events_of_answered p.number t ptr (access_now g ptr p) ++ events_of_drop p.number o)
-        (sym (source-key ptr (access_now g ptr p)) ∙ ap (key_held_by ptr) (sym (did.source a)))
-        ∙ append-nil (events_of_answered p.number t ptr (access_now g ptr p))))
+        (sym (ap (λ (o : Option Key). events_of_answered p.number t ptr served.Past (access_now g ptr p) ++ events_of_drop p.number o) (sym (source-key ptr (access_now g ptr p) served.Past (did.source a)))
+        ∙ append-nil (events_of_answered p.number t ptr served.Past (access_now g ptr p))))
         (did.act.alone a);
     all = did.act.all;
     joined = did.act.joined;
@@ -143,7 +145,7 @@ module _ {C : Type 0} (m : Meanings C) (g : Config) (valid : IsConfig g) (device
   served-drop served.L2 is ms s h = map-append (λ (x : Moment). x.event) ms _ ∙ ap (λ (l : List Event). l ++ Drop p.number ptr.key ∷ []) h
   served-drop served.Past is ms s h = cc
 
-  read-held : (from : Served) → Some ptr.key ≡ key_held_by ptr from → DidAnswer g device t ptr from p r → Does m g ptr.key (Drop p.number ptr.key ∷ []) r q → DidAct g device (Reads p.number t ptr from) events p q
+  read-held : (from : Served) → Some ptr.key ≡ key_held_by ptr from → DidAnswer g device t ptr from p r → Does m g ptr.key (Drop p.number ptr.key ∷ []) r q → DidAct g device (Reads p.number t ptr from) (events from) p q
   read-held from key did d =
       let number : r.number ≡ p.number = did.act.own.number in
       let drop : Moves g here (moment d.before.now (Drop p.number ptr.key) ∷ []) (Drop p.number ptr.key ∷ []) r q = one-moves m g valid ptr.key r q config seen (Drop p.number ptr.key) (sym number) refl d in
@@ -155,21 +157,21 @@ module _ {C : Type 0} (m : Meanings C) (g : Config) (valid : IsConfig g) (device
           digests = all-last (IsHonest (Some ptr.digest)) did.act.made (moment d.before.now (Drop p.number ptr.key)) did.act.act_is.digests tt;
         };
         alone = λ a.
-            let held : access_key ptr (access_now g ptr p) ≡ Some ptr.key = sym (source-key ptr (access_now g ptr p)) ∙ (ap (key_held_by ptr) (sym (did.source a)) ∙ sym key) in
-            subst (λ (o : Option Key). AddsAll g here (events_of_answered p.number t ptr (access_now g ptr p) ++ events_of_drop p.number o) p q) (sym held)
-            (adds-all-then g here (events_of_answered p.number t ptr (access_now g ptr p)) (Drop p.number ptr.key ∷ []) p r q (did.act.alone a) (drop.alone (did.act.all a.all)));
+            let held : access_key ptr (access_now g ptr p) ≡ Some ptr.key = sym (source-key ptr (access_now g ptr p) from (did.source a)) ∙ sym key in
+            subst (λ (o : Option Key). AddsAll g here (events_of_answered p.number t ptr from (access_now g ptr p) ++ events_of_drop p.number o) p q) (sym held)
+            (adds-all-then g here (events_of_answered p.number t ptr from (access_now g ptr p)) (Drop p.number ptr.key ∷ []) p r q (did.act.alone a) (drop.alone (did.act.all a)));
         all = λ all. drop.all (did.act.all all);
         joined = drop.joined ∙ did.act.joined;
       }
 
   -- what is kept of it is given back
   pub read-given : (from : Served) (kept : Kept) → IsOwnedBy r.number kept → held_key kept ≡ key_held_by ptr from → DidAnswer g device t ptr from p r → GivesBack m g kept r q
-      → DidActs g device here (Reads p.number t ptr from ∷ []) events p q
-  read-given from (Loose key block) owned is did gives = acts-one g device p q (Reads p.number t ptr from) events refl (read-loose from is did gives)
+      → DidActs g device here (Reads p.number t ptr from ∷ []) (events from) p q
+  read-given from (Loose key block) owned is did gives = acts-one g device p q (Reads p.number t ptr from) (events from) refl (read-loose from is did gives)
   read-given from (Held hold) owned is did gives =
       let key : hold.key ≡ ptr.key = held-same ptr hold.key from is in
       let owner : hold.owner ≡ p.number = owned ∙ did.act.own.number in
-      acts-one g device p q (Reads p.number t ptr from) events refl
+      acts-one g device p q (Reads p.number t ptr from) (events from) refl
       (read-held from (sym (ap (λ (k : Key). Some k) key) ∙ is) did (subst (λ (x : ℕ × Key). Does m g x.1 (Drop x.0 x.1 ∷ []) r q) (λ i. (owner i, key i)) gives))
     where
       held-same : (ptr : Ptr) (k : Key) (from : Served) → Some k ≡ key_held_by ptr from → k ≡ ptr.key
@@ -260,7 +262,7 @@ module _ {C P : Type 0} (g : Config) (pools : Ghosts P) (device : ℕ) (blocks :
   pub read-line : (n t x : ℕ) (window : Window) (ptr : Ptr) (kept : List KeptRead) (result : Result Reply NoMemory) → n ≡ p.number → slice_get blocks x ≡ Some ptr
       → IfOk result (AnswersRead (pools.size a) (pools.told a) ptr window)
       → IfOk result (λ reply. DidActs g device (shard_of g.shards ptr.key) (acts_of_read p.number t ptr (effect_of reply)) (events_of_read p.number t (now_of g (shard_of g.shards ptr.key) p) ptr (effect_of reply)) p q)
-      → IfOk result (λ reply. IsAlone device p → NamesSource (access_now g ptr p) (effect_of reply)) → IfOk result (λ reply. CameFromPool (effect_of reply) → IfSome (pools.told a) (λ image. ReadsImage image ptr window reply))
+      → IfOk result (λ reply. HasAll p → NamesSource (access_now g ptr p) (effect_of reply)) → IfOk result (λ reply. CameFromPool (effect_of reply) → IfSome (pools.told a) (λ image. ReadsImage image ptr window reply))
       → IfOk result (λ reply. MakesCalls pools (calls_of (effect_of reply)) a b) → KeepsPool pools a b
       → IfOk result (λ reply. DidLine g pools device blocks (ops.Read n t x window) reply (at p kept a) (at q kept b))
   read-line n t x window ptr kept (Err e) his there answer did found range calls keeps = tt
@@ -279,7 +281,7 @@ module _ {C P : Type 0} (g : Config) (pools : Ghosts P) (device : ℕ) (blocks :
   pub hold-line : (n t x : ℕ) (ptr : Ptr) (kept now : List KeptRead) (result : Result Reply NoMemory) → n ≡ p.number → slice_get blocks x ≡ Some ptr
       → IfOk result (AnswersHold (pools.size a) (pools.told a) ptr) → IfOk result (λ reply. now ≡ kept_after_hold x ptr (effect_of reply) kept)
       → IfOk result (λ reply. DidActs g device (shard_of g.shards ptr.key) (acts_of_hold p.number t ptr (effect_of reply)) (events_of_hold p.number t (now_of g (shard_of g.shards ptr.key) p) ptr (effect_of reply)) p q)
-      → IfOk result (λ reply. IsAlone device p → NamesSource (access_now g ptr p) (effect_of reply)) → IfOk result (λ reply. CameFromPool (effect_of reply) → IfSome (pools.told a) (λ image. KeepsImage image ptr reply))
+      → IfOk result (λ reply. HasAll p → NamesSource (access_now g ptr p) (effect_of reply)) → IfOk result (λ reply. CameFromPool (effect_of reply) → IfSome (pools.told a) (λ image. KeepsImage image ptr reply))
       → IfOk result (λ reply. MakesCalls pools (calls_of (effect_of reply)) a b) → KeepsPool pools a b
       → IfOk result (λ reply. DidLine g pools device blocks (ops.Hold n t x) reply (at p kept a) (at q now b))
   hold-line n t x ptr kept now (Err e) his there answer is did found range calls keeps = tt
@@ -304,7 +306,7 @@ module _ {C P : Type 0} (g : Config) (pools : Ghosts P) (device : ℕ) (blocks :
       let here : shard_of g.shards k ≡ shard_of_block g.shards blocks x =
       ap (shard_of g.shards) own.2 ∙ ap (λ (o : Option Ptr). option_map_or (λ (ptr : Ptr). shard_of g.shards ptr.key) o 0) (sym own.1) in
       subst (λ (shard : ℕ). DidActs g device shard (acts_of_drop p.number (Some k)) (events_of_drop p.number (Some k)) p q) here
-      (record { number = drops.number; told = drops.told; alone = λ alone. drops.alone alone.all; all = drops.all; joined = drops.joined })
+      (record { number = drops.number; told = drops.told; alone = λ alone. drops.alone alone; all = drops.all; joined = drops.joined })
 
   drop-acts : (n x had gave : ℕ) (kept : List KeptRead) (reply : Reply) → AreNamed blocks kept → AnswersDrop had gave x reply → Drops g (oldest_key x kept) p q → (reply ≢ Dropped → oldest_key x kept ≡ None)
       → DidActs g device (shard_of_block g.shards blocks x) (acts_of_dropping p.number x kept (effect_of reply)) (events_of_dropping p.number x kept (effect_of reply)) p q

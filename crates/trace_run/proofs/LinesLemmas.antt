@@ -23,9 +23,8 @@ use Rattle.trace_run.specs.Effects.{calls_of, calls_of_all, effect_of}
 use Rattle.arc_table.specs.Telling.{opening_of}
 use Rattle.trace_run.specs.Lines.{caller_of, is_of_caller}
 use Rattle.trace_run.specs.one_caller.OneCaller.{IsFoundAs, events_there, kept_after, kept_after_all}
-use Rattle.trace_run.specs.one_caller.OverShards.{AllLinesOver, AreNamed, events_over}
-use Rattle.trace_run.specs.one_caller.PlainRun.{shards_after}
-use Rattle.trace_run.specs.Reads.{IsAlone, now_of}
+use Rattle.trace_run.specs.one_caller.OverShards.{AllLinesOver, AreNamed, events_over, shards_after}
+use Rattle.trace_run.specs.Reads.{now_of}
 use Rattle.arc_table.specs.Seen.{HasAll, seen_of}
 use Rattle.trace_run.specs.Tally.{AnswersNow, IsTally, kept_of_block}
 use Rattle.arc_table.specs.Told.{IsTold}
@@ -109,24 +108,21 @@ module _ {C P : Type 0} (g : Config) (pools : Ghosts P) (device : ℕ) (blocks :
 
   -- ---- a caller that is alone
 
-  pub all-then : (p : Place (Known C)) (q : Place (Known C)) → (HasAll p → HasAll q) → IsAlone device p → IsAlone device q
-  all-then p q more a = record { all = more a.all; none = a.none }
-
-  pub lines-all : (os : List Op) (rs : List Reply) (a b : At C P) → DidLines g pools device blocks os rs a b → IsAlone device a.party → IsAlone device b.party
-  lines-all [] [] a b did alone = subst (λ (x : At C P). IsAlone device x.party) (sym did) alone
+  pub lines-all : (os : List Op) (rs : List Reply) (a b : At C P) → DidLines g pools device blocks os rs a b → HasAll a.party → HasAll b.party
+  lines-all [] [] a b did alone = subst (λ (x : At C P). HasAll x.party) (sym did) alone
   lines-all [] (r ∷ rs) a b did alone = absurd did
   lines-all (o ∷ os) [] a b did alone = absurd did
-  lines-all (o ∷ os) (r ∷ rs) a b did alone = lines-all os rs did.0 b did.2 (all-then a.party did.0.party did.1.did.all alone)
+  lines-all (o ∷ os) (r ∷ rs) a b did alone = lines-all os rs did.0 b did.2 (did.1.did.all alone)
 
   -- what it finds after one line
-  pub line-now : (o : Op) (r : Reply) (a b : At C P) → DidLine g pools device blocks o r a b → IsAlone device a.party → (shard : ℕ)
+  pub line-now : (o : Op) (r : Reply) (a b : At C P) → DidLine g pools device blocks o r a b → HasAll a.party → (shard : ℕ)
       → now_of g shard b.party ≡ shards_after g.shards blocks (λ i. now_of g i a.party) a.kept o r shard
   line-now o r a b did alone shard =
       let es : List Event = events_there g.shards blocks shard (now_of g shard a.party) a.kept o r in
       ap (replay (opening_of g)) (did.did.alone alone shard) ∙ replay-append (opening_of g) (seen_of g shard a.party) es
 
   -- it has seen the events of its lines more, in each shard
-  pub lines-seen : (os : List Op) (rs : List Reply) (a b : At C P) → DidLines g pools device blocks os rs a b → IsAlone device a.party → (shard : ℕ)
+  pub lines-seen : (os : List Op) (rs : List Reply) (a b : At C P) → DidLines g pools device blocks os rs a b → HasAll a.party → (shard : ℕ)
       → seen_of g shard b.party ≡ seen_of g shard a.party ++ events_over g.shards blocks (λ i. now_of g i a.party) a.kept shard os rs
   lines-seen [] [] a b did alone shard = ap (λ (x : At C P). seen_of g shard x.party) did ∙ sym (append-nil (seen_of g shard a.party))
   lines-seen [] (r ∷ rs) a b did alone shard = absurd did
@@ -135,7 +131,7 @@ module _ {C P : Type 0} (g : Config) (pools : Ghosts P) (device : ℕ) (blocks :
       let next = did.0 in
       let one = did.1 in
       let now : ℕ → PlainShard = λ i. now_of g i a.party in
-      let rest = lines-seen os rs next b did.2 (all-then a.party next.party one.did.all alone) shard in
+      let rest = lines-seen os rs next b did.2 (one.did.all alone) shard in
       let same : (λ (i : ℕ). now_of g i next.party) ≡ shards_after g.shards blocks now a.kept o r = λ h i. line-now o r a next one alone i h in
       let more : List Event = events_there g.shards blocks shard (now shard) a.kept o r in
       rest
@@ -144,7 +140,7 @@ module _ {C P : Type 0} (g : Config) (pools : Ghosts P) (device : ℕ) (blocks :
       ∙ append_assoc (seen_of g shard a.party) more (events_over g.shards blocks (shards_after g.shards blocks now a.kept o r) (kept_after blocks o r a.kept) shard os rs)))
 
   -- each answered read names where its access found the bytes
-  pub lines-found : (os : List Op) (rs : List Reply) (a b : At C P) → DidLines g pools device blocks os rs a b → IsAlone device a.party
+  pub lines-found : (os : List Op) (rs : List Reply) (a b : At C P) → DidLines g pools device blocks os rs a b → HasAll a.party
       → AllLinesOver (λ s kept op reply. IsFoundAs blocks s op reply) g.shards blocks (λ i. now_of g i a.party) a.kept os rs
   lines-found [] [] a b did alone = tt
   lines-found [] (r ∷ rs) a b did alone = absurd did
@@ -152,7 +148,7 @@ module _ {C P : Type 0} (g : Config) (pools : Ghosts P) (device : ℕ) (blocks :
   lines-found (o ∷ os) (r ∷ rs) a b did alone =
       let next = did.0 in
       let one = did.1 in
-      let rest = lines-found os rs next b did.2 (all-then a.party next.party one.did.all alone) in
+      let rest = lines-found os rs next b did.2 (one.did.all alone) in
       let same : (λ (i : ℕ). now_of g i next.party) ≡ shards_after g.shards blocks (λ i. now_of g i a.party) a.kept o r = λ h i. line-now o r a next one alone i h in
       (one.found alone, subst (λ (x : (ℕ → PlainShard) × List KeptRead). AllLinesOver (λ s kept op reply. IsFoundAs blocks s op reply) g.shards blocks x.0 x.1 os rs) (λ h. (same h, one.kept h)) rest)
 

@@ -37,9 +37,9 @@ use Rattle.arc_table.specs.scans.Scanning.{ArePasses}
 use Rattle.arc_table.specs.pact.Standing.{is_cached_with}
 use Rattle.arc_table.proofs.Reached.{reached}
 use Rattle.trace_run.specs.one_caller.Access as access
-use Rattle.trace_run.specs.one_caller.Access.{Access, AsksPool, access_of, events_of_answered, events_of_refused, source_of}
+use Rattle.trace_run.specs.one_caller.Access.{Access, AsksPool, MayComeFrom, access_of, events_of_answered, events_of_refused}
 use Rattle.arc_table.specs.Telling.{opening_of}
-use Rattle.trace_run.specs.Reads.{IsAlone, access_now, now_of}
+use Rattle.trace_run.specs.Reads.{access_now, now_of}
 use Rattle.arc_table.specs.Seen.{HasSeenItsOwn, seen_of}
 use Rattle.trace_run.proofs.one_caller.AccessLemmas.{access-cached, access-missed, access-other}
 use Rattle.arc_table.proofs.MoveLemmas.{Moves, does-moves, does-now, moves-none, moves-then, one-moves, roomy-moves, roomy-now}
@@ -54,13 +54,13 @@ cached-keeps ptr s cached = go (entry_of ptr.key s) cached
     go None is = is
     go (Some e) is = and_right (is_resident e) (keeps_digest ptr.digest e) is
 
-module _ {C P D : Type 0} (m : Meanings C) (g : Config) (valid : IsConfig g) (pools : PoolGhosts P) (devices : DeviceGhosts D) (ptr : Ptr) (t size : ℕ) where
+module _ {C P D : Type 0} (m : Meanings C) (g : Config) (valid : IsConfig g) (pools : PoolGhosts P) (devices : DeviceGhosts D) (ptr : Ptr) (t : ℕ) where
   abbrev shard : ℕ
   shard = shard_of g.shards ptr.key
 
   -- ---- the parts
 
-  waits-move : (times : ℕ) (p q : Place (Known C)) → p.own.about.config ≡ g → HasSeenItsOwn g p → Waits m g ptr.key times p q → Moves g shard [] [] p q
+  pub waits-move : (times : ℕ) (p q : Place (Known C)) → p.own.about.config ≡ g → HasSeenItsOwn g p → Waits m g ptr.key times p q → Moves g shard [] [] p q
   waits-move zero p q config seen is = subst (Moves g shard [] [] p) (sym is) (moves-none g shard p config seen)
   waits-move (suc times) p q config seen w =
       let a = waits-move times p w.0 config seen w.1 in
@@ -98,7 +98,7 @@ module _ {C P D : Type 0} (m : Meanings C) (g : Config) (valid : IsConfig g) (po
     pub moves : Moves g shard ms es p q
     pub events : IsServed p.number t ptr from [] (map (λ (x : Moment). x.event) ms)
     pub digests : AllByRecursion (IsHonest (Some ptr.digest)) ms
-    pub alone : IsAlone size p → (es ≡ events_of_answered p.number t ptr (access_now g ptr p)) × (from ≡ source_of (access_now g ptr p))
+    pub alone : HasAll p → (es ≡ events_of_answered p.number t ptr from (access_now g ptr p)) × MayComeFrom (access_now g ptr p) from
 
   -- one for which the pool failed or gave other bytes
   pub record AddsFailed (p q : Place (Known C)) : Type 0 where
@@ -107,7 +107,7 @@ module _ {C P D : Type 0} (m : Meanings C) (g : Config) (valid : IsConfig g) (po
     pub moves : Moves g shard ms es p q
     pub events : AreEvents (Fails p.number t ptr) (map (λ (x : Moment). x.event) ms)
     pub digests : AllByRecursion (IsHonest (Some ptr.digest)) ms
-    pub alone : IsAlone size p → (es ≡ events_of_refused p.number t ptr (access_now g ptr p)) × AsksPool (access_now g ptr p)
+    pub alone : HasAll p → (es ≡ events_of_refused p.number t ptr (access_now g ptr p)) × AsksPool (access_now g ptr p)
 
   -- of want of memory only that the party has seen its own
   abbrev pub AddsAnswer : Place (Known C) → Place (Known C) → Result Read ReadFault → Type 0
@@ -121,7 +121,7 @@ module _ {C P D : Type 0} (m : Meanings C) (g : Config) (valid : IsConfig g) (po
   -- a miss has begun with these events
   record Begun (s : PlainShard) (es : List Event) (p r : Place (Known C)) : Type 0 where
     pub moves : Moves g shard (moment s (Miss p.number ptr.key t) ∷ []) es p r
-    pub alone : IsAlone size p → (es ≡ Miss p.number ptr.key t ∷ []) × (access_now g ptr p ≡ access.Miss)
+    pub alone : HasAll p → (es ≡ Miss p.number ptr.key t ∷ []) × (access_now g ptr p ≡ access.Miss)
 
   -- a miss and then the event that ended it
   ended : (s : PlainShard) (es : List Event) (p back q : Place (Known C)) → Begun s es p back → (e : Event) → number_of e ≡ back.number → is_pass e ≡ false
@@ -130,7 +130,7 @@ module _ {C P D : Type 0} (m : Meanings C) (g : Config) (valid : IsConfig g) (po
       moves-then g shard (moment s (Miss p.number ptr.key t) ∷ []) (moment d.before.now e ∷ []) es (e ∷ []) p back q begun.moves (one-move e back q begun.moves.config begun.moves.seen his none d)
 
   -- the events of a party that is alone
-  alone-ended : (s : PlainShard) (es : List Event) (p back : Place (Known C)) → Begun s es p back → IsAlone size p → (e : ℕ → Event) → es ++ e back.number ∷ [] ≡ Miss p.number ptr.key t ∷ (e p.number ∷ [])
+  alone-ended : (s : PlainShard) (es : List Event) (p back : Place (Known C)) → Begun s es p back → HasAll p → (e : ℕ → Event) → es ++ e back.number ∷ [] ≡ Miss p.number ptr.key t ∷ (e p.number ∷ [])
   alone-ended s es p back begun a e = ap (λ (l : List Event). l ++ e back.number ∷ []) (begun.alone a).0 ∙ ap (λ (n : ℕ). Miss p.number ptr.key t ∷ (e n ∷ [])) begun.moves.own.number
 
   pool-failed : (s : PlainShard) (es : List Event) (p back q : Place (Known C)) → Begun s es p back → Does m g ptr.key (Fail back.number ptr.key failed.Pool ∷ []) back q → AddsFailed p q
@@ -155,7 +155,7 @@ module _ {C P D : Type 0} (m : Meanings C) (g : Config) (valid : IsConfig g) (po
     digests = (tt, (tt, tt));
     alone = λ a.
         let is = (begun.alone a).1 in
-        (alone-ended s es p back begun a (λ n. Arrive n ptr.key ptr.digest origin.Pool) ∙ ap (events_of_answered p.number t ptr) (sym is), sym (ap source_of is));
+        (alone-ended s es p back begun a (λ n. Arrive n ptr.key ptr.digest origin.Pool) ∙ ap (events_of_answered p.number t ptr served.Pool) (sym is), subst (λ (a : Access). MayComeFrom a served.Pool) (sym is) (inl refl));
   }
   pool-adds old new s es p back q (Ok (gave.Held hold served.Hit)) begun h = absurd h
   pool-adds old new s es p back q (Ok (gave.Held hold served.L2)) begun h = absurd h
@@ -167,7 +167,7 @@ module _ {C P D : Type 0} (m : Meanings C) (g : Config) (valid : IsConfig g) (po
   pool-adds old new s es p back q (Err (fault.NoMemory)) begun h = (ended s es p back q begun (Fail back.number ptr.key failed.Pool) refl refl h.0).seen
 
   past-failed : (kept : Digest) (p q : Place (Known C)) → p.own.about.config ≡ g → HasSeenItsOwn g p → kept ≢ ptr.digest
-      → (d : Does m g ptr.key (Past p.number ptr.key kept ∷ []) p q) → (IsAlone size p → access_now g ptr p ≡ access.Past kept) → AddsFailed p q
+      → (d : Does m g ptr.key (Past p.number ptr.key kept ∷ []) p q) → (HasAll p → access_now g ptr p ≡ access.Past kept) → AddsFailed p q
   past-failed kept p q config seen other d alone = record {
     ms = _;
     es = _;
@@ -178,14 +178,14 @@ module _ {C P D : Type 0} (m : Meanings C) (g : Config) (valid : IsConfig g) (po
   }
 
   past-adds : (old new : P) (kept : Digest) (p q : Place (Known C)) (result : Result Read ReadFault) → p.own.about.config ≡ g → HasSeenItsOwn g p → kept ≢ ptr.digest
-      → (d : Does m g ptr.key (Past p.number ptr.key kept ∷ []) p q) → (IsAlone size p → access_now g ptr p ≡ access.Past kept) → EndsPast pools ptr kept old new result → AddsAnswer p q result
+      → (d : Does m g ptr.key (Past p.number ptr.key kept ∷ []) p q) → (HasAll p → access_now g ptr p ≡ access.Past kept) → EndsPast pools ptr kept old new result → AddsAnswer p q result
   past-adds old new kept p q (Ok (gave.Past block digest)) config seen other d alone h = record {
     ms = _;
     es = _;
     moves = one-move (Past p.number ptr.key kept) p q config seen refl refl d;
     events = (kept, refl);
     digests = (other, tt);
-    alone = λ a. (ap (events_of_answered p.number t ptr) (sym (alone a)), sym (ap source_of (alone a)));
+    alone = λ a. (ap (events_of_answered p.number t ptr served.Past) (sym (alone a)), subst (λ (a : Access). MayComeFrom a served.Past) (sym (alone a)) refl);
   }
   past-adds old new kept p q (Ok (gave.Held hold from)) config seen other d alone h = absurd h
   past-adds old new kept p q (Err (fault.PoolFault)) config seen other d alone h = past-failed kept p q config seen other d alone
@@ -207,52 +207,53 @@ module _ {C P D : Type 0} (m : Meanings C) (g : Config) (valid : IsConfig g) (po
     alone = λ a. (append-nil es ∙ (begun.alone a).0, (begun.alone a).1);
   }
 
-  miss-adds : 0 < ptr.key.size → (before now : Outside P D) (s : PlainShard) (es : List Event) (found : Option EntryView) (p r q : Place (Known C)) (result : Result Read ReadFault) → devices.size before.device ≡ size
-      → Begun s es p r → EndsMiss m pools devices g ptr found before now r q result → AddsAnswer p q result
-  miss-adds sized before now s es found p r q result long begun (from_device hold is a) = subst (AddsAnswer p q) (sym is) (record {
+  miss-adds : (before now : Outside P D) (s : PlainShard) (es : List Event) (found : Option EntryView) (p r q : Place (Known C)) (result : Result Read ReadFault) → Begun s es p r → EndsMiss m pools devices g ptr found before now r q result → AddsAnswer p q result
+  miss-adds before now s es found p r q result begun (from_device hold is a) = subst (AddsAnswer p q) (sym is) (record {
     ms = _;
     es = _;
     moves = ended s es p r q begun (Arrive r.number ptr.key ptr.digest origin.L2) refl refl a.does;
     events = ap (λ (n : ℕ). Miss p.number ptr.key t ∷ (Arrive n ptr.key ptr.digest origin.L2 ∷ [])) begun.moves.own.number;
     digests = (tt, (tt, tt));
-    alone = λ x. let inside = a.bytes.asked.due.inside in let none = x.none in absurd (omega arith);
+    alone = λ x.
+        let is = (begun.alone x).1 in
+        (alone-ended s es p r begun x (λ n. Arrive n ptr.key ptr.digest origin.L2) ∙ ap (events_of_answered p.number t ptr served.L2) (sym is), subst (λ (a : Access). MayComeFrom a served.L2) (sym is) (inr refl));
   })
-  miss-adds sized before now s es found p r q result long begun (from_pool back turns goes) =
+  miss-adds before now s es found p r q result begun (from_pool back turns goes) =
       goes-adds before.pool now.pool s (es ++ []) p back q result (turned s es p r back begun (turn-move found before.device now.device r back begun.moves.config begun.moves.seen turns)) goes
-  miss-adds sized before now s es found p r q result long begun (from_none asked f) = subst (AddsAnswer p q) (sym f.answer) (unread-seen _ r q begun.moves.config begun.moves.seen refl refl f.does)
+  miss-adds before now s es found p r q result begun (from_none asked f) = subst (AddsAnswer p q) (sym f.answer) (unread-seen _ r q begun.moves.config begun.moves.seen refl refl f.does)
 
-  answer-adds : 0 < ptr.key.size → (before now : Outside P D) (p q : Place (Known C)) (result : Result Read ReadFault) → devices.size before.device ≡ size → p.own.about.config ≡ g → HasSeenItsOwn g p
+  answer-adds : (before now : Outside P D) (p q : Place (Known C)) (result : Result Read ReadFault) → p.own.about.config ≡ g → HasSeenItsOwn g p
       → Answers m pools devices g ptr t before now p q result → AddsAnswer p q result
-  answer-adds sized before now p q result long config seen (hit hold is d cached held same) = subst (AddsAnswer p q) (sym is) (record {
+  answer-adds before now p q result config seen (hit hold is d cached held same) = subst (AddsAnswer p q) (sym is) (record {
     ms = _;
     es = _;
     moves = one-move (Hit p.number ptr.key t) p q config seen refl refl d;
     events = refl;
     digests = (cached-keeps ptr d.before.now cached, tt);
     alone = λ a.
-        let is_hit = access-then p d.before.now access.Hit (does-now m g valid ptr.key p q config seen (Hit p.number ptr.key t ∷ []) (own-single p.number (Hit p.number ptr.key t) refl refl) d a.all) (access-cached ptr d.before.now cached) in
-        (ap (events_of_answered p.number t ptr) (sym is_hit), sym (ap source_of is_hit));
+        let is_hit = access-then p d.before.now access.Hit (does-now m g valid ptr.key p q config seen (Hit p.number ptr.key t ∷ []) (own-single p.number (Hit p.number ptr.key t) refl refl) d a) (access-cached ptr d.before.now cached) in
+        (ap (events_of_answered p.number t ptr served.Hit) (sym is_hit), subst (λ (a : Access). MayComeFrom a served.Hit) (sym is_hit) refl);
   })
-  answer-adds sized before now p q result long config seen (missed r d missing ends) = miss-adds sized before now (replay d.before.now d.makes.passes) _ _ p r q result long
+  answer-adds before now p q result config seen (missed r d missing ends) = miss-adds before now (replay d.before.now d.makes.passes) _ _ p r q result
       (record {
         moves = miss-move p r config seen d;
         alone = λ a.
             let e : Event = Miss p.number ptr.key t in
             let fits : (number_of e ≡ p.number) × (is_pass e ≡ false) × IsTrue (goes_on p.number e) = (refl, refl, eq-eqb p.number p.number refl) in
-            (ap (λ (l : List Event). l ++ e ∷ []) (scan-alone m g ptr.key e p r a.all d), access-then p d.before.now access.Miss (roomy-now m g valid ptr.key p r config seen e fits d a.all) (access-missed ptr d.before.now missing));
+            (ap (λ (l : List Event). l ++ e ∷ []) (scan-alone m g ptr.key e p r a d), access-then p d.before.now access.Miss (roomy-now m g valid ptr.key p r config seen e fits d a) (access-missed ptr d.before.now missing));
       })
       ends
-  answer-adds sized before now p q result long config seen (past kept other d cached device ends) = past-adds before.pool now.pool kept p q result config seen other d
-      (λ a. access-then p d.before.now (access.Past kept) (does-now m g valid ptr.key p q config seen (Past p.number ptr.key kept ∷ []) (own-single p.number (Past p.number ptr.key kept) refl refl) d a.all) (access-other ptr kept d.before.now other cached))
+  answer-adds before now p q result config seen (past kept other d cached device ends) = past-adds before.pool now.pool kept p q result config seen other d
+      (λ a. access-then p d.before.now (access.Past kept) (does-now m g valid ptr.key p q config seen (Past p.number ptr.key kept ∷ []) (own-single p.number (Past p.number ptr.key kept) refl refl) d a) (access-other ptr kept d.before.now other cached))
       ends
-  answer-adds sized before now p q result long config seen (no_memory is d same) = subst (AddsAnswer p q) (sym is) (does-moves m g valid ptr.key p q config seen [] (own-none p.number) d).seen
+  answer-adds before now p q result config seen (no_memory is d same) = subst (AddsAnswer p q) (sym is) (does-moves m g valid ptr.key p q config seen [] (own-none p.number) d).seen
 
   -- ---- after a wait
 
-  alone-after : (p r : Place (Known C)) → Moves g shard [] [] p r → IsAlone size p → IsAlone size r × (access_now g ptr r ≡ access_now g ptr p)
+  alone-after : (p r : Place (Known C)) → Moves g shard [] [] p r → HasAll p → HasAll r × (access_now g ptr r ≡ access_now g ptr p)
   alone-after p r w a = (
-    record { all = w.all a.all; none = a.none },
-    ap (λ (l : List Event). access_of (replay (opening_of g) l) ptr) ((w.alone a.all).here ∙ append-nil (seen_of g shard p)),
+    w.all a,
+    ap (λ (l : List Event). access_of (replay (opening_of g) l) ptr) ((w.alone a).here ∙ append-nil (seen_of g shard p)),
   )
 
   after-served : (from : Served) (p r q : Place (Known C)) → Moves g shard [] [] p r → AddsServed from r q → AddsServed from p q
@@ -265,7 +266,7 @@ module _ {C P D : Type 0} (m : Meanings C) (g : Config) (valid : IsConfig g) (po
     alone = λ alone.
         let then = alone-after p r w alone in
         let here = a.alone then.0 in
-        (here.0 ∙ ap (λ (n : ℕ). events_of_answered n t ptr (access_now g ptr r)) w.own.number ∙ ap (events_of_answered p.number t ptr) then.1, here.1 ∙ ap source_of then.1);
+        (here.0 ∙ ap (λ (n : ℕ). events_of_answered n t ptr from (access_now g ptr r)) w.own.number ∙ ap (events_of_answered p.number t ptr from) then.1, subst (λ (a : Access). MayComeFrom a from) then.1 here.1);
   }
 
   after-failed : (p r q : Place (Known C)) → Moves g shard [] [] p r → AddsFailed r q → AddsFailed p q
@@ -298,13 +299,12 @@ module _ {C P D : Type 0} (m : Meanings C) (g : Config) (valid : IsConfig g) (po
   after-wait p r q (Err (fault.Key why)) w a = absurd a
   after-wait p r q (Err (fault.NoMemory)) w a = a
 
-  pub read-adds : (before now : Outside P D) (p q : Place (Known C)) (result : Result Read ReadFault) → devices.size before.device ≡ size → p.own.about.config ≡ g → HasSeenItsOwn g p
+  pub read-adds : (before now : Outside P D) (p q : Place (Known C)) (result : Result Read ReadFault) → p.own.about.config ≡ g → HasSeenItsOwn g p
       → AnswersRead m pools devices g ptr t before now p q result → AddsRead p q result
-  read-adds before now p q result long config seen (refused why is first same none) = subst (AddsRead p q) (sym is) same
-  read-adds before now p q result long config seen (answered ok times r waits answer) =
+  read-adds before now p q result config seen (refused why is first same none) = subst (AddsRead p q) (sym is) same
+  read-adds before now p q result config seen (answered ok times r waits answer) =
       let w = waits-move times p r config seen waits in
-      let sized : 0 < ptr.key.size = let s = ok.formed.sized.1 in omega arith in
-      after-wait p r q result w (answer-adds sized before now r q result long w.config w.seen answer)
+      after-wait p r q result w (answer-adds before now r q result w.config w.seen answer)
 
   -- a party has seen its own after a read
   pub read-seen : (p q : Place (Known C)) (result : Result Read ReadFault) → HasSeenItsOwn g p → AddsRead p q result → HasSeenItsOwn g q

@@ -10,7 +10,7 @@ use Rattle.arc_core.specs.declared.served.Served.{Served}
 use Rattle.trace_run.specs.Read.{IsFromPool, IsReadOf}
 
 -- two contents of one pointer are the same, or they share a digest
-same-or-collides : (ptr : Ptr) (a b : List ℕ) → IsOf a ptr → IsOf b ptr → IsSameOrCollides a b
+pub same-or-collides : (ptr : Ptr) (a b : List ℕ) → IsOf a ptr → IsOf b ptr → IsSameOrCollides a b
 same-or-collides ptr a b one other = elim (cases_true (bytes_eq a b)) [
   | inl same ↦ inl ((bytes_eq-Decides a b).0 same)
   | inr differs ↦ inr (λ equal. false≢true (sym differs ∙ (bytes_eq-Decides a b).1 equal), one.digest ∙ sym other.digest)

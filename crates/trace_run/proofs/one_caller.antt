@@ -1,8 +1,11 @@
 pub mod AccessLemmas
 pub mod AloneLemmas
 pub mod AlonePlainLemmas
+pub mod AskingLemmas
+pub mod AskingLines
 pub mod EndAlone
 pub mod FedAlone
+pub mod LentLemmas
 pub mod NamedLemmas
 pub mod OverShardLemmas
 pub mod PlainLemmas

@@ -1,5 +1,5 @@
 -- What becomes of the cache device that is handed in.
-use Rattle.std.specs.Prelude.{◌≡◌, ◌<◌, ◌≤◌, List, [], Option, None, Some, IfSome}
+use Rattle.std.specs.Prelude.{◌≡◌, ◌<◌, ◌≤◌, nat_lt, if◌then◌else◌, List, [], Option, None, Some, IfSome}
 use Rattle.vdev_io.specs.Calls.{DeviceCall, MakesDeviceCalls}
 use Rattle.vdev_io.specs.Faults.{Rose}
 use Rattle.vdev_io.specs.declared.device.CacheDev.{Ghosts}
@@ -20,6 +20,12 @@ device_of device.None = None
 device_of (device.Short dev) = Some dev
 device_of (device.Ready l2) = Some l2.dev
 
+-- the device that is lent to callers, where it was started
+abbrev pub lent_in : {D : Type 0} → Device D → Option D
+lent_in device.None = None
+lent_in (device.Short dev) = None
+lent_in (device.Ready l2) = Some l2.dev
+
 module _ {D : Type 0} (devices : Ghosts D) where
   -- the device was read, and nothing else: its length, its kind, the bytes that it tells and what a crash may leave of it are as they were
   abbrev pub WasOnlyRead : D → D → Type 0
@@ -30,6 +36,31 @@ module _ {D : Type 0} (devices : Ghosts D) where
   MayLose before None = Unit {0}
   MayLose None (Some after) = ⊥
   MayLose (Some before) (Some after) = WasOnlyRead before after
+
+  -- so it was, and it is not lost
+  abbrev pub IsHandedBack : Option D → Option D → Type 0
+  IsHandedBack None None = Unit {0}
+  IsHandedBack None (Some after) = ⊥
+  IsHandedBack (Some before) None = ⊥
+  IsHandedBack (Some before) (Some after) = WasOnlyRead before after
+
+  -- the device that was handed in, where callers may read it: it is long enough
+  abbrev pub usable : Option D → Option D
+  usable None = None
+  usable (Some dev) = if nat_lt (devices.size dev) least_ring_end then None else Some dev
+
+  -- a device is told as too short exactly where it is
+  abbrev pub IsRightKind : Device D → Type 0
+  IsRightKind device.None = Unit {0}
+  IsRightKind (device.Short dev) = devices.size dev < least_ring_end
+  IsRightKind (device.Ready l2) = least_ring_end ≤ devices.size l2.dev
+
+  -- A device was lent: one that was started was only read meanwhile, and all else of it is as it was; any other is as it was.
+  abbrev pub WasLent : Device D → Device D → Type 0
+  WasLent device.None device.None = Unit {0}
+  WasLent (device.Short before) (device.Short after) = after ≡ before
+  WasLent (device.Ready before) (device.Ready after) = (after.cursor ≡ before.cursor) × (after.alloc ≡ before.alloc) × WasOnlyRead before.dev after.dev
+  WasLent _ _ = ⊥
 
   -- What the start of a device found on it, and how the start left it: a device that is too short is told so and not looked at; else the list and the
   -- stop are those of the bytes that it tells, and it was asked for just the reads that lead there, each once. The stop says that it failed only

@@ -1,10 +1,11 @@
 -- What the histories of a run's shards say of it.
-use Rattle.std.specs.Prelude.{◌≡◌, ℕ, zero, suc, ◌<◌, IfSome, IsTrue, List, [], ◌++◌, length, slice_index_or, sum_by}
+use Rattle.std.specs.Prelude.{◌≡◌, ℕ, zero, suc, ◌<◌, IfSome, IsTrue, List, [], ◌++◌, Option, length, slice_index_or, sum_by}
 use Rattle.std.specs.List.{AllByRecursion, range_with_len}
 use Rattle.std.specs.Prelude.{filter}
 use Rattle.blk_ptr.specs.Hash.{shard_of}
 use Rattle.blk_ptr.specs.declared.ptr.Ptr.{Ptr}
 use Rattle.arc_core.specs.declared.config.Config.{Config}
+use Rattle.vdev_io.specs.declared.device.CacheDev.{Ghosts as DeviceGhosts}
 use Rattle.vdev_io.specs.declared.pool.Pool.{Ghosts}
 use Rattle.arc_core.specs.declared.event.Event.{Event}
 use Rattle.arc_core.specs.declared.served.Restored.{Restored}
@@ -21,9 +22,10 @@ use Rattle.trace_run.specs.Ends.{ends_of}
 use Rattle.arc_table.specs.Telling.{opening_of}
 use Rattle.trace_run.specs.KeptBlocks.{holds_in}
 use Rattle.trace_run.specs.Lines.{is_in_shard, is_of_caller, replies_where}
+use Rattle.trace_run.specs.one_caller.Lent.{AsksLent, told_lent}
 use Rattle.trace_run.specs.one_caller.OneCaller.{AreFoundAs, events_of_drops, kept_after_all, one_caller_histories}
 use Rattle.trace_run.specs.one_caller.PlainReport.{IsPlainReport}
-use Rattle.trace_run.specs.one_caller.PlainRun.{report_of}
+use Rattle.trace_run.specs.one_caller.PlainRun.{images, report_of}
 use Rattle.trace_run.specs.Restores.{events_by_feeder, restored_of, restored_shard, restores_in}
 use Rattle.vdev_io.specs.Calls.{MakesCalls, Call}
 
@@ -60,12 +62,12 @@ pub record Explain (trace : Trace) (restored : List Restored) (replies : List Re
   pub ending : (shard : ℕ) → shard < length histories
       → EndsWith (slice_index_or histories shard []) (drops_at_end trace.config trace.blocks shard trace.config.callers trace.ops replies)
 
--- What more holds of a run with one caller: its report is a plain function of the trace, what was found on the cache device, the bytes and which
--- reads of the pool failed, as far as no two contents share a digest.
-pub record RunsAlone {P : Type 0} (pool : Ghosts P) (before after : P) (trace : Trace) (report : Report) : Type 0 where
+-- What more holds of a run with one caller, which was lent the cache device, where there is one: its report is a plain function of the trace, what was found on
+-- that device, the bytes of both and which reads of either failed, as far as no two contents share a digest.
+pub record RunsAlone {P D : Type 0} (pool : Ghosts P) (device : DeviceGhosts D) (before after : P) (lent back : Option D) (trace : Trace) (report : Report) : Type 0 where
   -- the histories hold the restores, the caller's events and no others
   pub histories : report.histories ≡ one_caller_histories trace.config.shards trace.blocks 0 (opening_of trace.config) (restores_in trace.config (restored_of report.rebuilt)) trace.ops report.replies
-  -- each answered read names where its access found the bytes, and only one that had to ask the pool was refused by it
+  -- each answered read names a place from which its access may have the bytes, and only one that had to ask the pool was refused by it
   pub found : AllByRecursion (λ shard. AreFoundAs trace.blocks (restored_shard trace.config (restored_of report.rebuilt) shard) []
       (filter (is_in_shard trace.config.shards trace.blocks shard) trace.ops)
       (replies_where (is_in_shard trace.config.shards trace.blocks shard) trace.ops report.replies)) (range_with_len 0 trace.config.shards)
@@ -75,5 +77,10 @@ pub record RunsAlone {P : Type 0} (pool : Ghosts P) (before after : P) (trace : 
   pub replied : calls ≡ calls_of_all report.replies
   pub counted : length calls ≡ sum_by pool_reads report.histories
   pub made : MakesCalls pool calls before after
-  -- over a pool that tells its bytes the report is that of the plain run, but that a cached block may be another content of its digest
-  pub plain : IfSome (pool.told before) (λ image. IsPlainReport trace image (report_of trace report.rebuilt image calls) report)
+  -- The device was asked once for each miss whose key has a place on it, in the order of the lines, and nothing else was done with it. What it served is
+  -- answered so.
+  pub device_calls : List Call
+  pub asked : AsksLent device trace (restored_of report.rebuilt) report.replies device_calls lent back
+  -- over a pool and a device that tell their bytes the report is that of the plain run, but that a block which did not come from the pool may be another
+  -- content of its digest
+  pub plain : IfSome (pool.told before) (λ image. IfSome (told_lent device lent) (λ bytes. IsPlainReport trace (report_of trace report.rebuilt (images image bytes) calls device_calls) report))

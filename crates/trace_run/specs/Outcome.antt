@@ -33,10 +33,10 @@ use Rattle.trace_run.specs.Answers.{AnswersAll}
 use Rattle.trace_run.specs.Bounded.{device_len, with_bound}
 use Rattle.trace_run.specs.CellEnds.{AreCellsOf}
 use Rattle.trace_run.specs.CheckText.{check_text}
-use Rattle.trace_run.specs.Devices.{Finds, MayLose}
+use Rattle.trace_run.specs.Devices.{Finds, IsHandedBack, MayLose, usable}
 use Rattle.trace_run.specs.Explaining.{Explain, RunsAlone}
 use Rattle.trace_run.specs.Lines.{has_undone}
-use Rattle.trace_run.specs.one_caller.PlainRun.{report_of}
+use Rattle.trace_run.specs.one_caller.PlainRun.{images, report_of}
 use Rattle.trace_run.specs.Restores.{restored_of}
 use Rattle.trace_run.specs.States.{Handed, NoneFailed, OneFailed, StreamState}
 use Rattle.trace_run.specs.Stream.{Gives, AppendsFront, TakesAtMost}
@@ -80,7 +80,7 @@ pub record IsBadTrace (before after : StreamState) (line : ℕ) (kind : Kind) : 
 -- Each operation that was answered has its answer, and the histories, which are those of the closed cache, explain the replies and the reads of
 -- the pool; its faults rose by one for each reply that says so, and by one more where a fork failed, where each count had room. With one
 -- caller the report is a plain function; with several, each reads the pool through forks of its own, one for each group.
-pub record IsRun {C P : Type 0} (pool : Ghosts P) (before after : P) (trace : Trace) (fork_failed : Bool) (closed : Ended C) (report : Report) : Type 0 where
+pub record IsRun {C P D : Type 0} (pool : Ghosts P) (device : Devices D) (before after : P) (lent back : Option D) (trace : Trace) (fork_failed : Bool) (closed : Ended C) (report : Report) : Type 0 where
   pub answers : AnswersAll (pool.size before) (pool.told before) trace.blocks (answered_ops trace fork_failed report.replies) report.replies
   pub explained : Explain trace (restored_of report.rebuilt) report.replies report.ends report.histories
   pub tells : TellsClosed closed report
@@ -90,7 +90,7 @@ pub record IsRun {C P : Type 0} (pool : Ghosts P) (before after : P) (trace : Tr
   pub no_workers : report.io ≡ None
   pub reads : pool.reads before < 2 ^ 63 → pool.reads after ≡ pool.reads before + sum_by pool_reads report.histories
   pub faults : pool.faults before < 2 ^ 63 → pool.faults after ≡ pool.faults before + faults_told fork_failed report.replies
-  pub alone : trace.config.callers ≡ 1 → (fork_failed ≡ false) × RunsAlone pool before after trace report
+  pub alone : trace.config.callers ≡ 1 → (fork_failed ≡ false) × RunsAlone pool device before after lent back trace report
   pub together : 2 ≤ trace.config.callers → RunsTogether pool before after trace fork_failed report
   -- a trace without an operation has no work: no fork is made for it, and the pool is as it was
   pub idle : trace.ops ≡ [] → (fork_failed ≡ false) × (after ≡ before)
@@ -98,14 +98,17 @@ pub record IsRun {C P : Type 0} (pool : Ghosts P) (before after : P) (trace : Tr
   pub failed : fork_failed ≡ true → Rose (pool.faults before) (pool.faults after) × StopsAtGroup trace report.replies
 
 -- The report is that of a run of the trace that the source gave, all of whose lines the program does. The trace's bound of one feed is at most half of
--- the device's ring. What is reported of the device is what its start found, and it is handed back.
+-- the device's ring. What is reported of the device is what its start found; it is lent to the one caller, and handed back.
 pub record IsReport {P D : Type 0} (pool : Ghosts P) (device : Devices D) (before after : Handed P D) (closed : Ended OnHeap) (report : Report) : Type 0 where
   pub trace : Trace
   pub read : WasRead before.source after.source trace
   pub done : has_undone trace ≡ false
-  pub found : Finds device before.cache after.cache report.rebuilt
+  -- the device behind its start
+  pub started : Option D
+  pub found : Finds device before.cache started report.rebuilt
+  pub back : IsHandedBack device started after.cache
   pub fork_failed : Bool
-  pub run : IsRun pool before.pool after.pool (with_bound trace (device_len device.size before.cache)) fork_failed closed report
+  pub run : IsRun pool device before.pool after.pool (usable device started) (usable device after.cache) (with_bound trace (device_len device.size before.cache)) fork_failed closed report
   -- the cells began with the trace's lines, and were ended
   pub cells : AreCellsOf (with_bound trace (device_len device.size before.cache)) closed
   pub status : report.status ≡ report_status fork_failed report.replies
@@ -127,7 +130,7 @@ zeros_of blocks = replicate (blocks * 512) 0
 -- The report is that of a made trace, whose zero bytes are a pool that doesn't fail: a plain function of the three numbers. No reply is
 -- a refusal, and none is printed.
 pub record IsGenReport (seed blocks ops : ℕ) (closed : Ended OnHeap) (report : Report) : Type 0 where
-  pub plain : report ≡ record (report_of (generated seed blocks ops) None (zeros_of blocks) []) { short = true }
+  pub plain : report ≡ record (report_of (generated seed blocks ops) None (images (zeros_of blocks) []) [] []) { short = true }
   pub answers : AnswersAll (blocks * 512) (Some (zeros_of blocks)) (generated seed blocks ops).blocks (generated seed blocks ops).ops report.replies
   pub explained : Explain (generated seed blocks ops) [] report.replies report.ends report.histories
   pub tells : TellsClosed closed report

@@ -20,7 +20,7 @@ use Rattle.trace_text.specs.declared.reply.Refusal.{Refusal}
 use Rattle.trace_text.specs.declared.reply.Refusal.TheVariants as refusals
 use Rattle.trace_run.specs.declared.get.Got.{Got}
 use Rattle.trace_run.specs.declared.kept_blocks.KeptBlock.{KeptBlock}
-use Rattle.trace_run.specs.one_caller.Access.{Access, AsksPool, access_of, events_of_answered, events_of_refused, source_of}
+use Rattle.trace_run.specs.one_caller.Access.{Access, AsksPool, MayComeFrom, access_of, events_of_answered, events_of_refused}
 use Rattle.trace_run.specs.Effects.{Effect, Answered, GivenBack, PoolRefused, NoEffect, calls_from}
 use Rattle.arc_table.specs.Telling.{opening_of}
 use Rattle.trace_run.specs.KeptBlocks.{read_of}
@@ -39,34 +39,29 @@ module _ {C : Type 0} where
   abbrev pub access_now : Config → Ptr → Place (Known C) → Access
   access_now g ptr p = access_of (now_of g (shard_of g.shards ptr.key) p) ptr
 
-  -- it has every number, and there is no cache device, or one of this length, which is 0
-  pub record IsAlone (device : ℕ) (p : Place (Known C)) : Type 0 where
-    pub all : HasAll p
-    pub none : device ≡ 0
-
   -- The party did this act, once. A party that is alone has seen just these events more.
   pub record DidAct (g : Config) (device : ℕ) (act : Act) (es : List Event) (p q : Place (Known C)) : Type 0 where
     pub made : List Moment
     pub own : AddsOwn g (shard_of g.shards (act_key act)) made p q
     pub act_is : StandsFor act made
-    pub alone : IsAlone device p → AddsAll g (shard_of g.shards (act_key act)) es p q
+    pub alone : HasAll p → AddsAll g (shard_of g.shards (act_key act)) es p q
     pub all : HasAll p → HasAll q
     pub joined : q.joined ≡ p.joined
 
   -- the read was answered, and its bytes came from here; or the pool was asked for them, and failed or gave others
   pub record DidAnswer (g : Config) (device t : ℕ) (ptr : Ptr) (from : Served) (p q : Place (Known C)) : Type 0 where
-    pub act : DidAct g device (Keeps p.number t ptr from) (events_of_answered p.number t ptr (access_now g ptr p)) p q
-    pub source : IsAlone device p → from ≡ source_of (access_now g ptr p)
+    pub act : DidAct g device (Keeps p.number t ptr from) (events_of_answered p.number t ptr from (access_now g ptr p)) p q
+    pub source : HasAll p → MayComeFrom (access_now g ptr p) from
 
   pub record DidFail (g : Config) (device t : ℕ) (ptr : Ptr) (p q : Place (Known C)) : Type 0 where
     pub act : DidAct g device (Fails p.number t ptr) (events_of_refused p.number t ptr (access_now g ptr p)) p q
-    pub asked : IsAlone device p → AsksPool (access_now g ptr p)
+    pub asked : HasAll p → AsksPool (access_now g ptr p)
 
   -- In one shard the party's own number has these acts more. A party that is alone has seen just these events more, and in no other shard any.
   pub record DidActs (g : Config) (device shard : ℕ) (acts : List Act) (es : List Event) (p q : Place (Known C)) : Type 0 where
     pub number : q.number ≡ p.number
     pub told : (before : List Act) → IsTold g before p → IsTold g (before ++ acts) q
-    pub alone : IsAlone device p → AddsAll g shard es p q
+    pub alone : HasAll p → AddsAll g shard es p q
     pub all : HasAll p → HasAll q
     pub joined : q.joined ≡ p.joined
 

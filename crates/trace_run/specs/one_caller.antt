@@ -1,7 +1,8 @@
 pub mod Access
 pub mod Alone
+pub mod Asking
+pub mod Lent
 pub mod OneCaller
 pub mod OverShards
-pub mod PlainLines
 pub mod PlainReport
 pub mod PlainRun

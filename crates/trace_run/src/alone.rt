@@ -2,7 +2,9 @@
 ghost use Rattle.std.specs.Prelude.{◌≡◌, ℕ, [], IfOk, List, false, map};
 ghost use Rattle.arc_lists.specs.Adapting.{IsCapacity};
 ghost use Rattle.arc_table.specs.Geometry.{parties_of};
-ghost use Rattle.vdev_io.specs.Calls.{KeepsPool};
+ghost use Rattle.arc_table.specs.Reading.{KeepsDevice};
+ghost use Rattle.arc_table.specs.Seen.{HasAll};
+ghost use Rattle.vdev_io.specs.Calls.{Call, KeepsPool};
 ghost use Rattle.l2_dev.specs.Rebuilding.{HaveKeys};
 ghost use Rattle.trace_text.specs.Grammar.{IsFormed, IsOperation};
 ghost use Rattle.trace_run.specs.declared.kept_blocks.KeptBlock.{KeptBlock};
@@ -13,10 +15,15 @@ ghost use Rattle.trace_run.specs.KeptBlocks.{Stands, read_of};
 ghost use Rattle.trace_run.specs.Meeting.{HasFeeder};
 ghost use Rattle.trace_run.specs.Opened.{AreOpened, HasJoined};
 ghost use Rattle.trace_run.specs.Openings.{AllKnow, openings_of};
+ghost use Rattle.trace_run.specs.Devices.{WasLent, lent_in};
+ghost use Rattle.trace_run.specs.one_caller.Asking.{AsksLines};
+ghost use Rattle.trace_run.specs.one_caller.Lent.{ReadsAlone};
 ghost use Rattle.trace_run.specs.one_caller.OverShards.{AreNamed};
-ghost use Rattle.trace_run.specs.Restores.{restores_in};
+ghost use Rattle.trace_run.specs.Reads.{now_of};
+ghost use Rattle.trace_run.specs.Restores.{restored_shard, restores_in};
 
 use crate::cells::end_cells_joined;
+use crate::device::Device;
 use crate::kept_blocks::{KeptBlocks, give_back_all};
 use crate::lines::{is_of_caller, line};
 use crate::opening::open_cache;
@@ -30,7 +37,7 @@ use dbuf_cells::{Cells, HeapCell};
 use std::alloc::Global;
 use std::sync::Wait;
 use trace_text::{Op, Reply, Trace};
-use vdev_io::{Gate, NoCache, Pool};
+use vdev_io::{CacheDev, Gate, NoCache, Pool};
 
 /// The party of the one caller, which the feeder's has joined.
 fn only_party(arcs: &Cells, mut parties: Vec<Party<HeapCell>>) -> Party<HeapCell>
@@ -152,8 +159,8 @@ fn other_line(
     Ok((party, Reply::Capped { c }))
 }
 
-/// Does all lines of a trace of one caller, one after another, over the pool that is handed in.
-fn lines_alone<P: Pool, G: Gate>(
+/// Does all lines of a trace of one caller, one after another, over the pool and the cache device that are handed in.
+fn lines_alone<P: Pool, D: CacheDev, G: Gate>(
     alloc: Global,
     rt: &impl Wait,
     arcs: &Cells,
@@ -161,6 +168,7 @@ fn lines_alone<P: Pool, G: Gate>(
     party: Party<HeapCell>,
     kept: &mut KeptBlocks,
     pool: &mut P,
+    device: &mut D,
     gate: &G,
 ) -> Result<(Party<HeapCell>, Vec<Reply>), NoMemory>
     requires formed { IsFormed trace.now }
@@ -174,12 +182,14 @@ fn lines_alone<P: Pool, G: Gate>(
     ensures stands { IfOk result (λ r. Stands arcs.now r.0 kept.new) }
     ensures did { IfOk result (λ r. DidLines arcs.now.config P.Pool 0 trace.now.blocks trace.now.ops r.1.items
         (at party (map read_of kept.old) pool.old) (at r.0 (map read_of kept.new) pool.new)) }
+    ensures asks { HasAll party → IfOk result (λ r. (calls : List Call) × AsksLines D.CacheDev arcs.now.config.shards trace.now.blocks (λ shard. now_of arcs.now.config shard party)
+        (map read_of kept.old) trace.now.ops r.1.items calls device.old device.new) }
     ensures joined { IfOk result (λ r. HasFeeder arcs.now (openings_of trace.now) r.0) }
     ensures pool { KeepsPool P.Pool pool.old pool.new }
+    ensures device { KeepsDevice D.CacheDev device.old device.new }
 {
     let caller = party.number();
     let mut party = party;
-    let mut device = NoCache::new();
     let mut replies = Vec::new(alloc);
     let blocks = trace.blocks.as_slice();
     let ops = trace.ops.as_slice();
@@ -191,35 +201,41 @@ fn lines_alone<P: Pool, G: Gate>(
             continue;
         }
         gate.before(caller, number as u32);
-        let reply = line(rt, arcs, &mut party, kept, pool, &mut device, blocks, op)?;
+        let reply = line(rt, arcs, &mut party, kept, pool, device, blocks, op)?;
         gate.after(caller, number as u32);
         replies.push(reply)?;
     }
     Ok((party, replies))
 }
 
-/// Runs a trace of one caller: its lines, one after another, over the pool that is handed in, once these keys are restored.
-pub(crate) fn run_alone<P: Pool, G: Gate>(
+/// Runs a trace of one caller: its lines, one after another, over the pool and the cache device that are handed in, once these keys are restored.
+fn run_over<P: Pool, D: CacheDev, G: Gate>(
     alloc: Global,
     rt: &impl Wait,
     trace: &Trace,
     restored: &[Restored],
     pool: &mut P,
+    device: &mut D,
     gate: &G,
 ) -> Result<Ran, NoMemory>
     requires formed { IsFormed trace.now }
     requires one { trace.now.config.callers ≡ 1 }
     requires keys { HaveKeys restored.now }
     ensures ran { IfOk result (λ ran. RanAlone P.Pool pool.old pool.new trace.now restored.now ran.replies.items ran.closed) }
+    ensures asks { IfOk result (λ ran. (calls : List Call) × AsksLines D.CacheDev trace.now.config.shards trace.now.blocks (restored_shard trace.now.config restored.now) []
+        trace.now.ops ran.replies.items calls device.old device.new) }
     ensures cells { IfOk result (λ ran. AreCellsOf trace.now ran.closed) }
     ensures fork { IfOk result (λ ran. ran.fork_failed ≡ false) }
     ensures pool { KeepsPool P.Pool pool.old pool.new }
+    ensures device { KeepsDevice D.CacheDev device.old device.new }
 {
     let (arcs, parties) = open_cache(alloc, trace)?;
     let party = only_party(&arcs, parties);
     let party = restore_alone(alloc, rt, &arcs, party, restored)?;
     let mut kept = KeptBlocks::new(alloc);
-    let (mut party, replies) = lines_alone(alloc, rt, &arcs, trace, party, &mut kept, pool, gate)?;
+    let (mut party, replies) = lines_alone(
+        alloc, rt, &arcs, trace, party, &mut kept, pool, device, gate,
+    )?;
     give_back_all(rt, &arcs, &mut party, kept);
     let party = end_alone(alloc, rt, &arcs, party)?;
     let closed = arcs.close(vec![in alloc; party]?)?;
@@ -228,4 +244,33 @@ pub(crate) fn run_alone<P: Pool, G: Gate>(
         closed,
         fork_failed: false,
     })
+}
+
+/// Runs a trace of one caller over the pool that is handed in, and over the cache device, where it was started.
+pub(crate) fn run_alone<P: Pool, D: CacheDev, G: Gate>(
+    alloc: Global,
+    rt: &impl Wait,
+    trace: &Trace,
+    restored: &[Restored],
+    pool: &mut P,
+    device: &mut Device<D>,
+    gate: &G,
+) -> Result<Ran, NoMemory>
+    requires formed { IsFormed trace.now }
+    requires one { trace.now.config.callers ≡ 1 }
+    requires keys { HaveKeys restored.now }
+    ensures ran { IfOk result (λ ran. RanAlone P.Pool pool.old pool.new trace.now restored.now ran.replies.items ran.closed) }
+    ensures read { IfOk result (λ ran. ReadsAlone P.Pool D.CacheDev pool.old trace.now restored.now ran.replies.items (lent_in device.old) (lent_in device.new)) }
+    ensures cells { IfOk result (λ ran. AreCellsOf trace.now ran.closed) }
+    ensures fork { IfOk result (λ ran. ran.fork_failed ≡ false) }
+    ensures pool { KeepsPool P.Pool pool.old pool.new }
+    ensures device { WasLent D.CacheDev device.old device.new }
+{
+    match device {
+        Device::Ready(l2) => run_over(alloc, rt, trace, restored, pool, l2.device(), gate),
+        Device::None | Device::Short(_) => {
+            let mut none = NoCache::new();
+            run_over(alloc, rt, trace, restored, pool, &mut none, gate)
+        }
+    }
 }

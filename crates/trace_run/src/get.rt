@@ -1,9 +1,13 @@
 //! One read of a caller through the shared cache (arc_read of OpenZFS 2.1's arc.c).
 ghost use Rattle.std.specs.Prelude.{◌≡◌, IfErr, IfOk, List};
+ghost use Rattle.arc_table.specs.Reading.{KeepsDevice};
+ghost use Rattle.arc_table.specs.Seen.{HasAll};
+ghost use Rattle.blk_ptr.specs.Hash.{shard_of};
 ghost use Rattle.blk_ptr.specs.Key.{IsValid};
 ghost use Rattle.vdev_io.specs.Calls.{KeepsPool};
 ghost use Rattle.trace_run.specs.KeptBlocks.{Stands};
-ghost use Rattle.trace_run.specs.Reads.{CallsFor, DidRead, IsCauseOf, IsGot, kept_then};
+ghost use Rattle.trace_run.specs.one_caller.Asking.{AsksGot};
+ghost use Rattle.trace_run.specs.Reads.{CallsFor, DidRead, IsCauseOf, IsGot, kept_then, now_of};
 ghost use Rattle.trace_run.specs.declared.kept_blocks.KeptBlock.{KeptBlock};
 
 use crate::kept_blocks::KeptBlock;
@@ -37,6 +41,8 @@ pub(crate) fn get<C: Keeps, P: Pool, D: CacheDev>(
     requires { (kept : List KeptBlock) × Stands arcs.now party.old kept }
     ensures stands { (kept : List KeptBlock) → Stands arcs.now party.old kept → Stands arcs.now party.new (kept_then kept result) }
     ensures did { DidRead arcs.now.config (D.size device.old) t ptr.now party.old party.new result }
+    ensures asks { HasAll party.old → AsksGot D.CacheDev (now_of arcs.now.config (shard_of arcs.now.config.shards ptr.now.key) party.old) ptr.now result device.old device.new }
+    ensures keeps { KeepsDevice D.CacheDev device.old device.new }
     ensures got { IfOk result (IsGot (P.told pool.old) block ptr.now) }
     ensures valid { IfOk result (λ got. IsValid (P.size pool.old) ptr.now.key) }
     ensures cause { IfErr result (IsCauseOf (P.size pool.old) (P.told pool.old) ptr.now) }

@@ -1,17 +1,20 @@
 //! One caller's lines over the shared cache.
 ghost use Rattle.std.specs.Prelude.{◌≡◌, ◌≢◌, ◌<◌, ◌+◌, ◌^◌, [], IfOk, IfSome, List, None, OnErr, filter, length, map, true};
+ghost use Rattle.arc_table.specs.Reading.{KeepsDevice};
+ghost use Rattle.arc_table.specs.Seen.{HasAll};
 ghost use Rattle.blk_ptr.specs.Hash.{shard_of};
-ghost use Rattle.vdev_io.specs.Calls.{KeepsPool, MakesCalls};
+ghost use Rattle.vdev_io.specs.Calls.{Call, KeepsPool, MakesCalls};
 ghost use Rattle.trace_run.specs.Acts.{acts_of_hold, acts_of_read};
 ghost use Rattle.trace_run.specs.Answering.{KeepsImage, ReadsImage};
 ghost use Rattle.trace_run.specs.Answers.{AnswersDrop, AnswersHold, AnswersRead, IsInside, window_of};
 ghost use Rattle.trace_run.specs.callers.CallerLines.{DidLine, DidLines, at};
 ghost use Rattle.trace_run.specs.Effects.{calls_of, effect_of};
 ghost use Rattle.trace_run.specs.KeptBlocks.{Drops, Stands, read_of};
-ghost use Rattle.trace_run.specs.Lines.{caller_of, is_of_caller};
+ghost use Rattle.trace_run.specs.Lines.{caller_of, is_of_caller, shard_of_line};
+ghost use Rattle.trace_run.specs.one_caller.Asking.{Asks, AsksLine};
 ghost use Rattle.trace_run.specs.one_caller.OneCaller.{NamesSource, events_of_hold, events_of_read, kept_after_drop, kept_after_hold, oldest_key};
 ghost use Rattle.trace_run.specs.one_caller.OverShards.{AreNamed};
-ghost use Rattle.trace_run.specs.Reads.{CameFromPool, DidActs, IsAlone, IsRefused, access_now, now_of};
+ghost use Rattle.trace_run.specs.Reads.{CameFromPool, DidActs, IsRefused, access_now, now_of};
 ghost use Rattle.trace_run.specs.Tally.{AreDeclared, kept_of_block};
 ghost use Rattle.trace_text.specs.Grammar.{IsOnDeclared};
 ghost use Rattle.trace_run.specs.declared.kept_blocks.KeptBlock.{KeptBlock};
@@ -68,7 +71,10 @@ fn hold_line<C: Keeps, P: Pool, D: CacheDev>(
         (acts_of_hold party.old.number t ptr.now (effect_of reply))
         (events_of_hold party.old.number t (now_of arcs.now.config (shard_of arcs.now.config.shards ptr.now.key) party.old) ptr.now (effect_of reply))
         party.old party.new) }
-    ensures found { IfOk result (λ reply. IsAlone (D.size device.old) party.old → NamesSource (access_now arcs.now.config ptr.now party.old) (effect_of reply)) }
+    ensures asks { IfOk result (λ reply. HasAll party.old
+        → Asks D.CacheDev (now_of arcs.now.config (shard_of arcs.now.config.shards ptr.now.key) party.old) ptr.now (effect_of reply) device.old device.new) }
+    ensures keeps { KeepsDevice D.CacheDev device.old device.new }
+    ensures found { IfOk result (λ reply. HasAll party.old → NamesSource (access_now arcs.now.config ptr.now party.old) (effect_of reply)) }
     ensures range { IfOk result (λ reply. CameFromPool (effect_of reply) → IfSome (P.told pool.old) (λ image. KeepsImage image ptr.now reply)) }
     ensures calls { IfOk result (λ reply. MakesCalls P.Pool (calls_of (effect_of reply)) pool.old pool.new) }
     ensures pool { KeepsPool P.Pool pool.old pool.new }
@@ -102,7 +108,10 @@ fn read_line<C: Keeps, P: Pool, D: CacheDev>(
         (acts_of_read party.old.number t ptr.now (effect_of reply))
         (events_of_read party.old.number t (now_of arcs.now.config (shard_of arcs.now.config.shards ptr.now.key) party.old) ptr.now (effect_of reply))
         party.old party.new) }
-    ensures found { IfOk result (λ reply. IsAlone (D.size device.old) party.old → NamesSource (access_now arcs.now.config ptr.now party.old) (effect_of reply)) }
+    ensures asks { IfOk result (λ reply. HasAll party.old
+        → Asks D.CacheDev (now_of arcs.now.config (shard_of arcs.now.config.shards ptr.now.key) party.old) ptr.now (effect_of reply) device.old device.new) }
+    ensures keeps { KeepsDevice D.CacheDev device.old device.new }
+    ensures found { IfOk result (λ reply. HasAll party.old → NamesSource (access_now arcs.now.config ptr.now party.old) (effect_of reply)) }
     ensures range { IfOk result (λ reply. CameFromPool (effect_of reply) → IfSome (P.told pool.old) (λ image. ReadsImage image ptr.now window reply)) }
     ensures calls { IfOk result (λ reply. MakesCalls P.Pool (calls_of (effect_of reply)) pool.old pool.new) }
     ensures pool { KeepsPool P.Pool pool.old pool.new }
@@ -167,6 +176,9 @@ pub(crate) fn line<C: Keeps, P: Pool, D: CacheDev>(
     requires declared { IsOnDeclared (length blocks.now) op.now }
     requires named { AreNamed blocks.now (map read_of kept.old) }
     ensures stands { IfOk result (λ reply. Stands arcs.now party.new kept.new) }
+    ensures asks { IfOk result (λ reply. HasAll party.old → (calls : List Call)
+        × AsksLine D.CacheDev blocks.now (now_of arcs.now.config (shard_of_line arcs.now.config.shards blocks.now op.now) party.old) op.now reply calls device.old device.new) }
+    ensures keeps { KeepsDevice D.CacheDev device.old device.new }
     ensures did { IfOk result (λ reply. DidLine arcs.now.config P.Pool (D.size device.old) blocks.now op.now reply
         (at party.old (map read_of kept.old) pool.old) (at party.new (map read_of kept.new) pool.new)) }
     ensures pool { KeepsPool P.Pool pool.old pool.new }

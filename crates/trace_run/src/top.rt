@@ -101,11 +101,14 @@ fn run_source<R: Threads + Wait + Sync, S: Source, K: Sink, P: Pool, D: CacheDev
         Err(status) => return untold(status),
     };
     let trace = with_bound(trace, device_len(cache));
-    let Begun { device, rebuilt } = match begin(alloc, cache.take()) {
+    let Begun {
+        mut device,
+        rebuilt,
+    } = match begin(alloc, cache.take()) {
         Ok(begun) => begun,
         Err(NoMemory) => return untold(Status::NoMemory),
     };
-    let ran = run_trace(alloc, rt, &trace, rebuilt, pool, gate);
+    let ran = run_trace(alloc, rt, &trace, rebuilt, pool, &mut device, gate);
     *cache = device.back();
     // Its memory serves the report's text.
     drop(trace);

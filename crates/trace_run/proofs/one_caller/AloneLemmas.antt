@@ -46,9 +46,8 @@ use Rattle.trace_run.specs.KeptBlocks.{DroppedAlone, GivesAll, Stands, StandsWit
 use Rattle.trace_run.specs.Lines.{caller_of, is_in_shard, is_of_caller, replies_where, shard_of_block, shard_of_line}
 use Rattle.trace_run.specs.one_caller.OneCaller.{AreFoundAs, IsFoundAs, events_of_drops, kept_after, kept_after_all, one_caller_history, only_feeder}
 use Rattle.trace_run.specs.Opened.{HasJoined}
-use Rattle.trace_run.specs.one_caller.OverShards.{AllLinesOver, AreNamed, events_over, kept_in_shard}
-use Rattle.trace_run.specs.one_caller.PlainRun.{shards_after}
-use Rattle.trace_run.specs.Reads.{IsAlone, now_of}
+use Rattle.trace_run.specs.one_caller.OverShards.{AllLinesOver, AreNamed, events_over, kept_in_shard, shards_after}
+use Rattle.trace_run.specs.Reads.{now_of}
 use Rattle.trace_run.specs.Restores.{events_by_feeder, restored_shard, restores_in}
 use Rattle.arc_table.specs.Seen.{HasAll, seen_of}
 use Rattle.trace_run.specs.Tally.{AreAnswered, IsOfCaller}
@@ -224,11 +223,11 @@ module _ {C P : Type 0} (m : Meanings C) (cache : Cache) (pools : Ghosts P) (blo
   same-count : length replies ≡ length os
   same-count = lines-length g pools 0 blocks os replies a b did
 
-  alone : IsAlone 0 p
-  alone = record { all = fed.all (joined-all cache new first); none = refl }
+  alone : HasAll p
+  alone = fed.all (joined-all cache new first)
 
   all-q : HasAll q
-  all-q = (lines-all g pools 0 blocks os replies a b did alone).all
+  all-q = lines-all g pools 0 blocks os replies a b did alone
 
   number-q : q.number ≡ 0
   number-q = lines-number g pools 0 blocks os replies a b did ∙ (fed.number ∙ first.number)

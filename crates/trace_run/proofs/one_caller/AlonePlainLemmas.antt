@@ -1,5 +1,5 @@
--- The lines of a caller that is alone, over a pool that tells its bytes: its report is that of the plain run, but that a cached block may be
--- another content of its digest.
+-- The lines of a caller that is alone, over a pool and a cache device that tell their bytes: its report is that of the plain run, but that a block which
+-- did not come from the pool may be another content of its digest.
 use Rattle.std.proofs.Common.{◌≡◌, ℕ, Bool, true, false, if◌then◌else◌, List, [], ◌∷◌, ◌++◌, length, drop, Option, Some, None, IfSome, refl, sym, subst, ◌∙◌, arith}
 use Rattle.std.specs.List.{AllByRecursion}
 use Rattle.std.proofs.lemmas.Bool.{eqb-true}
@@ -21,102 +21,405 @@ use Rattle.trace_run.specs.Effects.{calls_of, calls_of_all, effect_of}
 use Rattle.arc_table.specs.Telling.{opening_of}
 use Rattle.trace_run.specs.Lines.{is_in_shard, shard_of_block, shard_of_line}
 use Rattle.trace_run.specs.one_caller.OneCaller.{events_of, kept_after}
-use Rattle.trace_run.specs.one_caller.OverShards.{AllLinesOver}
+use Rattle.trace_run.specs.one_caller.Asking.{AsksLine, AsksLines, NamesServed, asked_by, asked_by_read, next_call, place_asked, read_on, serves, source_at, source_of}
+use Rattle.trace_run.specs.one_caller.OverShards.{shards_after}
 use Rattle.trace_run.specs.one_caller.PlainReport.{ArePlainReplies, IsPlainReply, IsPlainReport}
-use Rattle.trace_run.specs.one_caller.PlainRun.{next_call, replies_to, reply_to, report_of, report_with, shards_after}
+use Rattle.trace_run.specs.one_caller.PlainRun.{Contents, Images, contents_after, contents_with, no_contents, replies_to, reply_to, report_of, report_with}
 use Rattle.trace_run.specs.Restores.{restored_of, restored_shard, restores_in}
-use Rattle.trace_run.specs.Reads.{IsAlone, now_of}
+use Rattle.trace_run.specs.Reads.{now_of}
 use Rattle.trace_run.specs.Tally.{AnswersNow}
 use Rattle.trace_run.proofs.LinesLemmas.{all-then, line-now, lines-length}
 use Rattle.trace_run.proofs.one_caller.PlainLemmas.{drop-front, next-is}
-use Rattle.trace_run.proofs.one_caller.PlainReplyLemmas.{IsPlainlyServed, line-brings, line-plain}
+use Rattle.trace_run.proofs.one_caller.PlainReplyLemmas.{IsNamed, IsPlainlyServed, line-brings, line-grows, line-plain}
 use Rattle.trace_run.proofs.one_caller.PlainReportLemmas.{alike-events, alike-kept, plain-alike, plain-but}
 use Rattle.trace_run.proofs.one_caller.ResidentLemmas.{AreTold, Brings, all-restores, told-replay, told-restores}
 
+-- ---- where no call was made of the device
+
+-- the same is named however a call would be answered
+named-any : (size : ℕ) (image : List ℕ) (s : PlainShard) (ptr : Ptr) (e : Effect) (call : Call) → length (asked_by_read size s ptr e) ≡ 0 → NamesServed (source_at size image s ptr Gave) e
+    → NamesServed (source_at size image s ptr call) e
+named-any size image s ptr (Answered from) call none named = go (place_asked size ptr s) none named
+  where
+    go : (o : Option ℕ) → length (read_on ptr.key o) ≡ 0 → from ≡ source_of (access_of s ptr) (serves image ptr o Gave) → from ≡ source_of (access_of s ptr) (serves image ptr o call)
+    go None none named = named
+    go (Some place) none named = absurd (omega (arith, none))
+named-any size image s ptr GivenBack call none named = tt
+named-any size image s ptr (PoolRefused c) call none named = go (place_asked size ptr s) none named
+  where
+    go : (o : Option ℕ) → length (read_on ptr.key o) ≡ 0 → IsFromPool (source_of (access_of s ptr) (serves image ptr o Gave)) → IsFromPool (source_of (access_of s ptr) (serves image ptr o call))
+    go None none named = named
+    go (Some place) none named = absurd (omega (arith, none))
+named-any size image s ptr NoEffect call none named = tt
+
+-- so the next call may be any, where it made none
+named-next : (size : ℕ) (image : List ℕ) (s : PlainShard) (ptr : Ptr) (e : Effect) (own rest : List Call) → length own ≡ length (asked_by_read size s ptr e) → NamesServed (source_at size image s ptr (next_call own)) e
+    → NamesServed (source_at size image s ptr (next_call (own ++ rest))) e
+named-next size image s ptr e [] rest many named = named-any size image s ptr e (next_call rest) (sym many) named
+named-next size image s ptr e (call ∷ calls) rest many named = named
+
 -- ---- what is known of each line
 
-module _ {C P : Type 0} (g : Config) (pools : Ghosts P) (device : ℕ) (blocks : List Ptr) (image : List ℕ) where
-  line-served : (o : Op) (r : Reply) (a b : At C P) → DidLine g pools device blocks o r a b → IsAlone device a.party → pools.size a.pool ≡ length image → pools.told a.pool ≡ Some image
-      → IsPlainlyServed image blocks (now_of g (shard_of_line g.shards blocks o) a.party) a.kept o r
-  line-served o r a b did alone size told = record {
-    answer = subst (λ (x : ℕ × Option (List ℕ)). AnswersNow x.0 x.1 blocks a.kept o r) (λ h. (size h, told h)) did.answer;
-    found = did.found alone;
-    range = λ came. subst (λ (x : Option (List ℕ)). IfSome x (λ l. IsReadOfImage l blocks o r)) told (did.range came);
-  }
+-- the calls that a line made of the device, and that it names where its bytes come from
+record IsAskedSo (from : Images) (blocks : List Ptr) (s : PlainShard) (o : Op) (r : Reply) (own rest : List Call) : Type 0 where
+  pub many : length own ≡ length (asked_by (length from.device) blocks s o r)
+  pub named : IsNamed from blocks s o r (next_call (own ++ rest))
 
-  lines-served : (os : List Op) (rs : List Reply) (a b : At C P) → DidLines g pools device blocks os rs a b → IsAlone device a.party → pools.size a.pool ≡ length image → pools.told a.pool ≡ Some image
-      → AllLinesOver (IsPlainlyServed image blocks) g.shards blocks (λ i. now_of g i a.party) a.kept os rs
-  lines-served [] [] a b did alone size told = tt
-  lines-served [] (r ∷ rs) a b did alone size told = absurd did
-  lines-served (o ∷ os) [] a b did alone size told = absurd did
-  lines-served (o ∷ os) (r ∷ rs) a b did alone size told =
+-- only reads are asked for
+abbrev IsRead : Asked → Type 0
+IsRead (Read place n) = Unit {0}
+IsRead (Write place bytes) = ⊥
+IsRead Flush = ⊥
+
+reads-only : (size : ℕ) (s : PlainShard) (ptr : Ptr) (e : Effect) → AllByRecursion IsRead (asked_by_read size s ptr e)
+reads-only size s ptr (Answered from) = go (place_asked size ptr s)
+  where
+    go : (o : Option ℕ) → AllByRecursion IsRead (read_on ptr.key o)
+    go None = tt
+    go (Some place) = (tt, tt)
+reads-only size s ptr GivenBack = tt
+reads-only size s ptr (PoolRefused c) = go (place_asked size ptr s)
+  where
+    go : (o : Option ℕ) → AllByRecursion IsRead (read_on ptr.key o)
+    go None = tt
+    go (Some place) = (tt, tt)
+reads-only size s ptr NoEffect = tt
+
+module _ {D : Type 0} (devices : DeviceGhosts D) (from : Images) (blocks : List Ptr) where
+  -- the device as it is told
+  abbrev IsTold : D → Type 0
+  IsTold x = (devices.size x ≡ length from.device) × (devices.told x ≡ Some from.device)
+
+  read-asked : (s : PlainShard) (there : Option Ptr) (e : Effect) (own rest : List Call) (x y : D) → IsTold x → AsksBlock devices s there e own x y
+      → (length own ≡ length (option_map_or (λ ptr. asked_by_read (length from.device) s ptr e) there []))
+      × IfSome there (λ ptr. NamesServed (source_at (length from.device) from.device s ptr (next_call (own ++ rest))) e)
+  read-asked s None e own rest x y told asks = (ap length asks.0, tt)
+  read-asked s (Some ptr) e own rest x y told asks =
+      let many : length own ≡ length (asked_by_read (length from.device) s ptr e) = asks.many ∙ ap (λ (n : ℕ). length (asked_by_read n s ptr e)) told.0 in
+      let served : IfSome (Some from.device) (λ image. NamesServed (source_at (devices.size x) image s ptr (next_call own)) e) = subst (λ (o : Option (List ℕ)). IfSome o (λ image. NamesServed (source_at (devices.size x) image s ptr (next_call own)) e)) told.1 asks.served in
+      (many, named-next (length from.device) from.device s ptr e own rest many (subst (λ (n : ℕ). NamesServed (source_at n from.device s ptr (next_call own)) e) told.0 served))
+
+  line-asked : (s : PlainShard) (o : Op) (r : Reply) (own rest : List Call) (x y : D) → IsTold x → AsksLine devices blocks s o r own x y → IsAskedSo from blocks s o r own rest
+  line-asked s (ops.Read n t b window) r own rest x y told asks = let both = read-asked s (slice_get blocks b) (effect_of r) own rest x y told asks in record { many = both.0; named = both.1 }
+  line-asked s (ops.Hold n t b) r own rest x y told asks = let both = read-asked s (slice_get blocks b) (effect_of r) own rest x y told asks in record { many = both.0; named = both.1 }
+  line-asked s other r own rest x y told asks = record { many = ap length asks.0; named = tt }
+
+  -- what a line asks leaves what it tells
+  call-told : (a : Asked) (c : Call) (x y : D) → IsRead a → IsTold x → MakesDeviceCall devices (answered c a) x y → IsTold y
+  call-told (Read place n) c x y is told made = (made.size ∙ told.0, go (devices.told x) (devices.told y) told.1 made.told)
+    where
+      go : (o p : Option (List ℕ)) → o ≡ Some from.device → IsToldAfter (Read place n) c o p → p ≡ Some from.device
+      go None p is after = cc
+      go (Some old) None is after = absurd after
+      go (Some old) (Some new) is after = ap (λ (l : List ℕ). Some l) after ∙ is
+  call-told (Write place bytes) c x y is told made = absurd is
+  call-told Flush c x y is told made = absurd is
+
+  calls-told : (asked : List Asked) (calls : List Call) (x y : D) → AllByRecursion IsRead asked → IsTold x → MakesDeviceCalls devices (answered_all calls asked) x y → IsTold y
+  calls-told asked [] x y reads told made = subst IsTold (sym made) told
+  calls-told [] (c ∷ cs) x y reads told made = subst IsTold (sym made) told
+  calls-told (a ∷ as) (c ∷ cs) x y reads told made = calls-told as cs made.0 y reads.1 (call-told a c x made.0 reads.0 told made.1) made.2
+
+  block-told : (s : PlainShard) (there : Option Ptr) (e : Effect) (own : List Call) (x y : D) → IsTold x → AsksBlock devices s there e own x y → IsTold y
+  block-told s None e own x y told asks = subst IsTold (sym asks.1) told
+  block-told s (Some ptr) e own x y told asks = calls-told (asked_by_read (devices.size x) s ptr e) own x y (reads-only (devices.size x) s ptr e) told asks.made
+
+  line-told : (s : PlainShard) (o : Op) (r : Reply) (own : List Call) (x y : D) → IsTold x → AsksLine devices blocks s o r own x y → IsTold y
+  line-told s (ops.Read n t b window) r own x y told asks = block-told s (slice_get blocks b) (effect_of r) own x y told asks
+  line-told s (ops.Hold n t b) r own x y told asks = block-told s (slice_get blocks b) (effect_of r) own x y told asks
+  line-told s other r own x y told asks = subst IsTold (sym asks.1) told
+
+-- each line is answered as the plain run may answer it, with the calls that it made of the device; these are all that were made
+abbrev AllServed : Images → (shards : ℕ) → List Ptr → (ℕ → PlainShard) → List KeptRead → List Op → List Reply → List Call → Type 0
+AllServed from shards blocks s kept [] [] calls = Unit {0}
+AllServed from shards blocks s kept [] (r ∷ rs) calls = ⊥
+AllServed from shards blocks s kept (o ∷ os) [] calls = ⊥
+AllServed from shards blocks s kept (o ∷ os) (r ∷ rs) calls =
+    (own rest : List Call) × (calls ≡ own ++ rest) × (length own ≡ length (asked_by (length from.device) blocks (s (shard_of_line shards blocks o)) o r))
+    × IsPlainlyServed from blocks (s (shard_of_line shards blocks o)) kept o r (next_call calls)
+    × AllServed from shards blocks (shards_after shards blocks s kept o r) (kept_after blocks o r kept) os rs rest
+
+module _ {C P D : Type 0} (g : Config) (pools : Ghosts P) (device : ℕ) (devices : DeviceGhosts D) (blocks : List Ptr) (from : Images) where
+  line-served : (o : Op) (r : Reply) (a b : At C P) (own rest calls : List Call) (x y : D) → calls ≡ own ++ rest → DidLine g pools device blocks o r a b → pools.size a.pool ≡ length from.pool → pools.told a.pool ≡ Some from.pool
+      → IsTold devices from blocks x → AsksLine devices blocks (now_of g (shard_of_line g.shards blocks o) a.party) o r own x y
+      → (length own ≡ length (asked_by (length from.device) blocks (now_of g (shard_of_line g.shards blocks o) a.party) o r)) × IsPlainlyServed from blocks (now_of g (shard_of_line g.shards blocks o) a.party) a.kept o r (next_call calls)
+  line-served o r a b own rest calls x y is did size told there asks =
+      let s = now_of g (shard_of_line g.shards blocks o) a.party in
+      let asked = line-asked devices from blocks s o r own rest x y there asks in (
+        asked.many,
+        record {
+          answer = subst (λ (x : ℕ × Option (List ℕ)). AnswersNow x.0 x.1 blocks a.kept o r) (λ h. (size h, told h)) did.answer;
+          named = subst (λ (cs : List Call). IsNamed from blocks s o r (next_call cs)) (sym is) asked.named;
+          range = λ came. subst (λ (x : Option (List ℕ)). IfSome x (λ l. IsReadOfImage l blocks o r)) told (did.range came);
+        },
+      )
+
+  lines-served : (os : List Op) (rs : List Reply) (a b : At C P) (calls : List Call) (x y : D) → DidLines g pools device blocks os rs a b → HasAll a.party → pools.size a.pool ≡ length from.pool → pools.told a.pool ≡ Some from.pool
+      → IsTold devices from blocks x → AsksLines devices g.shards blocks (λ i. now_of g i a.party) a.kept os rs calls x y
+      → AllServed from g.shards blocks (λ i. now_of g i a.party) a.kept os rs calls
+  lines-served [] [] a b calls x y did alone size told there asks = tt
+  lines-served [] (r ∷ rs) a b calls x y did alone size told there asks = absurd did
+  lines-served (o ∷ os) [] a b calls x y did alone size told there asks = absurd did
+  lines-served (o ∷ os) (r ∷ rs) a b calls x y did alone size told there asks =
       let next = did.0 in
       let one = did.1 in
-      let rest = lines-served os rs next b did.2 (all-then g pools device blocks a.party next.party one.did.all alone) (one.keeps.size ∙ size) (one.keeps.told ∙ told) in
-      let same : (λ (i : ℕ). now_of g i next.party) ≡ shards_after g.shards blocks (λ i. now_of g i a.party) a.kept o r = λ h i. line-now g pools device blocks o r a next one alone i h in (
-        line-served o r a next one alone size told,
-        subst (λ (x : (ℕ → PlainShard) × List KeptRead). AllLinesOver (IsPlainlyServed image blocks) g.shards blocks x.0 x.1 os rs) (λ h. (same h, one.kept h)) rest,
+      let own = asks.0 in
+      let rest = asks.1 in
+      let here = line-served o r a next own rest calls x asks.2 asks.3 one size told there asks.4 in
+      let same : (λ (i : ℕ). now_of g i next.party) ≡ shards_after g.shards blocks (λ i. now_of g i a.party) a.kept o r = λ h i. line-now g pools device blocks o r a next one alone i h in
+      let goes = lines-served os rs next b rest asks.2 y did.2 (one.did.all alone) (one.keeps.size ∙ size) (one.keeps.told ∙ told)
+          (line-told devices from blocks (now_of g (shard_of_line g.shards blocks o) a.party) o r own x asks.2 there asks.4)
+          (subst (λ (z : (ℕ → PlainShard) × List KeptRead). AsksLines devices g.shards blocks z.0 z.1 os rs rest asks.2 y) (λ h. (sym same h, sym one.kept h)) asks.5) in
+      (own, rest, asks.3, here.0, here.1, subst (λ (z : (ℕ → PlainShard) × List KeptRead). AllServed from g.shards blocks z.0 z.1 os rs rest) (λ h. (same h, one.kept h)) goes)
+
+-- ---- over no device
+
+-- a block whose key is accepted has no place on it
+none-on : (ptr : Ptr) (s : PlainShard) (len : ℕ) → IsValid len ptr.key → place_asked 0 ptr s ≡ None
+none-on ptr s len valid = of_access (access_of s ptr)
+  where
+    some-size : 0 < ptr.key.size
+    some-size = let most = valid.formed.sized.1 in omega arith
+
+    past-end : (place : ℕ) → nat_le (place + ptr.key.size) 0 ≡ false
+    past-end place = let more = some-size in grind (arith, nat_tests, more)
+
+    of_place : (known : Option Digest) (o : Option ℕ) → option_and_then (place_in 0 ptr known) o ≡ None
+    of_place known None = refl
+    of_place known (Some place) = rw (past-end place) refl
+
+    of_entry : (o : Option Entry) → option_and_then (λ e. option_and_then (place_in 0 ptr e.digest) e.place) o ≡ None
+    of_entry None = refl
+    of_entry (Some e) = of_place e.digest e.place
+
+    of_access : (a : Access) → place_on 0 ptr s a ≡ None
+    of_access access.Hit = refl
+    of_access (access.Past kept) = refl
+    of_access access.Miss = of_entry (entry_of ptr.key s)
+
+-- what a read names that the device did not serve
+named-pool : (a : Access) (e : Effect) → NamesSource a e → (CameFromDevice e → ⊥) → NamesServed (source_of a false) e
+named-pool access.Hit (Answered from) named other = named
+named-pool (access.Past kept) (Answered from) named other = named
+named-pool access.Miss (Answered from) named other = elim named [
+  | inl pool ↦ pool
+  | inr l2 ↦ absurd (other (subst (λ (f : Served). CameFromDevice (Answered f)) (sym l2) tt))
+]
+named-pool a GivenBack named other = tt
+named-pool access.Hit (PoolRefused c) named other = absurd named
+named-pool (access.Past kept) (PoolRefused c) named other = tt
+named-pool access.Miss (PoolRefused c) named other = tt
+named-pool a NoEffect named other = tt
+
+-- an answered read, or one that the pool refused, has a key that is accepted
+abbrev Touches : Effect → Type 0
+Touches (Answered from) = Unit {0}
+Touches GivenBack = ⊥
+Touches (PoolRefused call) = Unit {0}
+Touches NoEffect = ⊥
+
+refused-valid : (len : ℕ) (image : Option (List ℕ)) (ptr : Ptr) (r : Refusal) → IsReadRefusal len image ptr r → Touches (effect_of_refusal r) → IsValid len ptr.key
+refused-valid len image ptr refusal.PoolFault answer touches = answer
+refused-valid len image ptr (refusal.Mismatch found) answer touches = answer.0
+refused-valid len image ptr other answer touches = absurd touches
+
+window-valid : (len : ℕ) (image : Option (List ℕ)) (ptr : Ptr) (window : Window) (r : Refusal) → IsWindowRefusal len image ptr window r → Touches (effect_of_refusal r) → IsValid len ptr.key
+window-valid len image ptr window refusal.PoolFault answer touches = answer.1
+window-valid len image ptr window (refusal.Mismatch found) answer touches = answer.1.0
+window-valid len image ptr window other answer touches = absurd touches
+
+read-valid : (len : ℕ) (image : Option (List ℕ)) (ptr : Ptr) (window : Window) (reply : Reply) → AnswersRead len image ptr window reply → Touches (effect_of reply) → IsValid len ptr.key
+read-valid len image ptr window (Read from digest shown) answer touches = answer.1
+read-valid len image ptr window (Refused r) answer touches = window-valid len image ptr window r answer touches
+read-valid len image ptr window other answer touches = absurd answer
+
+hold-valid : (len : ℕ) (image : Option (List ℕ)) (ptr : Ptr) (reply : Reply) → AnswersHold len image ptr reply → Touches (effect_of reply) → IsValid len ptr.key
+hold-valid len image ptr (Kept from) answer touches = answer.0
+hold-valid len image ptr (Refused r) answer touches = refused-valid len image ptr r answer touches
+hold-valid len image ptr other answer touches = absurd answer
+
+module _ {D : Type 0} (devices : DeviceGhosts D) where
+  -- a read of an accepted key asks nothing
+  asks-none : (s : PlainShard) (ptr : Ptr) (e : Effect) (own : List Call) (x y : D) (len : ℕ) → (Touches e → IsValid len ptr.key) → devices.size x ≡ 0 → AsksRead devices s ptr e own x y → (asked_by_read 0 s ptr e ≡ []) × (own ≡ [])
+  asks-none s ptr e own x y len valid short asks = let none = nothing e valid in (none, no-call own (asks.many ∙ ap (λ (n : ℕ). length (asked_by_read n s ptr e)) short ∙ ap length none))
+    where
+      nothing : (e : Effect) → (Touches e → IsValid len ptr.key) → asked_by_read 0 s ptr e ≡ []
+      nothing (Answered from) valid = ap (read_on ptr.key) (none-on ptr s len (valid tt))
+      nothing GivenBack valid = refl
+      nothing (PoolRefused c) valid = ap (read_on ptr.key) (none-on ptr s len (valid tt))
+      nothing NoEffect valid = refl
+
+      no-call : (cs : List Call) → length cs ≡ 0 → cs ≡ []
+      no-call [] none = refl
+      no-call (c ∷ cs) none = absurd (omega (arith, none))
+
+  -- so it names the pool, where it is no hit
+  names-pool : (s : PlainShard) (ptr : Ptr) (e : Effect) (own : List Call) (x y : D) (len : ℕ) (image : List ℕ) → (Touches e → IsValid len ptr.key) → devices.size x ≡ 0 → AsksRead devices s ptr e own x y → NamesSource (access_of s ptr) e
+      → NamesServed (source_at 0 image s ptr Gave) e
+  names-pool s ptr e own x y len image valid short asks named = go e valid named (λ came. let one = asks.gave came in let none = (asks-none s ptr e own x y len valid short asks).1 in let never : [] ≡ Gave ∷ [] = sym none ∙ one in cc)
+    where
+      source : IsValid len ptr.key → source_at 0 image s ptr Gave ≡ source_of (access_of s ptr) false
+      source ok = ap (λ (o : Option ℕ). source_of (access_of s ptr) (serves image ptr o Gave)) (none-on ptr s len ok)
+
+      go : (e : Effect) → (Touches e → IsValid len ptr.key) → NamesSource (access_of s ptr) e → (CameFromDevice e → ⊥) → NamesServed (source_at 0 image s ptr Gave) e
+      go (Answered from) valid named other = subst (λ (f : Served). NamesServed f (Answered from)) (sym (source (valid tt))) (named-pool (access_of s ptr) (Answered from) named other)
+      go GivenBack valid named other = tt
+      go (PoolRefused c) valid named other = subst (λ (f : Served). NamesServed f (PoolRefused c)) (sym (source (valid tt))) (named-pool (access_of s ptr) (PoolRefused c) named other)
+      go NoEffect valid named other = tt
+
+  -- what is so of a line
+  still : (s : PlainShard) (ptr : Ptr) (e : Effect) (own : List Call) (x y : D) → own ≡ [] → devices.size x ≡ 0 → AsksRead devices s ptr e own x y → devices.size y ≡ 0
+  still s ptr e own x y none short asks =
+      let same : y ≡ x = subst (λ (cs : List Call). MakesDeviceCalls devices (answered_all cs (asked_by_read (devices.size x) s ptr e)) x y) none asks.made in
+      ap devices.size same ∙ short
+
+  line-unlent : (blocks : List Ptr) (pool : List ℕ) (s : PlainShard) (kept : List KeptRead) (o : Op) (r : Reply) (own : List Call) (x y : D) → devices.size x ≡ 0 → AnswersNow (length pool) (Some pool) blocks kept o r → IsFoundAs blocks s o r
+      → AsksLine devices blocks s o r own x y → (own ≡ []) × (devices.size y ≡ 0) × (asked_by 0 blocks s o r ≡ []) × IsNamed (images pool []) blocks s o r Gave
+  line-unlent blocks pool s kept (ops.Read n t b window) r own x y short answer found asks =
+      let at = answer.1 in
+      let ptr = answer.0 in
+      let one : AsksRead devices s ptr (effect_of r) own x y = rw at at asks in
+      let ok = read-valid (length pool) (Some pool) ptr window r answer.2 in
+      let none = asks-none s ptr (effect_of r) own x y (length pool) ok short one in
+      (none.1, still s ptr (effect_of r) own x y none.1 short one, rw at none.0, rw at (names-pool s ptr (effect_of r) own x y (length pool) [] ok short one (rw at at found)))
+  line-unlent blocks pool s kept (ops.Hold n t b) r own x y short answer found asks =
+      let at = answer.1 in
+      let ptr = answer.0 in
+      let one : AsksRead devices s ptr (effect_of r) own x y = rw at at asks in
+      let ok = hold-valid (length pool) (Some pool) ptr r answer.2 in
+      let none = asks-none s ptr (effect_of r) own x y (length pool) ok short one in
+      (none.1, still s ptr (effect_of r) own x y none.1 short one, rw at none.0, rw at (names-pool s ptr (effect_of r) own x y (length pool) [] ok short one (rw at at found)))
+  line-unlent blocks pool s kept other r own x y short answer found asks = (asks.0, ap devices.size asks.1 ∙ short, refl, tt)
+
+module _ {C P D : Type 0} (g : Config) (pools : Ghosts P) (device : ℕ) (devices : DeviceGhosts D) (blocks : List Ptr) (pool : List ℕ) where
+  lines-unlent : (os : List Op) (rs : List Reply) (a b : At C P) (calls : List Call) (x y : D) → DidLines g pools device blocks os rs a b → HasAll a.party → pools.size a.pool ≡ length pool → pools.told a.pool ≡ Some pool
+      → devices.size x ≡ 0 → AsksLines devices g.shards blocks (λ i. now_of g i a.party) a.kept os rs calls x y
+      → AllServed (images pool []) g.shards blocks (λ i. now_of g i a.party) a.kept os rs []
+  lines-unlent [] [] a b calls x y did alone size told short asks = tt
+  lines-unlent [] (r ∷ rs) a b calls x y did alone size told short asks = absurd did
+  lines-unlent (o ∷ os) [] a b calls x y did alone size told short asks = absurd did
+  lines-unlent (o ∷ os) (r ∷ rs) a b calls x y did alone size told short asks =
+      let next = did.0 in
+      let one = did.1 in
+      let s = now_of g (shard_of_line g.shards blocks o) a.party in
+      let answer : AnswersNow (length pool) (Some pool) blocks a.kept o r = subst (λ (x : ℕ × Option (List ℕ)). AnswersNow x.0 x.1 blocks a.kept o r) (λ h. (size h, told h)) one.answer in
+      let here = line-unlent devices blocks pool s a.kept o r asks.0 x asks.2 short answer (one.found alone) asks.4 in
+      let same : (λ (i : ℕ). now_of g i next.party) ≡ shards_after g.shards blocks (λ i. now_of g i a.party) a.kept o r = λ h i. line-now g pools device blocks o r a next one alone i h in
+      let goes = lines-unlent os rs next b asks.1 asks.2 y did.2 (one.did.all alone) (one.keeps.size ∙ size) (one.keeps.told ∙ told) here.1
+          (subst (λ (z : (ℕ → PlainShard) × List KeptRead). AsksLines devices g.shards blocks z.0 z.1 os rs asks.1 asks.2 y) (λ h. (sym same h, sym one.kept h)) asks.5) in
+      (
+        [],
+        [],
+        refl,
+        sym (ap length here.2),
+        record { answer = answer; named = here.3; range = λ came. subst (λ (x : Option (List ℕ)). IfSome x (λ l. IsReadOfImage l blocks o r)) told (one.range came) },
+        subst (λ (z : (ℕ → PlainShard) × List KeptRead). AllServed (images pool []) g.shards blocks z.0 z.1 os rs []) (λ h. (same h, one.kept h)) goes,
       )
 
 -- ---- all replies
 
-module _ (image : List ℕ) (shards : ℕ) (blocks : List Ptr) where
-  -- each digest that a shard keeps is that of the told bytes, also after a line
-  told-shards : (s : ℕ → PlainShard) (kept : List KeptRead) (o : Op) (r : Reply) → ((i : ℕ) → AreTold image (s i).entries)
-      → ((i : ℕ) → is_in_shard shards blocks i o ≡ true → AllByRecursion (Brings image) (events_of blocks (s i) kept o r)) → (i : ℕ) → AreTold image (shards_after shards blocks s kept o r i).entries
-  told-shards s kept o r told brings i = go (is_in_shard shards blocks i o) refl
-    where
-      go : (t : Bool) → is_in_shard shards blocks i o ≡ t → AreTold image (replay (s i) (if t then events_of blocks (s i) kept o r else [])).entries
-      go true is = told-replay image (s i) (events_of blocks (s i) kept o r) (brings i is) (told i)
-      go false is = told i
+-- what a line asks the device for, and what it brings, goes by what it did
+alike-asked : (size : ℕ) (blocks : List Ptr) (s : PlainShard) (op : Op) (a b : Reply) → effect_of a ≡ effect_of b → asked_by size blocks s op a ≡ asked_by size blocks s op b
+alike-asked size blocks s (ops.Read n t x window) a b same = ap (λ (e : Effect). option_map_or (λ ptr. asked_by_read size s ptr e) (slice_get blocks x) []) same
+alike-asked size blocks s (ops.Hold n t x) a b same = ap (λ (e : Effect). option_map_or (λ ptr. asked_by_read size s ptr e) (slice_get blocks x) []) same
+alike-asked size blocks s other a b same = refl
 
+alike-contents : (from : Images) (blocks : List Ptr) (s : PlainShard) (contents : Contents) (op : Op) (a b : Reply) → effect_of a ≡ effect_of b → contents_after from blocks s op a contents ≡ contents_after from blocks s op b contents
+alike-contents from blocks s contents (ops.Read n t x window) a b same = ap (λ (e : Effect). option_map_or (λ ptr. contents_with from contents s ptr e) (slice_get blocks x) contents) same
+alike-contents from blocks s contents (ops.Hold n t x) a b same = ap (λ (e : Effect). option_map_or (λ ptr. contents_with from contents s ptr e) (slice_get blocks x) contents) same
+alike-contents from blocks s contents other a b same = refl
+
+module _ (from : Images) (shards : ℕ) (blocks : List Ptr) where
   -- a line on a block of a shard brings nothing else there; a capacity brings nothing into any
-  brings-in : (s : ℕ → PlainShard) (kept : List KeptRead) (o : Op) (r : Reply) → IsPlainlyServed image blocks (s (shard_of_line shards blocks o)) kept o r → (i : ℕ) → is_in_shard shards blocks i o ≡ true
-      → AllByRecursion (Brings image) (events_of blocks (s i) kept o r)
-  brings-in s kept (ops.Read n t x window) r is i in_it = subst (λ (j : ℕ). AllByRecursion (Brings image) (events_of blocks (s j) kept (ops.Read n t x window) r)) (eqb-true (shard_of_block shards blocks x) i in_it)
-      (line-brings image blocks (s (shard_of_block shards blocks x)) kept (ops.Read n t x window) r is)
-  brings-in s kept (ops.Hold n t x) r is i in_it = subst (λ (j : ℕ). AllByRecursion (Brings image) (events_of blocks (s j) kept (ops.Hold n t x) r)) (eqb-true (shard_of_block shards blocks x) i in_it)
-      (line-brings image blocks (s (shard_of_block shards blocks x)) kept (ops.Hold n t x) r is)
-  brings-in s kept (ops.Drop n x) r is i in_it = subst (λ (j : ℕ). AllByRecursion (Brings image) (events_of blocks (s j) kept (ops.Drop n x) r)) (eqb-true (shard_of_block shards blocks x) i in_it)
-      (line-brings image blocks (s (shard_of_block shards blocks x)) kept (ops.Drop n x) r is)
-  brings-in s kept (ops.Cap c) r is i in_it = (tt, tt)
-  brings-in s kept other r is i in_it = tt
+  brings-in : (s : ℕ → PlainShard) (kept : List KeptRead) (contents : Contents) (o : Op) (r : Reply) (call : Call) → IsPlainlyServed from blocks (s (shard_of_line shards blocks o)) kept o r call → (i : ℕ) → is_in_shard shards blocks i o ≡ true
+      → AllByRecursion (Brings (contents_after from blocks (s (shard_of_line shards blocks o)) o r contents)) (events_of blocks (s i) kept o r)
+  brings-in s kept contents (ops.Read n t x window) r call is i in_it =
+      let here = shard_of_block shards blocks x in
+      subst (λ (j : ℕ). AllByRecursion (Brings (contents_after from blocks (s here) (ops.Read n t x window) r contents)) (events_of blocks (s j) kept (ops.Read n t x window) r)) (eqb-true here i in_it)
+      (line-brings from contents blocks (s here) kept (ops.Read n t x window) r call is)
+  brings-in s kept contents (ops.Hold n t x) r call is i in_it =
+      let here = shard_of_block shards blocks x in
+      subst (λ (j : ℕ). AllByRecursion (Brings (contents_after from blocks (s here) (ops.Hold n t x) r contents)) (events_of blocks (s j) kept (ops.Hold n t x) r)) (eqb-true here i in_it)
+      (line-brings from contents blocks (s here) kept (ops.Hold n t x) r call is)
+  brings-in s kept contents (ops.Drop n x) r call is i in_it =
+      let here = shard_of_block shards blocks x in
+      subst (λ (j : ℕ). AllByRecursion (Brings contents) (events_of blocks (s j) kept (ops.Drop n x) r)) (eqb-true here i in_it)
+      (line-brings from contents blocks (s here) kept (ops.Drop n x) r call is)
+  brings-in s kept contents (ops.Cap c) r call is i in_it = (tt, tt)
+  brings-in s kept contents other r call is i in_it = tt
 
-  pub plain-replies : (s : ℕ → PlainShard) (kept : List KeptRead) (os : List Op) (rs : List Reply) → length rs ≡ length os → ((i : ℕ) → AreTold image (s i).entries)
-      → AllLinesOver (IsPlainlyServed image blocks) shards blocks s kept os rs → ArePlainReplies image blocks os (replies_to image shards blocks s kept os (calls_of_all rs)) rs
-  plain-replies s kept [] [] same told lines = tt
-  plain-replies s kept [] (r ∷ rs) same told lines = absurd (omega arith)
-  plain-replies s kept (o ∷ os) [] same told lines = absurd (omega arith)
-  plain-replies s kept (o ∷ os) (r ∷ rs) same told lines =
+  -- each digest that a shard keeps has its bytes, also after a line
+  told-shards : (s : ℕ → PlainShard) (kept : List KeptRead) (contents : Contents) (o : Op) (r : Reply) (call : Call) → IsPlainlyServed from blocks (s (shard_of_line shards blocks o)) kept o r call
+      → ((i : ℕ) → AreTold contents (s i).entries) → (i : ℕ) → AreTold (contents_after from blocks (s (shard_of_line shards blocks o)) o r contents) (shards_after shards blocks s kept o r i).entries
+  told-shards s kept contents o r call is told i = go (is_in_shard shards blocks i o) refl
+    where
+      then : Contents
+      then = contents_after from blocks (s (shard_of_line shards blocks o)) o r contents
+
+      still : AreTold then (s i).entries
+      still = line-grows from contents blocks (s (shard_of_line shards blocks o)) kept o r call is (s i).entries (told i)
+
+      go : (t : Bool) → is_in_shard shards blocks i o ≡ t → AreTold then (replay (s i) (if t then events_of blocks (s i) kept o r else [])).entries
+      go true in_it = told-replay then (s i) (events_of blocks (s i) kept o r) (brings-in s kept contents o r call is i in_it) still
+      go false in_it = still
+
+  pub plain-replies : (s : ℕ → PlainShard) (kept : List KeptRead) (contents : Contents) (os : List Op) (rs : List Reply) (device_calls : List Call) → ((i : ℕ) → AreTold contents (s i).entries)
+      → AllServed from shards blocks s kept os rs device_calls → ArePlainReplies blocks os (replies_to from shards blocks s kept contents os (calls_of_all rs) device_calls) rs
+  plain-replies s kept contents [] [] device_calls told lines = tt
+  plain-replies s kept contents [] (r ∷ rs) device_calls told lines = absurd lines
+  plain-replies s kept contents (o ∷ os) [] device_calls told lines = absurd lines
+  plain-replies s kept contents (o ∷ os) (r ∷ rs) device_calls told lines =
       let own = calls_of (effect_of r) in
       let rest = calls_of_all rs in
       let call : Call = next_call (own ++ rest) in
-      let i : ℕ = shard_of_line shards blocks o in
-      let p : Reply = reply_to image blocks (s i) kept o call in
-      let first : IsPlainReply image blocks o p r = line-plain image blocks (s i) kept o r call lines.0 (told i) (next-is own rest) in
-      let alike : effect_of p ≡ effect_of r = (plain-alike image blocks o p r first).effect in
+      let asked_own = lines.0 in
+      let asked_rest = lines.1 in
+      let is = lines.4 in
+      let here : PlainShard = s (shard_of_line shards blocks o) in
+      let p : Reply = reply_to from blocks here kept contents o call (next_call device_calls) in
+      let first : IsPlainReply blocks o p r = line-plain from contents blocks here kept o r call (next_call device_calls) is (told (shard_of_line shards blocks o)) (next-is own rest) in
+      let alike : effect_of p ≡ effect_of r = (plain-alike blocks o p r first).effect in
       let after : shards_after shards blocks s kept o p ≡ shards_after shards blocks s kept o r =
       λ h j. replay (s j) (if is_in_shard shards blocks j o then alike-events blocks (s j) kept o p r alike h else []) in
       let left : kept_after blocks o p kept ≡ kept_after blocks o r kept = alike-kept blocks kept o p r alike in
+      let then : contents_after from blocks here o p contents ≡ contents_after from blocks here o r contents = alike-contents from blocks here contents o p r alike in
       let gone : drop (length (calls_of (effect_of p))) (own ++ rest) ≡ rest = (λ h. drop (length (calls_of (alike h))) (own ++ rest)) ∙ drop-front own rest in
-      let goes = plain-replies (shards_after shards blocks s kept o r) (kept_after blocks o r kept) os rs (omega arith) (told-shards s kept o r told (brings-in s kept o r lines.0)) lines.1 in
-      (first, subst (λ (l : List Reply). ArePlainReplies image blocks os l rs) (sym (λ h. replies_to image shards blocks (after h) (left h) os (gone h))) goes)
+      let asked_gone : drop (length (asked_by (length from.device) blocks here o p)) device_calls ≡ asked_rest =
+      (λ h. drop (length (alike-asked (length from.device) blocks here o p r alike h)) (lines.2 h)) ∙ ((λ h. drop (sym lines.3 h) (asked_own ++ asked_rest)) ∙ drop-front asked_own asked_rest) in
+      let goes = plain-replies (shards_after shards blocks s kept o r) (kept_after blocks o r kept) (contents_after from blocks here o r contents) os rs asked_rest (told-shards s kept contents o r (next_call device_calls) is told) lines.5 in
+      (first, subst (λ (l : List Reply). ArePlainReplies blocks os l rs) (sym (λ h. replies_to from shards blocks (after h) (left h) (then h) os (gone h) (asked_gone h))) goes)
 
--- ---- the report
+-- ---- the run
 
--- A caller that is alone and kept nothing, over shards to which keys were restored: its report is that of the plain run, but for other contents of one digest.
-pub plain-alone : {C P : Type 0} (pools : Ghosts P) (device : ℕ) (trace : Trace) (report : Report) (a b : At C P) → DidLines trace.config pools device trace.blocks trace.ops report.replies a b
-    → IsAlone device a.party → a.kept ≡ [] → ((i : ℕ) → now_of trace.config i a.party ≡ restored_shard trace.config (restored_of report.rebuilt) i)
-    → ((image : List ℕ) → pools.told a.pool ≡ Some image → length image ≡ pools.size a.pool) → report ≡ report_with trace report.rebuilt report.replies
-    → IfSome (pools.told a.pool) (λ image. IsPlainReport trace image (report_of trace report.rebuilt image (calls_of_all report.replies)) report)
-plain-alone {C} {P} pools device trace report a b did alone none opens sized is = go (pools.told a.pool) refl
-  where
-    go : (o : Option (List ℕ)) → pools.told a.pool ≡ o → IfSome o (λ image. IsPlainReport trace image (report_of trace report.rebuilt image (calls_of_all report.replies)) report)
-    go None told = tt
-    go (Some image) told =
-        let start : ℕ → PlainShard = restored_shard trace.config (restored_of report.rebuilt) in
-        let served = lines-served trace.config pools device trace.blocks image trace.ops report.replies a b did alone (sym (sized image told)) told in
-        let from : AllLinesOver (IsPlainlyServed image trace.blocks) trace.config.shards trace.blocks start [] trace.ops report.replies =
-        subst (λ (x : (ℕ → PlainShard) × List KeptRead). AllLinesOver (IsPlainlyServed image trace.blocks) trace.config.shards trace.blocks x.0 x.1 trace.ops report.replies) (λ h. (λ i. opens i h, none h)) served in
-        plain-but trace image (replies_to image trace.config.shards trace.blocks start [] trace.ops (calls_of_all report.replies)) report is
-        (plain-replies image trace.config.shards trace.blocks start [] trace.ops report.replies (lines-length trace.config pools device trace.blocks trace.ops report.replies a b did) (λ i. told-restores image (opening_of trace.config) (restores_in trace.config (restored_of report.rebuilt) i) (all-restores trace.config (restored_of report.rebuilt) i) tt) from)
+module _ {C P D : Type 0} (pools : Ghosts P) (device : ℕ) (devices : DeviceGhosts D) (trace : Trace) (restored : List Restored) (replies : List Reply) (a b : At C P) (device_calls : List Call) (x y : D)
+    (did : DidLines trace.config pools device trace.blocks trace.ops replies a b) (alone : HasAll a.party) (none : a.kept ≡ []) (opens : (i : ℕ) → now_of trace.config i a.party ≡ restored_shard trace.config restored i)
+    (asks : AsksLines devices trace.config.shards trace.blocks (restored_shard trace.config restored) [] trace.ops replies device_calls x y) (pool : List ℕ) (told : pools.told a.pool ≡ Some pool) (sized : length pool ≡ pools.size a.pool) where
+  abbrev start : ℕ → PlainShard
+  start = restored_shard trace.config restored
+
+  abbrev state-is : ((ℕ → PlainShard) × List KeptRead) → Type 0
+  state-is z = ◌≡◌ {A = (ℕ → PlainShard) × List KeptRead} (λ i. now_of trace.config i a.party, a.kept) z
+
+  begins : state-is (start, [])
+  begins = λ h. (λ i. opens i h, none h)
+
+  there : AsksLines devices trace.config.shards trace.blocks (λ i. now_of trace.config i a.party) a.kept trace.ops replies device_calls x y
+  there = subst (λ (z : (ℕ → PlainShard) × List KeptRead). AsksLines devices trace.config.shards trace.blocks z.0 z.1 trace.ops replies device_calls x y) (sym begins) asks
+
+  served-plain : (from : Images) (calls : List Call) → AllServed from trace.config.shards trace.blocks (λ i. now_of trace.config i a.party) a.kept trace.ops replies calls
+      → ArePlainReplies trace.blocks trace.ops (replies_to from trace.config.shards trace.blocks start [] no_contents trace.ops (calls_of_all replies) calls) replies
+  served-plain from calls served =
+      plain-replies from trace.config.shards trace.blocks start [] no_contents trace.ops replies calls
+      (λ i. told-restores no_contents (opening_of trace.config) (restores_in trace.config restored i) (all-restores trace.config restored i) tt)
+      (subst (λ (z : (ℕ → PlainShard) × List KeptRead). AllServed from trace.config.shards trace.blocks z.0 z.1 trace.ops replies calls) begins served)
+
+  -- A caller that is alone and kept nothing, over shards to which keys were restored, and over a device that tells its bytes: its replies are those of the
+  -- plain run, but for other contents of one digest.
+  pub plain-alone : (bytes : List ℕ) → devices.told x ≡ Some bytes → length bytes ≡ devices.size x
+      → ArePlainReplies trace.blocks trace.ops (replies_to (images pool bytes) trace.config.shards trace.blocks start [] no_contents trace.ops (calls_of_all replies) device_calls) replies
+  plain-alone bytes device_told device_sized =
+      served-plain (images pool bytes) device_calls (lines-served trace.config pools device devices trace.blocks (images pool bytes) trace.ops replies a b device_calls x y did alone (sym sized) told (sym device_sized, device_told) there)
+
+  -- the same over no device, which was not asked
+  pub plain-unlent : devices.size x ≡ 0 → ArePlainReplies trace.blocks trace.ops (replies_to (images pool []) trace.config.shards trace.blocks start [] no_contents trace.ops (calls_of_all replies) []) replies
+  plain-unlent short = served-plain (images pool []) [] (lines-unlent trace.config pools device devices trace.blocks pool trace.ops replies a b device_calls x y did alone (sym sized) told short there)

@@ -17,8 +17,7 @@ use Rattle.trace_run.specs.one_caller.Access.{events_of_drop}
 use Rattle.trace_run.specs.Effects.{Effect, Answered, GivenBack, PoolRefused, NoEffect, effect_of}
 use Rattle.trace_run.specs.Lines.{is_in_shard, replies_where, shard_of_block}
 use Rattle.trace_run.specs.one_caller.OneCaller.{events_of, events_of_all, events_of_dropping, events_there, is_of_block, kept_after, kept_after_all, kept_after_drop, kept_after_hold, without_oldest}
-use Rattle.trace_run.specs.one_caller.OverShards.{events_over, kept_in_shard}
-use Rattle.trace_run.specs.one_caller.PlainRun.{shards_after}
+use Rattle.trace_run.specs.one_caller.OverShards.{events_over, kept_in_shard, shards_after}
 
 -- ---- the kept reads of one shard
 

@@ -12,25 +12,28 @@ use Rattle.blk_ptr.specs.Order.{digest_eq}
 use Rattle.blk_ptr.specs.Ptr.{IsOf, range_of, sha256_of}
 use Rattle.blk_ptr.specs.Size.{IsBlockSize, is_block_size_of, sector}
 use Rattle.std.proofs.lemmas.Slice.Eq.{bytes_eq-Decides}
+use Rattle.arc_core.specs.declared.served.Served.{Served}
+use Rattle.arc_core.specs.declared.served.Served.TheVariants as served
 use Rattle.arc_core.specs.PlainShard.{PlainShard}
 use Rattle.trace_text.specs.declared.op.Op.{Op}
 use Rattle.trace_text.specs.declared.op.Op.TheVariants as ops
 use Rattle.trace_text.specs.declared.reply.Reply.{Reply}
 use Rattle.trace_text.specs.declared.reply.Reply.TheVariants.{Read, Kept, Dropped, Refused}
+use Rattle.trace_text.specs.declared.reply.Refusal.{Refusal}
 use Rattle.trace_text.specs.declared.reply.Refusal.TheVariants as refusal
 use Rattle.dbuf_state.specs.declared.window.Window.{Window}
-use Rattle.trace_run.specs.one_caller.Access as access
 use Rattle.trace_run.specs.KeptReads.{KeptRead}
-use Rattle.trace_run.specs.one_caller.Access.{Access, AsksPool, access_of, source_of}
-use Rattle.trace_run.specs.Answering.{IsReadOfImage, KeepsImage, ReadsImage}
-use Rattle.trace_run.specs.Answers.{AnswersDrop, AnswersHold, AnswersRead}
+use Rattle.trace_run.specs.one_caller.Asking.{NamesServed, asked_by, next_call}
+use Rattle.trace_run.specs.Answers.{AnswersDrop, AnswersHold, AnswersRead, window_of}
 use Rattle.trace_run.specs.Effects.{calls_from, calls_of, effect_of}
 use Rattle.trace_run.specs.Lines.{shard_of_line}
-use Rattle.trace_run.specs.one_caller.OneCaller.{IsFoundAs, NamesSource, kept_after, oldest_kept}
-use Rattle.trace_run.specs.one_caller.PlainLines.{IsNext, IsPlainLine}
-use Rattle.trace_run.specs.one_caller.PlainRun.{key_fault, next_call, refused_access, replies_to, reply_to, reply_to_drop, reply_to_hold, reply_to_read, shards_after}
+use Rattle.trace_run.specs.one_caller.OneCaller.{kept_after, oldest_kept}
+use Rattle.trace_run.specs.one_caller.OverShards.{shards_after}
+use Rattle.trace_run.specs.one_caller.PlainRun.{Contents, Images, contents_after, key_fault, refused_from, replies_to, reply_to, reply_to_drop, reply_to_hold, reply_to_read}
+use Rattle.trace_run.specs.Read.{IsFromPool}
+use Rattle.trace_run.specs.Reads.{CameFromPool}
 use Rattle.vdev_io.specs.Calls.{Failed, Gave, Call}
-use Rattle.trace_run.specs.Tally.{AnswersNow, kept_of_block}
+use Rattle.trace_run.specs.Tally.{kept_of_block}
 use Rattle.trace_run.proofs.CacheLemmas.{digest_eq-is}
 use Rattle.trace_run.proofs.DropLemmas.{absent-counted, found-counted}
 
@@ -75,18 +78,25 @@ first-key len key fault.BirthZero fails =
 
 -- ---- what the pool gives
 
-of-test : (bytes : List ℕ) (ptr : Ptr) → IsOf bytes ptr → digest_eq (sha256_of bytes) ptr.digest ≡ true
+-- the first of these calls, where there is one
+abbrev pub IsNext : List Call → Call → Type 0
+IsNext [] call = Unit {0}
+IsNext (first ∷ calls) call = first ≡ call
+
+pub of-test : (bytes : List ℕ) (ptr : Ptr) → IsOf bytes ptr → digest_eq (sha256_of bytes) ptr.digest ≡ true
 of-test bytes ptr one = (bytes_eq-Decides (sha256_of bytes).0 ptr.digest.0).1 (ap (λ (d : Digest). d.0) one.digest)
 
-accepted : (image : List ℕ) (ptr : Ptr) (a : Access) (call : Call) → IsOf (range_of image ptr.key) ptr → IsNext (calls_from (source_of a)) call → refused_access image ptr a call ≡ None
-accepted image ptr access.Hit call one next = refl
-accepted image ptr (access.Past kept) call one next = rw (sym next, of-test (range_of image ptr.key) ptr one) refl
-accepted image ptr access.Miss call one next = rw (sym next, of-test (range_of image ptr.key) ptr one) refl
+accepted : (image : List ℕ) (ptr : Ptr) (from : Served) (call : Call) → (IsFromPool from → IsOf (range_of image ptr.key) ptr) → IsNext (calls_from from) call → refused_from image ptr from call ≡ None
+accepted image ptr served.Hit call one next = refl
+accepted image ptr served.L2 call one next = refl
+accepted image ptr served.Pool call one next = rw (sym next, of-test (range_of image ptr.key) ptr (one tt)) refl
+accepted image ptr served.Past call one next = rw (sym next, of-test (range_of image ptr.key) ptr (one tt)) refl
 
-failed : (image : List ℕ) (ptr : Ptr) (a : Access) (call : Call) → AsksPool a → Failed ≡ call → refused_access image ptr a call ≡ Some refusal.PoolFault
-failed image ptr access.Hit call asks next = absurd asks
-failed image ptr (access.Past kept) call asks next = rw (sym next) refl
-failed image ptr access.Miss call asks next = rw (sym next) refl
+failed : (image : List ℕ) (ptr : Ptr) (from : Served) (call : Call) → IsFromPool from → Failed ≡ call → refused_from image ptr from call ≡ Some refusal.PoolFault
+failed image ptr served.Hit call asks next = absurd asks
+failed image ptr served.L2 call asks next = absurd asks
+failed image ptr served.Pool call asks next = rw (sym next) refl
+failed image ptr served.Past call asks next = rw (sym next) refl
 
 differs-test : (image : List ℕ) (ptr : Ptr) (found : Digest) → found ≡ sha256_of (range_of image ptr.key) → found ≢ ptr.digest → digest_eq (sha256_of (range_of image ptr.key)) ptr.digest ≡ false
 differs-test image ptr found is other = elim (cases_true (digest_eq (sha256_of (range_of image ptr.key)) ptr.digest)) [
@@ -94,47 +104,49 @@ differs-test image ptr found is other = elim (cases_true (digest_eq (sha256_of (
   | inr differs ↦ differs
 ]
 
-mismatched : (image : List ℕ) (ptr : Ptr) (a : Access) (call : Call) (found : Digest) → AsksPool a → Gave ≡ call → found ≡ sha256_of (range_of image ptr.key) → found ≢ ptr.digest
-    → refused_access image ptr a call ≡ Some (refusal.Mismatch found)
-mismatched image ptr access.Hit call found asks next is other = absurd asks
-mismatched image ptr (access.Past kept) call found asks next is other = rw (sym next, differs-test image ptr found is other, is) refl
-mismatched image ptr access.Miss call found asks next is other = rw (sym next, differs-test image ptr found is other, is) refl
+mismatched : (image : List ℕ) (ptr : Ptr) (from : Served) (call : Call) (found : Digest) → IsFromPool from → Gave ≡ call → found ≡ sha256_of (range_of image ptr.key) → found ≢ ptr.digest
+    → refused_from image ptr from call ≡ Some (refusal.Mismatch found)
+mismatched image ptr served.Hit call found asks next is other = absurd asks
+mismatched image ptr served.L2 call found asks next is other = absurd asks
+mismatched image ptr served.Pool call found asks next is other = rw (sym next, differs-test image ptr found is other, is) refl
+mismatched image ptr served.Past call found asks next is other = rw (sym next, differs-test image ptr found is other, is) refl
 
 -- ---- one reply
 
-plain-read : (image : List ℕ) (s : PlainShard) (ptr : Ptr) (window : Window) (reply : Reply) (call : Call) → AnswersRead (length image) (Some image) ptr window reply
-    → NamesSource (access_of s ptr) (effect_of reply) → ReadsImage image ptr window reply → IsNext (calls_of (effect_of reply)) call → reply ≡ reply_to_read image s ptr window call
-plain-read image s ptr window (Read served digest shown) call answer named read next =
-    let inside = least-test ptr.key.size (window.at + window.len) answer.0 in
-    let valid = valid-key (length image) ptr.key answer.1 in
-    let fine = accepted image ptr (access_of s ptr) call read.of (subst (λ f. IsNext (calls_from f) call) named next) in
-    rw (inside, valid, fine, named, answer.2, read.range) refl
-plain-read image s ptr window (Refused refusal.PoolFault) call answer named read next =
-    rw (least-test ptr.key.size (window.at + window.len) answer.0, valid-key (length image) ptr.key answer.1, failed image ptr (access_of s ptr) call named next) refl
-plain-read image s ptr window (Refused (refusal.Mismatch found)) call answer named read next =
+-- a read whose bytes come from here is answered as the plain run does with the bytes that it shows
+pub plain-read : (image : List ℕ) (ptr : Ptr) (window : Window) (from : Served) (digest : Digest) (shown bytes : List ℕ) (call : Call) → AnswersRead (length image) (Some image) ptr window (Read from digest shown)
+    → (IsFromPool from → IsOf (range_of image ptr.key) ptr) → IsNext (calls_from from) call → reply_to_read image ptr window from bytes call ≡ Read from ptr.digest (window_of window bytes)
+plain-read image ptr window from digest shown bytes call answer came next =
+    rw (least-test ptr.key.size (window.at + window.len) answer.0, valid-key (length image) ptr.key answer.1, accepted image ptr from call came next) refl
+
+-- and one that is refused is refused so
+pub plain-refused : (image : List ℕ) (ptr : Ptr) (window : Window) (source : Served) (bytes : List ℕ) (r : Refusal) (call : Call) → AnswersRead (length image) (Some image) ptr window (Refused r)
+    → NamesServed source (effect_of (Refused r)) → IsNext (calls_of (effect_of (Refused r))) call → Refused r ≡ reply_to_read image ptr window source bytes call
+plain-refused image ptr window source bytes refusal.PoolFault call answer named next =
+    rw (least-test ptr.key.size (window.at + window.len) answer.0, valid-key (length image) ptr.key answer.1, failed image ptr source call named next) refl
+plain-refused image ptr window source bytes (refusal.Mismatch found) call answer named next =
     let miss = answer.1.1 in
-    rw (least-test ptr.key.size (window.at + window.len) answer.0, valid-key (length image) ptr.key answer.1.0, mismatched image ptr (access_of s ptr) call found named next miss.plain.0 miss.other) refl
-plain-read image s ptr window (Refused (refusal.Key why)) call answer named read next =
+    rw (least-test ptr.key.size (window.at + window.len) answer.0, valid-key (length image) ptr.key answer.1.0, mismatched image ptr source call found named next miss.plain.0 miss.other) refl
+plain-refused image ptr window source bytes (refusal.Key why) call answer named next =
     rw (least-test ptr.key.size (window.at + window.len) answer.0, first-key (length image) ptr.key why answer.1) refl
-plain-read image s ptr window (Refused (refusal.Range end size)) call answer named read next =
+plain-refused image ptr window source bytes (refusal.Range end size) call answer named next =
     let past : ptr.key.size < window.at + window.len = omega (arith, answer.0, answer.1, answer.2) in
     rw (less-test ptr.key.size (window.at + window.len) past, answer.0, answer.1) refl
-plain-read image s ptr window (Refused other) call answer named read next = absurd answer
-plain-read image s ptr window other call answer named read next = absurd answer
+plain-refused image ptr window source bytes other call answer named next = absurd answer
 
-plain-hold : (image : List ℕ) (s : PlainShard) (ptr : Ptr) (reply : Reply) (call : Call) → AnswersHold (length image) (Some image) ptr reply
-    → NamesSource (access_of s ptr) (effect_of reply) → KeepsImage image ptr reply → IsNext (calls_of (effect_of reply)) call → reply ≡ reply_to_hold image s ptr call
-plain-hold image s ptr (Kept served) call answer named read next =
-    let fine = accepted image ptr (access_of s ptr) call read (subst (λ f. IsNext (calls_from f) call) named next) in
-    rw (valid-key (length image) ptr.key answer.0, fine, named) refl
-plain-hold image s ptr (Refused refusal.PoolFault) call answer named read next = rw (valid-key (length image) ptr.key answer, failed image ptr (access_of s ptr) call named next) refl
-plain-hold image s ptr (Refused (refusal.Mismatch found)) call answer named read next =
-    rw (valid-key (length image) ptr.key answer.0, mismatched image ptr (access_of s ptr) call found named next answer.1.plain.0 answer.1.other) refl
-plain-hold image s ptr (Refused (refusal.Key why)) call answer named read next = rw (first-key (length image) ptr.key why answer) refl
-plain-hold image s ptr (Refused other) call answer named read next = absurd answer
-plain-hold image s ptr other call answer named read next = absurd answer
+pub plain-hold : (image : List ℕ) (ptr : Ptr) (source : Served) (reply : Reply) (call : Call) → AnswersHold (length image) (Some image) ptr reply
+    → NamesServed source (effect_of reply) → (CameFromPool (effect_of reply) → IsOf (range_of image ptr.key) ptr) → IsNext (calls_of (effect_of reply)) call → reply ≡ reply_to_hold image ptr source call
+plain-hold image ptr source (Kept served) call answer named came next =
+    let fine = accepted image ptr served call came next in
+    rw (valid-key (length image) ptr.key answer.0, sym named, fine) refl
+plain-hold image ptr source (Refused refusal.PoolFault) call answer named came next = rw (valid-key (length image) ptr.key answer, failed image ptr source call named next) refl
+plain-hold image ptr source (Refused (refusal.Mismatch found)) call answer named came next =
+    rw (valid-key (length image) ptr.key answer.0, mismatched image ptr source call found named next answer.1.plain.0 answer.1.other) refl
+plain-hold image ptr source (Refused (refusal.Key why)) call answer named came next = rw (first-key (length image) ptr.key why answer) refl
+plain-hold image ptr source (Refused other) call answer named came next = absurd answer
+plain-hold image ptr source other call answer named came next = absurd answer
 
-plain-drop : (x : ℕ) (kept : List KeptRead) (reply : Reply) → AnswersDrop (kept_of_block x kept) 0 x reply → reply ≡ reply_to_drop x kept
+pub plain-drop : (x : ℕ) (kept : List KeptRead) (reply : Reply) → AnswersDrop (kept_of_block x kept) 0 x reply → reply ≡ reply_to_drop x kept
 plain-drop x kept Dropped answer = elim (cases_true (is_some (oldest_kept x kept))) [
   | inl there ↦ rw there refl
   | inr absent ↦ absurd (omega (arith, answer, (absent-counted x kept absent).0))
@@ -145,16 +157,6 @@ plain-drop x kept (Refused (refusal.NoHold missing)) answer = elim (cases_true (
 ]
 plain-drop x kept (Refused other) answer = absurd answer
 plain-drop x kept other answer = absurd answer
-
-pub plain-line : (image : List ℕ) (blocks : List Ptr) (s : PlainShard) (kept : List KeptRead) (op : Op) (reply : Reply) → AnswersNow (length image) (Some image) blocks kept op reply
-    → IsFoundAs blocks s op reply → IsReadOfImage image blocks op reply → IsPlainLine image blocks s kept op reply
-plain-line image blocks s kept (ops.Read n t x window) reply answer found read = λ call next.
-    rw answer.1 (plain-read image s answer.0 window reply call answer.2 (rw answer.1 at found) (rw answer.1 at read) next)
-plain-line image blocks s kept (ops.Hold n t x) reply answer found read = λ call next.
-    rw answer.1 (plain-hold image s answer.0 reply call answer.2 (rw answer.1 at found) (rw answer.1 at read) next)
-plain-line image blocks s kept (ops.Drop n x) reply answer found read = λ call next. plain-drop x kept reply answer
-plain-line image blocks s kept (ops.Cap c) reply answer found read = λ call next. answer
-plain-line image blocks s kept other reply answer found read = absurd answer
 
 -- ---- all replies
 
@@ -180,19 +182,23 @@ drop-gives zero calls all = all
 drop-gives (suc n) [] all = tt
 drop-gives (suc n) (call ∷ calls) all = drop-gives n calls all.1
 
-pub plain-gives : (image : List ℕ) (shards : ℕ) (blocks : List Ptr) (s : ℕ → PlainShard) (kept : List KeptRead) (os : List Op) (calls : List Call) → AllGive calls
-    → replies_to image shards blocks s kept os calls ≡ replies_to image shards blocks s kept os []
-plain-gives image shards blocks s kept [] calls all = refl
-plain-gives image shards blocks s kept (o ∷ os) calls all =
-    let shard = shard_of_line shards blocks o in
+pub plain-gives : (from : Images) (shards : ℕ) (blocks : List Ptr) (s : ℕ → PlainShard) (kept : List KeptRead) (contents : Contents) (os : List Op) (calls device_calls : List Call) → AllGive calls
+    → replies_to from shards blocks s kept contents os calls device_calls ≡ replies_to from shards blocks s kept contents os [] device_calls
+plain-gives from shards blocks s kept contents [] calls device_calls all = refl
+plain-gives from shards blocks s kept contents (o ∷ os) calls device_calls all =
+    let here : PlainShard = s (shard_of_line shards blocks o) in
     let next : Call → List Call → List Reply = λ call cs.
-    let reply = reply_to image blocks (s shard) kept o call in
-    reply ∷ replies_to image shards blocks (shards_after shards blocks s kept o reply) (kept_after blocks o reply kept) os (drop (length (calls_of (effect_of reply))) cs) in
-    let reply = reply_to image blocks (s shard) kept o Gave in
+    let reply = reply_to from blocks here kept contents o call (next_call device_calls) in
+    reply
+    ∷ replies_to from shards blocks (shards_after shards blocks s kept o reply) (kept_after blocks o reply kept) (contents_after from blocks here o reply contents) os (drop (length (calls_of (effect_of reply))) cs)
+    (drop (length (asked_by (length from.device) blocks here o reply)) device_calls) in
+    let reply = reply_to from blocks here kept contents o Gave (next_call device_calls) in
     let count = length (calls_of (effect_of reply)) in
+    let rest = drop (length (asked_by (length from.device) blocks here o reply)) device_calls in
     let after = shards_after shards blocks s kept o reply in
     let left = kept_after blocks o reply kept in
-    let gone : replies_to image shards blocks after left os (drop count calls) ≡ replies_to image shards blocks after left os (drop count []) =
-    plain-gives image shards blocks after left os (drop count calls) (drop-gives count calls all)
-    ∙ sym (plain-gives image shards blocks after left os (drop count []) (drop-gives count [] tt)) in
+    let then = contents_after from blocks here o reply contents in
+    let gone : replies_to from shards blocks after left then os (drop count calls) rest ≡ replies_to from shards blocks after left then os (drop count []) rest =
+    plain-gives from shards blocks after left then os (drop count calls) rest (drop-gives count calls all)
+    ∙ sym (plain-gives from shards blocks after left then os (drop count []) rest (drop-gives count [] tt)) in
     ap (λ (call : Call). next call calls) (next-gives calls all) ∙ ap (λ (l : List Reply). reply ∷ l) gone

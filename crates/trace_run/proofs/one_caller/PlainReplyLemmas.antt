@@ -1,5 +1,5 @@
--- One line of a caller that is alone, over a pool that tells its bytes: its reply is that of the plain run, but that a cached block may be
--- another content of its digest; and what it brings into the shard has the digest of the told bytes.
+-- One line of a caller that is alone, over a pool and a cache device that tell their bytes: its reply is that of the plain run, but that a block which
+-- did not come from the pool may be another content of its digest; and what it brings into the shard has its bytes in the plain run.
 use Rattle.std.proofs.Common.{◌≡◌, ◌≢◌, ℕ, ◌+◌, ◌≤◌, List, ◌++◌, length, drop, Option, Some, None, inl, inr, refl, sym, ap, subst, ◌∙◌, arith, length-drop}
 use Rattle.std.specs.Prelude.{◌⊎◌}
 use Rattle.std.specs.List.{AllByRecursion}
@@ -22,27 +22,144 @@ use Rattle.dbuf_state.specs.declared.window.Window.{Window}
 use Rattle.vdev_io.specs.Calls.{Call}
 use Rattle.trace_run.specs.one_caller.Access as access
 use Rattle.trace_run.specs.KeptReads.{KeptRead}
-use Rattle.trace_run.specs.one_caller.Access.{Access, access_of, events_of_answered, events_of_drop, events_of_refused, held_key, source_of}
+use Rattle.trace_run.specs.one_caller.Access.{Access, access_of, events_of_answered, events_of_drop, events_of_refused, held_key}
+use Rattle.trace_run.specs.one_caller.Asking.{NamesServed, next_call, place_asked, place_on, place_to_ask, serves, source_of}
 use Rattle.trace_run.specs.Answering.{IsReadOfImage, KeepsImage, ReadsImage}
 use Rattle.trace_run.specs.Answers.{AnswersHold, AnswersRead, window_of}
 use Rattle.trace_run.specs.Effects.{Effect, Answered, GivenBack, PoolRefused, NoEffect, calls_of, effect_of, effect_of_refusal}
-use Rattle.trace_run.specs.one_caller.OneCaller.{IsFoundAs, NamesSource, events_of, events_of_dropping, events_of_hold, events_of_read, oldest_key}
-use Rattle.trace_run.specs.one_caller.PlainLines.{IsNext}
+use Rattle.trace_run.specs.one_caller.OneCaller.{events_of, events_of_dropping, events_of_hold, events_of_read, oldest_key}
 use Rattle.trace_run.specs.one_caller.PlainReport.{IsPlainReply, ShowsCollision}
-use Rattle.trace_run.specs.one_caller.PlainRun.{refused_access, reply_to, reply_to_read, reply_unless}
+use Rattle.trace_run.specs.one_caller.PlainRun.{Contents, Images, bytes_in, contents_after, contents_with, reply_to, reply_to_hold, reply_to_read, source_in, with_bytes}
 use Rattle.trace_run.specs.Read.{IsFromPool}
 use Rattle.trace_run.specs.Reads.{CameFromPool}
 use Rattle.trace_run.specs.Answering.{ShowsRange}
 use Rattle.trace_run.specs.Tally.{AnswersNow}
 use Rattle.trace_run.proofs.CacheLemmas.{access-hit}
-use Rattle.trace_run.proofs.one_caller.PlainLemmas.{least-test, plain-line, valid-key}
-use Rattle.trace_run.proofs.one_caller.ResidentLemmas.{AreTold, Brings, told-resident}
+use Rattle.trace_run.proofs.one_caller.PlainLemmas.{IsNext, plain-drop, plain-hold, plain-read, plain-refused}
+use Rattle.trace_run.proofs.one_caller.ResidentLemmas.{AreTold, Brings, HasBytes, told-more, told-resident, with-own}
+use Rattle.trace_run.proofs.ServeLemmas.{same-or-collides}
+
+-- an answered read names where the plain run has its bytes from, and only one that had to ask the pool is refused by it
+abbrev pub IsNamed : (from : Images) → List Ptr → PlainShard → Op → Reply → (device_call : Call) → Type 0
+IsNamed from blocks s (ops.Read n t x window) reply device_call = IfSome (slice_get blocks x) (λ ptr. NamesServed (source_in from s ptr device_call) (effect_of reply))
+IsNamed from blocks s (ops.Hold n t x) reply device_call = IfSome (slice_get blocks x) (λ ptr. NamesServed (source_in from s ptr device_call) (effect_of reply))
+IsNamed from blocks s other reply device_call = Unit {0}
 
 -- What is known of a line: what it may answer, where it found its block, and that bytes from the pool are those that it tells.
-pub record IsPlainlyServed (image : List ℕ) (blocks : List Ptr) (s : PlainShard) (kept : List KeptRead) (op : Op) (reply : Reply) : Type 0 where
-  pub answer : AnswersNow (length image) (Some image) blocks kept op reply
-  pub found : IsFoundAs blocks s op reply
-  pub range : CameFromPool (effect_of reply) → IsReadOfImage image blocks op reply
+pub record IsPlainlyServed (from : Images) (blocks : List Ptr) (s : PlainShard) (kept : List KeptRead) (op : Op) (reply : Reply) (device_call : Call) : Type 0 where
+  pub answer : AnswersNow (length from.pool) (Some from.pool) blocks kept op reply
+  pub named : IsNamed from blocks s op reply device_call
+  pub range : CameFromPool (effect_of reply) → IsReadOfImage from.pool blocks op reply
+
+-- ---- what the device serves
+
+place-inside : (size : ℕ) (ptr : Ptr) (s : PlainShard) (place : ℕ) → place_to_ask size ptr s ≡ Some place → place + ptr.key.size ≤ size
+place-inside size ptr s place is = of_entry (entry_of ptr.key s) is
+  where
+    of_test : (b c : Bool) (at : ℕ) → b ≡ nat_le (at + ptr.key.size) size → (if b && c then Some at else None) ≡ Some place → place + ptr.key.size ≤ size
+    of_test true true at test here = let le : at + ptr.key.size ≤ size = grind (arith, nat_tests, test) in subst (λ (z : ℕ). z + ptr.key.size ≤ size) (some_is here) le
+    of_test true false at test here = cc
+    of_test false c at test here = cc
+
+    of_place : (known : Option Digest) (o : Option ℕ) → option_and_then (place_in size ptr known) o ≡ Some place → place + ptr.key.size ≤ size
+    of_place known None here = cc
+    of_place known (Some at) here = of_test (nat_le (at + ptr.key.size) size) (option_map_or (λ d. digest_eq d ptr.digest) known true) at refl here
+
+    of_entry : (o : Option Entry) → option_and_then (λ e. option_and_then (place_in size ptr e.digest) e.place) o ≡ Some place → place + ptr.key.size ≤ size
+    of_entry None here = cc
+    of_entry (Some e) here = of_place e.digest e.place here
+
+-- an access that found its block cached
+hit-access : (a : Access) (is_served : Bool) → served.Hit ≡ source_of a is_served → a ≡ access.Hit
+hit-access access.Hit is_served is = refl
+hit-access (access.Past kept) is_served is = cc
+hit-access access.Miss true is = cc
+hit-access access.Miss false is = cc
+
+module _ (from : Images) (contents : Contents) (s : PlainShard) (ptr : Ptr) where
+  -- bytes that the device serves are of the pointer
+  l2-of : (call : Call) → served.L2 ≡ source_in from s ptr call → IsOf (bytes_in from contents s ptr served.L2) ptr
+  l2-of call is = of_access (access_of s ptr) is
+    where
+      of_call : (place : ℕ) (c : Call) → place + ptr.key.size ≤ length from.device → served.L2 ≡ source_of access.Miss (serves from.device ptr (Some place) c) → IsOf (bytes_from from.device place ptr.key) ptr
+      of_call place Failed inside is = cc
+      of_call place Gave inside is = elim (cases_true (digest_eq (sha256_of (bytes_from from.device place ptr.key)) ptr.digest)) [
+        | inl same ↦
+            let rest = length-drop place from.device in
+            record { size = length-take-le ptr.key.size (drop place from.device) (omega arith); digest = digest_eq-is (sha256_of (bytes_from from.device place ptr.key)) ptr.digest same }
+        | inr other ↦ let never : served.L2 ≡ served.Pool = rw other at is in cc
+      ]
+
+      of_place : (o : Option ℕ) → place_to_ask (length from.device) ptr s ≡ o → served.L2 ≡ source_of access.Miss (serves from.device ptr o call) → IsOf (bytes_on from.device o ptr.key) ptr
+      of_place None at is = cc
+      of_place (Some place) at is = of_call place call (place-inside (length from.device) ptr s place at) is
+
+      of_access : (a : Access) → served.L2 ≡ source_of a (serves from.device ptr (place_on (length from.device) ptr s a) call) → IsOf (bytes_on from.device (place_on (length from.device) ptr s a) ptr.key) ptr
+      of_access access.Hit is = cc
+      of_access (access.Past kept) is = cc
+      of_access access.Miss is = of_place (place_to_ask (length from.device) ptr s) refl is
+
+  -- and so are those that are cached
+  hit-of : (call : Call) → served.Hit ≡ source_in from s ptr call → AreTold contents s.entries → IsOf (contents ptr) ptr
+  hit-of call is told = told-resident contents s ptr.key ptr.digest told (access-hit s ptr (hit-access (access_of s ptr) _ is))
+
+  -- ---- what a read brings into the shard
+
+  -- a digest that a shard keeps has its bytes still
+  grows : (e : Effect) (call : Call) → NamesServed (source_in from s ptr call) e → (CameFromPool e → IsOf (range_of from.pool ptr.key) ptr) → (es : List Entry) → AreTold contents es
+      → AreTold (contents_with from contents s ptr e) es
+  grows (Answered served.Hit) call named came es told = told
+  grows (Answered served.Past) call named came es told = told
+  grows (Answered served.Pool) call named came es told = told-more ptr (range_of from.pool ptr.key) contents (came tt) es told
+  grows (Answered served.L2) call named came es told = told-more ptr (bytes_in from contents s ptr served.L2) contents (l2-of call named) es told
+  grows GivenBack call named came es told = told
+  grows (PoolRefused c) call named came es told = told
+  grows NoEffect call named came es told = told
+
+  -- what arrives has its bytes
+  arrives : (f : Served) (call : Call) → f ≡ source_in from s ptr call → (f ≡ served.Hit → ⊥) → (f ≡ served.Past → ⊥) → (IsFromPool f → IsOf (range_of from.pool ptr.key) ptr)
+      → HasBytes (contents_with from contents s ptr (Answered f)) ptr.key ptr.digest
+  arrives served.Hit call named hit past came = absurd (hit refl)
+  arrives served.Past call named hit past came = absurd (past refl)
+  arrives served.Pool call named hit past came = subst (λ (l : List ℕ). IsOf l ptr) (sym (with-own ptr (range_of from.pool ptr.key) contents)) (came tt)
+  arrives served.L2 call named hit past came = subst (λ (l : List ℕ). IsOf l ptr) (sym (with-own ptr (bytes_in from contents s ptr served.L2) contents)) (l2-of call named)
+
+  miss-else : (f : Served) (is_served : Bool) → f ≡ source_of access.Miss is_served → (f ≡ served.Hit → ⊥) × (f ≡ served.Past → ⊥)
+  miss-else f true is = (λ e. let never : served.Hit ≡ served.L2 = sym e ∙ is in cc, λ e. let never : served.Past ≡ served.L2 = sym e ∙ is in cc)
+  miss-else f false is = (λ e. let never : served.Hit ≡ served.Pool = sym e ∙ is in cc, λ e. let never : served.Past ≡ served.Pool = sym e ∙ is in cc)
+
+  brings-read : (n t : ℕ) (f : Served) (call : Call) → f ≡ source_in from s ptr call → (IsFromPool f → IsOf (range_of from.pool ptr.key) ptr)
+      → AllByRecursion (Brings (contents_with from contents s ptr (Answered f))) (events_of_answered n t ptr f (access_of s ptr))
+      × AllByRecursion (Brings (contents_with from contents s ptr (Answered f))) (events_of_answered n t ptr f (access_of s ptr) ++ events_of_drop n (held_key ptr (access_of s ptr)))
+  brings-read n t f call named came = go (access_of s ptr) refl
+    where
+      go : (a : Access) → access_of s ptr ≡ a → AllByRecursion (Brings (contents_with from contents s ptr (Answered f))) (events_of_answered n t ptr f a)
+          × AllByRecursion (Brings (contents_with from contents s ptr (Answered f))) (events_of_answered n t ptr f a ++ events_of_drop n (held_key ptr a))
+      go access.Hit is = ((tt, tt), (tt, (tt, tt)))
+      go (access.Past other) is = ((tt, tt), (tt, tt))
+      go access.Miss is =
+          let apart = miss-else f _ (named ∙ ap (λ (a : Access). source_of a (serves from.device ptr (place_asked (length from.device) ptr s) call)) is) in
+          let own = arrives f call named apart.0 apart.1 came in
+          ((tt, (own, tt)), (tt, (own, (tt, tt))))
+
+  brings-refused : (now : Contents) (n t : ℕ) (a : Access) → AllByRecursion (Brings now) (events_of_refused n t ptr a)
+  brings-refused now n t access.Hit = tt
+  brings-refused now n t (access.Past other) = (tt, tt)
+  brings-refused now n t access.Miss = (tt, (tt, tt))
+
+  read-brings : (n t : ℕ) (e : Effect) (call : Call) → NamesServed (source_in from s ptr call) e → (CameFromPool e → IsOf (range_of from.pool ptr.key) ptr)
+      → AllByRecursion (Brings (contents_with from contents s ptr e)) (events_of_read n t s ptr e)
+  read-brings n t (Answered f) call named came = (brings-read n t f call named came).1
+  read-brings n t GivenBack call named came = tt
+  read-brings n t (PoolRefused c) call named came = brings-refused contents n t (access_of s ptr)
+  read-brings n t NoEffect call named came = tt
+
+  hold-brings : (n t : ℕ) (e : Effect) (call : Call) → NamesServed (source_in from s ptr call) e → (CameFromPool e → IsOf (range_of from.pool ptr.key) ptr)
+      → AllByRecursion (Brings (contents_with from contents s ptr e)) (events_of_hold n t s ptr e)
+  hold-brings n t (Answered f) call named came = (brings-read n t f call named came).0
+  hold-brings n t GivenBack call named came = tt
+  hold-brings n t (PoolRefused c) call named came = brings-refused contents n t (access_of s ptr)
+  hold-brings n t NoEffect call named came = tt
 
 -- ---- what a line brings into the shard
 
@@ -64,156 +181,111 @@ module _ (image : List ℕ) where
   hold-came ptr (Refused r) answer range came = absurd (none-came r came)
   hold-came ptr other answer range came = absurd answer
 
-  brings-dropped : (n : ℕ) (o : Option Key) → AllByRecursion (Brings image) (events_of_drop n o)
-  brings-dropped n None = tt
-  brings-dropped n (Some k) = (tt, tt)
+brings-dropped : (contents : Contents) (n : ℕ) (o : Option Key) → AllByRecursion (Brings contents) (events_of_drop n o)
+brings-dropped contents n None = tt
+brings-dropped contents n (Some k) = (tt, tt)
 
-  brings-refused : (n t : ℕ) (ptr : Ptr) (a : Access) → AllByRecursion (Brings image) (events_of_refused n t ptr a)
-  brings-refused n t ptr access.Hit = tt
-  brings-refused n t ptr (access.Past other) = (tt, tt)
-  brings-refused n t ptr access.Miss = (tt, (tt, tt))
+drop-brings : (contents : Contents) (n x : ℕ) (kept : List KeptRead) (e : Effect) → AllByRecursion (Brings contents) (events_of_dropping n x kept e)
+drop-brings contents n x kept (Answered from) = tt
+drop-brings contents n x kept GivenBack = brings-dropped contents n (oldest_key x kept)
+drop-brings contents n x kept (PoolRefused call) = tt
+drop-brings contents n x kept NoEffect = tt
 
-  brings-answered : (n t : ℕ) (ptr : Ptr) (a : Access) (from : Served) → from ≡ source_of a → (IsFromPool from → IsOf (range_of image ptr.key) ptr)
-      → AllByRecursion (Brings image) (events_of_answered n t ptr a)
-  brings-answered n t ptr access.Hit from named came = (tt, tt)
-  brings-answered n t ptr (access.Past other) from named came = (tt, tt)
-  brings-answered n t ptr access.Miss from named came = (tt, ((came (subst IsFromPool (sym named) tt)).digest, tt))
-
-  brings-read : (n t : ℕ) (ptr : Ptr) (a : Access) (from : Served) → from ≡ source_of a → (IsFromPool from → IsOf (range_of image ptr.key) ptr)
-      → AllByRecursion (Brings image) (events_of_answered n t ptr a ++ events_of_drop n (held_key ptr a))
-  brings-read n t ptr access.Hit from named came = (tt, (tt, tt))
-  brings-read n t ptr (access.Past other) from named came = (tt, tt)
-  brings-read n t ptr access.Miss from named came = (tt, ((came (subst IsFromPool (sym named) tt)).digest, (tt, tt)))
-
-  read-brings : (n t : ℕ) (s : PlainShard) (ptr : Ptr) (e : Effect) → NamesSource (access_of s ptr) e → (CameFromPool e → IsOf (range_of image ptr.key) ptr)
-      → AllByRecursion (Brings image) (events_of_read n t s ptr e)
-  read-brings n t s ptr (Answered from) named came = brings-read n t ptr (access_of s ptr) from named came
-  read-brings n t s ptr GivenBack named came = tt
-  read-brings n t s ptr (PoolRefused call) named came = brings-refused n t ptr (access_of s ptr)
-  read-brings n t s ptr NoEffect named came = tt
-
-  hold-brings : (n t : ℕ) (s : PlainShard) (ptr : Ptr) (e : Effect) → NamesSource (access_of s ptr) e → (CameFromPool e → IsOf (range_of image ptr.key) ptr)
-      → AllByRecursion (Brings image) (events_of_hold n t s ptr e)
-  hold-brings n t s ptr (Answered from) named came = brings-answered n t ptr (access_of s ptr) from named came
-  hold-brings n t s ptr GivenBack named came = tt
-  hold-brings n t s ptr (PoolRefused call) named came = brings-refused n t ptr (access_of s ptr)
-  hold-brings n t s ptr NoEffect named came = tt
-
-  drop-brings : (n x : ℕ) (kept : List KeptRead) (e : Effect) → AllByRecursion (Brings image) (events_of_dropping n x kept e)
-  drop-brings n x kept (Answered from) = tt
-  drop-brings n x kept GivenBack = brings-dropped n (oldest_key x kept)
-  drop-brings n x kept (PoolRefused call) = tt
-  drop-brings n x kept NoEffect = tt
-
-  pub line-brings : (blocks : List Ptr) (s : PlainShard) (kept : List KeptRead) (op : Op) (reply : Reply) → IsPlainlyServed image blocks s kept op reply
-      → AllByRecursion (Brings image) (events_of blocks s kept op reply)
-  line-brings blocks s kept (ops.Read n t x window) reply is =
+module _ (from : Images) (contents : Contents) (blocks : List Ptr) (s : PlainShard) (kept : List KeptRead) where
+  pub line-brings : (op : Op) (reply : Reply) (call : Call) → IsPlainlyServed from blocks s kept op reply call → AllByRecursion (Brings (contents_after from blocks s op reply contents)) (events_of blocks s kept op reply)
+  line-brings (ops.Read n t x window) reply call is =
       let at = is.answer.1 in
-      let range : CameFromPool (effect_of reply) → ReadsImage image is.answer.0 window reply = rw at at is.range in
-      rw at (read-brings n t s is.answer.0 (effect_of reply) (rw at at is.found) (read-came is.answer.0 window reply is.answer.2 range))
-  line-brings blocks s kept (ops.Hold n t x) reply is =
+      let range : CameFromPool (effect_of reply) → ReadsImage from.pool is.answer.0 window reply = rw at at is.range in
+      rw at (read-brings from contents s is.answer.0 n t (effect_of reply) call (rw at at is.named) (read-came from.pool is.answer.0 window reply is.answer.2 range))
+  line-brings (ops.Hold n t x) reply call is =
       let at = is.answer.1 in
-      let range : CameFromPool (effect_of reply) → KeepsImage image is.answer.0 reply = rw at at is.range in
-      rw at (hold-brings n t s is.answer.0 (effect_of reply) (rw at at is.found) (hold-came is.answer.0 reply is.answer.2 range))
-  line-brings blocks s kept (ops.Drop n x) reply is = drop-brings n x kept (effect_of reply)
-  line-brings blocks s kept (ops.Cap c) reply is = (tt, tt)
-  line-brings blocks s kept other reply is = tt
+      let range : CameFromPool (effect_of reply) → KeepsImage from.pool is.answer.0 reply = rw at at is.range in
+      rw at (hold-brings from contents s is.answer.0 n t (effect_of reply) call (rw at at is.named) (hold-came from.pool is.answer.0 reply is.answer.2 range))
+  line-brings (ops.Drop n x) reply call is = drop-brings contents n x kept (effect_of reply)
+  line-brings (ops.Cap c) reply call is = (tt, tt)
+  line-brings other reply call is = tt
+
+  -- each digest that a shard keeps has its bytes still
+  pub line-grows : (op : Op) (reply : Reply) (call : Call) → IsPlainlyServed from blocks s kept op reply call → (es : List Entry) → AreTold contents es → AreTold (contents_after from blocks s op reply contents) es
+  line-grows (ops.Read n t x window) reply call is es told =
+      let at = is.answer.1 in
+      let range : CameFromPool (effect_of reply) → ReadsImage from.pool is.answer.0 window reply = rw at at is.range in
+      rw at (grows from contents s is.answer.0 (effect_of reply) call (rw at at is.named) (read-came from.pool is.answer.0 window reply is.answer.2 range) es told)
+  line-grows (ops.Hold n t x) reply call is es told =
+      let at = is.answer.1 in
+      let range : CameFromPool (effect_of reply) → KeepsImage from.pool is.answer.0 reply = rw at at is.range in
+      rw at (grows from contents s is.answer.0 (effect_of reply) call (rw at at is.named) (hold-came from.pool is.answer.0 reply is.answer.2 range) es told)
+  line-grows other reply call is es told = told
 
   -- ---- what a read shows
 
-  range-size : (key : Key) → IsValid (length image) key → length (range_of image key) ≡ key.size
-  range-size key valid =
-      let rest = length-drop key.offset image in
-      let inside : end_of key ≤ length image = valid.inside in
-      length-take-le key.size (drop key.offset image) (omega arith)
+  -- the bytes of the plain run, or another content of their digest, where they did not come from the pool
+  abbrev Shows : Ptr → Window → Served → (bytes shown : List ℕ) → Type 0
+  Shows ptr window f bytes shown = (shown ≡ window_of window (bytes_in from contents s ptr f)) ⊎ ((¬ IsFromPool f) × IsOf (bytes_in from contents s ptr f) ptr × (bytes ≢ bytes_in from contents s ptr f))
 
-  -- the told bytes, or another content of their digest, where the block was cached
-  record Collides (ptr : Ptr) (window : Window) (from : Served) (shown : List ℕ) : Type 0 where
-    pub bytes : List ℕ
-    pub of : IsOf bytes ptr
-    pub told_of : IsOf (range_of image ptr.key) ptr
-    pub other : bytes ≢ range_of image ptr.key
-    pub window_is : shown ≡ window_of window bytes
-    pub cached : from ≡ served.Hit
-
-  shows : (ptr : Ptr) (window : Window) (a : Access) (from : Served) (digest : Digest) (shown : List ℕ) → AnswersRead (length image) (Some image) ptr window (Read from digest shown)
-      → from ≡ source_of a → (a ≡ access.Hit → sha256_of (range_of image ptr.key) ≡ ptr.digest) → (IsFromPool from → ShowsRange image ptr window shown)
-      → ShowsRange image ptr window shown ⊎ Collides ptr window from shown
-  shows ptr window access.Hit from digest shown answer named resident range =
-      let of : IsOf (range_of image ptr.key) ptr = record { size = range-size ptr.key answer.1; digest = resident refl } in
-      let one = answer.3.1 in
-      let which : IsSameOrCollides answer.3.0 (range_of image ptr.key) = one.plain (range_of image ptr.key) (refl, of) in
-      elim which [
-        | inl same ↦ inl (record { of = of; range = answer.3.2 ∙ ap (window_of window) same })
-        | inr others ↦ inr (record { bytes = answer.3.0; of = one.of; told_of = of; other = others.0; window_is = answer.3.2; cached = named })
+  shows : (ptr : Ptr) (window : Window) (f : Served) (bytes shown : List ℕ) (call : Call) → IsOf bytes ptr → shown ≡ window_of window bytes → f ≡ source_in from s ptr call → AreTold contents s.entries
+      → (IsFromPool f → ShowsRange from.pool ptr window shown) → Shows ptr window f bytes shown
+  shows ptr window served.Pool bytes shown call of is named told range = inl (range tt).range
+  shows ptr window served.Past bytes shown call of is named told range = inl (range tt).range
+  shows ptr window served.Hit bytes shown call of is named told range =
+      let own = hit-of from contents s ptr call named told in
+      elim (same-or-collides ptr bytes (contents ptr) of own) [
+        | inl same ↦ inl (is ∙ ap (window_of window) same)
+        | inr other ↦ inr ((λ came. came), own, other.0)
       ]
-  shows ptr window (access.Past other) from digest shown answer named resident range = inl (range (subst IsFromPool (sym named) tt))
-  shows ptr window access.Miss from digest shown answer named resident range = inl (range (subst IsFromPool (sym named) tt))
+  shows ptr window served.L2 bytes shown call of is named told range =
+      let own = l2-of from contents s ptr call named in
+      elim (same-or-collides ptr bytes (bytes_in from contents s ptr served.L2) of own) [
+        | inl same ↦ inl (is ∙ ap (window_of window) same)
+        | inr other ↦ inr ((λ came. came), own, other.0)
+      ]
 
-  -- a cached block that is accepted is answered by the plain run with the told bytes
-  plain-hit : (s : PlainShard) (ptr : Ptr) (window : Window) (call : Call) → window.at + window.len ≤ ptr.key.size → IsValid (length image) ptr.key → source_of (access_of s ptr) ≡ served.Hit
-      → reply_to_read image s ptr window call ≡ Read served.Hit ptr.digest (window_of window (range_of image ptr.key))
-  plain-hit s ptr window call inside valid hit = rw (least-test ptr.key.size (window.at + window.len) inside, valid-key (length image) ptr.key valid) (go (access_of s ptr) hit)
-    where
-      go : (a : Access) → source_of a ≡ served.Hit
-          → reply_unless (refused_access image ptr a call) (Read (source_of a) ptr.digest (window_of window (range_of image ptr.key))) ≡ Read served.Hit ptr.digest (window_of window (range_of image ptr.key))
-      go access.Hit is = refl
-      go (access.Past other) is = let no : served.Past ≡ served.Hit = is in cc
-      go access.Miss is = let no : served.Pool ≡ served.Hit = is in cc
+  abbrev PlainRead : Ptr → Window → (call device_call : Call) → Reply
+  PlainRead ptr window call device_call = reply_to_read from.pool ptr window (source_in from s ptr device_call) (bytes_in from contents s ptr (source_in from s ptr device_call)) call
 
-  plain-or-collides : (s : PlainShard) (ptr : Ptr) (window : Window) (reply : Reply) (call : Call) → AnswersRead (length image) (Some image) ptr window reply
-      → NamesSource (access_of s ptr) (effect_of reply) → AreTold image s.entries → (CameFromPool (effect_of reply) → ReadsImage image ptr window reply)
-      → ReadsImage image ptr window reply ⊎ ShowsCollision image ptr window (reply_to_read image s ptr window call) reply
-  plain-or-collides s ptr window (Read from digest shown) call answer named told range =
-      elim (shows ptr window (access_of s ptr) from digest shown answer named (λ hit. told-resident image s ptr.key ptr.digest told (access-hit s ptr hit)) range) [
-        | inl same ↦ inl same
+  read-plain : (ptr : Ptr) (window : Window) (reply : Reply) (call device_call : Call) → AnswersRead (length from.pool) (Some from.pool) ptr window reply → NamesServed (source_in from s ptr device_call) (effect_of reply)
+      → AreTold contents s.entries → (CameFromPool (effect_of reply) → ReadsImage from.pool ptr window reply) → IsNext (calls_of (effect_of reply)) call
+      → (reply ≡ PlainRead ptr window call device_call) ⊎ ShowsCollision ptr window (PlainRead ptr window call device_call) reply
+  read-plain ptr window (Read f digest shown) call device_call answer named told range next =
+      let own = bytes_in from contents s ptr f in
+      let plain : PlainRead ptr window call device_call ≡ Read f ptr.digest (window_of window own) =
+      (λ i. reply_to_read from.pool ptr window (sym named i) (bytes_in from contents s ptr (sym named i)) call) ∙ plain-read from.pool ptr window f digest shown own call answer (λ came. (range came).of) next in
+      elim (shows ptr window f answer.3.0 shown device_call answer.3.1.of answer.3.2 named told range) [
+        | inl same ↦ inl ((λ i. Read f (answer.2 i) (same i)) ∙ sym plain)
         | inr c ↦ inr (record {
-          bytes = c.bytes;
-          of = c.of;
-          told_of = c.told_of;
-          other = c.other;
-          plain_is = plain-hit s ptr window call answer.0 answer.1 (sym named ∙ c.cached);
-          reply_is = λ i. Read (c.cached i) (answer.2 i) (c.window_is i);
+          from = f;
+          elsewhere = c.0;
+          bytes = answer.3.0;
+          others = own;
+          of = answer.3.1.of;
+          others_of = c.1;
+          other = c.2;
+          plain_is = plain;
+          reply_is = λ i. Read f (answer.2 i) (answer.3.2 i);
         })
       ]
-  plain-or-collides s ptr window (Refused r) call answer named told range = inl tt
-  plain-or-collides s ptr window other call answer named told range = absurd answer
+  read-plain ptr window (Refused r) call device_call answer named told range next = inl (plain-refused from.pool ptr window (source_in from s ptr device_call) _ r call answer named next)
+  read-plain ptr window other call device_call answer named told range next = absurd answer
 
   -- ---- the reply
 
-  -- what a kept read is of, where it was answered
-  keeps-told : (s : PlainShard) (ptr : Ptr) (reply : Reply) → AnswersHold (length image) (Some image) ptr reply → NamesSource (access_of s ptr) (effect_of reply) → AreTold image s.entries
-      → (CameFromPool (effect_of reply) → KeepsImage image ptr reply) → KeepsImage image ptr reply
-  keeps-told s ptr (Kept from) answer named told range = go (access_of s ptr) refl named
-    where
-      go : (a : Access) → access_of s ptr ≡ a → from ≡ source_of a → IsOf (range_of image ptr.key) ptr
-      go access.Hit hit is = record { size = range-size ptr.key answer.0; digest = told-resident image s ptr.key ptr.digest told (access-hit s ptr hit) }
-      go (access.Past other) hit is = range (subst IsFromPool (sym is) tt)
-      go access.Miss hit is = range (subst IsFromPool (sym is) tt)
-  keeps-told s ptr (Refused r) answer named told range = tt
-  keeps-told s ptr other answer named told range = absurd answer
-
-  pub line-plain : (blocks : List Ptr) (s : PlainShard) (kept : List KeptRead) (op : Op) (reply : Reply) (call : Call) → IsPlainlyServed image blocks s kept op reply → AreTold image s.entries
-      → IsNext (calls_of (effect_of reply)) call → IsPlainReply image blocks op (reply_to image blocks s kept op call) reply
-  line-plain blocks s kept (ops.Read n t x window) reply call is told next =
+  pub line-plain : (op : Op) (reply : Reply) (call device_call : Call) → IsPlainlyServed from blocks s kept op reply device_call → AreTold contents s.entries → IsNext (calls_of (effect_of reply)) call
+      → IsPlainReply blocks op (reply_to from blocks s kept contents op call device_call) reply
+  line-plain (ops.Read n t x window) reply call device_call is told next =
       let at = is.answer.1 in
       let ptr = is.answer.0 in
-      let op = ops.Read n t x window in
-      let range : CameFromPool (effect_of reply) → ReadsImage image ptr window reply = rw at at is.range in
-      elim (plain-or-collides s ptr window reply call is.answer.2 (rw at at is.found) told range) [
-        | inl read ↦
-            let shown : IsReadOfImage image blocks op reply = rw at read in
-            inl (plain-line image blocks s kept op reply is.answer is.found shown call next)
-        | inr other ↦
-            let here : reply_to image blocks s kept op call ≡ reply_to_read image s ptr window call = rw at refl in
-            inr (ptr, at, subst (λ (p : Reply). ShowsCollision image ptr window p reply) (sym here) other)
+      let range : CameFromPool (effect_of reply) → ReadsImage from.pool ptr window reply = rw at at is.range in
+      let here : reply_to from blocks s kept contents (ops.Read n t x window) call device_call ≡ PlainRead ptr window call device_call = rw at refl in
+      elim (read-plain ptr window reply call device_call is.answer.2 (rw at at is.named) told range next) [
+        | inl same ↦ inl (same ∙ sym here)
+        | inr other ↦ inr (ptr, at, subst (λ (p : Reply). ShowsCollision ptr window p reply) (sym here) other)
       ]
-  line-plain blocks s kept (ops.Hold n t x) reply call is told next =
+  line-plain (ops.Hold n t x) reply call device_call is told next =
       let at = is.answer.1 in
       let ptr = is.answer.0 in
-      let range : CameFromPool (effect_of reply) → KeepsImage image ptr reply = rw at at is.range in
-      let keeps : IsReadOfImage image blocks (ops.Hold n t x) reply = rw at (keeps-told s ptr reply is.answer.2 (rw at at is.found) told range) in
-      plain-line image blocks s kept (ops.Hold n t x) reply is.answer is.found keeps call next
-  line-plain blocks s kept (ops.Drop n x) reply call is told next = plain-line image blocks s kept (ops.Drop n x) reply is.answer is.found tt call next
-  line-plain blocks s kept (ops.Cap c) reply call is told next = is.answer
-  line-plain blocks s kept other reply call is told next = absurd is.answer
+      let range : CameFromPool (effect_of reply) → KeepsImage from.pool ptr reply = rw at at is.range in
+      let here : reply_to from blocks s kept contents (ops.Hold n t x) call device_call ≡ reply_to_hold from.pool ptr (source_in from s ptr device_call) call = rw at refl in
+      plain-hold from.pool ptr (source_in from s ptr device_call) reply call is.answer.2 (rw at at is.named) (hold-came from.pool ptr reply is.answer.2 range) next ∙ sym here
+  line-plain (ops.Drop n x) reply call device_call is told next = plain-drop x kept reply is.answer
+  line-plain (ops.Cap c) reply call device_call is told next = is.answer
+  line-plain other reply call device_call is told next = absurd is.answer

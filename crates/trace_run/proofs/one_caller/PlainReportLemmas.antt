@@ -39,20 +39,20 @@ AreAlike (p ∷ ps) (r ∷ rs) = IsAlike p r × AreAlike ps rs
 equal-alike : (a b : Reply) → a ≡ b → IsAlike a b
 equal-alike a b is = record { effect = ap effect_of is; refusal = ap is_refusal is }
 
-pub plain-alike : (image : List ℕ) (blocks : List Ptr) (op : Op) (plain reply : Reply) → IsPlainReply image blocks op plain reply → IsAlike plain reply
-plain-alike image blocks (ops.Read n t x window) plain reply is = elim is [
+pub plain-alike : (blocks : List Ptr) (op : Op) (plain reply : Reply) → IsPlainReply blocks op plain reply → IsAlike plain reply
+plain-alike blocks (ops.Read n t x window) plain reply is = elim is [
   | inl same ↦ equal-alike plain reply (sym same)
   | inr other ↦ record { effect = ap effect_of other.2.plain_is ∙ sym (ap effect_of other.2.reply_is); refusal = ap is_refusal other.2.plain_is ∙ sym (ap is_refusal other.2.reply_is) }
 ]
-plain-alike image blocks other plain reply is = equal-alike plain reply (sym is)
+plain-alike blocks other plain reply is = equal-alike plain reply (sym is)
 
-all-alike : (image : List ℕ) (blocks : List Ptr) (os : List Op) (ps rs : List Reply) → ArePlainReplies image blocks os ps rs → AreAlike ps rs
-all-alike image blocks [] [] [] are = tt
-all-alike image blocks [] [] (r ∷ rs) are = absurd are
-all-alike image blocks [] (p ∷ ps) rs are = absurd are
-all-alike image blocks (o ∷ os) [] rs are = absurd are
-all-alike image blocks (o ∷ os) (p ∷ ps) [] are = absurd are
-all-alike image blocks (o ∷ os) (p ∷ ps) (r ∷ rs) are = (plain-alike image blocks o p r are.0, all-alike image blocks os ps rs are.1)
+all-alike : (blocks : List Ptr) (os : List Op) (ps rs : List Reply) → ArePlainReplies blocks os ps rs → AreAlike ps rs
+all-alike blocks [] [] [] are = tt
+all-alike blocks [] [] (r ∷ rs) are = absurd are
+all-alike blocks [] (p ∷ ps) rs are = absurd are
+all-alike blocks (o ∷ os) [] rs are = absurd are
+all-alike blocks (o ∷ os) (p ∷ ps) [] are = absurd are
+all-alike blocks (o ∷ os) (p ∷ ps) (r ∷ rs) are = (plain-alike blocks o p r are.0, all-alike blocks os ps rs are.1)
 
 -- ---- what follows from what they did
 
@@ -114,11 +114,11 @@ alike-any (p ∷ ps) (r ∷ rs) are = let rest = alike-any ps rs are.1 in λ i. 
 
 -- ---- the report
 
-pub plain-but : (trace : Trace) (image : List ℕ) (ps : List Reply) (report : Report) → report ≡ report_with trace report.rebuilt report.replies → ArePlainReplies image trace.blocks trace.ops ps report.replies
-    → IsPlainReport trace image (report_with trace report.rebuilt ps) report
-plain-but trace image ps report is are =
+pub plain-but : (trace : Trace) (ps : List Reply) (report : Report) → report ≡ report_with trace report.rebuilt report.replies → ArePlainReplies trace.blocks trace.ops ps report.replies
+    → IsPlainReport trace (report_with trace report.rebuilt ps) report
+plain-but trace ps report is are =
     let rs = report.replies in
-    let alike = all-alike image trace.blocks trace.ops ps rs are in
+    let alike = all-alike trace.blocks trace.ops ps rs are in
     let histories = alike-histories trace.config.shards trace.blocks (opening_of trace.config) (restores_in trace.config (restored_of report.rebuilt)) trace.ops ps rs alike in
     let any = alike-any ps rs alike in
     let same : record (report_with trace report.rebuilt ps) { replies = rs } ≡ report_with trace report.rebuilt rs =

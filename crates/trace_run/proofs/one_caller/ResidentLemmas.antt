@@ -1,6 +1,5 @@
--- Over a pool that tells its bytes, each digest that a shard keeps, but of what only the cache device has, is the SHA-256 of the told bytes at its
--- key, where each that came in was.
-use Rattle.std.proofs.Common.{◌≡◌, ℕ, zero, suc, ◌==◌, Bool, true, false, if◌then◌else◌, List, [], ◌∷◌, length, Option, Some, None, is_some, refl, sym, ap, subst, ◌∙◌}
+-- Each digest that a shard keeps, but of what only the cache device has, is that of the bytes that are cached for its key, where each that came in was.
+use Rattle.std.proofs.Common.{◌≡◌, ℕ, zero, suc, ◌==◌, ◌&&◌, Bool, true, false, if◌then◌else◌, List, [], ◌∷◌, length, Option, Some, None, is_some, inl, inr, refl, sym, ap, subst, ◌∙◌}
 use Rattle.std.specs.List.{AllByRecursion}
 use Rattle.std.proofs.lemmas.Bool.{false≢true}
 use Rattle.std.specs.Option.{option_map_or}
@@ -9,11 +8,14 @@ use Rattle.blk_ptr.specs.declared.key.Key.{Key}
 use Rattle.blk_ptr.specs.Hash.{shard_of}
 use Rattle.blk_ptr.specs.declared.state.State.{State}
 use Rattle.blk_ptr.specs.declared.state.State.TheVariants.{Anon, Mru, MruGhost, Mfu, MfuGhost, L2Only}
-use Rattle.blk_ptr.specs.Ptr.{range_of, sha256_of}
+use Rattle.blk_ptr.specs.declared.ptr.Ptr.{Ptr}
+use Rattle.blk_ptr.specs.Order.{digest_eq, key_eq}
+use Rattle.blk_ptr.specs.Ptr.{IsOf}
+use Rattle.blk_ptr.proofs.Keys.{key_eq-is, key_eq-same}
 use Rattle.blk_ptr.specs.State.{is_cached, is_same_state}
 use Rattle.arc_lists.specs.ByKey.{with_change}
-use Rattle.arc_lists.proofs.Standing.{and_left}
-use Rattle.arc_lists.proofs.Tables.{All-item, All-with_change, All-with_item, All-without, item_at-key, some_is}
+use Rattle.arc_lists.proofs.Standing.{and_left, and_right}
+use Rattle.arc_lists.proofs.Tables.{All-item, All-with_change, All-with_item, All-without, cases_true, item_at-key, some_is}
 use Rattle.arc_core.specs.declared.config.Config.{Config}
 use Rattle.arc_core.specs.declared.entry.Entry.{Entry}
 use Rattle.arc_core.specs.declared.event.Event.{Event}
@@ -27,8 +29,11 @@ use Rattle.arc_core.specs.Step.{after, arrived, fitted, hit_entry, read_entry, r
 use Rattle.arc_core.proofs.Accesses.{accessed-keeps}
 use Rattle.arc_core.proofs.EntriesAfter.{given_back-entries, hit-key}
 use Rattle.arc_core.proofs.Evictions.{at_head-entries}
+use Rattle.arc_table.specs.Reading.{ptr_with}
+use Rattle.trace_run.specs.one_caller.PlainRun.{Contents, with_bytes}
 use Rattle.trace_run.specs.Restores.{restores_in}
-use Rattle.trace_run.proofs.CacheLemmas.{resident-entry}
+use Rattle.trace_run.proofs.CacheLemmas.{digest_eq-is, resident-entry}
+use Rattle.trace_run.proofs.one_caller.TellLemmas.{digest_eq-same}
 
 -- ---- what only the cache device has
 
@@ -74,20 +79,24 @@ all-restores g (r ∷ rs) shard = go (shard_of g.shards r.key == shard) (all-res
     go true rest = (tt, rest)
     go false rest = rest
 
-module _ (image : List ℕ) where
-  -- a digest that an entry keeps is that of the told bytes at its key, where not the cache device alone has it
+module _ (contents : Contents) where
+  -- the bytes of the pointer are of it
+  abbrev pub HasBytes : Key → Digest → Type 0
+  HasBytes k d = IsOf (contents (ptr_with k d)) (ptr_with k d)
+
+  -- a digest that an entry keeps has its bytes, where not the cache device alone has it
   abbrev pub IsToldEntry : Entry → Type 0
-  IsToldEntry e = is_same_state e.state L2Only ≡ false → (d : Digest) → e.digest ≡ Some d → sha256_of (range_of image e.key) ≡ d
+  IsToldEntry e = is_same_state e.state L2Only ≡ false → (d : Digest) → e.digest ≡ Some d → HasBytes e.key d
 
   abbrev pub AreTold : List Entry → Type 0
   AreTold es = AllByRecursion IsToldEntry es
 
-  -- the event is one of a caller's reads or drops, or a new capacity; and where it brings bytes, they have the digest of the told ones
+  -- the event is one of a caller's reads or drops, or a new capacity; and what it brings has its bytes
   abbrev pub Brings : Event → Type 0
   Brings (Pass n k owner) = ⊥
   Brings (Hit n k t) = Unit {0}
   Brings (Miss n k t) = Unit {0}
-  Brings (Arrive n k d from) = sha256_of (range_of image k) ≡ d
+  Brings (Arrive n k d from) = HasBytes k d
   Brings (Fail n k at) = Unit {0}
   Brings (Drop n k) = Unit {0}
   Brings (Past n k kept) = Unit {0}
@@ -105,16 +114,16 @@ module _ (image : List ℕ) where
   -- ---- an entry is changed, comes or goes
 
   told-same : (e f : Entry) → f.key ≡ e.key → f.digest ≡ e.digest → (is_same_state f.state L2Only ≡ false → is_same_state e.state L2Only ≡ false) → IsToldEntry e → IsToldEntry f
-  told-same e f key digest state told else_where d is = ap (λ (k : Key). sha256_of (range_of image k)) key ∙ told (state else_where) d (sym digest ∙ is)
+  told-same e f key digest state told else_where d is = subst (λ (k : Key). HasBytes k d) (sym key) (told (state else_where) d (sym digest ∙ is))
 
   told-changed : (k : Key) (change : Entry → Entry) (es : List Entry) → ((e : Entry) → (change e).key ≡ e.key) → ((e : Entry) → (change e).digest ≡ e.digest)
       → ((e : Entry) → is_same_state (change e).state L2Only ≡ false → is_same_state e.state L2Only ≡ false) → AreTold es → AreTold (with_change entry_key k change es)
   told-changed k change es key digest state told =
       All-with_change entry_key IsToldEntry k change es (λ e item. told-same e (change e) (key e) (digest e) (state e) (All-item entry_key IsToldEntry k es e told item)) told
 
-  told-arrived : (k : Key) (d : Digest) (es : List Entry) → sha256_of (range_of image k) ≡ d → AreTold es → AreTold (with_change entry_key k (arrived d) es)
+  told-arrived : (k : Key) (d : Digest) (es : List Entry) → HasBytes k d → AreTold es → AreTold (with_change entry_key k (arrived d) es)
   told-arrived k d es is told =
-      All-with_change entry_key IsToldEntry k (arrived d) es (λ e item out x there. ap (λ (h : Key). sha256_of (range_of image h)) (item_at-key entry_key k es e item) ∙ is ∙ some_is there) told
+      All-with_change entry_key IsToldEntry k (arrived d) es (λ e item out x there. subst (λ (z : Key × Digest). HasBytes z.0 z.1) (λ h. (sym (item_at-key entry_key k es e item) h, some_is there h)) is) told
 
   told-read : (n t : ℕ) (k : Key) (s : PlainShard) → IsToldEntry (read_entry n k t s)
   told-read n t k s out d is = let nothing : None ≡ Some d = is in cc
@@ -209,9 +218,28 @@ module _ (image : List ℕ) where
       one (Clear n k) is = absurd is
       one (Resize n c) is = absurd is
 
-  -- the digest of a cached block is that of the told bytes
-  pub told-resident : (s : PlainShard) (k : Key) (d : Digest) → AreTold s.entries → resident_digest k s ≡ Some d → sha256_of (range_of image k) ≡ d
+  -- the digest of a cached block has its bytes
+  pub told-resident : (s : PlainShard) (k : Key) (d : Digest) → AreTold s.entries → resident_digest k s ≡ Some d → HasBytes k d
   told-resident s k d told there =
       let some = resident-entry (entry_of k s) d there in
-      ap (λ (h : Key). sha256_of (range_of image h)) (sym (item_at-key entry_key k s.entries some.0 some.1))
-      ∙ All-item entry_key IsToldEntry k s.entries some.0 told some.1 (resident-else some.0 some.2) d some.3
+      subst (λ (h : Key). HasBytes h d) (item_at-key entry_key k s.entries some.0 some.1)
+      (All-item entry_key IsToldEntry k s.entries some.0 told some.1 (resident-else some.0 some.2) d some.3)
+
+-- ---- bytes are cached for one pointer more
+
+-- they are its own then, and all others are as they were
+pub with-own : (ptr : Ptr) (bytes : List ℕ) (contents : Contents) → with_bytes ptr bytes contents ptr ≡ bytes
+with-own ptr bytes contents = rw (key_eq-same ptr.key, digest_eq-same ptr.digest) refl
+
+has-more : (ptr : Ptr) (bytes : List ℕ) (contents : Contents) → IsOf bytes ptr → (k : Key) (d : Digest) → HasBytes contents k d → HasBytes (with_bytes ptr bytes contents) k d
+has-more ptr bytes contents of k d had = elim (cases_true (key_eq k ptr.key && digest_eq d ptr.digest)) [
+  | inl same ↦
+      let key : k ≡ ptr.key = key_eq-is k ptr.key (and_left (key_eq k ptr.key) (digest_eq d ptr.digest) same) in
+      let digest : d ≡ ptr.digest = digest_eq-is d ptr.digest (and_right (key_eq k ptr.key) (digest_eq d ptr.digest) same) in
+      rw same (subst (λ (z : Key × Digest). IsOf bytes (ptr_with z.0 z.1)) (λ h. (sym key h, sym digest h)) of)
+  | inr other ↦ rw other had
+]
+
+pub told-more : (ptr : Ptr) (bytes : List ℕ) (contents : Contents) → IsOf bytes ptr → (es : List Entry) → AreTold contents es → AreTold (with_bytes ptr bytes contents) es
+told-more ptr bytes contents of [] told = tt
+told-more ptr bytes contents of (e ∷ es) told = (λ out d is. has-more ptr bytes contents of e.key d (told.0 out d is), told-more ptr bytes contents of es told.1)

@@ -13,6 +13,7 @@ use Rattle.blk_ptr.specs.Order.{digest_eq}
 use Rattle.arc_core.specs.declared.event.Event.{Event}
 use Rattle.arc_core.specs.declared.event.Event.TheVariants as event
 use Rattle.arc_core.specs.Operations.{Act, Reads, Keeps, GivesBack, Fails, actor_of, are_passes_placed, has_its_number, is_pass, number_of}
+use Rattle.arc_core.specs.declared.served.Served.{Served}
 use Rattle.arc_core.specs.PlainShard.{PlainShard}
 use Rattle.arc_core.specs.Replay.{replay}
 use Rattle.trace_text.specs.declared.op.Op.{Op}
@@ -65,10 +66,10 @@ mine-drop : (n : ℕ) (held : Option Key) → AllByRecursion (IsMine n) (events_
 mine-drop n None = tt
 mine-drop n (Some key) = ((refl, refl, refl), tt)
 
-mine-answered : (n t : ℕ) (ptr : Ptr) (a : Access) → AllByRecursion (IsMine n) (events_of_answered n t ptr a)
-mine-answered n t ptr access.Hit = ((refl, refl, refl), tt)
-mine-answered n t ptr (access.Past kept) = ((refl, refl, refl), tt)
-mine-answered n t ptr access.Miss = ((refl, refl, refl), ((refl, refl, refl), tt))
+mine-answered : (n t : ℕ) (ptr : Ptr) (from : Served) (a : Access) → AllByRecursion (IsMine n) (events_of_answered n t ptr from a)
+mine-answered n t ptr from access.Hit = ((refl, refl, refl), tt)
+mine-answered n t ptr from (access.Past kept) = ((refl, refl, refl), tt)
+mine-answered n t ptr from access.Miss = ((refl, refl, refl), ((refl, refl, refl), tt))
 
 mine-refused : (n t : ℕ) (ptr : Ptr) (a : Access) → AllByRecursion (IsMine n) (events_of_refused n t ptr a)
 mine-refused n t ptr access.Hit = tt
@@ -76,13 +77,13 @@ mine-refused n t ptr (access.Past kept) = ((refl, refl, refl), tt)
 mine-refused n t ptr access.Miss = ((refl, refl, refl), ((refl, refl, refl), tt))
 
 mine-read : (n t : ℕ) (s : PlainShard) (ptr : Ptr) (e : Effect) → AllByRecursion (IsMine n) (events_of_read n t s ptr e)
-mine-read n t s ptr (Answered from) = all-append (IsMine n) (events_of_answered n t ptr (access_of s ptr)) _ (mine-answered n t ptr (access_of s ptr)) (mine-drop n (held_key ptr (access_of s ptr)))
+mine-read n t s ptr (Answered from) = all-append (IsMine n) (events_of_answered n t ptr from (access_of s ptr)) _ (mine-answered n t ptr from (access_of s ptr)) (mine-drop n (held_key ptr (access_of s ptr)))
 mine-read n t s ptr GivenBack = tt
 mine-read n t s ptr (PoolRefused call) = mine-refused n t ptr (access_of s ptr)
 mine-read n t s ptr NoEffect = tt
 
 mine-hold : (n t : ℕ) (s : PlainShard) (ptr : Ptr) (e : Effect) → AllByRecursion (IsMine n) (events_of_hold n t s ptr e)
-mine-hold n t s ptr (Answered from) = mine-answered n t ptr (access_of s ptr)
+mine-hold n t s ptr (Answered from) = mine-answered n t ptr from (access_of s ptr)
 mine-hold n t s ptr GivenBack = tt
 mine-hold n t s ptr (PoolRefused call) = mine-refused n t ptr (access_of s ptr)
 mine-hold n t s ptr NoEffect = tt

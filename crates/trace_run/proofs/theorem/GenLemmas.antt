@@ -21,14 +21,13 @@ use Rattle.trace_text.specs.declared.report.Report.{Report}
 use Rattle.trace_text.specs.declared.trace.Trace.{Trace}
 use Rattle.dbuf_state.specs.declared.window.Window.{Window}
 use Rattle.arc_core.specs.declared.config.Config.{Config}
-use Rattle.arc_core.specs.declared.served.Served.TheVariants as served
 use Rattle.trace_text.specs.Generator.{IsGenerated, empty_window, generated_block, generated_read, generated_sizes, zero_digest}
 use Rattle.vdev_io.specs.declared.pool.Pool.{Ghosts}
 use Rattle.trace_run.specs.Answers.{Answers, AnswersAll, AnswersRead, is_pool_fault, is_refusal, window_of}
 use Rattle.arc_table.specs.Telling.{opening_of}
 use Rattle.trace_run.specs.Outcome.{generated}
 use Rattle.trace_run.specs.one_caller.PlainReport.{ArePlainReplies, IsPlainReply, IsPlainReport, ShowsCollision}
-use Rattle.trace_run.specs.one_caller.PlainRun.{report_of, report_with}
+use Rattle.trace_run.specs.one_caller.PlainRun.{Images, no_contents, report_of, report_with}
 use Rattle.vdev_io.specs.Calls.{Failed, Gave, MakesCalls, Call}
 use Rattle.trace_run.proofs.one_caller.PlainLemmas.{AllGive, plain-gives}
 
@@ -158,32 +157,32 @@ never-failed pool none (Failed ∷ calls) a b made =
 
 -- ---- the report is a function of the three numbers: an empty window shows nothing, whichever content of a digest it is of
 
-empty-shows : (image : List ℕ) (ptr : Ptr) (window : Window) (plain reply : Reply) → window ≡ empty_window → ShowsCollision image ptr window plain reply → reply ≡ plain
-empty-shows image ptr window plain reply empty other =
+empty-shows : (ptr : Ptr) (window : Window) (plain reply : Reply) → window ≡ empty_window → ShowsCollision ptr window plain reply → reply ≡ plain
+empty-shows ptr window plain reply empty other =
     let nothing : (l : List ℕ) → window_of window l ≡ [] = λ l. ap (λ (w : Window). window_of w l) empty in
-    other.reply_is ∙ ap (λ (l : List ℕ). Read served.Hit ptr.digest l) (nothing other.bytes ∙ sym (nothing (range_of image ptr.key))) ∙ sym other.plain_is
+    other.reply_is ∙ ap (λ (l : List ℕ). Read other.from ptr.digest l) (nothing other.bytes ∙ sym (nothing other.others)) ∙ sym other.plain_is
 
-made-reply : (image : List ℕ) (blocks : List Ptr) (op : Op) (plain reply : Reply) → IsMadeRead op → IsPlainReply image blocks op plain reply → reply ≡ plain
-made-reply image blocks (ops.Read n t x window) plain reply read is = elim is [
+made-reply : (blocks : List Ptr) (op : Op) (plain reply : Reply) → IsMadeRead op → IsPlainReply blocks op plain reply → reply ≡ plain
+made-reply blocks (ops.Read n t x window) plain reply read is = elim is [
   | inl same ↦ same
-  | inr other ↦ empty-shows image other.0 window plain reply read other.2
+  | inr other ↦ empty-shows other.0 window plain reply read other.2
 ]
-made-reply image blocks other plain reply read is = is
+made-reply blocks other plain reply read is = is
 
-made-replies : (image : List ℕ) (blocks : List Ptr) (os : List Op) (ps rs : List Reply) → AllByRecursion IsMadeRead os → ArePlainReplies image blocks os ps rs → rs ≡ ps
-made-replies image blocks [] [] [] reads are = refl
-made-replies image blocks [] [] (r ∷ rs) reads are = absurd are
-made-replies image blocks [] (p ∷ ps) rs reads are = absurd are
-made-replies image blocks (o ∷ os) [] rs reads are = absurd are
-made-replies image blocks (o ∷ os) (p ∷ ps) [] reads are = absurd are
-made-replies image blocks (o ∷ os) (p ∷ ps) (r ∷ rs) reads are =
-    let first = made-reply image blocks o p r reads.0 are.0 in
-    let rest = made-replies image blocks os ps rs reads.1 are.1 in
+made-replies : (blocks : List Ptr) (os : List Op) (ps rs : List Reply) → AllByRecursion IsMadeRead os → ArePlainReplies blocks os ps rs → rs ≡ ps
+made-replies blocks [] [] [] reads are = refl
+made-replies blocks [] [] (r ∷ rs) reads are = absurd are
+made-replies blocks [] (p ∷ ps) rs reads are = absurd are
+made-replies blocks (o ∷ os) [] rs reads are = absurd are
+made-replies blocks (o ∷ os) (p ∷ ps) [] reads are = absurd are
+made-replies blocks (o ∷ os) (p ∷ ps) (r ∷ rs) reads are =
+    let first = made-reply blocks o p r reads.0 are.0 in
+    let rest = made-replies blocks os ps rs reads.1 are.1 in
     λ i. first i ∷ rest i
 
-pub made-plain : (seed blocks ops : ℕ) (trace : Trace) (image : List ℕ) (plain report : Report) → IsGenerated seed blocks ops trace → IsPlainReport trace image plain report → report ≡ plain
-made-plain seed blocks ops trace image plain report made is =
-    is.rest ∙ ap (λ (rs : List Reply). record plain { replies = rs }) (made-replies image trace.blocks trace.ops plain.replies report.replies (made-reads seed blocks ops trace made) is.replies)
+pub made-plain : (seed blocks ops : ℕ) (trace : Trace) (plain report : Report) → IsGenerated seed blocks ops trace → IsPlainReport trace plain report → report ≡ plain
+made-plain seed blocks ops trace plain report made is =
+    is.rest ∙ ap (λ (rs : List Reply). record plain { replies = rs }) (made-replies trace.blocks trace.ops plain.replies report.replies (made-reads seed blocks ops trace made) is.replies)
 
 pub made-trace : (seed blocks ops : ℕ) (trace : Trace) → IsGenerated seed blocks ops trace → trace ≡ generated seed blocks ops
 made-trace seed blocks ops trace made =
@@ -193,8 +192,8 @@ made-trace seed blocks ops trace made =
     ∙ ap (λ (ms : List Mapping). record (generated seed blocks ops) { objects = ms; ops = trace.ops }) made.objects
     ∙ ap (λ (os : List Op). record (generated seed blocks ops) { ops = os }) made.ops
 
-pub made-report : (seed blocks ops : ℕ) (trace : Trace) (image : List ℕ) (calls : List Call) → trace ≡ generated seed blocks ops → AllGive calls
-    → report_of trace None image calls ≡ report_of (generated seed blocks ops) None image []
-made-report seed blocks ops trace image calls is give =
-    ap (λ (l : List Reply). report_with trace None l) (plain-gives image trace.config.shards trace.blocks (λ shard. opening_of trace.config) [] trace.ops calls give)
-    ∙ ap (λ (t : Trace). report_of t None image []) is
+pub made-report : (seed blocks ops : ℕ) (trace : Trace) (from : Images) (calls : List Call) → trace ≡ generated seed blocks ops → AllGive calls
+    → report_of trace None from calls [] ≡ report_of (generated seed blocks ops) None from [] []
+made-report seed blocks ops trace from calls is give =
+    ap (λ (l : List Reply). report_with trace None l) (plain-gives from trace.config.shards trace.blocks (λ shard. opening_of trace.config) [] no_contents trace.ops calls [] give)
+    ∙ ap (λ (t : Trace). report_of t None from [] []) is

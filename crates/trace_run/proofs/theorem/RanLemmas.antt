@@ -9,17 +9,18 @@ use Rattle.trace_text.specs.declared.reply.Reply.{Reply}
 use Rattle.trace_text.specs.declared.report.Report.{Report}
 use Rattle.trace_text.specs.declared.trace.Trace.{Trace}
 use Rattle.vdev_io.specs.Calls.{Call, MakesCalls}
+use Rattle.vdev_io.specs.declared.device.CacheDev.{Ghosts as DeviceGhosts}
 use Rattle.vdev_io.specs.declared.pool.Pool.{Ghosts}
 use Rattle.trace_run.specs.one_caller.Alone.{RanAlone, ends_in}
 use Rattle.trace_run.specs.Effects.{calls_of_all}
 use Rattle.trace_run.specs.Ends.{ends_of}
 use Rattle.trace_run.specs.callers.GroupRun.{RanTogether}
 use Rattle.trace_run.specs.Outcome.{IsRun}
-use Rattle.trace_run.specs.one_caller.PlainReport.{IsPlainReport}
-use Rattle.trace_run.specs.one_caller.PlainRun.{report_of, report_with}
-use Rattle.trace_run.specs.Restores.{restored_of}
+use Rattle.trace_run.specs.one_caller.Lent.{ReadsAlone, told_lent}
+use Rattle.trace_run.specs.one_caller.PlainRun.{images, no_contents, replies_to, report_with}
+use Rattle.trace_run.specs.Restores.{restored_of, restored_shard}
 use Rattle.trace_run.specs.callers.Together.{RunsTogether, WorkInGroups, groups_of, report_of_closed}
-use Rattle.trace_run.proofs.one_caller.AlonePlainLemmas.{plain-alone}
+use Rattle.trace_run.proofs.one_caller.PlainReportLemmas.{plain-but}
 use Rattle.trace_run.proofs.theorem.ReportLemmas.{report-is}
 use Rattle.trace_run.proofs.RunLemmas.{calls-faults, calls-few, calls-reads, failed-all}
 
@@ -28,17 +29,21 @@ no-calls : (replies : List Reply) → length replies ≡ 0 → calls_of_all repl
 no-calls [] none = refl
 no-calls (reply ∷ rest) none = absurd (omega (arith, none))
 
-module _ {C P : Type 0} (pools : Ghosts P) (before after : P) (trace : Trace) (rebuilt : Option Rebuilt) (replies : List Reply) (closed : Ended C) where
+-- what is so of both images is so of what follows from it
+both-told : (a b : Option (List ℕ)) {F G : List ℕ → List ℕ → Type 0} → ((x y : List ℕ) → F x y → G x y) → IfSome a (λ x. IfSome b (F x)) → IfSome a (λ x. IfSome b (G x))
+both-told None b each is = tt
+both-told (Some x) None each is = tt
+both-told (Some x) (Some y) each is = each x y is
+
+module _ {C P D : Type 0} (pools : Ghosts P) (devices : DeviceGhosts D) (before after : P) (lent back : Option D) (trace : Trace) (rebuilt : Option Rebuilt) (replies : List Reply) (closed : Ended C) where
   -- one caller's run
-  pub alone-run : IsFormed trace → trace.config.callers ≡ 1 → ((image : List ℕ) → pools.told before ≡ Some image → length image ≡ pools.size before)
-      → RanAlone pools before after trace (restored_of rebuilt) replies closed → IsRun pools before after trace false closed (report_of_closed false rebuilt replies closed)
-  alone-run formed one sized ran =
+  pub alone-run : IsFormed trace → trace.config.callers ≡ 1 → RanAlone pools before after trace (restored_of rebuilt) replies closed
+      → ReadsAlone pools devices before trace (restored_of rebuilt) replies lent back → IsRun pools devices before after lent back trace false closed (report_of_closed false rebuilt replies closed)
+  alone-run formed one ran read =
       let report : Report = report_of_closed false rebuilt replies closed in
       let few : length (calls_of_all replies) < 2 ^ 32 = omega (arith, calls-few replies, ran.answers.all, formed.few_ops) in
       let ends : ends_in closed ≡ ends_of trace.config _ = ran.explained.ends ∙ ap (λ (hs : List (List Event)). ends_of trace.config hs) ran.histories in
       let plain : report ≡ report_with trace rebuilt replies = report-is trace report ran.histories ends refl refl refl in
-      let told : (image : List ℕ) → pools.told ran.lines.first.pool ≡ Some image → length image ≡ pools.size ran.lines.first.pool =
-      subst (λ (p : P). (image : List ℕ) → pools.told p ≡ Some image → length image ≡ pools.size p) (sym ran.lines.from) sized in
       record {
         answers = ran.answers;
         explained = ran.explained;
@@ -56,8 +61,10 @@ module _ {C P : Type 0} (pools : Ghosts P) (before after : P) (trace : Trace) (r
             replied = refl;
             counted = ran.counted;
             made = ran.made;
-            plain = subst (λ (p : P). IfSome (pools.told p) (λ image. IsPlainReport trace image (report_of trace rebuilt image (calls_of_all replies)) report)) ran.lines.from
-                (plain-alone pools 0 trace report ran.lines.first ran.lines.last ran.lines.lines ran.lines.alone ran.lines.none ran.lines.opens told plain);
+            device_calls = read.calls;
+            asked = read.asks;
+            plain = both-told (pools.told before) (told_lent devices lent) (λ image bytes are.
+                plain-but trace (replies_to (images image bytes) trace.config.shards trace.blocks (restored_shard trace.config (restored_of rebuilt)) [] no_contents trace.ops (calls_of_all replies) read.calls) report plain are) read.plain;
           },
         );
         together = λ two. absurd (omega (arith, two, one));
@@ -65,14 +72,14 @@ module _ {C P : Type 0} (pools : Ghosts P) (before after : P) (trace : Trace) (r
         failed = λ is. cc;
       }
 
-  pub alone-told : (fork_failed : Bool) → fork_failed ≡ false → IsFormed trace → trace.config.callers ≡ 1 → ((image : List ℕ) → pools.told before ≡ Some image → length image ≡ pools.size before)
-      → RanAlone pools before after trace (restored_of rebuilt) replies closed → IsRun pools before after trace fork_failed closed (report_of_closed fork_failed rebuilt replies closed)
-  alone-told fork_failed whole formed one sized ran =
-      subst (λ (b : Bool). IsRun pools before after trace b closed (report_of_closed b rebuilt replies closed)) (sym whole) (alone-run formed one sized ran)
+  pub alone-told : (fork_failed : Bool) → fork_failed ≡ false → IsFormed trace → trace.config.callers ≡ 1 → RanAlone pools before after trace (restored_of rebuilt) replies closed
+      → ReadsAlone pools devices before trace (restored_of rebuilt) replies lent back → IsRun pools devices before after lent back trace fork_failed closed (report_of_closed fork_failed rebuilt replies closed)
+  alone-told fork_failed whole formed one ran read =
+      subst (λ (b : Bool). IsRun pools devices before after lent back trace b closed (report_of_closed b rebuilt replies closed)) (sym whole) (alone-run formed one ran read)
 
   -- several callers' run
   pub together-run : (fork_failed : Bool) → 2 ≤ trace.config.callers → RanTogether pools before after trace fork_failed (restored_of rebuilt) replies closed
-      → IsRun pools before after trace fork_failed closed (report_of_closed fork_failed rebuilt replies closed)
+      → IsRun pools devices before after lent back trace fork_failed closed (report_of_closed fork_failed rebuilt replies closed)
   together-run fork_failed two ran = record {
     answers = ran.answers;
     explained = ran.explained;

@@ -19,7 +19,7 @@ use Rattle.trace_run.specs.Effects.{calls_of, effect_of}
 use Rattle.trace_run.specs.Lines.{caller_of, shard_of_line}
 use Rattle.trace_run.specs.Meeting.{resizes_in}
 use Rattle.trace_run.specs.one_caller.OneCaller.{IsFoundAs, events_there, kept_after, only_feeder}
-use Rattle.trace_run.specs.Reads.{CameFromPool, IsAlone, now_of}
+use Rattle.trace_run.specs.Reads.{CameFromPool, now_of}
 use Rattle.trace_run.specs.Tally.{AnswersNow}
 
 -- a caller between its lines: its party, the reads that it keeps, and its pool
@@ -36,7 +36,7 @@ at party kept pool = record { party = party; kept = kept; pool = pool }
 pub record DidThere {C : Type 0} (g : Config) (device : ℕ) (blocks : List Ptr) (kept : List KeptRead) (op : Op) (reply : Reply) (p q : Place (Known C)) : Type 0 where
   pub number : q.number ≡ p.number
   pub told : (before : List Act) → IsTold g before p → IsTold g (before ++ acts_of blocks kept op reply) q
-  pub alone : IsAlone device p → (shard : ℕ) → seen_of g shard q ≡ seen_of g shard p ++ events_there g.shards blocks shard (now_of g shard p) kept op reply
+  pub alone : HasAll p → (shard : ℕ) → seen_of g shard q ≡ seen_of g shard p ++ events_there g.shards blocks shard (now_of g shard p) kept op reply
   pub all : HasAll p → HasAll q
   -- a line of a caller leaves the parties that joined
   pub joined : IsSome (caller_of op) → q.joined ≡ p.joined
@@ -58,7 +58,7 @@ pub record DidLine {C P : Type 0} (g : Config) (pools : Ghosts P) (device : ℕ)
   pub answer : AnswersNow (pools.size old.pool) (pools.told old.pool) blocks old.kept op reply
   pub kept : new.kept ≡ kept_after blocks op reply old.kept
   pub did : DidThere g device blocks old.kept op reply old.party new.party
-  pub found : IsAlone device old.party → IsFoundAs blocks (now_of g (shard_of_line g.shards blocks op) old.party) op reply
+  pub found : HasAll old.party → IsFoundAs blocks (now_of g (shard_of_line g.shards blocks op) old.party) op reply
   pub range : CameFromPool (effect_of reply) → IfSome (pools.told old.pool) (λ image. IsReadOfImage image blocks op reply)
   pub calls : MakesCalls pools (calls_of (effect_of reply)) old.pool new.pool
   pub keeps : KeepsPool pools old.pool new.pool

@@ -1,5 +1,5 @@
 -- How one caller's read finds its block in a shard, and which events that makes (arc_read of arc.c, for a single thread).
-use Rattle.std.specs.Prelude.{ℕ, if◌then◌else◌, List, [], ◌∷◌, Option, Some, None}
+use Rattle.std.specs.Prelude.{◌≡◌, ◌⊎◌, ℕ, if◌then◌else◌, List, [], ◌∷◌, Option, Some, None}
 use Rattle.blk_ptr.specs.declared.digest.Digest.{Digest}
 use Rattle.blk_ptr.specs.declared.key.Key.{Key}
 use Rattle.blk_ptr.specs.declared.ptr.Ptr.{Ptr}
@@ -7,6 +7,7 @@ use Rattle.blk_ptr.specs.Order.{digest_eq}
 use Rattle.arc_core.specs.declared.event.Event.{Event}
 use Rattle.arc_core.specs.declared.event.Event.TheVariants as event
 use Rattle.arc_core.specs.declared.event.FailedAt.TheVariants as failed_at
+use Rattle.arc_core.specs.declared.event.Origin.{Origin}
 use Rattle.arc_core.specs.declared.event.Origin.TheVariants as origin
 use Rattle.arc_core.specs.declared.served.Served.{Served}
 use Rattle.arc_core.specs.declared.served.Served.TheVariants as served
@@ -36,11 +37,18 @@ AsksPool Hit = ⊥
 AsksPool (Past kept) = Unit {0}
 AsksPool Miss = Unit {0}
 
--- where the bytes come from, where the read is answered
-abbrev pub source_of : Access → Served
-source_of Hit = served.Hit
-source_of (Past kept) = served.Past
-source_of Miss = served.Pool
+-- where the bytes may come from, where the read is answered: those of a miss come from the pool or from the cache device
+abbrev pub MayComeFrom : Access → Served → Type 0
+MayComeFrom Hit from = from ≡ served.Hit
+MayComeFrom (Past kept) from = from ≡ served.Past
+MayComeFrom Miss from = (from ≡ served.Pool) ⊎ (from ≡ served.L2)
+
+-- where the bytes of an answered miss came from: from the cache device exactly where the answer says so
+abbrev pub origin_of : Served → Origin
+origin_of served.L2 = origin.L2
+origin_of served.Pool = origin.Pool
+origin_of served.Hit = origin.Pool
+origin_of served.Past = origin.Pool
 
 -- the key of the entry that an answered read holds: one past the cache holds none
 abbrev pub held_key : Ptr → Access → Option Key
@@ -48,11 +56,11 @@ held_key ptr (Past kept) = None
 held_key ptr Hit = Some ptr.key
 held_key ptr Miss = Some ptr.key
 
--- the events of a read that is answered, as long as it is kept
-abbrev pub events_of_answered : (n t : ℕ) → Ptr → Access → List Event
-events_of_answered n t ptr Hit = event.Hit n ptr.key t ∷ []
-events_of_answered n t ptr (Past kept) = event.Past n ptr.key kept ∷ []
-events_of_answered n t ptr Miss = event.Miss n ptr.key t ∷ (event.Arrive n ptr.key ptr.digest origin.Pool ∷ [])
+-- the events of a read that is answered from here, as long as it is kept
+abbrev pub events_of_answered : (n t : ℕ) → Ptr → Served → Access → List Event
+events_of_answered n t ptr from Hit = event.Hit n ptr.key t ∷ []
+events_of_answered n t ptr from (Past kept) = event.Past n ptr.key kept ∷ []
+events_of_answered n t ptr from Miss = event.Miss n ptr.key t ∷ (event.Arrive n ptr.key ptr.digest (origin_of from) ∷ [])
 
 -- the events of a read for which the pool failed or gave other bytes
 abbrev pub events_of_refused : (n t : ℕ) → Ptr → Access → List Event

@@ -5,6 +5,7 @@ use Rattle.arc_core.specs.declared.event.Event.{Event}
 use Rattle.arc_core.specs.declared.served.Restored.{Restored}
 use Rattle.arc_core.specs.Operations.{pool_reads}
 use Rattle.arc_table.specs.Ended.{Ended}
+use Rattle.arc_table.specs.Seen.{HasAll}
 use Rattle.vdev_io.specs.Calls.{MakesCalls}
 use Rattle.trace_text.specs.declared.ends.ShardEnd.{ShardEnd}
 use Rattle.trace_text.specs.declared.reply.Reply.{Reply}
@@ -18,7 +19,7 @@ use Rattle.arc_table.specs.Telling.{opening_of}
 use Rattle.trace_run.specs.Explaining.{Explain}
 use Rattle.trace_run.specs.Lines.{is_in_shard, replies_where}
 use Rattle.trace_run.specs.one_caller.OneCaller.{AreFoundAs, one_caller_histories}
-use Rattle.trace_run.specs.Reads.{IsAlone, now_of}
+use Rattle.trace_run.specs.Reads.{now_of}
 use Rattle.trace_run.specs.Restores.{restored_shard, restores_in}
 
 -- the histories of a closed cache, and what its shards end with
@@ -32,7 +33,7 @@ ends_in closed = map (λ log. end_of log.now) closed.shards
 pub record LinesAlone (C : Type 0) {P : Type 0} (pools : Ghosts P) (before after : P) (trace : Trace) (restored : List Restored) (replies : List Reply) : Type 0 where
   pub first : At C P
   pub last : At C P
-  pub alone : IsAlone 0 first.party
+  pub alone : HasAll first.party
   pub none : first.kept ≡ []
   pub opens : (shard : ℕ) → now_of trace.config shard first.party ≡ restored_shard trace.config restored shard
   pub from : first.pool ≡ before

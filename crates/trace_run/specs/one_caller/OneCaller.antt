@@ -14,7 +14,7 @@ use Rattle.arc_core.specs.Replay.{replay}
 use Rattle.trace_text.specs.declared.op.Op.{Op}
 use Rattle.trace_text.specs.declared.op.Op.TheVariants as ops
 use Rattle.trace_text.specs.declared.reply.Reply.{Reply}
-use Rattle.trace_run.specs.one_caller.Access.{Access, AsksPool, access_of, events_of_answered, events_of_drop, events_of_refused, held_key, source_of}
+use Rattle.trace_run.specs.one_caller.Access.{Access, AsksPool, MayComeFrom, access_of, events_of_answered, events_of_drop, events_of_refused, held_key}
 use Rattle.trace_run.specs.Effects.{Effect, Answered, GivenBack, PoolRefused, NoEffect, effect_of}
 use Rattle.trace_run.specs.Lines.{is_in_shard, replies_where}
 use Rattle.trace_run.specs.KeptReads.{KeptRead, kept_read}
@@ -67,14 +67,14 @@ kept_after blocks other reply kept = kept
 
 -- what a read of a pointer makes in this shard: an answered one gives its hold back at once
 abbrev pub events_of_read : (n t : ℕ) → PlainShard → Ptr → Effect → List Event
-events_of_read n t s ptr (Answered from) = events_of_answered n t ptr (access_of s ptr) ++ events_of_drop n (held_key ptr (access_of s ptr))
+events_of_read n t s ptr (Answered from) = events_of_answered n t ptr from (access_of s ptr) ++ events_of_drop n (held_key ptr (access_of s ptr))
 events_of_read n t s ptr GivenBack = []
 events_of_read n t s ptr (PoolRefused call) = events_of_refused n t ptr (access_of s ptr)
 events_of_read n t s ptr NoEffect = []
 
 -- and a read that is kept
 abbrev pub events_of_hold : (n t : ℕ) → PlainShard → Ptr → Effect → List Event
-events_of_hold n t s ptr (Answered from) = events_of_answered n t ptr (access_of s ptr)
+events_of_hold n t s ptr (Answered from) = events_of_answered n t ptr from (access_of s ptr)
 events_of_hold n t s ptr GivenBack = []
 events_of_hold n t s ptr (PoolRefused call) = events_of_refused n t ptr (access_of s ptr)
 events_of_hold n t s ptr NoEffect = []
@@ -102,9 +102,9 @@ events_of blocks s kept other reply = []
 abbrev pub events_there : (shards : ℕ) → List Ptr → (shard : ℕ) → PlainShard → List KeptRead → Op → Reply → List Event
 events_there shards blocks shard s kept op reply = if is_in_shard shards blocks shard op then events_of blocks s kept op reply else []
 
--- An answered read names where its access found the bytes, and one that the pool refused had to ask the pool.
+-- An answered read names a place from which its access may have the bytes, and one that the pool refused had to ask the pool.
 abbrev pub NamesSource : Access → Effect → Type 0
-NamesSource access (Answered from) = from ≡ source_of access
+NamesSource access (Answered from) = MayComeFrom access from
 NamesSource access GivenBack = Unit {0}
 NamesSource access (PoolRefused call) = AsksPool access
 NamesSource access NoEffect = Unit {0}

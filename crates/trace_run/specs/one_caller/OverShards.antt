@@ -4,12 +4,16 @@ use Rattle.std.specs.List.{AllByRecursion}
 use Rattle.blk_ptr.specs.declared.ptr.Ptr.{Ptr}
 use Rattle.arc_core.specs.declared.event.Event.{Event}
 use Rattle.arc_core.specs.PlainShard.{PlainShard}
+use Rattle.arc_core.specs.Replay.{replay}
 use Rattle.trace_text.specs.declared.op.Op.{Op}
 use Rattle.trace_text.specs.declared.reply.Reply.{Reply}
 use Rattle.trace_run.specs.KeptReads.{KeptRead}
 use Rattle.trace_run.specs.Lines.{shard_of_block, shard_of_line}
 use Rattle.trace_run.specs.one_caller.OneCaller.{events_there, kept_after}
-use Rattle.trace_run.specs.one_caller.PlainRun.{shards_after}
+
+-- all shards, once an operation with this reply is done where these reads are kept
+abbrev pub shards_after : (shards : ℕ) → List Ptr → (ℕ → PlainShard) → List KeptRead → Op → Reply → ℕ → PlainShard
+shards_after shards blocks s kept op reply shard = replay (s shard) (events_there shards blocks shard (s shard) kept op reply)
 
 -- a fact of each operation and its reply, with the shard of its block and the kept reads that they found, of so many shards
 abbrev pub AllLinesOver : (PlainShard → List KeptRead → Op → Reply → Type 0) → (shards : ℕ) → List Ptr → (ℕ → PlainShard) → List KeptRead → List Op → List Reply → Type 0

@@ -1,5 +1,6 @@
--- The run of one caller over a pool that tells its bytes, as a plain function: of the trace, the bytes, and which reads of the pool failed.
-use Rattle.std.specs.Prelude.{ℕ, ◌+◌, ◌%◌, ◌==◌, nat_lt, false, not, if◌then◌else◌, List, [], ◌∷◌, drop, length, is_some, slice_get, Option, Some, None}
+-- The run of one caller over a pool and a cache device that tell their bytes, as a plain function: of the trace, the bytes, and which reads of either
+-- failed.
+use Rattle.std.specs.Prelude.{ℕ, ◌+◌, ◌%◌, ◌==◌, nat_lt, ◌&&◌, false, not, if◌then◌else◌, List, [], ◌∷◌, drop, length, is_some, slice_get, Option, Some, None}
 use Rattle.std.specs.List.{list_any}
 use Rattle.std.specs.Option.{option_map_or}
 use Rattle.blk_ptr.specs.declared.key.Key.{Key}
@@ -7,11 +8,13 @@ use Rattle.blk_ptr.specs.declared.key.KeyFault.{KeyFault}
 use Rattle.blk_ptr.specs.declared.key.KeyFault.TheVariants as key_faults
 use Rattle.blk_ptr.specs.declared.ptr.Ptr.{Ptr}
 use Rattle.blk_ptr.specs.Key.{end_of as end_of_key}
-use Rattle.blk_ptr.specs.Order.{digest_eq}
+use Rattle.blk_ptr.specs.Order.{digest_eq, key_eq}
 use Rattle.blk_ptr.specs.Ptr.{range_of, sha256_of}
 use Rattle.blk_ptr.specs.Size.{is_block_size_of, sector}
+use Rattle.arc_core.specs.declared.served.Served.{Served}
+use Rattle.arc_core.specs.declared.served.Served.TheVariants as served
 use Rattle.arc_core.specs.PlainShard.{PlainShard}
-use Rattle.arc_core.specs.Replay.{replay}
+use Rattle.arc_table.specs.Fetching.{bytes_from}
 use Rattle.trace_text.specs.declared.op.Op.{Op}
 use Rattle.trace_text.specs.declared.op.Op.TheVariants as ops
 use Rattle.trace_text.specs.declared.reply.Refusal.{Refusal}
@@ -22,17 +25,29 @@ use Rattle.trace_text.specs.declared.rebuilt.Rebuilt.{Rebuilt}
 use Rattle.trace_text.specs.declared.report.Report.{Report}
 use Rattle.trace_text.specs.declared.trace.Trace.{Trace}
 use Rattle.dbuf_state.specs.declared.window.Window.{Window}
-use Rattle.trace_run.specs.one_caller.Access as access
 use Rattle.trace_run.specs.KeptReads.{KeptRead}
-use Rattle.trace_run.specs.one_caller.Access.{Access, access_of, source_of}
+use Rattle.trace_run.specs.one_caller.Asking.{asked_by, next_call, place_asked, source_at}
+use Rattle.trace_run.specs.one_caller.OverShards.{shards_after}
 use Rattle.trace_run.specs.Answers.{is_refusal, window_of}
-use Rattle.trace_run.specs.Effects.{calls_of, effect_of}
+use Rattle.trace_run.specs.Effects.{Effect, Answered, GivenBack, PoolRefused, NoEffect, calls_of, effect_of}
 use Rattle.trace_run.specs.Ends.{ends_of}
 use Rattle.arc_table.specs.Telling.{opening_of}
 use Rattle.trace_run.specs.Lines.{shard_of_line}
-use Rattle.trace_run.specs.one_caller.OneCaller.{events_there, kept_after, oldest_kept, one_caller_histories}
+use Rattle.trace_run.specs.one_caller.OneCaller.{kept_after, oldest_kept, one_caller_histories}
 use Rattle.trace_run.specs.Restores.{restored_of, restored_shard, restores_in}
 use Rattle.vdev_io.specs.Calls.{Call, Gave, Failed}
+
+-- the bytes that the pool tells, and those of the cache device: where there is none, it has none
+pub record Images : Type 0 where
+  pub pool : List ℕ
+  pub device : List ℕ
+
+abbrev pub images : (pool device : List ℕ) → Images
+images pool device = record { pool = pool; device = device }
+
+-- the bytes that are cached of each block that is
+abbrev pub Contents : Type 0
+Contents = Ptr → List ℕ
 
 -- ---- the reply to one operation
 
@@ -51,63 +66,95 @@ refused_bytes image ptr Failed = Some PoolFault
 refused_bytes image ptr Gave =
     if digest_eq (sha256_of (range_of image ptr.key)) ptr.digest then None else Some (Mismatch (sha256_of (range_of image ptr.key)))
 
--- why a read with this access is refused, whose key is accepted
-abbrev pub refused_access : (image : List ℕ) → Ptr → Access → Call → Option Refusal
-refused_access image ptr access.Hit call = None
-refused_access image ptr (access.Past kept) call = refused_bytes image ptr call
-refused_access image ptr access.Miss call = refused_bytes image ptr call
+-- why a read is refused whose key is accepted and whose bytes come from here
+abbrev pub refused_from : (image : List ℕ) → Ptr → Served → Call → Option Refusal
+refused_from image ptr served.Hit call = None
+refused_from image ptr served.L2 call = None
+refused_from image ptr served.Pool call = refused_bytes image ptr call
+refused_from image ptr served.Past call = refused_bytes image ptr call
 
 -- why a read is refused: the key is looked at first
 abbrev pub key_first : Option KeyFault → Option Refusal → Option Refusal
 key_first None later = later
 key_first (Some fault) later = Some (RefusedKey fault)
 
-abbrev pub refused_read : (image : List ℕ) → PlainShard → Ptr → Call → Option Refusal
-refused_read image s ptr call = key_first (key_fault (length image) ptr.key) (refused_access image ptr (access_of s ptr) call)
+abbrev pub refused_read : (image : List ℕ) → Ptr → Served → Call → Option Refusal
+refused_read image ptr from call = key_first (key_fault (length image) ptr.key) (refused_from image ptr from call)
 
 -- the reply, where this is why it is refused
 abbrev pub reply_unless : Option Refusal → Reply → Reply
 reply_unless None reply = reply
 reply_unless (Some refusal) reply = Refused refusal
 
--- the reply to a read: its window is looked at before all else
-abbrev pub reply_to_read : (image : List ℕ) → PlainShard → Ptr → Window → Call → Reply
-reply_to_read image s ptr window call =
+-- where a read's bytes come from, where the device answers so if it is read
+abbrev pub source_in : Images → PlainShard → Ptr → (device_call : Call) → Served
+source_in images s ptr device_call = source_at (length images.device) images.device s ptr device_call
+
+-- the bytes of a read: those that are cached, or those of the device at the place, or those of the pool in the key's range
+abbrev pub bytes_on : (image : List ℕ) → Option ℕ → Key → List ℕ
+bytes_on image None key = []
+bytes_on image (Some place) key = bytes_from image place key
+
+abbrev pub bytes_in : Images → Contents → PlainShard → Ptr → Served → List ℕ
+bytes_in images contents s ptr served.Hit = contents ptr
+bytes_in images contents s ptr served.L2 = bytes_on images.device (place_asked (length images.device) ptr s) ptr.key
+bytes_in images contents s ptr served.Pool = range_of images.pool ptr.key
+bytes_in images contents s ptr served.Past = range_of images.pool ptr.key
+
+-- the reply to a read whose bytes come from here: its window is looked at before all else
+abbrev pub reply_to_read : (image : List ℕ) → Ptr → Window → Served → (bytes : List ℕ) → Call → Reply
+reply_to_read image ptr window from bytes call =
     if nat_lt ptr.key.size (window.at + window.len) then Refused (Range (window.at + window.len) ptr.key.size)
-    else reply_unless (refused_read image s ptr call) (Read (source_of (access_of s ptr)) ptr.digest (window_of window (range_of image ptr.key)))
+    else reply_unless (refused_read image ptr from call) (Read from ptr.digest (window_of window bytes))
 
 -- the reply to a read that is to be kept
-abbrev pub reply_to_hold : (image : List ℕ) → PlainShard → Ptr → Call → Reply
-reply_to_hold image s ptr call = reply_unless (refused_read image s ptr call) (Kept (source_of (access_of s ptr)))
+abbrev pub reply_to_hold : (image : List ℕ) → Ptr → Served → Call → Reply
+reply_to_hold image ptr from call = reply_unless (refused_read image ptr from call) (Kept from)
 
 -- the reply to a drop of a read of this block
 abbrev pub reply_to_drop : (block : ℕ) → List KeptRead → Reply
 reply_to_drop block kept = if is_some (oldest_kept block kept) then Dropped else Refused (NoHold block)
 
--- the reply to an operation, where the pool answers so if it is read; each block of a trace is declared, and no other operation is done yet
-abbrev pub reply_to : (image : List ℕ) → List Ptr → PlainShard → List KeptRead → Op → Call → Reply
-reply_to image blocks s kept (ops.Read n t x window) call = option_map_or (λ ptr. reply_to_read image s ptr window call) (slice_get blocks x) Dropped
-reply_to image blocks s kept (ops.Hold n t x) call = option_map_or (λ ptr. reply_to_hold image s ptr call) (slice_get blocks x) Dropped
-reply_to image blocks s kept (ops.Drop n x) call = reply_to_drop x kept
-reply_to image blocks s kept (ops.Cap c) call = Capped c
-reply_to image blocks s kept other call = Dropped
+-- the reply to an operation, where the pool answers so if it is read, and the device so; each block of a trace is declared, and no other operation is
+-- done yet
+abbrev pub reply_to : Images → List Ptr → PlainShard → List KeptRead → Contents → Op → (call device_call : Call) → Reply
+reply_to images blocks s kept contents (ops.Read n t x window) call device_call =
+    option_map_or (λ ptr. let from = source_in images s ptr device_call in reply_to_read images.pool ptr window from (bytes_in images contents s ptr from) call) (slice_get blocks x) Dropped
+reply_to images blocks s kept contents (ops.Hold n t x) call device_call = option_map_or (λ ptr. reply_to_hold images.pool ptr (source_in images s ptr device_call) call) (slice_get blocks x) Dropped
+reply_to images blocks s kept contents (ops.Drop n x) call device_call = reply_to_drop x kept
+reply_to images blocks s kept contents (ops.Cap c) call device_call = Capped c
+reply_to images blocks s kept contents other call device_call = Dropped
 
 -- ---- the replies to all operations
 
--- the answer to the pool's next read; where none is said, it gives bytes
-abbrev pub next_call : List Call → Call
-next_call [] = Gave
-next_call (call ∷ calls) = call
+-- the bytes of a block, once these are cached for it
+abbrev pub with_bytes : Ptr → List ℕ → Contents → Contents
+with_bytes ptr bytes contents other = if key_eq other.key ptr.key && digest_eq other.digest ptr.digest then bytes else contents other
 
--- all shards, once an operation with this reply is done where these reads are kept
-abbrev pub shards_after : (shards : ℕ) → List Ptr → (ℕ → PlainShard) → List KeptRead → Op → Reply → ℕ → PlainShard
-shards_after shards blocks s kept op reply shard = replay (s shard) (events_there shards blocks shard (s shard) kept op reply)
+-- and once a read with this effect is done: a miss that is answered caches its bytes
+abbrev pub contents_with : Images → Contents → PlainShard → Ptr → Effect → Contents
+contents_with images contents s ptr (Answered served.Hit) = contents
+contents_with images contents s ptr (Answered served.Past) = contents
+contents_with images contents s ptr (Answered served.Pool) = with_bytes ptr (bytes_in images contents s ptr served.Pool) contents
+contents_with images contents s ptr (Answered served.L2) = with_bytes ptr (bytes_in images contents s ptr served.L2) contents
+contents_with images contents s ptr GivenBack = contents
+contents_with images contents s ptr (PoolRefused call) = contents
+contents_with images contents s ptr NoEffect = contents
 
-abbrev pub replies_to : (image : List ℕ) → (shards : ℕ) → List Ptr → (ℕ → PlainShard) → List KeptRead → List Op → List Call → List Reply
-replies_to image shards blocks s kept [] calls = []
-replies_to image shards blocks s kept (op ∷ ops) calls =
-    let reply = reply_to image blocks (s (shard_of_line shards blocks op)) kept op (next_call calls) in
-    reply ∷ replies_to image shards blocks (shards_after shards blocks s kept op reply) (kept_after blocks op reply kept) ops (drop (length (calls_of (effect_of reply))) calls)
+-- and once an operation with this reply is
+abbrev pub contents_after : Images → List Ptr → PlainShard → Op → Reply → Contents → Contents
+contents_after images blocks s (ops.Read n t x window) reply contents = option_map_or (λ ptr. contents_with images contents s ptr (effect_of reply)) (slice_get blocks x) contents
+contents_after images blocks s (ops.Hold n t x) reply contents = option_map_or (λ ptr. contents_with images contents s ptr (effect_of reply)) (slice_get blocks x) contents
+contents_after images blocks s other reply contents = contents
+
+abbrev pub replies_to : Images → (shards : ℕ) → List Ptr → (ℕ → PlainShard) → List KeptRead → Contents → List Op → (calls device_calls : List Call) → List Reply
+replies_to images shards blocks s kept contents [] calls device_calls = []
+replies_to images shards blocks s kept contents (op ∷ ops) calls device_calls =
+    let here = s (shard_of_line shards blocks op) in
+    let reply = reply_to images blocks here kept contents op (next_call calls) (next_call device_calls) in
+    reply
+    ∷ replies_to images shards blocks (shards_after shards blocks s kept op reply) (kept_after blocks op reply kept) (contents_after images blocks here op reply contents) ops
+    (drop (length (calls_of (effect_of reply))) calls) (drop (length (asked_by (length images.device) blocks here op reply)) device_calls)
 
 -- ---- the report
 
@@ -127,7 +174,11 @@ report_with trace rebuilt replies = record {
   short = false;
 }
 
--- the report of one caller's run over these bytes, where this was found on the cache device and the pool answered its reads so
-abbrev pub report_of : Trace → Option Rebuilt → (image : List ℕ) → List Call → Report
-report_of trace rebuilt image calls =
-    report_with trace rebuilt (replies_to image trace.config.shards trace.blocks (restored_shard trace.config (restored_of rebuilt)) [] trace.ops calls)
+-- nothing is cached at first
+abbrev pub no_contents : Contents
+no_contents ptr = []
+
+-- the report of one caller's run over these bytes, where this was found on the cache device, and the pool and the device answered their reads so
+abbrev pub report_of : Trace → Option Rebuilt → Images → (calls device_calls : List Call) → Report
+report_of trace rebuilt images calls device_calls =
+    report_with trace rebuilt (replies_to images trace.config.shards trace.blocks (restored_shard trace.config (restored_of rebuilt)) [] no_contents trace.ops calls device_calls)

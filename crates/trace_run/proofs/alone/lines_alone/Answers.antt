@@ -1,4 +1,4 @@
-use Rattle.std.proofs.Common.{◌≡◌, ℕ, true, List, Some, map, take, refl, sym, ap, ◌∙◌, subst}
+use Rattle.std.proofs.Common.{◌≡◌, ℕ, true, List, [], Some, map, take, refl, sym, ap, ◌∙◌, subst}
 use Rattle.std.specs.Prelude.{slice_get}
 use Rattle.std.proofs.lemmas.Option.{slice_get_read}
 use Rattle.blk_ptr.specs.declared.ptr.Ptr.{Ptr}
@@ -10,7 +10,12 @@ use Rattle.trace_run.specs.Lines.{is_of_caller}
 use Rattle.trace_run.specs.Openings.{openings_of}
 use Rattle.trace_run.proofs.AnswerLemmas.{take_one}
 use Rattle.trace_run.proofs.CapLemmas.{capped-line, feeder-after}
-use Rattle.trace_run.proofs.LinesLemmas.{line-named, lines-more}
+use Rattle.trace_run.proofs.LinesLemmas.{line-named, lines-all, lines-more}
+use Rattle.trace_run.specs.Lines.{shard_of_line}
+use Rattle.trace_run.specs.Reads.{now_of}
+use Rattle.trace_run.specs.one_caller.Asking.{AsksLine}
+use Rattle.trace_run.proofs.one_caller.AskingLemmas.{device-then}
+use Rattle.trace_run.proofs.one_caller.AskingLines.{asks-line, capped-asks}
 use Rattle.trace_run.proofs.RunLemmas.{keeps-then}
 use Rattle.trace_run.proofs.alone.lines_alone.Goals as goal
 
@@ -38,7 +43,12 @@ loop-number-preserved-then-not-is_of_caller g c =
       joined = c.in_ok-after.ensures.joined (openings_of c.args.trace.now) was.joined;
       did = subst (λ (x : List Op × List Reply). DidLines config g.P.Pool 0 blocks x.0 x.1 start after) (λ i. (sym (take_one ops c.loop-number.number op here) i, sym c.in_ok-push.ensures.items i))
           (lines-more config g.P.Pool 0 blocks (take c.loop-number.number ops) replies op reply start before after was.did one);
+      asks = λ all.
+          let so_far = was.asks all in
+          asks-line g.D.CacheDev config g.P.Pool 0 blocks (take c.loop-number.number ops) replies op reply _ c.in_ok-push.ensures.items start before (sym (take_one ops c.loop-number.number op here)) was.did all so_far.0 [] c.args.device.now c.loop-number.device c.loop-number.device so_far.1
+          (capped-asks g.D.CacheDev blocks _ op reply c.in_ok-after.ensures.did c.loop-number.device);
       keeps = was.keeps;
+      left = was.left;
     }
 
 -- the caller's own line
@@ -65,5 +75,11 @@ loop-number-preserved g c =
       joined = feeder-after c.args.arcs.now (openings_of c.args.trace.now) g.P.Pool 0 0 blocks op reply before after his one was.joined;
       did = subst (λ (x : List Op × List Reply). DidLines config g.P.Pool 0 blocks x.0 x.1 start after) (λ i. (sym (take_one ops c.loop-number.number op here) i, sym c.in_ok-push-2.ensures.items i))
           (lines-more config g.P.Pool 0 blocks (take c.loop-number.number ops) replies op reply start before after was.did one);
+      asks = λ all.
+          let so_far = was.asks all in
+          let mine = c.in_ok-reply.ensures.asks (lines-all config g.P.Pool 0 blocks (take c.loop-number.number ops) replies start before was.did all) in
+          asks-line g.D.CacheDev config g.P.Pool 0 blocks (take c.loop-number.number ops) replies op reply _ c.in_ok-push-2.ensures.items start before (sym (take_one ops c.loop-number.number op here)) was.did all so_far.0 mine.0 c.args.device.now c.loop-number.device c.line.new.device so_far.1
+          (subst (λ (bs : List Ptr). AsksLine g.D.CacheDev bs (now_of config (shard_of_line config.shards bs op) c.loop-number.party) op reply mine.0 c.loop-number.device c.line.new.device) c.as_slice-blocks.ensures mine.1);
+      left = device-then g.D.CacheDev c.args.device.now c.loop-number.device c.line.new.device was.left c.in_ok-reply.ensures.keeps;
       keeps = keeps-then g.P.Pool c.args.pool.now c.loop-number.pool c.line.new.pool was.keeps c.in_ok-reply.ensures.pool;
     }

@@ -1,5 +1,9 @@
-use Rattle.std.proofs.Common.{◌≡◌, map, take}
-use Rattle.vdev_io.specs.Calls.{KeepsPool}
+use Rattle.std.proofs.Common.{◌≡◌, List, map, take}
+use Rattle.arc_table.specs.Reading.{KeepsDevice}
+use Rattle.arc_table.specs.Seen.{HasAll}
+use Rattle.vdev_io.specs.Calls.{Call, KeepsPool}
+use Rattle.trace_run.specs.one_caller.Asking.{AsksLines}
+use Rattle.trace_run.specs.Reads.{now_of}
 use Rattle.trace_run.specs.callers.CallerLines.{DidLines, at}
 use Rattle.trace_run.specs.KeptBlocks.{Stands, read_of}
 use Rattle.trace_run.specs.Meeting.{HasFeeder}
@@ -16,5 +20,7 @@ invariant-loop-number g l =
       number : l.party.number ≡ 0;
       joined : HasFeeder l.arcs (openings_of l.trace) l.party;
       did : DidLines l.arcs.config pool 0 l.trace.blocks (take l.number l.trace.ops) l.replies.items (at l.fn.party (map read_of l.fn.kept) l.fn.pool) (at l.party (map read_of l.kept) l.pool);
+      asks : HasAll l.fn.party → (calls : List Call) × AsksLines g.D.CacheDev l.arcs.config.shards l.trace.blocks (λ shard. now_of l.arcs.config shard l.fn.party) (map read_of l.fn.kept) (take l.number l.trace.ops) l.replies.items calls l.fn.device l.device;
       keeps : KeepsPool pool l.fn.pool l.pool;
+      left : KeepsDevice g.D.CacheDev l.fn.device l.device;
     }

@@ -2,7 +2,7 @@ use Rattle.std.proofs.Common.{Ok, refl, ap, ◌∙◌, subst}
 use Rattle.arc_table.specs.Items.{meanings}
 use Rattle.arc_table.specs.Reading.{outside}
 use Rattle.dbuf_cells.specs.declared.kept.Kept.TheVariants.{Loose}
-use Rattle.trace_run.proofs.GetLemmas.{PoolDid, adds, fault-calls, fault-cause, fault-did, fault-stands, held-calls, held-did, held-got, held-stands, lists, ok-valid, past-did, past-got, past-stands, pool-did}
+use Rattle.trace_run.proofs.GetLemmas.{PoolDid, adds, fault-asks, fault-calls, fault-cause, fault-did, fault-stands, got-asks, held-calls, held-did, held-got, held-stands, lists, ok-valid, past-did, past-got, past-stands, pool-did}
 use Rattle.trace_run.proofs.ReadLemmas.{AddsRead}
 use Rattle.trace_run.proofs.ReadStands.{ListsAnswer}
 use Rattle.trace_run.proofs.get.get.Goals as goal
@@ -38,7 +38,7 @@ returns-in-Ok-Past-clause-did g c =
     let before = outside c.args.pool.now c.args.device.now in
     let after = outside c.read.new.pool c.read.new.cache in
     past-did m c.args.arcs.now g.P.Pool g.D.CacheDev c.args.ptr.now c.args.t c.args.block before after c.args.party.now c.read.new.party c.requires.0 c.requires.1 c.read.result c.read.ensures.answer
-    (subst (AddsRead m c.args.arcs.now.config c.requires.1.valid g.P.Pool g.D.CacheDev c.args.ptr.now c.args.t (g.D.CacheDev.size c.args.device.now) c.args.party.now c.read.new.party) (c.in-Ok-Past.is ∙ ap Ok c.in-Ok-Past.field-0-is)
+    (subst (AddsRead m c.args.arcs.now.config c.requires.1.valid g.P.Pool g.D.CacheDev c.args.ptr.now c.args.t c.args.party.now c.read.new.party) (c.in-Ok-Past.is ∙ ap Ok c.in-Ok-Past.field-0-is)
     (adds m c.args.arcs.now g.P.Pool g.D.CacheDev c.args.ptr.now c.args.t c.args.block before after c.args.party.now c.read.new.party c.requires.0 c.requires.1 c.read.result c.read.ensures.answer))
 
 pub returns-in-Err-clause-stands : goal.returns-in-Err-clause-stands
@@ -93,3 +93,23 @@ returns-in-Err-clause-calls g c =
     fault-calls g.P.Pool c.args.ptr.now c.args.pool.now c.read.new.pool c.in-Err.fault (subst (PoolDid g.P.Pool c.args.ptr.now c.args.pool.now c.read.new.pool) c.in-Err.is
     (pool-did (meanings g.C.Keeps.holds g.C.Keeps.entries g.C.Keeps.opening g.C.Keeps.claims g.C.Keeps.sound) g.P.Pool g.D.CacheDev c.args.arcs.now.config c.args.ptr.now c.args.t
     (outside c.args.pool.now c.args.device.now) (outside c.read.new.pool c.read.new.cache) c.args.party.now c.read.new.party c.read.result c.read.ensures.answer))
+
+-- ---- what the device was asked for
+
+pub returns-in-Ok-Held-clause-asks : goal.returns-in-Ok-Held-clause-asks
+returns-in-Ok-Held-clause-asks g c = λ all.
+    let laws = g.met.D.CacheDev g.world.𝓛 g.world.𝓜 g.world.𝓡 ((λ s x. x), (λ x. x), (λ x. x), λ x. x) in
+    got-asks (meanings g.C.Keeps.holds g.C.Keeps.entries g.C.Keeps.opening g.C.Keeps.claims g.C.Keeps.sound) c.args.arcs.now g.P.Pool g.D.CacheDev c.args.ptr.now c.args.t c.args.block
+    (outside c.args.pool.now c.args.device.now) (outside c.read.new.pool c.read.new.cache) c.args.party.now c.read.new.party c.requires.0 c.requires.1 c.read.result c.read.ensures.answer (λ dev image told. laws.told_len dev image told) all _ (c.in-Ok-Held.is ∙ ap Ok c.in-Ok-Held.field-0-is)
+
+pub returns-in-Ok-Past-clause-asks : goal.returns-in-Ok-Past-clause-asks
+returns-in-Ok-Past-clause-asks g c = λ all.
+    let laws = g.met.D.CacheDev g.world.𝓛 g.world.𝓜 g.world.𝓡 ((λ s x. x), (λ x. x), (λ x. x), λ x. x) in
+    got-asks (meanings g.C.Keeps.holds g.C.Keeps.entries g.C.Keeps.opening g.C.Keeps.claims g.C.Keeps.sound) c.args.arcs.now g.P.Pool g.D.CacheDev c.args.ptr.now c.args.t c.args.block
+    (outside c.args.pool.now c.args.device.now) (outside c.read.new.pool c.read.new.cache) c.args.party.now c.read.new.party c.requires.0 c.requires.1 c.read.result c.read.ensures.answer (λ dev image told. laws.told_len dev image told) all _ (c.in-Ok-Past.is ∙ ap Ok c.in-Ok-Past.field-0-is)
+
+pub returns-in-Err-clause-asks : goal.returns-in-Err-clause-asks
+returns-in-Err-clause-asks g c = λ all.
+    let laws = g.met.D.CacheDev g.world.𝓛 g.world.𝓜 g.world.𝓡 ((λ s x. x), (λ x. x), (λ x. x), λ x. x) in
+    fault-asks (meanings g.C.Keeps.holds g.C.Keeps.entries g.C.Keeps.opening g.C.Keeps.claims g.C.Keeps.sound) c.args.arcs.now g.P.Pool g.D.CacheDev c.args.ptr.now c.args.t c.args.block
+    (outside c.args.pool.now c.args.device.now) (outside c.read.new.pool c.read.new.cache) c.args.party.now c.read.new.party c.requires.0 c.requires.1 c.read.result c.read.ensures.answer (λ dev image told. laws.told_len dev image told) all c.in-Err.fault c.in-Err.is

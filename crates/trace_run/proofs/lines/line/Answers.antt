@@ -6,6 +6,9 @@ use Rattle.trace_run.specs.KeptBlocks.{read_of}
 use Rattle.trace_run.proofs.callers.CallerActLemmas.{same-caller}
 use Rattle.trace_run.proofs.LineLemmas.{drop-line, hold-line, read-line}
 use Rattle.trace_run.proofs.RunLemmas.{got}
+use Rattle.std.proofs.Common.{[], refl}
+use Rattle.trace_run.proofs.one_caller.AskingLemmas.{device-same}
+use Rattle.trace_run.proofs.one_caller.AskingLines.{LineAsks, hold-line-asks, read-line-asks}
 use Rattle.trace_run.proofs.lines.line.Goals as goal
 
 pub returns-in-Read-clause-did : goal.returns-in-Read-clause-did
@@ -38,3 +41,22 @@ returns-in-Drop-clause-did g c =
     (drop-line c.args.arcs.now.config g.P.Pool (g.D.CacheDev.size c.args.device.now) c.args.blocks.now c.args.party.now q c.args.pool.now c.args.pool.now c.in-Drop.n c.in-Drop.x kept now c.drop_line.result
     (rw c.in-Drop.is at (same-caller c.args.party.now.number c.args.op.now c.requires.own)) c.requires.named
     c.drop_line.ensures.answer c.drop_line.ensures.kept c.drop_line.ensures.drops c.drop_line.ensures.none c.drop_line.ensures.calls)
+
+pub returns-in-Read-clause-asks : goal.returns-in-Read-clause-asks
+returns-in-Read-clause-asks g c =
+    subst (λ (op : Op). IfOk c.read_line.result (LineAsks c.args.arcs.now.config g.D.CacheDev c.args.blocks.now c.args.party.now c.args.device.now c.read_line.new.device op)) (sym c.in-Read.is)
+    (read-line-asks c.args.arcs.now.config g.D.CacheDev c.args.blocks.now c.args.party.now c.args.device.now c.read_line.new.device c.in-Read.n c.in-Read.t c.in-Read.x c.in-Read.w _ c.read_line.result
+    (got c.args.blocks.now c.in-Read.x _ (rw c.in-Read.is at c.requires.declared)) c.read_line.ensures.asks)
+
+pub returns-in-Hold-clause-asks : goal.returns-in-Hold-clause-asks
+returns-in-Hold-clause-asks g c =
+    subst (λ (op : Op). IfOk c.hold_line.result (LineAsks c.args.arcs.now.config g.D.CacheDev c.args.blocks.now c.args.party.now c.args.device.now c.hold_line.new.device op)) (sym c.in-Hold.is)
+    (hold-line-asks c.args.arcs.now.config g.D.CacheDev c.args.blocks.now c.args.party.now c.args.device.now c.hold_line.new.device c.in-Hold.n c.in-Hold.t c.in-Hold.x _ c.hold_line.result
+    (got c.args.blocks.now c.in-Hold.x _ (rw c.in-Hold.is at c.requires.declared)) c.hold_line.ensures.asks)
+
+pub returns-in-Drop-clause-asks : goal.returns-in-Drop-clause-asks
+returns-in-Drop-clause-asks g c = λ all.
+    subst (λ (op : Op). LineAsks c.args.arcs.now.config g.D.CacheDev c.args.blocks.now c.args.party.now c.args.device.now c.args.device.now op c.drop_line.result) (sym c.in-Drop.is) (λ all. ([], refl, refl)) all
+
+pub returns-in-Drop-clause-keeps : goal.returns-in-Drop-clause-keeps
+returns-in-Drop-clause-keeps g c = device-same g.D.CacheDev c.args.device.now

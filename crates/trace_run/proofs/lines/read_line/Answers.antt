@@ -13,8 +13,9 @@ use Rattle.trace_run.specs.one_caller.Access.{events_of_answered, events_of_drop
 use Rattle.trace_run.specs.KeptBlocks.{GivesBack, IsOwnedBy, Stands, read_of}
 use Rattle.trace_run.specs.one_caller.OneCaller.{key_held_by}
 use Rattle.trace_run.specs.KeptReads.{KeptRead, kept_read}
-use Rattle.trace_run.specs.Reads.{DidActs, DidAnswer, access_now}
+use Rattle.trace_run.specs.Reads.{DidActs, DidAnswer, access_now, now_of}
 use Rattle.trace_run.proofs.LineLemmas.{acts-none, read-given, read-refused}
+use Rattle.trace_run.proofs.one_caller.AskingLemmas.{asks-nothing, asks-refused, device-same}
 use Rattle.trace_run.proofs.lines.read_line.Goals as goal
 
 owned-last : {X : Type 0} (P : X → Type 0) (xs : List X) (x : X) → AllByRecursion P (xs ++ x ∷ []) → P x
@@ -25,7 +26,7 @@ owned-last P (y ∷ ys) x all = owned-last P ys x all.1
 given-did : {C : Type 0} (m : Meanings C) (cache : Cache) (device t block : ℕ) (ptr : Ptr) (got : Got) (p r q : Place (Known C)) (kept : List KeptBlock) → Stands cache r (kept ++ got.read ∷ [])
     → DidAnswer cache.config device t ptr got.served p r → read_of got.read ≡ kept_read block (key_held_by ptr got.served) → GivesBack m cache.config got.read.kept r q
     → DidActs cache.config device (shard_of cache.config.shards ptr.key) (Reads p.number t ptr got.served ∷ [])
-    (events_of_answered p.number t ptr (access_now cache.config ptr p) ++ events_of_drop p.number (access_key ptr (access_now cache.config ptr p))) p q
+    (events_of_answered p.number t ptr got.served (access_now cache.config ptr p) ++ events_of_drop p.number (access_key ptr (access_now cache.config ptr p))) p q
 given-did m cache device t block ptr got p r q kept stands did is gives =
     read-given m cache.config stands.valid device t ptr p r q stands.of.config stands.seen got.served got.read.kept (owned-last (λ b. IsOwnedBy r.number b.kept) kept got.read stands.owned)
     (ap (λ (k : KeptRead). k.held) is) did gives
@@ -45,3 +46,15 @@ pub returns-in_ok-refusal_of-in-Err-clause-did : goal.returns-in_ok-refusal_of-i
 returns-in_ok-refusal_of-in-Err-clause-did g c =
     read-refused c.args.arcs.now.config (g.D.CacheDev.size c.args.device.now) c.args.party.now c.get.new.party c.args.t c.args.ptr.now c.in-Err.fault c.in_ok-refusal_of-in-Err.field-0
     c.in_ok-refusal_of-in-Err.ensures.ok c.in-Err.ensures.did
+
+pub returns-then-end-size-clause-asks : goal.returns-then-end-size-clause-asks
+returns-then-end-size-clause-asks g c = λ all.
+    asks-nothing g.D.CacheDev (now_of c.args.arcs.now.config (shard_of c.args.arcs.now.config.shards c.args.ptr.now.key) c.args.party.now) c.args.ptr.now c.args.device.now c.args.device.now refl
+
+pub returns-then-end-size-clause-keeps : goal.returns-then-end-size-clause-keeps
+returns-then-end-size-clause-keeps g c = device-same g.D.CacheDev c.args.device.now
+
+pub returns-in_ok-refusal_of-in-Err-clause-asks : goal.returns-in_ok-refusal_of-in-Err-clause-asks
+returns-in_ok-refusal_of-in-Err-clause-asks g c = λ all.
+    asks-refused g.D.CacheDev (now_of c.args.arcs.now.config (shard_of c.args.arcs.now.config.shards c.args.ptr.now.key) c.args.party.now) c.args.ptr.now c.args.device.now c.get.new.device c.in-Err.fault c.in_ok-refusal_of-in-Err.field-0
+    c.in_ok-refusal_of-in-Err.ensures.ok (c.in-Err.ensures.asks all)

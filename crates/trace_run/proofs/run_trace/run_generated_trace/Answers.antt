@@ -1,14 +1,15 @@
-use Rattle.std.proofs.Common.{◌≡◌, ◌*◌, true, [], Option, None, Some, refl, ap, subst, ◌∙◌, arith}
+use Rattle.std.proofs.Common.{◌≡◌, ◌*◌, true, List, [], Option, None, Some, refl, ap, subst, ◌∙◌, arith}
 use Rattle.std.specs.Prelude.{count_by}
 use Rattle.trace_text.specs.declared.rebuilt.Rebuilt.{Rebuilt}
 use Rattle.trace_text.specs.declared.report.Report.{Report}
 use Rattle.trace_text.specs.declared.trace.Trace.{Trace}
+use Rattle.vdev_io.specs.Calls.{Call}
 use Rattle.trace_run.specs.Answers.{AnswersAll, is_pool_fault}
 use Rattle.trace_run.specs.CellEnds.{AreCellsOf}
 use Rattle.trace_run.specs.Explaining.{Explain}
 use Rattle.trace_run.specs.Outcome.{generated, zeros_of}
 use Rattle.trace_run.specs.one_caller.PlainReport.{IsPlainReport}
-use Rattle.trace_run.specs.one_caller.PlainRun.{report_of}
+use Rattle.trace_run.specs.one_caller.PlainRun.{Images, images, report_of}
 use Rattle.trace_run.specs.Restores.{restored_of}
 use Rattle.trace_run.proofs.theorem.GenLemmas.{made-plain, made-report, made-trace, never-failed, none-refused}
 use Rattle.trace_run.proofs.run_trace.run_generated_trace.Goals as goal
@@ -30,11 +31,12 @@ returns g c =
     let fair : count_by is_pool_fault report.replies ≡ 0 = let h = rw one.0 at run.faults (omega arith) in omega (arith, h) in
     let none = none-refused c.args.seed c.args.blocks c.args.ops trace report.replies drawn answers fair in
     let nothing : report.rebuilt ≡ None = c.in_ok-reported.ensures.rebuilt in
-    let plain : report ≡ report_of trace None (zeros_of c.args.blocks) alone.calls =
-    made-plain c.args.seed c.args.blocks c.args.ops trace (zeros_of c.args.blocks) (report_of trace None (zeros_of c.args.blocks) alone.calls) report drawn
-    (subst (λ (r : Option Rebuilt). IsPlainReport trace (zeros_of c.args.blocks) (report_of trace r (zeros_of c.args.blocks) alone.calls) report) nothing (rw len at alone.plain)) in
-    let whole : report ≡ report_of (generated c.args.seed c.args.blocks c.args.ops) None (zeros_of c.args.blocks) [] =
-    plain ∙ made-report c.args.seed c.args.blocks c.args.ops trace (zeros_of c.args.blocks) alone.calls is give in
+    let zeros : Images = images (zeros_of c.args.blocks) [] in
+    let plain : report ≡ report_of trace None zeros alone.calls [] =
+    made-plain c.args.seed c.args.blocks c.args.ops trace (report_of trace None zeros alone.calls []) report drawn
+    (subst (λ (x : Option Rebuilt × List Call). IsPlainReport trace (report_of trace x.0 zeros alone.calls x.1) report) (λ i. (nothing i, alone.asked i)) (rw len at alone.plain)) in
+    let whole : report ≡ report_of (generated c.args.seed c.args.blocks c.args.ops) None zeros [] [] =
+    plain ∙ made-report c.args.seed c.args.blocks c.args.ops trace zeros alone.calls is give in
     record {
       plain = ap (λ (r : Report). record r { short = true }) whole;
       answers = subst (λ (t : Trace). AnswersAll (c.args.blocks * 512) (Some (zeros_of c.args.blocks)) t.blocks t.ops report.replies) is answers;

@@ -14,7 +14,8 @@ use Rattle.trace_run.proofs.one_caller.AloneLemmas.{end-there, ran-alone, still-
 use Rattle.trace_run.proofs.CapLemmas.{feeder-still}
 use Rattle.trace_run.proofs.theorem.CellRun.{alone-cells}
 use Rattle.trace_run.proofs.OpenLemmas.{HeapCell}
-use Rattle.trace_run.proofs.alone.run_alone.Goals as goal
+use Rattle.trace_run.proofs.one_caller.AskingLines.{asks-from, begun-alone}
+use Rattle.trace_run.proofs.alone.run_over.Goals as goal
 
 pub lines_alone-requires-clause-rows : goal.lines_alone-requires-clause-rows
 lines_alone-requires-clause-rows g c κs within = let new = c.only_party-party.ensures.joined.new in sym new.stands.of.row.1 ∙ new.parties
@@ -143,3 +144,10 @@ returns-clause-cells g c =
     alone-cells cache r c.in_ok-party-3.party _ c.in_ok-vec.field-0.items c.in_ok-closed.closed c.args.trace.now c.in_ok-arcs.ensures.config (ap (λ (x : Config). x.callers) c.in_ok-arcs.ensures.config ∙ c.requires.one)
     c.arcs.view_is c.in_ok-vec.ensures.items c.in_ok-closed.ensures (still-0 _ cache g.P.Pool c.args.trace.now c.in_ok-party-2.replies.items c.args.pool.now c.lines_alone.new.pool p q r kept c.in_ok-arcs.ensures.config c.requires.formed c.requires.one
     c.args.restored.now new c.only_party-party.ensures.joined c.in_ok-party.ensures.fed did c.in_ok-party-2.ensures.stands c.give_back_all.ensures.gives c.give_back_all.ensures.stands) h
+
+pub returns-clause-asks : goal.returns-clause-asks
+returns-clause-asks g c =
+    let cache : Cache = c.in_ok-arcs.arcs in
+    let here = begun-alone cache c.args.restored.now c.only_party-party.result c.in_ok-party.party c.only_party-party.ensures.joined c.in_ok-party.ensures.fed in
+    let asks = c.in_ok-party-2.ensures.asks here.0 in
+    (asks.0, asks-from g.D.CacheDev cache.config c.args.trace.now.config c.in_ok-arcs.ensures.config c.args.trace.now.blocks c.args.restored.now _ here.1 _ c.new-kept.ensures c.args.trace.now.ops c.in_ok-party-2.replies.items asks.0 c.args.device.now c.lines_alone.new.device asks.1)
