@@ -709,6 +709,23 @@ end 0
 '''
 
 
+def three_found(answer, arrival, counts):
+    return f'''\
+arc 1
+0 ok {answer}
+e 0 0 restore 1 1024 512 1 136192 Z
+e 0 1 restore 1 512 512 1 70144 Z
+e 0 2 restore 1 0 512 1 4096 Z
+e 0 3 miss 0 0 512 1 1
+e 0 4 arrive 0 0 512 1 {arrival}
+e 0 5 drop 0 0 512 1
+shard 0 c 4096 p 2048 anon 0 mru 0 mrug 0 mfu 512 mfug 0 l2 1024
+count hit 0 miss 1 past 0 {counts} pass 0 set 0
+rebuilt 3 zero
+end 0
+'''
+
+
 DEVICES = [
     Row('a device of zero bytes', ['run'], 512, ONE_READ, 0, [one_read('0 header magic')], bytes(RING_END)),
     Row('a device that is too short', ['run'], 512, ONE_READ, 0, [one_read('0 short')], bytes(512)),
@@ -717,17 +734,40 @@ DEVICES = [
     Row('a log block of other bytes', ['run'], 512, ONE_READ, 0, [one_read('0 block digest')], changed(fed([bytes(512)]), 4608, bytes(512))),
     Row('a header of another length', ['run'], 512, ONE_READ, 0, [one_read('0 header field')], bytes(fed([bytes(512)])) + bytes(512)),
     Row('a header of one byte more', ['run'], 512, ONE_READ, 0, [one_read('0 header digest')], changed(fed([bytes(512)]), 100, b'\1')),
-    Row('three keys that were found', ['run', '--events'], 512, ONE_READ, 0, ['''\
+    Row('three keys that were found', ['run', '--events'], 512, ONE_READ, 0, [three_found('l2 Z 00000000', 'Z l2', 'pool 0 l2 1')], THREE_FED),
+    Row('the device has what the pool has no more', ['run', '--events'], COUNTING, ONE_READ, 0, [three_found('l2 Z 00000000', 'Z l2', 'pool 0 l2 1')], THREE_FED),
+    Row('a wrong byte of the block on the device', ['run', '--events'], 512, ONE_READ, 0, [three_found('pool Z 00000000', 'Z pool', 'pool 1 l2 0')], changed(THREE_FED, 4607, b'\1')),
+    Row('a block of another digest than the one on the device', ['run', '--events'], COUNTING, ONE_READ.replace('Z', 'N'), 0,
+        [three_found('pool N 00010203', 'N pool', 'pool 1 l2 0')], THREE_FED),
+    Row('a block from the device is cached, and is dropped', ['run', '--events'], COUNTING, '''\
+arc 1 1 16 1 4096 0 4096
+block 0 512 1 Z
+block 0 512 1 N
+hold 0 1 0
+read 0 2 0 0 4
+read 0 3 1 0 4
+drop 0 0
+read 0 4 0 508 4
+''', 0, ['''\
 arc 1
-0 ok pool Z 00000000
+0 held l2
+1 ok hit Z 00000000
+2 ok past N 00010203
+3 dropped
+4 ok hit Z 00000000
 e 0 0 restore 1 1024 512 1 136192 Z
 e 0 1 restore 1 512 512 1 70144 Z
 e 0 2 restore 1 0 512 1 4096 Z
 e 0 3 miss 0 0 512 1 1
-e 0 4 arrive 0 0 512 1 Z pool
-e 0 5 drop 0 0 512 1
+e 0 4 arrive 0 0 512 1 Z l2
+e 0 5 hit 0 0 512 1 2
+e 0 6 drop 0 0 512 1
+e 0 7 past 0 0 512 1 Z
+e 0 8 drop 0 0 512 1
+e 0 9 hit 0 0 512 1 4
+e 0 10 drop 0 0 512 1
 shard 0 c 4096 p 2048 anon 0 mru 0 mrug 0 mfu 512 mfug 0 l2 1024
-count hit 0 miss 1 past 0 pool 1 l2 0 pass 0 set 0
+count hit 2 miss 1 past 1 pool 1 l2 1 pass 0 set 0
 rebuilt 3 zero
 end 0
 '''], THREE_FED),

@@ -12,6 +12,7 @@ pub mod GetLemmas
 pub mod GiveLemmas
 pub mod KeptBlockLemmas
 pub mod KeptQueueLemmas
+pub mod LentLemmas
 pub mod LineLemmas
 pub mod LinesLemmas
 pub mod MappedLemmas

@@ -118,7 +118,7 @@ module _ {D : Type 0} (devices : DeviceGhosts D) (from : Images) (blocks : List 
   calls-told : (asked : List Asked) (calls : List Call) (x y : D) → AllByRecursion IsRead asked → IsTold x → MakesDeviceCalls devices (answered_all calls asked) x y → IsTold y
   calls-told asked [] x y reads told made = subst IsTold (sym made) told
   calls-told [] (c ∷ cs) x y reads told made = subst IsTold (sym made) told
-  calls-told (a ∷ as) (c ∷ cs) x y reads told made = calls-told as cs made.0 y reads.1 (call-told a c x made.0 reads.0 told made.1) made.2
+  calls-told (it ∷ asked) (c ∷ cs) x y reads told made = calls-told asked cs made.0 y reads.1 (call-told it c x made.0 reads.0 told made.1) made.2
 
   block-told : (s : PlainShard) (there : Option Ptr) (e : Effect) (own : List Call) (x y : D) → IsTold x → AsksBlock devices s there e own x y → IsTold y
   block-told s None e own x y told asks = subst IsTold (sym asks.1) told
@@ -168,8 +168,8 @@ module _ {C P D : Type 0} (g : Config) (pools : Ghosts P) (device : ℕ) (device
       let here = line-served o r a next own rest calls x asks.2 asks.3 one size told there asks.4 in
       let same : (λ (i : ℕ). now_of g i next.party) ≡ shards_after g.shards blocks (λ i. now_of g i a.party) a.kept o r = λ h i. line-now g pools device blocks o r a next one alone i h in
       let goes = lines-served os rs next b rest asks.2 y did.2 (one.did.all alone) (one.keeps.size ∙ size) (one.keeps.told ∙ told)
-          (line-told devices from blocks (now_of g (shard_of_line g.shards blocks o) a.party) o r own x asks.2 there asks.4)
-          (subst (λ (z : (ℕ → PlainShard) × List KeptRead). AsksLines devices g.shards blocks z.0 z.1 os rs rest asks.2 y) (λ h. (sym same h, sym one.kept h)) asks.5) in
+      (line-told devices from blocks (now_of g (shard_of_line g.shards blocks o) a.party) o r own x asks.2 there asks.4)
+      (subst (λ (z : (ℕ → PlainShard) × List KeptRead). AsksLines devices g.shards blocks z.0 z.1 os rs rest asks.2 y) (λ h. (sym same h, sym one.kept h)) asks.5) in
       (own, rest, asks.3, here.0, here.1, subst (λ (z : (ℕ → PlainShard) × List KeptRead). AllServed from g.shards blocks z.0 z.1 os rs rest) (λ h. (same h, one.kept h)) goes)
 
 -- ---- over no device
@@ -306,8 +306,7 @@ module _ {C P D : Type 0} (g : Config) (pools : Ghosts P) (device : ℕ) (device
       let here = line-unlent devices blocks pool s a.kept o r asks.0 x asks.2 short answer (one.found alone) asks.4 in
       let same : (λ (i : ℕ). now_of g i next.party) ≡ shards_after g.shards blocks (λ i. now_of g i a.party) a.kept o r = λ h i. line-now g pools device blocks o r a next one alone i h in
       let goes = lines-unlent os rs next b asks.1 asks.2 y did.2 (one.did.all alone) (one.keeps.size ∙ size) (one.keeps.told ∙ told) here.1
-          (subst (λ (z : (ℕ → PlainShard) × List KeptRead). AsksLines devices g.shards blocks z.0 z.1 os rs asks.1 asks.2 y) (λ h. (sym same h, sym one.kept h)) asks.5) in
-      (
+      (subst (λ (z : (ℕ → PlainShard) × List KeptRead). AsksLines devices g.shards blocks z.0 z.1 os rs asks.1 asks.2 y) (λ h. (sym same h, sym one.kept h)) asks.5) in (
         [],
         [],
         refl,

@@ -181,23 +181,27 @@ module _ {D : Type 0} (devices : DeviceGhosts D) (law : (dev : D) (image : List 
   -- the device was not asked, and the bytes came from here
   left-served : (from : Served) (a : Access) → access_of s ptr ≡ a → place_on size ptr s a ≡ None → new ≡ old → from ≡ source_of a false → (CameFromDevice (Answered from) → ⊥) → Asks devices s ptr (Answered from) old new
   left-served from a is at same named not_device =
-      let none : place_asked size ptr s ≡ None = asked-is a None is at in
-      ([], record {
-        many = sym (ap (λ (o : Option ℕ). length (read_on ptr.key o)) none);
-        made = same;
-        gave = λ came. absurd (not_device came);
-        served = all-told (devices.told old) (λ image. NamesServed (source_at size image s ptr Gave) (Answered from)) (λ image told. named ∙ sym (source-is image a None Gave is at));
-      })
+      let none : place_asked size ptr s ≡ None = asked-is a None is at in (
+        [],
+        record {
+          many = sym (ap (λ (o : Option ℕ). length (read_on ptr.key o)) none);
+          made = same;
+          gave = λ came. absurd (not_device came);
+          served = all-told (devices.told old) (λ image. NamesServed (source_at size image s ptr Gave) (Answered from)) (λ image told. named ∙ sym (source-is image a None Gave is at));
+        },
+      )
 
   left-refused : (c : Call) (a : Access) → access_of s ptr ≡ a → place_on size ptr s a ≡ None → new ≡ old → IsFromPool (source_of a false) → Asks devices s ptr (PoolRefused c) old new
   left-refused c a is at same asks =
-      let none : place_asked size ptr s ≡ None = asked-is a None is at in
-      ([], record {
-        many = sym (ap (λ (o : Option ℕ). length (read_on ptr.key o)) none);
-        made = same;
-        gave = λ came. absurd came;
-        served = all-told (devices.told old) (λ image. NamesServed (source_at size image s ptr Gave) (PoolRefused c)) (λ image told. subst IsFromPool (sym (source-is image a None Gave is at)) asks);
-      })
+      let none : place_asked size ptr s ≡ None = asked-is a None is at in (
+        [],
+        record {
+          many = sym (ap (λ (o : Option ℕ). length (read_on ptr.key o)) none);
+          made = same;
+          gave = λ came. absurd came;
+          served = all-told (devices.told old) (λ image. NamesServed (source_at size image s ptr Gave) (PoolRefused c)) (λ image told. subst IsFromPool (sym (source-is image a None Gave is at)) asks);
+        },
+      )
 
   -- it was asked once, after a miss
   module _ (missed : access_of s ptr ≡ access.Miss) (place : ℕ) (call : Call) (asked : IsAsked devices ptr (option_map view_of (entry_of ptr.key s)) place call old new) where

@@ -73,9 +73,14 @@ module _ {D : Type 0} (devices : DeviceGhosts D) (shards : ℕ) (blocks : List P
   asks-more s kept (p ∷ ps) [] calls own o r x y z asks one = absurd asks
   asks-more s kept (p ∷ ps) (q ∷ qs) calls own o r x y z asks one =
       let first = asks.0 in
-      let rest = asks.1 in
-      (first, rest ++ own, asks.2, (λ h. asks.3 h ++ own) ∙ append_assoc first rest own, asks.4,
-        asks-more (shards_after shards blocks s kept p q) (kept_after blocks p q kept) ps qs rest own o r asks.2 y z asks.5 one)
+      let rest = asks.1 in (
+        first,
+        rest ++ own,
+        asks.2,
+        (λ h. asks.3 h ++ own) ∙ append_assoc first rest own,
+        asks.4,
+        asks-more (shards_after shards blocks s kept p q) (kept_after blocks p q kept) ps qs rest own o r asks.2 y z asks.5 one,
+      )
 
 -- a party that is alone finds those shards behind its lines
 pub lines-now : {C P : Type 0} (g : Config) (pools : PoolGhosts P) (device : ℕ) (blocks : List Ptr) (os : List Op) (rs : List Reply) (a b : At C P) → DidLines g pools device blocks os rs a b → HasAll a.party
@@ -102,9 +107,11 @@ pub asks-line : {C P D : Type 0} (devices : DeviceGhosts D) (g : Config) (pools 
 asks-line devices g pools device blocks os rs o r rs_then rs_is a b os_is did all calls own x y z asks one =
     let now = lines-now g pools device blocks os rs a b did all in
     let here : AsksLine devices blocks (shards_after_all g.shards blocks (λ i. now_of g i a.party) a.kept os rs (shard_of_line g.shards blocks o)) o r own y z =
-    subst (λ (s : ℕ → PlainShard). AsksLine devices blocks (s (shard_of_line g.shards blocks o)) o r own y z) now one in
-    (calls ++ own, subst (λ (w : List Op × List Reply). AsksLines devices g.shards blocks (λ i. now_of g i a.party) a.kept w.0 w.1 (calls ++ own) x z) (λ h. (os_is h, sym rs_is h))
-        (asks-more devices g.shards blocks (λ i. now_of g i a.party) a.kept os rs calls own o r x y z asks here))
+    subst (λ (s : ℕ → PlainShard). AsksLine devices blocks (s (shard_of_line g.shards blocks o)) o r own y z) now one in (
+      calls ++ own,
+      subst (λ (w : List Op × List Reply). AsksLines devices g.shards blocks (λ i. now_of g i a.party) a.kept w.0 w.1 (calls ++ own) x z) (λ h. (os_is h, sym rs_is h))
+          (asks-more devices g.shards blocks (λ i. now_of g i a.party) a.kept os rs calls own o r x y z asks here),
+    )
 
 -- over shards that keys were restored to, for a caller that keeps nothing
 pub asks-from : {D : Type 0} (devices : DeviceGhosts D) (g h : Config) → g ≡ h → (blocks : List Ptr) (restored : List Restored) (s : ℕ → PlainShard) → ((i : ℕ) → s i ≡ restored_shard g restored i) → (kept : List KeptBlock) → kept ≡ []

@@ -9,9 +9,8 @@ use Rattle.trace_text.specs.declared.report.Report.{Report}
 use Rattle.trace_run.specs.declared.status.Status.{Status}
 use Rattle.trace_run.specs.declared.status.Status.TheVariants as statuses
 use Rattle.trace_run.specs.declared.words.Command.{Command}
-use Rattle.trace_text.specs.declared.rebuilt.Rebuilt.{Rebuilt}
 use Rattle.vdev_io.specs.declared.device.CacheDev.{Ghosts as Devices}
-use Rattle.trace_run.specs.Devices.{Finds, MayLose}
+use Rattle.trace_run.specs.Devices.{MayLose}
 use Rattle.trace_run.specs.Outcome.{AnswersSink, AnswersWords, IfReported, IfUsage, IsDelivered, IsGenStatus, IsReport, has_report}
 use Rattle.trace_run.specs.States.{Handed, StreamState}
 use Rattle.trace_run.specs.Words.{IsCommand}
@@ -48,14 +47,6 @@ gen-status before after (statuses.Usage index) report which present zero_is sink
 gen-status before after (statuses.BadTrace line kind) report which present zero_is sink = which
 gen-status before after statuses.SourceFault report which present zero_is sink = which
 gen-status before after (statuses.Illegal shard index) report which present zero_is sink = which
-
--- a device that was found, and is handed back, is not lost
-pub found-kept : {D : Type 0} (device : Devices D) (before after : Option D) (rebuilt : Option Rebuilt) → Finds device before after rebuilt → MayLose device before after
-found-kept device None None rebuilt is = tt
-found-kept device None (Some a) rebuilt is = cc
-found-kept device (Some b) None rebuilt is = tt
-found-kept device (Some b) (Some a) None is = absurd is
-found-kept device (Some b) (Some a) (Some rebuilt) is = is.only
 
 -- one that isn't touched is none that is lost
 pub nothing-lost : {D : Type 0} (device : Devices D) (cache : Option D) → MayLose device cache cache
