@@ -1,6 +1,6 @@
 -- What a read that the shared cache answered adds to what its party has seen: its own moments, whatever other parties did between; and of a
 -- party that is alone just these events.
-use Rattle.std.proofs.Common.{◌≡◌, ◌≢◌, ℕ, zero, suc, ◌<◌, ◌&&◌, false, IsTrue, List, [], ◌∷◌, ◌++◌, map, Option, Some, None, Result, Ok, Err, refl, sym, ap, ◌∙◌, subst, inl, inr, arith, append-nil, eq-eqb}
+use Rattle.std.proofs.Common.{◌≡◌, ◌≢◌, ℕ, zero, suc, ◌&&◌, false, IsTrue, List, [], ◌∷◌, ◌++◌, map, Option, Some, None, Result, Ok, Err, refl, sym, ap, ◌∙◌, subst, inl, inr, append-nil, eq-eqb}
 use Rattle.std.specs.List.{AllByRecursion}
 use Rattle.std.specs.Option.{option_map_or}
 use Rattle.blk_ptr.specs.declared.digest.Digest.{Digest}
@@ -40,7 +40,7 @@ use Rattle.trace_run.specs.one_caller.Access as access
 use Rattle.trace_run.specs.one_caller.Access.{Access, AsksPool, MayComeFrom, access_of, events_of_answered, events_of_refused}
 use Rattle.arc_table.specs.Telling.{opening_of}
 use Rattle.trace_run.specs.Reads.{access_now, now_of}
-use Rattle.arc_table.specs.Seen.{HasSeenItsOwn, seen_of}
+use Rattle.arc_table.specs.Seen.{HasAll, HasSeenItsOwn, seen_of}
 use Rattle.trace_run.proofs.one_caller.AccessLemmas.{access-cached, access-missed, access-other}
 use Rattle.arc_table.proofs.MoveLemmas.{Moves, does-moves, does-now, moves-none, moves-then, one-moves, roomy-moves, roomy-now}
 use Rattle.arc_table.proofs.scans.ScanAlone.{scan-alone}

@@ -28,7 +28,7 @@ use Rattle.trace_run.specs.one_caller.PlainRun.{Contents, Images, contents_after
 use Rattle.trace_run.specs.Restores.{restored_of, restored_shard, restores_in}
 use Rattle.trace_run.specs.Reads.{now_of}
 use Rattle.trace_run.specs.Tally.{AnswersNow}
-use Rattle.trace_run.proofs.LinesLemmas.{all-then, line-now, lines-length}
+use Rattle.trace_run.proofs.LinesLemmas.{line-now}
 use Rattle.trace_run.proofs.one_caller.PlainLemmas.{drop-front, next-is}
 use Rattle.trace_run.proofs.one_caller.PlainReplyLemmas.{IsNamed, IsPlainlyServed, line-brings, line-grows, line-plain}
 use Rattle.trace_run.proofs.one_caller.PlainReportLemmas.{alike-events, alike-kept, plain-alike, plain-but}
@@ -352,14 +352,14 @@ module _ (from : Images) (shards : ℕ) (blocks : List Ptr) where
       → ((i : ℕ) → AreTold contents (s i).entries) → (i : ℕ) → AreTold (contents_after from blocks (s (shard_of_line shards blocks o)) o r contents) (shards_after shards blocks s kept o r i).entries
   told-shards s kept contents o r call is told i = go (is_in_shard shards blocks i o) refl
     where
-      then : Contents
-      then = contents_after from blocks (s (shard_of_line shards blocks o)) o r contents
+      cached : Contents
+      cached = contents_after from blocks (s (shard_of_line shards blocks o)) o r contents
 
-      still : AreTold then (s i).entries
+      still : AreTold cached (s i).entries
       still = line-grows from contents blocks (s (shard_of_line shards blocks o)) kept o r call is (s i).entries (told i)
 
-      go : (t : Bool) → is_in_shard shards blocks i o ≡ t → AreTold then (replay (s i) (if t then events_of blocks (s i) kept o r else [])).entries
-      go true in_it = told-replay then (s i) (events_of blocks (s i) kept o r) (brings-in s kept contents o r call is i in_it) still
+      go : (t : Bool) → is_in_shard shards blocks i o ≡ t → AreTold cached (replay (s i) (if t then events_of blocks (s i) kept o r else [])).entries
+      go true in_it = told-replay cached (s i) (events_of blocks (s i) kept o r) (brings-in s kept contents o r call is i in_it) still
       go false in_it = still
 
   pub plain-replies : (s : ℕ → PlainShard) (kept : List KeptRead) (contents : Contents) (os : List Op) (rs : List Reply) (device_calls : List Call) → ((i : ℕ) → AreTold contents (s i).entries)
@@ -381,12 +381,12 @@ module _ (from : Images) (shards : ℕ) (blocks : List Ptr) where
       let after : shards_after shards blocks s kept o p ≡ shards_after shards blocks s kept o r =
       λ h j. replay (s j) (if is_in_shard shards blocks j o then alike-events blocks (s j) kept o p r alike h else []) in
       let left : kept_after blocks o p kept ≡ kept_after blocks o r kept = alike-kept blocks kept o p r alike in
-      let then : contents_after from blocks here o p contents ≡ contents_after from blocks here o r contents = alike-contents from blocks here contents o p r alike in
+      let cached : contents_after from blocks here o p contents ≡ contents_after from blocks here o r contents = alike-contents from blocks here contents o p r alike in
       let gone : drop (length (calls_of (effect_of p))) (own ++ rest) ≡ rest = (λ h. drop (length (calls_of (alike h))) (own ++ rest)) ∙ drop-front own rest in
       let asked_gone : drop (length (asked_by (length from.device) blocks here o p)) device_calls ≡ asked_rest =
       (λ h. drop (length (alike-asked (length from.device) blocks here o p r alike h)) (lines.2 h)) ∙ ((λ h. drop (sym lines.3 h) (asked_own ++ asked_rest)) ∙ drop-front asked_own asked_rest) in
       let goes = plain-replies (shards_after shards blocks s kept o r) (kept_after blocks o r kept) (contents_after from blocks here o r contents) os rs asked_rest (told-shards s kept contents o r (next_call device_calls) is told) lines.5 in
-      (first, subst (λ (l : List Reply). ArePlainReplies blocks os l rs) (sym (λ h. replies_to from shards blocks (after h) (left h) (then h) os (gone h) (asked_gone h))) goes)
+      (first, subst (λ (l : List Reply). ArePlainReplies blocks os l rs) (sym (λ h. replies_to from shards blocks (after h) (left h) (cached h) os (gone h) (asked_gone h))) goes)
 
 -- ---- the run
 

@@ -1,5 +1,5 @@
 -- What a read of a party that is alone asked the cache device for, by what it had seen of the key's shard.
-use Rattle.std.proofs.Common.{◌≡◌, ◌≢◌, ℕ, ◌+◌, ◌≤◌, ◌&&◌, Bool, true, false, if◌then◌else◌, List, [], ◌∷◌, ◌++◌, length, drop, map, Option, Some, None, IfSome, IsTrue, Result, Ok, Err, inl, inr, refl, sym, ap, ◌∙◌, subst, arith, append-nil, length-drop, eq-eqb}
+use Rattle.std.proofs.Common.{◌≡◌, ℕ, ◌+◌, ◌≤◌, true, false, List, [], ◌∷◌, ◌++◌, length, drop, Option, Some, None, IfSome, IsTrue, Result, Ok, Err, inl, inr, refl, sym, ap, ◌∙◌, subst, arith, append-nil, length-drop, eq-eqb}
 use Rattle.std.specs.Prelude.{nat_le, option_and_then}
 use Rattle.std.specs.Option.{option_map, option_map_or}
 use Rattle.std.proofs.lemmas.Bool.Decides.{nat_tests}
@@ -13,7 +13,7 @@ use Rattle.blk_ptr.specs.Order.{digest_eq}
 use Rattle.blk_ptr.specs.Ptr.{IsOf, sha256_of}
 use Rattle.vdev_io.specs.declared.device.CacheDev.{Ghosts as DeviceGhosts}
 use Rattle.vdev_io.specs.declared.pool.Pool.{Ghosts as PoolGhosts}
-use Rattle.vdev_io.specs.Calls.{Call, Failed, Gave, MakesDeviceCalls, answered as one_answered}
+use Rattle.vdev_io.specs.Calls.{Call, Failed, Gave, MakesDeviceCalls}
 use Rattle.arc_core.specs.Config.{IsConfig}
 use Rattle.arc_core.specs.declared.config.Config.{Config}
 use Rattle.arc_core.specs.declared.entry.Entry.{Entry}
@@ -32,7 +32,6 @@ use Rattle.arc_core.specs.View.{view_of}
 use Rattle.arc_core.proofs.Others.{own-entry}
 use Rattle.arc_core.proofs.Stepping.{replay-append}
 use Rattle.trace_text.specs.declared.reply.Refusal.{Refusal}
-use Rattle.trace_text.specs.declared.reply.Reply.{Reply}
 use Rattle.trace_text.specs.declared.reply.Reply.TheVariants.{Refused}
 use Rattle.turn_table.specs.Places.{Place}
 use Rattle.arc_table.specs.declared.read.Read.{Read}
@@ -40,19 +39,19 @@ use Rattle.arc_table.specs.declared.read.Read.TheVariants as gave
 use Rattle.arc_table.specs.declared.view.Known.{Known}
 use Rattle.arc_table.specs.Arriving.{FindsCleared}
 use Rattle.arc_table.specs.scans.Ending.{DoesRoomy}
-use Rattle.arc_table.specs.Fetching.{CameFromCache, IsAsked, IsNotToAsk, IsToAsk, Unserved, bytes_from, faulty, other_bytes, read_at, unasked}
+use Rattle.arc_table.specs.Fetching.{CameFromCache, IsAsked, IsNotToAsk, IsToAsk, Unserved, bytes_from, faulty, other_bytes, unasked}
 use Rattle.arc_table.specs.Items.{Meanings}
-use Rattle.arc_table.specs.Reading.{Answers, AnswersRead, EndsAtPool, EndsMiss, EndsPast, GoesToPool, KeepsDevice, Outside, TurnsToPool, answered, cleared, from_device, from_none, from_pool, hit, known_at, missed, no_memory, past, read, refused, unread, unserved}
+use Rattle.arc_table.specs.Reading.{Answers, AnswersRead, EndsAtPool, EndsMiss, EndsPast, GoesToPool, KeepsDevice, Outside, answered, cleared, from_device, from_none, from_pool, hit, known_at, missed, no_memory, past, read, refused, unread, unserved}
 use Rattle.arc_table.specs.Seen.{HasAll, HasSeenItsOwn, seen_of}
 use Rattle.arc_table.specs.Telling.{opening_of}
-use Rattle.arc_table.proofs.MoveLemmas.{Moves, does-now, roomy-moves, roomy-now}
+use Rattle.arc_table.proofs.MoveLemmas.{does-now, roomy-moves, roomy-now}
 use Rattle.arc_table.proofs.reads.ReadMoments.{own-none, own-single}
 use Rattle.arc_table.proofs.Reached.{sound_log}
 use Rattle.arc_table.proofs.scans.ScanAlone.{scan-alone}
 use Rattle.trace_run.specs.one_caller.Access as access
 use Rattle.trace_run.specs.one_caller.Access.{Access, access_of}
 use Rattle.trace_run.specs.one_caller.Asking.{Asks, AsksGot, AsksRead, CameFromDevice, NamesServed, asked_by_read, place_asked, place_in, place_on, place_to_ask, read_on, serves, source_at, source_of}
-use Rattle.trace_run.specs.Effects.{Effect, Answered, GivenBack, PoolRefused, NoEffect, effect_of}
+use Rattle.trace_run.specs.Effects.{Answered, PoolRefused, NoEffect, effect_of}
 use Rattle.trace_run.specs.Read.{IsFromPool}
 use Rattle.trace_run.specs.Reads.{IsRefused, now_of}
 use Rattle.trace_run.proofs.CacheLemmas.{digest_eq-is}
@@ -96,11 +95,11 @@ none-at size ptr s none = of_entry (entry_of ptr.key s) none
     of_place : (e : Entry) (o : Option ℕ) → e.place ≡ o → IsNotToAsk ptr (Some (view_of e)) size → option_and_then (place_in size ptr e.digest) o ≡ None
     of_place e None is none = refl
     of_place e (Some place) is none = elim (cases_true (nat_le (place + ptr.key.size) size)) [
-      | inl inside ↦ elim (cases_true (option_map_or (λ d. digest_eq d ptr.digest) e.digest true)) [
-        | inl same ↦ absurd (none place (record { entry = view_of e; known = refl; at = is; inside = inside-is (place + ptr.key.size) size inside; digest = same-digest e.digest same }))
-        | inr other ↦ rw (inside, other) refl
+      | inl within ↦ elim (cases_true (option_map_or (λ d. digest_eq d ptr.digest) e.digest true)) [
+        | inl same ↦ absurd (none place (record { entry = view_of e; known = refl; at = is; inside = inside-is (place + ptr.key.size) size within; digest = same-digest e.digest same }))
+        | inr other ↦ rw (within, other) refl
       ]
-      | inr past ↦ rw past refl
+      | inr beyond ↦ rw beyond refl
     ]
 
     of_entry : (o : Option Entry) → IsNotToAsk ptr (option_map view_of o) size → option_and_then (λ e. option_and_then (place_in size ptr e.digest) e.place) o ≡ None
@@ -141,7 +140,7 @@ device-same devices x = record {
 pub device-then : {D : Type 0} (devices : DeviceGhosts D) (x y z : D) → KeepsDevice devices x y → KeepsDevice devices y z → KeepsDevice devices x z
 device-then devices x y z a b =
     let later = a.time.later in
-    let then = b.time.later in
+    let second = b.time.later in
     let less = a.faults in
     let more = b.faults in
     record {
@@ -235,7 +234,7 @@ module _ {D : Type 0} (devices : DeviceGhosts D) (law : (dev : D) (image : List 
 
   -- the device served
   device-served : access_of s ptr ≡ access.Miss → (bytes : List ℕ) → CameFromCache devices ptr (option_map view_of (entry_of ptr.key s)) bytes old new → Asks devices s ptr (Answered served.L2) old new
-  device-served missed bytes came = once-served missed came.place Gave came.asked served.L2 (λ from_it. refl) (λ image told.
+  device-served is_miss bytes came = once-served is_miss came.place Gave came.asked served.L2 (λ from_it. refl) (λ image told.
       let stand : IfSome (Some image) (λ l. bytes ≡ bytes_from l came.place ptr.key) = subst (λ (o : Option (List ℕ)). IfSome o (λ l. bytes ≡ bytes_from l came.place ptr.key)) told came.stand in
       ap (source_of access.Miss) (sym (of-test (bytes_from image came.place ptr.key) ptr (subst (λ (l : List ℕ). IsOf l ptr) stand came.of))))
 
@@ -289,10 +288,10 @@ module _ {C P D : Type 0} (m : Meanings C) (g : Config) (valid : IsConfig g) (po
       let none : d.makes.passes ≡ [] = scan-alone m g ptr.key e p r all d in
       let s : PlainShard = d.before.now in
       let now : s ≡ replay (opening_of g) (seen_of g shard p) = roomy-now m g valid ptr.key p r config seen e fits d all in
-      let then : replay (opening_of g) (seen_of g shard r) ≡ after s e =
+      let behind : replay (opening_of g) (seen_of g shard r) ≡ after s e =
       ap (replay (opening_of g)) ((moves.alone all).here ∙ ap (λ (ps : List Event). seen_of g shard p ++ (ps ++ e ∷ [])) none)
       ∙ (replay-append (opening_of g) (seen_of g shard p) (e ∷ []) ∙ ap (λ (x : PlainShard). after x e) (sym now)) in
-      let found : f.does.before.now ≡ after s e = does-now m g valid ptr.key r q moves.config moves.seen [] (own-none r.number) f.does (moves.all all) ∙ then in
+      let found : f.does.before.now ≡ after s e = does-now m g valid ptr.key r q moves.config moves.seen [] (own-none r.number) f.does (moves.all all) ∙ behind in
       let sound = (sound_log m g ptr.key d.chain d.before p d.reached d.takes config valid).replayed.sound in
       let ok : IsTrue (legal s e) = and_left (legal s e) true (subst (λ (ps : List Event). IsTrue (is_legal_history s (ps ++ e ∷ []))) none d.makes.legal) in
       let entry : entry_of ptr.key (after s e) ≡ Some (entry_to_read p.number ptr.key t (entry_of ptr.key s)) = own-entry s e ptr.key sound ok refl in
@@ -324,14 +323,14 @@ module _ {C P D : Type 0} (m : Meanings C) (g : Config) (valid : IsConfig g) (po
 
   miss-asks : (before now : Outside P D) (p r q : Place (Known C)) (result : Result Read ReadFault) → p.own.about.config ≡ g → HasSeenItsOwn g p → HasAll p → (d : DoesRoomy m g ptr.key (Miss p.number ptr.key t) p r)
       → access_of d.before.now ptr ≡ access.Miss → EndsMiss m pools devices g ptr (known_at ptr.key d.before) before now r q result → AsksFor d.before.now result before.device now.device
-  miss-asks before now p r q result config seen all d missed (from_device hold is a) =
-      subst (λ (x : Result Read ReadFault). AsksFor d.before.now x before.device now.device) (sym is) (device-served devices law d.before.now ptr before.device now.device missed hold.block.value a.bytes)
-  miss-asks before now p r q result config seen all d missed (from_pool back (unserved why is) goes) = goes-asks d.before.now missed before.device now.device why before.pool now.pool back q result goes
-  miss-asks before now p r q result config seen all d missed (from_pool back (cleared bytes came f) goes) =
+  miss-asks before now p r q result config seen all d is_miss (from_device hold is a) =
+      subst (λ (x : Result Read ReadFault). AsksFor d.before.now x before.device now.device) (sym is) (device-served devices law d.before.now ptr before.device now.device is_miss hold.block.value a.bytes)
+  miss-asks before now p r q result config seen all d is_miss (from_pool back (unserved why is) goes) = goes-asks d.before.now is_miss before.device now.device why before.pool now.pool back q result goes
+  miss-asks before now p r q result config seen all d is_miss (from_pool back (cleared bytes came f) goes) =
       let there = place-there (devices.size before.device) ptr d.before.now came.place came.asked.due in
       let gone = place-still p r back config seen all d f in
       let never : None ≡ Some came.place = sym gone ∙ there in cc
-  miss-asks before now p r q result config seen all d missed (from_none asked f) = subst (λ (x : Result Read ReadFault). AsksFor d.before.now x before.device now.device) (sym f.answer) tt
+  miss-asks before now p r q result config seen all d is_miss (from_none asked f) = subst (λ (x : Result Read ReadFault). AsksFor d.before.now x before.device now.device) (sym f.answer) tt
 
   answer-asks : (before now : Outside P D) (p q : Place (Known C)) (result : Result Read ReadFault) → p.own.about.config ≡ g → HasSeenItsOwn g p → HasAll p → Answers m pools devices g ptr t before now p q result
       → AsksFor (now_of g shard p) result before.device now.device

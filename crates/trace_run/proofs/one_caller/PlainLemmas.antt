@@ -1,5 +1,5 @@
 -- A reply is that of the plain run.
-use Rattle.std.proofs.Common.{◌≡◌, ◌≢◌, ℕ, zero, suc, ◌+◌, ◌%◌, ◌<◌, ◌≤◌, ◌==◌, nat_lt, true, false, List, [], ◌∷◌, ◌++◌, length, drop, Some, None, is_some, inl, inr, refl, sym, ap, subst, ◌∙◌, arith}
+use Rattle.std.proofs.Common.{◌≡◌, ◌≢◌, ℕ, zero, suc, ◌+◌, ◌%◌, ◌<◌, ◌≤◌, ◌==◌, nat_lt, true, false, List, [], ◌∷◌, ◌++◌, length, drop, Some, None, is_some, inl, inr, refl, sym, ap, ◌∙◌, arith}
 use Rattle.std.proofs.lemmas.Bool.Decides.{nat_tests}
 use Rattle.arc_lists.proofs.Tables.{cases_true}
 use Rattle.blk_ptr.specs.declared.digest.Digest.{Digest}
@@ -16,7 +16,6 @@ use Rattle.arc_core.specs.declared.served.Served.{Served}
 use Rattle.arc_core.specs.declared.served.Served.TheVariants as served
 use Rattle.arc_core.specs.PlainShard.{PlainShard}
 use Rattle.trace_text.specs.declared.op.Op.{Op}
-use Rattle.trace_text.specs.declared.op.Op.TheVariants as ops
 use Rattle.trace_text.specs.declared.reply.Reply.{Reply}
 use Rattle.trace_text.specs.declared.reply.Reply.TheVariants.{Read, Kept, Dropped, Refused}
 use Rattle.trace_text.specs.declared.reply.Refusal.{Refusal}
@@ -197,8 +196,8 @@ plain-gives from shards blocks s kept contents (o ∷ os) calls device_calls all
     let rest = drop (length (asked_by (length from.device) blocks here o reply)) device_calls in
     let after = shards_after shards blocks s kept o reply in
     let left = kept_after blocks o reply kept in
-    let then = contents_after from blocks here o reply contents in
-    let gone : replies_to from shards blocks after left then os (drop count calls) rest ≡ replies_to from shards blocks after left then os (drop count []) rest =
-    plain-gives from shards blocks after left then os (drop count calls) rest (drop-gives count calls all)
-    ∙ sym (plain-gives from shards blocks after left then os (drop count []) rest (drop-gives count [] tt)) in
+    let cached = contents_after from blocks here o reply contents in
+    let gone : replies_to from shards blocks after left cached os (drop count calls) rest ≡ replies_to from shards blocks after left cached os (drop count []) rest =
+    plain-gives from shards blocks after left cached os (drop count calls) rest (drop-gives count calls all)
+    ∙ sym (plain-gives from shards blocks after left cached os (drop count []) rest (drop-gives count [] tt)) in
     ap (λ (call : Call). next call calls) (next-gives calls all) ∙ ap (λ (l : List Reply). reply ∷ l) gone

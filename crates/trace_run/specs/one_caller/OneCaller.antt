@@ -1,6 +1,6 @@
 -- The history of one caller in one shard: its operations line after line, each with the events that its access and its reply ask for, and
 -- at the end the drops of the reads that it still keeps (arc_read and arc_buf_destroy of arc.c, for a single thread).
-use Rattle.std.specs.Prelude.{◌≡◌, ℕ, ◌==◌, Bool, if◌then◌else◌, List, [], ◌∷◌, ◌++◌, filter, find, map, slice_get, Option, Some, None, IfSome, option_and_then}
+use Rattle.std.specs.Prelude.{ℕ, ◌==◌, Bool, if◌then◌else◌, List, [], ◌∷◌, ◌++◌, filter, find, map, slice_get, Option, Some, None, IfSome, option_and_then}
 use Rattle.std.specs.List.{range_with_len}
 use Rattle.std.specs.Option.{option_map_or}
 use Rattle.blk_ptr.specs.declared.key.Key.{Key}
