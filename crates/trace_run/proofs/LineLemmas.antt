@@ -50,7 +50,7 @@ use Rattle.trace_run.specs.Lines.{is_in_shard, shard_of_block}
 use Rattle.trace_run.specs.one_caller.OneCaller.{NamesSource, events_of, events_of_dropping, events_of_hold, events_of_read, events_there, is_of_block, kept_after, kept_after_drop, kept_after_hold, key_held_by, oldest_key, without_oldest}
 use Rattle.trace_run.specs.one_caller.OverShards.{AreNamed, IsNamed}
 use Rattle.trace_run.specs.Reads.{CameFromPool, DidAct, DidActs, DidAnswer, DidRead, IsRefused, access_now, now_of}
-use Rattle.arc_table.specs.Seen.{AddsAll, HasSeenItsOwn, seen_of}
+use Rattle.arc_table.specs.Seen.{AddsAll, HasAll, HasSeenItsOwn, seen_of}
 use Rattle.trace_run.specs.Tally.{kept_of_block}
 use Rattle.arc_table.specs.Told.{IsTold}
 use Rattle.trace_run.proofs.GetLemmas.{all-last}

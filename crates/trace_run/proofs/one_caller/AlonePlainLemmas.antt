@@ -1,37 +1,56 @@
 -- The lines of a caller that is alone, over a pool and a cache device that tell their bytes: its report is that of the plain run, but that a block which
 -- did not come from the pool may be another content of its digest.
-use Rattle.std.proofs.Common.{◌≡◌, ℕ, Bool, true, false, if◌then◌else◌, List, [], ◌∷◌, ◌++◌, length, drop, Option, Some, None, IfSome, refl, sym, subst, ◌∙◌, arith}
+use Rattle.std.proofs.Common.{◌≡◌, ℕ, ◌+◌, ◌<◌, ◌&&◌, Bool, true, false, if◌then◌else◌, List, [], ◌∷◌, ◌++◌, length, drop, Option, Some, None, IfSome, inl, inr, refl, sym, ap, subst, ◌∙◌, arith}
+use Rattle.std.specs.Prelude.{nat_le, option_and_then, slice_get}
 use Rattle.std.specs.List.{AllByRecursion}
+use Rattle.std.specs.Option.{option_map_or}
 use Rattle.std.proofs.lemmas.Bool.{eqb-true}
+use Rattle.std.proofs.lemmas.Bool.Decides.{nat_tests}
+use Rattle.blk_ptr.specs.declared.digest.Digest.{Digest}
 use Rattle.blk_ptr.specs.declared.ptr.Ptr.{Ptr}
+use Rattle.blk_ptr.specs.Key.{IsValid}
+use Rattle.vdev_io.specs.declared.device.CacheDev.{Ghosts as DeviceGhosts}
 use Rattle.vdev_io.specs.declared.pool.Pool.{Ghosts}
+use Rattle.vdev_io.specs.Calls as io
+use Rattle.vdev_io.specs.Calls.{Asked, Call, Gave, IsToldAfter, MakesDeviceCall, MakesDeviceCalls, answered}
 use Rattle.arc_core.specs.declared.config.Config.{Config}
-use Rattle.arc_core.specs.PlainShard.{PlainShard}
+use Rattle.arc_core.specs.declared.entry.Entry.{Entry}
+use Rattle.arc_core.specs.declared.served.Restored.{Restored}
+use Rattle.arc_core.specs.declared.served.Served.{Served}
+use Rattle.arc_core.specs.declared.served.Served.TheVariants as served
+use Rattle.arc_core.specs.PlainShard.{PlainShard, entry_of}
 use Rattle.arc_core.specs.Replay.{replay}
-use Rattle.vdev_io.specs.Calls.{Call}
+use Rattle.arc_table.specs.Seen.{HasAll}
+use Rattle.arc_table.specs.Telling.{opening_of}
 use Rattle.trace_text.specs.declared.op.Op.{Op}
 use Rattle.trace_text.specs.declared.op.Op.TheVariants as ops
+use Rattle.trace_text.specs.declared.reply.Refusal.{Refusal}
+use Rattle.trace_text.specs.declared.reply.Refusal.TheVariants as refusal
 use Rattle.trace_text.specs.declared.reply.Reply.{Reply}
-use Rattle.trace_text.specs.declared.report.Report.{Report}
+use Rattle.trace_text.specs.declared.reply.Reply.TheVariants.{Read, Kept, Refused}
 use Rattle.trace_text.specs.declared.trace.Trace.{Trace}
+use Rattle.dbuf_state.specs.declared.window.Window.{Window}
+use Rattle.trace_run.specs.one_caller.Access as access
+use Rattle.trace_run.specs.one_caller.Access.{Access, access_of}
+use Rattle.trace_run.specs.one_caller.Asking.{AsksBlock, AsksLine, AsksLines, AsksRead, CameFromDevice, NamesServed, answered_all, asked_by, asked_by_read, next_call, place_asked, place_in, place_on, place_to_ask, read_on, serves, source_at, source_of}
 use Rattle.trace_run.specs.KeptReads.{KeptRead}
 use Rattle.trace_run.specs.Answering.{IsReadOfImage}
+use Rattle.trace_run.specs.Answers.{AnswersHold, AnswersRead, IsReadRefusal, IsWindowRefusal}
 use Rattle.trace_run.specs.callers.CallerLines.{At, DidLine, DidLines}
-use Rattle.trace_run.specs.Effects.{calls_of, calls_of_all, effect_of}
-use Rattle.arc_table.specs.Telling.{opening_of}
+use Rattle.trace_run.specs.Effects.{Effect, Answered, GivenBack, PoolRefused, NoEffect, calls_of, calls_of_all, effect_of, effect_of_refusal}
 use Rattle.trace_run.specs.Lines.{is_in_shard, shard_of_block, shard_of_line}
-use Rattle.trace_run.specs.one_caller.OneCaller.{events_of, kept_after}
-use Rattle.trace_run.specs.one_caller.Asking.{AsksLine, AsksLines, NamesServed, asked_by, asked_by_read, next_call, place_asked, read_on, serves, source_at, source_of}
+use Rattle.trace_run.specs.one_caller.OneCaller.{IsFoundAs, NamesSource, events_of, kept_after}
 use Rattle.trace_run.specs.one_caller.OverShards.{shards_after}
-use Rattle.trace_run.specs.one_caller.PlainReport.{ArePlainReplies, IsPlainReply, IsPlainReport}
-use Rattle.trace_run.specs.one_caller.PlainRun.{Contents, Images, contents_after, contents_with, no_contents, replies_to, reply_to, report_of, report_with}
-use Rattle.trace_run.specs.Restores.{restored_of, restored_shard, restores_in}
+use Rattle.trace_run.specs.one_caller.PlainReport.{ArePlainReplies, IsPlainReply}
+use Rattle.trace_run.specs.one_caller.PlainRun.{Contents, Images, contents_after, contents_with, images, no_contents, replies_to, reply_to}
+use Rattle.trace_run.specs.Read.{IsFromPool}
 use Rattle.trace_run.specs.Reads.{now_of}
+use Rattle.trace_run.specs.Restores.{restored_shard, restores_in}
 use Rattle.trace_run.specs.Tally.{AnswersNow}
 use Rattle.trace_run.proofs.LinesLemmas.{line-now}
 use Rattle.trace_run.proofs.one_caller.PlainLemmas.{drop-front, next-is}
 use Rattle.trace_run.proofs.one_caller.PlainReplyLemmas.{IsNamed, IsPlainlyServed, line-brings, line-grows, line-plain}
-use Rattle.trace_run.proofs.one_caller.PlainReportLemmas.{alike-events, alike-kept, plain-alike, plain-but}
+use Rattle.trace_run.proofs.one_caller.PlainReportLemmas.{alike-events, alike-kept, plain-alike}
 use Rattle.trace_run.proofs.one_caller.ResidentLemmas.{AreTold, Brings, all-restores, told-replay, told-restores}
 
 -- ---- where no call was made of the device
@@ -67,9 +86,9 @@ record IsAskedSo (from : Images) (blocks : List Ptr) (s : PlainShard) (o : Op) (
 
 -- only reads are asked for
 abbrev IsRead : Asked → Type 0
-IsRead (Read place n) = Unit {0}
-IsRead (Write place bytes) = ⊥
-IsRead Flush = ⊥
+IsRead (io.Read place n) = Unit {0}
+IsRead (io.Write place bytes) = ⊥
+IsRead io.Flush = ⊥
 
 reads-only : (size : ℕ) (s : PlainShard) (ptr : Ptr) (e : Effect) → AllByRecursion IsRead (asked_by_read size s ptr e)
 reads-only size s ptr (Answered from) = go (place_asked size ptr s)
@@ -106,14 +125,14 @@ module _ {D : Type 0} (devices : DeviceGhosts D) (from : Images) (blocks : List 
 
   -- what a line asks leaves what it tells
   call-told : (a : Asked) (c : Call) (x y : D) → IsRead a → IsTold x → MakesDeviceCall devices (answered c a) x y → IsTold y
-  call-told (Read place n) c x y is told made = (made.size ∙ told.0, go (devices.told x) (devices.told y) told.1 made.told)
+  call-told (io.Read place n) c x y is told made = (made.size ∙ told.0, go (devices.told x) (devices.told y) told.1 made.told)
     where
-      go : (o p : Option (List ℕ)) → o ≡ Some from.device → IsToldAfter (Read place n) c o p → p ≡ Some from.device
+      go : (o p : Option (List ℕ)) → o ≡ Some from.device → IsToldAfter (io.Read place n) c o p → p ≡ Some from.device
       go None p is after = cc
       go (Some old) None is after = absurd after
       go (Some old) (Some new) is after = ap (λ (l : List ℕ). Some l) after ∙ is
-  call-told (Write place bytes) c x y is told made = absurd is
-  call-told Flush c x y is told made = absurd is
+  call-told (io.Write place bytes) c x y is told made = absurd is
+  call-told io.Flush c x y is told made = absurd is
 
   calls-told : (asked : List Asked) (calls : List Call) (x y : D) → AllByRecursion IsRead asked → IsTold x → MakesDeviceCalls devices (answered_all calls asked) x y → IsTold y
   calls-told asked [] x y reads told made = subst IsTold (sym made) told

@@ -1,17 +1,22 @@
 -- One line of a caller that is alone, over a pool and a cache device that tell their bytes: its reply is that of the plain run, but that a block which
 -- did not come from the pool may be another content of its digest; and what it brings into the shard has its bytes in the plain run.
-use Rattle.std.proofs.Common.{◌≡◌, ◌≢◌, ℕ, ◌+◌, ◌≤◌, List, ◌++◌, length, drop, Option, Some, None, inl, inr, refl, sym, ap, subst, ◌∙◌, arith, length-drop}
-use Rattle.std.specs.Prelude.{◌⊎◌}
+use Rattle.std.proofs.Common.{◌≡◌, ◌≢◌, ◌⊎◌, ℕ, ◌+◌, ◌≤◌, ◌&&◌, Bool, true, false, if◌then◌else◌, List, ◌++◌, length, drop, Option, Some, None, IfSome, inl, inr, refl, sym, ap, subst, ◌∙◌, arith, length-drop}
+use Rattle.std.specs.Prelude.{nat_le, option_and_then, slice_get}
+use Rattle.std.specs.Option.{option_map_or}
+use Rattle.std.proofs.lemmas.Bool.Decides.{nat_tests}
+use Rattle.arc_lists.proofs.Tables.{cases_true, some_is}
+use Rattle.blk_ptr.specs.Order.{digest_eq}
+use Rattle.arc_core.specs.declared.entry.Entry.{Entry}
+use Rattle.arc_table.specs.Fetching.{bytes_from}
 use Rattle.std.specs.List.{AllByRecursion}
 use Rattle.std.proofs.lemmas.List.{length-take-le}
 use Rattle.blk_ptr.specs.declared.digest.Digest.{Digest}
 use Rattle.blk_ptr.specs.declared.key.Key.{Key}
 use Rattle.blk_ptr.specs.declared.ptr.Ptr.{Ptr}
-use Rattle.blk_ptr.specs.Key.{IsValid, end_of}
-use Rattle.blk_ptr.specs.Ptr.{IsOf, IsSameOrCollides, range_of, sha256_of}
+use Rattle.blk_ptr.specs.Ptr.{IsOf, range_of, sha256_of}
 use Rattle.arc_core.specs.declared.served.Served.{Served}
 use Rattle.arc_core.specs.declared.served.Served.TheVariants as served
-use Rattle.arc_core.specs.PlainShard.{PlainShard}
+use Rattle.arc_core.specs.PlainShard.{PlainShard, entry_of}
 use Rattle.trace_text.specs.declared.op.Op.{Op}
 use Rattle.trace_text.specs.declared.op.Op.TheVariants as ops
 use Rattle.trace_text.specs.declared.reply.Reply.{Reply}
@@ -19,22 +24,22 @@ use Rattle.trace_text.specs.declared.reply.Reply.TheVariants.{Read, Kept, Refuse
 use Rattle.trace_text.specs.declared.reply.Refusal.{Refusal}
 use Rattle.trace_text.specs.declared.reply.Refusal.TheVariants as refusal
 use Rattle.dbuf_state.specs.declared.window.Window.{Window}
-use Rattle.vdev_io.specs.Calls.{Call}
+use Rattle.vdev_io.specs.Calls.{Call, Failed, Gave}
 use Rattle.trace_run.specs.one_caller.Access as access
 use Rattle.trace_run.specs.KeptReads.{KeptRead}
 use Rattle.trace_run.specs.one_caller.Access.{Access, access_of, events_of_answered, events_of_drop, events_of_refused, held_key}
-use Rattle.trace_run.specs.one_caller.Asking.{NamesServed, next_call, place_asked, place_on, place_to_ask, serves, source_of}
+use Rattle.trace_run.specs.one_caller.Asking.{NamesServed, place_asked, place_in, place_on, place_to_ask, serves, source_of}
 use Rattle.trace_run.specs.Answering.{IsReadOfImage, KeepsImage, ReadsImage}
 use Rattle.trace_run.specs.Answers.{AnswersHold, AnswersRead, window_of}
 use Rattle.trace_run.specs.Effects.{Effect, Answered, GivenBack, PoolRefused, NoEffect, calls_of, effect_of, effect_of_refusal}
 use Rattle.trace_run.specs.one_caller.OneCaller.{events_of, events_of_dropping, events_of_hold, events_of_read, oldest_key}
 use Rattle.trace_run.specs.one_caller.PlainReport.{IsPlainReply, ShowsCollision}
-use Rattle.trace_run.specs.one_caller.PlainRun.{Contents, Images, bytes_in, contents_after, contents_with, reply_to, reply_to_hold, reply_to_read, source_in, with_bytes}
+use Rattle.trace_run.specs.one_caller.PlainRun.{Contents, Images, bytes_in, bytes_on, contents_after, contents_with, reply_to, reply_to_hold, reply_to_read, source_in}
 use Rattle.trace_run.specs.Read.{IsFromPool}
 use Rattle.trace_run.specs.Reads.{CameFromPool}
 use Rattle.trace_run.specs.Answering.{ShowsRange}
 use Rattle.trace_run.specs.Tally.{AnswersNow}
-use Rattle.trace_run.proofs.CacheLemmas.{access-hit}
+use Rattle.trace_run.proofs.CacheLemmas.{access-hit, digest_eq-is}
 use Rattle.trace_run.proofs.one_caller.PlainLemmas.{IsNext, plain-drop, plain-hold, plain-read, plain-refused}
 use Rattle.trace_run.proofs.one_caller.ResidentLemmas.{AreTold, Brings, HasBytes, told-more, told-resident, with-own}
 use Rattle.trace_run.proofs.ServeLemmas.{same-or-collides}

@@ -56,7 +56,7 @@ returns-in-Hold-clause-asks g c =
 
 pub returns-in-Drop-clause-asks : goal.returns-in-Drop-clause-asks
 returns-in-Drop-clause-asks g c = λ all.
-    subst (λ (op : Op). LineAsks c.args.arcs.now.config g.D.CacheDev c.args.blocks.now c.args.party.now c.args.device.now c.args.device.now op c.drop_line.result) (sym c.in-Drop.is) (λ all. ([], refl, refl)) all
+    subst (λ (op : Op). LineAsks c.args.arcs.now.config g.D.CacheDev c.args.blocks.now c.args.party.now c.args.device.now c.args.device.now op c.drop_line.result) (sym c.in-Drop.is) (λ all. ([], (refl, refl))) all
 
 pub returns-in-Drop-clause-keeps : goal.returns-in-Drop-clause-keeps
 returns-in-Drop-clause-keeps g c = device-same g.D.CacheDev c.args.device.now
