@@ -13,11 +13,11 @@ loop-party-preserved g c =
     let here : c.loop-party.party-iterator.rest.items ≡ c.in-Some.party ∷ c.next.new.self.rest.items = c.in-Some.ensures.steps.0 in
     let reads : c.loop-party.kept.rest.items ≡ c.in-Some-next.reads ∷ c.next-in-loop-party.new.self.rest.items = c.in-Some-next.ensures.cases.0 in
     let fork : c.loop-party.forks.rest.items ≡ c.in-Some-next-2.pool ∷ c.next-in-loop-party-2.new.self.rest.items = c.in-Some-next-2.ensures.cases.0 in
-    let caller : Caller g.row.C.Denot g.row.P.Denot = record { party = c.in-Some.party; kept = c.in-Some-next.reads; pool = c.in-Some-next-2.pool; replies = Ok c.new.result } in
+    let caller : Caller g.row.C.Denot g.row.P.Denot g.row.D.Denot = record { party = c.in-Some.party; kept = c.in-Some-next.reads; pool = c.in-Some-next-2.pool; replies = Ok c.new.result } in
     record {
       made = λ more enlisted.
           subst (AreEnlisted c.args.parties.items c.args.kept.items c.args.forks.items)
-          (sym (append_assoc c.loop-party.callers.items (caller ∷ []) more) ∙ ap (λ (l : List (Caller g.row.C.Denot g.row.P.Denot)). l ++ more) (sym c.in_ok-push.ensures.items))
+          (sym (append_assoc c.loop-party.callers.items (caller ∷ []) more) ∙ ap (λ (l : List (Caller g.row.C.Denot g.row.P.Denot g.row.D.Denot)). l ++ more) (sym c.in_ok-push.ensures.items))
           (before.made (caller ∷ more)
           (subst (λ (x : List (Place (Known g.row.C.Denot)) × List (List KeptBlock) × List g.row.P.Denot). AreEnlisted x.0 x.1 x.2 (caller ∷ more)) (λ i. (sym here i, sym reads i, sym fork i))
           (record { party = refl; keeps = refl; pool = refl }, enlisted)));

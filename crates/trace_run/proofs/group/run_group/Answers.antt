@@ -23,11 +23,11 @@ work_all-requires-clause-ready g c = λ k lives i d lt.
 
 pub returns-clause-worked : goal.returns-clause-worked
 returns-clause-worked g c =
-    let news : List (Caller g.row.C.Denot g.row.P.Denot) = c.work_all.new.callers in
-    let tried = subst (λ (l : List (Caller g.row.C.Denot g.row.P.Denot)). AllZip (HasTried c.args.arcs.now g.P.Pool c.args.blocks.now c.args.ops.now) l news) c.deref_mut.ensures.value c.work_all.ensures in
+    let news : List (Caller g.row.C.Denot g.row.P.Denot g.row.D.Denot) = c.work_all.new.callers in
+    let tried = subst (λ (l : List (Caller g.row.C.Denot g.row.P.Denot g.row.D.Denot)). AllZip (HasTried c.args.arcs.now g.P.Pool c.args.blocks.now c.args.ops.now) l news) c.deref_mut.ensures.value c.work_all.ensures in
     let long : c.in_ok-callers.callers.len ≡ length news = let a = c.work_all.auto.callers in let b = c.deref_mut.ensures.len in omega arith in
     let same = written c.in_ok-callers.callers.len news c.in_ok-callers.callers.items long in
-    let absorbs = subst (λ (l : List (Caller g.row.C.Denot g.row.P.Denot)). AbsorbsAll g.P.Pool (map (λ caller. caller.pool) l) c.args.pool.now c.take_all_back.new.pool) same c.take_all_back.ensures.absorbs in
+    let absorbs = subst (λ (l : List (Caller g.row.C.Denot g.row.P.Denot g.row.D.Denot)). AbsorbsAll g.P.Pool (map (λ caller. caller.pool) l) c.args.pool.now c.take_all_back.new.pool) same c.take_all_back.ensures.absorbs in
     let many : length c.args.parties.items ≡ c.args.parties.len = let o = c.args.parties.ok in omega arith in
     IfOk-weaker c.take_all_back.result
     (λ worked. HaveComeBack (take c.in_ok-callers.callers.len (news ++ drop (length news) c.in_ok-callers.callers.items)) (map (λ (v : Vec Reply Global). v.items) worked.replies.items) worked.parties.items worked.kept.items)
@@ -36,7 +36,7 @@ returns-clause-worked g c =
     subst (λ (n : ℕ). HaveWorked c.args.arcs.now g.P.Pool c.args.blocks.now c.args.ops.now n c.args.pool.now c.take_all_back.new.pool (map (λ (v : Vec Reply Global). v.items) worked.replies.items) c.args.kept.items c.args.parties.items worked.kept.items worked.parties.items) many
     (have-worked c.args.arcs.now g.P.Pool c.args.blocks.now c.args.ops.now c.args.pool.now c.take_all_back.new.pool c.args.parties.items c.args.kept.items c.args.forks.items c.in_ok-callers.callers.items news
     (map (λ (v : Vec Reply Global). v.items) worked.replies.items) worked.kept.items worked.parties.items c.requires.parties c.requires.forks c.in_ok-callers.ensures tried absorbs
-    (subst (λ (l : List (Caller g.row.C.Denot g.row.P.Denot)). HaveComeBack l (map (λ (v : Vec Reply Global). v.items) worked.replies.items) worked.parties.items worked.kept.items) same came)))
+    (subst (λ (l : List (Caller g.row.C.Denot g.row.P.Denot g.row.D.Denot)). HaveComeBack l (map (λ (v : Vec Reply Global). v.items) worked.replies.items) worked.parties.items worked.kept.items) same came)))
     c.take_all_back.ensures.came
 
 pub returns-clause-pool : goal.returns-clause-pool

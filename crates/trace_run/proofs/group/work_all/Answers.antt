@@ -9,4 +9,4 @@ returns g c =
     let long : length c.for_each_mut.new.s ≡ length c.args.callers.now = let l = c.for_each_mut.auto.s in omega arith in
     zip-of (HasTried c.args.arcs.now g.P.Pool c.args.blocks.now c.args.ops.now) c.args.callers.now c.for_each_mut.new.s long (λ i d lt.
     let at = (c.for_each_mut.ensures i d lt).1 in
-    subst (λ (x : Caller g.row.C.Denot g.row.P.Denot × Caller g.row.C.Denot g.row.P.Denot). HasTried c.args.arcs.now g.P.Pool c.args.blocks.now c.args.ops.now x.0 x.1) (λ h. (at.argument_is h, at.left h)) at.call)
+    subst (λ (x : Caller g.row.C.Denot g.row.P.Denot g.row.D.Denot × Caller g.row.C.Denot g.row.P.Denot g.row.D.Denot). HasTried c.args.arcs.now g.P.Pool c.args.blocks.now c.args.ops.now x.0 x.1) (λ h. (at.argument_is h, at.left h)) at.call)
