@@ -18,8 +18,22 @@ use Rattle.trace_run.specs.Effects.{Effect, Answered, GivenBack, NoEffect, PoolR
 abbrev pub NoneFromDevice : List Reply → Type 0
 NoneFromDevice = AllByRecursion (λ reply. effect_of reply ≢ Answered served.L2)
 
+-- how many bytes a line asks for: those of its block, and none where it asks for no block
+abbrev pub size_asked : List Ptr → Op → ℕ
+size_asked blocks (ops.Read n t x window) = option_map_or (λ ptr. ptr.key.size) (slice_get blocks x) 0
+size_asked blocks (ops.Hold n t x) = option_map_or (λ ptr. ptr.key.size) (slice_get blocks x) 0
+size_asked blocks (ops.Drop n x) = 0
+size_asked blocks (ops.Get n t at window) = 0
+size_asked blocks (ops.Put n t at size fill) = 0
+size_asked blocks (ops.Patch n t at from bytes) = 0
+size_asked blocks (ops.Pin n t at) = 0
+size_asked blocks (ops.Unpin n at) = 0
+size_asked blocks ops.Feed = 0
+size_asked blocks (ops.Txg t) = 0
+size_asked blocks (ops.Cap c) = 0
+
 module _ {D : Type 0} (devices : Ghosts D) where
-  -- the device was asked once, for so many bytes that lie inside it, and answered so; nothing else was done with it
+  -- the device was asked once, for so many bytes, at least one, that lie inside it, and answered so; nothing else was done with it
   pub record WasReadOnce (n : ℕ) (answer : Call) (old new : D) : Type 0 where
     pub place : ℕ
     pub some : 0 < n
@@ -50,23 +64,9 @@ module _ {D : Type 0} (devices : Ghosts D) where
   GetAsks n (Err (fault.Key why)) old new = new ≡ old
   GetAsks n (Err (fault.NoMemory)) old new = Unit {0}
 
-  -- of the block of this number
-  abbrev pub BlockAsks : List Ptr → ℕ → Reply → (old new : D) → Type 0
-  BlockAsks blocks x reply old new = option_map_or (λ ptr. AsksFor ptr.key.size (effect_of reply) old new) (slice_get blocks x) (new ≡ old)
-
   -- what a line asked of the device
   abbrev pub LineAsks : List Ptr → Op → Reply → (old new : D) → Type 0
-  LineAsks blocks (ops.Read n t x window) reply old new = BlockAsks blocks x reply old new
-  LineAsks blocks (ops.Hold n t x) reply old new = BlockAsks blocks x reply old new
-  LineAsks blocks (ops.Drop n x) reply old new = new ≡ old
-  LineAsks blocks (ops.Get n t at window) reply old new = new ≡ old
-  LineAsks blocks (ops.Put n t at size fill) reply old new = new ≡ old
-  LineAsks blocks (ops.Patch n t at from bytes) reply old new = new ≡ old
-  LineAsks blocks (ops.Pin n t at) reply old new = new ≡ old
-  LineAsks blocks (ops.Unpin n at) reply old new = new ≡ old
-  LineAsks blocks ops.Feed reply old new = new ≡ old
-  LineAsks blocks (ops.Txg t) reply old new = new ≡ old
-  LineAsks blocks (ops.Cap c) reply old new = new ≡ old
+  LineAsks blocks op reply old new = AsksFor (size_asked blocks op) (effect_of reply) old new
 
   -- what these lines did, one after another
   abbrev pub LinesAsk : List Ptr → List Op → List Reply → (old new : D) → Type 0

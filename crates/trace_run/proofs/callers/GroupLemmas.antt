@@ -8,6 +8,7 @@ use mathlib.Core.Option.{some, some-injective, some-ne-none}
 use lib.ListN.{get_elem?}
 use Rattle.blk_ptr.specs.declared.memory.NoMemory.{NoMemory}
 use Rattle.blk_ptr.specs.declared.ptr.Ptr.{Ptr}
+use Rattle.vdev_io.specs.declared.device.CacheDev.{Ghosts as DeviceGhosts}
 use Rattle.vdev_io.specs.declared.pool.Pool.{Ghosts}
 use Rattle.arc_core.specs.declared.config.Config.{Config}
 use Rattle.turn_table.specs.Places.{Place}
@@ -20,6 +21,8 @@ use Rattle.trace_run.specs.declared.group.Caller.{Caller}
 use Rattle.trace_run.specs.declared.kept_blocks.KeptBlock.{KeptBlock}
 use Rattle.trace_run.specs.callers.CallerLines.{At, DidLines, at}
 use Rattle.trace_run.specs.callers.Callers.{AbsorbsAll, AllReplied, AreAtStart, AreEnlisted, HasDone, HasTried, HaveComeBack, IsReady, Replied}
+use Rattle.trace_run.specs.DeviceReads.{AsksGiven}
+use Rattle.trace_run.specs.callers.DeviceForks.{AllAsk, HasAsked}
 use Rattle.trace_run.specs.callers.Group.{HasWorked, HaveWorked, IsFork}
 use Rattle.trace_run.specs.KeptBlocks.{Stands, read_of}
 use Rattle.trace_run.specs.Lines.{caller_of, is_of_caller}
@@ -97,16 +100,16 @@ module _ {C P D : Type 0} (cache : Cache) (pools : Ghosts P) (blocks : List Ptr)
         calls = lines-calls g pools device blocks os rs a b did;
       }
 
-  -- and of one whose lines are tried, where memory may be short
-  pub lines-tried : (device : ℕ) (old new : Caller C P D) → IsReady cache blocks old → IfOk new.replies (λ replies. Stands cache new.party new.kept)
-      → IfOk new.replies (λ replies. DidLines cache.config pools device blocks (filter (is_of_caller old.party.number) ops) replies.items (at old.party (map read_of old.kept) old.pool) (at new.party (map read_of new.kept) new.pool))
+  -- and of one whose lines are tried, where memory may be short, over a device of some length
+  pub lines-tried : (old new : Caller C P D) → IsReady cache blocks old → IfOk new.replies (λ replies. Stands cache new.party new.kept)
+      → IfOk new.replies (λ replies. (size : ℕ) × DidLines cache.config pools size blocks (filter (is_of_caller old.party.number) ops) replies.items (at old.party (map read_of old.kept) old.pool) (at new.party (map read_of new.kept) new.pool))
       → HasTried cache pools blocks ops old new
-  lines-tried device old new ready stands did = record { done = both new.replies stands did }
+  lines-tried old new ready stands did = record { done = both new.replies stands did }
     where
       both : (r : Result (Vec Reply Global) NoMemory) → IfOk r (λ replies. Stands cache new.party new.kept)
-          → IfOk r (λ replies. DidLines cache.config pools device blocks (filter (is_of_caller old.party.number) ops) replies.items (at old.party (map read_of old.kept) old.pool) (at new.party (map read_of new.kept) new.pool))
+          → IfOk r (λ replies. (size : ℕ) × DidLines cache.config pools size blocks (filter (is_of_caller old.party.number) ops) replies.items (at old.party (map read_of old.kept) old.pool) (at new.party (map read_of new.kept) new.pool))
           → IfOk r (λ replies. HasDone cache pools blocks ops old.party.number old new replies.items)
-      both (Ok v) stood done = lines-done old.party.number device old new v.items ready refl stood done
+      both (Ok v) stood done = lines-done old.party.number done.0 old new v.items ready refl stood done.1
       both (Err e) stood done = tt
 
   -- a caller that tried, and was answered so, has worked
@@ -224,6 +227,27 @@ module _ {C P D : Type 0} (cache : Cache) (pools : Ghosts P) (blocks : List Ptr)
   worked-each pool n (old ∷ olds) (new ∷ news) (rs ∷ rss) start tried replied (suc k) m is lt =
       let h = worked-each pool (suc n) olds news rss start.3 tried.1 replied.1 k m (omega arith) (omega arith) in
       record { own = h.own; own_at = h.own_at; old = h.old; before = h.before; new = h.new; after = h.after; worked = h.worked }
+
+  -- what each asked its fork of the device
+  asked-each : (devices : DeviceGhosts D) (pool : P) (n : ℕ) (olds news : List (Caller C P D)) (rss : List (List Reply)) → AllStart pool n olds → AllZip (HasAsked devices blocks ops) olds news → AllReplied news rss
+      → AllAsk devices blocks ops n (map (λ caller. caller.device) olds) (map (λ caller. caller.device) news) rss
+  asked-each devices pool n [] [] [] start asked replied = tt
+  asked-each devices pool n [] [] (rs ∷ rss) start asked replied = absurd replied
+  asked-each devices pool n [] (new ∷ news) rss start asked replied = absurd asked
+  asked-each devices pool n (old ∷ olds) [] rss start asked replied = absurd asked
+  asked-each devices pool n (old ∷ olds) (new ∷ news) [] start asked replied = absurd replied
+  asked-each devices pool n (old ∷ olds) (new ∷ news) (rs ∷ rss) start asked replied =
+      let here : AsksGiven devices blocks (filter (is_of_caller old.party.number) ops) replied.0.all.items old.device new.device =
+      subst (λ (r : Result (Vec Reply Global) NoMemory). IfOk r (λ replies. AsksGiven devices blocks (filter (is_of_caller old.party.number) ops) replies.items old.device new.device)) replied.0.replied asked.0.asked in (
+        subst (λ (x : ℕ × List Reply). AsksGiven devices blocks (filter (is_of_caller x.0) ops) x.1 old.device new.device) (λ i. (start.0 i, replied.0.replies_are i)) here,
+        asked-each devices pool (suc n) olds news rss start.3 asked.1 replied.1,
+      )
+
+  -- what all of a group asked
+  pub have-asked : (devices : DeviceGhosts D) (pool : P) (ps : List (Place (Known C))) (ks : List (List KeptBlock)) (forks : List P) (olds news : List (Caller C P D)) (rss : List (List Reply)) → AreAtStart cache blocks 0 ks ps
+      → AllByRecursion (IsFork pools pool) forks → AreEnlisted ps ks forks olds → AllZip (HasAsked devices blocks ops) olds news → AllReplied news rss
+      → AllAsk devices blocks ops 0 (map (λ caller. caller.device) olds) (map (λ caller. caller.device) news) rss
+  have-asked devices pool ps ks forks olds news rss start fresh made asked replied = asked-each devices pool 0 olds news rss (enlisted-start pool 0 ps ks forks olds start fresh made).start asked replied
 
   pub have-worked : (old new : P) (ps : List (Place (Known C))) (ks : List (List KeptBlock)) (forks : List P) (olds news : List (Caller C P D)) (rss : List (List Reply)) (kept : List (List KeptBlock)) (qs : List (Place (Known C)))
       → AreAtStart cache blocks 0 ks ps → AllByRecursion (IsFork pools old) forks → AreEnlisted ps ks forks olds → AllZip (HasTried cache pools blocks ops) olds news

@@ -1,13 +1,16 @@
-use Rattle.std.proofs.Common.{◌≡◌, ◌++◌, [], ◌∷◌, List, false, Global, Vec, map, sym, ap, ◌∙◌, subst, arith, append_assoc, append-nil}
+use Rattle.std.proofs.Common.{◌≡◌, ◌++◌, [], ◌∷◌, List, false, Global, Vec, map, sym, ap, ◌∙◌, subst, arith, append_assoc, append-nil, Option, refl}
 use Rattle.std.specs.Prelude.{Err, Ok, OnOk, Result, is_err}
 use Rattle.std.proofs.lemmas.Bool.{false≢true}
 use Rattle.turn_table.specs.Places.{Place}
 use Rattle.arc_table.specs.declared.view.Known.{Known}
 use Rattle.arc_table.proofs.Ends.{nothing_left}
 use Rattle.trace_text.specs.declared.reply.Reply.{Reply}
+use Rattle.trace_run.specs.Devices.{WasLent, lent_in}
+use Rattle.trace_run.specs.callers.DeviceForks.{TakesForksBack}
 use Rattle.trace_run.specs.callers.Callers.{AbsorbsAll, AllReplied}
 use Rattle.trace_run.specs.declared.group.Caller.{Caller}
 use Rattle.trace_run.specs.declared.kept_blocks.KeptBlock.{KeptBlock}
+use Rattle.trace_run.proofs.DeviceLemmas.{lent-same, lent-then}
 use Rattle.trace_run.proofs.group.take_all_back.Goals as goal
 
 on-ok : {T E : Type 0} (r : Result T E) (P : Type 0) → false ≡ is_err r → OnOk r P → P
@@ -24,6 +27,8 @@ loop-caller-init g c =
     let all : c.into_iter-caller-iterator.result.rest.items ≡ c.args.callers.items = c.into_iter-caller-iterator.ensures.into_iter_gives.0 in
     record {
       absorbs = λ q absorbs. subst (λ (l : List (Caller g.row.C.Denot g.row.P.Denot g.row.D.Denot)). AbsorbsAll g.P.Pool (map (λ caller. caller.pool) l) c.args.pool.now q) all absorbs;
+      back = λ q back. subst (λ (l : List (Caller g.row.C.Denot g.row.P.Denot g.row.D.Denot)). TakesForksBack g.D.CacheDev (map (λ caller. caller.device) l) (lent_in c.args.device.now) q) all back;
+      lent = lent-same g.D.CacheDev c.args.device.now;
       replied = λ fine replies replied.
           subst (λ (x : List (Vec Reply Global) × List (Caller g.row.C.Denot g.row.P.Denot g.row.D.Denot)). AllReplied x.1 (map (λ v. v.items) x.0 ++ replies)) (λ h. (sym c.new-3.ensures.items h, all h)) replied;
       parties = λ fine. ap (λ (l : List (Place (Known g.row.C.Denot))). l ++ map (λ caller. caller.party) c.into_iter-caller-iterator.result.rest.items) c.new.ensures.items ∙ ap (map (λ (caller : Caller g.row.C.Denot g.row.P.Denot g.row.D.Denot). caller.party)) all;
@@ -41,6 +46,10 @@ loop-caller-preserved g c =
     record {
       absorbs = λ q absorbs.
           before.absorbs q (subst (λ (l : List (Caller g.row.C.Denot g.row.P.Denot g.row.D.Denot)). AbsorbsAll g.P.Pool (map (λ caller. caller.pool) l) c.loop-caller.pool q) (sym is) (c.take_back.new.pool, c.take_back.ensures.absorbs, absorbs));
+      back = λ q back.
+          before.back q (subst (λ (l : List (Caller g.row.C.Denot g.row.P.Denot g.row.D.Denot)). TakesForksBack g.D.CacheDev (map (λ caller. caller.device) l) (lent_in c.loop-caller.device) q) (sym is)
+          (lent_in c.take_back.new.device, c.take_back.ensures.back, back));
+      lent = lent-then g.D.CacheDev c.args.device.now c.loop-caller.device c.take_back.new.device before.lent c.take_back.ensures.device;
       replied = λ fine replies more.
           subst (AllReplied c.args.callers.items) (sym (append_assoc done (replied.0 ∷ []) replies) ∙ ap (λ (l : List (List Reply)). l ++ replies) (sym replied.1))
           (before.replied fine (replied.0 ∷ replies) (subst (λ (l : List (Caller g.row.C.Denot g.row.P.Denot g.row.D.Denot)). AllReplied l (replied.0 ∷ replies)) (sym is) (replied.2, more)));
