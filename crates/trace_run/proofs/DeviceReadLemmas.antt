@@ -1,6 +1,7 @@
 -- What a read through the shared cache asked of the cache device, and what lines did that were done one after another.
 use Rattle.std.proofs.Common.{◌≡◌, ◌≢◌, ℕ, ◌<◌, List, [], ◌∷◌, ◌++◌, Option, None, Some, Result, Ok, Err, refl, sym, ap, ◌∙◌, subst, arith}
-use Rattle.std.specs.Prelude.{IfOk, slice_get}
+use Rattle.std.specs.Prelude.{IfOk, Vec, slice_get}
+use Rattle.std.specs.declared.alloc.Global.{Global}
 use Rattle.std.specs.Option.{option_map_or}
 use Rattle.blk_ptr.specs.declared.digest.Digest.{Digest}
 use Rattle.blk_ptr.specs.declared.memory.NoMemory.{NoMemory}
@@ -27,7 +28,7 @@ use Rattle.trace_text.specs.declared.reply.Refusal.TheVariants as refusals
 use Rattle.trace_text.specs.declared.reply.Reply.{Reply}
 use Rattle.trace_text.specs.declared.reply.Reply.TheVariants as replies
 use Rattle.trace_run.specs.Answers.{AnswersDrop, IsDropRefusal}
-use Rattle.trace_run.specs.DeviceReads.{AsksFor, GetAsks, LineAsks, LinesAsk, NoneFromDevice, WasReadAtMostOnce, WasReadOnce, never, once, size_asked}
+use Rattle.trace_run.specs.DeviceReads.{AsksFor, AsksGiven, GetAsks, LineAsks, LinesAsk, NoneFromDevice, WasReadAtMostOnce, WasReadOnce, never, once, size_asked}
 use Rattle.trace_run.specs.Effects.{Effect, Answered, GivenBack, NoEffect, PoolRefused, effect_of}
 use Rattle.trace_run.specs.Reads.{IsRefused}
 
@@ -156,8 +157,14 @@ module _ {D : Type 0} (devices : DeviceGhosts D) (blocks : List Ptr) where
       absurd (omega (arith, empty, once.some, once.inside))
 
   -- no reply tells of bytes from a device of no length
-  pub none-came : ((d : D) → devices.size d ≡ 0) → (os : List Op) (rs : List Reply) (a b : D) → LinesAsk devices blocks os rs a b → NoneFromDevice rs
-  none-came empty [] [] a b did = tt
-  none-came empty [] (r ∷ rs) a b did = absurd did
-  none-came empty (o ∷ os) [] a b did = absurd did
-  none-came empty (o ∷ os) (r ∷ rs) a b did = (none-asked (size_asked blocks o) (effect_of r) a did.0 (empty a) did.1, none-came empty os rs did.0 b did.2)
+  pub none-came : (os : List Op) (rs : List Reply) (a b : D) → LinesAsk devices blocks os rs a b → ((d : D) → devices.size d ≡ 0) → NoneFromDevice rs
+  none-came [] [] a b did empty = tt
+  none-came [] (r ∷ rs) a b did empty = absurd did
+  none-came (o ∷ os) [] a b did empty = absurd did
+  none-came (o ∷ os) (r ∷ rs) a b did empty = (none-asked (size_asked blocks o) (effect_of r) a did.0 (empty a) did.1, none-came os rs did.0 b did.2 empty)
+
+-- where a caller has no device, it was told of no bytes from there
+pub over-none : {N D : Type 0} (nothing : DeviceGhosts N) (devices : DeviceGhosts D) (blocks : List Ptr) (os : List Op) (a b : N) (r : Result (Vec Reply Global) NoMemory) → IfOk r (λ v. LinesAsk nothing blocks os v.items a b)
+    → ((d : N) → nothing.size d ≡ 0) → IfOk r (λ v. AsksGiven devices blocks os v.items None None)
+over-none nothing devices blocks os a b (Ok v) did empty = none-came nothing blocks os v.items a b did empty
+over-none nothing devices blocks os a b (Err e) did empty = tt

@@ -17,7 +17,7 @@ use Rattle.trace_run.specs.callers.DeviceForks.{AllAsk, AllAskIn, HaveRead, Have
 use Rattle.trace_run.specs.callers.Groups.{AreOfCallers}
 use Rattle.trace_run.specs.callers.InOrder.{AreInOrder}
 use Rattle.trace_run.specs.callers.Together.{BeginsGroup, Lines, ends_group, groups_of, replies_of_caller}
-use Rattle.trace_run.proofs.callers.GroupsLemmas.{group-ended, group-last, groups-append, whole-of}
+use Rattle.trace_run.proofs.callers.GroupsLemmas.{group-ended, group-last, groups-append, groups-prefix, whole-of}
 use Rattle.trace_run.proofs.callers.StepLemmas.{range-here, range-length}
 
 module _ {D : Type 0} (devices : Ghosts D) (blocks : List Ptr) where
@@ -134,3 +134,11 @@ module _ {D : Type 0} (devices : Ghosts D) (trace : Trace) (rs ss : List Reply) 
       let there : slice_get trace.ops (length rs + length qs) ≡ Some op = ap (slice_get trace.ops) ends-at ∙ (ap (λ (l : List Op). slice_get l end) (sym is_os) ∙ at) in
       subst (λ (l : List Reply). HaveReadSoFar devices trace l start to) (sym (is ∙ ap (λ (l : List Reply). l ++ reply ∷ []) is_mid))
       (subst (λ (gs : List Lines). ReadInGroups devices trace.blocks trace.config.callers gs start to) (sym (ended-groups trace callers rs ss qs few begins same-these own-these here op reply there ends)) grown)
+
+-- what all lines that were answered did, in the groups of the trace
+pub read-whole : {D : Type 0} (devices : Ghosts D) (trace : Trace) (rs : List Reply) → length rs ≤ length trace.ops → (start now : Option D) → HaveReadSoFar devices trace rs start now
+    → ReadInGroups devices trace.blocks trace.config.callers (groups_of trace.ops rs) start now
+read-whole devices trace rs few start now so_far =
+    subst (λ (gs : List Lines). ReadInGroups devices trace.blocks trace.config.callers gs start now)
+    (sym (groups-prefix (take (length rs) trace.ops) (drop (length rs) trace.ops) rs (sym (length-take-le (length rs) trace.ops few))) ∙ ap (λ (l : List Op). groups_of l rs) (take-append-drop (length rs) trace.ops))
+    so_far
