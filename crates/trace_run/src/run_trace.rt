@@ -54,8 +54,8 @@ pub(crate) fn run_trace<R: Threads + Wait + Sync, P: Pool, D: CacheDev, G: Gate>
     ensures rebuilt { IfOk result (λ told. told.report.rebuilt ≡ rebuilt) }
     ensures whole { IfOk result (λ told. told.report.short ≡ false) }
     ensures alone { trace.now.config.callers ≡ 1 → device.new ≡ device.old }
-    ensures together { 2 ≤ trace.now.config.callers
-        → IfOk result (λ told. ReadInGroups D.CacheDev trace.now.blocks trace.now.config.callers (groups_of trace.now.ops told.report.replies) (lent_in device.old) (lent_in device.new)) }
+    ensures together { IfOk result (λ told. 2 ≤ trace.now.config.callers
+        → ReadInGroups D.CacheDev trace.now.blocks trace.now.config.callers (groups_of trace.now.ops told.report.replies) (lent_in device.old) (lent_in device.new)) }
     ensures pool { LeavesPool P.Pool pool.old pool.new }
     ensures device { WasLent D.CacheDev device.old device.new }
 {

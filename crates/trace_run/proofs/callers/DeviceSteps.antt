@@ -1,7 +1,7 @@
 -- One group more of several callers: what they asked the cache device by then.
 use Rattle.std.proofs.Common.{◌≡◌, ℕ, zero, suc, ◌+◌, ◌<◌, ◌≤◌, true, false, List, [], ◌∷◌, ◌++◌, Option, Some, None, length, take, drop, refl, sym, ap, ◌∙◌, subst, arith, append_assoc, length-append}
 use Rattle.std.specs.Prelude.{filter, slice_get, slice_range}
-use Rattle.std.proofs.lemmas.List.{length-take-le}
+use Rattle.std.proofs.lemmas.List.{length-take-le, take-append-drop}
 use Rattle.std.proofs.lemmas.Option.{get_or_from_slice_get, slice_get_within}
 use Rattle.std.proofs.Math.Seq.{take-add, take-suc}
 use mathlib.Core.Option.{some}
@@ -12,11 +12,15 @@ use Rattle.trace_text.specs.declared.op.Op.{Op}
 use Rattle.trace_text.specs.declared.reply.Reply.{Reply}
 use Rattle.trace_text.specs.declared.trace.Trace.{Trace}
 use Rattle.trace_run.specs.DeviceReads.{AsksGiven}
+use Rattle.trace_run.specs.DeviceUse.{WasUsed}
+use Rattle.trace_run.specs.Devices.{IsRightKind, WasLent, device_of, lent_in}
+use Rattle.trace_run.specs.declared.device.Device.{Device}
 use Rattle.trace_run.specs.Lines.{is_of_caller}
 use Rattle.trace_run.specs.callers.DeviceForks.{AllAsk, AllAskIn, HaveRead, HaveReadSoFar, ReadAtOnce, ReadInGroups, these}
 use Rattle.trace_run.specs.callers.Groups.{AreOfCallers}
 use Rattle.trace_run.specs.callers.InOrder.{AreInOrder}
 use Rattle.trace_run.specs.callers.Together.{BeginsGroup, Lines, ends_group, groups_of, replies_of_caller}
+use Rattle.trace_run.proofs.DeviceLemmas.{lent-back, short-same, usable-kept, usable-lent}
 use Rattle.trace_run.proofs.callers.GroupsLemmas.{group-ended, group-last, groups-append, groups-prefix, whole-of}
 use Rattle.trace_run.proofs.callers.StepLemmas.{range-here, range-length}
 
@@ -42,7 +46,7 @@ module _ {D : Type 0} (devices : Ghosts D) (blocks : List Ptr) where
     lent = h.lent;
     given = h.given;
     done = h.done;
-    asked = asked-in-order qs ss 0 h.forks h.done rss h.asked (λ k m rs is at. ordered.each m rs (ap (λ (j : ℕ). get_elem? rss j) is ∙ at));
+    asked = asked-in-order qs ss 0 h.forks h.done rss h.asked (λ k m rs is at. ordered.each m rs (let same : m ≡ k = omega (arith, is) in ap (λ (j : ℕ). get_elem? rss j) same ∙ at));
     back = h.back;
   }
 
@@ -142,3 +146,20 @@ read-whole devices trace rs few start now so_far =
     subst (λ (gs : List Lines). ReadInGroups devices trace.blocks trace.config.callers gs start now)
     (sym (groups-prefix (take (length rs) trace.ops) (drop (length rs) trace.ops) rs (sym (length-take-le (length rs) trace.ops few))) ∙ ap (λ (l : List Op). groups_of l rs) (take-append-drop (length rs) trace.ops))
     so_far
+
+-- ---- the whole run
+
+-- what was made of the device that was started so, and ended so
+pub was-used : {D : Type 0} (devices : Ghosts D) (trace : Trace) (rs : List Reply) (begun ended : Device D) (after : Option D) → after ≡ device_of ended → IsRightKind devices begun → WasLent devices begun ended
+    → (trace.config.callers ≡ 1 → ended ≡ begun)
+    → (2 ≤ trace.config.callers → ReadInGroups devices trace.blocks trace.config.callers (groups_of trace.ops rs) (lent_in begun) (lent_in ended))
+    → WasUsed devices trace rs (device_of begun) after
+was-used {D} devices trace rs begun ended after is kind lent alone together =
+    subst (WasUsed devices trace rs (device_of begun)) (sym is) (record {
+      alone = λ one. ap device_of (alone one);
+      together = λ two.
+          subst (λ (x : Option D × Option D). ReadInGroups devices trace.blocks trace.config.callers (groups_of trace.ops rs) x.0 x.1)
+          (λ i. (sym (usable-lent devices begun kind) i, sym (usable-kept devices begun ended lent kind) i)) (together two);
+      back = lent-back devices begun ended lent;
+      short = λ none. short-same devices begun ended lent kind none;
+    })

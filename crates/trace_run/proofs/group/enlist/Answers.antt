@@ -39,7 +39,7 @@ returns-clause-enlisted g c =
     let read : c.loop-party.kept.rest.items ≡ [] = nothing_left c.loop-party.kept.rest.items (let same = c.loop-party.invariant.reads in let empty = ap length none in omega arith) in
     let gone : c.loop-party.forks.rest.items ≡ [] = nothing_left c.loop-party.forks.rest.items (let same = c.loop-party.invariant.same in let empty = ap length none in omega arith) in
     subst (AreEnlisted c.args.parties.items c.args.kept.items c.args.forks.items) (append-nil c.loop-party.callers.items)
-    (c.loop-party.invariant.made [] (subst (λ (x : List (Place (Known g.row.C.Denot)) × List (List KeptBlock) × List g.row.P.Denot). AreEnlisted x.0 x.1 x.2 []) (λ h. (sym none h, sym read h, sym gone h)) tt))
+    (c.loop-party.invariant.made [] (subst (λ (x : List (Place (Known g.row.C.Denot)) × List (List KeptBlock) × List g.row.P.Denot). AreEnlisted {D = g.row.D.Denot} x.0 x.1 x.2 []) (λ h. (sym none h, sym read h, sym gone h)) tt))
 
 pub returns-clause-devices : goal.returns-clause-devices
 returns-clause-devices g c =

@@ -59,19 +59,19 @@ returns-clause-read g c =
     (λ worked came. record {
       forks = given;
       count = count;
-      lent = lent_in c.device_forks-devices.new.device;
+      lent = lent_in c.device_forks.new.device;
       given = c.in_ok-devices.ensures.given;
       done = done;
       asked = subst (λ (l : List (Option g.row.D.Denot)). AllAsk g.D.CacheDev c.args.blocks.now c.args.ops.now 0 l done (map (λ (v : Vec Reply Global). v.items) worked.replies.items)) c.in_ok-callers.ensures.devices
           (have-asked c.args.arcs.now g.P.Pool c.args.blocks.now c.args.ops.now g.D.CacheDev c.args.pool.now c.args.parties.items c.args.kept.items c.args.forks.items olds news
           (map (λ (v : Vec Reply Global). v.items) worked.replies.items) c.requires.parties c.requires.forks c.in_ok-callers.ensures.enlisted asked
           (subst (λ (l : List (Caller g.row.C.Denot g.row.P.Denot g.row.D.Denot)). HaveComeBack l (map (λ (v : Vec Reply Global). v.items) worked.replies.items) worked.parties.items worked.kept.items) same came).replied);
-      back = subst (λ (l : List (Caller g.row.C.Denot g.row.P.Denot g.row.D.Denot)). TakesForksBack g.D.CacheDev (map (λ caller. caller.device) l) (lent_in c.device_forks-devices.new.device) (lent_in c.take_all_back.new.device)) same c.take_all_back.ensures.back;
+      back = subst (λ (l : List (Caller g.row.C.Denot g.row.P.Denot g.row.D.Denot)). TakesForksBack g.D.CacheDev (map (λ caller. caller.device) l) (lent_in c.device_forks.new.device) (lent_in c.take_all_back.new.device)) same c.take_all_back.ensures.back;
     })
     c.take_all_back.ensures.came
 
 pub returns-clause-device : goal.returns-clause-device
-returns-clause-device g c = lent-then g.D.CacheDev c.args.device.now c.device_forks-devices.new.device c.take_all_back.new.device c.in_ok-devices.ensures.device c.take_all_back.ensures.device
+returns-clause-device g c = lent-then g.D.CacheDev c.args.device.now c.device_forks.new.device c.take_all_back.new.device c.in_ok-devices.ensures.device c.take_all_back.ensures.device
 
 pub returns-clause-pool : goal.returns-clause-pool
 returns-clause-pool g c = absorbed-leaves g.P.Pool (map (λ caller. caller.pool) (take c.in_ok-callers.callers.len (c.work_all.new.callers ++ drop (length c.work_all.new.callers) c.in_ok-callers.callers.items))) c.args.pool.now c.take_all_back.new.pool c.take_all_back.ensures.absorbs

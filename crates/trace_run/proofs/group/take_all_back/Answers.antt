@@ -57,6 +57,24 @@ loop-caller-preserved g c =
       keeps = λ fine. moved (λ (caller : Caller g.row.C.Denot g.row.P.Denot g.row.D.Denot). caller.kept) _ _ c.in-Some.caller _ rest _ is (on-ok c.take_back.result _ ok c.take_back.ensures.kept) (before.keeps fine);
     }
 
+-- a caller that was short of memory: its forks are taken back all the same
+pub loop-caller-preserved-then-is_err : goal.loop-caller-preserved-then-is_err
+loop-caller-preserved-then-is_err g c =
+    let rest : List (Caller g.row.C.Denot g.row.P.Denot g.row.D.Denot) = c.next.new.self.rest.items in
+    let is : c.loop-caller.caller-iterator.rest.items ≡ c.in-Some.caller ∷ rest = c.in-Some.ensures.steps.0 in
+    let before = c.loop-caller.invariant in
+    record {
+      absorbs = λ q absorbs.
+          before.absorbs q (subst (λ (l : List (Caller g.row.C.Denot g.row.P.Denot g.row.D.Denot)). AbsorbsAll g.P.Pool (map (λ caller. caller.pool) l) c.loop-caller.pool q) (sym is) (c.take_back.new.pool, c.take_back.ensures.absorbs, absorbs));
+      back = λ q back.
+          before.back q (subst (λ (l : List (Caller g.row.C.Denot g.row.P.Denot g.row.D.Denot)). TakesForksBack g.D.CacheDev (map (λ caller. caller.device) l) (lent_in c.loop-caller.device) q) (sym is)
+          (lent_in c.take_back.new.device, c.take_back.ensures.back, back));
+      lent = lent-then g.D.CacheDev c.args.device.now c.loop-caller.device c.take_back.new.device before.lent c.take_back.ensures.device;
+      replied = λ fine replies more. absurd (false≢true (sym fine));
+      parties = λ fine. absurd (false≢true (sym fine));
+      keeps = λ fine. absurd (false≢true (sym fine));
+    }
+
 pub returns-clause-came : goal.returns-clause-came
 returns-clause-came g c =
     let none : c.loop-caller.caller-iterator.rest.items ≡ [] = nothing_left c.loop-caller.caller-iterator.rest.items (let a = c.in-None.ensures.steps.0 in let b = c.loop-caller.caller-iterator.rest.ok in omega arith) in

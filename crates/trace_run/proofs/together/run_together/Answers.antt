@@ -92,4 +92,4 @@ returns-clause-read g c =
     let begun = between-begun c.in_ok-arcs.arcs c.args.restored.now g.P.Pool c.args.trace.now c.args.pool.now c.in_ok-arcs.parties.items c.in_ok-crew.crew c.in_ok-crew-2.crew
     c.in_ok-arcs.ensures.parties c.in_ok-crew.ensures.parties c.in_ok-crew.ensures.none many c.in_ok-crew-2.ensures.made c.in_ok-crew-2.ensures.kept
     (last-knows (openings_of c.args.trace.now) c.in_ok-crew.crew.parties.items c.in_ok-crew.crew.feeder (subst (AllKnow (openings_of c.args.trace.now)) c.in_ok-crew.ensures.parties c.in_ok-arcs.ensures.known)) in
-    read-whole g.D.CacheDev c.args.trace.now c.in_ok-crew-3.replies.items (c.in_ok-crew-3.ensures.stopped c.args.restored.now begun).between.few (lent_in c.args.device.now) (lent_in c.all_groups.new.device) c.in_ok-crew-3.ensures.read
+    read-whole g.D.CacheDev c.args.trace.now c.in_ok-crew-3.field-0.replies.items (c.in_ok-crew-3.ensures.stopped c.args.restored.now begun).between.few (lent_in c.args.device.now) (lent_in c.all_groups.new.device) c.in_ok-crew-3.ensures.read
