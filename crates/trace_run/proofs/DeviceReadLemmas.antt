@@ -1,5 +1,5 @@
 -- What a read through the shared cache asked of the cache device, and what lines did that were done one after another.
-use Rattle.std.proofs.Common.{◌≡◌, ◌≢◌, ℕ, ◌<◌, List, [], ◌∷◌, ◌++◌, Option, None, Some, Result, Ok, Err, refl, sym, ap, ◌∙◌, subst, arith}
+use Rattle.std.proofs.Common.{◌≡◌, ◌≢◌, ℕ, ◌<◌, List, [], ◌∷◌, ◌++◌, Option, None, Some, Result, Ok, Err, refl, sym, ap, subst, arith}
 use Rattle.std.specs.Prelude.{IfOk, Vec, slice_get}
 use Rattle.std.specs.declared.alloc.Global.{Global}
 use Rattle.std.specs.Option.{option_map_or}
@@ -29,7 +29,7 @@ use Rattle.trace_text.specs.declared.reply.Reply.{Reply}
 use Rattle.trace_text.specs.declared.reply.Reply.TheVariants as replies
 use Rattle.trace_run.specs.Answers.{AnswersDrop, IsDropRefusal}
 use Rattle.trace_run.specs.DeviceReads.{AsksFor, AsksGiven, GetAsks, LineAsks, LinesAsk, NoneFromDevice, WasReadAtMostOnce, WasReadOnce, never, once, size_asked}
-use Rattle.trace_run.specs.Effects.{Effect, Answered, GivenBack, NoEffect, PoolRefused, effect_of}
+use Rattle.trace_run.specs.Effects.{Effect, Answered, effect_of}
 use Rattle.trace_run.specs.Reads.{IsRefused}
 
 -- ---- a read through the shared cache

@@ -278,7 +278,15 @@ pub(crate) fn all_groups<R: Threads + Wait + Sync, C: Keeps + Send, P: Pool, D: 
     let mut replies = Vec::new(alloc);
     while replies.len() < trace.ops.as_slice().len() {
         let (after, done) = next_group(
-            alloc, rt, arcs, trace, crew, &mut replies, pool, device, gate,
+            alloc,
+            rt,
+            arcs,
+            trace,
+            crew,
+            &mut replies,
+            pool,
+            device,
+            gate,
         )?;
         crew = after;
         if !done {

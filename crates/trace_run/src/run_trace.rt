@@ -62,15 +62,7 @@ pub(crate) fn run_trace<R: Threads + Wait + Sync, P: Pool, D: CacheDev, G: Gate>
     let ran = if trace.config.callers == 1 {
         run_alone(alloc, rt, trace, restored_of(&rebuilt), pool, gate)?
     } else {
-        run_together(
-            alloc,
-            rt,
-            trace,
-            restored_of(&rebuilt),
-            pool,
-            device,
-            gate,
-        )?
+        run_together(alloc, rt, trace, restored_of(&rebuilt), pool, device, gate)?
     };
     let reported = ran.report(alloc, rebuilt)?;
     Ok(reported)

@@ -1,5 +1,5 @@
 use Rattle.std.proofs.Common.{◌≡◌, Option, None, Some, IfSome, refl}
-use Rattle.trace_run.proofs.DeviceLemmas.{only-of, only-same}
+use Rattle.trace_run.proofs.DeviceLemmas.{only-of}
 use Rattle.trace_run.proofs.device.begin.Goals as goal
 
 -- a fact of what is there

@@ -1,4 +1,4 @@
-use Rattle.std.proofs.Common.{◌≡◌, ◌+◌, ℕ, ◌∷◌, [], List, Option, length, length-append, refl, sym, ap, ◌∙◌, subst}
+use Rattle.std.proofs.Common.{◌+◌, ℕ, ◌∷◌, [], List, Option, length, length-append, refl, sym, ap, ◌∙◌, subst}
 use Rattle.trace_run.specs.Devices.{lent_in}
 use Rattle.trace_run.specs.callers.DeviceForks.{GivesForks}
 use Rattle.trace_run.proofs.DeviceLemmas.{gives-more, lent-same, lent-then}

@@ -1,10 +1,8 @@
-use Rattle.std.proofs.Common.{ℕ, List, map, refl, sym, subst, Option, None}
+use Rattle.std.proofs.Common.{refl, sym, subst, Option}
 use Rattle.std.specs.Prelude.{IfOk, filter}
 use Rattle.std.proofs.lemmas.Result.{IfOk-weaker}
 use Rattle.trace_run.specs.DeviceReads.{AsksGiven}
-use Rattle.trace_run.specs.KeptBlocks.{read_of}
 use Rattle.trace_run.specs.Lines.{is_of_caller}
-use Rattle.trace_run.specs.callers.CallerLines.{DidLines, at}
 use Rattle.trace_run.proofs.DeviceReadLemmas.{over-none}
 use Rattle.trace_run.proofs.group.lines_over.Goals as goal
 

@@ -1,11 +1,11 @@
-use Rattle.std.proofs.Common.{◌≡◌, ◌++◌, [], ◌∷◌, List, false, Global, Vec, map, sym, ap, ◌∙◌, subst, arith, append_assoc, append-nil, Option, refl}
+use Rattle.std.proofs.Common.{◌≡◌, ◌++◌, [], ◌∷◌, List, false, Global, Vec, map, sym, ap, ◌∙◌, subst, arith, append_assoc, append-nil}
 use Rattle.std.specs.Prelude.{Err, Ok, OnOk, Result, is_err}
 use Rattle.std.proofs.lemmas.Bool.{false≢true}
 use Rattle.turn_table.specs.Places.{Place}
 use Rattle.arc_table.specs.declared.view.Known.{Known}
 use Rattle.arc_table.proofs.Ends.{nothing_left}
 use Rattle.trace_text.specs.declared.reply.Reply.{Reply}
-use Rattle.trace_run.specs.Devices.{WasLent, lent_in}
+use Rattle.trace_run.specs.Devices.{lent_in}
 use Rattle.trace_run.specs.callers.DeviceForks.{TakesForksBack}
 use Rattle.trace_run.specs.callers.Callers.{AbsorbsAll, AllReplied}
 use Rattle.trace_run.specs.declared.group.Caller.{Caller}

@@ -5,8 +5,7 @@ use Rattle.trace_run.specs.CellEnds.{AreCellsOf}
 use Rattle.trace_run.specs.DeviceUse.{WasUsed}
 use Rattle.trace_run.specs.Devices.{Finds, IsHandedBack, WasLent, device_of}
 use Rattle.trace_run.specs.declared.device.Device.{Device}
-use Rattle.trace_run.specs.Outcome.{IsReport, IsRun}
-use Rattle.trace_run.specs.States.{handed}
+use Rattle.trace_run.specs.Outcome.{IsRun}
 use Rattle.trace_run.proofs.DeviceLemmas.{found-kept, lent-back, nothing-lost}
 use Rattle.trace_run.proofs.callers.DeviceSteps.{was-used}
 use Rattle.trace_run.proofs.theorem.OutcomeLemmas.{reported-so}
