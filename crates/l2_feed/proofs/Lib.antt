@@ -23,4 +23,4 @@ pub mod Plain
 pub mod Whole
 pub mod Ends
 pub mod Between
-pub mod Series
+pub mod InTurn

@@ -1,5 +1,5 @@
 -- What a series of feeds leaves behind it: its events in each shard, the places that keys have on the device, and what each crash of it restores.
-use Rattle.std.specs.Prelude.{◌≡◌, ◌≢◌, ◌⊎◌, ℕ, ◌+◌, ◌*◌, ◌^◌, ◌==◌, ◌<◌, ◌≤◌, if◌then◌else◌, Bool, true, false, IsTrue, List, [], ◌∷◌, ◌++◌, length, count_by, Option, Some}
+use Rattle.std.specs.Prelude.{◌≡◌, ◌≢◌, ◌⊎◌, ℕ, ◌+◌, ◌*◌, ◌^◌, ◌==◌, ◌<◌, ◌≤◌, if◌then◌else◌, Bool, true, false, IsTrue, List, [], ◌∷◌, ◌++◌, length, Option, Some}
 use Rattle.std.specs.List.{AllByRecursion}
 use Rattle.vdev_io.specs.declared.device.CacheDev.{Ghosts}
 use Rattle.vdev_io.specs.Device.{LeavesSame}
@@ -124,7 +124,8 @@ is_fault stop.NoMemory = false
 
 -- how many of these ended with a fault of the device
 abbrev pub faults_in : List FeedReport → ℕ
-faults_in reports = count_by (λ report. is_fault report.end) reports
+faults_in [] = 0
+faults_in (report ∷ reports) = (if is_fault report.end then 1 else 0) + faults_in reports
 
 module _ {C D : Type 0} (m : Meanings C) (device : Ghosts D) (cache : Cache) where
   -- between two feeds: the ring is as it was, the device was only lent, and what the feeder has seen of each shard goes on

@@ -1,4 +1,4 @@
-use Rattle.l2_feed.proofs.Series.{feeds_keep, lent_keep}
+use Rattle.l2_feed.proofs.InTurn.{feeds_keep, lent_keep}
 use Rattle.l2_feed.proofs.series.crashes_keep_live.Goals as goal
 
 pub returns-clause-feeds : goal.returns-clause-feeds

@@ -1,5 +1,5 @@
 use Rattle.arc_table.specs.Items.{meanings}
-use Rattle.l2_feed.proofs.Series.{crashes_restore}
+use Rattle.l2_feed.proofs.InTurn.{crashes_restore}
 use Rattle.l2_feed.proofs.series.crashes_restore_places.Goals as goal
 
 pub returns : goal.returns

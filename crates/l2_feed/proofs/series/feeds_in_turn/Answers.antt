@@ -1,5 +1,5 @@
 use Rattle.arc_table.specs.Items.{meanings}
-use Rattle.l2_feed.proofs.Series.{faults_rise, feeds_in_turn}
+use Rattle.l2_feed.proofs.InTurn.{faults_rise, feeds_in_turn}
 use Rattle.l2_feed.proofs.series.feeds_in_turn.Goals as goal
 
 pub returns-clause-live : goal.returns-clause-live

@@ -1,5 +1,5 @@
 use Rattle.arc_table.specs.Items.{meanings}
-use Rattle.l2_feed.proofs.Series.{restored_newest}
+use Rattle.l2_feed.proofs.InTurn.{restored_newest}
 use Rattle.l2_feed.proofs.series.restored_places_are_newest.Goals as goal
 
 pub returns : goal.returns

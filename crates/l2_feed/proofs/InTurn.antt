@@ -1,6 +1,6 @@
 -- What a start leaves for the first feed, what feeds one after another keep, and what a crash behind them restores.
 use Rattle.std.proofs.Common.{◌≡◌, ◌≢◌, ◌⊎◌, ℕ, zero, suc, ◌+◌, ◌*◌, ◌^◌, ◌<◌, ◌≤◌, Bool, true, false, not, IsTrue, List, [], ◌∷◌, ◌++◌, map, length, Option, Some, None, inl, inr, refl, sym, ap, ◌∙◌, subst, ⊎_elim, arith}
-use Rattle.std.specs.Prelude.{◌==◌, if◌then◌else◌, reverse, count_by}
+use Rattle.std.specs.Prelude.{◌==◌, if◌then◌else◌, reverse}
 use Rattle.std.specs.List.{AllByRecursion, filter}
 use Rattle.std.specs.Option.{option_and_then}
 use Rattle.std.proofs.lemmas.Bool.{false≢true}
@@ -110,7 +110,7 @@ newest_first k x (w ∷ ws) (inr one) =
     let none : (y : ℕ) → ¬ IsLive w.live.key y (reverse ws) = λ y live. one.1 y (subst (λ (j : Key). IsLive j y ws) one.0.0 (live_back w.live.key y ws live)) in
     let first : IsLive w.live.key w.live.place (firsts (reverse ws ++ w ∷ [])) = last_first w (reverse ws) none in
     subst (λ (l : List Written). IsLive k x (firsts l)) (sym (turned w ws))
-        (subst (λ (j : Key). IsLive j x (firsts (reverse ws ++ w ∷ []))) one.0.0 (subst (λ (y : ℕ). IsLive w.live.key y (firsts (reverse ws ++ w ∷ []))) one.0.1 first))
+    (subst (λ (j : Key). IsLive j x (firsts (reverse ws ++ w ∷ []))) one.0.0 (subst (λ (y : ℕ). IsLive w.live.key y (firsts (reverse ws ++ w ∷ []))) one.0.1 first))
 
 -- ---- what is restored
 
@@ -154,10 +154,13 @@ once_newest k x (w ∷ ws) keys live =
     subst HaveKeys (ap (map restored_of) (turned w ws) ∙ map-append restored_of (reverse ws) (w ∷ [])) keys in
     let parts = keys_front (map restored_of (reverse ws)) (restored_of w) whole in
     ⊎_elim
-        (λ (is : (w.live.key ≡ k) × (w.live.place ≡ x)). inr (is, (λ y more.
-        none_with w.live.key y (map restored_of (reverse ws)) parts.1 (restored_live w.live.key y (reverse ws) (live_there w.live.key y ws (subst (λ (j : Key). IsLive j y ws) (sym is.0) more))))))
-        (λ (more : IsLive k x ws). inl (once_newest k x ws parts.0 more))
-        live
+    (λ (is : (w.live.key ≡ k) × (w.live.place ≡ x)). inr (
+      is,
+      (λ y more.
+          none_with w.live.key y (map restored_of (reverse ws)) parts.1 (restored_live w.live.key y (reverse ws) (live_there w.live.key y ws (subst (λ (j : Key). IsLive j y ws) (sym is.0) more)))),
+    ))
+    (λ (more : IsLive k x ws). inl (once_newest k x ws parts.0 more))
+    live
 
 -- ---- the start
 
@@ -182,9 +185,9 @@ restores_give g n shard (r ∷ rs) s k x sound ok at = elim (cases_true (shard_o
       let now : IsTrue (legal s e) = and_left (legal s e) (is_legal_history (after s e) (restores_at g n rs shard)) legal_all in
       let there : place_of k (replay (after s e) (restores_at g n rs shard)) ≡ Some x = rw here at at in
       ⊎_elim
-          (λ (had : place_of k (after s e) ≡ Some x). ⊎_elim (λ (before : place_of k s ≡ Some x). inl before) (λ (is : (r.key ≡ k) × (r.place ≡ x)). inr (inl is)) (restored_place s n r.place x r.key k r.digest sound now had))
-          (λ (more : IsRestoredAt k x rs). inr (inr more))
-          (restores_give g n shard rs (after s e) k x (IsSound-after s e sound now) (and_right (legal s e) (is_legal_history (after s e) (restores_at g n rs shard)) legal_all) there)
+      (λ (had : place_of k (after s e) ≡ Some x). ⊎_elim (λ (before : place_of k s ≡ Some x). inl before) (λ (is : (r.key ≡ k) × (r.place ≡ x)). inr (inl is)) (restored_place s n r.place x r.key k r.digest sound now had))
+      (λ (more : IsRestoredAt k x rs). inr (inr more))
+      (restores_give g n shard rs (after s e) k x (IsSound-after s e sound now) (and_right (legal s e) (is_legal_history (after s e) (restores_at g n rs shard)) legal_all) there)
   | inr other ↦ ⊎_elim (λ (before : place_of k s ≡ Some x). inl before) (λ (more : IsRestoredAt k x rs). inr (inr more)) (restores_give g n shard rs s k x sound (rw other at ok) (rw other at at))
 ]
 
@@ -196,7 +199,7 @@ restored_newest m g p n end cursor restored valid opened keys seen legal k x at 
     let found : IsRestoredAt k x restored = ⊎_elim (λ (before : place_of k (opening_of g) ≡ Some x). cc) (λ (more : IsRestoredAt k x restored). more)
     (restores_give g n shard restored (opening_of g) k x (opening_sound g.c g.mintime g.bounds valid.amounts.c) ok there) in
     once_newest k x cursor.ring.live (subst HaveKeys opened.live keys)
-        (live_back k x cursor.ring.live (live_restored k x (reverse cursor.ring.live) (subst (IsRestoredAt k x) opened.live found)))
+    (live_back k x cursor.ring.live (live_restored k x (reverse cursor.ring.live) (subst (IsRestoredAt k x) opened.live found)))
 
 -- ---- crashes
 
@@ -211,9 +214,15 @@ module _ {D : Type 0} (device : Ghosts D) where
   crashes_restore m g p dev cursor live newest image left restored why is well k x at =
       let found = newest_is_restored device.told device.has_sectors device.may_leave dev cursor live.0 live.1 live.2 image left restored why is well in
       subst (IsRestoredAt k x) (sym found.1)
-          (restored_front k x (map restored_of (firsts (reverse cursor.ring.live))) found.0 (restored_live k x (firsts (reverse cursor.ring.live)) (newest_first k x cursor.ring.live (newest k x at))))
+      (restored_front k x (map restored_of (firsts (reverse cursor.ring.live))) found.0 (restored_live k x (firsts (reverse cursor.ring.live)) (newest_first k x cursor.ring.live (newest k x at))))
 
 -- ---- feeds one after another
+
+-- a count of faults that rose where a feed ended so
+rise : (end : FeedStop) (t from to n : ℕ) → t ≤ from → from ≤ to → (end ≡ stop.DevFault → Rose from to) → t + suc n < 2 ^ 64 → (t + (if is_fault end then 1 else 0) ≤ to) × (t + (if is_fault end then 1 else 0) + n < 2 ^ 64)
+rise stop.Done t from to n le never rose few = (omega arith, omega arith)
+rise stop.NoMemory t from to n le never rose few = (omega arith, omega arith)
+rise stop.DevFault t from to n le never rose few = let r = rose refl in (omega arith, omega arith)
 
 module _ {C D : Type 0} (m : Meanings C) (device : Ghosts D) (cache : Cache) where
   between_keeps : (was now : D) (old new : CursorState) (p q : Place (Known C)) → IsConfig cache.config → IsBetween m device cache was now old new p q
@@ -241,12 +250,11 @@ module _ {C D : Type 0} (m : Meanings C) (device : Ghosts D) (cache : Cache) whe
   rises : (t : ℕ) (reports : List FeedReport) (was now : D) (old new : CursorState) (p q : Place (Known C)) → AreInTurn m device cache reports was now old new p q
       → t + length reports < 2 ^ 64 → t ≤ device.faults was → t + faults_in reports ≤ device.faults now
   rises t [] was now old new p q turn few le = let f = turn.lent.faults in omega arith
-  rises t (report ∷ reports) was now old new p q (from, to, next, r, s, between, one, rest) few le = go report.end refl
-    where
-      go : (end : FeedStop) → report.end ≡ end → t + faults_in (report ∷ reports) ≤ device.faults now
-      go stop.Done is = rw is (rises t reports to now next new s q rest (omega arith) (let a = between.lent.faults in let b = one.faults in omega arith))
-      go stop.NoMemory is = rw is (rises t reports to now next new s q rest (omega arith) (let a = between.lent.faults in let b = one.faults in omega arith))
-      go stop.DevFault is = rw is (let more = rises (t + 1) reports to now next new s q rest (omega arith) (let a = between.lent.faults in let b = one.cause is in omega arith) in omega arith)
+  rises t (report ∷ reports) was now old new p q (from, to, next, r, s, between, one, rest) few le =
+      let a = between.lent.faults in
+      let one_more = rise report.end t (device.faults from) (device.faults to) (length reports) (omega arith) one.faults one.cause few in
+      let more = rises (t + (if is_fault report.end then 1 else 0)) reports to now next new s q rest one_more.1 one_more.0 in
+      omega arith
 
   pub faults_rise : FaultsRise m device cache
   faults_rise reports was now old new p q turn few = rises (device.faults was) reports was now old new p q turn few (omega arith)
