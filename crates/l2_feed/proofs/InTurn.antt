@@ -252,7 +252,7 @@ module _ {C D : Type 0} (m : Meanings C) (device : Ghosts D) (cache : Cache) whe
   rises t [] was now old new p q turn few le = let f = turn.lent.faults in omega arith
   rises t (report ∷ reports) was now old new p q (from, to, next, r, s, between, one, rest) few le =
       let a = between.lent.faults in
-      let one_more = rise report.end t (device.faults from) (device.faults to) (length reports) (omega arith) one.faults one.cause few in
+      let one_more = rise report.end t (device.faults from) (device.faults to) (length reports) (let b = one.faults in omega arith) one.faults one.cause few in
       let more = rises (t + (if is_fault report.end then 1 else 0)) reports to now next new s q rest one_more.1 one_more.0 in
       omega arith
 

@@ -1,9 +1,9 @@
 -- What a series of feeds leaves behind it: its events in each shard, the places that keys have on the device, and what each crash of it restores.
-use Rattle.std.specs.Prelude.{◌≡◌, ◌≢◌, ◌⊎◌, ℕ, ◌+◌, ◌*◌, ◌^◌, ◌==◌, ◌<◌, ◌≤◌, if◌then◌else◌, Bool, true, false, IsTrue, List, [], ◌∷◌, ◌++◌, length, Option, Some}
+use Rattle.std.specs.Prelude.{◌≡◌, ◌≢◌, ◌⊎◌, ℕ, ◌+◌, ◌*◌, ◌^◌, ◌==◌, ◌<◌, ◌≤◌, if◌then◌else◌, Bool, true, false, IsTrue, List, [], ◌∷◌, ◌++◌, length, min, Option, Some}
 use Rattle.std.specs.List.{AllByRecursion}
 use Rattle.vdev_io.specs.declared.device.CacheDev.{Ghosts}
 use Rattle.vdev_io.specs.Device.{LeavesSame}
-use Rattle.vdev_io.specs.Faults.{Rose}
+use Rattle.vdev_io.specs.Faults.{Rose, last_count}
 use Rattle.blk_ptr.specs.declared.key.Key.{Key}
 use Rattle.blk_ptr.specs.Hash.{shard_of}
 use Rattle.arc_core.specs.Config.{IsConfig}
@@ -97,12 +97,13 @@ module _ {D : Type 0} (device : Ghosts D) where
   abbrev pub FeedsKeepLive : Type 0
   FeedsKeepLive = (was now : D) (old new : CursorState) → FeedKeeps device.told device.has_sectors device.may_leave was now old new stop.Done → KeepsLive was old → KeepsLive now new
 
-  -- the device tells the same and is of the same kind, a crash leaves the same, and no fewer faults are counted: as reads, forks and absorbs leave it
+  -- the device tells the same and is of the same kind, a crash leaves the same, and no fewer faults are counted, where there is room for the count: as
+  -- reads, forks and absorbs leave it
   pub record WasLent (was now : D) : Type 0 where
     pub told : device.told now ≡ device.told was
     pub kind : device.has_sectors now ≡ device.has_sectors was
     pub crash : LeavesSame (device.may_leave was) (device.may_leave now)
-    pub faults : device.faults was ≤ device.faults now
+    pub faults : min (device.faults was) last_count ≤ device.faults now
 
   -- so it is then too
   abbrev pub LentKeepLive : Type 0
