@@ -1,15 +1,13 @@
 -- Which events a feed leaves in a shard, and that others take places and give none.
-use Rattle.std.proofs.Common.{◌≡◌, ◌⊎◌, ℕ, zero, suc, Bool, true, false, not, ◌&&◌, IsTrue, List, [], ◌∷◌, ◌++◌, map, Option, Some, None, inl, inr, refl, sym, ap, ◌∙◌, subst, ⊎_elim}
-use Rattle.std.specs.Prelude.{◌==◌, if◌then◌else◌}
+use Rattle.std.proofs.Common.{◌≡◌, ℕ, zero, suc, true, false, IsTrue, List, [], ◌∷◌, ◌++◌, map, Some, inl, inr, refl, sym, ap, ◌∙◌, subst}
+use Rattle.std.specs.Prelude.{◌==◌}
 use Rattle.std.specs.List.{AllByRecursion}
-use Rattle.std.proofs.lemmas.Bool.{eqb-true, false≢true}
+use Rattle.std.proofs.lemmas.Bool.{false≢true}
 use Rattle.std.proofs.lemmas.List.{map-append}
-use mathlib.Core.Option.{some, some-injective, some-ne-none}
-use lib.ListN.{get_elem?}
+use mathlib.Core.Option.{some-injective, some-ne-none}
 use Rattle.vdev_io.specs.declared.device.CacheDev.{Ghosts}
 use Rattle.blk_ptr.specs.declared.key.Key.{Key}
 use Rattle.arc_lists.proofs.Tables.{cases_true}
-use Rattle.arc_core.specs.Config.{IsConfig}
 use Rattle.arc_core.specs.declared.config.Config.{Config}
 use Rattle.arc_core.specs.declared.event.Event.{Event}
 use Rattle.arc_core.specs.declared.event.Event.TheVariants.{Pass, Hit, Miss, Arrive, Fail, Drop, Past, Hand, Insert, Release, Pick, FeedEnd, Set, Leave, Clear, Restore, Resize}
@@ -19,19 +17,14 @@ use Rattle.arc_core.specs.PlainShard.{PlainShard, place_of}
 use Rattle.arc_core.specs.Replay.{is_legal_history, replay}
 use Rattle.arc_core.proofs.OwnEvents.{own-events-are}
 use Rattle.arc_core.proofs.Stepping.{replay-append}
-use Rattle.turn_table.specs.Places.{Place}
-use Rattle.arc_table.specs.declared.view.Known.{Known}
 use Rattle.arc_table.specs.Items.{Meanings}
 use Rattle.arc_table.specs.opening.OpeningLaws.{opening_sound}
 use Rattle.arc_table.specs.Seen.{seen_of}
 use Rattle.arc_table.specs.Telling.{opening_of}
-use Rattle.l2_dev.specs.declared.report.FeedReport.{FeedReport}
-use Rattle.l2_dev.specs.Cursor.{CursorState}
 use Rattle.l2_feed.specs.Acts.{Act}
 use Rattle.l2_feed.specs.Alone.{events_at}
-use Rattle.l2_feed.specs.Fed.{HasFed}
-use Rattle.l2_feed.specs.Series.{FeedsMakeEvents, GivesNone, GoesOn, PlacesGo}
-use Rattle.l2_feed.specs.Told.{TellActs, acts_at, events_of, shard_of_act}
+use Rattle.l2_feed.specs.Series.{FeedsMakeEvents, GivesNone, PlacesGo}
+use Rattle.l2_feed.specs.Told.{TellActs, acts_at, shard_of_act}
 use Rattle.l2_feed.proofs.Stepped.{GiveNone, sound_front, taking}
 
 -- ---- events of acts

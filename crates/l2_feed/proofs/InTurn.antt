@@ -1,16 +1,15 @@
 -- What a start leaves for the first feed, what feeds one after another keep, and what a crash behind them restores.
-use Rattle.std.proofs.Common.{◌≡◌, ◌≢◌, ◌⊎◌, ℕ, zero, suc, ◌+◌, ◌*◌, ◌^◌, ◌<◌, ◌≤◌, Bool, true, false, not, IsTrue, List, [], ◌∷◌, ◌++◌, map, length, Option, Some, None, inl, inr, refl, sym, ap, ◌∙◌, subst, ⊎_elim, arith}
+use Rattle.std.proofs.Common.{◌≡◌, ◌≢◌, ◌⊎◌, ℕ, suc, ◌+◌, ◌^◌, ◌<◌, ◌≤◌, true, not, IsTrue, List, [], ◌∷◌, ◌++◌, map, length, Some, None, inl, inr, refl, sym, ap, ◌∙◌, subst, ⊎_elim, arith}
 use Rattle.std.specs.Prelude.{◌==◌, if◌then◌else◌, reverse}
 use Rattle.std.specs.List.{AllByRecursion, filter}
 use Rattle.std.specs.Option.{option_and_then}
-use Rattle.std.proofs.lemmas.Bool.{false≢true}
 use Rattle.std.proofs.lemmas.List.{map-append, reverse-append}
 use Rattle.vdev_io.specs.declared.device.CacheDev.{Ghosts}
 use Rattle.vdev_io.specs.Faults.{Rose}
 use Rattle.blk_ptr.specs.declared.key.Key.{Key}
 use Rattle.blk_ptr.specs.Hash.{shard_of}
 use Rattle.blk_ptr.specs.Order.{key_eq}
-use Rattle.blk_ptr.proofs.Keys.{key_eq-is, key_eq-same}
+use Rattle.blk_ptr.proofs.Keys.{key_eq-is}
 use Rattle.arc_lists.proofs.Standing.{and_left, and_right}
 use Rattle.arc_lists.proofs.Tables.{cases_true}
 use Rattle.arc_core.specs.Config.{IsConfig}
@@ -19,7 +18,7 @@ use Rattle.arc_core.specs.declared.entry.Entry.{Entry}
 use Rattle.arc_core.specs.declared.event.Event.{Event}
 use Rattle.arc_core.specs.declared.event.Event.TheVariants.{Restore}
 use Rattle.arc_core.specs.declared.served.Restored.{Restored}
-use Rattle.arc_core.specs.PlainShard.{PlainShard, entry_of, place_of}
+use Rattle.arc_core.specs.PlainShard.{PlainShard, place_of}
 use Rattle.arc_core.specs.Replay.{is_legal_history, replay}
 use Rattle.arc_core.specs.Sound.{IsSound}
 use Rattle.arc_core.specs.Step.{after, legal}
@@ -41,14 +40,13 @@ use Rattle.l2_dev.specs.declared.report.FeedStop.TheVariants as stop
 use Rattle.l2_dev.specs.Cursor.{CursorState}
 use Rattle.l2_dev.specs.ListLaws.{firsts_prefix}
 use Rattle.l2_dev.specs.NewestLaws.{newest_is_restored}
-use Rattle.l2_dev.specs.Promise.{KeepsPromise, Promise}
 use Rattle.l2_dev.specs.ReadLaws.{reads_keep}
-use Rattle.l2_dev.specs.Rebuilding.{HaveKeys, IsOpened}
+use Rattle.l2_dev.specs.Rebuilding.{HaveKeys}
 use Rattle.l2_dev.specs.Restoring.{firsts, is_same_key, restored_of}
 use Rattle.l2_feed.specs.Crashes.{FeedKeeps}
 use Rattle.l2_feed.specs.Ends.{PlacesAreNewest}
-use Rattle.l2_feed.specs.Places.{IsLive, IsNewest, place_seen}
-use Rattle.l2_feed.specs.Series.{AreInTurn, CrashesRestorePlaces, FaultsRise, FeedsInTurn, FeedsKeepLive, IsBetween, IsFeed, IsRestoredAt, KeepsLive, LentKeepLive, RestoredAreNewest, WasLent, faults_in, is_fault, restores_at}
+use Rattle.l2_feed.specs.Places.{IsLive, IsNewest}
+use Rattle.l2_feed.specs.Series.{AreInTurn, CrashesRestorePlaces, FaultsRise, FeedsInTurn, FeedsKeepLive, IsBetween, IsRestoredAt, KeepsLive, LentKeepLive, RestoredAreNewest, faults_in, is_fault, restores_at}
 use Rattle.l2_feed.specs.Shape.{AreFed}
 use Rattle.l2_feed.proofs.Between.{places_go}
 use Rattle.l2_feed.proofs.Ends.{done_is_whole, newest_stay, takes_few_laps}
