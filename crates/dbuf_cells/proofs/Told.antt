@@ -269,7 +269,8 @@ cells-told b at sound = record {
   size = cell-size b at sound;
   none = (
     λ e. let t = told-none at (opened_size at b.value.opening) b.value.history (sym (cell-size b at sound) ∙ size-none at (outline_in b) e) in record { opening = opened-none at b.value.opening t.0; puts = t.1 },
-    λ never. none-size at (outline_in b) (cell-size b at sound ∙ (ap (λ (s : Option ℕ). told_size at s b.value.history) (none-opened at b.value.opening never.opening) ∙ none-told at b.value.history never.puts)));
+    λ never. none-size at (outline_in b) (cell-size b at sound ∙ (ap (λ (s : Option ℕ). told_size at s b.value.history) (none-opened at b.value.opening never.opening) ∙ none-told at b.value.history never.puts)),
+  );
   pins = pins-told b at sound;
 }
 
