@@ -16,7 +16,7 @@ use Rattle.arc_table.specs.Geometry.{IsCell, parties_of}
 use Rattle.arc_table.specs.declared.item.Item.TheVariants as item
 use Rattle.arc_table.specs.declared.view.Known.{Known}
 use Rattle.arc_table.specs.declared.view.Ledger.{Ledger}
-use Rattle.arc_table.proofs.cells.CellsInHand.{taken-cell}
+use Rattle.arc_table.proofs.cell_lemmas.CellsInHand.{taken-cell}
 use Rattle.arc_table.proofs.Reached.{Took, took_is}
 use Rattle.dbuf_state.specs.Dbufs.{DbufHas, dbuf_at}
 use Rattle.dbuf_state.specs.InHand.{ClaimsChanged}
