@@ -1,7 +1,8 @@
 -- What is so of a party with a cell in hand: when it takes the cell, behind each event of a shard, and when it gives the cell back.
-use Rattle.std.proofs.Common.{◌≡◌, ◌≢◌, ℕ, zero, suc, if◌then◌else◌, not, IsTrue, List, [], ◌∷◌, ◌++◌, map, Bool, Option, Some, None, refl, sym, ap, ◌∙◌, subst, inl, inr, absurd, is_none, ◌&&◌, eq-eqb}
+use Rattle.std.proofs.Common.{◌≡◌, ◌≢◌, ℕ, zero, suc, if◌then◌else◌, not, IsTrue, List, [], ◌∷◌, ◌++◌, map, Bool, Option, Some, None, refl, sym, ap, ◌∙◌, subst, inl, inr, is_none, ◌&&◌, eq-eqb}
 use Rattle.std.specs.List.{AllByRecursion}
 use Rattle.std.specs.Option.{option_map_or}
+use Rattle.std.proofs.lemmas.Bool.{false≢true}
 use Rattle.std.proofs.lemmas.List.{map-append}
 use mathlib.Core.Option.{some}
 use lib.ListN.{get_elem?}
@@ -270,7 +271,7 @@ finds-bringing cache i at p r before owner fit is given = record { before = befo
   where
     clean : (d : Dbuf Kept) (c : Content) → d.content ≡ c → IsFit key_of bytes_of d → d.state ≡ state.Read owner → (ptr : Ptr) × (d.content ≡ content.Clean ptr)
     clean d (content.Clean ptr) has fits reading = (ptr, has)
-    clean d (content.Dirty bytes) has fits reading = absurd (let no : IsTrue (is_cached (state.Read owner) && is_none d.kept) = subst (λ (s : DbState). IsTrue (is_cached s && is_none d.kept)) reading (subst (λ (x : Content). Fits key_of bytes_of x d.state d.kept) has fits).0 in no)
+    clean d (content.Dirty bytes) has fits reading = absurd (false≢true (subst (λ (s : DbState). IsTrue (is_cached s && is_none d.kept)) reading (subst (λ (x : Content). Fits key_of bytes_of x d.state d.kept) has fits).0))
 
     go : (ds : List (Dbuf Kept)) → AllByRecursion (IsFit key_of bytes_of) ds → option_map_or (λ d. d.state) (dbuf_at at ds) state.Uncached ≡ state.Read owner
         → (ptr : Ptr) × DbufHas (λ d. (d.content ≡ content.Clean ptr) × (d.state ≡ state.Read owner)) (dbuf_at at ds)

@@ -1,7 +1,7 @@
 -- A party that has every number, and brings nothing of a cell, finds no block there being brought: so it doesn't wait.
 use mathlib.Core.Option.{some}
 use lib.ListN.{get_elem?}
-use Rattle.std.proofs.Common.{◌≡◌, ◌≢◌, ℕ, zero, suc, ◌<◌, ◌≤◌, ◌==◌, Bool, true, false, nat_lt, if◌then◌else◌, List, [], ◌∷◌, ◌++◌, Option, Some, None, refl, sym, ap, ◌∙◌, subst, inl, inr, absurd, arith, eq-eqb}
+use Rattle.std.proofs.Common.{◌≡◌, ◌≢◌, ℕ, zero, suc, ◌<◌, ◌≤◌, ◌==◌, Bool, true, false, nat_lt, if◌then◌else◌, List, [], ◌∷◌, ◌++◌, Option, Some, None, refl, sym, ap, ◌∙◌, subst, inl, inr, arith, eq-eqb}
 use Rattle.std.proofs.lemmas.Bool.Decides.{nat_tests}
 use Rattle.blk_ptr.specs.declared.ptr.Ptr.{Ptr}
 use Rattle.arc_core.specs.Config.{IsConfig}
@@ -34,7 +34,7 @@ use Rattle.dbuf_cells.specs.declared.kept.Kept.{Kept}
 
 -- ---- what is being brought is claimed
 
-numbers-some : (front : List Mapping) (m : Mapping) (back : List Mapping) → mapping_numbers (front ++ m ∷ back) ≢ []
+numbers-some : (front : List Mapping) (m : Mapping) (back : List Mapping) → mapping_numbers (front ++ (m ∷ []) ++ back) ≢ []
 numbers-some [] m back e = cc
 numbers-some (x ∷ xs) m back e = cc
 
@@ -42,7 +42,7 @@ read-claim : (n : ℕ) (at : Oid) (ptr : Ptr) (c : Content) (s : DbState) → c 
 read-claim n at ptr c s clean reading = rw clean (rw reading (ap (λ (b : Bool). if b then record { at = at; ptr = ptr } ∷ [] else []) (eq-eqb n n refl)))
 
 claimed-some : (n : ℕ) (at : Oid) (ptr : Ptr) (ds : List (Dbuf Kept)) (o : Option (Dbuf Kept)) → dbuf_at at ds ≡ o → DbufHas (λ d. (d.content ≡ content.Clean ptr) × (d.state ≡ state.Read n)) o → mapping_numbers (claims_in n ds) ≢ []
-claimed-some n at ptr ds None there is = absurd is
+claimed-some n at ptr ds None there is none = absurd is
 claimed-some n at ptr ds (Some d) there is none =
     let changed = claims-change at (λ (x : Dbuf Kept). x) n ds d there in
     let m : Mapping = record { at = d.at; ptr = ptr } in
@@ -75,16 +75,16 @@ module _ (cache : Cache) (i : ℕ) (at : Oid) (valid : IsConfig cache.config) (i
       is : IsTakenCell dbuf_meanings cache.config i before p q
       is = subst (IsTakenCell dbuf_meanings cache.config i before p) (sym t.took) (taken-cell dbuf_meanings cache.config i before t.owners t.knew p valid party.config in_range t.lost t.free)
 
-      by : (b : Bool) → nat_lt n (parties_of cache.config) ≡ b → mapping_numbers (claims_in n before.value.dbufs) ≡ []
-      by true few = go (none.all n (below n (parties_of cache.config) few))
-      by false many = is.no_claims n (from n (parties_of cache.config) many)
-
       go : HasNumber n p → mapping_numbers (claims_in n before.value.dbufs) ≡ []
       go (inl own) = ap (λ (x : ℕ). mapping_numbers (claims_in x before.value.dbufs)) (sym (k.number ∙ own)) ∙ (is.claims ∙ (ap (λ (l : Ledger). list_at i l.claims) k.ledger ∙ none.own))
       go (inr within) =
           let j = joined-at n p.joined within in
           ap (λ (x : ℕ). mapping_numbers (claims_in x before.value.dbufs)) (sym j.3)
           ∙ (is.joined j.0 j.1 (ap (λ (x : PartyPlace). get_elem? x.joined j.0) t.took ∙ j.2) ∙ none.joined j.0 j.1 j.2)
+
+      by : (b : Bool) → nat_lt n (parties_of cache.config) ≡ b → mapping_numbers (claims_in n before.value.dbufs) ≡ []
+      by true few = go (none.all n (below n (parties_of cache.config) few))
+      by false many = is.no_claims n (from n (parties_of cache.config) many)
 
   finds-none : (p q : PartyPlace) → IsPartyOf cache p → BringsNone cache.config i p → FindsBringing cache.config i at p q → ⊥
   finds-none p q party none f = claimed-some f.owner at f.ptr f.before.value.dbufs (dbuf_at at f.before.value.dbufs) refl f.reading (claims-none f.before p f.turn.taken party none f.turn.takes f.owner)

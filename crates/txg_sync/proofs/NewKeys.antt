@@ -1,6 +1,7 @@
 -- The keys of a sync are new to the cache, where no key that was taken in before reaches past its place.
 use Rattle.std.proofs.Common.{◌≡◌, ◌≢◌, ◌⊎◌, ℕ, suc, zero, ◌+◌, ◌≤◌, ◌<◌, ◌==◌, Bool, true, false, not, ◌&&◌, ◌||◌, IsTrue, List, [], ◌∷◌, ◌++◌, length, map, Option, Some, None, refl, sym, ap, ◌∙◌, subst, inl, inr, arith}
 use mathlib.Core.Logic.{dite}
+use mathlib.Core.Option.{some-ne-none}
 use native.Mathlib.Decide.{ℕ_discrete}
 use Rattle.std.specs.List.{AllByRecursion, list_any}
 use Rattle.std.proofs.lemmas.Bool.{false≢true}
@@ -91,7 +92,7 @@ last-legal s (x ∷ es) e h = last-legal (after s x) es e (and-parts (legal s x)
 -- ---- one block
 
 no-own : (g : Config) (n parties : ℕ) → AreOwnBy (IsNumberOrCell g) parties n []
-no-own g n parties z e at = cc
+no-own g n parties z e at = absurd (some-ne-none e (sym at))
 
 module _ (g : Config) (valid : IsConfig g) (tick : ℕ) (x : SyncItem) (place : ℕ) (p q : PartyPlace) (at_place_is : x.ptr.key.offset ≡ place) (alone : SeesAlone g p) (below : EndsBelow g place p) where
   abbrev k : Key
