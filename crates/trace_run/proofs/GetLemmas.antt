@@ -253,8 +253,8 @@ module _ {C P D : Type 0} (m : Meanings C) (cache : Cache) (pools : PoolGhosts P
     pub got-asks : (r : Result Read ReadFault) → result ≡ r → AsksFor m cache.config stands.valid pools devices law ptr t there r before.device now.device
     got-asks r is = subst (λ (x : Result Read ReadFault). AsksFor m cache.config stands.valid pools devices law ptr t there x before.device now.device) is asks
 
-    pub fault-asks : (why : ReadFault) → result ≡ Err why → AsksGot devices there ptr (Err why) before.device now.device
-    fault-asks why is = go why (got-asks (Err why) is)
+    pub alone-fault-asks : (why : ReadFault) → result ≡ Err why → AsksGot devices there ptr (Err why) before.device now.device
+    alone-fault-asks why is = go why (got-asks (Err why) is)
       where
         go : (w : ReadFault) → AsksFor m cache.config stands.valid pools devices law ptr t there (Err w) before.device now.device → AsksGot devices there ptr (Err w) before.device now.device
         go (fault.PoolFault) a = a

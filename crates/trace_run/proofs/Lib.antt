@@ -5,6 +5,8 @@ pub mod CapLemmas
 pub mod CellEnds
 pub mod CellLemmas
 pub mod CellsLeft
+pub mod DeviceLemmas
+pub mod DeviceReadLemmas
 pub mod DropLemmas
 pub mod EndSteps
 pub mod FeederLemmas
@@ -12,7 +14,6 @@ pub mod GetLemmas
 pub mod GiveLemmas
 pub mod KeptBlockLemmas
 pub mod KeptQueueLemmas
-pub mod LentLemmas
 pub mod LineLemmas
 pub mod LinesLemmas
 pub mod MappedLemmas

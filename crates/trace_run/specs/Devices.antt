@@ -1,13 +1,12 @@
 -- What becomes of the cache device that is handed in.
-use Rattle.std.specs.Prelude.{◌≡◌, ◌<◌, ◌≤◌, nat_lt, if◌then◌else◌, List, [], Option, None, Some, IfSome}
+use Rattle.std.specs.Prelude.{◌≡◌, ◌<◌, ◌≤◌, nat_lt, if◌then◌else◌, List, [], Option, None, Some, IfSome, min}
 use Rattle.vdev_io.specs.Calls.{DeviceCall, MakesDeviceCalls}
-use Rattle.vdev_io.specs.Faults.{Rose}
+use Rattle.vdev_io.specs.Device.{LeavesSame, Stands}
+use Rattle.vdev_io.specs.Faults.{Rose, last_count}
 use Rattle.vdev_io.specs.declared.device.CacheDev.{Ghosts}
 use Rattle.l2_log.specs.Rules.{least_ring_end}
-use Rattle.l2_dev.specs.declared.device.L2Dev.{L2Dev}
 use Rattle.l2_dev.specs.declared.stop.Stop.TheVariants as stops
 use Rattle.l2_dev.specs.Cursor.{CursorState}
-use Rattle.l2_dev.specs.Reading.{OnlyRead}
 use Rattle.l2_dev.specs.Rebuilding.{HaveKeys, IsStarted, ring_end_of}
 use Rattle.l2_dev.specs.Restoring.{IsRebuilt}
 use Rattle.trace_text.specs.declared.rebuilt.Rebuilt.{Rebuilt}
@@ -27,9 +26,15 @@ lent_in (device.Short dev) = None
 lent_in (device.Ready l2) = Some l2.dev
 
 module _ {D : Type 0} (devices : Ghosts D) where
-  -- the device was read, and nothing else: its length, its kind, the bytes that it tells and what a crash may leave of it are as they were
-  abbrev pub WasOnlyRead : D → D → Type 0
-  WasOnlyRead before after = OnlyRead devices.size devices.told devices.has_sectors devices.may_leave devices.moment devices.left_since devices.faults before after
+  -- The device was read, forked and given forks back, and nothing else: its length, its kind, the bytes that it tells and what a crash may leave of it are
+  -- as they were. Its count of faults has not fallen, as far as a count goes: a fork is taken back by a sum of counts, which ends there.
+  pub record WasOnlyRead (before after : D) : Type 0 where
+    pub size : devices.size after ≡ devices.size before
+    pub told : devices.told after ≡ devices.told before
+    pub kind : devices.has_sectors after ≡ devices.has_sectors before
+    pub crash : LeavesSame (devices.may_leave before) (devices.may_leave after)
+    pub time : Stands (devices.moment before) (devices.moment after) (devices.left_since before) (devices.left_since after)
+    pub faults : min (devices.faults before) last_count ≤ devices.faults after
 
   -- so it was, or it is lost; and none is made up
   abbrev pub MayLose : Option D → Option D → Type 0
@@ -74,7 +79,7 @@ module _ {D : Type 0} (devices : Ghosts D) where
     pub keys : HaveKeys rebuilt.list
     pub only : WasOnlyRead before after
 
-  -- something is reported of a device exactly where one was handed in, and that one is handed back
+  -- something is reported of a device exactly where one was handed in, and this is that device behind its start
   abbrev pub Finds : Option D → Option D → Option Rebuilt → Type 0
   Finds None after rebuilt = (after ≡ None) × (rebuilt ≡ None)
   Finds (Some before) None rebuilt = ⊥

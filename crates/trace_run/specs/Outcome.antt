@@ -33,7 +33,8 @@ use Rattle.trace_run.specs.Answers.{AnswersAll}
 use Rattle.trace_run.specs.Bounded.{device_len, with_bound}
 use Rattle.trace_run.specs.CellEnds.{AreCellsOf}
 use Rattle.trace_run.specs.CheckText.{check_text}
-use Rattle.trace_run.specs.Devices.{Finds, IsHandedBack, MayLose, usable}
+use Rattle.trace_run.specs.DeviceUse.{WasUsed}
+use Rattle.trace_run.specs.Devices.{Finds, MayLose, usable}
 use Rattle.trace_run.specs.Explaining.{Explain, RunsAlone}
 use Rattle.trace_run.specs.Lines.{has_undone}
 use Rattle.trace_run.specs.one_caller.PlainRun.{images, report_of}
@@ -98,7 +99,7 @@ pub record IsRun {C P D : Type 0} (pool : Ghosts P) (device : Devices D) (before
   pub failed : fork_failed ≡ true → Rose (pool.faults before) (pool.faults after) × StopsAtGroup trace report.replies
 
 -- The report is that of a run of the trace that the source gave, all of whose lines the program does. The trace's bound of one feed is at most half of
--- the device's ring. What is reported of the device is what its start found; it is lent to the one caller, and handed back.
+-- the device's ring. What is reported of the device is what its start found; callers had forks of it, and it is handed back.
 pub record IsReport {P D : Type 0} (pool : Ghosts P) (device : Devices D) (before after : Handed P D) (closed : Ended OnHeap) (report : Report) : Type 0 where
   pub trace : Trace
   pub read : WasRead before.source after.source trace
@@ -106,7 +107,7 @@ pub record IsReport {P D : Type 0} (pool : Ghosts P) (device : Devices D) (befor
   -- the device behind its start
   pub started : Option D
   pub found : Finds device before.cache started report.rebuilt
-  pub back : IsHandedBack device started after.cache
+  pub used : WasUsed device (with_bound trace (device_len device.size before.cache)) report.replies started after.cache
   pub fork_failed : Bool
   pub run : IsRun pool device before.pool after.pool (usable device started) (usable device after.cache) (with_bound trace (device_len device.size before.cache)) fork_failed closed report
   -- the cells began with the trace's lines, and were ended

@@ -1,13 +1,15 @@
 //! The run of a trace, and its report.
-ghost use Rattle.std.specs.Prelude.{◌≡◌, Bool, IfOk, false};
+ghost use Rattle.std.specs.Prelude.{◌≡◌, ◌≤◌, Bool, IfOk, false};
 ghost use Rattle.l2_dev.specs.Rebuilding.{HaveKeys};
 ghost use Rattle.trace_text.specs.Grammar.{IsFormed};
 ghost use Rattle.trace_run.specs.Outcome.{IsGenReport, IsRun};
 ghost use Rattle.trace_run.specs.CellEnds.{AreCellsOf};
+ghost use Rattle.trace_run.specs.Devices.{WasLent, lent_in};
+ghost use Rattle.trace_run.specs.callers.DeviceForks.{ReadInGroups};
 ghost use Rattle.trace_run.specs.callers.Group.{LeavesPool};
 ghost use Rattle.trace_run.specs.Devices.{WasLent, lent_in};
 ghost use Rattle.trace_run.specs.Restores.{restored_of};
-ghost use Rattle.trace_run.specs.callers.Together.{report_status};
+ghost use Rattle.trace_run.specs.callers.Together.{groups_of, report_status};
 ghost use Rattle.trace_run.specs.Words.{IsInRange};
 ghost use Rattle.trace_run.specs.declared.words.Command.TheVariants as command;
 
@@ -34,7 +36,7 @@ fn restored_of(rebuilt: &Option<Rebuilt>) -> &[Restored]
     }
 }
 
-/// Runs a trace and reports on it: one caller's on the pool and the cache device that are handed in, and several callers' each on a fork of the pool.
+/// Runs a trace and reports on it: one caller's on the pool and the cache device that are handed in, and several callers' each on forks of both.
 /// This was found on that device.
 pub(crate) fn run_trace<R: Threads + Wait + Sync, P: Pool, D: CacheDev, G: Gate>(
     alloc: Global,
@@ -52,13 +54,15 @@ pub(crate) fn run_trace<R: Threads + Wait + Sync, P: Pool, D: CacheDev, G: Gate>
     ensures cells { IfOk result (λ told. AreCellsOf trace.now told.closed) }
     ensures rebuilt { IfOk result (λ told. told.report.rebuilt ≡ rebuilt) }
     ensures whole { IfOk result (λ told. told.report.short ≡ false) }
+    ensures together { IfOk result (λ told. 2 ≤ trace.now.config.callers
+        → ReadInGroups D.CacheDev trace.now.blocks trace.now.config.callers (groups_of trace.now.ops told.report.replies) (lent_in device.old) (lent_in device.new)) }
     ensures pool { LeavesPool P.Pool pool.old pool.new }
     ensures device { WasLent D.CacheDev device.old device.new }
 {
     let ran = if trace.config.callers == 1 {
         run_alone(alloc, rt, trace, restored_of(&rebuilt), pool, device, gate)?
     } else {
-        run_together(alloc, rt, trace, restored_of(&rebuilt), pool, gate)?
+        run_together(alloc, rt, trace, restored_of(&rebuilt), pool, device, gate)?
     };
     let reported = ran.report(alloc, rebuilt)?;
     Ok(reported)

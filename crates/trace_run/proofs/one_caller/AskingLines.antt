@@ -42,16 +42,16 @@ use Rattle.trace_run.proofs.OpenLemmas.{joined-all, new-seen}
 
 module _ {C D : Type 0} (g : Config) (devices : DeviceGhosts D) (blocks : List Ptr) (p : Place (Known C)) (old new : D) where
   -- what a line on a block asked for, by its block's pointer
-  abbrev pub LineAsks : Op → Reply → Type 0
-  LineAsks op reply = HasAll p → (calls : List Call) × AsksLine devices blocks (now_of g (shard_of_line g.shards blocks op) p) op reply calls old new
+  abbrev pub AloneAsks : Op → Reply → Type 0
+  AloneAsks op reply = HasAll p → (calls : List Call) × AsksLine devices blocks (now_of g (shard_of_line g.shards blocks op) p) op reply calls old new
 
   pub read-line-asks : (n t x : ℕ) (window : Window) (ptr : Ptr) (result : Result Reply NoMemory) → slice_get blocks x ≡ Some ptr
-      → IfOk result (λ reply. HasAll p → Asks devices (now_of g (shard_of g.shards ptr.key) p) ptr (effect_of reply) old new) → IfOk result (LineAsks (ops.Read n t x window))
+      → IfOk result (λ reply. HasAll p → Asks devices (now_of g (shard_of g.shards ptr.key) p) ptr (effect_of reply) old new) → IfOk result (AloneAsks (ops.Read n t x window))
   read-line-asks n t x window ptr (Err e) there asks = tt
   read-line-asks n t x window ptr (Ok reply) there asks = λ all. ((asks all).0, rw there (asks all).1)
 
   pub hold-line-asks : (n t x : ℕ) (ptr : Ptr) (result : Result Reply NoMemory) → slice_get blocks x ≡ Some ptr
-      → IfOk result (λ reply. HasAll p → Asks devices (now_of g (shard_of g.shards ptr.key) p) ptr (effect_of reply) old new) → IfOk result (LineAsks (ops.Hold n t x))
+      → IfOk result (λ reply. HasAll p → Asks devices (now_of g (shard_of g.shards ptr.key) p) ptr (effect_of reply) old new) → IfOk result (AloneAsks (ops.Hold n t x))
   hold-line-asks n t x ptr (Err e) there asks = tt
   hold-line-asks n t x ptr (Ok reply) there asks = λ all. ((asks all).0, rw there (asks all).1)
 

@@ -2,7 +2,8 @@ use Rattle.std.proofs.Common.{Ok, refl, ap, ◌∙◌, subst}
 use Rattle.arc_table.specs.Items.{meanings}
 use Rattle.arc_table.specs.Reading.{outside}
 use Rattle.dbuf_cells.specs.declared.kept.Kept.TheVariants.{Loose}
-use Rattle.trace_run.proofs.GetLemmas.{PoolDid, adds, fault-asks, fault-calls, fault-cause, fault-did, fault-stands, got-asks, held-calls, held-did, held-got, held-stands, lists, ok-valid, past-did, past-got, past-stands, pool-did}
+use Rattle.trace_run.proofs.GetLemmas.{PoolDid, adds, alone-fault-asks, fault-calls, fault-cause, fault-did, fault-stands, got-asks, held-calls, held-did, held-got, held-stands, lists, ok-valid, past-did, past-got, past-stands, pool-did}
+use Rattle.trace_run.proofs.DeviceReadLemmas.{DeviceDid, fault-asks, read-asks}
 use Rattle.trace_run.proofs.ReadLemmas.{AddsRead}
 use Rattle.trace_run.proofs.ReadStands.{ListsAnswer}
 use Rattle.trace_run.proofs.get.get.Goals as goal
@@ -111,5 +112,25 @@ returns-in-Ok-Past-clause-asks g c = λ all.
 pub returns-in-Err-clause-asks : goal.returns-in-Err-clause-asks
 returns-in-Err-clause-asks g c = λ all.
     let laws = g.met.D.CacheDev g.world.𝓛 g.world.𝓜 g.world.𝓡 ((λ s x. x), (λ x. x), (λ x. x), λ x. x) in
-    fault-asks (meanings g.C.Keeps.holds g.C.Keeps.entries g.C.Keeps.opening g.C.Keeps.claims g.C.Keeps.sound) c.args.arcs.now g.P.Pool g.D.CacheDev c.args.ptr.now c.args.t c.args.block
+    alone-fault-asks (meanings g.C.Keeps.holds g.C.Keeps.entries g.C.Keeps.opening g.C.Keeps.claims g.C.Keeps.sound) c.args.arcs.now g.P.Pool g.D.CacheDev c.args.ptr.now c.args.t c.args.block
     (outside c.args.pool.now c.args.device.now) (outside c.read.new.pool c.read.new.cache) c.args.party.now c.read.new.party c.requires.0 c.requires.1 c.read.result c.read.ensures.answer (λ dev image told. laws.told_len dev image told) all c.in-Err.fault c.in-Err.is
+
+-- ---- the reads of the device
+
+pub returns-in-Ok-Held-clause-asked : goal.returns-in-Ok-Held-clause-asked
+returns-in-Ok-Held-clause-asked g c =
+    subst (DeviceDid g.D.CacheDev c.args.ptr.now.key.size c.args.device.now c.read.new.cache) (c.in-Ok-Held.is ∙ ap Ok c.in-Ok-Held.field-0-is)
+    (read-asks (meanings g.C.Keeps.holds g.C.Keeps.entries g.C.Keeps.opening g.C.Keeps.claims g.C.Keeps.sound) g.P.Pool g.D.CacheDev c.args.arcs.now.config c.args.ptr.now c.args.t
+    (outside c.args.pool.now c.args.device.now) (outside c.read.new.pool c.read.new.cache) c.args.party.now c.read.new.party c.read.result c.read.ensures.answer)
+
+pub returns-in-Ok-Past-clause-asked : goal.returns-in-Ok-Past-clause-asked
+returns-in-Ok-Past-clause-asked g c =
+    subst (DeviceDid g.D.CacheDev c.args.ptr.now.key.size c.args.device.now c.read.new.cache) (c.in-Ok-Past.is ∙ ap Ok c.in-Ok-Past.field-0-is)
+    (read-asks (meanings g.C.Keeps.holds g.C.Keeps.entries g.C.Keeps.opening g.C.Keeps.claims g.C.Keeps.sound) g.P.Pool g.D.CacheDev c.args.arcs.now.config c.args.ptr.now c.args.t
+    (outside c.args.pool.now c.args.device.now) (outside c.read.new.pool c.read.new.cache) c.args.party.now c.read.new.party c.read.result c.read.ensures.answer)
+
+pub returns-in-Err-clause-asked : goal.returns-in-Err-clause-asked
+returns-in-Err-clause-asked g c =
+    fault-asks g.D.CacheDev c.args.ptr.now.key.size c.args.device.now c.read.new.cache c.in-Err.fault (subst (DeviceDid g.D.CacheDev c.args.ptr.now.key.size c.args.device.now c.read.new.cache) c.in-Err.is
+    (read-asks (meanings g.C.Keeps.holds g.C.Keeps.entries g.C.Keeps.opening g.C.Keeps.claims g.C.Keeps.sound) g.P.Pool g.D.CacheDev c.args.arcs.now.config c.args.ptr.now c.args.t
+    (outside c.args.pool.now c.args.device.now) (outside c.read.new.pool c.read.new.cache) c.args.party.now c.read.new.party c.read.result c.read.ensures.answer))

@@ -14,6 +14,7 @@ use Rattle.trace_run.specs.KeptBlocks.{GivesBack, IsOwnedBy, Stands, read_of}
 use Rattle.trace_run.specs.one_caller.OneCaller.{key_held_by}
 use Rattle.trace_run.specs.KeptReads.{KeptRead, kept_read}
 use Rattle.trace_run.specs.Reads.{DidActs, DidAnswer, access_now, now_of}
+use Rattle.trace_run.proofs.DeviceReadLemmas.{refused-asks}
 use Rattle.trace_run.proofs.LineLemmas.{acts-none, read-given, read-refused}
 use Rattle.trace_run.proofs.one_caller.AskingLemmas.{asks-nothing, asks-refused, device-same}
 use Rattle.trace_run.proofs.lines.read_line.Goals as goal
@@ -58,3 +59,7 @@ pub returns-in_ok-refusal_of-in-Err-clause-asks : goal.returns-in_ok-refusal_of-
 returns-in_ok-refusal_of-in-Err-clause-asks g c = λ all.
     asks-refused g.D.CacheDev (now_of c.args.arcs.now.config (shard_of c.args.arcs.now.config.shards c.args.ptr.now.key) c.args.party.now) c.args.ptr.now c.args.device.now c.get.new.device c.in-Err.fault c.in_ok-refusal_of-in-Err.field-0
     c.in_ok-refusal_of-in-Err.ensures.ok (c.in-Err.ensures.asks all)
+
+pub returns-in_ok-refusal_of-in-Err-clause-asked : goal.returns-in_ok-refusal_of-in-Err-clause-asked
+returns-in_ok-refusal_of-in-Err-clause-asked g c =
+    refused-asks g.D.CacheDev c.args.ptr.now.key.size c.in-Err.fault c.in_ok-refusal_of-in-Err.field-0 c.args.device.now c.get.new.device c.in_ok-refusal_of-in-Err.ensures.ok c.in-Err.ensures.asked

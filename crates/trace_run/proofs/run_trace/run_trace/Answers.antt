@@ -25,7 +25,7 @@ returns-clause-run g c =
           (subst (λ (l : List Restored). ReadsAlone g.P.Pool g.D.CacheDev c.args.pool.now trace l did.replies.items (lent_in c.args.device.now) (lent_in w.run_alone.new.device)) w.restored_of.ensures w.in_ok-ran.ensures.read))
       | else-trace-eq1+in_ok-ran-2 w ↦
           let did = w.in_ok-ran-2.ran in
-          rw (w.ran-is, w.pool-is, w.device-is) (together-run g.P.Pool g.D.CacheDev c.args.pool.now w.run_together.new.pool (lent_in c.args.device.now) (lent_in c.args.device.now) trace c.args.rebuilt did.replies.items did.closed did.fork_failed
+          rw (w.ran-is, w.pool-is, w.device-is) (together-run g.P.Pool g.D.CacheDev c.args.pool.now w.run_together.new.pool (lent_in c.args.device.now) (lent_in w.run_together.new.device) trace c.args.rebuilt did.replies.items did.closed did.fork_failed
           (omega (arith, c.requires.formed.config.counts.callers.0, w.if-trace-eq1.false))
           (subst (λ (l : List Restored). RanTogether g.P.Pool c.args.pool.now w.run_together.new.pool trace did.fork_failed l did.replies.items did.closed) w.restored_of-else-trace-eq1.ensures w.in_ok-ran-2.ensures.ran))
     ] in
@@ -39,3 +39,14 @@ returns-clause-cells g c =
       | else-trace-eq1+in_ok-ran-2 w ↦ rw w.ran-is w.in_ok-ran-2.ensures.cells
     ] in
     rw c.in_ok-reported.ensures.closed here
+
+-- ---- the cache device
+
+pub returns-clause-together : goal.returns-clause-together
+returns-clause-together g c =
+    let ran = c.if-trace-eq1.ran in
+    let told = c.in_ok-reported.ensures in
+    λ two. rw told.report (elim c.if-trace-eq1.branch [
+      | then-trace-eq1+in_ok-ran w ↦ let one = w.if-trace-eq1.true in absurd (omega (arith, two, one))
+      | else-trace-eq1+in_ok-ran-2 w ↦ rw (w.ran-is, w.device-is) w.in_ok-ran-2.ensures.read
+    ])
