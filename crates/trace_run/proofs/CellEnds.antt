@@ -29,8 +29,8 @@ use Rattle.arc_table.specs.Seen.{HasAll, HasSeenBy, HasSeenItsOwn, IsNumberOf, I
 use Rattle.arc_table.specs.TableLaws.{front_else, front_here, item_here, starts_whole}
 use Rattle.arc_table.specs.Views.{after_cell}
 use Rattle.arc_table.proofs.Afterwards.{does_ledger}
-use Rattle.arc_table.proofs.cells.CellsInHand.{cell-recorded}
-use Rattle.arc_table.proofs.cells.EntriesSeen.{given-entries, given-sees, seen-at-take, took-sees}
+use Rattle.arc_table.proofs.cell_lemmas.CellsInHand.{cell-recorded}
+use Rattle.arc_table.proofs.cell_lemmas.EntriesSeen.{given-entries, given-sees, seen-at-take, took-sees}
 use Rattle.arc_table.proofs.MadeLemmas.{does-made}
 use Rattle.arc_table.proofs.MoveLemmas.{does-moves}
 use Rattle.arc_table.proofs.OwnLemmas.{grows}
