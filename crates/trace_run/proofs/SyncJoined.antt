@@ -2,6 +2,7 @@
 use Rattle.std.proofs.Common.{◌≡◌, ◌≢◌, ℕ, zero, suc, ◌+◌, ◌<◌, ◌≤◌, Bool, true, false, if◌then◌else◌, not, List, [], ◌∷◌, ◌++◌, length, map, Option, Some, Result, Ok, Err, refl, sym, ap, ◌∙◌, subst, inl, inr, arith, append-nil}
 use Rattle.std.specs.Prelude.{IsPermutation, slice_get, slice_index_or}
 use Rattle.std.specs.List.{AllByRecursion}
+use Rattle.std.proofs.lemmas.Option.{slice_get_within}
 use Rattle.arc_core.specs.declared.config.Config.{Config}
 use Rattle.turn_table.specs.declared.standing.Kept.{Kept}
 use Rattle.turn_table.specs.Places.{Apart, SomeHas}
@@ -11,7 +12,7 @@ use Rattle.arc_table.specs.declared.view.Line.TheVariants as line
 use Rattle.arc_table.specs.Cache.{Cache, IsPartyOf}
 use Rattle.arc_table.specs.Fronts.{front_of}
 use Rattle.arc_table.specs.Geometry.{IsCell, parties_of}
-use Rattle.arc_table.specs.Seen.{HasAll}
+use Rattle.arc_table.specs.Seen.{HasAll, seen_of}
 use Rattle.dbuf_cells.specs.Turns.{KeepsClaims, OnHeap, PartyPlace, dbuf_meanings}
 use Rattle.dbuf_cells.specs.declared.kept.Kept.{Kept as Block}
 use Rattle.dbuf_state.specs.Dbufs.{dirty_oids, is_clean, plain_block, plain_dbuf}
@@ -29,13 +30,13 @@ use Rattle.dbuf_state.specs.declared.state.DbState.{DbState}
 use Rattle.dbuf_state.specs.declared.state.Mapping.{Mapping}
 use Rattle.txg_sync.specs.Items.{SyncItem, due_in, dues_from, items_from, need_of}
 use Rattle.txg_sync.specs.Syncing.{AreAllDirty, Same}
-use Rattle.txg_sync.specs.Turns.{SyncsCells}
+use Rattle.txg_sync.specs.Turns.{GivesFrom, SyncsCells}
 use Rattle.txg_sync.specs.declared.due.Due.{Due}
 use Rattle.trace_run.specs.KeptBlocks.{AllQuiet, Stands, times}
 use Rattle.trace_run.specs.Meeting.{AreLast, IsApart, JoinAll, MadeJoined, PartAll}
 use Rattle.trace_run.specs.Syncing.{SyncsJoined, inserts_in, lines_of}
-use Rattle.trace_run.proofs.CellEnds.{no-front, no-list, nothing-from}
-use Rattle.trace_run.proofs.EndSteps.{q-stands}
+use Rattle.trace_run.proofs.CellEnds.{IsQuiet, no-front, no-list, nothing-from, quiet-then}
+use Rattle.trace_run.proofs.EndSteps.{have, q-stands}
 use Rattle.trace_run.proofs.ResizeLemmas.{HasMade, last-of, made-joined, q-all}
 use Rattle.trace_run.proofs.SyncSteps.{AreFound, AreInHand, HasGivenCells, HasTaken, IsFound, all-given, all-taken}
 
@@ -54,7 +55,7 @@ none-dirty (d ∷ ds) (m ∷ ms) is =
     rw (clean-block d.content d.state m (ap (λ (x : PlainDbuf). x.block) first)) (none-dirty ds ms rest)
 
 -- of a sound cell with no history
-none-dirty-in : (c : OnHeap) → IsSound c.value → c.value.history ≡ [] → dirty_oids c.value.dbufs ≡ []
+pub none-dirty-in : (c : OnHeap) → IsSound c.value → c.value.history ≡ [] → dirty_oids c.value.dbufs ≡ []
 none-dirty-in c sound none =
     let legal = subst (λ (h : List CellEvent). Leads (opening_cell c.value.limit c.value.opening) h sound.bases (plain_cell sound.evicting c.value)) none sound.history.legal in
     none-dirty c.value.dbufs c.value.opening (ap (λ (x : PlainCell). x.dbufs) legal.1)
@@ -97,3 +98,116 @@ module _ (cache : Cache) (p : PartyPlace) (others : List PartyPlace) (stands : S
     -- no block is dirty
     pub nothing-due : dues_from 0 cells ≡ []
     nothing-due = no-dues 0 cells q taken.found no-history
+
+    pub nothing-written : (dues : List Due) → AreAllDirty cells dues → dues ≡ []
+    nothing-written dues dirty = none-among cells dues nothing-due dirty
+
+    pub cells-count : length cells ≡ g.cells
+    cells-count = s.all
+
+    found-at : (i k : ℕ) (cs : List OnHeap) (c : OnHeap) → AreFound i q cs → slice_get cs k ≡ Some c → IsFound (i + k) q c
+    found-at i k [] c found at = cc
+    found-at i zero (x ∷ cs) c found at =
+        let is : x ≡ c = cc in
+        let z : i ≡ i + zero = omega arith in
+        subst (λ (y : ℕ × OnHeap). IsFound y.0 q y.1) (λ w. (z w, is w)) found.0
+    found-at i (suc k) (x ∷ cs) c found at =
+        let z : suc i + k ≡ i + suc k = omega arith in
+        subst (λ (n : ℕ). IsFound n q c) z (found-at (suc i) k cs c found.1 at)
+
+    none-at : (k : ℕ) (cs : List OnHeap) (c : OnHeap) → AllByRecursion (λ x. x.value.history ≡ []) cs → slice_get cs k ≡ Some c → c.value.history ≡ []
+    none-at k [] c none at = cc
+    none-at zero (x ∷ cs) c none at = let is : x ≡ c = cc in subst (λ (y : OnHeap). y.value.history ≡ []) is none.0
+    none-at (suc k) (x ∷ cs) c none at = none-at k cs c none.1 at
+
+  -- where nothing was written
+  module _ (tick : ℕ) (cells : List OnHeap) (r : PartyPlace) (s : SyncsCells g tick cells [] Same q r) (of : IsPartyOf cache r) (free : r.held ≡ []) (claims : KeepsClaims q r) where
+    abbrev t : HasTaken g stands.valid 0 cells q s.taken
+    t = taken tick cells [] Same r s
+
+    worked-is : s.worked ≡ s.taken
+    worked-is = s.besides ∙ s.inserts
+
+    many : length cells ≡ length s.afters
+    many = sym s.count
+
+    inside : 0 + length s.afters ≤ g.cells
+    inside = let e = s.all in let f = s.count in omega arith
+
+    given : HasGivenCells g stands.valid 0 s.afters s.taken r
+    given = all-given g stands.valid 0 cells s.afters s.taken r many inside t.quiet.sees t.quiet.all t.made t.hand (subst (λ (x : PartyPlace). GivesFrom 0 s.afters x r) worked-is s.gives)
+
+    some-cell : (cs : List OnHeap) (i : ℕ) → i < length cs → OnHeap
+    some-cell [] i below = absurd (omega (arith, below))
+    some-cell (c ∷ cs) i below = c
+
+    index-none : (cs : List OnHeap) (i : ℕ) (d : OnHeap) → i < length cs → AllByRecursion (λ c. c.value.history ≡ []) cs → (slice_index_or cs i d).value.history ≡ []
+    index-none [] i d below none = absurd (omega (arith, below))
+    index-none (c ∷ cs) zero d below none = none.0
+    index-none (c ∷ cs) (suc i) d below none = index-none cs i d (omega (arith, below)) none.1
+
+    fronts-none : (i : ℕ) → IsCell g i → front_of i r.own.seen ≡ []
+    fronts-none i in_range =
+        let below : i < length cells = let e = s.all in omega (arith, in_range) in
+        let d : OnHeap = some-cell cells i below in
+        let one = s.synced i d below in
+        let after : (slice_index_or s.afters i d).value.history ≡ [] = one.history ∙ (append-nil (slice_index_or cells i d).value.history ∙ index-none cells i d below (no-history tick cells [] Same r s)) in
+        let z : 0 + i ≡ i = omega arith in
+        subst (λ (n : ℕ). front_of n r.own.seen ≡ []) z (given.each i d (let f = s.count in omega (arith, below)) ∙ ap lines_of after)
+
+    r-stands : Stands cache r []
+    r-stands = record {
+      valid = stands.valid;
+      of = of;
+      free = free;
+      cells = record { fronts = fronts-none; made = given.made };
+      idle = given.quiet.readings ∙ (t.quiet.readings ∙ stood.idle);
+      unclaimed = λ i. claims i ∙ stood.unclaimed i;
+      seen = given.quiet.sees;
+      apart = subst (λ (x : ℕ × List (Kept (Known OnHeap))). Apart x.0 x.1) (λ i. (sym (quiet.number) i, sym (quiet.joined) i)) stood.apart;
+      joined = subst AllQuiet (sym quiet.joined) stood.joined;
+      owned = tt;
+      listed = λ x. ap (times x) quiet.holds ∙ stood.listed x;
+    }
+      where
+        abbrev quiet : IsQuiet g q r
+        quiet = quiet-then g q s.taken r t.quiet given.quiet
+
+    made : HasMade cache (inserts_in g tick []) q r
+    made = record {
+      stays = record { table = quiet.table; parties = quiet.parties; number = quiet.number; joined = quiet.joined; held = free ∙ sym stood.free; about = quiet.about };
+      stands = r-stands;
+      all = quiet.all;
+      seen = λ shard. quiet.shards shard ∙ sym (append-nil (seen_of g shard q));
+      starts = quiet.starts;
+    }
+      where
+        abbrev quiet : IsQuiet g q r
+        quiet = quiet-then g q s.taken r t.quiet given.quiet
+
+    pub synced-last : (numbers : List ℕ) → numbers ≡ map (λ o. o.number) others → AreLast numbers r.joined
+    synced-last = last-of dbuf_meanings cache p others stands alone apart everyone count differ q joins (inserts_in g tick []) r made (λ shard. tt)
+
+    module _ (numbers : List ℕ) (numbers_are : numbers ≡ map (λ o. o.number) others) (news : List PartyPlace) (z : PartyPlace) (parts : PartAll numbers r news z) where
+      abbrev whole : MadeJoined cache (inserts_in g tick []) p others z news
+      whole = made-joined dbuf_meanings cache p others stands alone apart everyone count differ q joins (inserts_in g tick []) r made (λ shard. tt) numbers numbers_are news z parts
+
+      about-is : q.own.about ≡ p.own.about
+      about-is = (have cache p others stands alone apart everyone count differ q joins).about
+
+      pub syncs-joined : SyncsJoined cache tick p others z news cells []
+      syncs-joined = record {
+        made = whole;
+        count = s.all;
+        sound = λ i c at. (found-at tick cells [] Same r s 0 i cells c t.found at).sound;
+        began = λ i c at.
+            let f = found-at tick cells [] Same r s 0 i cells c t.found at in
+            let w : 0 + i ≡ i = omega arith in
+            f.began ∙ (λ k. slice_index_or (about-is k).openings (w k) []);
+        noted = λ i c at.
+            let none = none-at tick cells [] Same r s i cells c (no-history tick cells [] Same r s) at in
+            whole.stands.cells.fronts i (in-range i c at) ∙ sym (ap (λ (h : List CellEvent). lines_of h ++ []) none);
+      }
+        where
+          in-range : (i : ℕ) (c : OnHeap) → slice_get cells i ≡ Some c → IsCell g i
+          in-range i c at = let w = slice_get_within cells i c at in let e = s.all in omega (arith, w)

@@ -22,8 +22,8 @@ use Rattle.arc_table.specs.Giving.{IsGivenCell}
 use Rattle.arc_table.specs.Seen.{FindsEntries, HasAll, HasSeenItsEntries, HasSeenItsOwn, events_in, seen_of, turn_of}
 use Rattle.arc_table.specs.TableLaws.{front_else, front_here, item_else, starts_whole, without_else}
 use Rattle.arc_table.specs.Views.{after_cell}
-use Rattle.arc_table.proofs.cells.CellsInHand.{taken-cell}
-use Rattle.arc_table.proofs.cells.EntriesSeen.{given-entries, given-sees, seen-at-take, took-sees}
+use Rattle.arc_table.proofs.cell_lemmas.CellsInHand.{taken-cell}
+use Rattle.arc_table.proofs.cell_lemmas.EntriesSeen.{given-entries, given-sees, seen-at-take, took-sees}
 use Rattle.arc_table.proofs.Reached.{Took, took_is}
 use Rattle.dbuf_cells.specs.Turns.{OnHeap, PartyPlace, dbuf_meanings}
 use Rattle.dbuf_state.specs.Numbers.{event_numbers}

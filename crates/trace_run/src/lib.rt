@@ -21,6 +21,7 @@ mod restoring;
 mod run_trace;
 mod status;
 mod stream;
+mod syncing;
 mod together;
 mod top;
 mod undone;

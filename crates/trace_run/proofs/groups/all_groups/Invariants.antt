@@ -2,11 +2,13 @@ use Rattle.std.proofs.Common.{◌-◌, List, [], length, vec_len}
 use Rattle.arc_core.specs.declared.served.Restored.{Restored}
 use Rattle.trace_run.specs.callers.Group.{LeavesPool}
 use Rattle.trace_run.specs.callers.Groups.{AreBetween}
+use Rattle.trace_run.specs.callers.Together.{stand}
 use Rattle.trace_run.proofs.groups.all_groups.Given as goal
 
 abbrev pub invariant-loop-alloc : goal.invariant-loop-alloc
 invariant-loop-alloc g l = record {
-  between : (restored : List Restored) → AreBetween l.arcs restored g.P.Pool l.trace l.fn.pool l.fn.pool [] l.fn.crew → AreBetween l.arcs restored g.P.Pool l.trace l.fn.pool l.pool l.replies.items l.crew;
+  between : (restored : List Restored) → AreBetween l.arcs restored g.P.Pool l.trace (stand l.fn.pool l.fn.syncs.group l.fn.syncs.next) (stand l.fn.pool l.fn.syncs.group l.fn.syncs.next) [] l.fn.crew
+      → AreBetween l.arcs restored g.P.Pool l.trace (stand l.fn.pool l.fn.syncs.group l.fn.syncs.next) (stand l.pool l.syncs.group l.syncs.next) l.replies.items l.crew;
   leaves : LeavesPool g.P.Pool l.fn.pool l.pool;
 }
 
