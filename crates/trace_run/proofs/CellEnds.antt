@@ -129,7 +129,7 @@ module _ (g : Config) where
   weaker-all [] s all = tt
   weaker-all (k ∷ ks) s all = (weaker-own k.number k.view.mine s all.0, weaker-all ks s all.1)
 
-  weaker : (p : PartyPlace) → HasSeenItsOwn g p → HasSeenBy (IsNumberOrCell g) g p
+  pub weaker : (p : PartyPlace) → HasSeenItsOwn g p → HasSeenBy (IsNumberOrCell g) g p
   weaker p own = record { own = weaker-own p.number p.own.mine p.own.seen own.own; joined = weaker-all p.joined p.own.seen own.joined }
 
 module _ (g : Config) (valid : IsConfig g) where

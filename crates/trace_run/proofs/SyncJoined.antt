@@ -1,5 +1,5 @@
 -- The feeder syncs while all other parties have joined it: what it and they are then. No line makes a block dirty yet, so nothing is written.
-use Rattle.std.proofs.Common.{◌≡◌, ◌≢◌, ℕ, zero, suc, ◌+◌, ◌<◌, ◌≤◌, Bool, true, false, if◌then◌else◌, not, List, [], ◌∷◌, ◌++◌, length, map, Option, Some, Result, Ok, Err, refl, sym, ap, ◌∙◌, subst, inl, inr, arith, append-nil}
+use Rattle.std.proofs.Common.{◌≡◌, ◌≢◌, ◌⊎◌, ℕ, zero, suc, ◌+◌, ◌<◌, ◌≤◌, Bool, true, false, if◌then◌else◌, not, List, [], ◌∷◌, ◌++◌, length, map, Option, Some, None, Result, Ok, Err, refl, sym, ap, ◌∙◌, subst, inl, inr, arith, append-nil}
 use Rattle.std.specs.Prelude.{IsPermutation, slice_get, slice_index_or}
 use Rattle.std.specs.List.{AllByRecursion}
 use Rattle.std.proofs.lemmas.Option.{slice_get_within}
@@ -18,7 +18,8 @@ use Rattle.dbuf_cells.specs.declared.kept.Kept.{Kept as Block}
 use Rattle.dbuf_state.specs.Dbufs.{dirty_oids, is_clean, plain_block, plain_dbuf}
 use Rattle.dbuf_state.specs.History.{Leads}
 use Rattle.dbuf_state.specs.Numbers.{event_numbers}
-use Rattle.dbuf_state.specs.Objects.{PlainBlock, PlainCell, PlainDbuf, Uncached, opened, opening_cell}
+use Rattle.dbuf_state.specs.Objects.{PlainCell, PlainDbuf, opened, opening_cell}
+use Rattle.dbuf_state.specs.Objects.{Uncached}
 use Rattle.dbuf_state.specs.Oids.{oid_eq}
 use Rattle.dbuf_state.specs.Soundness.{IsSound, plain_cell}
 use Rattle.dbuf_state.specs.declared.dbuf.Content.{Content}
@@ -28,13 +29,18 @@ use Rattle.dbuf_state.specs.declared.event.CellEvent.{CellEvent}
 use Rattle.dbuf_state.specs.declared.oid.Oid.{Oid}
 use Rattle.dbuf_state.specs.declared.state.DbState.{DbState}
 use Rattle.dbuf_state.specs.declared.state.Mapping.{Mapping}
-use Rattle.txg_sync.specs.Items.{SyncItem, due_in, dues_from, items_from, need_of}
-use Rattle.txg_sync.specs.Syncing.{AreAllDirty, Same}
+use Rattle.txg_sync.specs.Items.{SyncItem, due_in, dues_from, items_from, need_of, tells_written}
+use Rattle.txg_sync.specs.Syncing.{AnswersSync, AreAllDirty, IsUnharmed, IsUntouched, RefusedAt, RefusedFirst, Same, StopsAt, WritesAll}
+use Rattle.txg_sync.specs.declared.syncing.SyncFault.{SyncFault}
+use Rattle.txg_sync.specs.declared.syncing.SyncFault.TheVariants as fault
+use Rattle.txg_sync.specs.declared.syncing.Synced.{Synced}
+use Rattle.vdev_io.specs.declared.pool.Pool.{Ghosts}
+use Rattle.trace_run.specs.callers.Group.{LeavesPool}
 use Rattle.txg_sync.specs.Turns.{GivesFrom, SyncsCells}
 use Rattle.txg_sync.specs.declared.due.Due.{Due}
 use Rattle.trace_run.specs.KeptBlocks.{AllQuiet, Stands, times}
 use Rattle.trace_run.specs.Meeting.{AreLast, IsApart, JoinAll, MadeJoined, PartAll}
-use Rattle.trace_run.specs.Syncing.{SyncsJoined, inserts_in, lines_of}
+use Rattle.trace_run.specs.Syncing.{SyncedJoined, SyncsJoined, inserts_in, lines_of}
 use Rattle.trace_run.proofs.CellEnds.{IsQuiet, no-front, no-list, nothing-from, quiet-then}
 use Rattle.trace_run.proofs.EndSteps.{have, q-stands}
 use Rattle.trace_run.proofs.ResizeLemmas.{HasMade, last-of, made-joined, q-all}
@@ -170,7 +176,7 @@ module _ (cache : Cache) (p : PartyPlace) (others : List PartyPlace) (stands : S
       listed = λ x. ap (times x) quiet.holds ∙ stood.listed x;
     }
       where
-        abbrev quiet : IsQuiet g q r
+        quiet : IsQuiet g q r
         quiet = quiet-then g q s.taken r t.quiet given.quiet
 
     made : HasMade cache (inserts_in g tick []) q r
@@ -182,7 +188,7 @@ module _ (cache : Cache) (p : PartyPlace) (others : List PartyPlace) (stands : S
       starts = quiet.starts;
     }
       where
-        abbrev quiet : IsQuiet g q r
+        quiet : IsQuiet g q r
         quiet = quiet-then g q s.taken r t.quiet given.quiet
 
     pub synced-last : (numbers : List ℕ) → numbers ≡ map (λ o. o.number) others → AreLast numbers r.joined
@@ -211,3 +217,102 @@ module _ (cache : Cache) (p : PartyPlace) (others : List PartyPlace) (stands : S
         where
           in-range : (i : ℕ) (c : OnHeap) → slice_get cells i ≡ Some c → IsCell g i
           in-range i c at = let w = slice_get_within cells i c at in let e = s.all in omega (arith, w)
+
+  -- ---- the answers
+
+  module _ {P : Type 0} (pools : Ghosts P) (group tick next : ℕ) (before now : P) (r : PartyPlace) where
+    abbrev Answer : Result Synced SyncFault → Type 0
+    Answer = AnswersSync pools g group tick next before now q r
+
+    written-none : (told : Option (List ℕ)) → tells_written [] told ≡ told
+    written-none None = refl
+    written-none (Some image) = refl
+
+    some-due : (done : List Due) (due : Due) (rest : List Due) → done ++ due ∷ rest ≡ [] → ⊥
+    some-due [] due rest is = cc
+    some-due (d ∷ done) due rest is = cc
+
+    unharmed : IsUnharmed pools before now → pools.told now ≡ pools.told before → LeavesPool pools before now
+    unharmed u told = record { size = u.size; told = told; faults = let f = u.faults in omega arith }
+
+    untouched : now ≡ before → LeavesPool pools before now
+    untouched is = subst (LeavesPool pools before) (sym is) (record { size = refl; told = refl; faults = omega arith })
+
+    never-stops : (T : SyncItem → Option (List ℕ) → Type 0) (B : SyncItem → PartyPlace → PartyPlace → Type 0) → StopsAt pools group next before now g (λ cells xs Besides. SyncsCells g tick cells xs Besides q r) T B → ⊥
+    never-stops T B s = some-due s.done s.due s.rest (nothing-written tick s.cells _ _ r s.turns (s.done ++ s.due ∷ s.rest) s.dirty)
+
+    pub never-faults : Answer (Err fault.PoolFault) → ⊥
+    never-faults (inl f) = never-stops _ _ f.stops
+    never-faults (inr u) = other u.0
+      where
+        other : ◌≡◌ {A = Result Synced SyncFault} (Err fault.PoolFault) (Err fault.NoMemory) → ⊥
+        other is = cc
+
+    pub never-full : (need left : ℕ) → Answer (Err (fault.PoolFull need left)) → ⊥
+    never-full need left (inl f) =
+        let none = nothing-written tick f.cells [] Same r f.turns f.dues f.dirty in
+        let zero_is : need ≡ 0 = f.need_is ∙ ap (need_of f.cells) none in
+        omega (arith, zero_is, f.full)
+    never-full need left (inr u) = other u.0
+      where
+        other : ◌≡◌ {A = Result Synced SyncFault} (Err (fault.PoolFull need left)) (Err fault.NoMemory) → ⊥
+        other is = cc
+
+    refused : Answer (Err fault.NoMemory) → LeavesPool pools before now
+    refused (inl f) = unharmed f.outside (told f.stops)
+      where
+        told : RefusedFirst pools group next before now g (λ cells xs Besides. SyncsCells g tick cells xs Besides q r) ⊎ RefusedAt pools group next before now g (λ cells xs Besides. SyncsCells g tick cells xs Besides q r) → pools.told now ≡ pools.told before
+        told (inl first) = first.told
+        told (inr (inl stop)) = absurd (never-stops _ _ stop)
+        told (inr (inr stop)) = absurd (never-stops _ _ stop)
+    refused (inr u) = untouched u.1.pool
+
+    pub refused-leaves : (why : SyncFault) → why ≡ fault.NoMemory → Answer (Err why) → LeavesPool pools before now
+    refused-leaves why is answer = refused (subst (λ (e : SyncFault). Answer (Err e)) is answer)
+
+    -- a sync that is refused was refused memory
+    pub only-memory : (why : SyncFault) → Answer (Err why) → why ≡ fault.NoMemory
+    only-memory fault.PoolFault answer = absurd (never-faults answer)
+    only-memory (fault.PoolFull need left) answer = absurd (never-full need left answer)
+    only-memory fault.NoMemory answer = refl
+
+    module _ (done : Synced) (answer : Answer (Ok done)) where
+      wrote : WritesAll pools group next before now g (λ cells xs Besides. SyncsCells g tick cells xs Besides q r) done
+      wrote = go answer
+        where
+          go : Answer (Ok done) → WritesAll pools group next before now g (λ cells xs Besides. SyncsCells g tick cells xs Besides q r) done
+          go (inl w) = w
+          go (inr u) = absurd (other u.0)
+            where
+              other : ◌≡◌ {A = Result Synced SyncFault} (Ok done) (Err fault.NoMemory) → ⊥
+              other is = cc
+
+      abbrev xs : List SyncItem
+      xs = items_from group next wrote.cells wrote.dues
+
+      nothing : xs ≡ []
+      nothing = ap (items_from group next wrote.cells) (nothing-written tick wrote.cells xs Same r wrote.turns wrote.dues wrote.dirty)
+
+      turns-none : SyncsCells g tick wrote.cells [] Same q r
+      turns-none = subst (λ (l : List SyncItem). SyncsCells g tick wrote.cells l Same q r) nothing wrote.turns
+
+      pub done-leaves : LeavesPool pools before now
+      done-leaves = unharmed wrote.outside (wrote.told ∙ (ap (λ (l : List SyncItem). tells_written l (pools.told before)) nothing ∙ written-none (pools.told before)))
+
+      module _ (of : IsPartyOf cache r) (free : r.held ≡ []) (claims : KeepsClaims q r) (numbers : List ℕ) (numbers_are : numbers ≡ map (λ o. o.number) others) where
+        pub done-last : AreLast numbers r.joined
+        done-last = synced-last tick wrote.cells r turns-none of free claims numbers numbers_are
+
+        pub done-joined : (news : List PartyPlace) (z : PartyPlace) → PartAll numbers r news z → SyncedJoined pools cache group tick next before now p others z news done
+        done-joined news z parts = record {
+          cells = wrote.cells;
+          dues = wrote.dues;
+          dirty = wrote.dirty;
+          fits = wrote.fits;
+          turns = subst (λ (l : List SyncItem). SyncsJoined cache tick p others z news wrote.cells l) (sym nothing) (syncs-joined tick wrote.cells r turns-none of free claims numbers numbers_are news z parts);
+          told = wrote.told;
+          outside = wrote.outside;
+          blocks = wrote.blocks;
+          bytes = wrote.bytes;
+          next_is = wrote.next_is;
+        }

@@ -208,6 +208,28 @@ module _ (g : Config) (valid : IsConfig g) where
     pub below : (j : ℕ) → j < i → (item_at j q.own.records ≡ item_at j p.own.records) × (front_of j q.own.seen ≡ front_of j p.own.seen)
     pub each : (k : ℕ) (d : OnHeap) → k < length afters → front_of (i + k) q.own.seen ≡ lines_of (slice_index_or afters k d).value.history
 
+  -- one more of them was, and is so now
+  more-given : (i : ℕ) (in_range : IsCell g i) (b a : OnHeap) (afters : List OnHeap) (p r q : PartyPlace) (rest : HasGivenCells (suc i) afters p r) (hand : IsInHand i b r) (given : IsGivenCell dbuf_meanings r.number i a r.own)
+      (gave : q ≡ gave_back r i (after_cell dbuf_meanings i (item.Cell a) r.own)) → HasGivenCells i (a ∷ afters) p q
+  more-given i in_range b a afters p r q rest hand given gave = record {
+    quiet = quiet-then g p r q rest.quiet (give-quiet i in_range b a r q rest.quiet.sees rest.quiet.all rest.made hand given gave);
+    made = give-made i in_range b a r q rest.quiet.sees rest.quiet.all rest.made hand given gave;
+    below = λ j lt. (
+      give-records i in_range b a r q rest.quiet.sees rest.quiet.all rest.made hand given gave j (λ is. omega (arith, lt, is)) ∙ (rest.below j (omega (arith, lt))).0,
+      give-else i in_range b a r q rest.quiet.sees rest.quiet.all rest.made hand given gave j (λ is. omega (arith, lt, is)) ∙ (rest.below j (omega (arith, lt))).1,
+    );
+    each = go;
+  }
+    where
+      go : (k : ℕ) (d : OnHeap) → k < length (a ∷ afters) → front_of (i + k) q.own.seen ≡ lines_of (slice_index_or (a ∷ afters) k d).value.history
+      go zero d lt =
+          let z : i + zero ≡ i = omega arith in
+          ap (λ (n : ℕ). front_of n q.own.seen) z ∙ give-here i in_range b a r q rest.quiet.sees rest.quiet.all rest.made hand given gave
+      go (suc k) d lt =
+          let z : i + suc k ≡ suc i + k = omega arith in
+          ap (λ (n : ℕ). front_of n q.own.seen) z
+          ∙ (give-else i in_range b a r q rest.quiet.sees rest.quiet.all rest.made hand given gave (suc i + k) (λ is. omega (arith, is)) ∙ rest.each k d (omega (arith, lt)))
+
   pub all-given : (i : ℕ) (bs afters : List OnHeap) (p q : PartyPlace) → length bs ≡ length afters → i + length afters ≤ g.cells → HasSeenItsOwn g p → HasAll p → HasSeenItsEntries g p → AreInHand i bs p → GivesFrom i afters p q
       → HasGivenCells i afters p q
   all-given i [] [] p q same inside sees all made hand is = subst (HasGivenCells i [] p) (sym is) record {
@@ -220,36 +242,6 @@ module _ (g : Config) (valid : IsConfig g) where
   all-given i (b ∷ bs) [] p q same inside sees all made hand gives = absurd (omega (arith, same))
   all-given i (b ∷ bs) (a ∷ afters) p q same inside sees all made hand gives =
       let r = gives.0 in
-      let in_range : IsCell g i = omega (arith, inside) in
       let rest = all-given (suc i) bs afters p r (omega (arith, same)) (omega (arith, inside)) sees all made hand.1 gives.1 in
       let still = rest.below i (omega arith) in
-      let here : IsInHand i b r = record { recorded = still.0 ∙ hand.0.recorded; seen = still.1 ∙ hand.0.seen } in
-      let quiet = give-quiet i in_range b a r q rest.quiet.sees rest.quiet.all rest.made here gives.2 gives.3 in
-      record {
-        quiet = quiet-then g p r q rest.quiet quiet;
-        made = give-made i in_range b a r q rest.quiet.sees rest.quiet.all rest.made here gives.2 gives.3;
-        below = λ j lt. (
-          give-records i in_range b a r q rest.quiet.sees rest.quiet.all rest.made here gives.2 gives.3 j (λ is. omega (arith, lt, is)) ∙ (rest.below j (omega (arith, lt))).0,
-          give-else i in_range b a r q rest.quiet.sees rest.quiet.all rest.made here gives.2 gives.3 j (λ is. omega (arith, lt, is)) ∙ (rest.below j (omega (arith, lt))).1,
-        );
-        each = go;
-      }
-    where
-      go : (k : ℕ) (d : OnHeap) → k < length (a ∷ afters) → front_of (i + k) q.own.seen ≡ lines_of (slice_index_or (a ∷ afters) k d).value.history
-      go zero d lt =
-          let r = gives.0 in
-          let in_range : IsCell g i = omega (arith, inside) in
-          let rest = all-given (suc i) bs afters p r (omega (arith, same)) (omega (arith, inside)) sees all made hand.1 gives.1 in
-          let still = rest.below i (omega arith) in
-          let here : IsInHand i b r = record { recorded = still.0 ∙ hand.0.recorded; seen = still.1 ∙ hand.0.seen } in
-          let z : i + zero ≡ i = omega arith in
-          ap (λ (n : ℕ). front_of n q.own.seen) z ∙ give-here i in_range b a r q rest.quiet.sees rest.quiet.all rest.made here gives.2 gives.3
-      go (suc k) d lt =
-          let r = gives.0 in
-          let in_range : IsCell g i = omega (arith, inside) in
-          let rest = all-given (suc i) bs afters p r (omega (arith, same)) (omega (arith, inside)) sees all made hand.1 gives.1 in
-          let still = rest.below i (omega arith) in
-          let here : IsInHand i b r = record { recorded = still.0 ∙ hand.0.recorded; seen = still.1 ∙ hand.0.seen } in
-          let z : i + suc k ≡ suc i + k = omega arith in
-          ap (λ (n : ℕ). front_of n q.own.seen) z
-          ∙ (give-else i in_range b a r q rest.quiet.sees rest.quiet.all rest.made here gives.2 gives.3 (suc i + k) (λ is. omega (arith, is)) ∙ rest.each k d (omega (arith, lt)))
+      more-given i (omega (arith, inside)) b a afters p r q rest (record { recorded = still.0 ∙ hand.0.recorded; seen = still.1 ∙ hand.0.seen }) gives.2 gives.3

@@ -54,7 +54,8 @@ pub(crate) fn sync_joined<P: Pool>(
         Ok(synced) => synced,
         Err(SyncFault::NoMemory) => return Err(NoMemory),
         // No line makes a block dirty yet, so nothing is written.
-        Err(SyncFault::PoolFault | SyncFault::PoolFull { .. }) => unreachable!(),
+        Err(SyncFault::PoolFault) => unreachable!(),
+        Err(SyncFault::PoolFull { .. }) => unreachable!(),
     };
     let callers = part_all(alloc, arcs, &mut feeder, numbers)?;
     Ok(AfterSync {

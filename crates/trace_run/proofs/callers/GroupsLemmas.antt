@@ -511,9 +511,9 @@ module _ {C : Type 0} (cache : Cache) (restored : List Restored) (len : ℕ) (im
         party = x.0;
         at = record { kept_at = ap (λ (l : List (List KeptBlock)). get_elem? l n) so.kept ∙ b.at.kept_at; party_at = x.1 };
         come =
-            let then = subst (λ (y : List Op × List Reply). Come n y.0 y.1 b.reads x.0) (λ i. (sym (lines-same n) i, sym (replies-same n) i))
+            let came = subst (λ (y : List Op × List Reply). Come n y.0 y.1 b.reads x.0) (λ i. (sym (lines-same n) i, sym (replies-same n) i))
             (parted-waits cache so.made.lines b.party x.0 x.2 n (acts_of_lines blocks os n (replies_of_caller n os rs)) b.reads b.come.waits, b.come.keeps, b.come.answers) in
-            record { waits = then.0; keeps = then.1; answers = then.2 };
+            record { waits = came.0; keeps = came.1; answers = came.2 };
       }
 
   -- what the feeder has made

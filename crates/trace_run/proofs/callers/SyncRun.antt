@@ -23,7 +23,7 @@ use Rattle.trace_run.proofs.CellLemmas.{opening-at, opening-same}
 
 -- ---- what is said of the cells at each sync may be said otherwise
 
-module _ {P : Type 0} (pools : Ghosts P) (config : Config) (Said So : OfCells) (as : (tick : ℕ) (cells : List OnHeap) (xs : List SyncItem) → Said tick cells xs → So tick cells xs) where
+module _ {P : Type 0} (pools : Ghosts P) (config : Config) (Said So : OfCells) (turned : (tick : ℕ) (cells : List OnHeap) (xs : List SyncItem) → Said tick cells xs → So tick cells xs) where
   sync-as : (t : ℕ) (reply : Reply) (from to : Stand P) → SyncsGroup pools config Said t reply from to → SyncsGroup pools config So t reply from to
   sync-as t reply from to s = record {
     done = s.done;
@@ -32,7 +32,7 @@ module _ {P : Type 0} (pools : Ghosts P) (config : Config) (Said So : OfCells) (
       dues = s.answer.dues;
       dirty = s.answer.dirty;
       fits = s.answer.fits;
-      turns = as t s.answer.cells _ s.answer.turns;
+      turns = turned t s.answer.cells _ s.answer.turns;
       told = s.answer.told;
       outside = s.answer.outside;
       blocks = s.answer.blocks;

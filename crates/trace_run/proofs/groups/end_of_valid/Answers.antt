@@ -1,4 +1,3 @@
-use Rattle.std.proofs.Common.{absurd}
 use Rattle.trace_run.proofs.callers.PlaceLemmas.{fault-not-valid}
 use Rattle.trace_run.proofs.groups.end_of_valid.Goals as goal
 
