@@ -428,12 +428,16 @@ module _ {P : Type 0} (cache : Cache) (restored : List Restored) (pools : Ghosts
 
   -- the sync that ends it may be done
   pub next-sync : (lines : ℕ) × (lines < 2 ^ 32) × MaySync pools lines (stand to was.group was.next)
-  next-sync = (length rs, omega (arith, more, formed.few_ops), record {
-    born = between.may_sync.born;
-    few = between.may_sync.few;
-    aligned = between.may_sync.aligned;
-    inside = omega (arith, between.may_sync.inside, leaves.size, unused.size);
-  })
+  next-sync = (
+    length rs,
+    omega (arith, more, formed.few_ops),
+    record {
+      born = between.may_sync.born;
+      few = between.may_sync.few;
+      aligned = between.may_sync.aligned;
+      inside = omega (arith, between.may_sync.inside, leaves.size, unused.size);
+    },
+  )
 
   pub next-ended : (op : Op) → slice_get os end ≡ Some op → ends_group op ≡ true → (last : Crew OnHeap) (fin : Stand P) (reply : Reply) → DidEndLine cache pools op (stand to was.group was.next) fin new last reply → (so_far all : List Reply) → so_far ≡ rs ++ ss → all ≡ so_far ++ reply ∷ []
       → AreBetween cache restored pools trace start fin all last × (length rs < length all)

@@ -41,7 +41,7 @@ returns-in_default-clause-steps g c = λ start restored between.
     between (let more = c.requires.more in let long = c.args.replies.now.ok.0 in omega (arith, more, long)) unused c.in_ok-crew.ensures.did c.lines_at_once.ensures.pool c.in_default.ensures.lookup.3 c.append.new.replies.items c.in_ok-append.ensures
 
 pub end_line-requires-clause-may : goal.end_line-requires-clause-may
-end_line-requires-clause-may g c =
+end_line-requires-clause-may g c κs within =
     let first : c.len-first.result ≡ length c.args.replies.now.items = let is = c.len-first.ensures in let long = c.args.replies.now.ok.0 in omega (arith, is, long) in
     let unused : IsUnused g.P.Pool c.args.pool.now c.forks.new.pool = record { size = c.in-Ok.ensures.keeps.size; told = c.in-Ok.ensures.keeps.told; reads = c.in-Ok.ensures.unread; faults = c.in-Ok.ensures.unfailed } in
     next-may c.args.arcs.now c.requires.between.1 g.P.Pool c.args.trace.now c.requires.formed c.requires.config c.requires.between.0 (stand c.args.pool.now c.args.syncs.group c.args.syncs.next) c.forks.new.pool c.lines_at_once.new.pool c.args.replies.now.items c.in_ok-crew.answered.items c.args.crew c.in_ok-crew.crew
@@ -49,7 +49,7 @@ end_line-requires-clause-may g c =
     c.requires.between.2 (let more = c.requires.more in let long = c.args.replies.now.ok.0 in omega (arith, more, long)) unused c.in_ok-crew.ensures.did c.lines_at_once.ensures.pool c.requires.rows
 
 pub end_line-requires-clause-sync : goal.end_line-requires-clause-sync
-end_line-requires-clause-sync g c =
+end_line-requires-clause-sync g c κs within =
     let first : c.len-first.result ≡ length c.args.replies.now.items = let is = c.len-first.ensures in let long = c.args.replies.now.ok.0 in omega (arith, is, long) in
     let unused : IsUnused g.P.Pool c.args.pool.now c.forks.new.pool = record { size = c.in-Ok.ensures.keeps.size; told = c.in-Ok.ensures.keeps.told; reads = c.in-Ok.ensures.unread; faults = c.in-Ok.ensures.unfailed } in
     next-sync c.args.arcs.now c.requires.between.1 g.P.Pool c.args.trace.now c.requires.formed c.requires.config c.requires.between.0 (stand c.args.pool.now c.args.syncs.group c.args.syncs.next) c.forks.new.pool c.lines_at_once.new.pool c.args.replies.now.items c.in_ok-crew.answered.items c.args.crew c.in_ok-crew.crew

@@ -38,7 +38,7 @@ all_groups-requires-clause-between g c κs within =
       between-begun c.in_ok-arcs.arcs c.args.restored.now g.P.Pool c.args.trace.now (stand c.args.pool.now 1 c.first_place.result) c.in_ok-arcs.parties.items c.in_ok-crew.crew c.in_ok-crew-2.crew
           c.in_ok-arcs.ensures.parties c.in_ok-crew.ensures.parties c.in_ok-crew.ensures.none many c.in_ok-crew-2.ensures.made c.in_ok-crew-2.ensures.kept
           (last-knows (openings_of c.args.trace.now) c.in_ok-crew.crew.parties.items c.in_ok-crew.crew.feeder (subst (AllKnow (openings_of c.args.trace.now)) c.in_ok-crew.ensures.parties c.in_ok-arcs.ensures.known))
-    (first-may g.P.Pool c.args.pool.now c.first_place.result c.len.result c.first_place.ensures.aligned c.first_place.ensures.inside c.len.ensures),
+          (first-may g.P.Pool c.args.pool.now c.first_place.result c.len.result c.first_place.ensures.aligned c.first_place.ensures.inside c.len.ensures),
     )
 
 pub close_crew-requires-clause-callers : goal.close_crew-requires-clause-callers
