@@ -1,6 +1,7 @@
 pub mod AbsorbLemmas
 pub mod AfterEnds
 pub mod CallerActLemmas
+pub mod DeviceSteps
 pub mod EndLineLemmas
 pub mod GroupCounts
 pub mod GroupLemmas

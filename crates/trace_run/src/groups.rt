@@ -1,5 +1,5 @@
 //! Several callers, group by group: the lines of a group at once, and then the line that ends it.
-ghost use Rattle.std.specs.Prelude.{◌≡◌, ◌⊎◌, ℕ, ◌<◌, ◌≤◌, ◌+◌, ◌%◌, ◌^◌, ◌++◌, ◌∷◌, [], IfOk, List, OnOk, Some, false, length, slice_get, true, vec_len};
+ghost use Rattle.std.specs.Prelude.{◌≡◌, ◌⊎◌, ℕ, ◌<◌, ◌≤◌, ◌+◌, ◌%◌, ◌^◌, ◌++◌, ◌∷◌, [], IfOk, List, OnOk, Option, Some, false, length, slice_get, true, vec_len};
 ghost use Rattle.std.specs.List.{AllByRecursion};
 ghost use Rattle.arc_core.specs.declared.served.Restored.{Restored};
 ghost use Rattle.arc_table.specs.Geometry.{parties_of};
@@ -8,13 +8,16 @@ ghost use Rattle.blk_ptr.specs.Size.{sector};
 ghost use Rattle.trace_text.specs.Grammar.{IsFormed, IsOperation};
 ghost use Rattle.trace_text.specs.declared.op.Op.{Op};
 ghost use Rattle.trace_text.specs.declared.reply.Reply.{Reply};
+ghost use Rattle.trace_run.specs.Devices.{WasLent, lent_in};
 ghost use Rattle.trace_run.specs.callers.Callers.{AreAtStart};
+ghost use Rattle.trace_run.specs.callers.DeviceForks.{HaveReadSoFar, ReadAtOnce, these};
 ghost use Rattle.trace_run.specs.callers.Group.{IsFork, LeavesPool};
 ghost use Rattle.trace_run.specs.callers.Groups.{AreBetween, AreOfCallers, DidEndLine, DidLinesAtOnce, AreDone, KeepNothing, MaySync, StepsOn};
 ghost use Rattle.trace_run.specs.Meeting.{MayGoOn};
 ghost use Rattle.trace_run.specs.Tally.{AreDeclared};
 ghost use Rattle.trace_run.specs.callers.Together.{BeginsGroup, IsFirstPlace, Stand, ends_group, stand};
 
+use crate::device::Device;
 use crate::group::{Worked, forks, run_group};
 use crate::in_order::in_order;
 use crate::kept_blocks::KeptBlocks;
@@ -28,7 +31,7 @@ use std::alloc::Global;
 use std::sync::Wait;
 use std::thread::Threads;
 use trace_text::{Op, Reply, Trace};
-use vdev_io::{Gate, IoFault, Pool};
+use vdev_io::{CacheDev, Gate, IoFault, Pool};
 
 /// Several callers between two groups.
 #[derive(Drop)]
@@ -110,14 +113,16 @@ fn group_end(ops: &[Op], from: usize) -> usize
     ops.len()
 }
 
-/// The callers do the lines of a group at once, each on its fork of the pool. The replies, in the order of the lines, come behind those so far.
-fn lines_at_once<R: Threads + Wait + Sync, C: Keeps + Send, P: Pool, G: Gate>(
+/// The callers do the lines of a group at once, each on its forks of the pool and of the cache device. The replies, in the order of the lines, come
+/// behind those so far.
+fn lines_at_once<R: Threads + Wait + Sync, C: Keeps + Send, P: Pool, D: CacheDev, G: Gate>(
     alloc: Global,
     rt: &R,
     arcs: &Arcs<C>,
     crew: Crew<C>,
     forks: Vec<P>,
     pool: &mut P,
+    device: &mut Device<D>,
     blocks: &[Ptr],
     ops: &[Op],
     first: u32,
@@ -130,7 +135,9 @@ fn lines_at_once<R: Threads + Wait + Sync, C: Keeps + Send, P: Pool, G: Gate>(
     requires callers { AreOfCallers (vec_len crew.parties) ops.now }
     requires few { first + length ops.now < 2 ^ 32 }
     ensures did { IfOk result (λ done. DidLinesAtOnce arcs.now P.Pool blocks.now ops.now pool.old pool.new crew done.0 done.1.items) }
+    ensures read { IfOk result (λ done. ReadAtOnce D.CacheDev blocks.now (vec_len crew.parties) (these ops.now done.1.items) (lent_in device.old) (lent_in device.new)) }
     ensures pool { LeavesPool P.Pool pool.old pool.new }
+    ensures device { WasLent D.CacheDev device.old device.new }
 {
     let Crew {
         feeder,
@@ -138,7 +145,7 @@ fn lines_at_once<R: Threads + Wait + Sync, C: Keeps + Send, P: Pool, G: Gate>(
         kept,
     } = crew;
     let worked = run_group(
-        alloc, rt, arcs, parties, kept, forks, pool, blocks, ops, first, gate,
+        alloc, rt, arcs, parties, kept, forks, pool, device, blocks, ops, first, gate,
     )?;
     let Worked {
         parties,
@@ -263,7 +270,7 @@ fn append(replies: &mut Vec<Reply>, more: Vec<Reply>) -> Result<(), NoMemory>
 
 /// Does the next group of a trace, whose lines before it are answered: its lines at once, and then the line that ends it. False where a fork of
 /// the pool failed: then none of it is begun.
-fn next_group<R: Threads + Wait + Sync, P: Pool, G: Gate>(
+fn next_group<R: Threads + Wait + Sync, P: Pool, D: CacheDev, G: Gate>(
     alloc: Global,
     rt: &R,
     arcs: &Cells,
@@ -272,6 +279,7 @@ fn next_group<R: Threads + Wait + Sync, P: Pool, G: Gate>(
     syncs: Syncs,
     replies: &mut Vec<Reply>,
     pool: &mut P,
+    device: &mut Device<D>,
     gate: &G,
 ) -> Result<(Crew<HeapCell>, Syncs, bool), NoMemory>
     requires formed { IsFormed trace.now }
@@ -281,7 +289,10 @@ fn next_group<R: Threads + Wait + Sync, P: Pool, G: Gate>(
     requires more { vec_len replies.old < length trace.now.ops }
     ensures steps { (start : Stand P) (restored : List Restored) → AreBetween arcs.now restored P.Pool trace.now start (stand pool.old syncs.group syncs.next) replies.old.items crew
         → IfOk result (λ done. StepsOn arcs.now restored P.Pool trace.now start (stand pool.old syncs.group syncs.next) (stand pool.new done.1.group done.1.next) replies.old.items replies.new.items done.2 crew done.0) }
+    ensures read { (start : Option D) → HaveReadSoFar D.CacheDev trace.now replies.old.items start (lent_in device.old)
+        → IfOk result (λ done. HaveReadSoFar D.CacheDev trace.now replies.new.items start (lent_in device.new)) }
     ensures pool { LeavesPool P.Pool pool.old pool.new }
+    ensures device { WasLent D.CacheDev device.old device.new }
 {
     let blocks = trace.blocks.as_slice();
     let ops = trace.ops.as_slice();
@@ -299,6 +310,7 @@ fn next_group<R: Threads + Wait + Sync, P: Pool, G: Gate>(
         crew,
         forks,
         pool,
+        device,
         blocks,
         &ops[first..to],
         first as u32,
@@ -314,7 +326,7 @@ fn next_group<R: Threads + Wait + Sync, P: Pool, G: Gate>(
 }
 
 /// Does all groups of a trace, one after another, up to one for which a fork of the pool fails.
-pub(crate) fn all_groups<R: Threads + Wait + Sync, P: Pool, G: Gate>(
+pub(crate) fn all_groups<R: Threads + Wait + Sync, P: Pool, D: CacheDev, G: Gate>(
     alloc: Global,
     rt: &R,
     arcs: &Cells,
@@ -322,6 +334,7 @@ pub(crate) fn all_groups<R: Threads + Wait + Sync, P: Pool, G: Gate>(
     crew: Crew<HeapCell>,
     syncs: Syncs,
     pool: &mut P,
+    device: &mut Device<D>,
     gate: &G,
 ) -> Result<Came<HeapCell>, NoMemory>
     requires formed { IsFormed trace.now }
@@ -330,7 +343,9 @@ pub(crate) fn all_groups<R: Threads + Wait + Sync, P: Pool, G: Gate>(
     requires between { (restored : List Restored) × AreBetween arcs.now restored P.Pool trace.now (stand pool.old syncs.group syncs.next) (stand pool.old syncs.group syncs.next) [] crew }
     ensures stopped { (restored : List Restored) → AreBetween arcs.now restored P.Pool trace.now (stand pool.old syncs.group syncs.next) (stand pool.old syncs.group syncs.next) [] crew
         → IfOk result (λ came. AreDone arcs.now restored P.Pool trace.now (stand pool.old syncs.group syncs.next) pool.new came.fork_failed came.replies.items came.crew) }
+    ensures read { IfOk result (λ came. HaveReadSoFar D.CacheDev trace.now came.replies.items (lent_in device.old) (lent_in device.new)) }
     ensures pool { LeavesPool P.Pool pool.old pool.new }
+    ensures device { WasLent D.CacheDev device.old device.new }
 {
     let mut crew = crew;
     let mut syncs = syncs;
@@ -345,6 +360,7 @@ pub(crate) fn all_groups<R: Threads + Wait + Sync, P: Pool, G: Gate>(
             syncs,
             &mut replies,
             pool,
+            device,
             gate,
         )?;
         crew = after;
