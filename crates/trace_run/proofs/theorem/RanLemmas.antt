@@ -13,12 +13,13 @@ use Rattle.vdev_io.specs.declared.pool.Pool.{Ghosts}
 use Rattle.trace_run.specs.one_caller.Alone.{RanAlone, ends_in}
 use Rattle.trace_run.specs.Effects.{calls_of_all}
 use Rattle.trace_run.specs.Ends.{ends_of}
+use Rattle.dbuf_cells.specs.Turns.{OnHeap}
 use Rattle.trace_run.specs.callers.GroupRun.{RanTogether}
 use Rattle.trace_run.specs.Outcome.{IsRun}
 use Rattle.trace_run.specs.one_caller.PlainReport.{IsPlainReport}
 use Rattle.trace_run.specs.one_caller.PlainRun.{report_of, report_with}
 use Rattle.trace_run.specs.Restores.{restored_of}
-use Rattle.trace_run.specs.callers.Together.{RunsTogether, WorkInGroups, groups_of, report_of_closed}
+use Rattle.trace_run.specs.callers.Together.{RunsTogether, Stand, StoodThen, WorkInGroups, groups_of, report_of_closed, stand}
 use Rattle.trace_run.proofs.one_caller.AlonePlainLemmas.{plain-alone}
 use Rattle.trace_run.proofs.theorem.ReportLemmas.{report-is}
 use Rattle.trace_run.proofs.RunLemmas.{calls-faults, calls-few, calls-reads, failed-all}
@@ -28,7 +29,7 @@ no-calls : (replies : List Reply) → length replies ≡ 0 → calls_of_all repl
 no-calls [] none = refl
 no-calls (reply ∷ rest) none = absurd (omega (arith, none))
 
-module _ {C P : Type 0} (pools : Ghosts P) (before after : P) (trace : Trace) (rebuilt : Option Rebuilt) (replies : List Reply) (closed : Ended C) where
+module _ {P : Type 0} (pools : Ghosts P) (before after : P) (trace : Trace) (rebuilt : Option Rebuilt) (replies : List Reply) (closed : Ended OnHeap) where
   -- one caller's run
   pub alone-run : IsFormed trace → trace.config.callers ≡ 1 → ((image : List ℕ) → pools.told before ≡ Some image → length image ≡ pools.size before)
       → RanAlone pools before after trace (restored_of rebuilt) replies closed → IsRun pools before after trace false closed (report_of_closed false rebuilt replies closed)
@@ -85,12 +86,12 @@ module _ {C P : Type 0} (pools : Ghosts P) (before after : P) (trace : Trace) (r
     together = λ _. told;
     idle = λ none. let whole = no-fork none fork_failed refl in (
       whole,
-      told.whole whole ∙ subst (λ (os : List Op). WorkInGroups pools trace.config.callers (groups_of os replies) before told.reached) none told.groups,
+      told.whole whole ∙ ap (λ (s : Stand P). s.pool) (subst (λ (os : List Op). WorkInGroups pools trace.config (StoodThen trace closed.cells) (groups_of os replies) (stand before 1 told.place) told.reached) none told.groups),
     );
     failed = ran.failed;
   }
     where
-      told : RunsTogether pools before after trace fork_failed (report_of_closed fork_failed rebuilt replies closed)
+      told : RunsTogether pools before after trace fork_failed closed.cells (report_of_closed fork_failed rebuilt replies closed)
       told = ran.together rebuilt refl
 
       -- no line, no group
