@@ -617,6 +617,31 @@ shard 1 c 8192 p 2048 anon 0 mru 0 mrug 0 mfu 0 mfug 0 l2 0
 count hit 0 miss 0 past 0 pool 0 l2 0 pass 0 set 0
 end 0
 ''']),
+    Row('two callers, with syncs that find no dirty block; a group that a capacity ends has a number too', ['run', '--events'], 512, '''\
+arc 2 1 16 1 4096 0 0
+block 0 512 1 Y
+read 0 1 0 0 0
+txg 2
+cap 5000
+txg 3
+read 1 4 0 0 0
+''', 0, ['''\
+arc 1
+0 ok pool Y -
+1 txg 1 blocks 0 bytes 0
+2 cap 5000
+3 txg 3 blocks 0 bytes 0
+4 ok hit Y -
+e 0 0 miss 0 0 512 1 1
+e 0 1 arrive 0 0 512 1 Y pool
+e 0 2 drop 0 0 512 1
+e 0 3 resize 2 5000
+e 0 4 hit 1 0 512 1 4
+e 0 5 drop 1 0 512 1
+shard 0 c 5000 p 2048 anon 0 mru 0 mrug 0 mfu 512 mfug 0 l2 0
+count hit 1 miss 1 past 0 pool 1 l2 0 pass 0 set 0
+end 0
+''']),
     Row('two callers, one in each group, with a capacity between', ['run', '--events'], 5120, '''\
 arc 2 1 16 1 8192 0 0
 block 0 1024 1 Y
@@ -1314,7 +1339,7 @@ REFUSED = [
     Row('a word that run has not', ['run', '--event'], 512, 'arc 1 1 16 1 4096 0 0\n', 2, ['']),
     Row('no block to read', ['gen', '1', '0', '10'], 512, '', 2, ['']),
     Row('no number of reads', ['gen', '1', '8'], 512, '', 2, ['']),
-    Row('the end of a transaction group, which is not done yet', ['run'], 512, 'arc 1 1 16 1 4096 0 0\ntxg 1\n', 3, ['']),
+    Row('the end of a transaction group of one caller, which is not done yet', ['run'], 512, 'arc 1 1 16 1 4096 0 0\ntxg 1\n', 3, ['']),
     Row('a line that lacks a number', ['run'], 512, 'arc 1 1 16 1 4096 0 0\n# none\nread 0 1 0 0\n', 3, ['']),
 ]
 

@@ -223,6 +223,28 @@ end 6
         ],
     },
     Row {
+        shows: "the forks of the group behind a sync are made anew: the third is the first caller's in the second group",
+        fail: &[],
+        forks: &[&[1], &[], &[0]],
+        trace: "arc 2 1 16 1 8192 0 0
+block 0 512 1 Z
+block 512 512 1 Z
+read 0 1 0 0 0
+txg 2
+read 0 3 1 0 0
+",
+        reports: &[
+            "arc 1
+0 ok pool Z -
+1 txg 1 blocks 0 bytes 0
+2 refused pool
+shard 0 c 8192 p 4096 anon 0 mru 512 mrug 0 mfu 0 mfug 0 l2 0
+count hit 0 miss 2 past 0 pool 2 l2 0 pass 0 set 0
+end 1
+",
+        ],
+    },
+    Row {
         shows: "each group has forks of its own: the third is the first caller's in the second group",
         fail: &[],
         forks: &[&[1], &[], &[0]],

@@ -189,4 +189,5 @@ to_answer pool_len image blocks caller earlier replies kept (ops.Drop n y) (Refu
     let here = tally.each y in rw same (answer.0, omega (arith, here, answer.1))
 to_answer pool_len image blocks caller earlier replies kept (ops.Drop n y) (Refused other) tally same answer = answer
 to_answer pool_len image blocks caller earlier replies kept (ops.Drop n y) other tally same answer = answer
+to_answer pool_len image blocks caller earlier replies kept (ops.Txg t) r tally same answer = absurd answer
 to_answer pool_len image blocks caller earlier replies kept other r tally same answer = answer

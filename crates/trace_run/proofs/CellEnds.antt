@@ -54,11 +54,11 @@ use Rattle.trace_run.proofs.callers.MeetLemmas.{starts-then}
 
 -- ---- a cell to which nothing was done
 
-no-list : {A B : Type 0} (f : A → B) (xs : List A) → map f xs ≡ [] → xs ≡ []
+pub no-list : {A B : Type 0} (f : A → B) (xs : List A) → map f xs ≡ [] → xs ≡ []
 no-list f [] is = refl
 no-list f (x ∷ xs) is = cc
 
-no-front : (xs : List (List ℕ)) → map line.Entry xs ≡ [] → xs ≡ []
+pub no-front : (xs : List (List ℕ)) → map line.Entry xs ≡ [] → xs ≡ []
 no-front xs is = no-list line.Entry xs is
 
 opened-uncached : (ms : List Mapping) → filter (λ (d : OutlineDbuf). d.cached) (map outline_dbuf (map opened ms)) ≡ []
@@ -71,7 +71,7 @@ none-cached b sound none =
     let legal = subst (λ (h : List CellEvent). Leads (opening_cell b.value.limit b.value.opening) h sound.bases (plain_cell sound.evicting b.value)) none sound.history.legal in
     ap (λ (ds : List PlainDbuf). filter (λ (d : OutlineDbuf). d.cached) (map outline_dbuf ds)) (ap (λ (c : PlainCell). c.dbufs) legal.1) ∙ opened-uncached b.value.opening
 
-nothing-from : {A : Type 0} (xs ys : List A) → xs ≡ [] → IsPermutation xs ys → ys ≡ []
+pub nothing-from : {A : Type 0} (xs ys : List A) → xs ≡ [] → IsPermutation xs ys → ys ≡ []
 nothing-from xs ys none same = nil_from_length ys (length_permutation xs ys same ∙ ap length none)
 
 -- ---- what a party with every number has seen, while it makes no event of a shard
@@ -129,7 +129,7 @@ module _ (g : Config) where
   weaker-all [] s all = tt
   weaker-all (k ∷ ks) s all = (weaker-own k.number k.view.mine s all.0, weaker-all ks s all.1)
 
-  weaker : (p : PartyPlace) → HasSeenItsOwn g p → HasSeenBy (IsNumberOrCell g) g p
+  pub weaker : (p : PartyPlace) → HasSeenItsOwn g p → HasSeenBy (IsNumberOrCell g) g p
   weaker p own = record { own = weaker-own p.number p.own.mine p.own.seen own.own; joined = weaker-all p.joined p.own.seen own.joined }
 
 module _ (g : Config) (valid : IsConfig g) where

@@ -46,7 +46,7 @@ events-same (x ∷ []) e is = ap (λ (z : CellEvent). z ∷ []) (sym (events-rea
 mappings-same : (a b : List Mapping) → mapping_numbers a ≡ mapping_numbers b → a ≡ b
 mappings-same a b is = sym (mappings-read a) ∙ (ap (λ (ns : List ℕ). mappings_in (length ns) ns) is ∙ mappings-read b)
 
-opening-same : (l k : ℕ) (a b : List Mapping) → opening_numbers l a ≡ opening_numbers k b → (l ≡ k) × (a ≡ b)
+pub opening-same : (l k : ℕ) (a b : List Mapping) → opening_numbers l a ≡ opening_numbers k b → (l ≡ k) × (a ≡ b)
 opening-same l k a b is = (limits, mappings-same a b maps)
   where
     limits : l ≡ k
@@ -56,7 +56,7 @@ opening-same l k a b is = (limits, mappings-same a b maps)
     maps = cc
 
 -- the opening of one cell among all
-opening-at : (f : ℕ → List ℕ) (n count i : ℕ) → i < count → slice_index_or (map f (range_with_len n count)) i [] ≡ f (n + i)
+pub opening-at : (f : ℕ → List ℕ) (n count i : ℕ) → i < count → slice_index_or (map f (range_with_len n count)) i [] ≡ f (n + i)
 opening-at f n zero i below = absurd (omega (arith, below))
 opening-at f n (suc count) zero below = ap f (let e : n ≡ n + 0 = omega arith in e)
 opening-at f n (suc count) (suc i) below = opening-at f (n + 1) count i (omega (arith, below)) ∙ ap f (let e : (n + 1) + i ≡ n + suc i = omega arith in e)

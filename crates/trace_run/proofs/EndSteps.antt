@@ -29,7 +29,7 @@ module _ (cache : Cache) (p : PartyPlace) (others : List PartyPlace) (stands : S
   abbrev g : Config
   g = cache.config
 
-  have : HaveJoined dbuf_meanings cache p others q
+  pub have : HaveJoined dbuf_meanings cache p others q
   have = joined dbuf_meanings cache p [] others stands alone apart everyone count differ q joins
 
   pub q-stands : Stands cache q []

@@ -24,6 +24,8 @@ pub mod ResizeLemmas
 pub mod RestoreLemmas
 pub mod RunLemmas
 pub mod ServeLemmas
+pub mod SyncJoined
+pub mod SyncSteps
 pub mod TakenLemmas
 pub mod one_caller
 pub mod callers

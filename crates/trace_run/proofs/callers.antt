@@ -2,13 +2,16 @@ pub mod AbsorbLemmas
 pub mod AfterEnds
 pub mod CallerActLemmas
 pub mod DeviceSteps
+pub mod EndLineLemmas
 pub mod GroupCounts
 pub mod GroupLemmas
 pub mod GroupRunLemmas
 pub mod GroupsLemmas
 pub mod InOrderLemmas
 pub mod MeetLemmas
+pub mod PlaceLemmas
 pub mod StepLemmas
+pub mod SyncRun
 pub mod TogetherLemmas
 pub mod TurnLemmas
 pub mod TurningLemmas

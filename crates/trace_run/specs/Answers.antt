@@ -5,7 +5,7 @@ use Rattle.blk_ptr.specs.Key.{IsValid, IsFirstFault}
 use Rattle.trace_text.specs.declared.op.Op.{Op}
 use Rattle.trace_text.specs.declared.op.Op.TheVariants as ops
 use Rattle.trace_text.specs.declared.reply.Reply.{Reply}
-use Rattle.trace_text.specs.declared.reply.Reply.TheVariants.{Read, Kept, Dropped, Capped, Refused}
+use Rattle.trace_text.specs.declared.reply.Reply.TheVariants.{Read, Kept, Dropped, Capped, Synced, Refused}
 use Rattle.trace_text.specs.declared.reply.Refusal.{Refusal}
 use Rattle.trace_text.specs.declared.reply.Refusal.TheVariants.{PoolFault, Mismatch, Key, Range, NoHold}
 use Rattle.dbuf_state.specs.declared.window.Window.{Window}
@@ -105,6 +105,7 @@ Answers pool_len image blocks earlier replied (ops.Hold n t x) reply =
 Answers pool_len image blocks earlier replied (ops.Drop n x) reply =
     AnswersDrop (kept_reads n x earlier replied) (dropped_reads n x earlier replied) x reply
 Answers pool_len image blocks earlier replied (ops.Cap c) reply = reply ≡ Capped c
+Answers pool_len image blocks earlier replied (ops.Txg t) reply = (group blocks bytes : ℕ) × (reply ≡ Synced group blocks bytes)
 Answers pool_len image blocks earlier replied other reply = ⊥
 
 -- each operation has its answer, in their order

@@ -24,6 +24,7 @@ pub mod Restores
 pub mod States
 pub mod Status
 pub mod Stream
+pub mod Syncing
 pub mod Tally
 pub mod Words
 pub mod one_caller

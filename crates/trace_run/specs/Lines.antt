@@ -17,17 +17,18 @@ caller_of (ops.Hold n t x) = Some n
 caller_of (ops.Drop n x) = Some n
 caller_of other = None
 
--- the operation is none that the program does yet
-abbrev pub is_undone : Op → Bool
-is_undone (ops.Read n t x window) = false
-is_undone (ops.Hold n t x) = false
-is_undone (ops.Drop n x) = false
-is_undone (ops.Cap c) = false
-is_undone other = true
+-- the operation is none that the program does yet, for so many callers
+abbrev pub is_undone : (callers : ℕ) → Op → Bool
+is_undone callers (ops.Read n t x window) = false
+is_undone callers (ops.Hold n t x) = false
+is_undone callers (ops.Drop n x) = false
+is_undone callers (ops.Cap c) = false
+is_undone callers (ops.Txg t) = callers == 1
+is_undone callers other = true
 
 -- an operation of the trace is none that the program does yet
 abbrev pub has_undone : Trace → Bool
-has_undone trace = list_any is_undone trace.ops
+has_undone trace = list_any (is_undone trace.config.callers) trace.ops
 
 -- the operation is this caller's
 abbrev pub is_of_caller : ℕ → Op → Bool

@@ -81,7 +81,7 @@ pub record IsBadTrace (before after : StreamState) (line : ℕ) (kind : Kind) : 
 -- Each operation that was answered has its answer, and the histories, which are those of the closed cache, explain the replies and the reads of
 -- the pool; its faults rose by one for each reply that says so, and by one more where a fork failed, where each count had room. With one
 -- caller the report is a plain function; with several, each reads the pool through forks of its own, one for each group.
-pub record IsRun {C P D : Type 0} (pool : Ghosts P) (device : Devices D) (before after : P) (lent back : Option D) (trace : Trace) (fork_failed : Bool) (closed : Ended C) (report : Report) : Type 0 where
+pub record IsRun {P D : Type 0} (pool : Ghosts P) (device : Devices D) (before after : P) (lent back : Option D) (trace : Trace) (fork_failed : Bool) (closed : Ended OnHeap) (report : Report) : Type 0 where
   pub answers : AnswersAll (pool.size before) (pool.told before) trace.blocks (answered_ops trace fork_failed report.replies) report.replies
   pub explained : Explain trace (restored_of report.rebuilt) report.replies report.ends report.histories
   pub tells : TellsClosed closed report
@@ -92,7 +92,7 @@ pub record IsRun {C P D : Type 0} (pool : Ghosts P) (device : Devices D) (before
   pub reads : pool.reads before < 2 ^ 63 → pool.reads after ≡ pool.reads before + sum_by pool_reads report.histories
   pub faults : pool.faults before < 2 ^ 63 → pool.faults after ≡ pool.faults before + faults_told fork_failed report.replies
   pub alone : trace.config.callers ≡ 1 → (fork_failed ≡ false) × RunsAlone pool device before after lent back trace report
-  pub together : 2 ≤ trace.config.callers → RunsTogether pool before after trace fork_failed report
+  pub together : 2 ≤ trace.config.callers → RunsTogether pool before after trace fork_failed closed.cells report
   -- a trace without an operation has no work: no fork is made for it, and the pool is as it was
   pub idle : trace.ops ≡ [] → (fork_failed ≡ false) × (after ≡ before)
   -- a fork failed as a group began, which has no reply then

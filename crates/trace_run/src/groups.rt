@@ -1,8 +1,10 @@
 //! Several callers, group by group: the lines of a group at once, and then the line that ends it.
-ghost use Rattle.std.specs.Prelude.{◌≡◌, ℕ, ◌<◌, ◌≤◌, ◌+◌, ◌^◌, ◌++◌, ◌∷◌, [], IfOk, List, OnOk, Option, Some, false, length, slice_get, true, vec_len};
+ghost use Rattle.std.specs.Prelude.{◌≡◌, ◌⊎◌, ℕ, ◌<◌, ◌≤◌, ◌+◌, ◌%◌, ◌^◌, ◌++◌, ◌∷◌, [], IfOk, List, OnOk, Option, Some, false, length, slice_get, true, vec_len};
 ghost use Rattle.std.specs.List.{AllByRecursion};
 ghost use Rattle.arc_core.specs.declared.served.Restored.{Restored};
 ghost use Rattle.arc_table.specs.Geometry.{parties_of};
+ghost use Rattle.blk_ptr.specs.Key.{IsValid, end_of};
+ghost use Rattle.blk_ptr.specs.Size.{sector};
 ghost use Rattle.trace_text.specs.Grammar.{IsFormed, IsOperation};
 ghost use Rattle.trace_text.specs.declared.op.Op.{Op};
 ghost use Rattle.trace_text.specs.declared.reply.Reply.{Reply};
@@ -10,19 +12,21 @@ ghost use Rattle.trace_run.specs.Devices.{WasLent, lent_in};
 ghost use Rattle.trace_run.specs.callers.Callers.{AreAtStart};
 ghost use Rattle.trace_run.specs.callers.DeviceForks.{HaveReadSoFar, ReadAtOnce, these};
 ghost use Rattle.trace_run.specs.callers.Group.{IsFork, LeavesPool};
-ghost use Rattle.trace_run.specs.callers.Groups.{AreBetween, AreOfCallers, DidEndLine, DidLinesAtOnce, AreDone, KeepNothing, StepsOn};
+ghost use Rattle.trace_run.specs.callers.Groups.{AreBetween, AreOfCallers, DidEndLine, DidLinesAtOnce, AreDone, KeepNothing, MaySync, StepsOn};
 ghost use Rattle.trace_run.specs.Meeting.{MayGoOn};
 ghost use Rattle.trace_run.specs.Tally.{AreDeclared};
-ghost use Rattle.trace_run.specs.callers.Together.{BeginsGroup, ends_group};
+ghost use Rattle.trace_run.specs.callers.Together.{BeginsGroup, IsFirstPlace, Stand, ends_group, stand};
 
 use crate::device::Device;
 use crate::group::{Worked, forks, run_group};
 use crate::in_order::in_order;
 use crate::kept_blocks::KeptBlocks;
 use crate::resizing::resize_joined;
+use crate::syncing::{AfterSync, sync_joined};
 use arc_core::Keeps;
 use arc_table::{Arcs, Party};
 use blk_ptr::{NoMemory, Ptr};
+use dbuf_cells::{Cells, HeapCell};
 use std::alloc::Global;
 use std::sync::Wait;
 use std::thread::Threads;
@@ -157,35 +161,101 @@ fn lines_at_once<R: Threads + Wait + Sync, C: Keeps + Send, P: Pool, D: CacheDev
     Ok((crew, replies))
 }
 
+/// Where the syncs of a run stand.
+#[derive(Clone, Copy)]
+pub(crate) struct Syncs {
+    /// The number of the next group, counted from 1: the birth of the blocks that its sync writes.
+    pub(crate) group: u64,
+    /// The place from which it writes.
+    pub(crate) next: u64,
+}
+
+/// The first byte behind a block whose key names one of a pool of this length; 0 where it names none.
+fn end_of_valid(ptr: &Ptr, pool_len: u64) -> u64
+    ensures valid { IsValid pool_len ptr.now.key → result ≡ end_of ptr.now.key }
+    ensures which { (result ≡ 0) ⊎ (IsValid pool_len ptr.now.key × (result ≡ end_of ptr.now.key)) }
+{
+    match ptr.key.check(pool_len) {
+        Ok(key) => key.offset + key.size,
+        Err(_) => 0,
+    }
+}
+
+/// The place of the first sync: behind the declared blocks whose keys name a block of a pool of this length.
+pub(crate) fn first_place(blocks: &[Ptr], pool_len: u64) -> u64
+    ensures place { IsFirstPlace pool_len blocks.now result }
+    ensures aligned { result % sector ≡ 0 }
+    ensures inside { result ≤ pool_len }
+{
+    let mut place = 0;
+    for ptr in blocks {
+        place = place.max(end_of_valid(ptr, pool_len));
+    }
+    place
+}
+
 /// Does the line that ends a group, once all callers have come back.
-fn end_line<C: Keeps>(
+fn end_line<P: Pool>(
     alloc: Global,
     rt: &impl Wait,
-    arcs: &Arcs<C>,
-    crew: Crew<C>,
+    arcs: &Cells,
+    crew: Crew<HeapCell>,
     op: &Op,
-) -> Result<(Crew<C>, Reply), NoMemory>
+    syncs: Syncs,
+    pool: &mut P,
+) -> Result<(Crew<HeapCell>, Syncs, Reply), NoMemory>
     requires may { MayGoOn arcs.now [] crew.feeder crew.parties.items }
     requires feeder { crew.feeder.number ≡ arcs.now.config.callers }
     requires possible { IsOperation arcs.now.config.callers arcs.now.config.shards op.now }
-    ensures { IfOk result (λ done. DidEndLine arcs.now op.now crew done.0 done.1) }
+    requires sync { (lines : ℕ) × (lines < 2 ^ 32) × MaySync P.Pool lines (stand pool.old syncs.group syncs.next) }
+    ensures did { IfOk result (λ done. DidEndLine arcs.now P.Pool op.now (stand pool.old syncs.group syncs.next) (stand pool.new done.1.group done.1.next) crew done.0 done.2) }
+    ensures pool { LeavesPool P.Pool pool.old pool.new }
 {
     let Crew {
         feeder,
         parties,
         kept,
     } = crew;
-    // A trace with a line that is not done yet is refused before it is run.
-    let Op::Cap { c } = *op else {
-        return Err(NoMemory);
-    };
-    let (feeder, parties) = resize_joined(alloc, rt, arcs, feeder, parties, c)?;
-    let crew = Crew {
-        feeder,
-        parties,
-        kept,
-    };
-    Ok((crew, Reply::Capped { c }))
+    let Syncs { group, next } = syncs;
+    match *op {
+        Op::Cap { c } => {
+            let (feeder, parties) = resize_joined(alloc, rt, arcs, feeder, parties, c)?;
+            let crew = Crew {
+                feeder,
+                parties,
+                kept,
+            };
+            let syncs = Syncs {
+                group: group + 1,
+                next,
+            };
+            Ok((crew, syncs, Reply::Capped { c }))
+        }
+        Op::Txg { t } => {
+            let AfterSync {
+                feeder,
+                callers,
+                synced,
+            } = sync_joined(alloc, rt, arcs, feeder, parties, group, t, pool, next)?;
+            let crew = Crew {
+                feeder,
+                parties: callers,
+                kept,
+            };
+            let syncs = Syncs {
+                group: group + 1,
+                next: synced.next,
+            };
+            let reply = Reply::Synced {
+                group,
+                blocks: synced.blocks,
+                bytes: synced.bytes,
+            };
+            Ok((crew, syncs, reply))
+        }
+        // A trace with a line that is not done yet is refused before it is run.
+        _ => Err(NoMemory),
+    }
 }
 
 /// Puts replies behind others.
@@ -200,24 +270,25 @@ fn append(replies: &mut Vec<Reply>, more: Vec<Reply>) -> Result<(), NoMemory>
 
 /// Does the next group of a trace, whose lines before it are answered: its lines at once, and then the line that ends it. False where a fork of
 /// the pool failed: then none of it is begun.
-fn next_group<R: Threads + Wait + Sync, C: Keeps + Send, P: Pool, D: CacheDev, G: Gate>(
+fn next_group<R: Threads + Wait + Sync, P: Pool, D: CacheDev, G: Gate>(
     alloc: Global,
     rt: &R,
-    arcs: &Arcs<C>,
+    arcs: &Cells,
     trace: &Trace,
-    crew: Crew<C>,
+    crew: Crew<HeapCell>,
+    syncs: Syncs,
     replies: &mut Vec<Reply>,
     pool: &mut P,
     device: &mut Device<D>,
     gate: &G,
-) -> Result<(Crew<C>, bool), NoMemory>
+) -> Result<(Crew<HeapCell>, Syncs, bool), NoMemory>
     requires formed { IsFormed trace.now }
     requires config { arcs.now.config ≡ trace.now.config }
     requires rows { arcs.now.row.parties ≡ parties_of arcs.now.config }
-    requires between { (start : P) × (restored : List Restored) × AreBetween arcs.now restored P.Pool trace.now start pool.old replies.old.items crew }
+    requires between { (start : Stand P) × (restored : List Restored) × AreBetween arcs.now restored P.Pool trace.now start (stand pool.old syncs.group syncs.next) replies.old.items crew }
     requires more { vec_len replies.old < length trace.now.ops }
-    ensures steps { (start : P) (restored : List Restored) → AreBetween arcs.now restored P.Pool trace.now start pool.old replies.old.items crew
-        → IfOk result (λ done. StepsOn arcs.now restored P.Pool trace.now start pool.old pool.new replies.old.items replies.new.items done.1 crew done.0) }
+    ensures steps { (start : Stand P) (restored : List Restored) → AreBetween arcs.now restored P.Pool trace.now start (stand pool.old syncs.group syncs.next) replies.old.items crew
+        → IfOk result (λ done. StepsOn arcs.now restored P.Pool trace.now start (stand pool.old syncs.group syncs.next) (stand pool.new done.1.group done.1.next) replies.old.items replies.new.items done.2 crew done.0) }
     ensures read { (start : Option D) → HaveReadSoFar D.CacheDev trace.now replies.old.items start (lent_in device.old)
         → IfOk result (λ done. HaveReadSoFar D.CacheDev trace.now replies.new.items start (lent_in device.new)) }
     ensures pool { LeavesPool P.Pool pool.old pool.new }
@@ -229,7 +300,7 @@ fn next_group<R: Threads + Wait + Sync, C: Keeps + Send, P: Pool, D: CacheDev, G
     let to = group_end(ops, first);
     let forks = match forks(alloc, pool, trace.config.callers) {
         Ok(forks) => forks,
-        Err(IoFault::Failed) => return Ok((crew, false)),
+        Err(IoFault::Failed) => return Ok((crew, syncs, false)),
         Err(IoFault::NoMemory) => return Err(NoMemory),
     };
     let (crew, answered) = lines_at_once(
@@ -247,48 +318,53 @@ fn next_group<R: Threads + Wait + Sync, C: Keeps + Send, P: Pool, D: CacheDev, G
     )?;
     append(replies, answered)?;
     let Some(op) = ops.get(to) else {
-        return Ok((crew, true));
+        return Ok((crew, syncs, true));
     };
-    let (crew, reply) = end_line(alloc, rt, arcs, crew, op)?;
+    let (crew, syncs, reply) = end_line(alloc, rt, arcs, crew, op, syncs, pool)?;
     replies.push(reply)?;
-    Ok((crew, true))
+    Ok((crew, syncs, true))
 }
 
 /// Does all groups of a trace, one after another, up to one for which a fork of the pool fails.
-pub(crate) fn all_groups<R: Threads + Wait + Sync, C: Keeps + Send, P: Pool, D: CacheDev, G: Gate>(
+pub(crate) fn all_groups<R: Threads + Wait + Sync, P: Pool, D: CacheDev, G: Gate>(
     alloc: Global,
     rt: &R,
-    arcs: &Arcs<C>,
+    arcs: &Cells,
     trace: &Trace,
-    crew: Crew<C>,
+    crew: Crew<HeapCell>,
+    syncs: Syncs,
     pool: &mut P,
     device: &mut Device<D>,
     gate: &G,
-) -> Result<Came<C>, NoMemory>
+) -> Result<Came<HeapCell>, NoMemory>
     requires formed { IsFormed trace.now }
     requires config { arcs.now.config ≡ trace.now.config }
     requires rows { arcs.now.row.parties ≡ parties_of arcs.now.config }
-    requires between { (restored : List Restored) × AreBetween arcs.now restored P.Pool trace.now pool.old pool.old [] crew }
-    ensures stopped { (restored : List Restored) → AreBetween arcs.now restored P.Pool trace.now pool.old pool.old [] crew → IfOk result (λ came. AreDone arcs.now restored P.Pool trace.now pool.old pool.new came.fork_failed came.replies.items came.crew) }
+    requires between { (restored : List Restored) × AreBetween arcs.now restored P.Pool trace.now (stand pool.old syncs.group syncs.next) (stand pool.old syncs.group syncs.next) [] crew }
+    ensures stopped { (restored : List Restored) → AreBetween arcs.now restored P.Pool trace.now (stand pool.old syncs.group syncs.next) (stand pool.old syncs.group syncs.next) [] crew
+        → IfOk result (λ came. AreDone arcs.now restored P.Pool trace.now (stand pool.old syncs.group syncs.next) pool.new came.fork_failed came.replies.items came.crew) }
     ensures read { IfOk result (λ came. HaveReadSoFar D.CacheDev trace.now came.replies.items (lent_in device.old) (lent_in device.new)) }
     ensures pool { LeavesPool P.Pool pool.old pool.new }
     ensures device { WasLent D.CacheDev device.old device.new }
 {
     let mut crew = crew;
+    let mut syncs = syncs;
     let mut replies = Vec::new(alloc);
     while replies.len() < trace.ops.as_slice().len() {
-        let (after, done) = next_group(
+        let (after, later, done) = next_group(
             alloc,
             rt,
             arcs,
             trace,
             crew,
+            syncs,
             &mut replies,
             pool,
             device,
             gate,
         )?;
         crew = after;
+        syncs = later;
         if !done {
             return Ok(Came {
                 crew,

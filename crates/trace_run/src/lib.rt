@@ -22,6 +22,7 @@ mod restoring;
 mod run_trace;
 mod status;
 mod stream;
+mod syncing;
 mod together;
 mod top;
 mod undone;

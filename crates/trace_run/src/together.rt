@@ -20,7 +20,7 @@ ghost use Rattle.trace_run.specs.Restores.{restores_in};
 use crate::cells::end_crew;
 use crate::device::Device;
 use crate::ending::all_give_back;
-use crate::groups::{Came, Crew, all_groups, crew_of};
+use crate::groups::{Came, Crew, Syncs, all_groups, crew_of, first_place};
 use crate::opening::open_cache;
 use crate::ran::Ran;
 use crate::restoring::restore_joined;
@@ -114,11 +114,15 @@ pub(crate) fn run_together<R: Threads + Wait + Sync, P: Pool, D: CacheDev, G: Ga
     let (arcs, parties) = open_cache(alloc, trace)?;
     let crew = crew_of(alloc, parties)?;
     let crew = restore_crew(alloc, rt, &arcs, crew, restored)?;
+    let syncs = Syncs {
+        group: 1,
+        next: first_place(trace.blocks.as_slice(), pool.len()),
+    };
     let Came {
         crew,
         replies,
         fork_failed,
-    } = all_groups(alloc, rt, &arcs, trace, crew, pool, device, gate)?;
+    } = all_groups(alloc, rt, &arcs, trace, crew, syncs, pool, device, gate)?;
     let closed = close_crew(alloc, rt, arcs, crew)?;
     Ok(Ran {
         replies,

@@ -1,5 +1,5 @@
 -- One group more of several callers: what they asked the cache device by then.
-use Rattle.std.proofs.Common.{◌≡◌, ℕ, suc, ◌+◌, ◌<◌, ◌≤◌, true, List, [], ◌∷◌, ◌++◌, Option, Some, length, take, drop, refl, sym, ap, ◌∙◌, subst, arith, append_assoc, length-append}
+use Rattle.std.proofs.Common.{◌≡◌, ℕ, suc, ◌+◌, ◌<◌, ◌≤◌, true, List, [], ◌∷◌, ◌++◌, Option, Some, None, length, take, drop, refl, sym, ap, ◌∙◌, subst, arith, append_assoc, length-append}
 use Rattle.std.specs.Prelude.{filter, slice_get, slice_range}
 use Rattle.std.proofs.lemmas.List.{length-take-le, take-append-drop}
 use Rattle.std.proofs.lemmas.Option.{get_or_from_slice_get, slice_get_within}
@@ -19,7 +19,7 @@ use Rattle.trace_run.specs.Lines.{is_of_caller}
 use Rattle.trace_run.specs.callers.DeviceForks.{AllAsk, AllAskIn, HaveRead, HaveReadSoFar, ReadAtOnce, ReadInGroups, these}
 use Rattle.trace_run.specs.callers.Groups.{AreOfCallers}
 use Rattle.trace_run.specs.callers.InOrder.{AreInOrder}
-use Rattle.trace_run.specs.callers.Together.{BeginsGroup, Lines, ends_group, groups_of, replies_of_caller}
+use Rattle.trace_run.specs.callers.Together.{BeginsGroup, EndLine, Lines, ends_group, groups_of, replies_of_caller}
 use Rattle.trace_run.proofs.DeviceLemmas.{lent-back, short-same, usable-kept, usable-lent}
 use Rattle.trace_run.proofs.callers.GroupsLemmas.{group-ended, group-last, groups-append, groups-prefix, whole-of}
 use Rattle.trace_run.proofs.callers.StepLemmas.{range-here, range-length}
@@ -47,6 +47,18 @@ module _ {D : Type 0} (devices : Ghosts D) (blocks : List Ptr) where
     given = h.given;
     done = h.done;
     asked = asked-in-order qs ss 0 h.forks h.done rss h.asked (λ k m rs is at. ordered.each m rs (let same : m ≡ k = omega (arith, is) in ap (λ (j : ℕ). get_elem? rss j) same ∙ at));
+    back = h.back;
+  }
+
+  -- whatever line ends them
+  pub with-end : (qs : List Op) (ss : List Reply) (end : Option EndLine) (callers : ℕ) (old new : Option D) → ReadAtOnce devices blocks callers (these qs ss) old new → ReadAtOnce devices blocks callers (record { ops = qs; replies = ss; end = end }) old new
+  with-end qs ss end callers old new h = record {
+    forks = h.forks;
+    count = h.count;
+    lent = h.lent;
+    given = h.given;
+    done = h.done;
+    asked = h.asked;
     back = h.back;
   }
 
@@ -80,7 +92,7 @@ module _ (trace : Trace) (callers : ℕ) (rs ss : List Reply) (qs : List Op) (fe
 
   -- a line ends them
   pub ended-groups : (op : Op) (reply : Reply) → slice_get trace.ops (length rs + length qs) ≡ Some op → ends_group op ≡ true
-      → groups_of (take (length ((rs ++ ss) ++ reply ∷ [])) trace.ops) ((rs ++ ss) ++ reply ∷ []) ≡ groups_of os rs ++ these qs ss ∷ []
+      → groups_of (take (length ((rs ++ ss) ++ reply ∷ [])) trace.ops) ((rs ++ ss) ++ reply ∷ []) ≡ groups_of os rs ++ record { ops = qs; replies = ss; end = Some (record { op = op; reply = reply }) } ∷ []
   ended-groups op reply at ends =
       let all-long : length ((rs ++ ss) ++ reply ∷ []) ≡ suc (length rs + length qs) = omega (arith, length-append (rs ++ ss) (reply ∷ []), both-long) in
       let room : length rs + length qs < length trace.ops = slice_get_within trace.ops (length rs + length qs) op at in
@@ -124,20 +136,21 @@ module _ {D : Type 0} (devices : Ghosts D) (trace : Trace) (rs ss : List Reply) 
   once-these : ReadAtOnce devices trace.blocks trace.config.callers (these qs ss) was to
   once-these = subst (λ (x : List Ptr × ℕ × List Op). ReadAtOnce devices x.0 x.1 (these x.2 ss) was to) (λ i. (is_bs i, is_callers i, qs-are i)) once
 
-  grown : ReadInGroups devices trace.blocks trace.config.callers (groups_of (take (length rs) trace.ops) rs ++ these qs ss ∷ []) start to
-  grown = groups-more devices trace.blocks trace.config.callers (groups_of (take (length rs) trace.ops) rs) (these qs ss) start was to so_far once-these
+  grown : (end : Option EndLine) → ReadInGroups devices trace.blocks trace.config.callers (groups_of (take (length rs) trace.ops) rs ++ record { ops = qs; replies = ss; end = end } ∷ []) start to
+  grown end = groups-more devices trace.blocks trace.config.callers (groups_of (take (length rs) trace.ops) rs) (record { ops = qs; replies = ss; end = end }) start was to so_far
+      (with-end devices trace.blocks qs ss end trace.config.callers was to once-these)
 
   pub read-last : length os ≤ end → length rs < length trace.ops → (all : List Reply) → all ≡ rs ++ ss → HaveReadSoFar devices trace all start to
   read-last last more all is =
       let longer : length os ≡ length trace.ops = ap length is_os in
       subst (λ (l : List Reply). HaveReadSoFar devices trace l start to) (sym is)
-      (subst (λ (gs : List Lines). ReadInGroups devices trace.blocks trace.config.callers gs start to) (sym (last-groups trace callers rs ss qs few begins same-these own-these here (omega (arith, ends-at, last, more, longer)))) grown)
+      (subst (λ (gs : List Lines). ReadInGroups devices trace.blocks trace.config.callers gs start to) (sym (last-groups trace callers rs ss qs few begins same-these own-these here (omega (arith, ends-at, last, more, longer)))) (grown None))
 
   pub read-ended : (op : Op) → slice_get os end ≡ Some op → ends_group op ≡ true → (reply : Reply) → (mid all : List Reply) → mid ≡ rs ++ ss → all ≡ mid ++ reply ∷ [] → HaveReadSoFar devices trace all start to
   read-ended op at ends reply mid all is_mid is =
       let there : slice_get trace.ops (length rs + length qs) ≡ Some op = ap (slice_get trace.ops) ends-at ∙ (ap (λ (l : List Op). slice_get l end) (sym is_os) ∙ at) in
       subst (λ (l : List Reply). HaveReadSoFar devices trace l start to) (sym (is ∙ ap (λ (l : List Reply). l ++ reply ∷ []) is_mid))
-      (subst (λ (gs : List Lines). ReadInGroups devices trace.blocks trace.config.callers gs start to) (sym (ended-groups trace callers rs ss qs few begins same-these own-these here op reply there ends)) grown)
+      (subst (λ (gs : List Lines). ReadInGroups devices trace.blocks trace.config.callers gs start to) (sym (ended-groups trace callers rs ss qs few begins same-these own-these here op reply there ends)) (grown (Some (record { op = op; reply = reply }))))
 
 -- what all lines that were answered did, in the groups of the trace
 pub read-whole : {D : Type 0} (devices : Ghosts D) (trace : Trace) (rs : List Reply) → length rs ≤ length trace.ops → (start now : Option D) → HaveReadSoFar devices trace rs start now

@@ -45,11 +45,14 @@ use Rattle.trace_run.specs.Acts.{acts_of_all, acts_of_caller, acts_of_callers, a
 use Rattle.trace_run.specs.one_caller.Alone.{ends_in, histories_of}
 use Rattle.trace_run.specs.Answers.{AnswersAll, is_pool_fault}
 use Rattle.trace_run.specs.callers.Callers.{AreAtStart}
-use Rattle.trace_run.specs.CellEnds.{end_entry}
+use Rattle.dbuf_cells.specs.Turns.{OnHeap}
+use Rattle.trace_run.specs.Openings.{openings_of}
+use Rattle.trace_run.proofs.callers.SyncRun.{fresh-then, in-groups-as}
+use Rattle.trace_run.specs.CellEnds.{AreCellsOf, end_entry}
 use Rattle.trace_run.specs.Effects.{calls_of_all}
 use Rattle.trace_run.specs.Explaining.{EndsWith, Explain, drops_at_end}
 use Rattle.trace_run.specs.callers.GroupRun.{HaveClosed, HaveStopped, RanTogether}
-use Rattle.trace_run.specs.callers.Groups.{AreCapped, AreDone, AreNamedAll, HaveCome}
+use Rattle.trace_run.specs.callers.Groups.{AreDone, AreEndLines, AreNamedAll, HaveCome, IsEndLine, StoodFresh}
 use Rattle.trace_run.specs.KeptBlocks.{Stands, StandsWith, holds_in, no_entries, read_of}
 use Rattle.trace_run.specs.KeptReads.{KeptRead}
 use Rattle.trace_run.specs.Lines.{caller_of, is_of_caller, replies_where}
@@ -58,7 +61,7 @@ use Rattle.trace_run.specs.one_caller.OneCaller.{events_of_drops, kept_after, ke
 use Rattle.trace_run.specs.one_caller.OverShards.{AreNamed}
 use Rattle.trace_run.specs.Restores.{events_by_feeder, restores_in}
 use Rattle.trace_run.specs.Tally.{AreDeclared}
-use Rattle.trace_run.specs.callers.Together.{AreCut, Lines, WorkInGroups, answered_ops, faults_told, groups_of, over_callers, reads_of_caller, replies_of_caller}
+use Rattle.trace_run.specs.callers.Together.{AreCut, IsFirstPlace, Lines, StoodThen, WorkInGroups, answered_ops, faults_told, groups_of, over_callers, reads_of_caller, replies_of_caller, stand}
 use Rattle.trace_run.proofs.callers.AbsorbLemmas.{over-few}
 use Rattle.trace_run.proofs.callers.AfterEnds.{AreAfter, crew-after, crew-long}
 use Rattle.trace_run.proofs.callers.CallerActLemmas.{line-kind}
@@ -393,7 +396,7 @@ module _ {C : Type 0} (cache : Cache) (restored : List Restored) (len : ℕ) (im
 
 -- ---- what the callers' replies tell is what all replies tell
 
-module _ (count : Reply → Bool) (callers : ℕ) (uncounted : (c : ℕ) → count (Capped c) ≡ false) where
+module _ (count : Reply → Bool) (callers : ℕ) (uncounted : (o : Op) (r : Reply) → IsEndLine o r → count r ≡ false) where
   abbrev pub of-caller : ℕ → List Op → List Reply → ℕ
   of-caller n os rs = count_by count (replies_where (is_of_caller n) os rs)
 
@@ -412,29 +415,28 @@ module _ (count : Reply → Bool) (callers : ℕ) (uncounted : (c : ℕ) → cou
         omega (arith, ap (count_by count) none, zero_is)
   ]
 
-  -- the one reply to a line is its caller's; a capacity isn't counted
-  over-line : (o : Op) (r : Reply) → ((n : ℕ) → caller_of o ≡ Some n → n < callers) → (caller_of o ≡ None → (c : ℕ) × (r ≡ Capped c)) → over_callers callers (λ n. cond {A = ℕ} (is_of_caller n o) (one-of r) 0) ≡ one-of r
-  over-line o r below capped = elim (line-kind o) [
+  -- the one reply to a line is its caller's; a line that ends a group isn't counted
+  over-line : (o : Op) (r : Reply) → ((n : ℕ) → caller_of o ≡ Some n → n < callers) → (caller_of o ≡ None → IsEndLine o r) → over_callers callers (λ n. cond {A = ℕ} (is_of_caller n o) (one-of r) 0) ≡ one-of r
+  over-line o r below ended = elim (line-kind o) [
     | inl caller ↦
         over-same callers (λ n. cond {A = ℕ} (is_of_caller n o) (one-of r) 0) (λ n. cond {A = ℕ} (caller.0 == n) (one-of r) 0)
         (λ n lt. ap (λ (x : Option ℕ). cond {A = ℕ} (option_map_or (λ (m : ℕ). m == n) x false) (one-of r) 0) caller.1)
         ∙ over-one callers caller.0 (one-of r) (below caller.0 caller.1)
     | inr none ↦
-        let given = capped none in
         over-zero callers (λ n. cond {A = ℕ} (is_of_caller n o) (one-of r) 0) (λ n lt. ap (λ (x : Option ℕ). cond {A = ℕ} (option_map_or (λ (m : ℕ). m == n) x false) (one-of r) 0) none)
-        ∙ sym (ap (λ (x : Reply). cond {A = ℕ} (count x) 1 0) given.1 ∙ ap (λ (b : Bool). cond {A = ℕ} b 1 0) (uncounted given.0))
+        ∙ sym (ap (λ (b : Bool). cond {A = ℕ} b 1 0) (uncounted o r (ended none)))
   ]
 
   pub over-replies : (os : List Op) (rs : List Reply) → length rs ≡ length os → ((k : ℕ) (op : Op) → slice_get os k ≡ Some op → (n : ℕ) → caller_of op ≡ Some n → n < callers)
-      → AreCapped os rs → over_callers callers (λ n. of-caller n os rs) ≡ count_by count rs
-  over-replies [] [] long below capped = over-zero callers (λ n. 0) (λ n lt. refl)
-  over-replies [] (r ∷ rs) long below capped = absurd (omega arith)
-  over-replies (o ∷ os) [] long below capped = absurd (omega arith)
-  over-replies (o ∷ os) (r ∷ rs) long below capped =
-      let later = over-replies os rs (omega (arith, long)) (λ k op at. below (suc k) op at) (λ k op at none. capped (suc k) op at none) in
+      → AreEndLines os rs → over_callers callers (λ n. of-caller n os rs) ≡ count_by count rs
+  over-replies [] [] long below ended = over-zero callers (λ n. 0) (λ n lt. refl)
+  over-replies [] (r ∷ rs) long below ended = absurd (omega arith)
+  over-replies (o ∷ os) [] long below ended = absurd (omega arith)
+  over-replies (o ∷ os) (r ∷ rs) long below ended =
+      let later = over-replies os rs (omega (arith, long)) (λ k op at. below (suc k) op at) (λ k op at none. ended (suc k) op at none) in
       let each = over-same callers (λ n. of-caller n (o ∷ os) (r ∷ rs)) (λ n. cond {A = ℕ} (is_of_caller n o) (one-of r) 0 + of-caller n os rs) (λ n lt. one-reply o r os rs n) in
       let split = over-add callers (λ n. cond {A = ℕ} (is_of_caller n o) (one-of r) 0) (λ n. of-caller n os rs) in
-      let one = over-line o r (below 0 o refl) (λ none. let given = capped 0 o refl none in (given.0, some-same r (Capped given.0) given.2)) in
+      let one = over-line o r (below 0 o refl) (λ none. let given = ended 0 o refl none in subst (IsEndLine o) (sym (some-same r given.0 given.1)) given.2) in
       omega (arith, later, each, split, one, sum_by-cons (λ x. cond {A = ℕ} (count x) 1 0) r rs)
 
 pub where-few : (test : Op → Bool) (os : List Op) (rs : List Reply) → length (replies_where test os rs) ≤ length rs
@@ -522,10 +524,14 @@ explained-more config restored blocks os more rs ends histories same long e = re
   ending = λ shard below. subst (EndsWith (slice_index_or histories shard [])) (sym (all-drops blocks os more rs same config.callers long config shard)) (e.ending shard below);
 }
 
+end-no-fault : (o : Op) (r : Reply) → IsEndLine o r → is_pool_fault r ≡ false
+end-no-fault o r (inl cap) = ap is_pool_fault cap.2
+end-no-fault o r (inr sync) = ap is_pool_fault sync.5
+
 -- ---- what the run came to
 
-module _ {C P : Type 0} (m : Meanings C) (cache : Cache) (pools : Ghosts P) (before after : P) (trace : Trace) (formed : IsFormed trace) (config : cache.config ≡ trace.config) (valid : IsConfig cache.config)
-    (fork_failed : Bool) (restored : List Restored) (rs : List Reply) (crew : Crew C) (d : AreDone cache restored pools trace before after fork_failed rs crew) (closed : Ended C) (h : HaveClosed m cache crew closed) where
+module _ {P : Type 0} (m : Meanings OnHeap) (cache : Cache) (pools : Ghosts P) (before after : P) (place : ℕ) (trace : Trace) (formed : IsFormed trace) (config : cache.config ≡ trace.config) (valid : IsConfig cache.config)
+    (fork_failed : Bool) (restored : List Restored) (rs : List Reply) (crew : Crew OnHeap) (d : AreDone cache restored pools trace (stand before 1 place) after fork_failed rs crew) (closed : Ended OnHeap) (h : HaveClosed m cache crew closed) where
   abbrev callers : ℕ
   callers = cache.config.callers
 
@@ -542,10 +548,10 @@ module _ {C P : Type 0} (m : Meanings C) (cache : Cache) (pools : Ghosts P) (bef
   whole-ops = take-append-drop (length rs) trace.ops
 
   -- the parties that gave back
-  abbrev all-given : List (Place (Known C))
+  abbrev all-given : List (Place (Known OnHeap))
   all-given = h.parties
 
-  abbrev closing : List (Place (Known C))
+  abbrev closing : List (Place (Known OnHeap))
   closing = h.closing
 
   abbrev entries : ℕ → List Line
@@ -572,7 +578,7 @@ module _ {C P : Type 0} (m : Meanings C) (cache : Cache) (pools : Ghosts P) (bef
       (all-callers trace formed k op (ap (λ (l : List Op). slice_get l k) (sym whole-ops) ∙ (get-left os more k (slice_get_within os k op at) ∙ at)) n of)
 
   answers : AnswersAll (pools.size before) (pools.told before) trace.blocks os rs
-  answers = all-answered (pools.size before) (pools.told before) trace.blocks (λ n. n < callers) os rs come.long below-all come.capped (λ n below. (come.each n below).come.answers)
+  answers = all-answered (pools.size before) (pools.told before) trace.blocks (λ n. n < callers) os rs come.long below-all come.ended (λ n below. (come.each n below).come.answers)
 
   explained : Explain trace restored rs (ends_in closed) (histories_of closed)
   explained =
@@ -588,7 +594,7 @@ module _ {C P : Type 0} (m : Meanings C) (cache : Cache) (pools : Ghosts P) (bef
       ∙ come-others cache restored (pools.size before) (pools.told before) trace.blocks os rs crew come all-given gave entries closing closing-long after-ends m valid closed h.ends
 
   all-faults-are : over_callers callers (λ n. count_by is_pool_fault (replies_of_caller n os rs)) ≡ count_by is_pool_fault rs
-  all-faults-are = over-replies is_pool_fault callers (λ c. refl) os rs come.long below-all come.capped
+  all-faults-are = over-replies is_pool_fault callers end-no-fault os rs come.long below-all come.ended
 
   few-callers : callers ≤ 16
   few-callers = valid.counts.callers.1
@@ -603,10 +609,10 @@ module _ {C P : Type 0} (m : Meanings C) (cache : Cache) (pools : Ghosts P) (bef
   faults-few : count_by is_pool_fault rs ≤ 1000000
   faults-few = omega (arith, few-replies, count_by-le-length is_pool_fault rs)
 
-  reached-reads : pools.reads before < 2 ^ 63 → pools.reads d.reached ≡ pools.reads before + sum_by pool_reads (histories_of closed)
+  reached-reads : pools.reads before < 2 ^ 63 → pools.reads d.reached.pool ≡ pools.reads before + sum_by pool_reads (histories_of closed)
   reached-reads room = omega (arith, d.between.counted.reads room, all-reads-are)
 
-  reached-faults : pools.faults before < 2 ^ 63 → pools.faults d.reached ≡ pools.faults before + count_by is_pool_fault rs
+  reached-faults : pools.faults before < 2 ^ 63 → pools.faults d.reached.pool ≡ pools.faults before + count_by is_pool_fault rs
   reached-faults room = omega (arith, d.between.counted.faults room, all-faults-are)
 
   after-reads : pools.reads before < 2 ^ 63 → pools.reads after ≡ pools.reads before + sum_by pool_reads (histories_of closed)
@@ -623,17 +629,20 @@ module _ {C P : Type 0} (m : Meanings C) (cache : Cache) (pools : Ghosts P) (bef
       go false is = ap (λ (p : P). pools.faults p) (d.whole is).1 ∙ reached-faults room
       go true is = omega (arith, (d.failed is).1.faults (omega (arith, room, reached-faults room, faults-few)), reached-faults room)
 
-  pub group-together : RanTogether pools before after trace fork_failed restored rs closed
-  group-together = record {
+  pub group-together : IsFirstPlace (pools.size before) trace.blocks place → AreCellsOf trace closed → RanTogether pools before after trace fork_failed restored rs closed
+  group-together first cells = record {
     answers = go fork_failed refl;
     config = h.ends.config ∙ config;
     explained = explained;
     reads = after-reads;
     faults = λ room. subst (λ (b : Bool). pools.faults after ≡ pools.faults before + faults_told b rs) refl (after-faults room);
     together = λ rebuilt is. record {
+      place = place;
+      first = first;
       reached = d.reached;
-      groups = subst (λ (x : ℕ × List Lines). WorkInGroups pools x.0 x.1 before d.reached)
-          (λ i. (ap (λ (g : Config). g.callers) config i, (sym (groups-prefix os more rs come.long) ∙ ap (λ (l : List Op). groups_of l rs) whole-ops) i)) d.between.groups;
+      groups = in-groups-as pools trace.config (StoodFresh (openings_of trace) trace.config.cells) (StoodThen trace closed.cells) (fresh-then trace closed cells) (groups_of trace.ops rs) (stand before 1 place) d.reached
+          (subst (λ (x : Config × List Lines). WorkInGroups pools x.0 (StoodFresh (openings_of trace) x.0.cells) x.1 (stand before 1 place) d.reached)
+          (λ i. (config i, (sym (groups-prefix os more rs come.long) ∙ ap (λ (l : List Op). groups_of l rs) whole-ops) i)) d.between.groups);
       whole = λ is. (d.whole is).1;
       counted = λ n below.
           ap (λ (l : List Op). length (calls_of_all (replies_of_caller n l rs))) (sym whole-ops)
@@ -648,7 +657,7 @@ module _ {C P : Type 0} (m : Meanings C) (cache : Cache) (pools : Ghosts P) (bef
     };
     failed = λ is.
         let f = d.failed is in (
-          rose-then (pools.faults before) (pools.faults d.reached) (pools.faults after) d.between.counted.keeps.faults f.1.rose,
+          rose-then (pools.faults before) (pools.faults d.reached.pool) (pools.faults after) d.between.counted.keeps.faults f.1.rose,
           record { some = f.0; begins = d.between.begins f.0 },
         );
   }

@@ -1,7 +1,8 @@
 -- Several callers between groups: what one group more adds to what they have come to, and a line that ends it.
-use Rattle.std.proofs.Common.{◌≡◌, ℕ, zero, suc, ◌+◌, ◌<◌, ◌≤◌, nat_lt, Bool, true, false, if◌then◌else◌, List, [], ◌∷◌, ◌++◌, Option, Some, None, length, map, take, refl, sym, ap, ◌∙◌, subst, inl, inr, arith, append-nil, append_assoc, length-append, eq-eqb, ◌-◌}
+use Rattle.std.proofs.Common.{◌≡◌, ℕ, zero, suc, ◌+◌, ◌==◌, ◌<◌, ◌≤◌, nat_lt, Bool, true, false, if◌then◌else◌, List, [], ◌∷◌, ◌++◌, Option, Some, None, length, map, take, refl, sym, ap, ◌∙◌, subst, inl, inr, arith, append-nil, append_assoc, length-append, eq-eqb, ◌-◌}
 use Rattle.std.specs.Prelude.{filter, slice_get}
 use Rattle.std.specs.List.{AllByRecursion}
+use Rattle.std.specs.Option.{option_map_or}
 use Rattle.std.proofs.lemmas.Bool.{cases_lt}
 use Rattle.std.proofs.lemmas.Bool.Decides.{nat_tests}
 use Rattle.std.proofs.lemmas.List.{take-append-le}
@@ -30,16 +31,16 @@ use Rattle.arc_table.specs.Telling.{opening_of}
 use Rattle.trace_text.specs.declared.op.Op.{Op}
 use Rattle.trace_text.specs.declared.op.Op.TheVariants as ops
 use Rattle.trace_text.specs.declared.reply.Reply.{Reply}
-use Rattle.trace_text.specs.declared.reply.Reply.TheVariants.{Capped}
+use Rattle.trace_text.specs.declared.reply.Reply.TheVariants.{Capped, Synced}
 use Rattle.trace_run.specs.declared.groups.Crew.{Crew}
 use Rattle.trace_run.specs.declared.kept_blocks.KeptBlock.{KeptBlock}
 use Rattle.trace_run.specs.Acts.{acts_of, acts_of_all, acts_of_lines, events_of_feeder, events_of_feeds}
 use Rattle.trace_run.specs.callers.Group.{HasWorked}
-use Rattle.trace_run.specs.callers.Groups.{AreCapped, AreOfCallers, ComesAt, DidLinesAtOnce, HaveCome, KeepNothing}
+use Rattle.trace_run.specs.callers.Groups.{AreEndLines, AreOfCallers, ComesAt, DidLinesAtOnce, HaveCome, IsEndLine, KeepNothing}
 use Rattle.trace_run.specs.KeptBlocks.{read_of}
 use Rattle.trace_run.specs.KeptReads.{KeptRead}
 use Rattle.trace_run.specs.Lines.{caller_of, is_of_caller, replies_where}
-use Rattle.trace_run.specs.Meeting.{HasParted, HaveParted, IsFed, IsLevel, MadeJoined, Resized, Waits}
+use Rattle.trace_run.specs.Meeting.{HasParted, HaveParted, IsFed, IsLevel, MadeJoined, Resized, Waits, resizes_in}
 use Rattle.trace_run.specs.one_caller.OneCaller.{kept_after, kept_after_all}
 use Rattle.trace_run.specs.Restores.{events_by_feeder, restores_in}
 use Rattle.trace_run.specs.Opened.{AreOpened, IsOpened}
@@ -162,13 +163,13 @@ EndsWhole (o ∷ (x ∷ xs)) = EndsWhole (x ∷ xs)
 
 some-group : (o : Op) (os : List Op) (r : Reply) (rs : List Reply) → (first : Lines) × (rest : List Lines) × (groups_of (o ∷ os) (r ∷ rs) ≡ first ∷ rest)
 some-group o os r rs = elim (cases_true (ends_group o)) [
-  | inl ends ↦ (record { ops = []; replies = [] }, groups_of os rs, rw ends refl)
+  | inl ends ↦ (record { ops = []; replies = []; end = Some (record { op = o; reply = r }) }, groups_of os rs, rw ends refl)
   | inr inside ↦ go (groups_of os rs) (rw inside refl)
 ]
   where
     go : (gs : List Lines) → groups_of (o ∷ os) (r ∷ rs) ≡ with_first o r gs → (first : Lines) × (rest : List Lines) × (groups_of (o ∷ os) (r ∷ rs) ≡ first ∷ rest)
-    go [] is = (record { ops = o ∷ []; replies = r ∷ [] }, [], is)
-    go (g ∷ gs) is = (record { ops = o ∷ g.ops; replies = r ∷ g.replies }, gs, is)
+    go [] is = (record { ops = o ∷ []; replies = r ∷ []; end = None }, [], is)
+    go (g ∷ gs) is = (record { ops = o ∷ g.ops; replies = r ∷ g.replies; end = g.end }, gs, is)
 
 pub groups-append : (os qs : List Op) (rs ss : List Reply) → length rs ≡ length os → EndsWhole os → groups_of (os ++ qs) (rs ++ ss) ≡ groups_of os rs ++ groups_of qs ss
 groups-append [] qs [] ss same whole = refl
@@ -180,7 +181,7 @@ groups-append (o ∷ (x ∷ xs)) qs (r ∷ []) ss same whole = absurd (omega (ar
 groups-append (o ∷ (x ∷ xs)) qs (r ∷ (s ∷ rs)) ss same whole =
     let rest = groups-append (x ∷ xs) qs (s ∷ rs) ss (omega (arith, same)) whole in
     elim (cases_true (ends_group o)) [
-      | inl ends ↦ rw ends (ap (λ (l : List Lines). record { ops = []; replies = [] } ∷ l) rest)
+      | inl ends ↦ rw ends (ap (λ (l : List Lines). record { ops = []; replies = []; end = Some (record { op = o; reply = r }) } ∷ l) rest)
       | inr inside ↦
           let some_of = some-group x xs s rs in
           rw inside (ap (with_first o r) rest ∙ (ap (λ (l : List Lines). with_first o r (l ++ groups_of qs ss)) some_of.2 ∙ ap (λ (l : List Lines). with_first o r l ++ groups_of qs ss) (sym some_of.2)))
@@ -193,7 +194,7 @@ caller-inside (ops.Hold m t x) n of = refl
 caller-inside (ops.Drop m x) n of = refl
 caller-inside other n of = cc
 
-pub group-ended : (callers : ℕ) (qs : List Op) (ss : List Reply) (o : Op) (r : Reply) → length ss ≡ length qs → AreOfCallers callers qs → ends_group o ≡ true → groups_of (qs ++ o ∷ []) (ss ++ r ∷ []) ≡ record { ops = qs; replies = ss } ∷ []
+pub group-ended : (callers : ℕ) (qs : List Op) (ss : List Reply) (o : Op) (r : Reply) → length ss ≡ length qs → AreOfCallers callers qs → ends_group o ≡ true → groups_of (qs ++ o ∷ []) (ss ++ r ∷ []) ≡ record { ops = qs; replies = ss; end = Some (record { op = o; reply = r }) } ∷ []
 group-ended callers [] [] o r same own ends = rw ends refl
 group-ended callers [] (s ∷ ss) o r same own ends = absurd (omega arith)
 group-ended callers (q ∷ qs) [] o r same own ends = absurd (omega arith)
@@ -201,7 +202,7 @@ group-ended callers (q ∷ qs) (s ∷ ss) o r same own ends =
     let first = own 0 q refl in
     rw (caller-inside q first.0 first.1) (ap (with_first q s) (group-ended callers qs ss o r (omega (arith, same)) (λ k op at. own (suc k) op at) ends))
 
-pub group-last : (callers : ℕ) (qs : List Op) (ss : List Reply) → length ss ≡ length qs → AreOfCallers callers qs → 0 < length qs → groups_of qs ss ≡ record { ops = qs; replies = ss } ∷ []
+pub group-last : (callers : ℕ) (qs : List Op) (ss : List Reply) → length ss ≡ length qs → AreOfCallers callers qs → 0 < length qs → groups_of qs ss ≡ record { ops = qs; replies = ss; end = None } ∷ []
 group-last callers [] ss same own some_of = absurd (omega arith)
 group-last callers (q ∷ qs) [] same own some_of = absurd (omega arith)
 group-last callers (q ∷ []) (s ∷ []) same own some_of = let first = own 0 q refl in rw (caller-inside q first.0 first.1) refl
@@ -219,7 +220,7 @@ groups-prefix (o ∷ os) more [] same = absurd (omega arith)
 groups-prefix (o ∷ os) more (r ∷ rs) same =
     let rest = groups-prefix os more rs (omega (arith, same)) in
     elim (cases_true (ends_group o)) [
-      | inl ends ↦ rw ends (ap (λ (l : List Lines). record { ops = []; replies = [] } ∷ l) rest)
+      | inl ends ↦ rw ends (ap (λ (l : List Lines). record { ops = []; replies = []; end = Some (record { op = o; reply = r }) } ∷ l) rest)
       | inr inside ↦ rw inside (ap (with_first o r) rest)
     ]
 
@@ -279,7 +280,7 @@ module _ {C : Type 0} (cache : Cache) (whole : List (Place (Known C))) (crew : C
           at = record { kept_at = nothing-at crew.kept.items n none (omega (arith, inside, count)); party_at = p.1 };
           come = record { waits = record { number = h.number; alone = h.joined; stands = h.new.stands; told = h.new.told }; keeps = refl; answers = tt };
         };
-    capped = λ k op at none. let inside = slice_get_within {A = Op} [] k op at in absurd (omega (arith, inside));
+    ended = λ k op at none. let inside = slice_get_within {A = Op} [] k op at in absurd (omega (arith, inside));
     feeder = record {
       number = feeder-new.number;
       alone = feeder-new.joined;
@@ -353,7 +354,7 @@ module _ {C : Type 0} (cache : Cache) (restored : List Restored) (len : ℕ) (im
     kepts = ap length kept ∙ before.kepts;
     parties = parted-length cache made.lines old.parties.items new.parties.items made.parted ∙ before.parties;
     each = restored-come;
-    capped = before.capped;
+    ended = before.ended;
     feeder = record {
       number = made.number ∙ before.feeder.number;
       alone = made.alone;
@@ -448,10 +449,10 @@ module _ {C P : Type 0} (cache : Cache) (restored : List Restored) (pools : Ghos
     kepts = did.worked.kepts ∙ callers-are;
     parties = did.worked.parties ∙ callers-are;
     each = come-at;
-    capped = λ k op at none.
+    ended = λ k op at none.
         let below = in-front k op at none in
-        let given = before.capped k op (sym (get-left os qs k below) ∙ at) none in
-        (given.0, given.1, get-left rs ss k (omega (arith, below, before.long)) ∙ given.2);
+        let given = before.ended k op (sym (get-left os qs k below) ∙ at) none in
+        (given.0, get-left rs ss k (omega (arith, below, before.long)) ∙ given.1, given.2);
     feeder = subst (λ (p : Place (Known C)). IsFed cache p.own.about.openings (events_by_feeder cache.config restored (os ++ qs) (rs ++ ss)) (λ shard. seen_of cache.config shard p) p) (sym did.feeder)
         (subst (λ (fed : ℕ → List Event). IsFed cache old.feeder.own.about.openings fed (λ shard. seen_of cache.config shard old.feeder) old.feeder) (sym feeds-are) before.feeder);
     begun = λ shard below. subst (λ (p : Place (Known C)). StartsWith (seen_of cache.config shard p) (restores_in cache.config restored shard)) (sym did.feeder) (before.begun shard below);
@@ -466,77 +467,84 @@ all-at P [] n x all at = absurd (some-ne-none x (sym at))
 all-at P (y ∷ ys) zero x all at = subst P (some-injective y x at) all.0
 all-at P (y ∷ ys) (suc n) x all at = all-at P ys n x all.1 at
 
-module _ {C : Type 0} (cache : Cache) (restored : List Restored) (len : ℕ) (image : Option (List ℕ)) (blocks : List Ptr) (os : List Op) (rs : List Reply) (c : ℕ) (old new : Crew C)
-    (before : HaveCome cache restored len image blocks os rs old) (resized : Resized cache c old.feeder old.parties.items new.feeder new.parties.items) (kept : new.kept.items ≡ old.kept.items) where
+-- The feeder made these events for it, while all callers had joined it: of its own number just those that the line asks of it.
+pub record EndsSo {C : Type 0} (cache : Cache) (op : Op) (reply : Reply) (more : (shard : ℕ) → List Event) (old new : Crew C) : Type 0 where
+  pub made : MadeJoined cache more old.feeder old.parties.items new.feeder new.parties.items
+  pub kept : new.kept.items ≡ old.kept.items
+  pub end : IsEndLine op reply
+  pub nobody : caller_of op ≡ None
+  pub feeds : (shard : ℕ) → shard < cache.config.shards → own_events cache.config.callers (more shard) ≡ events_of_feeder cache.config.callers op
+  pub caps : (shard c : ℕ) → shard < cache.config.shards → op ≡ ops.Cap c → more shard ≡ Resize cache.config.callers c ∷ []
+
+module _ {C : Type 0} (cache : Cache) (restored : List Restored) (len : ℕ) (image : Option (List ℕ)) (blocks : List Ptr) (os : List Op) (rs : List Reply) (op : Op) (reply : Reply) (more : (shard : ℕ) → List Event) (old new : Crew C)
+    (before : HaveCome cache restored len image blocks os rs old) (so : EndsSo cache op reply more old new) where
   abbrev g : Config
   g = cache.config
-
-  abbrev op : Op
-  op = ops.Cap c
-
-  abbrev reply : Reply
-  reply = Capped c
 
   feeder-number : old.feeder.number ≡ g.callers
   feeder-number = before.feeder.number
 
+  not-his : (n : ℕ) → is_of_caller n op ≡ false
+  not-his n = ap (λ (o : Option ℕ). option_map_or (λ (m : ℕ). m == n) o false) so.nobody
+
+  no-lines : (n : ℕ) → filter (is_of_caller n) (op ∷ []) ≡ []
+  no-lines n = rw (not-his n) refl
+
+  no-replies : (n : ℕ) → replies_of_caller n (op ∷ []) (reply ∷ []) ≡ []
+  no-replies n = rw (not-his n) refl
+
   lines-same : (n : ℕ) → filter (is_of_caller n) (os ++ op ∷ []) ≡ filter (is_of_caller n) os
-  lines-same n = filter-append (is_of_caller n) os (op ∷ []) ∙ append-nil (filter (is_of_caller n) os)
+  lines-same n = filter-append (is_of_caller n) os (op ∷ []) ∙ (ap (λ (l : List Op). filter (is_of_caller n) os ++ l) (no-lines n) ∙ append-nil (filter (is_of_caller n) os))
 
   replies-same : (n : ℕ) → replies_of_caller n (os ++ op ∷ []) (rs ++ reply ∷ []) ≡ replies_of_caller n os rs
-  replies-same n = where-append n os (op ∷ []) rs (reply ∷ []) before.long ∙ append-nil (replies_of_caller n os rs)
+  replies-same n = where-append n os (op ∷ []) rs (reply ∷ []) before.long ∙ (ap (λ (l : List Reply). replies_of_caller n os rs ++ l) (no-replies n) ∙ append-nil (replies_of_caller n os rs))
 
   abbrev Come : ℕ → List Op → List Reply → List KeptBlock → Place (Known C) → Type 0
   Come n l r ks p = Waits cache n (acts_of_all blocks [] l r) ks p × (map read_of ks ≡ kept_after_all blocks [] l r) × AreAnswered len image blocks [] l r
 
-  cap-come : (n : ℕ) → n < g.callers → ComesAt cache len image blocks (os ++ op ∷ []) (rs ++ reply ∷ []) n new
-  cap-come n below =
+  end-come : (n : ℕ) → n < g.callers → ComesAt cache len image blocks (os ++ op ∷ []) (rs ++ reply ∷ []) n new
+  end-come n below =
       let b = before.each n below in
-      let x = parted-at cache resized.lines n old.parties.items new.parties.items b.party resized.parted b.at.party_at in
+      let x = parted-at cache so.made.lines n old.parties.items new.parties.items b.party so.made.parted b.at.party_at in
       record {
         reads = b.reads;
         party = x.0;
-        at = record { kept_at = ap (λ (l : List (List KeptBlock)). get_elem? l n) kept ∙ b.at.kept_at; party_at = x.1 };
+        at = record { kept_at = ap (λ (l : List (List KeptBlock)). get_elem? l n) so.kept ∙ b.at.kept_at; party_at = x.1 };
         come =
-            let so = subst (λ (y : List Op × List Reply). Come n y.0 y.1 b.reads x.0) (λ i. (sym (lines-same n) i, sym (replies-same n) i))
-            (parted-waits cache resized.lines b.party x.0 x.2 n (acts_of_lines blocks os n (replies_of_caller n os rs)) b.reads b.come.waits, b.come.keeps, b.come.answers) in
-            record { waits = so.0; keeps = so.1; answers = so.2 };
+            let came = subst (λ (y : List Op × List Reply). Come n y.0 y.1 b.reads x.0) (λ i. (sym (lines-same n) i, sym (replies-same n) i))
+            (parted-waits cache so.made.lines b.party x.0 x.2 n (acts_of_lines blocks os n (replies_of_caller n os rs)) b.reads b.come.waits, b.come.keeps, b.come.answers) in
+            record { waits = came.0; keeps = came.1; answers = came.2 };
       }
 
   -- what the feeder has made
-  front-own : (shard : ℕ) → shard < g.shards → own_events g.callers (resized.front shard) ≡ events_by_feeder g restored os rs shard
-  front-own shard below = subst (λ (n : ℕ). own_events n (resized.front shard) ≡ events_by_feeder g restored os rs shard) feeder-number
-      (same-own-events g old.feeder.number (seen_of g shard old.feeder) (resized.front shard) (resized.own shard) ∙ before.feeder.fed shard below)
+  front-own : (shard : ℕ) → shard < g.shards → own_events g.callers (so.made.front shard) ≡ events_by_feeder g restored os rs shard
+  front-own shard below = subst (λ (n : ℕ). own_events n (so.made.front shard) ≡ events_by_feeder g restored os rs shard) feeder-number
+      (same-own-events g old.feeder.number (seen_of g shard old.feeder) (so.made.front shard) (so.made.own shard) ∙ before.feeder.fed shard below)
 
   own-two : (n : ℕ) (es fs : List Event) → own_events n (es ++ fs) ≡ own_events n es ++ own_events n fs
   own-two n es fs = filter-append _ es fs
 
-  own-resize : (n : ℕ) → own_events n (Resize n c ∷ []) ≡ Resize n c ∷ []
-  own-resize n = rw (eq-eqb n n refl) refl
+  abbrev asked : List Event
+  asked = events_of_feeder g.callers op
 
-  seen-is : (shard : ℕ) → shard < g.shards → seen_of g shard new.feeder ≡ resized.front shard ++ Resize g.callers c ∷ []
-  seen-is shard below =
-      let here : nat_lt shard g.shards ≡ true = grind (arith, nat_tests, below) in
-      resized.seen shard ∙ ap (λ (b : Bool). resized.front shard ++ (if b then Resize g.callers c ∷ [] else [])) here
-
-  feeds-more : (shard : ℕ) → events_by_feeder g restored (os ++ op ∷ []) (rs ++ reply ∷ []) shard ≡ events_by_feeder g restored os rs shard ++ Resize g.callers c ∷ []
+  feeds-more : (shard : ℕ) → events_by_feeder g restored (os ++ op ∷ []) (rs ++ reply ∷ []) shard ≡ events_by_feeder g restored os rs shard ++ asked
   feeds-more shard =
-      ap (λ (es : List Event). restores_in g restored shard ++ es) (feeds-append g.callers os (op ∷ []) rs (reply ∷ []) before.long)
-      ∙ sym (append_assoc (restores_in g restored shard) (events_of_feeds g.callers os rs) (Resize g.callers c ∷ []))
+      ap (λ (es : List Event). restores_in g restored shard ++ es) (feeds-append g.callers os (op ∷ []) rs (reply ∷ []) before.long ∙ ap (λ (es : List Event). events_of_feeds g.callers os rs ++ es) (append-nil asked))
+      ∙ sym (append_assoc (restores_in g restored shard) (events_of_feeds g.callers os rs) asked)
 
-  grown : (shard : ℕ) → shard < g.shards → StartsWith (seen_of g shard new.feeder) (seen_of g shard old.feeder)
-  grown shard below = starts-then (seen_of g shard new.feeder) (resized.front shard) (seen_of g shard old.feeder) (Resize g.callers c ∷ [], seen-is shard below) (resized.since shard)
+  grown : (shard : ℕ) → StartsWith (seen_of g shard new.feeder) (seen_of g shard old.feeder)
+  grown shard = starts-then (seen_of g shard new.feeder) (so.made.front shard) (seen_of g shard old.feeder) (more shard, so.made.seen shard) (so.made.since shard)
 
-  -- what stands before it
-  cut-here : (shard : ℕ) → shard < g.shards → IsCut g restored blocks shard os rs c (seen_of g shard new.feeder)
-  cut-here shard below = record {
-    front = resized.front shard;
+  -- what stands before a capacity
+  cut-here : (shard c : ℕ) → shard < g.shards → op ≡ ops.Cap c → IsCut g restored blocks shard os rs c (seen_of g shard new.feeder)
+  cut-here shard c below is = record {
+    front = so.made.front shard;
     rest = [];
-    whole = seen-is shard below;
+    whole = so.made.seen shard ∙ ap (λ (es : List Event). so.made.front shard ++ es) (so.caps shard c below is);
     callers = λ n lt.
         let b = before.each n lt in
-        let same = all-at _ old.parties.items n b.party (resized.others shard) b.at.party_at in
-        subst (λ (k : ℕ). Tell (acts_in (shard_of g.shards) shard k (acts_of_lines blocks os n (replies_of_caller n os rs))) (own_moments k (moments (opening_of g) (resized.front shard)))) b.come.waits.number
+        let same = all-at _ old.parties.items n b.party (so.made.others shard) b.at.party_at in
+        subst (λ (k : ℕ). Tell (acts_in (shard_of g.shards) shard k (acts_of_lines blocks os n (replies_of_caller n os rs))) (own_moments k (moments (opening_of g) (so.made.front shard)))) b.come.waits.number
         (subst (Tell (acts_in (shard_of g.shards) shard b.party.number (acts_of_lines blocks os n (replies_of_caller n os rs)))) (sym same) (b.come.waits.told shard));
     feeder = front-own shard below;
   }
@@ -544,54 +552,88 @@ module _ {C : Type 0} (cache : Cache) (restored : List Restored) (len : ℕ) (im
   all-cut : (shard : ℕ) → shard < g.shards → AreCut g restored blocks shard (os ++ op ∷ []) (rs ++ reply ∷ []) (seen_of g shard new.feeder)
   all-cut shard below k d at inside = elim (cases_lt k (length os)) [
     | inl early ↦
-        cut-more g restored blocks shard (take k (os ++ op ∷ [])) (take k (rs ++ reply ∷ [])) d (seen_of g shard old.feeder) (seen_of g shard new.feeder) (grown shard below)
+        cut-more g restored blocks shard (take k (os ++ op ∷ [])) (take k (rs ++ reply ∷ [])) d (seen_of g shard old.feeder) (seen_of g shard new.feeder) (grown shard)
         (cut-before g restored blocks shard os (op ∷ []) rs (reply ∷ []) (seen_of g shard old.feeder) before.long (before.cut shard below) k d at early)
     | inr late ↦
         let last : k ≡ length os = omega (arith, late, inside, before.long, length-append rs (reply ∷ [])) in
-        let is_c : d ≡ c = cap-same d c (some-same (ops.Cap d) op (sym at ∙ (ap (slice_get (os ++ op ∷ [])) (last ∙ omega arith) ∙ get-right os (op ∷ []) 0))) in
-        subst (λ (x : List Op × List Reply × ℕ). IsCut g restored blocks shard x.0 x.1 x.2 (seen_of g shard new.feeder))
+        let is : ops.Cap d ≡ op = some-same (ops.Cap d) op (sym at ∙ (ap (slice_get (os ++ op ∷ [])) (last ∙ omega arith) ∙ get-right os (op ∷ []) 0)) in
+        subst (λ (x : List Op × List Reply). IsCut g restored blocks shard x.0 x.1 d (seen_of g shard new.feeder))
         (λ i. (
           sym (ap (λ (m : ℕ). take m (os ++ op ∷ [])) last ∙ take-append_seam os (op ∷ [])) i,
           sym (ap (λ (m : ℕ). take m (rs ++ reply ∷ [])) (last ∙ sym before.long) ∙ take-append_seam rs (reply ∷ [])) i,
-          sym is_c i,
         ))
-        (cut-here shard below)
+        (cut-here shard d below (sym is))
   ]
-    where
-      cap-same : (a b : ℕ) → ops.Cap a ≡ ops.Cap b → a ≡ b
-      cap-same a b is = cc
 
-  all-capped : AreCapped (os ++ op ∷ []) (rs ++ reply ∷ [])
-  all-capped k x at none = elim (cases_lt k (length os)) [
+  all-ended : AreEndLines (os ++ op ∷ []) (rs ++ reply ∷ [])
+  all-ended k x at none = elim (cases_lt k (length os)) [
     | inl early ↦
-        let given = before.capped k x (sym (get-left os (op ∷ []) k early) ∙ at) none in
-        (given.0, given.1, get-left rs (reply ∷ []) k (omega (arith, early, before.long)) ∙ given.2)
+        let given = before.ended k x (sym (get-left os (op ∷ []) k early) ∙ at) none in
+        (given.0, get-left rs (reply ∷ []) k (omega (arith, early, before.long)) ∙ given.1, given.2)
     | inr late ↦
         let inside = slice_get_within (os ++ op ∷ []) k x at in
         let last : k ≡ length os + 0 = omega (arith, late, inside, length-append os (op ∷ [])) in
         let there_is : Some op ≡ Some x = sym (get-right os (op ∷ []) 0) ∙ (ap (slice_get (os ++ op ∷ [])) (sym last) ∙ at) in
-        (c, sym (some-same op x there_is), ap (slice_get (rs ++ reply ∷ [])) (last ∙ omega (arith, before.long)) ∙ get-right rs (reply ∷ []) 0)
+        (reply, ap (slice_get (rs ++ reply ∷ [])) (last ∙ omega (arith, before.long)) ∙ get-right rs (reply ∷ []) 0, subst (λ (y : Op). IsEndLine y reply) (some-same op x there_is) so.end)
   ]
 
-  pub have-come-cap : HaveCome cache restored len image blocks (os ++ ops.Cap c ∷ []) (rs ++ Capped c ∷ []) new
-  have-come-cap = record {
+  pub have-come-ended : HaveCome cache restored len image blocks (os ++ op ∷ []) (rs ++ reply ∷ []) new
+  have-come-ended = record {
     long = omega (arith, before.long, length-append rs (reply ∷ []), length-append os (op ∷ []));
-    kepts = ap length kept ∙ before.kepts;
-    parties = parted-length cache resized.lines old.parties.items new.parties.items resized.parted ∙ before.parties;
-    each = cap-come;
-    capped = all-capped;
+    kepts = ap length so.kept ∙ before.kepts;
+    parties = parted-length cache so.made.lines old.parties.items new.parties.items so.made.parted ∙ before.parties;
+    each = end-come;
+    ended = all-ended;
     feeder = record {
-      number = resized.number ∙ feeder-number;
-      alone = resized.alone;
-      stands = resized.stands;
+      number = so.made.number ∙ feeder-number;
+      alone = so.made.alone;
+      stands = so.made.stands;
       knows = refl;
       fed = λ shard below.
-          ap (λ (n : ℕ). own_events n (seen_of g shard new.feeder)) (resized.number ∙ feeder-number)
-          ∙ (ap (own_events g.callers) (seen-is shard below)
-          ∙ (own-two g.callers (resized.front shard) (Resize g.callers c ∷ [])
-          ∙ ((λ i. front-own shard below i ++ own-resize g.callers i) ∙ sym (feeds-more shard))));
+          ap (λ (n : ℕ). own_events n (seen_of g shard new.feeder)) (so.made.number ∙ feeder-number)
+          ∙ (ap (own_events g.callers) (so.made.seen shard)
+          ∙ (own-two g.callers (so.made.front shard) (more shard)
+          ∙ ((λ i. front-own shard below i ++ so.feeds shard below i) ∙ sym (feeds-more shard))));
       since = λ shard. starts_whole (seen_of g shard new.feeder);
     };
-    begun = λ shard below. starts-then (seen_of g shard new.feeder) (seen_of g shard old.feeder) (restores_in g restored shard) (grown shard below) (before.begun shard below);
+    begun = λ shard below. starts-then (seen_of g shard new.feeder) (seen_of g shard old.feeder) (restores_in g restored shard) (grown shard) (before.begun shard below);
     cut = all-cut;
   }
+
+-- ---- the two kinds of them
+
+pub cap-ends : {C : Type 0} (cache : Cache) (c : ℕ) (old new : Crew C) → Resized cache c old.feeder old.parties.items new.feeder new.parties.items → new.kept.items ≡ old.kept.items
+    → EndsSo cache (ops.Cap c) (Capped c) (resizes_in cache.config.shards cache.config.callers c) old new
+cap-ends cache c old new resized kept = record {
+  made = resized;
+  kept = kept;
+  end = inl (c, refl, refl);
+  nobody = refl;
+  feeds = λ shard below. ap (own_events cache.config.callers) (here shard c below) ∙ own-resize cache.config.callers;
+  caps = λ shard d below is. here shard c below ∙ ap (λ (x : ℕ). Resize cache.config.callers x ∷ []) (cap-same c d is);
+}
+  where
+    here : (shard c : ℕ) → shard < cache.config.shards → resizes_in cache.config.shards cache.config.callers c shard ≡ Resize cache.config.callers c ∷ []
+    here shard c below =
+        let inside : nat_lt shard cache.config.shards ≡ true = grind (arith, nat_tests, below) in
+        ap (λ (b : Bool). if b then Resize cache.config.callers c ∷ [] else []) inside
+
+    own-resize : (n : ℕ) → own_events n (Resize n c ∷ []) ≡ Resize n c ∷ []
+    own-resize n = rw (eq-eqb n n refl) refl
+
+    cap-same : (a b : ℕ) → ops.Cap a ≡ ops.Cap b → a ≡ b
+    cap-same a b is = cc
+
+pub sync-ends : {C : Type 0} (cache : Cache) (t group blocks bytes : ℕ) (old new : Crew C) → MadeJoined cache (λ shard. []) old.feeder old.parties.items new.feeder new.parties.items → new.kept.items ≡ old.kept.items
+    → EndsSo cache (ops.Txg t) (Synced group blocks bytes) (λ shard. []) old new
+sync-ends cache t group blocks bytes old new made kept = record {
+  made = made;
+  kept = kept;
+  end = inr (t, group, blocks, bytes, refl, refl);
+  nobody = refl;
+  feeds = λ shard below. refl;
+  caps = λ shard d below is. other d is;
+}
+  where
+    other : (d : ℕ) → ops.Txg t ≡ ops.Cap d → [] ≡ Resize cache.config.callers d ∷ []
+    other d is = cc

@@ -1,11 +1,12 @@
 -- One group more of several callers: what their pool counts then, which groups were done, and what stands before the next one.
-use Rattle.std.proofs.Common.{◌≡◌, ℕ, zero, suc, ◌+◌, ◌<◌, ◌≤◌, Bool, true, false, List, [], ◌∷◌, ◌++◌, Some, None, length, take, drop, refl, sym, ap, ◌∙◌, subst, arith, append_assoc, length-append, ◌-◌, inl, inr}
+use Rattle.std.proofs.Common.{◌≡◌, ℕ, zero, suc, ◌+◌, ◌%◌, ◌^◌, ◌<◌, ◌≤◌, Bool, true, false, Option, List, [], ◌∷◌, ◌++◌, Some, None, length, take, drop, refl, sym, ap, ◌∙◌, subst, arith, append_assoc, length-append, ◌-◌, inl, inr}
 use Rattle.std.specs.Prelude.{count_by, slice_get, slice_range}
 use Rattle.std.proofs.lemmas.Bool.{false≢true}
 use Rattle.std.proofs.lemmas.List.{length-drop, length-take-le}
 use Rattle.std.proofs.lemmas.List.Sums.{count_by-le-length, sum_by-append}
 use Rattle.std.proofs.lemmas.Option.{get_or_from_slice_get, slice_get_within}
 use Rattle.std.proofs.Math.Seq.{take-add, take-suc}
+use Rattle.blk_ptr.specs.Size.{sector}
 use Rattle.blk_ptr.specs.declared.ptr.Ptr.{Ptr}
 use Rattle.turn_table.specs.Places.{Place}
 use Rattle.arc_table.specs.declared.about.About.{About}
@@ -13,6 +14,7 @@ use Rattle.arc_table.specs.declared.view.Known.{Known}
 use Rattle.arc_core.specs.declared.served.Restored.{Restored}
 use Rattle.arc_table.specs.Cache.{Cache}
 use Rattle.arc_table.specs.Geometry.{parties_of}
+use Rattle.dbuf_cells.specs.Turns.{OnHeap, PartyPlace}
 use Rattle.arc_core.specs.declared.config.Config.{Config}
 use Rattle.trace_run.specs.Meeting.{MadeJoined, MayGoOn}
 use Rattle.trace_run.specs.Opened.{AreOpened}
@@ -31,17 +33,18 @@ use Rattle.trace_run.specs.declared.kept_blocks.KeptBlock.{KeptBlock}
 use Rattle.trace_run.specs.Answers.{is_pool_fault}
 use Rattle.trace_run.specs.Effects.{calls_of, calls_of_all, effect_of}
 use Rattle.trace_run.specs.callers.Group.{HaveWorked, LeavesPool}
-use Rattle.trace_run.specs.callers.Groups.{AreBetween, AreDone, AreOfCallers, DidEndLine, DidLinesAtOnce, HaveCome, HaveCounted, KeepNothing, StepsOn}
+use Rattle.trace_run.specs.callers.Groups.{AreBetween, AreDone, AreOfCallers, DidEndLine, DidLinesAtOnce, HaveCome, HaveCounted, KeepNothing, MaySync, StepsOn, StoodFresh}
 use Rattle.trace_run.specs.callers.InOrder.{AreInOrder}
 use Rattle.trace_run.specs.Lines.{caller_of, is_of_caller}
 use Rattle.trace_run.specs.Openings.{Knows, openings_of}
 use Rattle.trace_run.specs.Tally.{AreDeclared}
-use Rattle.trace_run.specs.callers.Together.{BeginsGroup, Lines, WorkAtOnce, WorkInGroups, ends_group, groups_of, over_callers, replies_of_caller}
+use Rattle.trace_run.specs.callers.Together.{BeginsGroup, EndLine, EndsGroup, Lines, OfCells, Stand, WorkAtOnce, WorkInGroups, ends_group, groups_of, over_callers, replies_of_caller, stand}
 use Rattle.trace_run.proofs.callers.AbsorbLemmas.{over-few}
 use Rattle.trace_run.proofs.callers.CallerActLemmas.{line-kind}
 use Rattle.trace_run.proofs.callers.GroupCounts.{over-add, over-same, over-zero}
 use Rattle.trace_run.proofs.callers.GroupRunLemmas.{all-callers, all-declared, may-resize, where-few}
-use Rattle.trace_run.proofs.callers.GroupsLemmas.{group-ended, group-last, groups-append, have-come-cap, have-come-more, have-restored, have-started, where-append, whole-of}
+use Rattle.trace_run.proofs.callers.EndLineLemmas.{IsUnused, Turned, end-turned, not-replied}
+use Rattle.trace_run.proofs.callers.GroupsLemmas.{group-ended, group-last, groups-append, have-come-ended, have-come-more, have-restored, have-started, where-append, whole-of}
 use Rattle.trace_run.proofs.RunLemmas.{calls-faults, calls-few, calls-reads, failed-all}
 
 pub calls-append : (rs ss : List Reply) → calls_of_all (rs ++ ss) ≡ calls_of_all rs ++ calls_of_all ss
@@ -78,13 +81,6 @@ module _ (os qs : List Op) (rs ss : List Reply) (long : length rs ≡ length os)
 
 -- ---- the pool
 
--- The pool is as it was, and has counted nothing since.
-pub record IsUnused {P : Type 0} (pools : Ghosts P) (old now : P) : Type 0 where
-  pub size : pools.size now ≡ pools.size old
-  pub told : pools.told now ≡ pools.told old
-  pub reads : pools.reads now ≡ pools.reads old
-  pub faults : pools.faults now ≡ pools.faults old
-
 pub leaves-then : {P : Type 0} (pools : Ghosts P) (a b c : P) → LeavesPool pools a b → LeavesPool pools b c → LeavesPool pools a c
 leaves-then pools a b c first second = record { size = second.size ∙ first.size; told = second.told ∙ first.told; faults = omega (arith, first.faults, second.faults) }
 
@@ -102,8 +98,8 @@ module _ {C P : Type 0} (cache : Cache) (pools : Ghosts P) (blocks : List Ptr) (
       let h = w.each n below in
       subst (λ (rs : List Reply). MakesCalls pools (calls_of_all rs) (w.forks n) (w.done n)) (sym (ordered.each n h.own h.own_at)) h.worked.calls
 
-  pub at-once : WorkAtOnce pools callers (record { ops = qs; replies = ss }) was to
-  at-once = record {
+  pub at-once : (end : Option EndLine) → WorkAtOnce pools callers (record { ops = qs; replies = ss; end = end }) was to
+  at-once end = record {
     forks = w.forks;
     done = w.done;
     size = λ n below. (w.fresh n below).size ∙ unused.size;
@@ -170,42 +166,52 @@ module _ {P : Type 0} (pools : Ghosts P) (callers : ℕ) (os qs : List Op) (rs s
 
 -- ---- groups that were done
 
-in-groups-more : {P : Type 0} (pools : Ghosts P) (callers : ℕ) (gs : List Lines) (last : Lines) (a b c : P) → WorkInGroups pools callers gs a b → WorkAtOnce pools callers last b c → WorkInGroups pools callers (gs ++ last ∷ []) a c
-in-groups-more pools callers [] last a b c done once = (c, subst (λ p. WorkAtOnce pools callers last p c) done once, refl)
-in-groups-more pools callers (g ∷ gs) last a b c done once = (done.0, done.1, in-groups-more pools callers gs last done.0 b c done.2 once)
+in-groups-more : {P : Type 0} (pools : Ghosts P) (config : Config) (Cells : OfCells) (gs : List Lines) (last : Lines) (a b c : Stand P) (worked : P) → WorkInGroups pools config Cells gs a b → WorkAtOnce pools config.callers last b.pool worked
+    → EndsGroup pools config Cells last.end (stand worked b.group b.next) c → WorkInGroups pools config Cells (gs ++ last ∷ []) a c
+in-groups-more pools config Cells [] last a b c worked done once ends =
+    (worked, c, subst (λ x. WorkAtOnce pools config.callers last x.pool worked) done once, subst (λ x. EndsGroup pools config Cells last.end (stand worked x.group x.next) c) done ends, refl)
+in-groups-more pools config Cells (g ∷ gs) last a b c worked done once ends = (done.0, done.1, done.2, done.3, in-groups-more pools config Cells gs last done.1 b c worked done.4 once ends)
 
 -- ---- between two groups
 
-pub between-none : {C P : Type 0} (cache : Cache) (restored : List Restored) (pools : Ghosts P) (trace : Trace) (pool : P) (crew : Crew C) → HaveCome cache restored (pools.size pool) (pools.told pool) trace.blocks [] [] crew
-    → Knows (openings_of trace) crew.feeder → AreBetween cache restored pools trace pool pool [] crew
-between-none cache restored pools trace pool crew come knows = record {
+pub between-none : {C P : Type 0} (cache : Cache) (restored : List Restored) (pools : Ghosts P) (trace : Trace) (start : Stand P) (crew : Crew C) → HaveCome cache restored (pools.size start.pool) (pools.told start.pool) trace.blocks [] [] crew
+    → Knows (openings_of trace) crew.feeder → MaySync pools 0 start → AreBetween cache restored pools trace start start [] crew
+between-none cache restored pools trace start crew come knows may = record {
   few = omega arith;
   begins = λ more. tt;
   come = come;
   knows = knows;
   counted = record {
-    keeps = leaves-same pools pool;
+    keeps = leaves-same pools start.pool;
     reads = λ room. let none = over-zero cache.config.callers (asked [] []) (λ n below. refl) in omega (arith, none);
     faults = λ room. let none = over-zero cache.config.callers (failed [] []) (λ n below. refl) in omega (arith, none);
   };
   groups = refl;
+  may_sync = may;
 }
 
--- before the first one, behind the restores
-pub between-begun : {C P : Type 0} (cache : Cache) (restored : List Restored) (pools : Ghosts P) (trace : Trace) (pool : P) (whole : List (Place (Known C))) (old new : Crew C) → AreOpened cache whole
-    → whole ≡ old.parties.items ++ old.feeder ∷ [] → KeepNothing old.kept.items → length old.kept.items ≡ length old.parties.items
-    → MadeJoined cache (restores_in cache.config restored) old.feeder old.parties.items new.feeder new.parties.items → new.kept.items ≡ old.kept.items → Knows (openings_of trace) old.feeder
-    → AreBetween cache restored pools trace pool pool [] new
-between-begun cache restored pools trace pool whole old new opened is none many made kept knows =
-    between-none cache restored pools trace pool new
-    (have-restored cache restored (pools.size pool) (pools.told pool) trace.blocks old new whole opened is (have-started cache whole old opened is none many (pools.size pool) (pools.told pool) trace.blocks) made kept)
-    (ap (λ (a : About). a.openings) made.about ∙ knows)
+-- the first sync may be done
+pub first-may : {P : Type 0} (pools : Ghosts P) (pool : P) (place len : ℕ) → place % sector ≡ 0 → place ≤ len → len ≡ pools.size pool → MaySync pools 0 (stand pool 1 place)
+first-may pools pool place len aligned inside is = record { born = omega arith; few = omega arith; aligned = aligned; inside = subst (λ (n : ℕ). place ≤ n) is inside }
 
-module _ {C P : Type 0} (cache : Cache) (restored : List Restored) (pools : Ghosts P) (trace : Trace) (start was from to : P) (rs ss : List Reply) (qs : List Op) (old new : Crew C) (few : length trace.ops ≤ 1000000) (some_callers : cache.config.callers ≤ 16)
-    (between : AreBetween cache restored pools trace start was rs old) (more : length rs < length trace.ops) (unused : IsUnused pools was from) (did : DidLinesAtOnce cache pools trace.blocks qs from to old new ss) (leaves : LeavesPool pools from to)
+-- before the first one, behind the restores
+pub between-begun : {C P : Type 0} (cache : Cache) (restored : List Restored) (pools : Ghosts P) (trace : Trace) (start : Stand P) (whole : List (Place (Known C))) (old new : Crew C) → AreOpened cache whole
+    → whole ≡ old.parties.items ++ old.feeder ∷ [] → KeepNothing old.kept.items → length old.kept.items ≡ length old.parties.items
+    → MadeJoined cache (restores_in cache.config restored) old.feeder old.parties.items new.feeder new.parties.items → new.kept.items ≡ old.kept.items → Knows (openings_of trace) old.feeder → MaySync pools 0 start
+    → AreBetween cache restored pools trace start start [] new
+between-begun cache restored pools trace start whole old new opened is none many made kept knows may =
+    between-none cache restored pools trace start new
+    (have-restored cache restored (pools.size start.pool) (pools.told start.pool) trace.blocks old new whole opened is (have-started cache whole old opened is none many (pools.size start.pool) (pools.told start.pool) trace.blocks) made kept)
+    (ap (λ (a : About). a.openings) made.about ∙ knows) may
+
+module _ {P : Type 0} (cache : Cache) (restored : List Restored) (pools : Ghosts P) (trace : Trace) (start was : Stand P) (from to : P) (rs ss : List Reply) (qs : List Op) (old new : Crew OnHeap) (few : length trace.ops ≤ 1000000) (some_callers : cache.config.callers ≤ 16)
+    (between : AreBetween cache restored pools trace start was rs old) (more : length rs < length trace.ops) (unused : IsUnused pools was.pool from) (did : DidLinesAtOnce cache pools trace.blocks qs from to old new ss) (leaves : LeavesPool pools from to)
     (own : AreOfCallers cache.config.callers qs) (inside : length rs + length qs ≤ length trace.ops) (here : take (length qs) (drop (length rs) trace.ops) ≡ qs) where
   abbrev callers : ℕ
   callers = cache.config.callers
+
+  abbrev Cells : OfCells
+  Cells = StoodFresh (openings_of trace) cache.config.cells
 
   abbrev os : List Op
   os = take (length rs) trace.ops
@@ -231,37 +237,44 @@ module _ {C P : Type 0} (cache : Cache) (restored : List Restored) (pools : Ghos
   few-here : length ss ≤ 1000000
   few-here = omega (arith, same-length, inside, few)
 
-  once : WorkAtOnce pools callers (record { ops = qs; replies = ss }) was to
-  once = at-once cache pools trace.blocks qs callers was from to did.own old.kept.items old.parties.items new.kept.items new.parties.items ss unused worked did.ordered
+  once : (end : Option EndLine) → WorkAtOnce pools callers (record { ops = qs; replies = ss; end = end }) was.pool to
+  once = at-once cache pools trace.blocks qs callers was.pool from to did.own old.kept.items old.parties.items new.kept.items new.parties.items ss unused worked did.ordered
 
-  now-leaves : LeavesPool pools was to
-  now-leaves = unused-leaves pools was from to unused leaves
+  now-leaves : LeavesPool pools was.pool to
+  now-leaves = unused-leaves pools was.pool from to unused leaves
 
-  counted-lines : HaveCounted pools callers (os ++ qs) (rs ++ ss) start to
-  counted-lines = counted-more pools callers os qs rs ss long start was to few-so-far some_callers between.counted now-leaves
-      (group-reads cache pools trace.blocks qs callers was from to did.own old.kept.items old.parties.items new.kept.items new.parties.items ss unused worked did.ordered few-here some_callers)
-      (group-faults cache pools trace.blocks qs callers was from to did.own old.kept.items old.parties.items new.kept.items new.parties.items ss unused worked did.ordered few-here some_callers)
+  counted-lines : HaveCounted pools callers (os ++ qs) (rs ++ ss) start.pool to
+  counted-lines = counted-more pools callers os qs rs ss long start.pool was.pool to few-so-far some_callers between.counted now-leaves
+      (group-reads cache pools trace.blocks qs callers was.pool from to did.own old.kept.items old.parties.items new.kept.items new.parties.items ss unused worked did.ordered few-here some_callers)
+      (group-faults cache pools trace.blocks qs callers was.pool from to did.own old.kept.items old.parties.items new.kept.items new.parties.items ss unused worked did.ordered few-here some_callers)
 
-  come-lines : HaveCome cache restored (pools.size start) (pools.told start) trace.blocks (os ++ qs) (rs ++ ss) new
-  come-lines = have-come-more cache restored pools (pools.size start) (pools.told start) trace.blocks os qs rs ss from to old new between.come did own (unused.size ∙ between.counted.keeps.size) (unused.told ∙ between.counted.keeps.told)
+  come-lines : HaveCome cache restored (pools.size start.pool) (pools.told start.pool) trace.blocks (os ++ qs) (rs ++ ss) new
+  come-lines = have-come-more cache restored pools (pools.size start.pool) (pools.told start.pool) trace.blocks os qs rs ss from to old new between.come did own (unused.size ∙ between.counted.keeps.size) (unused.told ∙ between.counted.keeps.told)
 
   -- the trace ends with these lines
-  pub between-last : length rs + length qs ≡ length trace.ops → AreBetween cache restored pools trace start to (rs ++ ss) new
+  pub between-last : length rs + length qs ≡ length trace.ops → AreBetween cache restored pools trace start (stand to was.group was.next) (rs ++ ss) new
   between-last all = record {
     few = omega (arith, both-long, all);
     begins = λ less. absurd (omega (arith, both-long, all, less));
-    come = subst (λ (l : List Op). HaveCome cache restored (pools.size start) (pools.told start) trace.blocks l (rs ++ ss) new) (sym taken) come-lines;
-    knows = ap (λ (p : Place (Known C)). p.own.about.openings) did.feeder ∙ between.knows;
-    counted = subst (λ (l : List Op). HaveCounted pools callers l (rs ++ ss) start to) (sym taken) counted-lines;
-    groups = subst (λ (gs : List Lines). WorkInGroups pools callers gs start to)
+    come = subst (λ (l : List Op). HaveCome cache restored (pools.size start.pool) (pools.told start.pool) trace.blocks l (rs ++ ss) new) (sym taken) come-lines;
+    knows = ap (λ (p : PartyPlace). p.own.about.openings) did.feeder ∙ between.knows;
+    counted = subst (λ (l : List Op). HaveCounted pools callers l (rs ++ ss) start.pool to) (sym taken) counted-lines;
+    groups = subst (λ (gs : List Lines). WorkInGroups pools cache.config Cells gs start (stand to was.group was.next))
         (sym (ap (λ (l : List Op). groups_of l (rs ++ ss)) taken
         ∙ (groups-append os qs rs ss long (whole-of trace.ops (length rs) between.few (between.begins more))
         ∙ ap (λ (gs : List Lines). groups_of os rs ++ gs) (group-last callers qs ss same-length own (omega (arith, more, all))))))
-        (in-groups-more pools callers (groups_of os rs) (record { ops = qs; replies = ss }) start was to between.groups once);
+        (in-groups-more pools cache.config Cells (groups_of os rs) (record { ops = qs; replies = ss; end = None }) start was (stand to was.group was.next) to between.groups (once None) refl);
+    may_sync = record {
+      born = between.may_sync.born;
+      few = omega (arith, between.may_sync.few, both-long);
+      aligned = between.may_sync.aligned;
+      inside = omega (arith, between.may_sync.inside, now-leaves.size);
+    };
   }
 
   -- a line ends them
-  module _ (op : Op) (reply : Reply) (last : Crew C) (at : slice_get trace.ops (length rs + length qs) ≡ Some op) (ends : ends_group op ≡ true) (ended : DidEndLine cache op new last reply) where
+  module _ (op : Op) (reply : Reply) (last : Crew OnHeap) (fin : Stand P) (at : slice_get trace.ops (length rs + length qs) ≡ Some op) (ends : ends_group op ≡ true)
+      (ended : DidEndLine cache pools op (stand to was.group was.next) fin new last reply) where
     abbrev all-replies : List Reply
     all-replies = (rs ++ ss) ++ reply ∷ []
 
@@ -277,34 +290,43 @@ module _ {C P : Type 0} (cache : Cache) (restored : List Restored) (pools : Ghos
         ∙ (take-suc trace.ops (length rs + length qs) op room
         ∙ (λ i. (sym (ap (λ (k : ℕ). take k trace.ops) both-long) ∙ taken) i ++ get_or_from_slice_get trace.ops (length rs + length qs) op op at i ∷ []))
 
-    come-ended-lines : HaveCome cache restored (pools.size start) (pools.told start) trace.blocks ((os ++ qs) ++ op ∷ []) all-replies last
-    come-ended-lines =
-        subst (λ (x : Op × Reply). HaveCome cache restored (pools.size start) (pools.told start) trace.blocks ((os ++ qs) ++ x.0 ∷ []) ((rs ++ ss) ++ x.1 ∷ []) last) (λ i. (sym ended.is i, sym ended.answer i))
-        (have-come-cap cache restored (pools.size start) (pools.told start) trace.blocks (os ++ qs) (rs ++ ss) ended.c new last come-lines ended.resized ended.kept)
+    knows-new : Knows (openings_of trace) new.feeder
+    knows-new = ap (λ (p : PartyPlace). p.own.about.openings) did.feeder ∙ between.knows
 
-    none-where : (c n : ℕ) → replies_of_caller n (ops.Cap c ∷ []) (Capped c ∷ []) ≡ []
-    none-where c n = refl
+    turn : Turned cache pools (openings_of trace) op reply (stand to was.group was.next) fin new last
+    turn = end-turned cache pools (openings_of trace) op (stand to was.group was.next) fin new last reply knows-new ended
 
-    counted-end : HaveCounted pools callers ((os ++ qs) ++ op ∷ []) all-replies start to
+    come-ended-lines : HaveCome cache restored (pools.size start.pool) (pools.told start.pool) trace.blocks ((os ++ qs) ++ op ∷ []) all-replies last
+    come-ended-lines = have-come-ended cache restored (pools.size start.pool) (pools.told start.pool) trace.blocks (os ++ qs) (rs ++ ss) op reply turn.more new last come-lines turn.so
+
+    none-where : (n : ℕ) → replies_of_caller n (op ∷ []) (reply ∷ []) ≡ []
+    none-where n = not-replied n op reply turn.so.nobody
+
+    counted-end : HaveCounted pools callers ((os ++ qs) ++ op ∷ []) all-replies start.pool fin.pool
     counted-end =
-        subst (λ (x : Op × Reply). HaveCounted pools callers ((os ++ qs) ++ x.0 ∷ []) ((rs ++ ss) ++ x.1 ∷ []) start to) (λ i. (sym ended.is i, sym ended.answer i))
-        (counted-more pools callers (os ++ qs) (ops.Cap ended.c ∷ []) (rs ++ ss) (Capped ended.c ∷ []) come-lines.long start to to (omega (arith, both-long, room, few)) some_callers counted-lines (leaves-same pools to)
-        (λ full. let none = over-zero callers (asked (ops.Cap ended.c ∷ []) (Capped ended.c ∷ [])) (λ n below. refl) in omega (arith, none))
-        (λ full. let none = over-zero callers (failed (ops.Cap ended.c ∷ []) (Capped ended.c ∷ [])) (λ n below. refl) in omega (arith, none)))
+        counted-more pools callers (os ++ qs) (op ∷ []) (rs ++ ss) (reply ∷ []) come-lines.long start.pool to fin.pool (omega (arith, both-long, room, few)) some_callers counted-lines (unused-leaves pools to fin.pool fin.pool turn.unused (leaves-same pools fin.pool))
+        (λ full. let none = over-zero callers (asked (op ∷ []) (reply ∷ [])) (λ n below. ap (λ (l : List Reply). length (calls_of_all l)) (none-where n)) in let same = turn.unused.reads in omega (arith, none, same))
+        (λ full. let none = over-zero callers (failed (op ∷ []) (reply ∷ [])) (λ n below. ap (count_by is_pool_fault) (none-where n)) in let same = turn.unused.faults in omega (arith, none, same))
 
-    pub between-ended : AreBetween cache restored pools trace start to all-replies last
+    pub between-ended : AreBetween cache restored pools trace start fin all-replies last
     between-ended = record {
       few = omega (arith, all-long, room);
       begins = λ less. subst (BeginsGroup trace.ops) (sym all-long) (op, at, ends);
-      come = subst (λ (l : List Op). HaveCome cache restored (pools.size start) (pools.told start) trace.blocks l all-replies last) (sym all-taken) come-ended-lines;
-      knows = ap (λ (a : About). a.openings) ended.resized.about ∙ (ap (λ (p : Place (Known C)). p.own.about.openings) did.feeder ∙ between.knows);
-      counted = subst (λ (l : List Op). HaveCounted pools callers l all-replies start to) (sym all-taken) counted-end;
-      groups = subst (λ (gs : List Lines). WorkInGroups pools callers gs start to)
+      come = subst (λ (l : List Op). HaveCome cache restored (pools.size start.pool) (pools.told start.pool) trace.blocks l all-replies last) (sym all-taken) come-ended-lines;
+      knows = ap (λ (a : About). a.openings) turn.so.made.about ∙ knows-new;
+      counted = subst (λ (l : List Op). HaveCounted pools callers l all-replies start.pool fin.pool) (sym all-taken) counted-end;
+      groups = subst (λ (gs : List Lines). WorkInGroups pools cache.config Cells gs start fin)
           (sym (ap (λ (l : List Op). groups_of l all-replies) all-taken
           ∙ ((λ i. groups_of (append_assoc os qs (op ∷ []) i) (append_assoc rs ss (reply ∷ []) i))
           ∙ (groups-append os (qs ++ op ∷ []) rs (ss ++ reply ∷ []) long (whole-of trace.ops (length rs) between.few (between.begins more))
           ∙ ap (λ (gs : List Lines). groups_of os rs ++ gs) (group-ended callers qs ss op reply same-length own ends)))))
-          (in-groups-more pools callers (groups_of os rs) (record { ops = qs; replies = ss }) start was to between.groups once);
+          (in-groups-more pools cache.config Cells (groups_of os rs) (record { ops = qs; replies = ss; end = Some (record { op = op; reply = reply }) }) start was fin to between.groups (once (Some (record { op = op; reply = reply }))) turn.ends);
+      may_sync = record {
+        born = omega (arith, turn.group);
+        few = omega (arith, turn.group, between.may_sync.few, all-long);
+        aligned = ap (λ (n : ℕ). n % sector) turn.next ∙ between.may_sync.aligned;
+        inside = let n = turn.next in let s = turn.unused.size in omega (arith, between.may_sync.inside, now-leaves.size, n, s);
+      };
     }
 
 -- ---- the lines of the next group
@@ -359,10 +381,10 @@ module _ (trace : Trace) (formed : IsFormed trace) (a b : ℕ) where
 -- ---- one step of all groups
 
 -- What the next group came to, whose lines are these of the trace: they are done at once, and then the line that ends them, where there is one.
-module _ {C P : Type 0} (cache : Cache) (restored : List Restored) (pools : Ghosts P) (trace : Trace) (formed : IsFormed trace) (config : cache.config ≡ trace.config) (start was from to : P) (rs ss : List Reply) (old new : Crew C)
+module _ {P : Type 0} (cache : Cache) (restored : List Restored) (pools : Ghosts P) (trace : Trace) (formed : IsFormed trace) (config : cache.config ≡ trace.config) (start was : Stand P) (from to : P) (rs ss : List Reply) (old new : Crew OnHeap)
     (first end : ℕ) (bs : List Ptr) (os : List Op) (is_bs : bs ≡ trace.blocks) (is_os : os ≡ trace.ops) (is_first : first ≡ length rs) (le : first ≤ end) (few : end ≤ length os)
     (inside : (k : ℕ) (op : Op) → first ≤ k → k < end → slice_get os k ≡ Some op → ends_group op ≡ false) (between : AreBetween cache restored pools trace start was rs old) (more : length rs < length trace.ops)
-    (unused : IsUnused pools was from) (did : DidLinesAtOnce cache pools bs (slice_range os first end) from to old new ss) (leaves : LeavesPool pools from to) where
+    (unused : IsUnused pools was.pool from) (did : DidLinesAtOnce cache pools bs (slice_range os first end) from to old new ss) (leaves : LeavesPool pools from to) where
   abbrev qs : List Op
   qs = slice_range trace.ops (length rs) end
 
@@ -388,12 +410,12 @@ module _ {C P : Type 0} (cache : Cache) (restored : List Restored) (pools : Ghos
   here : take (length qs) (drop (length rs) trace.ops) ≡ qs
   here = range-here trace.ops (length rs) end low few-lines
 
-  pub next-last : length os ≤ end → (all : List Reply) → all ≡ rs ++ ss → AreBetween cache restored pools trace start to all new × (length rs < length all)
+  pub next-last : length os ≤ end → (all : List Reply) → all ≡ rs ++ ss → AreBetween cache restored pools trace start (stand to was.group was.next) all new × (length rs < length all)
   next-last last all is =
       let long : length os ≡ length trace.ops = ap length is_os in
       let whole : length rs + length qs ≡ length trace.ops = omega (arith, ends-at, few-lines, last, long) in
       let size = ap length is in (
-        subst (λ (l : List Reply). AreBetween cache restored pools trace start to l new) (sym is)
+        subst (λ (l : List Reply). AreBetween cache restored pools trace start (stand to was.group was.next) l new) (sym is)
             (between-last cache restored pools trace start was from to rs ss qs old new formed.few_ops few-callers between more unused did-these leaves own (omega (arith, ends-at, few-lines)) here whole),
         omega (arith, size, length-append rs ss, did-these.ordered.all, whole, more),
       )
@@ -401,27 +423,40 @@ module _ {C P : Type 0} (cache : Cache) (restored : List Restored) (pools : Ghos
   -- the callers may join the feeder
   pub next-may : cache.row.parties ≡ parties_of cache.config → MayGoOn cache [] new.feeder new.parties.items
   next-may rows =
-      may-resize cache restored (pools.size start) (pools.told start) trace.blocks (take (length rs) trace.ops ++ qs) (rs ++ ss) new
+      may-resize cache restored (pools.size start.pool) (pools.told start.pool) trace.blocks (take (length rs) trace.ops ++ qs) (rs ++ ss) new
       (come-lines cache restored pools trace start was from to rs ss qs old new formed.few_ops few-callers between more unused did-these leaves own (omega (arith, ends-at, few-lines)) here) rows
 
-  pub next-ended : (op : Op) → slice_get os end ≡ Some op → ends_group op ≡ true → (last : Crew C) (reply : Reply) → DidEndLine cache op new last reply → (so_far all : List Reply) → so_far ≡ rs ++ ss → all ≡ so_far ++ reply ∷ []
-      → AreBetween cache restored pools trace start to all last × (length rs < length all)
-  next-ended op at ends last reply ended so_far all is_far is =
+  -- the sync that ends it may be done
+  pub next-sync : (lines : ℕ) × (lines < 2 ^ 32) × MaySync pools lines (stand to was.group was.next)
+  next-sync = (
+    length rs,
+    omega (arith, more, formed.few_ops),
+    record {
+      born = between.may_sync.born;
+      few = between.may_sync.few;
+      aligned = between.may_sync.aligned;
+      inside = omega (arith, between.may_sync.inside, leaves.size, unused.size);
+    },
+  )
+
+  pub next-ended : (op : Op) → slice_get os end ≡ Some op → ends_group op ≡ true → (last : Crew OnHeap) (fin : Stand P) (reply : Reply) → DidEndLine cache pools op (stand to was.group was.next) fin new last reply → (so_far all : List Reply) → so_far ≡ rs ++ ss → all ≡ so_far ++ reply ∷ []
+      → AreBetween cache restored pools trace start fin all last × (length rs < length all)
+  next-ended op at ends last fin reply ended so_far all is_far is =
       let there : slice_get trace.ops (length rs + length qs) ≡ Some op = ap (slice_get trace.ops) ends-at ∙ (ap (λ (l : List Op). slice_get l end) (sym is_os) ∙ at) in
       let whole : all ≡ (rs ++ ss) ++ reply ∷ [] = is ∙ ap (λ (l : List Reply). l ++ reply ∷ []) is_far in
       let size = ap length whole in (
-        subst (λ (l : List Reply). AreBetween cache restored pools trace start to l last) (sym whole)
-            (between-ended cache restored pools trace start was from to rs ss qs old new formed.few_ops few-callers between more unused did-these leaves own (omega (arith, ends-at, few-lines)) here op reply last there ends ended),
+        subst (λ (l : List Reply). AreBetween cache restored pools trace start fin l last) (sym whole)
+            (between-ended cache restored pools trace start was from to rs ss qs old new formed.few_ops few-callers between more unused did-these leaves own (omega (arith, ends-at, few-lines)) here op reply last fin there ends ended),
         omega (arith, size, length-append (rs ++ ss) (reply ∷ []), length-append rs ss),
       )
 
 -- what a step says, by whether the group was done
-pub stepped : {C P : Type 0} (cache : Cache) (restored : List Restored) (pools : Ghosts P) (trace : Trace) (start before after : P) (replied replies : List Reply) (done : Bool) (old new : Crew C) → done ≡ true
+pub stepped : {C P : Type 0} (cache : Cache) (restored : List Restored) (pools : Ghosts P) (trace : Trace) (start before after : Stand P) (replied replies : List Reply) (done : Bool) (old new : Crew C) → done ≡ true
     → StepsOn cache restored pools trace start before after replied replies done old new → AreBetween cache restored pools trace start after replies new × (length replied < length replies)
 stepped cache restored pools trace start before after replied replies done old new is step = subst (λ (b : Bool). StepsOn cache restored pools trace start before after replied replies b old new) is step
 
-pub not-stepped : {C P : Type 0} (cache : Cache) (restored : List Restored) (pools : Ghosts P) (trace : Trace) (start before after : P) (replied replies : List Reply) (done : Bool) (old new : Crew C) → done ≡ false
-    → StepsOn cache restored pools trace start before after replied replies done old new → AreBetween cache restored pools trace start before replied old → length replied < length trace.ops → AreDone cache restored pools trace start after true replies new
+pub not-stepped : {C P : Type 0} (cache : Cache) (restored : List Restored) (pools : Ghosts P) (trace : Trace) (start before after : Stand P) (replied replies : List Reply) (done : Bool) (old new : Crew C) → done ≡ false
+    → StepsOn cache restored pools trace start before after replied replies done old new → AreBetween cache restored pools trace start before replied old → length replied < length trace.ops → AreDone cache restored pools trace start after.pool true replies new
 not-stepped {C} cache restored pools trace start before after replied replies done old new is step between more =
     let same = subst (λ (b : Bool). StepsOn cache restored pools trace start before after replied replies b old new) is step in
     record {
@@ -431,8 +466,8 @@ not-stepped {C} cache restored pools trace start before after replied replies do
       failed = λ yes. (omega (arith, ap length same.0, more), same.2);
     }
 
-pub all-stepped : {C P : Type 0} (cache : Cache) (restored : List Restored) (pools : Ghosts P) (trace : Trace) (start after : P) (replies : List Reply) (crew : Crew C) → AreBetween cache restored pools trace start after replies crew → length trace.ops ≤ length replies
-    → AreDone cache restored pools trace start after false replies crew
+pub all-stepped : {C P : Type 0} (cache : Cache) (restored : List Restored) (pools : Ghosts P) (trace : Trace) (start after : Stand P) (replies : List Reply) (crew : Crew C) → AreBetween cache restored pools trace start after replies crew → length trace.ops ≤ length replies
+    → AreDone cache restored pools trace start after.pool false replies crew
 all-stepped cache restored pools trace start after replies crew between all = record {
   reached = after;
   between = between;

@@ -18,7 +18,7 @@ use Rattle.trace_run.specs.KeptReads.{KeptRead}
 use Rattle.trace_run.specs.Answers.{Answers, AnswersAll, drops, drops_one, keeps, keeps_one}
 use Rattle.trace_run.specs.Effects.{Answered, Effect, GivenBack, NoEffect, PoolRefused, effect_of}
 use Rattle.trace_run.specs.callers.Group.{HaveWorked}
-use Rattle.trace_run.specs.callers.Groups.{AreCapped}
+use Rattle.trace_run.specs.callers.Groups.{AreEndLines, IsEndLine}
 use Rattle.trace_run.specs.callers.InOrder.{HaveReplies}
 use Rattle.trace_run.specs.Lines.{caller_of, is_of_caller, replies_where}
 use Rattle.trace_run.specs.KeptBlocks.{read_of}
@@ -105,15 +105,20 @@ module _ (pool_len : ℕ) (image : Option (List ℕ)) (blocks : List Ptr) where
       answers = rw other at are.answers;
     }
 
-  -- the answers so far, and those to what is left, where all lines are of these callers or give a capacity that is answered
+  -- a line that ends a group has its answer
+  end-answers : (earlier : List Op) (replied : List Reply) (o : Op) (r : Reply) → IsEndLine o r → Answers pool_len image blocks earlier replied o r
+  end-answers earlier replied o r (inl cap) = subst (λ (x : Op). Answers pool_len image blocks earlier replied x r) (sym cap.1) cap.2
+  end-answers earlier replied o r (inr sync) = subst (λ (x : Op). Answers pool_len image blocks earlier replied x r) (sym sync.4) (sync.1, sync.2, sync.3, sync.5)
+
+  -- the answers so far, and those to what is left, where all lines are of these callers or end a group
   pub each-together : (who : ℕ → Type 0) (all : List Op) (whole : List Reply) → ((k : ℕ) (op : Op) → slice_get all k ≡ Some op → (n : ℕ) → caller_of op ≡ Some n → who n)
-      → AreCapped all whole
+      → AreEndLines all whole
       → (done os : List Op) (replied rs : List Reply) → all ≡ done ++ os → whole ≡ replied ++ rs → length replied ≡ length done → length rs ≡ length os → EachAnswers pool_len image blocks all replied
       → ((n : ℕ) → who n → IsAnswered n (take (length replied) all) replied os rs) → EachAnswers pool_len image blocks all (replied ++ rs)
-  each-together who all whole own capped done [] replied [] is are_whole count long each are = subst (EachAnswers pool_len image blocks all) (sym (append-nil replied)) each
-  each-together who all whole own capped done [] replied (r ∷ rs) is are_whole count long each are = absurd (omega arith)
-  each-together who all whole own capped done (o ∷ os) replied [] is are_whole count long each are = absurd (omega arith)
-  each-together who all whole own capped done (o ∷ os) replied (r ∷ rs) is are_whole count long each are =
+  each-together who all whole own ended done [] replied [] is are_whole count long each are = subst (EachAnswers pool_len image blocks all) (sym (append-nil replied)) each
+  each-together who all whole own ended done [] replied (r ∷ rs) is are_whole count long each are = absurd (omega arith)
+  each-together who all whole own ended done (o ∷ os) replied [] is are_whole count long each are = absurd (omega arith)
+  each-together who all whole own ended done (o ∷ os) replied (r ∷ rs) is are_whole count long each are =
       let here : slice_get all (length replied) ≡ Some o = ap (λ (l : List Op). slice_get l (length replied)) is ∙ (ap (slice_get (done ++ o ∷ os)) count ∙ get-after done os o) in
       let answer : Answers pool_len image blocks (take (length replied) all) replied o r =
       elim (line-kind o) [
@@ -122,9 +127,9 @@ module _ (pool_len : ℕ) (image : Option (List ℕ)) (blocks : List Ptr) where
             let his : is_of_caller caller.0 o ≡ true = his-is caller.0 caller.0 o caller.1 refl in
             to_answer pool_len image blocks caller.0 (take (length replied) all) replied mine.kept o r mine.tally (same-caller caller.0 o his) (own-now caller.0 all replied o os r rs here mine his).0
         | inr none ↦
-            let cap = capped (length replied) o here none in
+            let given = ended (length replied) o here none in
             let there : slice_get whole (length replied) ≡ Some r = ap (λ (l : List Reply). slice_get l (length replied)) are_whole ∙ get-after replied rs r in
-            subst (λ (x : Op). Answers pool_len image blocks (take (length replied) all) replied x r) (sym cap.1) (some_reply r (Capped cap.0) (sym there ∙ cap.2))
+            end-answers (take (length replied) all) replied o r (subst (IsEndLine o) (sym (some_reply r given.0 (sym there ∙ given.1))) given.2)
       ] in
       let now : EachAnswers pool_len image blocks all (replied ++ r ∷ []) = more_answers pool_len image blocks all replied o r here each answer in
       let more : length replied + 1 ≡ length (replied ++ r ∷ []) = let l = length-append replied (r ∷ []) in omega arith in
@@ -135,18 +140,18 @@ module _ (pool_len : ℕ) (image : Option (List ℕ)) (blocks : List Ptr) where
         | inr other ↦ other-then n all replied o os r rs here (are n is_one) other
       ]) in
       subst (EachAnswers pool_len image blocks all) (append_assoc replied (r ∷ []) rs)
-      (each-together who all whole own capped (done ++ o ∷ []) os (replied ++ r ∷ []) rs (is ∙ sym (append_assoc done (o ∷ []) os)) (are_whole ∙ sym (append_assoc replied (r ∷ []) rs))
+      (each-together who all whole own ended (done ++ o ∷ []) os (replied ++ r ∷ []) rs (is ∙ sym (append_assoc done (o ∷ []) os)) (are_whole ∙ sym (append_assoc replied (r ∷ []) rs))
       (let l = length-append replied (r ∷ []) in let m = length-append done (o ∷ []) in omega arith) (omega arith) now then)
 
   -- ---- all lines
 
-  -- all lines have their answers, where they are of these callers and the lines of each have them, or give a capacity
+  -- all lines have their answers, where they are of these callers and the lines of each have them, or end a group
   pub all-answered : (who : ℕ → Type 0) (os : List Op) (rs : List Reply) → length rs ≡ length os → ((k : ℕ) (op : Op) → slice_get os k ≡ Some op → (n : ℕ) → caller_of op ≡ Some n → who n)
-      → AreCapped os rs
+      → AreEndLines os rs
       → ((n : ℕ) → who n → AreAnswered pool_len image blocks [] (filter (is_of_caller n) os) (replies_where (is_of_caller n) os rs)) → AnswersAll pool_len image blocks os rs
-  all-answered who os rs long own capped answers = record {
+  all-answered who os rs long own ended answers = record {
     all = long;
-    each = each-together who os rs own capped [] os [] rs refl refl refl long (λ k op reply at there. nothing-there k reply there)
+    each = each-together who os rs own ended [] os [] rs refl refl refl long (λ k op reply at there. nothing-there k reply there)
         (λ n is_one. record { kept = []; tally = record { each = λ x. refl }; answers = answers n is_one });
   }
     where

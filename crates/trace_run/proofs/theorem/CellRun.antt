@@ -26,6 +26,7 @@ use Rattle.trace_run.specs.declared.groups.Crew.{Crew}
 use Rattle.trace_run.specs.CellEnds.{AreCellsOf, HasSeenEnds, IsCellOf, end_entry}
 use Rattle.trace_run.specs.callers.GroupRun.{HaveClosed, HaveStopped}
 use Rattle.trace_run.specs.callers.Groups.{AreDone}
+use Rattle.trace_run.specs.callers.Together.{stand}
 use Rattle.trace_run.specs.KeptBlocks.{no_entries}
 use Rattle.trace_run.specs.Meeting.{HaveGivenBack}
 use Rattle.trace_run.specs.Openings.{Knows, openings_of}
@@ -107,14 +108,14 @@ module _ (cache : Cache) (fin : List PartyPlace) (all : List PartyPlace) (e : En
                 (subst (λ (n : ℕ). AreEntriesSeen cache.config n p.0.own.mine p.0.own.seen) is b.2.stands.cells.made.own),
           )
 
-module _ {P : Type 0} (cache : Cache) (pools : Ghosts P) (before after : P) (trace : Trace) (formed : IsFormed trace) (config : cache.config ≡ trace.config) (valid : IsConfig cache.config)
-    (fork_failed : Bool) (restored : List Restored) (rs : List Reply) (crew : Crew OnHeap) (d : AreDone cache restored pools trace before after fork_failed rs crew) (closed : Ended OnHeap) (h : HaveClosed dbuf_meanings cache crew closed) where
+module _ {P : Type 0} (cache : Cache) (pools : Ghosts P) (before after : P) (place : ℕ) (trace : Trace) (formed : IsFormed trace) (config : cache.config ≡ trace.config) (valid : IsConfig cache.config)
+    (fork_failed : Bool) (restored : List Restored) (rs : List Reply) (crew : Crew OnHeap) (d : AreDone cache restored pools trace (stand before 1 place) after fork_failed rs crew) (closed : Ended OnHeap) (h : HaveClosed dbuf_meanings cache crew closed) where
   given : HaveStopped no_entries cache h.parties
-  given = stopped dbuf_meanings cache pools before after trace formed config valid fork_failed restored rs crew d closed h
+  given = stopped dbuf_meanings cache pools before after place trace formed config valid fork_failed restored rs crew d closed h
 
   gone : HaveGivenBack cache (lines-acts cache restored (pools.size before) (pools.told before) trace.blocks (take (length rs) trace.ops) rs crew d.between.come) crew.feeder.own.about.openings
       (events_by_feeder cache.config restored (take (length rs) trace.ops) rs) (λ shard. seen_of cache.config shard crew.feeder) crew.kept.items h.parties
-  gone = gave dbuf_meanings cache pools before after trace formed config valid fork_failed restored rs crew d closed h
+  gone = gave dbuf_meanings cache pools before after place trace formed config valid fork_failed restored rs crew d closed h
 
   long : length h.ended.callers ≡ cache.config.callers
   long = omega (arith, given.count, ap length h.ended.are, length-append h.ended.callers (h.ended.feeder ∷ []))
@@ -133,4 +134,4 @@ module _ {P : Type 0} (cache : Cache) (pools : Ghosts P) (before after : P) (tra
 
   pub closed-cells : AreCellsOf trace closed
   closed-cells = together-cells cache h.closing h.parties closed h.ends trace config (crew-long cache h.parties h.closing h.ended ∙ given.count) (λ n p at. (given.each n p at).0)
-      (subst (λ (n : ℕ). AreAfter cache (end_entry n) h.parties h.closing) feeder-number (after-ends dbuf_meanings cache pools before after trace formed config valid fork_failed restored rs crew d closed h)) h.ended.last last-at knows-last
+      (subst (λ (n : ℕ). AreAfter cache (end_entry n) h.parties h.closing) feeder-number (after-ends dbuf_meanings cache pools before after place trace formed config valid fork_failed restored rs crew d closed h)) h.ended.last last-at knows-last

@@ -14,12 +14,13 @@ use Rattle.vdev_io.specs.declared.pool.Pool.{Ghosts}
 use Rattle.trace_run.specs.one_caller.Alone.{RanAlone, ends_in}
 use Rattle.trace_run.specs.Effects.{calls_of_all}
 use Rattle.trace_run.specs.Ends.{ends_of}
+use Rattle.dbuf_cells.specs.Turns.{OnHeap}
 use Rattle.trace_run.specs.callers.GroupRun.{RanTogether}
 use Rattle.trace_run.specs.Outcome.{IsRun}
 use Rattle.trace_run.specs.one_caller.Lent.{ReadsAlone, told_lent}
 use Rattle.trace_run.specs.one_caller.PlainRun.{images, no_contents, replies_to, report_with}
 use Rattle.trace_run.specs.Restores.{restored_of, restored_shard}
-use Rattle.trace_run.specs.callers.Together.{RunsTogether, WorkInGroups, groups_of, report_of_closed}
+use Rattle.trace_run.specs.callers.Together.{RunsTogether, Stand, StoodThen, WorkInGroups, groups_of, report_of_closed, stand}
 use Rattle.trace_run.proofs.one_caller.PlainReportLemmas.{plain-but}
 use Rattle.trace_run.proofs.theorem.ReportLemmas.{report-is}
 use Rattle.trace_run.proofs.RunLemmas.{calls-faults, calls-few, calls-reads, failed-all}
@@ -35,7 +36,7 @@ both-told None b each is = tt
 both-told (Some x) None each is = tt
 both-told (Some x) (Some y) each is = each x y is
 
-module _ {C P D : Type 0} (pools : Ghosts P) (devices : DeviceGhosts D) (before after : P) (lent back : Option D) (trace : Trace) (rebuilt : Option Rebuilt) (replies : List Reply) (closed : Ended C) where
+module _ {P D : Type 0} (pools : Ghosts P) (devices : DeviceGhosts D) (before after : P) (lent back : Option D) (trace : Trace) (rebuilt : Option Rebuilt) (replies : List Reply) (closed : Ended OnHeap) where
   -- one caller's run
   pub alone-run : IsFormed trace → trace.config.callers ≡ 1 → RanAlone pools before after trace (restored_of rebuilt) replies closed
       → ReadsAlone pools devices before trace (restored_of rebuilt) replies lent back → IsRun pools devices before after lent back trace false closed (report_of_closed false rebuilt replies closed)
@@ -92,12 +93,12 @@ module _ {C P D : Type 0} (pools : Ghosts P) (devices : DeviceGhosts D) (before 
     together = λ _. told;
     idle = λ none. let whole = no-fork none fork_failed refl in (
       whole,
-      told.whole whole ∙ subst (λ (os : List Op). WorkInGroups pools trace.config.callers (groups_of os replies) before told.reached) none told.groups,
+      told.whole whole ∙ ap (λ (s : Stand P). s.pool) (subst (λ (os : List Op). WorkInGroups pools trace.config (StoodThen trace closed.cells) (groups_of os replies) (stand before 1 told.place) told.reached) none told.groups),
     );
     failed = ran.failed;
   }
     where
-      told : RunsTogether pools before after trace fork_failed (report_of_closed fork_failed rebuilt replies closed)
+      told : RunsTogether pools before after trace fork_failed closed.cells (report_of_closed fork_failed rebuilt replies closed)
       told = ran.together rebuilt refl
 
       -- no line, no group

@@ -109,7 +109,7 @@ module _ {D : Type 0} (devices : Ghosts D) where
 
 -- lines with their replies, as a group has them
 abbrev pub these : List Op → List Reply → Lines
-these ops replies = record { ops = ops; replies = replies }
+these ops replies = record { ops = ops; replies = replies; end = None }
 
 module _ {C P D : Type 0} (devices : Ghosts D) where
   -- a caller tried its lines, which asked the device that it was given for their reads

@@ -12,6 +12,7 @@ use Rattle.arc_table.specs.Cache.{Cache}
 use Rattle.arc_table.specs.Ended.{Ended, Ends}
 use Rattle.arc_table.specs.Geometry.{parties_of}
 use Rattle.arc_table.specs.Items.{Meanings}
+use Rattle.dbuf_cells.specs.Turns.{OnHeap}
 use Rattle.trace_text.specs.declared.rebuilt.Rebuilt.{Rebuilt}
 use Rattle.trace_text.specs.declared.reply.Reply.{Reply}
 use Rattle.trace_text.specs.declared.trace.Trace.{Trace}
@@ -43,11 +44,11 @@ pub record HaveClosed {C : Type 0} (m : Meanings C) (cache : Cache) (crew : Crew
 
 -- The operations of several callers were answered, and the histories of the closed cache explain the replies and the reads of the pool; or a
 -- fork of the pool failed, and those before its group were.
-pub record RanTogether {C P : Type 0} (pools : Ghosts P) (before after : P) (trace : Trace) (fork_failed : Bool) (restored : List Restored) (replies : List Reply) (closed : Ended C) : Type 0 where
+pub record RanTogether {P : Type 0} (pools : Ghosts P) (before after : P) (trace : Trace) (fork_failed : Bool) (restored : List Restored) (replies : List Reply) (closed : Ended OnHeap) : Type 0 where
   pub answers : AnswersAll (pools.size before) (pools.told before) trace.blocks (answered_ops trace fork_failed replies) replies
   pub config : closed.config ≡ trace.config
   pub explained : Explain trace restored replies (ends_in closed) (histories_of closed)
   pub reads : pools.reads before < 2 ^ 63 → pools.reads after ≡ pools.reads before + sum_by pool_reads (histories_of closed)
   pub faults : pools.faults before < 2 ^ 63 → pools.faults after ≡ pools.faults before + faults_told fork_failed replies
-  pub together : (rebuilt : Option Rebuilt) → restored_of rebuilt ≡ restored → RunsTogether pools before after trace fork_failed (report_of_closed fork_failed rebuilt replies closed)
+  pub together : (rebuilt : Option Rebuilt) → restored_of rebuilt ≡ restored → RunsTogether pools before after trace fork_failed closed.cells (report_of_closed fork_failed rebuilt replies closed)
   pub failed : fork_failed ≡ true → Rose (pools.faults before) (pools.faults after) × StopsAtGroup trace replies

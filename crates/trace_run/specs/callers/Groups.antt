@@ -1,6 +1,7 @@
 -- Several callers between two groups of a trace: what all lines so far came to.
-use Rattle.std.specs.Prelude.{◌≡◌, ◌<◌, ◌≤◌, ◌+◌, ◌^◌, ℕ, Bool, true, false, List, [], Option, Some, None, count_by, filter, length, map, slice_get, take}
+use Rattle.std.specs.Prelude.{◌≡◌, ◌⊎◌, ◌<◌, ◌≤◌, ◌+◌, ◌%◌, ◌^◌, ℕ, suc, Bool, true, false, List, [], Option, Some, None, count_by, filter, length, map, slice_get, slice_index_or, take}
 use Rattle.std.specs.List.{AllByRecursion}
+use Rattle.blk_ptr.specs.Size.{sector}
 use Rattle.blk_ptr.specs.declared.ptr.Ptr.{Ptr}
 use Rattle.turn_table.specs.Places.{Place}
 use Rattle.arc_table.specs.declared.view.Known.{Known}
@@ -8,10 +9,15 @@ use Rattle.arc_core.specs.declared.served.Restored.{Restored}
 use Rattle.arc_table.specs.Cache.{Cache}
 use Rattle.arc_table.specs.Fronts.{StartsWith}
 use Rattle.arc_table.specs.Seen.{seen_of}
+use Rattle.dbuf_cells.specs.Turns.{OnHeap}
+use Rattle.dbuf_state.specs.Numbers.{opening_numbers}
+use Rattle.dbuf_state.specs.Soundness.{IsSound}
+use Rattle.txg_sync.specs.Items.{SyncItem}
+use Rattle.txg_sync.specs.declared.syncing.Synced.{Synced as Syncing}
 use Rattle.trace_text.specs.declared.op.Op.{Op}
-use Rattle.trace_text.specs.declared.op.Op.TheVariants.{Cap}
+use Rattle.trace_text.specs.declared.op.Op.TheVariants.{Cap, Txg}
 use Rattle.trace_text.specs.declared.reply.Reply.{Reply}
-use Rattle.trace_text.specs.declared.reply.Reply.TheVariants.{Capped}
+use Rattle.trace_text.specs.declared.reply.Reply.TheVariants.{Capped, Synced}
 use Rattle.trace_text.specs.declared.trace.Trace.{Trace}
 use Rattle.vdev_io.specs.declared.pool.Pool.{Ghosts}
 use Rattle.vdev_io.specs.Faults.{Rose, last_count}
@@ -29,12 +35,17 @@ use Rattle.trace_run.specs.one_caller.OneCaller.{kept_after_all}
 use Rattle.trace_run.specs.Openings.{Knows, openings_of}
 use Rattle.trace_run.specs.one_caller.OverShards.{AreNamed}
 use Rattle.trace_run.specs.Restores.{events_by_feeder, restores_in}
+use Rattle.trace_run.specs.Syncing.{SyncedJoined}
 use Rattle.trace_run.specs.Tally.{AreAnswered}
-use Rattle.trace_run.specs.callers.Together.{AreCut, BeginsGroup, WorkInGroups, groups_of, over_callers, replies_of_caller}
+use Rattle.trace_run.specs.callers.Together.{AreCut, BeginsGroup, Stand, WorkInGroups, groups_of, over_callers, replies_of_caller, stand}
 
--- the lines among these that are no caller's gave a capacity, and are answered so
-abbrev pub AreCapped : List Op → List Reply → Type 0
-AreCapped ops replies = (k : ℕ) (op : Op) → slice_get ops k ≡ Some op → caller_of op ≡ None → (c : ℕ) × (op ≡ Cap c) × (slice_get replies k ≡ Some (Capped c))
+-- the line gave a capacity, and is answered so; or it is a sync that is answered
+abbrev pub IsEndLine : Op → Reply → Type 0
+IsEndLine op reply = ((c : ℕ) × (op ≡ Cap c) × (reply ≡ Capped c)) ⊎ ((t group blocks bytes : ℕ) × (op ≡ Txg t) × (reply ≡ Synced group blocks bytes))
+
+-- the lines among these that are no caller's are
+abbrev pub AreEndLines : List Op → List Reply → Type 0
+AreEndLines ops replies = (k : ℕ) (op : Op) → slice_get ops k ≡ Some op → caller_of op ≡ None → (reply : Reply) × (slice_get replies k ≡ Some reply) × IsEndLine op reply
 
 -- these callers keep nothing
 abbrev pub KeepNothing : List (List KeptBlock) → Type 0
@@ -66,7 +77,7 @@ module _ {C : Type 0} where
     pub kepts : length crew.kept.items ≡ cache.config.callers
     pub parties : length crew.parties.items ≡ cache.config.callers
     pub each : (n : ℕ) → n < cache.config.callers → ComesAt cache pool_len image blocks ops replies n crew
-    pub capped : AreCapped ops replies
+    pub ended : AreEndLines ops replies
     pub feeder : IsFed cache crew.feeder.own.about.openings (events_by_feeder cache.config restored ops replies) (λ shard. seen_of cache.config shard crew.feeder) crew.feeder
     pub begun : (shard : ℕ) → shard < cache.config.shards → StartsWith (seen_of cache.config shard crew.feeder) (restores_in cache.config restored shard)
     pub cut : (shard : ℕ) → shard < cache.config.shards → AreCut cache.config restored blocks shard ops replies (seen_of cache.config shard crew.feeder)
@@ -77,15 +88,32 @@ pub record HaveCounted {P : Type 0} (pools : Ghosts P) (callers : ℕ) (ops : Li
   pub reads : pools.reads before < 2 ^ 63 → pools.reads now ≡ pools.reads before + over_callers callers (λ n. length (calls_of_all (replies_of_caller n ops replies)))
   pub faults : pools.faults before < 2 ^ 63 → pools.faults now ≡ pools.faults before + over_callers callers (λ n. count_by is_pool_fault (replies_of_caller n ops replies))
 
+-- Nothing was done to the cells before a sync took them, and it wrote nothing: no line of a trace makes a block dirty yet. Each began as the trace's lines
+-- say.
+pub record StoodFresh (openings : List (List ℕ)) (count tick : ℕ) (cells : List OnHeap) (xs : List SyncItem) : Type 0 where
+  pub many : length cells ≡ count
+  pub sound : (i : ℕ) (c : OnHeap) → slice_get cells i ≡ Some c → IsSound c.value
+  pub began : (i : ℕ) (c : OnHeap) → slice_get cells i ≡ Some c → opening_numbers c.value.limit c.value.opening ≡ slice_index_or openings i []
+  pub fresh : (i : ℕ) (c : OnHeap) → slice_get cells i ≡ Some c → c.value.history ≡ []
+  pub nothing : xs ≡ []
+
+-- The next group has a number, and its sync a place: they are such that it may be done.
+pub record MaySync {P : Type 0} (pools : Ghosts P) (lines : ℕ) (now : Stand P) : Type 0 where
+  pub born : 0 < now.group
+  pub few : now.group ≤ suc lines
+  pub aligned : now.next % sector ≡ 0
+  pub inside : now.next ≤ pools.size now.pool
+
 -- The callers stand between two groups of a trace, of which so many lines are answered.
-pub record AreBetween {C P : Type 0} (cache : Cache) (restored : List Restored) (pools : Ghosts P) (trace : Trace) (before now : P) (replies : List Reply) (crew : Crew C) : Type 0 where
+pub record AreBetween {C P : Type 0} (cache : Cache) (restored : List Restored) (pools : Ghosts P) (trace : Trace) (before now : Stand P) (replies : List Reply) (crew : Crew C) : Type 0 where
   pub few : length replies ≤ length trace.ops
   pub begins : length replies < length trace.ops → BeginsGroup trace.ops (length replies)
-  pub come : HaveCome cache restored (pools.size before) (pools.told before) trace.blocks (take (length replies) trace.ops) replies crew
+  pub come : HaveCome cache restored (pools.size before.pool) (pools.told before.pool) trace.blocks (take (length replies) trace.ops) replies crew
   -- the feeder knows how the cells began
   pub knows : Knows (openings_of trace) crew.feeder
-  pub counted : HaveCounted pools cache.config.callers (take (length replies) trace.ops) replies before now
-  pub groups : WorkInGroups pools cache.config.callers (groups_of (take (length replies) trace.ops) replies) before now
+  pub counted : HaveCounted pools cache.config.callers (take (length replies) trace.ops) replies before.pool now.pool
+  pub groups : WorkInGroups pools cache.config (StoodFresh (openings_of trace) cache.config.cells) (groups_of (take (length replies) trace.ops) replies) before now
+  pub may_sync : MaySync pools (length replies) now
 
 -- the lines of a group were done at once, and these are the replies to them in their order
 pub record DidLinesAtOnce {C P : Type 0} (cache : Cache) (pools : Ghosts P) (blocks : List Ptr) (ops : List Op) (before after : P) (old new : Crew C) (replies : List Reply) : Type 0 where
@@ -94,12 +122,23 @@ pub record DidLinesAtOnce {C P : Type 0} (cache : Cache) (pools : Ghosts P) (blo
   pub ordered : AreInOrder ops own replies
   pub feeder : new.feeder ≡ old.feeder
 
--- a line that ends a group was done, and this is the reply
-pub record DidEndLine {C : Type 0} (cache : Cache) (op : Op) (old new : Crew C) (reply : Reply) : Type 0 where
-  pub c : ℕ
-  pub is : op ≡ Cap c
+-- every shard was given a capacity
+pub record DidCap {C P : Type 0} (cache : Cache) (c : ℕ) (from to : Stand P) (old new : Crew C) (reply : Reply) : Type 0 where
   pub answer : reply ≡ Capped c
   pub resized : Resized cache c old.feeder old.parties.items new.feeder new.parties.items
+  pub stays : to ≡ stand from.pool (suc from.group) from.next
+
+-- all dirty blocks were written at this tick
+pub record DidSync {P : Type 0} (cache : Cache) (pools : Ghosts P) (t : ℕ) (from to : Stand P) (old new : Crew OnHeap) (reply : Reply) : Type 0 where
+  pub done : Syncing
+  pub answer : reply ≡ Synced from.group done.blocks done.bytes
+  pub synced : SyncedJoined pools cache from.group t from.next from.pool to.pool old.feeder old.parties.items new.feeder new.parties.items done
+  pub group : to.group ≡ suc from.group
+  pub next : to.next ≡ done.next
+
+-- a line that ends a group was done, and this is the reply
+pub record DidEndLine {P : Type 0} (cache : Cache) (pools : Ghosts P) (op : Op) (from to : Stand P) (old new : Crew OnHeap) (reply : Reply) : Type 0 where
+  pub did : ((c : ℕ) × (op ≡ Cap c) × DidCap cache c from to old new reply) ⊎ ((t : ℕ) × (op ≡ Txg t) × DidSync cache pools t from to old new reply)
   pub kept : new.kept.items ≡ old.kept.items
 
 -- a fork of the pool failed: the pool has counted that, and nothing else has changed but counts
@@ -110,18 +149,18 @@ pub record ForkFailed {P : Type 0} (pools : Ghosts P) (before after : P) : Type 
   pub rose : Rose (pools.faults before) (pools.faults after)
 
 -- All lines of the trace were done; or a fork of the pool failed before the group of the first line that isn't answered.
-pub record AreDone {C P : Type 0} (cache : Cache) (restored : List Restored) (pools : Ghosts P) (trace : Trace) (before after : P) (fork_failed : Bool) (replies : List Reply) (crew : Crew C) : Type 0 where
-  pub reached : P
+pub record AreDone {C P : Type 0} (cache : Cache) (restored : List Restored) (pools : Ghosts P) (trace : Trace) (before : Stand P) (after : P) (fork_failed : Bool) (replies : List Reply) (crew : Crew C) : Type 0 where
+  pub reached : Stand P
   pub between : AreBetween cache restored pools trace before reached replies crew
-  pub whole : fork_failed ≡ false → (length replies ≡ length trace.ops) × (after ≡ reached)
-  pub failed : fork_failed ≡ true → (length replies < length trace.ops) × ForkFailed pools reached after
+  pub whole : fork_failed ≡ false → (length replies ≡ length trace.ops) × (after ≡ reached.pool)
+  pub failed : fork_failed ≡ true → (length replies < length trace.ops) × ForkFailed pools reached.pool after
 
 -- each of these lines is one of so many callers
 abbrev pub AreOfCallers : (callers : ℕ) → List Op → Type 0
 AreOfCallers callers ops = (k : ℕ) (op : Op) → slice_get ops k ≡ Some op → (n : ℕ) × (caller_of op ≡ Some n) × (n < callers)
 
 -- the next group was done, or none of it was begun, since a fork of the pool failed
-abbrev pub StepsOn : {C P : Type 0} → Cache → List Restored → Ghosts P → Trace → (start before after : P) → (replied replies : List Reply) → (done : Bool) → (old new : Crew C) → Type 0
+abbrev pub StepsOn : {C P : Type 0} → Cache → List Restored → Ghosts P → Trace → (start before after : Stand P) → (replied replies : List Reply) → (done : Bool) → (old new : Crew C) → Type 0
 StepsOn cache restored pools trace start before after replied replies true old new =
     AreBetween cache restored pools trace start after replies new × (length replied < length replies)
-StepsOn cache restored pools trace start before after replied replies false old new = (replies ≡ replied) × (new ≡ old) × ForkFailed pools before after
+StepsOn cache restored pools trace start before after replied replies false old new = (replies ≡ replied) × (new ≡ old) × ForkFailed pools before.pool after.pool

@@ -1,8 +1,9 @@
 -- A run of several callers, group by group: which operations were answered, what each caller's work did to its forks of the pool, and what the closed
 -- cache tells.
-use Rattle.std.specs.Prelude.{◌≡◌, ℕ, zero, suc, ◌+◌, ◌<◌, ◌≤◌, ◌==◌, ◌&&◌, Bool, true, false, if◌then◌else◌, List, [], ◌∷◌, ◌++◌, Option, None, Some, count_by, length, map, slice_get, slice_index_or, sum_by, take}
+use Rattle.std.specs.Prelude.{◌≡◌, ◌⊎◌, Ok, ℕ, zero, suc, ◌+◌, ◌<◌, ◌≤◌, ◌==◌, ◌&&◌, Bool, true, false, if◌then◌else◌, List, [], ◌∷◌, ◌++◌, Option, None, Some, count_by, length, map, slice_get, slice_index_or, sum_by, take}
 use Rattle.blk_ptr.specs.declared.ptr.Ptr.{Ptr}
 use Rattle.blk_ptr.specs.Hash.{shard_of}
+use Rattle.blk_ptr.specs.Key.{IsValid, end_of as key_end}
 use Rattle.arc_core.specs.declared.config.Config.{Config}
 use Rattle.arc_core.specs.declared.event.Event.{Event}
 use Rattle.arc_core.specs.declared.event.Event.TheVariants.{Resize}
@@ -10,9 +11,17 @@ use Rattle.arc_core.specs.declared.served.Restored.{Restored}
 use Rattle.arc_core.specs.Operations.{Tell, acts_in, is_pool_read, moments, number_of, own_events, own_moments}
 use Rattle.arc_table.specs.Telling.{opening_of}
 use Rattle.arc_table.specs.Ended.{Ended}
+use Rattle.dbuf_cells.specs.Turns.{OnHeap}
+use Rattle.dbuf_state.specs.Soundness.{IsSound}
+use Rattle.dbuf_state.specs.declared.event.CellEvent.{CellEvent}
+use Rattle.txg_sync.specs.Items.{SyncItem}
+use Rattle.txg_sync.specs.Syncing.{AnswersWith}
+use Rattle.txg_sync.specs.Turns.{synced_in}
+use Rattle.txg_sync.specs.declared.syncing.Synced.{Synced as Syncing}
 use Rattle.trace_text.specs.declared.op.Op.{Op}
-use Rattle.trace_text.specs.declared.op.Op.TheVariants.{Read, Hold, Drop, Cap}
+use Rattle.trace_text.specs.declared.op.Op.TheVariants.{Read, Hold, Drop, Cap, Txg}
 use Rattle.trace_text.specs.declared.reply.Reply.{Reply}
+use Rattle.trace_text.specs.declared.reply.Reply.TheVariants.{Synced}
 use Rattle.trace_text.specs.declared.rebuilt.Rebuilt.{Rebuilt}
 use Rattle.trace_text.specs.declared.report.Report.{Report}
 use Rattle.trace_text.specs.declared.trace.Trace.{Trace}
@@ -96,22 +105,28 @@ pub record StopsAtGroup (trace : Trace) (replies : List Reply) : Type 0 where
   pub some : length replies < length trace.ops
   pub begins : BeginsGroup trace.ops (length replies)
 
--- lines with their replies
+-- a line that ends a group, with its reply
+pub record EndLine : Type 0 where
+  pub op : Op
+  pub reply : Reply
+
+-- the lines of a group with their replies, and the line that ends it; the last group may have none
 pub record Lines : Type 0 where
   pub ops : List Op
   pub replies : List Reply
+  pub end : Option EndLine
 
 -- one line more, before these groups
 abbrev pub with_first : Op → Reply → List Lines → List Lines
-with_first op reply [] = record { ops = op ∷ []; replies = reply ∷ [] } ∷ []
-with_first op reply (group ∷ groups) = record { ops = op ∷ group.ops; replies = reply ∷ group.replies } ∷ groups
+with_first op reply [] = record { ops = op ∷ []; replies = reply ∷ []; end = None } ∷ []
+with_first op reply (group ∷ groups) = record { ops = op ∷ group.ops; replies = reply ∷ group.replies; end = group.end } ∷ groups
 
--- The groups of lines that were answered. A line that ends a group stands in none; behind the last one there is a group only where lines are.
+-- The groups of lines that were answered. Behind the last line that ends one there is a group only where lines are.
 abbrev pub groups_of : List Op → List Reply → List Lines
 groups_of [] replies = []
 groups_of (op ∷ ops) [] = []
 groups_of (op ∷ ops) (reply ∷ replies) =
-    if ends_group op then (record { ops = []; replies = [] } ∷ groups_of ops replies) else with_first op reply (groups_of ops replies)
+    if ends_group op then (record { ops = []; replies = []; end = Some (record { op = op; reply = reply }) } ∷ groups_of ops replies) else with_first op reply (groups_of ops replies)
 
 -- Callers did their lines of a group at once, each on a fork of the pool as it was then. The pool's counts rose by what the forks counted, as far
 -- as there was room.
@@ -126,10 +141,51 @@ pub record WorkAtOnce {P : Type 0} (pool : Ghosts P) (callers : ℕ) (group : Li
   pub faults : pool.faults before + over_callers callers (λ n. pool.faults (done n)) ≤ last_count → pool.faults after ≡ pool.faults before + over_callers callers (λ n. pool.faults (done n))
   pub keeps : (pool.size after ≡ pool.size before) × (pool.told after ≡ pool.told before)
 
--- so they did these groups, one after another
-abbrev pub WorkInGroups : {P : Type 0} → Ghosts P → (callers : ℕ) → List Lines → (before after : P) → Type 0
-WorkInGroups pool callers [] before after = after ≡ before
-WorkInGroups {P} pool callers (group ∷ groups) before after = (next : P) × WorkAtOnce pool callers group before next × WorkInGroups pool callers groups next after
+-- ---- between groups
+
+-- what stands between two groups: the pool, the number of the next group, and the place from which its sync writes
+pub record Stand (P : Type 0) : Type 0 where
+  pub pool : P
+  pub group : ℕ
+  pub next : ℕ
+
+abbrev pub stand : {P : Type 0} → P → (group next : ℕ) → Stand P
+stand pool group next = record { pool = pool; group = group; next = next }
+
+-- The first sync writes from this place on: the greatest end of the declared blocks whose keys name a block of a pool of this length; or 0, where
+-- there are none.
+pub record IsFirstPlace (pool_len : ℕ) (blocks : List Ptr) (place : ℕ) : Type 0 where
+  pub behind : (k : ℕ) (ptr : Ptr) → slice_get blocks k ≡ Some ptr → IsValid pool_len ptr.key → key_end ptr.key ≤ place
+  pub least : (place ≡ 0) ⊎ ((k : ℕ) × (ptr : Ptr) × (slice_get blocks k ≡ Some ptr) × IsValid pool_len ptr.key × (place ≡ key_end ptr.key))
+
+-- What a sync is to say of cells: `Cells tick cells xs` that these are all cells as it took them, and that it noted and inserted these blocks at the tick.
+abbrev pub OfCells : Type 1
+OfCells = (tick : ℕ) → List OnHeap → List SyncItem → Type 0
+
+module _ {P : Type 0} (pool : Ghosts P) (config : Config) (Cells : OfCells) where
+  -- All dirty blocks were written, from the place at which the sync before stopped, and the group's number is their birth; the reply tells how many.
+  pub record SyncsGroup (tick : ℕ) (reply : Reply) (from to : Stand P) : Type 0 where
+    pub done : Syncing
+    pub answer : AnswersWith pool from.group from.next from.pool to.pool config (λ cells xs Besides. Cells tick cells xs) (Ok done)
+    pub replied : reply ≡ Synced from.group done.blocks done.bytes
+    pub group : to.group ≡ suc from.group
+    pub next : to.next ≡ done.next
+
+  -- a line that ends a group was done
+  abbrev pub EndsBy : Op → Reply → (from to : Stand P) → Type 0
+  EndsBy (Txg t) reply from to = SyncsGroup t reply from to
+  EndsBy (Cap c) reply from to = to ≡ stand from.pool (suc from.group) from.next
+  EndsBy other reply from to = ⊥
+
+  abbrev pub EndsGroup : Option EndLine → (from to : Stand P) → Type 0
+  EndsGroup None from to = to ≡ from
+  EndsGroup (Some line) from to = EndsBy line.op line.reply from to
+
+  -- The callers did these groups, one after another: each at once, on forks of the pool as it was then, and then the line that ends it.
+  abbrev pub WorkInGroups : List Lines → (from to : Stand P) → Type 0
+  WorkInGroups [] from to = to ≡ from
+  WorkInGroups (group ∷ groups) from to =
+      (worked : P) × (next : Stand P) × WorkAtOnce pool config.callers group from.pool worked × EndsGroup group.end (stand worked from.group from.next) next × WorkInGroups groups next to
 
 -- In the history of a shard stands a Resize to this capacity. Before it stands all that these lines did there, and nothing else that a caller
 -- or the feeder did.
@@ -146,12 +202,31 @@ abbrev pub AreCut : Config → List Restored → List Ptr → (shard : ℕ) → 
 AreCut config restored blocks shard lines replies history =
     (k c : ℕ) → slice_get lines k ≡ Some (Cap c) → k < length replies → IsCut config restored blocks shard (take k lines) (take k replies) c history
 
+-- ---- the cells at a sync
+
+-- A cell of the closed cache stood so when a sync took it: it had begun in the same way, it was sound, and what had been done to it stands at the front of
+-- what was done to it in all; just behind that stand these entries.
+pub record HadThen (news : List CellEvent) (cell closed : OnHeap) : Type 0 where
+  pub limit : cell.value.limit ≡ closed.value.limit
+  pub opening : cell.value.opening ≡ closed.value.opening
+  pub sound : IsSound cell.value
+  pub rest : List CellEvent
+  pub whole : closed.value.history ≡ cell.value.history ++ (news ++ rest)
+
+-- All cells did, and the feeder noted of each its blocks among these.
+pub record StoodThen (trace : Trace) (closed : List OnHeap) (tick : ℕ) (cells : List OnHeap) (xs : List SyncItem) : Type 0 where
+  pub count : length cells ≡ length closed
+  pub each : (i : ℕ) (cell end : OnHeap) → slice_get cells i ≡ Some cell → slice_get closed i ≡ Some end → HadThen (synced_in trace.config.callers i xs) cell end
+
 -- With two callers or more, each has a fork of the pool in each group, made as the group begins. Where one fails, that group isn't begun, and the
 -- pool has only counted that.
-pub record RunsTogether {P : Type 0} (pool : Ghosts P) (before after : P) (trace : Trace) (fork_failed : Bool) (report : Report) : Type 0 where
-  pub reached : P
-  pub groups : WorkInGroups pool trace.config.callers (groups_of trace.ops report.replies) before reached
-  pub whole : fork_failed ≡ false → after ≡ reached
+pub record RunsTogether {P : Type 0} (pool : Ghosts P) (before after : P) (trace : Trace) (fork_failed : Bool) (closed : List OnHeap) (report : Report) : Type 0 where
+  -- the place of the first sync
+  pub place : ℕ
+  pub first : IsFirstPlace (pool.size before) trace.blocks place
+  pub reached : Stand P
+  pub groups : WorkInGroups pool trace.config (StoodThen trace closed) (groups_of trace.ops report.replies) (stand before 1 place) reached
+  pub whole : fork_failed ≡ false → after ≡ reached.pool
   -- each caller's reads of its forks are those that its events stand for
   pub counted : (n : ℕ) → n < trace.config.callers → length (calls_of_all (replies_of_caller n trace.ops report.replies)) ≡ reads_of_caller n report.histories
   -- a capacity is given to each shard once all lines before it are done, and before any line behind it is begun

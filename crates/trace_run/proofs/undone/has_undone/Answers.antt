@@ -4,4 +4,4 @@ use Rattle.trace_run.specs.Lines.{is_undone}
 use Rattle.trace_run.proofs.undone.has_undone.Goals as goal
 
 pub returns : goal.returns
-returns c = c.has_undone_op.ensures ∙ ap (list_any is_undone) c.as_slice.ensures
+returns c = c.has_undone_op.ensures ∙ ap (list_any (is_undone c.args.trace.now.config.callers)) c.as_slice.ensures

@@ -1,0 +1,247 @@
+-- A party that has every number takes all cells and gives them back: what it has seen then, and what it found.
+use Rattle.std.proofs.Common.{◌≡◌, ◌≢◌, ◌⊎◌, ℕ, zero, suc, ◌+◌, ◌<◌, ◌≤◌, List, [], ◌∷◌, ◌++◌, length, map, Option, Some, refl, sym, ap, ◌∙◌, subst, inl, inr, arith, append-nil}
+use Rattle.std.specs.Prelude.{slice_index_or}
+use mathlib.Core.Logic.{dite}
+use native.Mathlib.Decide.{ℕ_discrete}
+use Rattle.arc_core.specs.Config.{IsConfig}
+use Rattle.arc_core.specs.declared.config.Config.{Config}
+use Rattle.turn_table.specs.Places.{IsIn, gave_back}
+use Rattle.turn_table.specs.declared.standing.Kept.{Kept}
+use Rattle.arc_table.specs.declared.about.About.{About}
+use Rattle.arc_table.specs.declared.item.Item.{Item}
+use Rattle.arc_table.specs.declared.item.Item.TheVariants as item
+use Rattle.arc_table.specs.declared.view.Known.{Known}
+use Rattle.arc_table.specs.declared.view.Ledger.{Ledger}
+use Rattle.arc_table.specs.declared.view.Line.{Line}
+use Rattle.arc_table.specs.declared.view.Line.TheVariants as line
+use Rattle.arc_table.specs.Both.{Takes}
+use Rattle.arc_table.specs.Cells.{IsTakenCell, SeesAll}
+use Rattle.arc_table.specs.Fronts.{StartsWith, front_of, item_at}
+use Rattle.arc_table.specs.Geometry.{IsCell}
+use Rattle.arc_table.specs.Giving.{IsGivenCell}
+use Rattle.arc_table.specs.Seen.{FindsEntries, HasAll, HasSeenItsEntries, HasSeenItsOwn, events_in, seen_of, turn_of}
+use Rattle.arc_table.specs.TableLaws.{front_else, front_here, item_else, starts_whole, without_else}
+use Rattle.arc_table.specs.Views.{after_cell}
+use Rattle.arc_table.proofs.cell_lemmas.CellsInHand.{taken-cell}
+use Rattle.arc_table.proofs.cell_lemmas.EntriesSeen.{given-entries, given-sees, seen-at-take, took-sees}
+use Rattle.arc_table.proofs.Reached.{Took, took_is}
+use Rattle.dbuf_cells.specs.Turns.{OnHeap, PartyPlace, dbuf_meanings}
+use Rattle.dbuf_state.specs.Numbers.{event_numbers}
+use Rattle.dbuf_state.specs.Soundness.{IsSound}
+use Rattle.txg_sync.specs.Turns.{GivesFrom, TakesFrom}
+use Rattle.trace_run.specs.Syncing.{lines_of}
+use Rattle.trace_run.proofs.CellEnds.{IsQuiet, quiet-same, quiet-then, weaker}
+
+-- what a cell is to a party that has it in hand: it is recorded, and the party has seen all that was done to it
+pub record IsInHand (i : ℕ) (c : OnHeap) (p : PartyPlace) : Type 0 where
+  pub recorded : item_at i p.own.records ≡ Some (item.Cell c)
+  pub seen : front_of i p.own.seen ≡ lines_of c.value.history
+
+-- so it is of cells of the numbers from this one on
+abbrev pub AreInHand : (i : ℕ) → List OnHeap → PartyPlace → Type 0
+AreInHand i [] p = Unit {0}
+AreInHand i (c ∷ cs) p = IsInHand i c p × AreInHand (suc i) cs p
+
+-- and of cells that were found: each is sound, and began as the party knows
+pub record IsFound (i : ℕ) (p : PartyPlace) (c : OnHeap) : Type 0 where
+  pub sound : IsSound c.value
+  pub began : dbuf_meanings.opening c ≡ slice_index_or p.own.about.openings i []
+
+abbrev pub AreFound : (i : ℕ) → PartyPlace → List OnHeap → Type 0
+AreFound i p [] = Unit {0}
+AreFound i p (c ∷ cs) = IsFound i p c × AreFound (suc i) p cs
+
+in-hand-as : (i : ℕ) (cs : List OnHeap) (p q : PartyPlace) → ((j : ℕ) → i ≤ j → j < i + length cs → (item_at j q.own.records ≡ item_at j p.own.records) × (front_of j q.own.seen ≡ front_of j p.own.seen)) → AreInHand i cs p → AreInHand i cs q
+in-hand-as i [] p q same hand = tt
+in-hand-as i (c ∷ cs) p q same hand =
+    let here = same i (omega arith) (omega arith) in (
+      record { recorded = here.0 ∙ hand.0.recorded; seen = here.1 ∙ hand.0.seen },
+      in-hand-as (suc i) cs p q (λ j low high. same j (omega (arith, low)) (omega (arith, high))) hand.1,
+    )
+
+module _ (g : Config) (valid : IsConfig g) where
+  -- ---- taking
+
+  module _ (i : ℕ) (in_range : IsCell g i) (c : OnHeap) (p r : PartyPlace) (config : p.own.about.config ≡ g) (sees : HasSeenItsOwn g p) (all : HasAll p) (made : HasSeenItsEntries g p)
+      (t : Takes dbuf_meanings i (item.Cell c) p r) where
+    took : Took dbuf_meanings i (item.Cell c) p r
+    took = took_is dbuf_meanings i (item.Cell c) p r t
+
+    at-take : SeesAll g r × FindsEntries i p (map event_numbers c.value.history)
+    at-take = let h = seen-at-take dbuf_meanings g i c t.owners t.knew p config in_range t.lost t.free (weaker g p sees, made) in (subst (SeesAll g) (sym t.took) h.0, h.1)
+
+    known : IsTakenCell dbuf_meanings g i c p r
+    known = subst (IsTakenCell dbuf_meanings g i c p) (sym t.took) (taken-cell dbuf_meanings g i c t.owners t.knew p valid config in_range t.lost t.free)
+
+    -- nobody else has every number too, so there is nothing to find that it had not seen
+    whole : lines_of c.value.history ≡ front_of i p.own.seen
+    whole = let f = at-take.1 in f.whole ∙ ((λ z. front_of i p.own.seen ++ map line.Entry (f.alone all z)) ∙ append-nil (front_of i p.own.seen))
+
+    pub take-fronts : (j : ℕ) → front_of j r.own.seen ≡ front_of j p.own.seen
+    take-fronts j = dite (ℕ_discrete j i)
+        (λ is. subst (λ (x : ℕ). front_of x r.own.seen ≡ front_of x p.own.seen) (sym is) (known.seen ∙ whole))
+        (λ differs. ap (front_of j) took.seen ∙ front_else i j (lines_of c.value.history) p.own.seen differs)
+
+    pub take-quiet : IsQuiet g p r
+    take-quiet = record {
+      table = took.table;
+      parties = took.parties;
+      number = took.number;
+      joined = took.joined;
+      about = took.about;
+      holds = ap (λ (l : Ledger). l.holds) took.ledger;
+      readings = ap (λ (l : Ledger). l.readings) took.ledger;
+      sees = took-sees dbuf_meanings g i c p r in_range took sees;
+      all = λ k below. subst (λ (x : ℕ × List (Kept (Known OnHeap))). (x.0 ≡ k) ⊎ IsIn k x.1) (λ z. (sym took.number z, sym took.joined z)) (all k (subst (λ (x : ℕ). k < x) took.parties below));
+      shards = λ shard. ap events_in (take-fronts (turn_of g shard));
+      starts = λ k. subst (λ (l : List Line). StartsWith l (front_of (turn_of g k) p.own.seen)) (sym (take-fronts (turn_of g k))) (starts_whole (front_of (turn_of g k) p.own.seen));
+    }
+
+    pub take-made : HasSeenItsEntries g r
+    take-made = at-take.0.1
+
+    pub take-hand : IsInHand i c r
+    take-hand = record { recorded = known.recorded; seen = known.seen }
+
+    pub take-found : IsFound i p c
+    take-found = record { sound = known.sound; began = known.opening ∙ ap (λ (a : About). slice_index_or a.openings i []) took.about }
+
+    pub take-else : (j : ℕ) → j ≢ i → item_at j r.own.records ≡ item_at j p.own.records
+    take-else j differs = ap (item_at j) took.records ∙ item_else i j (item.Cell c) p.own.records differs
+
+  -- all cells of the numbers from this one on were taken
+  pub record HasTaken (i : ℕ) (cs : List OnHeap) (p q : PartyPlace) : Type 0 where
+    pub quiet : IsQuiet g p q
+    pub made : HasSeenItsEntries g q
+    pub fronts : (j : ℕ) → front_of j q.own.seen ≡ front_of j p.own.seen
+    pub below : (j : ℕ) → j < i → item_at j q.own.records ≡ item_at j p.own.records
+    pub hand : AreInHand i cs q
+    pub found : AreFound i p cs
+
+  found-as : (i : ℕ) (cs : List OnHeap) (p r : PartyPlace) → r.own.about ≡ p.own.about → AreFound i r cs → AreFound i p cs
+  found-as i [] p r same found = tt
+  found-as i (c ∷ cs) p r same found = (record { sound = found.0.sound; began = found.0.began ∙ ap (λ (a : About). slice_index_or a.openings i []) same }, found-as (suc i) cs p r same found.1)
+
+  pub all-taken : (i : ℕ) (cs : List OnHeap) (p q : PartyPlace) → i + length cs ≤ g.cells → p.own.about.config ≡ g → HasSeenItsOwn g p → HasAll p → HasSeenItsEntries g p → TakesFrom i cs p q → HasTaken i cs p q
+  all-taken i [] p q inside config sees all made is = subst (HasTaken i [] p) (sym is) record {
+    quiet = quiet-same g p p sees all refl;
+    made = made;
+    fronts = λ j. refl;
+    below = λ j lt. refl;
+    hand = tt;
+    found = tt;
+  }
+  all-taken i (c ∷ cs) p q inside config sees all made t =
+      let r = t.0 in
+      let in_range : IsCell g i = omega (arith, inside) in
+      let quiet = take-quiet i in_range c p r config sees all made t.1 in
+      let rest = all-taken (suc i) cs r q (omega (arith, inside)) (ap (λ (a : About). a.config) quiet.about ∙ config) quiet.sees quiet.all (take-made i in_range c p r config sees all made t.1) t.2 in
+      let first = take-hand i in_range c p r config sees all made t.1 in
+      record {
+        quiet = quiet-then g p r q quiet rest.quiet;
+        made = rest.made;
+        fronts = λ j. rest.fronts j ∙ take-fronts i in_range c p r config sees all made t.1 j;
+        below = λ j lt. rest.below j (omega (arith, lt)) ∙ take-else i in_range c p r config sees all made t.1 j (λ is. omega (arith, lt, is));
+        hand = (record { recorded = rest.below i (omega arith) ∙ first.recorded; seen = rest.fronts i ∙ first.seen }, rest.hand);
+        found = (take-found i in_range c p r config sees all made t.1, found-as (suc i) cs p r quiet.about rest.found);
+      }
+
+  -- ---- giving back
+
+  module _ (i : ℕ) (in_range : IsCell g i) (b a : OnHeap) (w q : PartyPlace) (sees : HasSeenItsOwn g w) (all : HasAll w) (made : HasSeenItsEntries g w) (hand : IsInHand i b w)
+      (given : IsGivenCell dbuf_meanings w.number i a w.own) (gave : q ≡ gave_back w i (after_cell dbuf_meanings i (item.Cell a) w.own)) where
+    abbrev back : PartyPlace
+    back = gave_back w i (after_cell dbuf_meanings i (item.Cell a) w.own)
+
+    same-taken : given.taken ≡ b
+    same-taken = cell-same _ _ (some-one _ _ (sym given.recorded ∙ hand.recorded))
+      where
+        some-one : (x y : Item OnHeap) → ◌≡◌ {A = Option (Item OnHeap)} (Some x) (Some y) → x ≡ y
+        some-one x y same = cc
+
+        cell-same : (x y : OnHeap) → ◌≡◌ {A = Item OnHeap} (item.Cell x) (item.Cell y) → x ≡ y
+        cell-same x y same = cc
+
+    front : front_of i w.own.seen ≡ lines_of given.taken.value.history
+    front = hand.seen ∙ ap (λ (c : OnHeap). lines_of c.value.history) (sym same-taken)
+
+    no-shard : (k : ℕ) → turn_of g k ≢ i
+    no-shard k e = let b = in_range in omega arith
+
+    back-shard : (k : ℕ) → front_of (turn_of g k) back.own.seen ≡ front_of (turn_of g k) w.own.seen
+    back-shard k = front_else i (turn_of g k) (lines_of a.value.history) w.own.seen (no-shard k)
+
+    back-quiet : IsQuiet g w back
+    back-quiet = record {
+      table = refl;
+      parties = refl;
+      number = refl;
+      joined = refl;
+      about = refl;
+      holds = refl;
+      readings = refl;
+      sees = given-sees dbuf_meanings g i a w in_range given front sees;
+      all = all;
+      shards = λ shard. ap events_in (back-shard shard);
+      starts = λ k. subst (λ (l : List Line). StartsWith l (front_of (turn_of g k) w.own.seen)) (sym (back-shard k)) (starts_whole (front_of (turn_of g k) w.own.seen));
+    }
+
+    pub give-quiet : IsQuiet g w q
+    give-quiet = subst (IsQuiet g w) (sym gave) back-quiet
+
+    pub give-made : HasSeenItsEntries g q
+    give-made = subst (HasSeenItsEntries g) (sym gave) (given-entries dbuf_meanings g i a w in_range given front made)
+
+    pub give-here : front_of i q.own.seen ≡ lines_of a.value.history
+    give-here = ap (λ (x : PartyPlace). front_of i x.own.seen) gave ∙ front_here i (lines_of a.value.history) w.own.seen
+
+    pub give-else : (j : ℕ) → j ≢ i → front_of j q.own.seen ≡ front_of j w.own.seen
+    give-else j differs = ap (λ (x : PartyPlace). front_of j x.own.seen) gave ∙ front_else i j (lines_of a.value.history) w.own.seen differs
+
+    pub give-records : (j : ℕ) → j ≢ i → item_at j q.own.records ≡ item_at j w.own.records
+    give-records j differs = ap (λ (x : PartyPlace). item_at j x.own.records) gave ∙ without_else i j w.own.records differs
+
+  -- all cells of the numbers from this one on were given back, and are so now
+  pub record HasGivenCells (i : ℕ) (afters : List OnHeap) (p q : PartyPlace) : Type 0 where
+    pub quiet : IsQuiet g p q
+    pub made : HasSeenItsEntries g q
+    pub below : (j : ℕ) → j < i → (item_at j q.own.records ≡ item_at j p.own.records) × (front_of j q.own.seen ≡ front_of j p.own.seen)
+    pub each : (k : ℕ) (d : OnHeap) → k < length afters → front_of (i + k) q.own.seen ≡ lines_of (slice_index_or afters k d).value.history
+
+  -- one more of them was, and is so now
+  more-given : (i : ℕ) (in_range : IsCell g i) (b a : OnHeap) (afters : List OnHeap) (p r q : PartyPlace) (rest : HasGivenCells (suc i) afters p r) (hand : IsInHand i b r) (given : IsGivenCell dbuf_meanings r.number i a r.own)
+      (gave : q ≡ gave_back r i (after_cell dbuf_meanings i (item.Cell a) r.own)) → HasGivenCells i (a ∷ afters) p q
+  more-given i in_range b a afters p r q rest hand given gave = record {
+    quiet = quiet-then g p r q rest.quiet (give-quiet i in_range b a r q rest.quiet.sees rest.quiet.all rest.made hand given gave);
+    made = give-made i in_range b a r q rest.quiet.sees rest.quiet.all rest.made hand given gave;
+    below = λ j lt. (
+      give-records i in_range b a r q rest.quiet.sees rest.quiet.all rest.made hand given gave j (λ is. omega (arith, lt, is)) ∙ (rest.below j (omega (arith, lt))).0,
+      give-else i in_range b a r q rest.quiet.sees rest.quiet.all rest.made hand given gave j (λ is. omega (arith, lt, is)) ∙ (rest.below j (omega (arith, lt))).1,
+    );
+    each = go;
+  }
+    where
+      go : (k : ℕ) (d : OnHeap) → k < length (a ∷ afters) → front_of (i + k) q.own.seen ≡ lines_of (slice_index_or (a ∷ afters) k d).value.history
+      go zero d lt =
+          let z : i + zero ≡ i = omega arith in
+          ap (λ (n : ℕ). front_of n q.own.seen) z ∙ give-here i in_range b a r q rest.quiet.sees rest.quiet.all rest.made hand given gave
+      go (suc k) d lt =
+          let z : i + suc k ≡ suc i + k = omega arith in
+          ap (λ (n : ℕ). front_of n q.own.seen) z
+          ∙ (give-else i in_range b a r q rest.quiet.sees rest.quiet.all rest.made hand given gave (suc i + k) (λ is. omega (arith, is)) ∙ rest.each k d (omega (arith, lt)))
+
+  pub all-given : (i : ℕ) (bs afters : List OnHeap) (p q : PartyPlace) → length bs ≡ length afters → i + length afters ≤ g.cells → HasSeenItsOwn g p → HasAll p → HasSeenItsEntries g p → AreInHand i bs p → GivesFrom i afters p q
+      → HasGivenCells i afters p q
+  all-given i [] [] p q same inside sees all made hand is = subst (HasGivenCells i [] p) (sym is) record {
+    quiet = quiet-same g p p sees all refl;
+    made = made;
+    below = λ j lt. (refl, refl);
+    each = λ k d lt. absurd (omega (arith, lt));
+  }
+  all-given i [] (a ∷ afters) p q same inside sees all made hand gives = absurd (omega (arith, same))
+  all-given i (b ∷ bs) [] p q same inside sees all made hand gives = absurd (omega (arith, same))
+  all-given i (b ∷ bs) (a ∷ afters) p q same inside sees all made hand gives =
+      let r = gives.0 in
+      let rest = all-given (suc i) bs afters p r (omega (arith, same)) (omega (arith, inside)) sees all made hand.1 gives.1 in
+      let still = rest.below i (omega arith) in
+      more-given i (omega (arith, inside)) b a afters p r q rest (record { recorded = still.0 ∙ hand.0.recorded; seen = still.1 ∙ hand.0.seen }) gives.2 gives.3
