@@ -268,9 +268,7 @@ pub(crate) fn run_alone<P: Pool, D: CacheDev, G: Gate>(
 {
     match device {
         Device::Ready(l2) => run_over(alloc, rt, trace, restored, pool, l2.device(), gate),
-        Device::None | Device::Short(_) => {
-            let mut none = NoCache::new();
-            run_over(alloc, rt, trace, restored, pool, &mut none, gate)
-        }
+        Device::None => run_over(alloc, rt, trace, restored, pool, &mut NoCache::new(), gate),
+        Device::Short(_) => run_over(alloc, rt, trace, restored, pool, &mut NoCache::new(), gate),
     }
 }

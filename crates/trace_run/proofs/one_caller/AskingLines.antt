@@ -17,7 +17,7 @@ use Rattle.trace_text.specs.declared.op.Op.TheVariants as ops
 use Rattle.trace_text.specs.declared.reply.Reply.{Reply}
 use Rattle.trace_text.specs.declared.reply.Reply.TheVariants.{Capped}
 use Rattle.dbuf_state.specs.declared.window.Window.{Window}
-use Rattle.trace_run.specs.callers.CallerLines.{At, DidLines, HasFed, HasResized}
+use Rattle.trace_run.specs.callers.CallerLines.{At, DidLine, DidLines, HasFed, HasResized}
 use Rattle.trace_run.specs.Effects.{effect_of}
 use Rattle.trace_run.specs.KeptReads.{KeptRead}
 use Rattle.trace_run.specs.Lines.{shard_of_line}
@@ -125,3 +125,15 @@ pub begun-alone : {C : Type 0} (cache : Cache) (restored : List Restored) (new p
     → HasAll p × ((shard : ℕ) → now_of cache.config shard p ≡ restored_shard cache.config restored shard)
 begun-alone cache restored new p first fed =
     (fed.all (joined-all cache new first), λ shard. ap (replay (opening_of cache.config)) (fed.seen shard ∙ ap (λ (es : List Event). es ++ restores_in cache.config restored shard) (new-seen cache new first.new shard)))
+
+-- the length of a device says nothing of a line
+pub line-any : {C P : Type 0} (g : Config) (pools : PoolGhosts P) (m n : ℕ) (blocks : List Ptr) (o : Op) (r : Reply) (a b : At C P) → DidLine g pools m blocks o r a b → DidLine g pools n blocks o r a b
+line-any g pools m n blocks o r a b d = record {
+  answer = d.answer;
+  kept = d.kept;
+  did = record { number = d.did.number; told = d.did.told; alone = d.did.alone; all = d.did.all; joined = d.did.joined };
+  found = d.found;
+  range = d.range;
+  calls = d.calls;
+  keeps = d.keeps;
+}

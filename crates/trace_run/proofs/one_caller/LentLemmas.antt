@@ -11,7 +11,7 @@ use Rattle.arc_table.specs.Ended.{Ended}
 use Rattle.blk_ptr.specs.declared.memory.NoMemory.{NoMemory}
 use Rattle.trace_run.specs.one_caller.Alone.{LinesAlone, RanAlone}
 use Rattle.trace_run.specs.one_caller.Asking.{AsksLines}
-use Rattle.trace_run.specs.one_caller.Lent.{ReadsAlone}
+use Rattle.trace_run.specs.one_caller.Lent.{AsksLent, ReadsAlone}
 use Rattle.trace_run.specs.Restores.{restored_shard}
 use Rattle.trace_run.proofs.one_caller.AlonePlainLemmas.{plain-alone, plain-unlent}
 
@@ -59,3 +59,8 @@ module _ {C P D E T : Type 0} (pools : Ghosts P) (devices : DeviceGhosts D) (oth
       → IfOk result (λ ran. ReadsAlone pools devices before trace restored (replies ran) None None)
   unlent-read x y short (Err e) ran asks = tt
   unlent-read x y short (Ok t) ran asks = unlent-alone pools devices others pool_law law trace restored (replies t) before after ran.lines asks.0 x y short asks.1
+
+-- no device is asked nothing
+pub unlent-calls : {D : Type 0} (devices : DeviceGhosts D) (trace : Trace) (restored : List Restored) (replies : List Reply) (calls : List Call) (back : Option D) → AsksLent devices trace restored replies calls None back → calls ≡ []
+unlent-calls devices trace restored replies calls None asks = asks
+unlent-calls devices trace restored replies calls (Some back) asks = absurd asks

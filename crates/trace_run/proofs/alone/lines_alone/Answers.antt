@@ -1,4 +1,4 @@
-use Rattle.std.proofs.Common.{◌≡◌, ℕ, true, List, [], Some, map, take, refl, sym, ap, ◌∙◌, subst}
+use Rattle.std.proofs.Common.{◌≡◌, ℕ, true, List, [], Some, map, take, refl, sym, ap, ◌∙◌, subst, arith}
 use Rattle.std.specs.Prelude.{slice_get}
 use Rattle.std.proofs.lemmas.Option.{slice_get_read}
 use Rattle.blk_ptr.specs.declared.ptr.Ptr.{Ptr}
@@ -13,11 +13,31 @@ use Rattle.trace_run.proofs.CapLemmas.{capped-line, feeder-after}
 use Rattle.trace_run.proofs.LinesLemmas.{line-named, lines-all, lines-more}
 use Rattle.trace_run.specs.Lines.{shard_of_line}
 use Rattle.trace_run.specs.Reads.{now_of}
-use Rattle.trace_run.specs.one_caller.Asking.{AsksLine}
-use Rattle.trace_run.proofs.one_caller.AskingLemmas.{device-then}
-use Rattle.trace_run.proofs.one_caller.AskingLines.{asks-line, capped-asks}
+use Rattle.trace_run.specs.one_caller.Asking.{AsksLine, AsksLines}
+use Rattle.trace_run.proofs.one_caller.AskingLemmas.{device-same, device-then}
+use Rattle.trace_run.proofs.one_caller.AskingLines.{asks-line, capped-asks, line-any}
 use Rattle.trace_run.proofs.RunLemmas.{keeps-then}
 use Rattle.trace_run.proofs.alone.lines_alone.Goals as goal
+
+-- nothing is done yet
+pub loop-number-init : goal.loop-number-init
+loop-number-init g c =
+    let config = c.args.arcs.now.config in
+    let start = at c.args.party (map read_of c.args.kept.now) c.args.pool.now in
+    record {
+      stands = c.requires.stands;
+      named = c.requires.named;
+      number = c.requires.number;
+      joined = c.requires.joined;
+      did = subst (λ (rs : List Reply). DidLines config g.P.Pool 0 c.args.trace.now.blocks [] rs start start) (sym c.new-replies.ensures.items) refl;
+      asks = λ all. (
+        [],
+        subst (λ (rs : List Reply). AsksLines g.D.CacheDev config.shards c.args.trace.now.blocks (λ shard. now_of config shard c.args.party) (map read_of c.args.kept.now) [] rs [] c.args.device.now c.args.device.now)
+            (sym c.new-replies.ensures.items) (refl, refl),
+      );
+      keeps = record { size = refl; told = refl; faults = omega arith };
+      left = device-same g.D.CacheDev c.args.device.now;
+    }
 
 -- a line that is no caller's
 pub loop-number-preserved-then-not-is_of_caller : goal.loop-number-preserved-then-not-is_of_caller
@@ -67,7 +87,7 @@ loop-number-preserved g c =
     let start = at c.args.party (map read_of c.args.kept.now) c.args.pool.now in
     let before = at c.loop-number.party (map read_of c.loop-number.kept) c.loop-number.pool in
     let after = at c.line.new.party (map read_of c.line.new.kept) c.line.new.pool in
-    let one : DidLine config g.P.Pool 0 blocks op reply before after = subst (λ (bs : List Ptr). DidLine config g.P.Pool 0 bs op reply before after) c.as_slice-blocks.ensures c.in_ok-reply.ensures.did in
+    let one : DidLine config g.P.Pool 0 blocks op reply before after = subst (λ (bs : List Ptr). DidLine config g.P.Pool 0 bs op reply before after) c.as_slice-blocks.ensures (line-any config g.P.Pool (g.D.CacheDev.size c.loop-number.device) 0 _ op reply before after c.in_ok-reply.ensures.did) in
     record {
       stands = c.in_ok-reply.ensures.stands;
       named = line-named config g.P.Pool 0 blocks op reply before after was.named one;

@@ -11,6 +11,7 @@ use Rattle.trace_run.specs.Outcome.{generated, zeros_of}
 use Rattle.trace_run.specs.one_caller.PlainReport.{IsPlainReport}
 use Rattle.trace_run.specs.one_caller.PlainRun.{Images, images, report_of}
 use Rattle.trace_run.specs.Restores.{restored_of}
+use Rattle.trace_run.proofs.one_caller.LentLemmas.{unlent-calls}
 use Rattle.trace_run.proofs.theorem.GenLemmas.{made-plain, made-report, made-trace, never-failed, none-refused}
 use Rattle.trace_run.proofs.run_trace.run_generated_trace.Goals as goal
 
@@ -29,12 +30,13 @@ returns g c =
     let give = never-failed _ (λ p. refl) alone.calls _ _ alone.made in
     let answers : AnswersAll (c.args.blocks * 512) (Some (zeros_of c.args.blocks)) trace.blocks trace.ops report.replies = rw (len, one.0) at run.answers in
     let fair : count_by is_pool_fault report.replies ≡ 0 = let h = rw one.0 at run.faults (omega arith) in omega (arith, h) in
-    let none = none-refused c.args.seed c.args.blocks c.args.ops trace report.replies drawn answers fair in
+    let fine = none-refused c.args.seed c.args.blocks c.args.ops trace report.replies drawn answers fair in
     let nothing : report.rebuilt ≡ None = c.in_ok-reported.ensures.rebuilt in
+    let none : alone.device_calls ≡ [] = unlent-calls _ trace _ report.replies alone.device_calls _ alone.asked in
     let zeros : Images = images (zeros_of c.args.blocks) [] in
     let plain : report ≡ report_of trace None zeros alone.calls [] =
     made-plain c.args.seed c.args.blocks c.args.ops trace (report_of trace None zeros alone.calls []) report drawn
-    (subst (λ (x : Option Rebuilt × List Call). IsPlainReport trace (report_of trace x.0 zeros alone.calls x.1) report) (λ i. (nothing i, alone.asked i)) (rw len at alone.plain)) in
+    (subst (λ (x : Option Rebuilt × List Call). IsPlainReport trace (report_of trace x.0 zeros alone.calls x.1) report) (λ i. (nothing i, none i)) (rw len at alone.plain)) in
     let whole : report ≡ report_of (generated c.args.seed c.args.blocks c.args.ops) None zeros [] [] =
     plain ∙ made-report c.args.seed c.args.blocks c.args.ops trace zeros alone.calls is give in
     record {
@@ -44,5 +46,5 @@ returns g c =
       tells = record { histories = run.tells.histories; ends = run.tells.ends };
       config = run.config ∙ ap (λ (t : Trace). t.config) is;
       cells = subst (λ (t : Trace). AreCellsOf t reported.closed) is c.in_ok-reported.ensures.cells;
-      status = ran.2 ∙ rw (one.0, none) refl;
+      status = ran.2 ∙ rw (one.0, fine) refl;
     }
