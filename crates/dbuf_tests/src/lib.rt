@@ -3,8 +3,6 @@
 #![tactic(auto)]
 
 #[cfg(test)]
-mod ends;
-#[cfg(test)]
 mod kept;
 #[cfg(test)]
 mod one_cell;
