@@ -11,6 +11,7 @@ use Rattle.trace_run.specs.Outcome.{generated, zeros_of}
 use Rattle.trace_run.specs.one_caller.PlainReport.{IsPlainReport}
 use Rattle.trace_run.specs.one_caller.PlainRun.{Images, images, report_of}
 use Rattle.trace_run.specs.Restores.{restored_of}
+use Rattle.vdev_io.specs.contracts.device.NoCacheCacheDev.TheImpl as no_cache
 use Rattle.trace_run.proofs.one_caller.LentLemmas.{unlent-calls}
 use Rattle.trace_run.proofs.theorem.GenLemmas.{made-plain, made-report, made-trace, never-failed, none-refused}
 use Rattle.trace_run.proofs.run_trace.run_generated_trace.Goals as goal
@@ -32,7 +33,7 @@ returns g c =
     let fair : count_by is_pool_fault report.replies ≡ 0 = let h = rw one.0 at run.faults (omega arith) in omega (arith, h) in
     let fine = none-refused c.args.seed c.args.blocks c.args.ops trace report.replies drawn answers fair in
     let nothing : report.rebuilt ≡ None = c.in_ok-reported.ensures.rebuilt in
-    let none : alone.device_calls ≡ [] = unlent-calls _ trace _ report.replies alone.device_calls _ alone.asked in
+    let none : alone.device_calls ≡ [] = unlent-calls no_cache.ghosts trace (restored_of report.rebuilt) report.replies alone.device_calls _ alone.asked in
     let zeros : Images = images (zeros_of c.args.blocks) [] in
     let plain : report ≡ report_of trace None zeros alone.calls [] =
     made-plain c.args.seed c.args.blocks c.args.ops trace (report_of trace None zeros alone.calls []) report drawn
