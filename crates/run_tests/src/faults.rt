@@ -88,7 +88,7 @@ struct Row {
     reports: &'static [&'static str],
 }
 
-const ROWS: [Row; 8] = [
+const ROWS: [Row; 9] = [
     Row {
         shows: "the pool fails once",
         fail: &[0],
