@@ -619,7 +619,7 @@ end 0
 ''']),
     Row('two callers, with syncs that find no dirty block; a group that a capacity ends has a number too', ['run', '--events'], 512, '''\
 arc 2 1 16 1 4096 0 0
-block 0 512 1 Y
+block 0 512 1 Z
 read 0 1 0 0 0
 txg 2
 cap 5000
@@ -627,13 +627,13 @@ txg 3
 read 1 4 0 0 0
 ''', 0, ['''\
 arc 1
-0 ok pool Y -
+0 ok pool Z -
 1 txg 1 blocks 0 bytes 0
 2 cap 5000
 3 txg 3 blocks 0 bytes 0
-4 ok hit Y -
+4 ok hit Z -
 e 0 0 miss 0 0 512 1 1
-e 0 1 arrive 0 0 512 1 Y pool
+e 0 1 arrive 0 0 512 1 Z pool
 e 0 2 drop 0 0 512 1
 e 0 3 resize 2 5000
 e 0 4 hit 1 0 512 1 4
