@@ -17,6 +17,7 @@ pub mod Keys
 pub mod Operations
 pub mod Owed
 pub mod PickPlaces
+pub mod Packed
 pub mod Picks
 pub mod Places
 pub mod PlainShard

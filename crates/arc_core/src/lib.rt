@@ -9,6 +9,7 @@ mod holds;
 mod keeps;
 mod keys;
 mod laws;
+mod packed;
 mod picks;
 mod served;
 mod shard;
