@@ -5,6 +5,7 @@ mod config;
 mod entries;
 mod entry;
 mod event;
+mod history;
 mod holds;
 mod keeps;
 mod keys;
