@@ -1,7 +1,7 @@
 //! The events of a shard in their order, each as a run of bytes. Contracts see the list, and for how many more events there is room.
 ghost use Rattle.std.specs.Prelude.{◌≡◌, ◌+◌, ◌<◌, ◌≤◌, ◌^◌, ◌++◌, ◌∷◌, [], length, take, OnOk, OnErr};
-ghost use Rattle.arc_core.specs.declared.event.Event.{Event};
-ghost use Rattle.arc_core.specs.EventLog.{after_events, events_in};
+ghost use Rattle.std.specs.Iterator.{YieldsFirst, item_count};
+ghost use Rattle.arc_core.specs.EventLog.{after_events};
 
 use crate::event::Event;
 use crate::packed::{LONGEST_EVENT, Packed, take_packed, write_packed};
@@ -32,11 +32,39 @@ impl Model for History {
     ghost invariant = { HistoryKeeps };
 }
 
-/// The events of a history that are left to go over, in their order.
-#[derive(Clone, Copy, Debug)]
+/// The events of a history that are left to go over, in their order. Contracts see the list.
+#[derive(Debug, Drop)]
 pub struct Events<'a> {
     bytes: &'a [u8],
     left: usize,
+}
+
+impl<'a> Model for Events<'a> {
+    ghost use Rattle.std.specs.Prelude.{List};
+    ghost use Rattle.arc_core.specs.declared.event.Event.{Event};
+    ghost use Rattle.arc_core.specs.EventLog.{events_in};
+
+    ghost Value = { List Event };
+
+    ghost view = { λ e. events_in e.left e.bytes.now };
+}
+
+impl<'a> Iterator for Events<'a> {
+    type Item = Event;
+
+    ghost next_gives = { YieldsFirst (λ events. events) };
+
+    ghost remaining = { item_count (λ events. events) };
+
+    fn next(&mut self) -> Option<Event> {
+        if self.left == 0 {
+            return None;
+        }
+        let (packed, rest) = take_packed(self.bytes);
+        self.bytes = rest;
+        self.left -= 1;
+        Some(packed.event())
+    }
 }
 
 // What is left of the bytes behind so many events.
@@ -107,6 +135,16 @@ impl History {
         write_packed(&mut self.bytes, &packed);
         self.len += 1;
         self.room -= 1;
+    }
+
+    /// The events, in their order.
+    pub fn iter(&self) -> Events<'_>
+        ensures { result ≡ self.now.events }
+    {
+        Events {
+            bytes: &self.bytes,
+            left: self.len,
+        }
     }
 
     /// Forgets the events from this place on.
