@@ -1,8 +1,9 @@
 -- An event that was written as bytes is read back.
-use Rattle.std.proofs.Common.{◌≡◌, ℕ, zero, suc, ◌+◌, ◌*◌, ◌/◌, ◌%◌, ◌<◌, ◌≤◌, ◌^◌, Bool, true, false, if◌then◌else◌, List, [], ◌∷◌, ◌++◌, length, replicate, Some, None, inl, inr, refl, sym, ap, subst, ◌∙◌, append_assoc, length-append, arith}
+use Rattle.std.proofs.Common.{◌≡◌, ℕ, zero, suc, ◌+◌, ◌*◌, ◌/◌, ◌%◌, ◌<◌, ◌≤◌, ◌^◌, Bool, true, false, if◌then◌else◌, List, [], ◌∷◌, ◌++◌, length, replicate, Some, None, inl, inr, refl, sym, ap, subst, ◌∙◌, append_assoc, length-append, get_or, take, drop, drop-cons, ◌-◌, arith}
 use Rattle.std.specs.List.{AllByRecursion}
 use Rattle.std.proofs.lemmas.Bool.{true≢false}
-use Rattle.std.proofs.lemmas.List.{append-nil}
+use Rattle.std.proofs.lemmas.List.{append-nil, length-take, take-append-drop}
+use Rattle.std.proofs.Math.Seq.{take-append_seam}
 use Rattle.varint.specs.Number.{number_bytes, taken_bytes, taken_number}
 use Rattle.varint.proofs.Taken.{bytes-taken, number-taken}
 use Rattle.arc_core.specs.declared.event.Event.{Event}
@@ -126,3 +127,70 @@ events-pushed n bytes e spelled all can =
     let text : bytes_of longer ++ [] ≡ bytes ++ packed_bytes (packed_of e) = append-nil (bytes_of longer) ∙ all-bytes es e ∙ ap (λ bs. bs ++ packed_bytes (packed_of e)) (sym spelled) in
     let read : events_in (length longer) (bytes_of longer ++ []) ≡ longer = all-read longer [] (all-packable es e all can) in
     subst (λ m. events_in m (bytes ++ packed_bytes (packed_of e)) ≡ longer) count (subst (λ bs. events_in (length longer) bs ≡ longer) text read)
+
+-- ---- what is left behind events
+
+pub all-bytes-append : (es fs : List Event) → bytes_of (es ++ fs) ≡ bytes_of es ++ bytes_of fs
+all-bytes-append [] fs = refl
+all-bytes-append (e ∷ es) fs = ap (λ ys. packed_bytes (packed_of e) ++ ys) (all-bytes-append es fs) ∙ sym (append_assoc (packed_bytes (packed_of e)) (bytes_of es) (bytes_of fs))
+
+pub all-item : (es : List Event) (n : ℕ) (d : Event) → n < length es → AllByRecursion IsPackable es → IsPackable (get_or es n d)
+all-item [] n d lt all = absurd (omega arith)
+all-item (e ∷ es) zero d lt all = all.0
+all-item (e ∷ es) (suc n) d lt all = all-item es n d (omega arith) all.1
+
+pub left-behind : (n : ℕ) (es : List Event) → n ≤ length es → AllByRecursion IsPackable es → after_events n (bytes_of es) ≡ bytes_of (drop n es)
+left-behind zero es le all = refl
+left-behind (suc n) es le all =
+    let d = FeedEnd 0 in
+    let e = get_or es n d in
+    let lt : n < length es = omega arith in
+    let before : after_events n (bytes_of es) ≡ bytes_of (drop n es) = left-behind n es (omega arith) all in
+    let split : drop n es ≡ e ∷ drop (suc n) es = drop-cons es n d lt in
+    let taken : taken_packed (packed_bytes (packed_of e) ++ bytes_of (drop (suc n) es)) ≡ (packed_of e, bytes_of (drop (suc n) es)) = event-taken e (bytes_of (drop (suc n) es)) (all-item es n d lt all) in
+    ap (λ xs. (taken_packed xs).1) (before ∙ ap bytes_of split) ∙ ap (λ t. t.1) taken
+
+pub all-taken-front : (n : ℕ) (es : List Event) → AllByRecursion IsPackable es → AllByRecursion IsPackable (take n es)
+all-taken-front zero es all = tt
+all-taken-front (suc n) [] all = tt
+all-taken-front (suc n) (e ∷ es) all = (all.0, all-taken-front n es all.1)
+
+-- the bytes of the events in front, cut off where what is left behind them begins
+pub cut-bytes : (n : ℕ) (es : List Event) (bytes : List ℕ) → bytes ≡ bytes_of es → n ≤ length es → AllByRecursion IsPackable es
+    → take (length bytes - length (after_events n bytes)) bytes ≡ bytes_of (take n es)
+cut-bytes n es bytes spelled le all =
+    let front = bytes_of (take n es) in
+    let rest = bytes_of (drop n es) in
+    let whole : bytes ≡ front ++ rest = spelled ∙ ap bytes_of (sym (take-append-drop n es)) ∙ all-bytes-append (take n es) (drop n es) in
+    let behind : after_events n bytes ≡ rest = ap (after_events n) spelled ∙ left-behind n es le all in
+    let count : length bytes - length (after_events n bytes) ≡ length front = omega (arith, ap length whole, length-append front rest, ap length behind) in
+    ap (λ m. take m bytes) count ∙ ap (take (length front)) whole ∙ take-append_seam front rest
+
+-- and what is read there
+pub events-cut : (n : ℕ) (es : List Event) (bytes : List ℕ) → bytes ≡ bytes_of (take n es) → n ≤ length es → AllByRecursion IsPackable es → events_in n bytes ≡ take n es
+events-cut n es bytes spelled le all =
+    let front = take n es in
+    let count : length front ≡ n = omega (arith, length-take n es) in
+    let text : bytes_of front ++ [] ≡ bytes = append-nil (bytes_of front) ∙ sym spelled in
+    let read : events_in (length front) (bytes_of front ++ []) ≡ front = all-read front [] (all-taken-front n es all) in
+    subst (λ m. events_in m bytes ≡ front) count (subst (λ bs. events_in (length front) bs ≡ front) text read)
+
+-- ---- going over events
+
+pub first-event : (n : ℕ) (xs : List ℕ) → 0 < n → events_in n xs ≡ event_of (taken_packed xs).0 ∷ events_in (n - 1) (taken_packed xs).1
+first-event zero xs some = absurd (omega arith)
+first-event (suc n) xs some =
+    let less : suc n - 1 ≡ n = omega arith in
+    ap (λ m. event_of (taken_packed xs).0 ∷ events_in m (taken_packed xs).1) (sym less)
+
+pub no-events : (n : ℕ) (xs : List ℕ) → n ≡ 0 → events_in n xs ≡ []
+no-events n xs none = ap (λ m. events_in m xs) none
+
+-- what is left behind events is no longer than all
+pub rest-short : (n : ℕ) (es : List Event) (bytes : List ℕ) → bytes ≡ bytes_of es → n ≤ length es → AllByRecursion IsPackable es → length (after_events n bytes) ≤ length bytes
+rest-short n es bytes spelled le all =
+    let front = bytes_of (take n es) in
+    let rest = bytes_of (drop n es) in
+    let whole : bytes ≡ front ++ rest = spelled ∙ ap bytes_of (sym (take-append-drop n es)) ∙ all-bytes-append (take n es) (drop n es) in
+    let behind : after_events n bytes ≡ rest = ap (after_events n) spelled ∙ left-behind n es le all in
+    omega (arith, ap length whole, length-append front rest, ap length behind)

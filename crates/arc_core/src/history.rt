@@ -1,5 +1,5 @@
 //! The events of a shard in their order, each as a run of bytes. Contracts see the list, and for how many more events there is room.
-ghost use Rattle.std.specs.Prelude.{◌≡◌, ◌+◌, ◌<◌, ◌≤◌, ◌^◌, ◌++◌, ◌∷◌, [], length, take, OnOk, OnErr};
+ghost use Rattle.std.specs.Prelude.{◌≡◌, ◌+◌, ◌<◌, ◌≤◌, ◌^◌, ◌++◌, ◌∷◌, ◌↔◌, [], length, take, IsTrue, OnOk, OnErr};
 ghost use Rattle.std.specs.Iterator.{YieldsFirst, item_count};
 ghost use Rattle.arc_core.specs.EventLog.{after_events};
 
@@ -137,6 +137,13 @@ impl History {
         self.room -= 1;
     }
 
+    /// Whether there is none.
+    pub fn is_empty(&self) -> bool
+        ensures { IsTrue result ↔ (self.now.events ≡ []) }
+    {
+        self.len() == 0
+    }
+
     /// The events, in their order.
     pub fn iter(&self) -> Events<'_>
         ensures { result ≡ self.now.events }
@@ -153,8 +160,9 @@ impl History {
         ensures events { self.new.events ≡ take len self.old.events }
         ensures room { self.new.room ≡ self.old.room }
     {
-        let rest = behind(&self.bytes, len).len();
-        let kept = self.bytes.len() - rest;
+        let bytes = self.bytes.as_slice();
+        let rest = behind(bytes, len);
+        let kept = bytes.len() - rest.len();
         self.bytes.truncate(kept);
         self.len = len;
     }

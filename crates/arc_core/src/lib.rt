@@ -19,6 +19,7 @@ mod table;
 pub use config::{Bounds, Config};
 pub use entry::{Entry, NUMBERS, Phase, Picked};
 pub use event::{Event, FailedAt, Origin, Why};
+pub use history::{Events, History};
 pub use holds::Holds;
 pub use keeps::Keeps;
 pub use laws::{
