@@ -49,6 +49,18 @@ impl<'a> Model for Events<'a> {
     ghost view = { λ e. events_in e.left e.bytes.now };
 }
 
+impl Events<'_> {
+    /// No events.
+    pub fn none() -> Events<'static>
+        ensures { result ≡ [] }
+    {
+        Events {
+            bytes: &[],
+            left: 0,
+        }
+    }
+}
+
 impl<'a> Iterator for Events<'a> {
     type Item = Event;
 
@@ -125,8 +137,20 @@ impl History {
         Ok(())
     }
 
+    /// Appends an event, and makes room first where there is none. Err is want of memory, and so is a history that has 2^32 - 1 events.
+    pub fn push(&mut self, event: Event) -> Result<(), NoMemory>
+        ensures events { OnOk result (self.new.events ≡ self.old.events ++ event ∷ []) }
+        ensures err { OnErr result (self.new ≡ self.old) }
+    {
+        if self.room() == 0 {
+            self.reserve(1)?;
+        }
+        self.push_reserved(event);
+        Ok(())
+    }
+
     /// Appends an event for which there is room. It takes no memory.
-    pub fn push(&mut self, event: Event)
+    pub fn push_reserved(&mut self, event: Event)
         requires { 0 < self.old.room }
         ensures events { self.new.events ≡ self.old.events ++ event ∷ [] }
         ensures room { self.new.room + 1 ≡ self.old.room }

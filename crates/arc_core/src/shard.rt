@@ -80,7 +80,7 @@ fn append(history: &mut History, event: Event)
     ensures len { length history.new.events ≡ length history.old.events + 1 }
     ensures capacity { history.new.room + 1 ≡ history.old.room }
 {
-    history.push(event);
+    history.push_reserved(event);
 }
 
 // Who holds an entry that is being read, and how many holds there are.

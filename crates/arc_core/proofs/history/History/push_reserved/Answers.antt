@@ -3,7 +3,7 @@ use Rattle.std.specs.List.{AllByRecursion}
 use Rattle.arc_core.specs.EventLog.{EventLog, bytes_of, events_in}
 use Rattle.arc_core.specs.Packed.{IsPackable, packed_bytes, packed_of}
 use Rattle.arc_core.proofs.Packing.{all-bytes, all-packable, events-pushed}
-use Rattle.arc_core.proofs.history.History.push.Goals as goal
+use Rattle.arc_core.proofs.history.History.push_reserved.Goals as goal
 
 -- the bytes are longer by the event's
 written : (c : goal.After-self-2-1) → c.write_packed.new.out.items ≡ c.self.inside.bytes.items ++ packed_bytes (packed_of c.args.event)
