@@ -67,7 +67,7 @@ fn has_events(closed: &Closed<Plain>, events: &[Event]) -> bool {
     closed
         .shards()
         .iter()
-        .all(|shard| shard.history() == events)
+        .all(|shard| shard.history().iter().eq(events.iter().copied()))
 }
 
 // Four callers do their calls, and the histories replay. A scan passes a key only where it meets a taken bucket, so one soak of a few has to.

@@ -1,5 +1,5 @@
 //! Feeds in which one call of the device fails.
-use arc_core::{Event, Why};
+use arc_core::{Event, History, Why};
 use arc_examples::Plain;
 use arc_table::Closed;
 use feed_examples::{closed, config_of_one, fed, memory, opened, read, zeros_of};
@@ -9,11 +9,11 @@ use std::sync::Wait;
 use std::test::Fail;
 
 /// How many of a shard's events are picks, sets, and leaves for the device's fault.
-fn counts(events: &[Event]) -> [usize; 3] {
-    let picks = events.iter().filter(|e| matches!(e, Event::Pick { .. }));
-    let sets = events.iter().filter(|e| matches!(e, Event::Set { .. }));
+fn counts(history: &History) -> [usize; 3] {
+    let picks = history.iter().filter(|e| matches!(e, Event::Pick { .. }));
+    let sets = history.iter().filter(|e| matches!(e, Event::Set { .. }));
     let device = Why::Device;
-    let left = events.iter().filter(|e| matches!(e, Event::Leave { why, .. } if *why == device));
+    let left = history.iter().filter(|e| matches!(e, Event::Leave { why, .. } if *why == device));
     [picks.count(), sets.count(), left.count()]
 }
 

@@ -9,7 +9,7 @@ ghost use Rattle.arc_examples.specs.Ready.{IsReady, IsReadyAs};
 
 use super::reads::{Answer, answer_of, device_of};
 use super::{TWO, big};
-use arc_core::{Bounds, Config, Event, Served, Why};
+use arc_core::{Bounds, Config, Event, History, Served, Why};
 use arc_examples::{Caller, Plain, close_pair, opened_pair, read_and_release, read_one};
 use arc_table::{Arcs, Closed, Look, Party, Picked};
 use blk_ptr::{Key, NoMemory, Ptr, digest_of};
@@ -296,12 +296,18 @@ fn is_block(picked: Option<&Picked>, ptr: &Ptr, bytes: &[u8]) -> bool {
     picked.is_some_and(|picked| picked.key == ptr.key && picked.block.bytes() == bytes)
 }
 
-// Whether the history ends with these events.
+// Whether a history ends with these events.
+fn ends_with_events(history: &History, events: &[Event]) -> bool {
+    let front = history.len().saturating_sub(events.len());
+    history.iter().skip(front).eq(events.iter().copied())
+}
+
+// Whether each history ends with these events.
 fn ends_with(closed: &Closed<Plain>, events: &[Event]) -> bool {
     closed
         .shards()
         .iter()
-        .all(|shard| shard.history().ends_with(events))
+        .all(|shard| ends_with_events(shard.history(), events))
 }
 
 #[test]
