@@ -5,5 +5,4 @@ ghost use Rattle.varint.specs.Number.{BytesAreReadBack, NumbersAreReadBack};
 pub fn what_was_written_is_read_back()
     ensures numbers { NumbersAreReadBack }
     ensures bytes { BytesAreReadBack }
-{
-}
+{}
