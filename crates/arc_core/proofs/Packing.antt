@@ -33,10 +33,10 @@ all-taken : (ks ns os ss bs es ds xs : List ℕ) (kind n o s b x : ℕ) (d : Lis
     → ((ys : List ℕ) → taken_number (bs ++ ys) ≡ (b, ys)) → ((ys : List ℕ) → taken_number (es ++ ys) ≡ (x, ys))
     → ((ys : List ℕ) → taken_digest kind (ds ++ ys) ≡ (d, ys))
     → taken_packed ((ks ++ ns ++ os ++ ss ++ bs ++ es ++ ds) ++ xs)
-      ≡ (record { kind = kind; n = n; key = record { offset = turned_back o; size = turned_back s; birth = b }; extra = x; digest = record { 0 = d } }, xs)
+    ≡ (record { kind = kind; n = n; key = record { offset = turned_back o; size = turned_back s; birth = b }; extra = x; digest = record { 0 = d } }, xs)
 all-taken ks ns os ss bs es ds xs kind n o s b x d hk hn ho hs hb he hd =
     rw (append_assoc (ks ++ ns ++ os ++ ss ++ bs ++ es) ds xs, append_assoc (ks ++ ns ++ os ++ ss ++ bs) es (ds ++ xs), append_assoc (ks ++ ns ++ os ++ ss) bs (es ++ (ds ++ xs)), append_assoc (ks ++ ns ++ os) ss (bs ++ (es ++ (ds ++ xs))), append_assoc (ks ++ ns) os (ss ++ (bs ++ (es ++ (ds ++ xs)))), append_assoc ks ns (os ++ (ss ++ (bs ++ (es ++ (ds ++ xs))))))
-      (rw (hk (ns ++ (os ++ (ss ++ (bs ++ (es ++ (ds ++ xs))))))) (rw (hn (os ++ (ss ++ (bs ++ (es ++ (ds ++ xs)))))) (rw (ho (ss ++ (bs ++ (es ++ (ds ++ xs))))) (rw (hs (bs ++ (es ++ (ds ++ xs)))) (rw (hb (es ++ (ds ++ xs))) (rw (he (ds ++ xs)) (rw (hd xs) refl)))))))
+    (rw (hk (ns ++ (os ++ (ss ++ (bs ++ (es ++ (ds ++ xs))))))) (rw (hn (os ++ (ss ++ (bs ++ (es ++ (ds ++ xs)))))) (rw (ho (ss ++ (bs ++ (es ++ (ds ++ xs))))) (rw (hs (bs ++ (es ++ (ds ++ xs)))) (rw (hb (es ++ (ds ++ xs))) (rw (he (ds ++ xs)) (rw (hd xs) refl)))))))
 
 -- a kind without a digest has zeros in its place
 packed-plain : (e : Event) → has_digest (packed_of e).kind ≡ false → (packed_of e).digest.0 ≡ replicate 32 0
@@ -83,10 +83,10 @@ packed-taken : (p : Packed) (xs : List ℕ) → p.kind < 2 ^ 64 → p.n < 2 ^ 64
     → length p.digest.0 ≡ 32 → (has_digest p.kind ≡ false → p.digest.0 ≡ replicate 32 0) → taken_packed (packed_bytes p ++ xs) ≡ (p, xs)
 packed-taken p xs kind n offset size birth extra long plain =
     let taken = all-taken (number_bytes p.kind) (number_bytes p.n) (number_bytes (turned p.key.offset)) (number_bytes (turned p.key.size)) (number_bytes p.key.birth) (number_bytes p.extra) (digest_bytes p) xs
-      p.kind p.n (turned p.key.offset) (turned p.key.size) p.key.birth p.extra p.digest.0
-      (λ ys. number-taken p.kind ys kind) (λ ys. number-taken p.n ys n) (λ ys. number-taken (turned p.key.offset) ys (turned-fits p.key.offset offset))
-      (λ ys. number-taken (turned p.key.size) ys (turned-fits p.key.size size)) (λ ys. number-taken p.key.birth ys birth) (λ ys. number-taken p.extra ys extra)
-      (λ ys. digest-taken p.kind p.digest.0 ys long plain) in
+    p.kind p.n (turned p.key.offset) (turned p.key.size) p.key.birth p.extra p.digest.0
+    (λ ys. number-taken p.kind ys kind) (λ ys. number-taken p.n ys n) (λ ys. number-taken (turned p.key.offset) ys (turned-fits p.key.offset offset))
+    (λ ys. number-taken (turned p.key.size) ys (turned-fits p.key.size size)) (λ ys. number-taken p.key.birth ys birth) (λ ys. number-taken p.extra ys extra)
+    (λ ys. digest-taken p.kind p.digest.0 ys long plain) in
     taken ∙ rw (turned-back p.key.offset offset, turned-back p.key.size size) refl
 
 -- the event at the front is read back

@@ -132,14 +132,16 @@ taken_packed xs =
     let size = taken_number offset.1 in
     let birth = taken_number size.1 in
     let extra = taken_number birth.1 in
-    let digest = taken_digest kind.0 extra.1 in
-    (record {
-      kind = kind.0;
-      n = n.0;
-      key = record { offset = turned_back offset.0; size = turned_back size.0; birth = birth.0 };
-      extra = extra.0;
-      digest = record { 0 = digest.0 };
-    }, digest.1)
+    let digest = taken_digest kind.0 extra.1 in (
+      record {
+        kind = kind.0;
+        n = n.0;
+        key = record { offset = turned_back offset.0; size = turned_back size.0; birth = birth.0 };
+        extra = extra.0;
+        digest = record { 0 = digest.0 };
+      },
+      digest.1,
+    )
 
 -- ---- an event as bytes
 

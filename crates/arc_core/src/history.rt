@@ -170,7 +170,8 @@ impl History {
 
     /// The events, in their order.
     pub fn iter(&self) -> Events<'_>
-        ensures { result ≡ self.now.events }
+        ensures events { result ≡ self.now.events }
+        ensures few { length self.now.events < 2 ^ 32 }
     {
         Events {
             bytes: &self.bytes,

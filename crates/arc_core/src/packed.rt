@@ -4,10 +4,9 @@ ghost use Rattle.arc_core.specs.Packed.{narrow, no_digest, origin_number, origin
 
 mod bytes;
 
-pub(crate) use bytes::{LONGEST_EVENT, take_packed, write_packed};
-
 use crate::event::{Event, FailedAt, Origin, Why};
 use blk_ptr::{Digest, Key};
+pub(crate) use bytes::{LONGEST_EVENT, take_packed, write_packed};
 
 /// The kind of an event and its fields, where a field that it doesn't have is zero. The first four kinds have a digest.
 #[derive(Clone, Copy, Debug)]
@@ -62,7 +61,11 @@ fn fault_number(at: FailedAt) -> u64
 fn fault_of(x: u64) -> FailedAt
     ensures { result ≡ fault_of x }
 {
-    if x == 0 { FailedAt::Unread } else { FailedAt::Pool }
+    if x == 0 {
+        FailedAt::Unread
+    } else {
+        FailedAt::Pool
+    }
 }
 
 fn reason_number(why: Why) -> u64

@@ -24,7 +24,7 @@ kept_bytes c =
     let le : c.args.len ≤ length es = subst (λ (l : EventLog). c.args.len ≤ length l.events) (sym c.self.view_is) c.requires in
     let spelled : bytes ≡ bytes_of es = c.as_slice-bytes.ensures.value ∙ c.self.invariant.bytes in
     c.truncate.ensures.items ∙ ap (λ r. take (length bytes - length r) s.bytes.items) c.behind-rest.ensures
-      ∙ ap (take (length bytes - length (after_events c.args.len bytes))) (sym c.as_slice-bytes.ensures.value) ∙ cut-bytes c.args.len es bytes spelled le c.self.invariant.packable
+    ∙ ap (take (length bytes - length (after_events c.args.len bytes))) (sym c.as_slice-bytes.ensures.value) ∙ cut-bytes c.args.len es bytes spelled le c.self.invariant.packable
 
 kept_events : (c : goal.After-self-1) → events_in c.args.len c.truncate.new.self.items ≡ take c.args.len (events_in c.self.inside.len c.self.inside.bytes.items)
 kept_events c =
