@@ -4,7 +4,7 @@
 TOP is the top of a clean clone. What no longer stands there is told and passed over. Behind it run, crate by crate and lowest
 first, `rt fmt` and `rt check`; and `docs/theorem`.
 
-    FILES     files of laws that no contract and no definition cites leave specs/ for proofs/
+    FILES     files of specs/ that go to proofs/ (split_laws.py does it for laws)
     MODULES   modules of src/ with a new name, and the folder of their proofs
     SAME      definitions that say the same as one below them: these go, and that one is imported
     NAMES     definitions of specs/ with a new name
@@ -16,19 +16,8 @@ import subprocess
 import sys
 
 FILES = [
-    # crate, file in specs/, file in proofs/
-    ('l2_ring', 'PlanLaws', 'PlanLaws'),
-    ('l2_dev', 'CallLaws', 'CallLaws'),
-    ('l2_dev', 'ChainLaws', 'ChainLaws'),
-    ('l2_dev', 'CommitLaws', 'CommitLaws'),
-    ('l2_dev', 'ListLaws', 'ListLaws'),
-    ('l2_dev', 'RebuildLaws', 'RebuildLaws'),
-    ('l2_dev', 'StandingLaws', 'StandingLaws'),
-    ('l2_dev', 'StepLaws', 'StepLaws'),
-    ('l2_dev', 'TornLaws', 'TornLaws'),
-    ('arc_table', 'TableLaws', 'TableLaws'),
-    ('arc_table', 'opening/OpeningLaws', 'OpeningLaws'),
-    ('vdev_io', 'SectorLaws', 'SectorLaws'),
+    # crate, file in specs/, file in proofs/. Only what no file of specs/ imports may move: a contract may not depend on its own
+    # crate's proofs. The others are split by split_laws.py, which does these too.
 ]
 
 MODULES = [
