@@ -144,13 +144,13 @@ all-then : (P : Event → Type 0) (xs ys : List Event) → AllByRecursion P xs �
 all-then P [] ys a b = b
 all-then P (x ∷ xs) ys a b = (a.0, all-then P xs ys a.1 b)
 
+at-most : (c : ℕ) (k : Key) (es : List Event) → DropsAtMost c k es → AreDropsOf c es
+at-most c k es (inl none) = subst (AreDropsOf c) (sym none) tt
+at-most c k es (inr one) = subst (AreDropsOf c) (sym one) ((k, refl), tt)
+
 drops-each : (c : ℕ) (ds : List OutlineDbuf) (es : List Event) → DropsEach c ds es → AreDropsOf c es
 drops-each c [] es none = subst (AreDropsOf c) (sym none) tt
-drops-each c (d ∷ ds) es (ptr, drops, rest, is, whole, one, more) = subst (AreDropsOf c) (sym whole) (all-then (λ e. (k : Key) × (e ≡ Drop c k)) drops rest (at-most one) (drops-each c ds rest more))
-  where
-    at-most : DropsAtMost c ptr.key drops → AreDropsOf c drops
-    at-most (inl none) = subst (AreDropsOf c) (sym none) tt
-    at-most (inr one) = subst (AreDropsOf c) (sym one) ((ptr.key, refl), tt)
+drops-each c (d ∷ ds) es each = subst (AreDropsOf c) (sym each.4) (all-then (λ e. (k : Key) × (e ≡ Drop c k)) each.1 each.2 (at-most c each.0.key each.1 each.5) (drops-each c ds each.2 each.6))
 
 drops-cells : (g : Config) (i : ℕ) (es : List Event) → AreDropsOf (cell_number g i) es → AreCellDrops g es
 drops-cells g i [] all = tt
@@ -266,29 +266,32 @@ module _ (g : Config) (valid : IsConfig g) where
 
   all-dropped : (c : ℕ) (es : List Event) (p q : PartyPlace) → parties_of g ≤ c → p.number < parties_of g → p.own.about.config ≡ g → HasSeenItsEvents g p → HasAll p → AreDropsOf c es → MakesAll g es p q → HasDropped g es p q
   all-dropped c [] p q above low config sees all drops looks = look-dropped looks.0 p q config sees all looks.1
-  all-dropped c (e ∷ es) p q above low config sees all drops (k, r, s, looks, key, does, rest) =
-      let a = look-dropped looks.0 p r config sees all looks.1 in
+  all-dropped c (e ∷ es) p q above low config sees all drops makes =
+      let k : Key = makes.0 in
+      let r : PartyPlace = makes.1 in
+      let s : PartyPlace = makes.2 in
+      let a = look-dropped makes.3.0 p r config sees all makes.3.1 in
       let r-config : r.own.about.config ≡ g = ap (λ (x : About). x.config) a.left.stays.about ∙ config in
       let r-low : r.number < parties_of g = subst (λ (n : ℕ). n < parties_of g) (sym a.left.stays.number) low in
-      let is : e ≡ Drop c k = drops.0.1 ∙ ap (Drop c) (key-is (subst (λ (x : Event). event_key x ≡ Some k) drops.0.1 key)) in
+      let is : e ≡ Drop c k = drops.0.1 ∙ ap (Drop c) (key-is (subst (λ (x : Event). event_key x ≡ Some k) drops.0.1 makes.4)) in
       let b : HasDropped g (e ∷ []) r s = subst (λ (x : Event). HasDropped g (x ∷ []) r s) (sym is)
-      (one-dropped k (Drop c k ∷ []) r s r-config a.sees a.all (own-single-by (IsNumberOrCell g) r.number (Drop c k) (inr above) refl) (λ sh hs. not-mine r.number hs r-low) (λ ks. refl) (λ shard. one-there shard)
-      (subst (λ (x : Event). Does dbuf_meanings g k (x ∷ []) r s) is does)) in
+      (one-dropped k (Drop c k ∷ []) r s r-config a.sees a.all (own-single-by (IsNumberOrCell g) r.number (Drop c k) (inr above) refl) (λ sh hs. not-mine k r.number hs r-low) (λ ks. refl) (λ shard. one-there k shard)
+      (subst (λ (x : Event). Does dbuf_meanings g k (x ∷ []) r s) is makes.5)) in
       let s-config : s.own.about.config ≡ g = ap (λ (x : About). x.config) b.left.stays.about ∙ r-config in
       let s-low : s.number < parties_of g = subst (λ (n : ℕ). n < parties_of g) (sym b.left.stays.number) r-low in
-      dropped-then g [] (e ∷ es) p r q a (dropped-then g (e ∷ []) es r s q b (all-dropped c es s q above s-low s-config b.sees b.all drops.1 rest))
+      dropped-then g [] (e ∷ es) p r q a (dropped-then g (e ∷ []) es r s q b (all-dropped c es s q above s-low s-config b.sees b.all drops.1 makes.6))
     where
-      key-is : {j : Key} → ◌≡◌ {A = Option Key} (Some j) (Some k) → j ≡ k
+      key-is : {j k : Key} → ◌≡◌ {A = Option Key} (Some j) (Some k) → j ≡ k
       key-is same = cc
 
-      not-mine : (n : ℕ) (hs : List Ptr) → n < parties_of g → (if n == c then without_hold k hs else hs) ≡ hs
-      not-mine n hs below = let other : (n == c) ≡ false = ne_eqb n c (λ e. absurd (omega (arith, e, below, above))) in ap (λ (b : Bool). if b then without_hold k hs else hs) other
+      not-mine : (k : Key) (n : ℕ) (hs : List Ptr) → n < parties_of g → (if n == c then without_hold k hs else hs) ≡ hs
+      not-mine k n hs below = let other : (n == c) ≡ false = ne_eqb n c (λ e. absurd (omega (arith, e, below, above))) in ap (λ (b : Bool). if b then without_hold k hs else hs) other
 
-      one-there : (shard : ℕ) → events_there g shard (Drop c k ∷ []) ≡ (if shard_of g.shards k == shard then (Drop c k ∷ []) else [])
-      one-there shard = go (shard_of g.shards k == shard)
-        where
-          go : (b : Bool) → ◌≡◌ {A = List Event} (if b then (Drop c k ∷ []) else []) (if b then (Drop c k ∷ []) else [])
-          go b = refl
+      one-there : (k : Key) (shard : ℕ) → events_there g shard (Drop c k ∷ []) ≡ (if shard_of g.shards k == shard then (Drop c k ∷ []) else [])
+      one-there k shard = elim (cases_true (shard_of g.shards k == shard)) [
+        | inl here ↦ rw here refl
+        | inr out ↦ rw out refl
+      ]
 
 -- ---- what a party with every number is behind such a turn
 

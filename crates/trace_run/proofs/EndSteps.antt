@@ -120,7 +120,7 @@ module _ (cache : Cache) (p : PartyPlace) (others : List PartyPlace) (stands : S
         let idle = ended.idle (untouched own rest) in
         record {
           none = idle.none;
-          ends = λ i range. idle.ends i range (omega arith) range ∙ ap (λ (n : ℕ). end_entry n i) have.number;
+          ends = λ i range. idle.ends i range (omega arith) (omega (arith, range)) ∙ ap (λ (n : ℕ). end_entry n i) have.number;
           events = λ seen. idle.events (subst (λ (x : ℕ × List Mine). AreSeen g x.0 x.1 q.own.seen) (λ z. (sym have.number z, sym have.mine z))
               (own-seen-more g p.number p.own.mine p.own.seen q.own.seen have.self.starts seen));
         }
