@@ -30,4 +30,4 @@ pub mod MoveLemmas
 pub mod scans
 pub mod feeder
 pub mod reads
-pub mod cells
+pub mod cell_lemmas

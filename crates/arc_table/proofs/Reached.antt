@@ -47,7 +47,7 @@ use Rattle.arc_table.specs.ShardGiving.{after_shard, holds_through}
 use Rattle.arc_table.specs.TableLaws.{front_else, item_else, item_here, list_else, list_here, within}
 use Rattle.arc_table.specs.Views.{after_lost}
 use Rattle.arc_table.proofs.Bookings.{holds_cons}
-use Rattle.arc_table.proofs.cells.CellGives.{note_within}
+use Rattle.arc_table.proofs.cell_lemmas.CellGives.{note_within}
 use Rattle.arc_table.proofs.HandHeads.{config_then, hand_entries, hand_headers, hand_heads, shard_then}
 use Rattle.arc_table.proofs.Ranges.{bucket_range, shard_range}
 use Rattle.arc_table.proofs.Rows.{same_shard}

@@ -36,7 +36,7 @@ use Rattle.arc_table.specs.ShardGiving.{holds_through}
 use Rattle.arc_table.specs.TableLaws.{item_here, list_here}
 use Rattle.arc_table.specs.Views.{after_won}
 use Rattle.arc_table.proofs.Afterwards.{Stays, does_stays, stays_party}
-use Rattle.arc_table.proofs.cells.CellsInHand.{cell-lists, cell-recorded}
+use Rattle.arc_table.proofs.cell_lemmas.CellsInHand.{cell-lists, cell-recorded}
 use Rattle.arc_table.proofs.Reached.{Took, holding, listed_still}
 use Rattle.arc_examples.specs.Ready.{IsReady, IsReadyAs}
 use Rattle.arc_examples.proofs.Holds.{own-hold, without-first}

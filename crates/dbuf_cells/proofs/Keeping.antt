@@ -29,7 +29,7 @@ use Rattle.arc_table.specs.declared.read.Read.TheVariants as gave
 use Rattle.arc_table.specs.declared.view.Ledger.{Ledger}
 use Rattle.arc_table.proofs.Afterwards.{does_ledger, does_stays}
 use Rattle.arc_table.proofs.Bookings.{holds_cons}
-use Rattle.arc_table.proofs.cells.CellsInHand.{cell-lists}
+use Rattle.arc_table.proofs.cell_lemmas.CellsInHand.{cell-lists}
 use Rattle.arc_table.proofs.Reached.{holding, listed_still, number_below, reached}
 use Rattle.dbuf_state.specs.CellLog.{CellLog, noted}
 use Rattle.dbuf_state.specs.Dbufs.{DbufHas, IsFit, IsKeptOf, IsOfContent, cached_with, dbuf_at, dbuf_is, plain_block, plain_dbuf, unread, used_at, with_dbuf}

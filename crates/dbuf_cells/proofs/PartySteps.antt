@@ -33,7 +33,7 @@ use Rattle.arc_table.specs.Looking.{HasNoLook}
 use Rattle.arc_table.specs.TableLaws.{list_else, list_here}
 use Rattle.arc_table.specs.Views.{after_cell}
 use Rattle.arc_table.proofs.Afterwards.{Stays, does_ledger, does_stays, stays_free, stays_party}
-use Rattle.arc_table.proofs.cells.CellsInHand.{cell-lists, cell-recorded, taken-cell}
+use Rattle.arc_table.proofs.cell_lemmas.CellsInHand.{cell-lists, cell-recorded, taken-cell}
 use Rattle.arc_table.proofs.Reached.{IsHolding, Took, holding, listed_still, reached, took_is}
 use Rattle.dbuf_state.specs.CellLog.{CellLog}
 use Rattle.dbuf_state.specs.Dbufs.{DbufHas, dbuf_at}

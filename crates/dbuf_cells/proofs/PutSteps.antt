@@ -16,7 +16,7 @@ use Rattle.arc_table.specs.Fronts.{list_at}
 use Rattle.arc_table.specs.Geometry.{cell_number}
 use Rattle.arc_table.specs.Giving.{AreHolds}
 use Rattle.arc_table.specs.Holding.{ptr_of}
-use Rattle.arc_table.proofs.cells.CellsInHand.{cell-lists}
+use Rattle.arc_table.proofs.cell_lemmas.CellsInHand.{cell-lists}
 use Rattle.dbuf_state.specs.CellLog.{CellLog, fresh, noted}
 use Rattle.dbuf_state.specs.Dbufs.{DbufHas, Fits, IsFit, dbuf_at, dbuf_is, dbuf_oid, dirty_with, is_cached, is_clean, is_clean_in, is_evicting, is_passing, is_uncached, mapped_of, may_dirty, with_dbuf, without_kept}
 use Rattle.dbuf_state.specs.InHand.{are_at_rest}

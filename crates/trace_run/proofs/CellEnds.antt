@@ -45,8 +45,8 @@ use Rattle.arc_table.specs.TableLaws.{front_else, front_here, item_here, starts_
 use Rattle.arc_table.specs.Telling.{opening_of}
 use Rattle.arc_table.specs.Views.{after_cell, mines_from, recorded}
 use Rattle.arc_table.proofs.Afterwards.{does_ledger}
-use Rattle.arc_table.proofs.cells.CellsInHand.{cell-recorded}
-use Rattle.arc_table.proofs.cells.EntriesSeen.{given-entries, given-sees, seen-at-take}
+use Rattle.arc_table.proofs.cell_lemmas.CellsInHand.{cell-recorded}
+use Rattle.arc_table.proofs.cell_lemmas.EntriesSeen.{given-entries, given-sees, seen-at-take}
 use Rattle.arc_table.proofs.MadeLemmas.{does-made}
 use Rattle.arc_table.proofs.OwnLemmas.{get-either, grows, made-all, made-alone, made-sees, no-own-moments, own-append}
 use Rattle.arc_table.proofs.reads.ReadMoments.{own-none, own-single-by}

@@ -37,7 +37,7 @@ use Rattle.arc_table.specs.TableLaws.{front_else, get_front, starts_whole}
 use Rattle.arc_table.specs.Views.{after_same, after_won}
 use Rattle.arc_table.proofs.reads.AfterRead.{stays_config}
 use Rattle.arc_table.proofs.Afterwards.{Stays, does_mine, does_stays, stays_then}
-use Rattle.arc_table.proofs.cells.CellsInHand.{cell-front, cell-no-bucket, cell-no-shard}
+use Rattle.arc_table.proofs.cell_lemmas.CellsInHand.{cell-front, cell-no-bucket, cell-no-shard}
 use Rattle.arc_table.proofs.OwnLemmas.{get-either}
 use Rattle.arc_table.proofs.PassMines.{mines_of_are}
 use Rattle.arc_table.proofs.Reached.{reached}

@@ -19,7 +19,7 @@ use Rattle.arc_table.specs.Geometry.{IsCell, cell_number, shard_turn}
 use Rattle.arc_table.specs.scans.Scanning.{ArePasses, gave_all, won_all}
 use Rattle.arc_table.specs.ShardGiving.{holds_through}
 use Rattle.arc_table.proofs.Afterwards.{Stays, does_stays, stays_free, stays_party, does_ledger}
-use Rattle.arc_table.proofs.cells.CellsInHand.{cell-kept, cell-kept-roomy}
+use Rattle.arc_table.proofs.cell_lemmas.CellsInHand.{cell-kept, cell-kept-roomy}
 use Rattle.arc_table.proofs.Reached.{reached}
 use Rattle.arc_table.proofs.scans.RoomyAfter.{does_roomy_stays, does_roomy_ledger}
 use Rattle.dbuf_state.proofs.IndexLemmas.{bool_cases}

@@ -31,7 +31,7 @@ use Rattle.arc_table.specs.scans.Scanning.{MayScan}
 use Rattle.arc_table.specs.pact.Scene.{Scene}
 use Rattle.arc_table.specs.TableLaws.{item_here, list_here, within}
 use Rattle.arc_table.specs.Views.{under_of}
-use Rattle.arc_table.proofs.cells.CellGives.{note_within}
+use Rattle.arc_table.proofs.cell_lemmas.CellGives.{note_within}
 use Rattle.arc_table.proofs.HandHeads.{config_then, hand_entries, shard_then}
 use Rattle.arc_table.proofs.Reached.{SameButNotes, Took, loses_same, took_is}
 

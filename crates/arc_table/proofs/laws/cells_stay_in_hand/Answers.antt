@@ -1,5 +1,5 @@
 use Rattle.arc_table.specs.Items.{meanings}
-use Rattle.arc_table.proofs.cells.CellsInHand.{cell-kept, cell-kept-roomy, taken-cell}
+use Rattle.arc_table.proofs.cell_lemmas.CellsInHand.{cell-kept, cell-kept-roomy, taken-cell}
 use Rattle.arc_table.proofs.laws.cells_stay_in_hand.Goals as goal
 
 pub returns-clause-taken : goal.returns-clause-taken

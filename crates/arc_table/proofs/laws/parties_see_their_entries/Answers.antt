@@ -1,5 +1,5 @@
 use Rattle.arc_table.specs.Items.{meanings}
-use Rattle.arc_table.proofs.cells.EntriesSeen.{given-entries, given-sees, seen-at-take}
+use Rattle.arc_table.proofs.cell_lemmas.EntriesSeen.{given-entries, given-sees, seen-at-take}
 use Rattle.arc_table.proofs.laws.parties_see_their_entries.Goals as goal
 
 pub returns-clause-take : goal.returns-clause-take

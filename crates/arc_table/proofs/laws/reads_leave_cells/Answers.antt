@@ -1,5 +1,5 @@
 use Rattle.arc_table.specs.Items.{meanings}
-use Rattle.arc_table.proofs.cells.CellsInReads.{read-keeps-cell}
+use Rattle.arc_table.proofs.cell_lemmas.CellsInReads.{read-keeps-cell}
 use Rattle.arc_table.proofs.laws.reads_leave_cells.Goals as goal
 
 pub returns : goal.returns

@@ -2,7 +2,7 @@ use Rattle.std.proofs.Common.{sym, subst}
 use Rattle.arc_core.specs.declared.config.Config.{Config}
 use Rattle.arc_table.specs.Geometry.{IsCell}
 use Rattle.arc_table.specs.Items.{meanings}
-use Rattle.arc_table.proofs.cells.CellGives.{given_cell}
+use Rattle.arc_table.proofs.cell_lemmas.CellGives.{given_cell}
 use Rattle.arc_table.proofs.arcs.Arcs.give_cell.Goals as goal
 
 pub give-requires-clause-rule : goal.give-requires-clause-rule

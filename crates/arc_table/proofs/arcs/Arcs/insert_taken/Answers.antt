@@ -15,7 +15,7 @@ use Rattle.arc_table.specs.scans.Ending.{MakesRoomy}
 use Rattle.arc_table.specs.InHand.{made_since}
 use Rattle.arc_table.specs.Making.{IsMade}
 use Rattle.arc_table.specs.Items.{Meanings, meanings}
-use Rattle.arc_table.proofs.cells.InsertEvents.{insert_legal, insert_made, insert_there, there_some}
+use Rattle.arc_table.proofs.cell_lemmas.InsertEvents.{insert_legal, insert_made, insert_there, there_some}
 use Rattle.arc_table.proofs.reads.MissEvents.{makes_roomy, may_taken, none_makes, none_roomier, scanned_party, scanned_replayed}
 use Rattle.arc_table.proofs.Lent.{lent_legal, lent_makes}
 use Rattle.arc_table.proofs.arcs.Arcs.insert_taken.Goals as goal

@@ -37,7 +37,7 @@ use Rattle.arc_table.specs.scans.Scanning.{ArePasses}
 use Rattle.arc_table.specs.ShardGiving.{holds_through}
 use Rattle.arc_table.proofs.reads.AfterRead.{stays_config}
 use Rattle.arc_table.proofs.Afterwards.{Stays, does_stays, stays_then}
-use Rattle.arc_table.proofs.cells.CellsInHand.{cell-kept, cell-kept-roomy}
+use Rattle.arc_table.proofs.cell_lemmas.CellsInHand.{cell-kept, cell-kept-roomy}
 use Rattle.arc_table.proofs.Reached.{number_below, reached}
 use Rattle.arc_table.proofs.scans.RoomyAfter.{does_roomy_stays}
 
