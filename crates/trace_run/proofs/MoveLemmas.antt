@@ -63,7 +63,7 @@ scan-number g n turn (y ∷ ys) e all his (suc z) x at = scan-number g n turn ys
 
 module _ {C : Type 0} (g : Config) where
   -- the party by itself
-  bare : Place (Known C) → Place (Known C)
+  abbrev bare : Place (Known C) → Place (Known C)
   bare p = record { table = p.table; parties = p.parties; number = p.number; own = p.own; joined = []; held = p.held }
 
   -- where it made events with its own number alone, and now these, it still did

@@ -36,6 +36,6 @@ module _ {C : Type 0} where
     pub entries : AreNoEntries g p.own.mine
 
   -- in each shard the events of the party's own number are those of these acts, one after another, each once; and it made nothing else
-  pub record HasTold (g : Config) (acts : List Act) (p : Place (Known C)) : Type 0 where
-    pub acts : IsTold g acts p
+  pub record HasTold (g : Config) (did : List Act) (p : Place (Known C)) : Type 0 where
+    pub acts : IsTold g did p
     pub only : MadeItsOwn g p
