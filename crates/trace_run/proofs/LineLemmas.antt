@@ -110,6 +110,13 @@ source-key ptr access.Hit = refl
 source-key ptr (access.Past kept) = refl
 source-key ptr access.Miss = refl
 
+-- what holds no entry was read past the cache
+loose-past : (ptr : Ptr) (from : Served) → None ≡ key_held_by ptr from → from ≡ served.Past
+loose-past ptr served.Hit none = cc
+loose-past ptr served.Pool none = cc
+loose-past ptr served.L2 none = cc
+loose-past ptr served.Past none = refl
+
 module _ {C : Type 0} (m : Meanings C) (g : Config) (valid : IsConfig g) (device t : ℕ) (ptr : Ptr) (p r q : Place (Known C)) (config : r.own.about.config ≡ g) (seen : HasSeenItsEvents g r) where
   abbrev here : ℕ
   here = shard_of g.shards ptr.key
@@ -117,12 +124,9 @@ module _ {C : Type 0} (m : Meanings C) (g : Config) (valid : IsConfig g) (device
   abbrev events : List Event
   events = events_of_answered p.number t ptr (access_now g ptr p) ++ events_of_drop p.number (access_key ptr (access_now g ptr p))
 
-  -- a block that nothing holds is let go
-  read-loose : (from : Served) → None ≡ key_held_by ptr from → DidAnswer g device t ptr from p r → q ≡ r → DidAct g device (Reads p.number t ptr from) events p q
-  read-loose served.Hit none did is = cc
-  read-loose served.Pool none did is = cc
-  read-loose served.L2 none did is = cc
-  read-loose served.Past none did is = subst (DidAct g device (Reads p.number t ptr served.Past) events p) (sym is) (record {
+  -- a block that nothing holds is let go: it was read past the cache
+  past-act : DidAnswer g device t ptr served.Past p r → DidAct g device (Reads p.number t ptr served.Past) events p r
+  past-act did = record {
     made = did.act.made;
     own = did.act.own;
     act_is = record { events = did.act.act_is.events; digests = did.act.act_is.digests };
@@ -134,7 +138,14 @@ module _ {C : Type 0} (m : Meanings C) (g : Config) (valid : IsConfig g) (device
     all = did.act.all;
     joined = did.act.joined;
     only = did.act.only;
-  })
+  }
+
+  read-loose : (from : Served) → None ≡ key_held_by ptr from → DidAnswer g device t ptr from p r → q ≡ r → DidAct g device (Reads p.number t ptr from) events p q
+  read-loose from none did is =
+      let past : from ≡ served.Past = loose-past ptr from none in
+      subst (λ (x : Served). DidAct g device (Reads p.number t ptr x) events p q) (sym past)
+      (subst (λ (x : Place (Known C)). DidAct g device (Reads p.number t ptr served.Past) events p x) (sym is)
+      (past-act (subst (λ (x : Served). DidAnswer g device t ptr x p r) past did)))
 
   -- an access that was served, and then its drop
   served-drop : (from : Served) → Some ptr.key ≡ key_held_by ptr from → (ms : List Moment) (s : PlainShard) → IsServed p.number t ptr from [] (map (λ (x : Moment). x.event) ms)

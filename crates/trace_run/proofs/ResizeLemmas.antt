@@ -302,8 +302,8 @@ module _ {C : Type 0} (m : Meanings C) (cache : Cache) (p : Place (Known C)) (ot
         others = λ shard. all-own shard others have.all;
         since = λ shard. starts-events (front_of (turn_of g shard) q.own.seen) (front_of (turn_of g shard) p.own.seen) (have.self.starts shard);
         only = λ only.
-            let then = given.only (have.only only) in
-            record { events = then.events; entries = then.entries };
+            let did = given.only (have.only only) in
+            record { events = did.events; entries = did.entries };
         entries = λ none j a at range. none j a (subst (λ (l : List Mine). get_elem? l j ≡ some a) have.mine (given.left.mine j a range at)) range;
         one = one-front;
         same = λ before own rest shard. ap events_in (have.level before own rest shard);
