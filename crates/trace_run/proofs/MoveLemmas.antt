@@ -19,7 +19,7 @@ use Rattle.arc_table.specs.scans.Scanning.{ArePasses}
 use Rattle.arc_table.specs.Geometry.{parties_of, shard_turn}
 use Rattle.arc_table.specs.Items.{Meanings}
 use Rattle.arc_table.specs.Telling.{opening_of}
-use Rattle.arc_table.specs.Seen.{AddsAll, AddsOwn, AreOwn, AreOwnBy, AreSeen, HasAll, HasSeenBy, IsNumberOf, IsNumberOrCell, MadeBy, seen_of}
+use Rattle.arc_table.specs.Seen.{AddsAll, AddsOwn, AreOwn, AreOwnBy, AreSeen, HasAll, IsNumberOf, IsNumberOrCell, MadeBy, seen_of}
 use Rattle.arc_table.proofs.MadeLemmas.{does-made}
 use Rattle.arc_table.proofs.OwnLemmas.{made-all, made-alone, made-now, made-own, made-sees}
 use Rattle.arc_table.proofs.Reached.{reached}

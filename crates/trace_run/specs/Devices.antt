@@ -4,7 +4,6 @@ use Rattle.vdev_io.specs.Calls.{DeviceCall, MakesDeviceCalls}
 use Rattle.vdev_io.specs.Faults.{Rose}
 use Rattle.vdev_io.specs.declared.device.CacheDev.{Ghosts}
 use Rattle.l2_log.specs.Rules.{least_ring_end}
-use Rattle.l2_dev.specs.declared.device.L2Dev.{L2Dev}
 use Rattle.l2_dev.specs.declared.stop.Stop.TheVariants as stops
 use Rattle.l2_dev.specs.Cursor.{CursorState}
 use Rattle.l2_dev.specs.Reading.{OnlyRead}

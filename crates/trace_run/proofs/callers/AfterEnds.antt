@@ -7,7 +7,6 @@ use Rattle.arc_core.specs.declared.event.Event.{Event}
 use Rattle.turn_table.specs.Places.{Place}
 use Rattle.arc_table.specs.declared.view.Known.{Known}
 use Rattle.arc_table.specs.declared.view.Line.{Line}
-use Rattle.arc_table.specs.declared.view.Mine.{Mine}
 use Rattle.arc_table.specs.Cache.{Cache}
 use Rattle.arc_table.specs.Seen.{AreSeen, events_in, seen_of}
 use Rattle.arc_table.specs.TableLaws.{get_front, get_last, get_more}

@@ -23,7 +23,6 @@ use Rattle.vdev_io.specs.Faults.{Rose, last_count}
 use Rattle.vdev_io.specs.declared.pool.Pool.{Ghosts}
 use Rattle.turn_table.specs.Places.{Place, SomeHas}
 use Rattle.arc_table.specs.declared.view.Known.{Known}
-use Rattle.arc_table.specs.declared.view.Line.{Line}
 use Rattle.arc_table.specs.Cache.{Cache}
 use Rattle.arc_table.specs.Ended.{AreAtRest, Ended, Ends}
 use Rattle.arc_table.specs.Fronts.{StartsWith}
@@ -45,7 +44,6 @@ use Rattle.trace_run.specs.Acts.{acts_of_all, acts_of_caller, acts_of_callers, a
 use Rattle.trace_run.specs.one_caller.Alone.{ends_in, histories_of}
 use Rattle.trace_run.specs.Answers.{AnswersAll, is_pool_fault}
 use Rattle.trace_run.specs.callers.Callers.{AreAtStart}
-use Rattle.trace_run.specs.CellEnds.{end_entry}
 use Rattle.trace_run.specs.Effects.{calls_of_all}
 use Rattle.trace_run.specs.Explaining.{EndsWith, Explain, drops_at_end}
 use Rattle.trace_run.specs.callers.GroupRun.{HaveClosed, HaveStopped, RanTogether}

@@ -22,7 +22,6 @@ use Rattle.arc_core.specs.Replay.{is_legal_history, replay}
 use Rattle.arc_core.specs.ShardLog.{ShardLog}
 use Rattle.turn_table.specs.Places.{Place, SomeHas}
 use Rattle.arc_table.specs.declared.view.Known.{Known}
-use Rattle.arc_table.specs.declared.view.Line.{Line}
 use Rattle.arc_table.specs.Cache.{Cache}
 use Rattle.arc_table.specs.Ended.{Ended, Ends}
 use Rattle.arc_table.specs.Geometry.{parties_of}

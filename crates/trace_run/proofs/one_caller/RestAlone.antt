@@ -13,7 +13,6 @@ use Rattle.turn_table.specs.Moments.{WasFree}
 use Rattle.turn_table.specs.Places.{Place, SomeHas}
 use Rattle.arc_table.specs.declared.item.Item.TheVariants as item
 use Rattle.arc_table.specs.declared.view.Known.{Known}
-use Rattle.arc_table.specs.declared.view.Line.{Line}
 use Rattle.arc_table.specs.Cache.{Cache}
 use Rattle.arc_table.specs.Ended.{AreAtRest, Ended, Ends}
 use Rattle.arc_table.specs.Geometry.{parties_of}

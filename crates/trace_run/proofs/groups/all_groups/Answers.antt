@@ -1,4 +1,4 @@
-use Rattle.std.proofs.Common.{◌≡◌, ◌<◌, ◌≤◌, false, true, length, ap, arith}
+use Rattle.std.proofs.Common.{◌<◌, ◌≤◌, length, ap, arith}
 use Rattle.trace_run.proofs.callers.StepLemmas.{all-stepped, leaves-then, not-stepped, stepped}
 use Rattle.trace_run.proofs.groups.all_groups.Goals as goal
 

@@ -6,12 +6,11 @@ use Rattle.turn_table.specs.Board.{IsAmong}
 use Rattle.turn_table.specs.Places.{Place}
 use Rattle.arc_table.specs.declared.restores.RestoreStop.{RestoreStop}
 use Rattle.arc_table.specs.declared.view.Known.{Known}
-use Rattle.arc_table.specs.Cache.{Cache}
 use Rattle.arc_table.specs.feeder.Feeding.{AnswersRestore, Restores}
 use Rattle.arc_table.specs.Items.{Meanings, meanings}
 use Rattle.trace_run.proofs.ResizeLemmas.{last-of, made-joined, q-all, q-number, q-stands}
 use Rattle.trace_run.proofs.RestoreLemmas.{keys-formed, restored-to, restores-mine}
-use Rattle.trace_run.proofs.callers.TurnLemmas.{all-may, joined, may-join}
+use Rattle.trace_run.proofs.callers.TurnLemmas.{all-may, may-join}
 use Rattle.trace_run.proofs.restoring.restore_joined.Goals as goal
 
 -- all keys were restored, where memory was not refused and none was there

@@ -3,8 +3,7 @@ use Rattle.trace_text.specs.declared.trace.Trace.{Trace}
 use Rattle.trace_run.specs.Bounded.{device_len, with_bound}
 use Rattle.trace_run.specs.CellEnds.{AreCellsOf}
 use Rattle.trace_run.specs.Devices.{Finds}
-use Rattle.trace_run.specs.Outcome.{IsReport, IsRun}
-use Rattle.trace_run.specs.States.{handed}
+use Rattle.trace_run.specs.Outcome.{IsRun}
 use Rattle.trace_run.proofs.theorem.OutcomeLemmas.{found-kept, nothing-lost, reported-so}
 use Rattle.trace_run.proofs.top.run_source.Goals as goal
 
