@@ -107,30 +107,6 @@ fn headers_are_found_by_their_keys(rt: HostRuntime) -> Result<(), Fail> {
     Ok(())
 }
 
-// Whether all of so many keys have their own headers.
-fn has_all(bucket: &Bucket, keys: u32) -> bool {
-    for sector in 0..keys {
-        let offset = 512 * u64::from(sector);
-        let Some(at) = bucket.find(key(offset)) else {
-            return false;
-        };
-        if bucket.at(at).key.offset != offset {
-            return false;
-        }
-    }
-    true
-}
-
-#[test]
-fn one_of_many_headers_is_found(rt: HostRuntime) -> Result<(), Fail> {
-    let mut bucket = filled(rt.alloc(), 50)?;
-    assert!(rt; has_all(&bucket, 50) && bucket.find(key(25_600)).is_none());
-    let gone = take_out(&mut bucket, 10_240);
-    assert!(rt; gone == Some(10_240) && bucket.find(key(10_240)).is_none());
-    assert!(rt; bucket.find(key(25_088)).is_some());
-    Ok(())
-}
-
 // A bucket of two headers, of which the second keeps this block.
 fn with_block(alloc: Global, block: &Arc<Block>) -> Result<Bucket, NoMemory> {
     let mut bucket = filled(alloc, 1)?;

@@ -1,10 +1,10 @@
-//! Calls of the shared cache that the scenes have not, with ample memory, over cells that keep nothing.
+//! An insertion, which the scenes have not, with ample memory, over cells that keep nothing.
 ghost use Rattle.std.specs.Prelude.{◌≡◌, IfOk, length};
 
 use arc_core::{Bounds, Config};
 use arc_examples::Plain;
-use arc_table::{Arcs, Front, Inserted, TryHit};
-use blk_ptr::{Block, Digest, Key, Ptr};
+use arc_table::{Arcs, Inserted};
+use blk_ptr::{Block, Key};
 use std::sync::Arc;
 use std::test::Fail;
 
@@ -27,23 +27,6 @@ const A: Key = Key {
     size: 512,
     birth: 1,
 };
-
-#[test]
-fn a_block_that_was_never_read_is_not_here(rt: HostRuntime) -> Result<(), Fail> {
-    let cells = vec![in rt.alloc(); Plain]?;
-    let made = Arcs::new(rt.alloc(), &SMALL, cells);
-    let (arcs, mut parties) = made.ok().ok_or("memory")?;
-    let mut one = parties.pop().ok_or("one")?;
-    let ptr = Ptr {
-        key: A,
-        digest: Digest([0; 32]),
-    };
-    let TryHit::NotHere(front) = arcs.try_hit(&mut one, &ptr, 1) else {
-        panic!(rt; "the cache is empty")
-    };
-    assert!(rt; front == Front { shard: 0, len: 0 });
-    Ok(())
-}
 
 // A block of zero bytes.
 fn zeros(rt: &HostRuntime) -> Result<Arc<Block>, Fail>

@@ -9,7 +9,7 @@ use std::sync::atomic::Ordering::SeqCst;
 use std::test::Fail;
 use std::thread;
 use std::thread::Threads;
-use turn_table::{GivenView, Party, Take, TurnRule, Turns};
+use turn_table::{GivenView, Party, TurnRule, Turns};
 
 struct Anything;
 
@@ -46,27 +46,6 @@ impl<V, H> GivenView<V, (), H> for Anything {
 type Row = Turns<u64, Anything>;
 
 type Hand = Party<u64, Anything>;
-
-#[test]
-fn a_taken_turn_names_its_owner(rt: HostRuntime) -> Result<(), Fail> {
-    let values = vec![in rt.alloc(); 7u64, 8]?;
-    let (row, mut parties) = Row::new(rt.alloc(), values, 2, &()).ok().ok_or("memory")?;
-    let mut one = parties.pop().ok_or("one")?;
-    let mut zero = parties.pop().ok_or("zero")?;
-    let Take::Taken(value) = row.try_take(&mut one, 0) else {
-        panic!(rt; "the turn was free")
-    };
-    let Take::Busy { owner } = row.try_take(&mut zero, 0) else {
-        panic!(rt; "the turn was taken")
-    };
-    assert!(rt; owner == 1 && one.number() == 1 && value == 7);
-    row.give::<Anything>(&mut one, 0, value);
-    parties.push(zero)?;
-    parties.push(one)?;
-    let values = row.close(parties).ok().ok_or("memory")?;
-    assert!(rt; values.as_slice() == [7, 8].as_slice());
-    Ok(())
-}
 
 // Adds 1 to the value of the turn 0, `count` times.
 fn count_up<R: Wait>(rt: &R, row: &Row, mut party: Hand, count: u64) -> Hand
@@ -178,29 +157,5 @@ fn a_take_waits_for_the_turn(rt: HostRuntime) -> Result<(), Fail> {
     parties.push(taker)?;
     let values = row.close(parties).ok().ok_or("memory")?;
     assert!(rt; values.as_slice() == [5].as_slice());
-    Ok(())
-}
-
-#[test]
-fn a_party_joins_and_parts(rt: HostRuntime) -> Result<(), Fail> {
-    let values = vec![in rt.alloc(); 1u64, 2]?;
-    let (row, mut parties) = Row::new(rt.alloc(), values, 3, &()).ok().ok_or("memory")?;
-    let two = parties.pop().ok_or("two")?;
-    let mut one = parties.pop().ok_or("one")?;
-    let mut zero = parties.pop().ok_or("zero")?;
-    row.join(&mut one, two);
-    row.join(&mut zero, one);
-    let Take::Taken(value) = row.try_take(&mut zero, 1) else {
-        panic!(rt; "all parties are one")
-    };
-    row.give_with::<u64, Anything>(&mut zero, 1, value, &7);
-    let mut one = row.part(&mut zero, 1);
-    let two = row.part(&mut one, 2);
-    assert!(rt; zero.number() == 0 && one.number() == 1 && two.number() == 2);
-    parties.push(two)?;
-    parties.push(zero)?;
-    parties.push(one)?;
-    let values = row.close(parties).ok().ok_or("memory")?;
-    assert!(rt; values.as_slice() == [1, 2].as_slice());
     Ok(())
 }

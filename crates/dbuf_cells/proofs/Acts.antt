@@ -1,7 +1,9 @@
 -- An operation behind the bringing of its block: its event is noted, and it is what the operation answers.
-use Rattle.std.proofs.Common.{◌≡◌, ◌≢◌, ℕ, ◌+◌, ◌-◌, ◌≤◌, Bool, true, false, not, ◌&&◌, if◌then◌else◌, IsTrue, List, [], ◌∷◌, ◌++◌, length, Option, Some, None, refl, sym, ap, ◌∙◌, subst, arith}
+use Rattle.std.proofs.Common.{◌≡◌, ◌≢◌, ℕ, ◌+◌, ◌-◌, ◌≤◌, Bool, true, false, not, ◌&&◌, if◌then◌else◌, IsTrue, List, [], ◌∷◌, ◌++◌, length, Option, Some, None, refl, sym, ap, ◌∙◌, subst, inl, inr, arith}
 use Rattle.std.specs.Prelude.{Result, Ok, Err, IfErr, IfOk, OnErr, OnOk}
+use Rattle.std.specs.List.{AllByRecursion}
 use Rattle.std.specs.Option.{option_map, option_map_or}
+use Rattle.blk_ptr.specs.Size.{IsBlockSize}
 use Rattle.vdev_io.specs.declared.device.CacheDev.{Ghosts as DeviceGhosts}
 use Rattle.vdev_io.specs.declared.pool.Pool.{Ghosts as PoolGhosts}
 use Rattle.blk_ptr.specs.declared.ptr.Ptr.{Ptr}
@@ -15,10 +17,11 @@ use Rattle.arc_table.specs.Giving.{AreHolds}
 use Rattle.arc_table.specs.Reading.{Outside}
 use Rattle.dbuf_state.specs.Answers.{IsAnswer}
 use Rattle.dbuf_state.specs.CellLog.{CellLog, noted}
-use Rattle.dbuf_state.specs.Dbufs.{DbufHas, dbuf_at, dbuf_is, is_cached, mapped_of, pinned_by, plain_block, plain_dbuf, size_of, with_dbuf}
+use Rattle.dbuf_state.specs.Dbufs.{DbufHas, Fits, IsFit, dbuf_at, dbuf_is, is_cached, mapped_of, pinned_by, plain_block, plain_dbuf, size_of, with_dbuf}
 use Rattle.dbuf_state.specs.Faults.{fault_of}
 use Rattle.dbuf_state.specs.Objects.{Evicting, Must, Never, is_due, use_of}
 use Rattle.dbuf_state.specs.Objects as plain
+use Rattle.dbuf_state.specs.Oids.{oid_eq}
 use Rattle.dbuf_state.specs.Outline.{mapped_size}
 use Rattle.dbuf_state.specs.Soundness.{plain_cell}
 use Rattle.dbuf_state.specs.declared.dbuf.Content.{Content}
@@ -31,14 +34,16 @@ use Rattle.dbuf_state.specs.declared.fault.DbufFault.TheVariants as fault
 use Rattle.dbuf_state.specs.declared.oid.Oid.{Oid}
 use Rattle.dbuf_state.specs.declared.state.DbState.{DbState}
 use Rattle.dbuf_state.specs.declared.state.Mapped.{Mapped}
+use Rattle.dbuf_state.specs.declared.state.Mapped.TheVariants as mapped
 use Rattle.dbuf_state.specs.declared.window.Window.{Window}
 use Rattle.dbuf_state.proofs.HandLemmas.{claims-stay, holds-stay, rest-stays, claims-stay-by-note}
-use Rattle.dbuf_state.proofs.IndexLemmas.{and-both}
+use Rattle.dbuf_state.proofs.IndexLemmas.{and-both, bool_cases}
 use Rattle.dbuf_state.proofs.StepLemmas.{get-follows, pin-follows}
-use Rattle.dbuf_cells.specs.Accessing.{Acts, EndsInside, Gets, Holds, Refuses, no_room}
+use Rattle.dbuf_cells.specs.Accessing.{Acts, EndsInside, Gets, Holds, Refuses, no_bytes, no_room}
 use Rattle.dbuf_cells.specs.Bringing.{FailsToLoad, no_memory, refused}
 use Rattle.dbuf_cells.specs.InHand.{Finishes, Gives, HasGiven, InHand, IsRoomier, MayEvict, MayGive, AreClaimedAlike, ClaimsAre}
 use Rattle.dbuf_cells.specs.Kept.{bytes_of, is_held, key_of}
+use Rattle.dbuf_cells.specs.Patching.{IsSizedIn}
 use Rattle.dbuf_cells.specs.Loading.{EndsWith, HasBrought, HasOperated, Notes, Tests, mapped_in}
 use Rattle.dbuf_cells.specs.Turns.{OnHeap, Operates, PartyPlace, KeepsClaims}
 use Rattle.dbuf_cells.specs.declared.kept.Kept.{Kept}
@@ -224,7 +229,7 @@ module _ {P D : Type 0} (pools : PoolGhosts P) (devices : DeviceGhosts D) (g : C
 
   pub refuses-get : (w : Window) (why : DbufFault) → IsReadFault why → EndsInside pools devices g i at tick before now (w.at + w.len) cell → Refuses pools devices g i at tick before now cell p r why
       → Gets pools devices g i at tick before now w cell p r (Err why)
-  refuses-get w (fault.Read cause) is inside refuses = (inside, refuses)
+  refuses-get w (fault.Read cause) is inside refuses = (inside, no_bytes refuses)
   refuses-get w fault.NoMemory is inside refuses = (inside, refuses)
   refuses-get w (fault.NoBlock named) is inside refuses = absurd is
   refuses-get w (fault.Range end size) is inside refuses = absurd is
@@ -298,6 +303,24 @@ module _ (n : ℕ) (at : Oid) (old roomy : CellLog Kept) (log : IsRoomier old ro
       go : (o : Option (Dbuf Kept)) → DbufHas (λ d. IsAnswer (plain_cell Never roomy) at w (size_of d.content) shown) o → Some m ≡ option_map (λ d. mapped_of d.content) o → IsAnswer (plain_cell Never roomy) at w size shown
       go None h e = absurd h
       go (Some d) h e = subst (λ (k : ℕ). IsAnswer (plain_cell Never roomy) at w k shown) (same-size d.content ∙ sym (sized ∙ ap mapped_size (some-is m (mapped_of d.content) e))) h
+
+-- what is mapped has a size that a block may have: a clean block as it was tested, a dirty one always
+pub mapped-sized : (at : Oid) (ds : List (Dbuf Kept)) (m : Mapped) → IsSizedIn at ds → AllByRecursion (IsFit key_of bytes_of) ds → Some m ≡ mapped_in at ds → IsBlockSize (mapped_size m)
+mapped-sized at ds (mapped.Clean ptr) sized fit is = sized ptr (sym is)
+mapped-sized at ds (mapped.Dirty size) sized fit is = go ds fit is
+  where
+    one : (d : Dbuf Kept) (c : Content) → d.content ≡ c → ◌≡◌ {A = Option Mapped} (Some (mapped.Dirty size)) (Some (mapped_of c)) → IsFit key_of bytes_of d → IsBlockSize size
+    one d (content.Clean ptr) has e fits = let clash : ◌≡◌ {A = Option Mapped} (Some (mapped.Dirty size)) (Some (mapped.Clean ptr)) = e in cc
+    one d (content.Dirty bytes) has e fits =
+        let same : length bytes ≡ size = cc in
+        subst IsBlockSize same (subst (λ (x : Content). Fits key_of bytes_of x d.state d.kept) has fits).1
+
+    go : (xs : List (Dbuf Kept)) → AllByRecursion (IsFit key_of bytes_of) xs → Some (mapped.Dirty size) ≡ mapped_in at xs → IsBlockSize size
+    go [] fits e = let clash : ◌≡◌ {A = Option Mapped} (Some (mapped.Dirty size)) None = e in cc
+    go (d ∷ xs) fits e = elim (bool_cases (oid_eq at d.at)) [
+      | inl here ↦ one d d.content refl (rw here at e) fits.0
+      | inr far ↦ go xs fits.1 (rw far at e)
+    ]
 
 -- ---- the calls
 

@@ -16,4 +16,6 @@ pub mod Patches
 pub mod PutSteps
 pub mod Puts
 pub mod ReadLemmas
+pub mod Told
 pub mod Unholds
+pub mod Waits

@@ -1,7 +1,8 @@
 -- What is so of a party with a cell in hand: when it takes the cell, behind each event of a shard, and when it gives the cell back.
-use Rattle.std.proofs.Common.{◌≡◌, ◌≢◌, ℕ, zero, suc, if◌then◌else◌, not, IsTrue, List, [], ◌∷◌, ◌++◌, map, Bool, Option, Some, None, refl, sym, ap, ◌∙◌, subst, inl, inr, eq-eqb}
+use Rattle.std.proofs.Common.{◌≡◌, ◌≢◌, ℕ, zero, suc, if◌then◌else◌, not, IsTrue, List, [], ◌∷◌, ◌++◌, map, Bool, Option, Some, None, refl, sym, ap, ◌∙◌, subst, inl, inr, is_none, ◌&&◌, eq-eqb}
 use Rattle.std.specs.List.{AllByRecursion}
 use Rattle.std.specs.Option.{option_map_or}
+use Rattle.std.proofs.lemmas.Bool.{false≢true}
 use Rattle.std.proofs.lemmas.List.{map-append}
 use mathlib.Core.Option.{some}
 use lib.ListN.{get_elem?}
@@ -36,20 +37,27 @@ use Rattle.arc_table.proofs.Afterwards.{Stays, does_ledger, does_stays, stays_fr
 use Rattle.arc_table.proofs.cell_lemmas.CellsInHand.{cell-lists, cell-recorded, taken-cell}
 use Rattle.arc_table.proofs.Reached.{IsHolding, Took, holding, listed_still, reached, took_is}
 use Rattle.dbuf_state.specs.CellLog.{CellLog}
-use Rattle.dbuf_state.specs.Dbufs.{DbufHas, dbuf_at}
+use Rattle.dbuf_state.specs.Dbufs.{DbufHas, Fits, IsFit, dbuf_at, is_cached}
 use Rattle.dbuf_state.specs.Numbers.{claims_in, event_numbers, mapping_numbers, opening_numbers}
 use Rattle.dbuf_state.specs.Objects.{Evicting, is_due}
 use Rattle.dbuf_state.specs.Soundness.{IsSound, KeepsWhereCached, plain_cell}
+use Rattle.dbuf_state.specs.Oids.{oid_eq}
+use Rattle.dbuf_state.specs.declared.dbuf.Content.{Content}
+use Rattle.dbuf_state.specs.declared.dbuf.Content.TheVariants as content
 use Rattle.dbuf_state.specs.declared.dbuf.Dbuf.{Dbuf}
+use Rattle.dbuf_state.specs.declared.state.DbState.{DbState}
+use Rattle.dbuf_state.proofs.IndexLemmas.{bool_cases}
 use Rattle.dbuf_state.specs.declared.event.CellEvent.{CellEvent}
 use Rattle.dbuf_state.specs.declared.state.DbState.TheVariants as state
 use Rattle.dbuf_state.specs.declared.oid.Oid.{Oid}
 use Rattle.dbuf_cells.specs.InHand.{AsTaken, ClaimsAre, Gives, HasGiven, HasTaken, InHand, MayGive, TakesAtRest}
-use Rattle.dbuf_cells.specs.Turns.{FindsBringing, MakesAll, OnHeap, OnceAtRest, PartyPlace, WaitsForDbuf, dbuf_meanings}
+use Rattle.dbuf_cells.specs.Turns.{BringsNone, FindsBringing, MakesAll, OnHeap, OnceAtRest, PartyPlace, WaitsForDbuf, dbuf_meanings}
+use Rattle.dbuf_cells.specs.Kept.{bytes_of, key_of}
 use Rattle.dbuf_cells.specs.Places.{cell_of}
 use Rattle.dbuf_cells.specs.declared.kept.Kept.{Kept}
 use Rattle.dbuf_cells.proofs.CellSteps.{done-none, done-sound, entries-own}
 use Rattle.dbuf_cells.proofs.HoldLists.{AreAlikeOn}
+use Rattle.dbuf_cells.proofs.Waits.{waits-none}
 
 some-same : {A : Type 0} (a b : A) → ◌≡◌ {A = Option A} (Some a) (Some b) → a ≡ b
 some-same a b e = cc
@@ -257,22 +265,34 @@ module _ (cache : Cache) (i : ℕ) (p : PartyPlace) (before : OnHeap) (now : Cel
   as-given r gives = gives p before t.evicting [] [] t.settled t.hand
 
 -- it has found the block being brought
-pub finds-bringing : (cache : Cache) (i : ℕ) (at : Oid) (p r : PartyPlace) (before : OnHeap) (owner : ℕ) → option_map_or (λ (d : Dbuf Kept). d.state) (dbuf_at at before.value.dbufs) state.Uncached ≡ state.Read owner → HasGiven cache i p before [] [] r
-    → FindsBringing cache.config i at p r
-finds-bringing cache i at p r before owner is given = record { before = before; turn = given.turn; owner = owner; reading = go (dbuf_at at before.value.dbufs) is }
+pub finds-bringing : (cache : Cache) (i : ℕ) (at : Oid) (p r : PartyPlace) (before : OnHeap) (owner : ℕ) → AllByRecursion (IsFit key_of bytes_of) before.value.dbufs
+    → option_map_or (λ (d : Dbuf Kept). d.state) (dbuf_at at before.value.dbufs) state.Uncached ≡ state.Read owner → HasGiven cache i p before [] [] r → FindsBringing cache.config i at p r
+finds-bringing cache i at p r before owner fit is given = record { before = before; turn = given.turn; owner = owner; ptr = there.0; reading = there.1 }
   where
-    go : (o : Option (Dbuf Kept)) → option_map_or (λ d. d.state) o state.Uncached ≡ state.Read owner → DbufHas (λ d. d.state ≡ state.Read owner) o
-    go None e = cc
-    go (Some d) e = e
+    clean : (d : Dbuf Kept) (c : Content) → d.content ≡ c → IsFit key_of bytes_of d → d.state ≡ state.Read owner → (ptr : Ptr) × (d.content ≡ content.Clean ptr)
+    clean d (content.Clean ptr) has fits reading = (ptr, has)
+    clean d (content.Dirty bytes) has fits reading = absurd (false≢true (subst (λ (s : DbState). IsTrue (is_cached s && is_none d.kept)) reading (subst (λ (x : Content). Fits key_of bytes_of x d.state d.kept) has fits).0))
+
+    go : (ds : List (Dbuf Kept)) → AllByRecursion (IsFit key_of bytes_of) ds → option_map_or (λ d. d.state) (dbuf_at at ds) state.Uncached ≡ state.Read owner
+        → (ptr : Ptr) × DbufHas (λ d. (d.content ≡ content.Clean ptr) × (d.state ≡ state.Read owner)) (dbuf_at at ds)
+    go [] fits e = cc
+    go (d ∷ ds) fits e = elim (bool_cases (oid_eq at d.at)) [
+      | inl here ↦ let reading : d.state ≡ state.Read owner = rw here at e in let c = clean d d.content refl fits.0 reading in rw here (c.0, (c.1, reading))
+      | inr far ↦ rw far (go ds fits.1 (rw far at e))
+    ]
+
+    there : (ptr : Ptr) × DbufHas (λ d. (d.content ≡ content.Clean ptr) × (d.state ≡ state.Read owner)) (dbuf_at at before.value.dbufs)
+    there = go before.value.dbufs fit is
 
 -- what happened once nobody brought the block's bytes any more
-pub once-at-rest : (cache : Cache) (i : ℕ) (at : Oid) (p s q : PartyPlace) (before : OnHeap) (Then : ℕ → OnHeap → PartyPlace → PartyPlace → Type 0) → i ≡ cell_of cache.config.cells at → (t : TakesAtRest cache i at p before s)
-    → Then i before t.ready q → OnceAtRest cache.config at p q (Then (cell_of cache.config.cells at))
-once-at-rest cache i at p s q before Then is t happens = record {
+pub once-at-rest : (cache : Cache) (i : ℕ) (at : Oid) (p : PartyPlace) → IsPartyOf cache p → (s q : PartyPlace) (before : OnHeap) (Then : ℕ → OnHeap → PartyPlace → PartyPlace → Type 0) → i ≡ cell_of cache.config.cells at
+    → (t : TakesAtRest cache i at p before s) → Then i before t.ready q → OnceAtRest cache.config at p q (Then (cell_of cache.config.cells at))
+once-at-rest cache i at p party s q before Then is t happens = record {
   times = t.times;
   ready = t.ready;
   before = before;
   waits = subst (λ (j : ℕ). WaitsForDbuf cache.config j at t.times p t.ready) is t.waits;
   rests = t.rests;
   happens = subst (λ (j : ℕ). Then j before t.ready q) is happens;
+  alone = λ none. waits-none cache i at t.begins.hand.party.valid t.begins.hand.party.cell t.times p t.ready party (subst (λ (j : ℕ). BringsNone cache.config j p) (sym is) none) t.waits;
 }

@@ -40,15 +40,16 @@ use Rattle.dbuf_state.specs.declared.state.DbState.{DbState}
 use Rattle.dbuf_state.specs.declared.state.DbState.TheVariants as state
 use Rattle.dbuf_state.specs.declared.state.Mapped.{Mapped}
 use Rattle.dbuf_state.specs.declared.state.Mapped.TheVariants as mapped
+use Rattle.dbuf_state.specs.declared.window.Window.{Window}
 use Rattle.dbuf_state.proofs.HandLemmas.{claims-stay, holds-stay, holds-stay-by-note, plain-dbuf-is, rest-stays, claims-stay-by-note}
 use Rattle.dbuf_state.proofs.IndexLemmas.{and-both}
 use Rattle.dbuf_state.proofs.OutlineLemmas.{cell-is-in-outline, leads-outline}
 use Rattle.dbuf_state.proofs.StepLemmas.{patch-follows, patch-of-clean-follows}
-use Rattle.dbuf_cells.specs.Accessing.{EndsInside, Refuses}
+use Rattle.dbuf_cells.specs.Accessing.{EndsInside, Gets, Refuses, no_bytes, no_key}
 use Rattle.dbuf_cells.specs.InHand.{Finishes, Gives, GivesUp, HasGiven, HasDone, InHand, IsOut, MayEvict, MayGive, ClaimsAre, AreClaimedAlike}
 use Rattle.dbuf_cells.specs.Kept.{bytes_of, is_held, key_of}
 use Rattle.dbuf_cells.specs.Loading.{HasBrought, Tests, mapped_in}
-use Rattle.dbuf_cells.specs.Patching.{ChecksKey, EndsPatch, HasPatched, IsPatched, IsSizedIn, TakesOver, Writes, no_bytes, no_key}
+use Rattle.dbuf_cells.specs.Patching.{ChecksKey, EndsPatch, HasPatched, IsPatched, IsSizedIn, TakesOver, Writes}
 use Rattle.dbuf_cells.specs.Putting.{ReleasesAtMost, no_hold, one_hold}
 use Rattle.dbuf_cells.specs.Turns.{OnHeap, Operates, PartyPlace, holds_of, outline_in, KeepsClaims}
 use Rattle.dbuf_cells.specs.declared.kept.Kept.{Kept}
@@ -340,6 +341,16 @@ module _ {P D : Type 0} (pools : PoolGhosts P) (devices : DeviceGhosts D) (cache
   key-patch (Some (mapped.Clean ptr)) read.PoolFault is t inside given same = absurd t
   key-patch (Some (mapped.Clean ptr)) (read.Mismatch found) is t inside given same = absurd t
   key-patch (Some (mapped.Clean ptr)) read.NoMemory is t inside given same = absurd t
+
+  -- the same of a get
+  pub key-get : (w : Window) (m : Option Mapped) (cause : ReadFault) → m ≡ mapped_in at cell.value.dbufs → ChecksKey {T = Unit {0}} (pools.size before.pool) m (Err cause) → EndsInside pools devices cache.config i at tick before now (w.at + w.len) cell
+      → HasGiven cache i p cell [] [] r → now ≡ before → Gets pools devices cache.config i at tick before now w cell p r (Err (fault.Read cause))
+  key-get w None cause is t inside given same = absurd t
+  key-get w (Some (mapped.Dirty size)) cause is t inside given same = absurd t
+  key-get w (Some (mapped.Clean ptr)) (read.Key why) is t inside given same = (inside, no_key why refl (record { ptr = ptr; there = in-outline cell at ∙ sym is; first = t; turn = given.turn; outside = same }))
+  key-get w (Some (mapped.Clean ptr)) read.PoolFault is t inside given same = absurd t
+  key-get w (Some (mapped.Clean ptr)) (read.Mismatch found) is t inside given same = absurd t
+  key-get w (Some (mapped.Clean ptr)) read.NoMemory is t inside given same = absurd t
 
   pub refuses-patch : (why : DbufFault) → IsReadFault why → EndsInside pools devices cache.config i at tick before now (from + length bytes) cell → Refuses pools devices cache.config i at tick before now cell p r why
       → Writes pools devices cache.config i at tick before now {T = Unit {0}} from bytes cell p r (Err why)

@@ -1,9 +1,13 @@
 -- What the operations answer that bring a block.
 use Rattle.std.specs.Prelude.{◌≡◌, ℕ, ◌+◌, ◌<◌, ◌≤◌, List, [], ◌∷◌, ◌++◌, Some, None, Result, Ok, Err}
+use Rattle.blk_ptr.specs.Key.{IsFirstFault}
+use Rattle.blk_ptr.specs.declared.key.KeyFault.{KeyFault}
+use Rattle.blk_ptr.specs.declared.ptr.Ptr.{Ptr}
 use Rattle.vdev_io.specs.declared.device.CacheDev.{Ghosts as DeviceGhosts}
 use Rattle.vdev_io.specs.declared.pool.Pool.{Ghosts as PoolGhosts}
 use Rattle.arc_core.specs.declared.config.Config.{Config}
 use Rattle.arc_core.specs.declared.event.Event.{Event}
+use Rattle.arc_core.specs.declared.served.ReadFault.TheVariants as read
 use Rattle.arc_table.specs.Reading.{Outside}
 use Rattle.dbuf_state.specs.Answers.{IsAnswer}
 use Rattle.dbuf_state.specs.Objects.{Never}
@@ -15,6 +19,7 @@ use Rattle.dbuf_state.specs.declared.fault.DbufFault.{DbufFault}
 use Rattle.dbuf_state.specs.declared.fault.DbufFault.TheVariants as fault
 use Rattle.dbuf_state.specs.declared.oid.Oid.{Oid}
 use Rattle.dbuf_state.specs.declared.state.Mapped.{Mapped}
+use Rattle.dbuf_state.specs.declared.state.Mapped.TheVariants.{Clean}
 use Rattle.dbuf_state.specs.declared.window.Window.{Window}
 use Rattle.dbuf_cells.specs.Bringing.{Brings, FailsToLoad}
 use Rattle.dbuf_cells.specs.Places.{cell_of}
@@ -61,13 +66,26 @@ module _ {P D : Type 0} (pools : PoolGhosts P) (devices : DeviceGhosts D) (g : C
     pub there : mapped_at at (outline_in cell) ≡ Some mapped
     pub inside : last ≤ mapped_size mapped
 
+  -- the key of the clean block names none of the pool, and the cell is as before
+  pub record HasNoKey (cell : OnHeap) (p q : PartyPlace) (why : KeyFault) : Type 0 where
+    pub ptr : Ptr
+    pub there : mapped_at at (outline_in cell) ≡ Some (Clean ptr)
+    pub first : IsFirstFault (pools.size before.pool) ptr.key why
+    pub turn : CellTurn g i cell [] [] p q
+    pub outside : now ≡ before
+
+  -- Why a block is neither shown nor written: its key names none of the pool. Or its bytes could not be brought, or memory was refused.
+  pub data NotAccessed (cell : OnHeap) (p q : PartyPlace) (why : DbufFault) : Type 0 where
+    no_key : (key : KeyFault) → why ≡ fault.Read (read.Key key) → HasNoKey cell p q key → NotAccessed cell p q why
+    no_bytes : Refuses cell p q why → NotAccessed cell p q why
+
   -- what `get` answers: the size and the window are an answer at what the cell was in the turn in which the Get was made
   abbrev pub Gets : Window → OnHeap → (p q : PartyPlace) → Result (ℕ × List ℕ) DbufFault → Type 0
   Gets w cell p q (Ok got) = Acts (λ n. Get n at) (λ b. IsAnswer (plain_cell Never b.value) at w got.0 got.1) cell p q
   Gets w cell p q (Err (fault.NoBlock named)) = HasNoBlock cell p q named
   Gets w cell p q (Err (fault.Range end size)) = EndsPast (w.at + w.len) cell p q end size
   Gets w cell p q (Err (fault.NoPin named)) = ⊥
-  Gets w cell p q (Err (fault.Read why)) = EndsInside (w.at + w.len) cell × Refuses cell p q (fault.Read why)
+  Gets w cell p q (Err (fault.Read why)) = EndsInside (w.at + w.len) cell × NotAccessed cell p q (fault.Read why)
   Gets w cell p q (Err fault.NoMemory) = EndsInside (w.at + w.len) cell × Refuses cell p q fault.NoMemory
 
   -- what `hold` answers

@@ -4,6 +4,7 @@ pub mod Emptying
 pub mod Ending
 pub mod InHand
 pub mod Kept
+pub mod Laws
 pub mod Loading
 pub mod Patching
 pub mod Places

@@ -2,7 +2,6 @@
 use Rattle.std.specs.Prelude.{◌≡◌, ◌≢◌, ℕ, ◌+◌, ◌≤◌, not, IsTrue, List, [], ◌∷◌, ◌++◌, length, Option, Some, IfNone, IfSome, Result, Ok, Err}
 use Rattle.blk_ptr.specs.Key.{IsFirstFault}
 use Rattle.blk_ptr.specs.Size.{IsBlockSize}
-use Rattle.blk_ptr.specs.declared.key.KeyFault.{KeyFault}
 use Rattle.blk_ptr.specs.declared.ptr.Ptr.{Ptr}
 use Rattle.vdev_io.specs.declared.device.CacheDev.{Ghosts as DeviceGhosts}
 use Rattle.vdev_io.specs.declared.pool.Pool.{Ghosts as PoolGhosts}
@@ -27,7 +26,7 @@ use Rattle.dbuf_state.specs.declared.fault.DbufFault.TheVariants as fault
 use Rattle.dbuf_state.specs.declared.oid.Oid.{Oid}
 use Rattle.dbuf_state.specs.declared.state.Mapped.{Mapped}
 use Rattle.dbuf_state.specs.declared.state.Mapped.TheVariants as mapped
-use Rattle.dbuf_cells.specs.Accessing.{EndsInside, EndsPast, HasNoBlock, Refuses}
+use Rattle.dbuf_cells.specs.Accessing.{EndsInside, EndsPast, HasNoBlock, NotAccessed}
 use Rattle.dbuf_cells.specs.Bringing.{Brings}
 use Rattle.dbuf_cells.specs.InHand.{InHand, IsRoomier}
 use Rattle.dbuf_cells.specs.Kept.{bytes_of, key_of}
@@ -98,26 +97,13 @@ module _ {P D : Type 0} (pools : PoolGhosts P) (devices : DeviceGhosts D) (g : C
     pub releases : ReleasesAtMost (cell_number g i) at (after_all (outline_in mid) loads) es
     pub operates : Operates g i mid (loads ++ Patch p.number at from bytes ∷ []) (hands ++ es) back q
 
-  -- the key of the clean block names none of the pool, and the cell is as before
-  pub record HasNoKey (cell : OnHeap) (p q : PartyPlace) (why : KeyFault) : Type 0 where
-    pub ptr : Ptr
-    pub there : mapped_at at (outline_in cell) ≡ Some (mapped.Clean ptr)
-    pub first : IsFirstFault (pools.size before.pool) ptr.key why
-    pub turn : CellTurn g i cell [] [] p q
-    pub outside : now ≡ before
-
-  -- why a block's bytes were not written
-  pub data NotPatched (cell : OnHeap) (p q : PartyPlace) (why : DbufFault) : Type 0 where
-    no_key : (key : KeyFault) → why ≡ fault.Read (read.Key key) → HasNoKey cell p q key → NotPatched cell p q why
-    no_bytes : Refuses pools devices g i at t before now cell p q why → NotPatched cell p q why
-
   abbrev pub Writes : {T : Type 0} → (from : ℕ) → List ℕ → OnHeap → (p q : PartyPlace) → Result T DbufFault → Type 0
   Writes from bytes cell p q (Ok done) = Patches from bytes cell p q
   Writes from bytes cell p q (Err (fault.NoBlock named)) = HasNoBlock pools devices g i at t before now cell p q named
   Writes from bytes cell p q (Err (fault.Range end size)) = EndsPast pools devices g i at t before now (from + length bytes) cell p q end size
   Writes from bytes cell p q (Err (fault.NoPin named)) = ⊥
-  Writes from bytes cell p q (Err (fault.Read why)) = EndsInside pools devices g i at t before now (from + length bytes) cell × NotPatched cell p q (fault.Read why)
-  Writes from bytes cell p q (Err fault.NoMemory) = EndsInside pools devices g i at t before now (from + length bytes) cell × NotPatched cell p q fault.NoMemory
+  Writes from bytes cell p q (Err (fault.Read why)) = EndsInside pools devices g i at t before now (from + length bytes) cell × NotAccessed pools devices g i at t before now cell p q (fault.Read why)
+  Writes from bytes cell p q (Err fault.NoMemory) = EndsInside pools devices g i at t before now (from + length bytes) cell × NotAccessed pools devices g i at t before now cell p q fault.NoMemory
 
 module _ {P D : Type 0} (pools : PoolGhosts P) (devices : DeviceGhosts D) (g : Config) (at : Oid) (t : ℕ) (before now : Outside P D) where
   -- the party waited so often, took the block's cell, which was so then, and had its answer

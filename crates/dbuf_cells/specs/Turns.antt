@@ -1,6 +1,8 @@
 -- A party takes a cell of dbufs, does things to it and makes events of shards meanwhile, and gives it back.
-use Rattle.std.specs.Prelude.{◌≡◌, ◌≢◌, ℕ, zero, suc, ◌⊎◌, List, [], ◌∷◌, ◌++◌, map, Some}
+use Rattle.std.specs.Prelude.{◌≡◌, ◌≢◌, ℕ, zero, suc, ◌<◌, ◌⊎◌, List, [], ◌∷◌, ◌++◌, map, Some}
 use Rattle.std.specs.Option.{option_map_or}
+use mathlib.Core.Option.{some}
+use lib.ListN.{get_elem?}
 use Rattle.std.specs.declared.alloc.Global.{Global}
 use Rattle.std.specs.declared.boxed.Box.{Box}
 use Rattle.blk_ptr.specs.declared.key.Key.{Key}
@@ -9,10 +11,11 @@ use Rattle.arc_core.specs.Operations.{event_key}
 use Rattle.arc_core.specs.declared.config.Config.{Config}
 use Rattle.arc_core.specs.declared.event.Event.{Event}
 use Rattle.arc_core.specs.declared.event.Event.TheVariants.{Drop}
-use Rattle.turn_table.specs.Places.{Place, gave_back}
+use Rattle.turn_table.specs.Places.{HasNumber, Place, gave_back}
+use Rattle.turn_table.specs.declared.standing.Kept.{Kept as Joined}
 use Rattle.arc_table.specs.Both.{Does, Takes}
 use Rattle.arc_table.specs.Fronts.{list_at}
-use Rattle.arc_table.specs.Geometry.{cell_number}
+use Rattle.arc_table.specs.Geometry.{cell_number, parties_of}
 use Rattle.arc_table.specs.Giving.{IsGivenCell}
 use Rattle.arc_table.specs.Items.{Meanings, meanings}
 use Rattle.arc_table.specs.Views.{after_cell}
@@ -25,6 +28,7 @@ use Rattle.dbuf_state.specs.Numbers.{claims_in, event_numbers, mapping_numbers, 
 use Rattle.dbuf_state.specs.Objects.{Evicting, Never}
 use Rattle.dbuf_state.specs.Outline.{Outline, after, after_all, mapped_at, outline_of}
 use Rattle.dbuf_state.specs.Soundness.{IsSound, holds_in, plain_cell}
+use Rattle.dbuf_state.specs.declared.dbuf.Content.TheVariants as content
 use Rattle.dbuf_state.specs.declared.dbuf.Dbuf.{Dbuf}
 use Rattle.dbuf_state.specs.declared.event.CellEvent.{CellEvent}
 use Rattle.dbuf_state.specs.declared.event.CellEvent.TheVariants.{Evict}
@@ -91,23 +95,32 @@ KeepsClaims p q = (j : ℕ) → list_at j q.own.ledger.claims ≡ list_at j p.ow
 
 -- ---- waiting
 
--- the party took the cell and found a number bringing the block's bytes, and gave the cell back as it was
+-- the party took the cell and found a number bringing the bytes of the block, which was clean, and gave the cell back as it was
 pub record FindsBringing (g : Config) (i : ℕ) (at : Oid) (p q : PartyPlace) : Type 0 where
   pub before : OnHeap
   pub turn : CellTurn g i before [] [] p q
   pub owner : ℕ
-  pub reading : DbufHas (λ d. d.state ≡ state.Read owner) (dbuf_at at before.value.dbufs)
+  pub ptr : Ptr
+  pub reading : DbufHas (λ d. (d.content ≡ content.Clean ptr) × (d.state ≡ state.Read owner)) (dbuf_at at before.value.dbufs)
 
 -- so it was so many times, one after the other
 abbrev pub WaitsForDbuf : Config → (i : ℕ) → Oid → (times : ℕ) → PartyPlace → PartyPlace → Type 0
 WaitsForDbuf g i at zero p q = q ≡ p
 WaitsForDbuf g i at (suc times) p q = (r : PartyPlace) × WaitsForDbuf g i at times p r × FindsBringing g i at r q
 
+-- The party has every number of a cache with this configuration, as its own or by a join, and under none of them it brings the bytes of a block of
+-- the cell i.
+pub record BringsNone (g : Config) (i : ℕ) (p : PartyPlace) : Type 0 where
+  pub all : (n : ℕ) → n < parties_of g → HasNumber n p
+  pub own : list_at i p.own.ledger.claims ≡ []
+  pub joined : (j : ℕ) (k : Joined (Known OnHeap)) → get_elem? p.joined j ≡ some k → list_at i k.view.ledger.claims ≡ []
+
 -- nobody brings the block's bytes just now
 abbrev pub IsAtRest : Oid → List (Dbuf Kept) → Type 0
 IsAtRest at ds = (n : ℕ) → option_map_or (λ d. d.state) (dbuf_at at ds) state.Uncached ≢ state.Read n
 
--- the party waited so often, and then, where the cell was so and nobody brought the block's bytes, this happened
+-- The party waited so often, and then, where the cell was so and nobody brought the block's bytes, this happened. A party that has every number
+-- doesn't wait.
 pub record OnceAtRest (g : Config) (at : Oid) (p q : PartyPlace) (Then : OnHeap → PartyPlace → PartyPlace → Type 0) : Type 0 where
   pub times : ℕ
   pub ready : PartyPlace
@@ -115,6 +128,7 @@ pub record OnceAtRest (g : Config) (at : Oid) (p q : PartyPlace) (Then : OnHeap 
   pub waits : WaitsForDbuf g (cell_of g.cells at) at times p ready
   pub rests : IsAtRest at before.value.dbufs
   pub happens : Then before ready q
+  pub alone : BringsNone g (cell_of g.cells at) p → times ≡ 0
 
 -- ---- evictions
 

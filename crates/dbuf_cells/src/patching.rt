@@ -117,7 +117,7 @@ fn end_patch(
 }
 
 // Whether the key of a clean block names a block of a pool of this length.
-fn check_key(mapped: Option<Mapped>, len: u64) -> Result<(), ReadFault>
+pub(crate) fn check_key(mapped: Option<Mapped>, len: u64) -> Result<(), ReadFault>
     ensures { ChecksKey len mapped result }
 {
     if let Some(Mapped::Clean(ptr)) = mapped {

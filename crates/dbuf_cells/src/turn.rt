@@ -79,6 +79,7 @@ fn try_at_rest(
 {
     let cell = take(arcs, rt, party, i);
     if let DbState::Read { n: _ } = cell.state(at) {
+        told(&cell);
         give(arcs, party, i, cell);
         return None;
     }

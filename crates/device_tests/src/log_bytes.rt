@@ -2,7 +2,7 @@
 ghost use Rattle.std.specs.Prelude.{◌≡◌, true};
 ghost use Rattle.l2_log.specs.Rules.{is_there};
 
-use super::bytes::{has_at, put};
+use super::bytes::{has_at, put, seal};
 use blk_ptr::{Digest, Key, digest_of};
 use l2_log::*;
 use std::alloc::Global;
@@ -36,7 +36,7 @@ fn fault_of_a_change(at: usize, sealed: bool) -> Option<LogFault> {
         bytes[at] ^= 1;
     }
     if sealed {
-        seal(&mut bytes);
+        let _ = seal(&mut bytes);
     }
     DevHeader::read(&bytes).err()
 }
@@ -94,11 +94,6 @@ fn field_at_fault(at: usize) -> Option<LogFault> {
         }
     }
     None
-}
-
-fn seal(bytes: &mut [u8; 512]) {
-    let digest = digest_of(&bytes[..480]);
-    put(bytes, 480, &digest.0);
 }
 
 #[test]

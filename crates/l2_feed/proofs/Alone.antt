@@ -1,7 +1,6 @@
 -- That a feeder which has every number does what the shards say, and sees just its own events.
 use Rattle.std.proofs.Common.{◌≡◌, ℕ, Bool, true, false, not, IsTrue, List, [], ◌∷◌, ◌++◌, map, refl, sym, ap, ◌∙◌, subst, eq-eqb, ne_eqb, append-nil, append_assoc}
 use Rattle.std.specs.Prelude.{◌==◌, if◌then◌else◌}
-use Rattle.std.proofs.lemmas.List.{map-append}
 use mathlib.Core.Logic.{dite}
 use native.Mathlib.Decide.{ℕ_discrete}
 use Rattle.blk_ptr.specs.declared.key.Key.{Key}
@@ -14,7 +13,6 @@ use Rattle.arc_core.specs.declared.event.Event.TheVariants as event
 use Rattle.arc_core.specs.declared.event.Why.{Why}
 use Rattle.arc_core.specs.PlainShard.{PlainShard, is_number}
 use Rattle.arc_core.specs.Replay.{replay}
-use Rattle.arc_core.specs.Changes.{pick_of}
 use Rattle.arc_core.specs.Step.{after, agree, is_gone, is_writing, legal, may_set}
 use Rattle.arc_core.proofs.Stepping.{replay-append}
 use Rattle.turn_table.specs.Places.{Place}
@@ -24,7 +22,7 @@ use Rattle.arc_table.specs.declared.view.Known.{Known}
 use Rattle.arc_table.specs.feeder.Feeding.{has_place}
 use Rattle.arc_table.specs.Items.{Meanings}
 use Rattle.arc_table.specs.feeder.Listing.{all_picks, picks_of}
-use Rattle.arc_table.specs.feeder.Picking.{ArePicks, ArePicksOf, PicksAll}
+use Rattle.arc_table.specs.feeder.Picking.{ArePicks, ArePicksOf}
 use Rattle.arc_table.specs.Seen.{HasAll, events_in, seen_of, turn_of}
 use Rattle.arc_table.specs.Telling.{Tells, opening_of}
 use Rattle.arc_table.proofs.OwnLemmas.{made-all, made-alone, made-now}

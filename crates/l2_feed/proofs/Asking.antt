@@ -1,5 +1,5 @@
 -- Which calls of the device a feed makes: what `begin`, `put` and `commit` tell of theirs, and one part behind another.
-use Rattle.std.proofs.Common.{◌≡◌, ◌⊎◌, ℕ, zero, suc, ◌+◌, ◌*◌, ◌<◌, List, [], ◌∷◌, ◌++◌, map, take, drop, length, get_or, Result, Ok, Err, inl, inr, refl, sym, ap, ◌∙◌, subst, arith, append_assoc, append-nil}
+use Rattle.std.proofs.Common.{◌≡◌, ◌⊎◌, ℕ, zero, suc, ◌+◌, ◌*◌, ◌<◌, List, [], ◌∷◌, ◌++◌, take, drop, length, get_or, Result, Ok, Err, inl, inr, refl, sym, ap, ◌∙◌, subst, arith, append_assoc, append-nil}
 use Rattle.std.specs.Prelude.{IsErrOf}
 use Rattle.std.proofs.lemmas.List.{map-append}
 use Rattle.vdev_io.specs.declared.device.CacheDev.{Ghosts}
@@ -11,8 +11,6 @@ use Rattle.l2_log.specs.HeaderBytes.{IsHeader}
 use Rattle.l2_log.specs.declared.header.DevHeader.{DevHeader}
 use Rattle.l2_log.specs.declared.log_block.LogBlock.{LogBlock}
 use Rattle.l2_log.specs.declared.pointer.LogPtr.{LogPtr}
-use Rattle.l2_ring.specs.declared.plan.Plan.{Plan}
-use Rattle.l2_ring.specs.Ring.{numbers_of, with_hand}
 use Rattle.l2_dev.specs.declared.fault.DevErr.{DevErr}
 use Rattle.l2_dev.specs.declared.fault.DevErr.TheVariants as err
 use Rattle.l2_dev.specs.declared.report.FeedStop.{FeedStop}
@@ -21,10 +19,10 @@ use Rattle.l2_dev.specs.Asking.{AsksFor, BeginAsks, CommitAsks, header_calls, lo
 use Rattle.l2_dev.specs.Cursor.{CursorState}
 use Rattle.l2_dev.specs.Planned.{IsBlockOf, IsHeaderWith}
 use Rattle.l2_feed.specs.Acts.{Act}
-use Rattle.l2_feed.specs.Asking.{AskRuns, AsksHeader, AsksLog, AsksRun, AsksSome, BatchCalls, EndCalls, FirstGave, LostCalls, NamesLog, PlanCalls, PutsCalls, RunCalls, RunsCalls, UpToFailed, all_gave, puts_of}
+use Rattle.l2_feed.specs.Asking.{AskRuns, AsksLog, AsksRun, BatchCalls, EndCalls, LostCalls, NamesLog, PutsCalls, RunCalls, RunsCalls, UpToFailed, all_gave, puts_of}
 use Rattle.l2_feed.specs.Crashes.{FeedAsks}
 use Rattle.l2_feed.specs.Runs.{HasPut, HasWritten, bytes_of, most}
-use Rattle.l2_feed.specs.Shape.{AreFed, FedBatch, FedShard, IsUnwritten, IsWritten, WrittenCalls, stop_of}
+use Rattle.l2_feed.specs.Shape.{AreFed, FedShard, IsUnwritten, IsWritten, WrittenCalls, stop_of}
 use Rattle.l2_feed.proofs.Beginning.{BegunCalls}
 use Rattle.l2_feed.proofs.Lists.{drop_one}
 use Rattle.l2_feed.proofs.Running.{drop_more}

@@ -1,5 +1,5 @@
 -- What the end of a feed says of its acts, and what one feed leaves for the next.
-use Rattle.std.proofs.Common.{◌≡◌, ◌≢◌, ◌⊎◌, ℕ, zero, suc, ◌+◌, ◌≤◌, List, [], ◌∷◌, ◌++◌, take, drop, Some, inl, inr, refl, sym, ap, ◌∙◌, subst, ⊎_elim, add-one, arith}
+use Rattle.std.proofs.Common.{◌≡◌, ◌≢◌, ◌⊎◌, ℕ, zero, suc, ◌+◌, ◌≤◌, List, [], ◌∷◌, ◌++◌, take, drop, inl, inr, refl, sym, ap, ◌∙◌, subst, ⊎_elim, add-one, arith}
 use Rattle.std.specs.List.{AllByRecursion, range_with_len}
 use Rattle.std.proofs.lemmas.Bool.{cases_lt}
 use Rattle.vdev_io.specs.declared.device.CacheDev.{Ghosts}
@@ -20,7 +20,7 @@ use Rattle.l2_feed.specs.Acts.{Act, Absent, Cleared, Left, Picked, Placed, Refus
 use Rattle.l2_feed.specs.Ends.{DoneIsWhole, IsLeftFor, LeavesForItsEnd, NewestStay, TakesFewLaps, shards_picked}
 use Rattle.l2_feed.specs.Places.{IsAmongActs, IsNewest}
 use Rattle.l2_feed.specs.Runs.{AreCleared, AreLeft, AreRuns, AreSet, bytes_of, most}
-use Rattle.l2_feed.specs.Shape.{AreFed, FedBatch, FedShard, IsRefusal, IsUnwritten, IsWritten, LeavesSome, NoneRefused, why_of}
+use Rattle.l2_feed.specs.Shape.{FedShard, IsRefusal, IsUnwritten, IsWritten, LeavesSome, NoneRefused, why_of}
 use Rattle.l2_feed.proofs.Stepped.{Knows}
 use Rattle.l2_feed.proofs.Taking.{acts_takes}
 use Rattle.l2_log.specs.Rules.{log_len}

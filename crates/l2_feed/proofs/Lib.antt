@@ -22,3 +22,5 @@ pub mod Alone
 pub mod Plain
 pub mod Whole
 pub mod Ends
+pub mod Between
+pub mod InTurn

@@ -1,6 +1,6 @@
 -- That a feed of a party which meets nobody is the plain one.
 use Rattle.std.proofs.Common.{◌≡◌, ◌≢◌, ◌⊎◌, ℕ, zero, suc, ◌+◌, ◌*◌, ◌<◌, ◌≤◌, Bool, true, false, not, List, [], ◌∷◌, ◌++◌, length, map, take, drop, Some, inl, inr, refl, sym, ap, ◌∙◌, subst, arith, append_assoc, append-nil, length-append, cond}
-use Rattle.std.specs.Prelude.{if◌then◌else◌, ◌==◌, count_by, nat_le, sum_by}
+use Rattle.std.specs.Prelude.{if◌then◌else◌, ◌==◌, count_by, sum_by}
 use Rattle.std.specs.List.{filter}
 use Rattle.std.proofs.lemmas.List.{drop-map, length-map, map-append, take-map}
 use Rattle.std.proofs.lemmas.Bool.{cases_lt, le-leb, lt-leb}
@@ -24,9 +24,8 @@ use Rattle.l2_log.specs.Rules.{log_len}
 use Rattle.l2_ring.specs.declared.live.Live.{Live}
 use Rattle.l2_ring.specs.declared.live.Written.{Written}
 use Rattle.l2_ring.specs.declared.plan.Plan.{Plan}
-use Rattle.l2_ring.specs.Ring.{IsPlanFor, RingState, straight_plan, wrapped_plan}
-use Rattle.l2_ring.specs.Stays.{falls, live_of, stays}
-use Rattle.l2_dev.specs.declared.fault.DevErr.TheVariants as err
+use Rattle.l2_ring.specs.Ring.{IsPlanFor, RingState}
+use Rattle.l2_ring.specs.Stays.{falls, live_of}
 use Rattle.l2_dev.specs.declared.report.FeedReport.{FeedReport}
 use Rattle.l2_dev.specs.declared.report.FeedStop.{FeedStop}
 use Rattle.l2_dev.specs.declared.report.FeedStop.TheVariants as stop
@@ -34,9 +33,9 @@ use Rattle.l2_dev.specs.Asking.{header_calls, log_calls}
 use Rattle.l2_dev.specs.Cursor.{CursorState}
 use Rattle.l2_feed.specs.Acts.{Act, Absent, Cleared, Left, Picked, Placed, Refused, Unpicked, keys_of}
 use Rattle.l2_feed.specs.Alone.{AreOfShards, pick_of_block, picks_from, shards_after}
-use Rattle.l2_feed.specs.Asking.{AskRuns, AsksLog, AsksRun, AsksSome, BatchCalls, EndCalls, RunsCalls, UpToFailed, all_gave, puts_of}
+use Rattle.l2_feed.specs.Asking.{AskRuns, AsksLog, AsksRun, AsksSome, BatchCalls, EndCalls, UpToFailed, all_gave, puts_of}
 use Rattle.l2_feed.specs.Plain.{IsPlainFeed, PlainFed, Settled, Standing, all_after, all_done, answers_behind, answers_of, bare, batch_from, batch_if_some, clears_of, entries_of, fed_from, is_clear, is_set, leaves_of, left_all, nothing_more, picked_by, picking_events, plan_for, report_of, runs_from, sets_of, shard_from, size_of, then_fed, told_of, unless_ended, with_plan, with_run}
-use Rattle.l2_feed.specs.Runs.{AreCleared, AreLeft, AreRuns, AreSet, HasWritten, batch_len, bytes_of, most, row_of, run_place, runs_of}
+use Rattle.l2_feed.specs.Runs.{AreCleared, AreLeft, AreRuns, AreSet, batch_len, bytes_of, most, row_of, run_place, runs_of}
 use Rattle.l2_feed.specs.Shape.{AreFed, FedBatch, FedShard, HaveRun, IsUnwritten, IsWritten, LeavesSome, NoneRefused, WrittenCalls, why_of}
 use Rattle.l2_feed.specs.Told.{events_of, shard_of_act}
 use Rattle.l2_feed.specs.Sums.{IsSummary, is_cleared, is_placed, picked_in}

@@ -122,7 +122,7 @@ taking s (e ∷ es) j x sound ok none at =
     ⊎_elim (λ (same : place_of j (after s e) ≡ place_of j s). sym same ∙ there) (λ (gone : place_of j (after s e) ≡ None). cc)
     (taking-places s e j sound now (ap not (none 0 e refl)))
 
-sound_front : (s : PlainShard) (front rest : List Event) → IsSound s → IsTrue (is_legal_history s (front ++ rest)) → IsSound (replay s front) × IsTrue (is_legal_history (replay s front) rest)
+pub sound_front : (s : PlainShard) (front rest : List Event) → IsSound s → IsTrue (is_legal_history s (front ++ rest)) → IsSound (replay s front) × IsTrue (is_legal_history (replay s front) rest)
 sound_front s [] rest sound ok = (sound, ok)
 sound_front s (e ∷ front) rest sound ok =
     sound_front (after s e) front rest (IsSound-after s e sound (and_left (legal s e) (is_legal_history (after s e) (front ++ rest)) ok)) (and_right (legal s e) (is_legal_history (after s e) (front ++ rest)) ok)

@@ -11,3 +11,4 @@ pub mod Plain
 pub mod Crashes
 pub mod Fed
 pub mod Ends
+pub mod Series

@@ -8,7 +8,6 @@ use Rattle.arc_core.specs.declared.config.Config.{Config}
 use Rattle.arc_core.specs.declared.entry.Picked.{Picked as Pick_of}
 use Rattle.arc_core.specs.declared.event.Event.{Event}
 use Rattle.arc_core.specs.declared.event.Event.TheVariants as event
-use Rattle.arc_core.specs.declared.event.Why.{Why}
 use Rattle.arc_core.specs.declared.event.Why.TheVariants as why
 use Rattle.arc_core.specs.PlainShard.{PlainShard}
 use Rattle.arc_core.specs.Replay.{replay}

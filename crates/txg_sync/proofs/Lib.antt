@@ -4,6 +4,7 @@ pub mod Gathering
 pub mod Hand
 pub mod Kept
 pub mod Loop
+pub mod NewKeys
 pub mod Noted
 pub mod Rows
 pub mod Steps

@@ -9,5 +9,5 @@ mod syncing;
 mod write;
 
 pub use due::Due;
-pub use laws::blocks_stand_in_a_row;
+pub use laws::{blocks_stand_in_a_row, none_is_there};
 pub use syncing::{SyncFault, Synced, sync};

@@ -13,7 +13,6 @@ use arc_examples::Plain;
 use arc_table::{Arcs, Cleared, Front, Party};
 use blk_ptr::NoMemory;
 use std::sync::Wait;
-use std::test::Fail;
 
 // These keys are restored.
 fn restored<R: Wait>(
@@ -68,10 +67,11 @@ fn restored_and_cleared<R: Wait>(
 }
 
 #[test]
-fn a_place_is_cleared_once(rt: HostRuntime) -> Result<(), Fail> {
-    let mut pair = opened(rt.alloc()).ok().ok_or("memory")?;
+fn a_place_is_cleared_once(rt: HostRuntime) {
+    let Ok(mut pair) = opened(rt.alloc()) else {
+        panic!(rt; "memory")
+    };
     let told = restored_and_cleared(&rt, &pair.arcs, &mut pair.feeder.party);
     let none = Cleared::Not(Front { shard: 0, len: 2 });
-    assert!(rt; told == (true, Some(Cleared::Done), Some(none)));
-    Ok(())
+    assert!(rt; told.0 && told.1 == Some(Cleared::Done) && told.2 == Some(none));
 }

@@ -10,7 +10,6 @@ use arc_table::{Arcs, Hold, Party, Read};
 use blk_ptr::{Key, NoMemory};
 use std::alloc::Global;
 use std::sync::Wait;
-use std::test::Fail;
 use turn_table::Take;
 use vdev_io::{MemPool, NoCache};
 
@@ -215,12 +214,13 @@ fn row(rt: &impl Wait, alloc: Global) -> Result<Option<Told>, NoMemory> {
 }
 
 #[test]
-fn a_block_is_handed_to_a_cell_and_given_up_there(rt: HostRuntime) -> Result<(), Fail> {
-    let told = row(&rt, rt.alloc()).ok().ok_or("memory")?.ok_or("a step")?;
+fn a_block_is_handed_to_a_cell_and_given_up_there(rt: HostRuntime) {
+    let Ok(Some(told)) = row(&rt, rt.alloc()) else {
+        panic!(rt; "memory, or a step")
+    };
     assert!(rt; told.first == Served::Pool && told.owner == 0);
     assert!(rt; told.bytes.as_slice() == [0; 2048].as_slice());
     assert!(rt; told.again == Served::Pool);
-    Ok(())
 }
 
 // A block is read and handed to the cell by one caller, let go by the other, and read again: where it came from then.
@@ -260,8 +260,6 @@ fn row_away(rt: &impl Wait, alloc: Global) -> Result<Option<Served>, NoMemory> {
 }
 
 #[test]
-fn a_cell_lets_go_of_a_block_without_a_copy(rt: HostRuntime) -> Result<(), Fail> {
-    let again = row_away(&rt, rt.alloc()).ok().ok_or("memory")?;
-    assert!(rt; again == Some(Served::Pool));
-    Ok(())
+fn a_cell_lets_go_of_a_block_without_a_copy(rt: HostRuntime) {
+    assert!(rt; row_away(&rt, rt.alloc()) == Ok(Some(Served::Pool)));
 }

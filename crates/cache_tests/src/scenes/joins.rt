@@ -6,7 +6,7 @@ ghost use Rattle.std.specs.Thread.{IsSync};
 ghost use Rattle.vdev_io.specs.MemoryLaws.{some_has_len};
 ghost use Rattle.arc_examples.specs.Ready.{IsReady};
 
-use super::reads::{Answer, answer_of};
+use super::reads::served;
 use super::{big, opened};
 use arc_core::Served;
 use arc_examples::{Pair, Plain};
@@ -84,7 +84,7 @@ fn reads_of<R: Wait>(
     arcs: &Arcs<Plain>,
     mut party: Party<Plain>,
     stage: &AtomicU64,
-) -> (Answer, u64)
+) -> (Option<Served>, u64)
     requires { IsReady arcs.now party }
 {
     let mut pool = Slow {
@@ -92,7 +92,7 @@ fn reads_of<R: Wait>(
         stage,
         reads: 0,
     };
-    let answer = answer_of(
+    let answer = served(
         rt,
         arcs,
         &mut party,
@@ -109,7 +109,7 @@ fn late_reads_of<R: Wait>(
     arcs: &Arcs<Plain>,
     party: Party<Plain>,
     stage: &AtomicU64,
-) -> (Answer, u64)
+) -> (Option<Served>, u64)
     requires { IsReady arcs.now party }
 {
     wait_for(stage, 1);
@@ -123,7 +123,7 @@ fn both_read<R: Threads + Wait + Sync>(
     arcs: &Arcs<Plain>,
     one: Party<Plain>,
     two: Party<Plain>,
-) -> ((Answer, u64), (Answer, u64))
+) -> ((Option<Served>, u64), (Option<Served>, u64))
     requires one { IsReady arcs.now one }
     requires two { IsReady arcs.now two }
 {
@@ -131,10 +131,10 @@ fn both_read<R: Threads + Wait + Sync>(
     let stage = &at_start;
     thread::join(
         rt,
-        move || -> (Answer, u64)
+        move || -> (Option<Served>, u64)
             requires { IsSync R.row × IsReady arcs.now one }
         { reads_of(rt, arcs, one, stage) },
-        move || -> (Answer, u64)
+        move || -> (Option<Served>, u64)
             requires { IsSync R.row × IsReady arcs.now two }
         { late_reads_of(rt, arcs, two, stage) },
     )
@@ -144,7 +144,7 @@ fn both_read<R: Threads + Wait + Sync>(
 fn a_read_joins_one_in_progress_and_hits(rt: HostRuntime) -> Result<(), Fail> {
     let Pair { arcs, one, two, .. } = opened(rt.alloc()).ok().ok_or("memory")?;
     let (first, second) = both_read(&rt, &arcs, one.party, two.party);
-    assert!(rt; first == (Answer::Held(Served::Pool), 1));
-    assert!(rt; second == (Answer::Held(Served::Hit), 0));
+    assert!(rt; first == (Some(Served::Pool), 1));
+    assert!(rt; second == (Some(Served::Hit), 0));
     Ok(())
 }

@@ -9,7 +9,6 @@ use arc_table::{Arcs, Closed, Party};
 use blk_ptr::{NoMemory, State};
 use std::alloc::Global;
 use std::sync::Wait;
-use std::test::Fail;
 
 // Two callers and one shard of 8,192 bytes.
 const LARGER: Config = Config {
@@ -58,13 +57,14 @@ fn row(rt: &impl Wait, alloc: Global) -> Result<(bool, Closed<Plain>), NoMemory>
 
 // The target was 4,096 bytes and is 3,840: of 4,096 bytes in MRU one block goes, and then one in MFU.
 #[test]
-fn blocks_are_evicted_where_a_shard_is_made_smaller(rt: HostRuntime) -> Result<(), Fail> {
-    let (halved, closed) = row(&rt, rt.alloc()).ok().ok_or("memory")?;
+fn blocks_are_evicted_where_a_shard_is_made_smaller(rt: HostRuntime) {
+    let Ok((halved, closed)) = row(&rt, rt.alloc()) else {
+        panic!(rt; "memory")
+    };
     assert!(rt; halved && closed.shards().len() == 1);
     for shard in closed.shards() {
         for state in [State::Mru, State::MruGhost, State::Mfu, State::MfuGhost] {
             assert!(rt; shard.size(state) == 2048);
         }
     }
-    Ok(())
 }

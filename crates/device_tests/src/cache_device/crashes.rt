@@ -77,13 +77,26 @@ fn every_choice_of_sectors_in_a_commit(rt: HostRuntime) -> Result<(), Fail> {
     Ok(())
 }
 
-/// The image of two feeds, of which this call of the device fails, and which of them were answered Ok.
-fn with_fault(alloc: Global, call: u64) -> Option<(Vec<u8>, [bool; 2])> {
+/// A device of zeros of which this call fails.
+fn failing(alloc: Global, call: u64) -> Option<MemCache> {
     let fail = vec![in alloc; call].ok()?;
     let bytes = vec![in alloc; 0u8; LEN].ok()?;
-    let fed = after_feeds(alloc, MemCache::new(bytes, fail), &[0, 1])?;
-    let answers = [fed.answers.first()?.is_ok(), fed.answers.get(1)?.is_ok()];
-    Some((fed.l2.stop().bytes().to_vec(alloc).ok()?, answers))
+    Some(MemCache::new(bytes, fail))
+}
+
+/// Which of two feeds were answered Ok.
+fn are_ok(answers: &[Result<u64, DevErr>]) -> [bool; 2] {
+    match answers {
+        [first, second] => [first.is_ok(), second.is_ok()],
+        _ => [false; 2],
+    }
+}
+
+/// The image of two feeds, of which this call of the device fails, and which of them were answered Ok.
+fn with_fault(alloc: Global, call: u64) -> Option<(Vec<u8>, [bool; 2])> {
+    let fed = after_feeds(alloc, failing(alloc, call)?, &[0, 1])?;
+    let answers = are_ok(&fed.answers);
+    Some((image_of(alloc, fed)?, answers))
 }
 
 // One call of the device fails, and block 1 is fed behind block 0 all the same. What was not committed is written over.

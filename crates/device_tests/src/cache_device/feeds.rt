@@ -4,6 +4,7 @@ use super::tools::*;
 use blk_ptr::Digest;
 use l2_dev::*;
 use l2_log::{DevHeader, HEADER_LEN, LOG_LEN, LogBlock, LogFault};
+use l2_ring::Live;
 use std::alloc::Global;
 use std::test::Fail;
 
@@ -85,16 +86,30 @@ fn the_bytes_of_the_first_feed(rt: HostRuntime) -> Result<(), Fail> {
     Ok(())
 }
 
+/// Whether the first block was dropped first.
+fn begins_with_first(dropped: &[Live]) -> bool {
+    match dropped.first() {
+        Some(live) => live.key == key(0) && live.place == 4096 && live.digest == Some(ZEROS),
+        None => false,
+    }
+}
+
+/// Whether a start of this image finds the last three blocks, and ends at a log block that was written over.
+fn finds_the_last_three(alloc: Global, image: Vec<u8>) -> bool {
+    let Some((restored, stop)) = rebuilt(alloc, image) else {
+        return false;
+    };
+    let ends = matches!(stop, Stop::Block(LogFault::Digest { .. }));
+    ends && has_restored(alloc, &restored, &[3, 2, 1])
+}
+
 #[test]
 fn the_fourth_feed_drops_the_first_block(rt: HostRuntime) -> Result<(), Fail> {
     let alloc = rt.alloc();
     let dev = empty(alloc).ok_or("memory")?;
     let fed = after_feeds(alloc, dev, &[0, 1, 2, 3]).ok_or("fed")?;
-    let first = fed.dropped.first().ok_or("dropped")?;
-    assert!(rt; first.key == key(0) && first.place == 4096 && first.digest == Some(ZEROS));
-    let image = fed.l2.stop().bytes().to_vec(alloc)?;
-    let (restored, stop) = rebuilt(alloc, image).ok_or("rebuilt")?;
-    assert!(rt; has_restored(alloc, &restored, &[3, 2, 1]));
-    assert!(rt; matches!(stop, Stop::Block(LogFault::Digest { .. })));
+    let dropped = begins_with_first(&fed.dropped);
+    let image = image_of(alloc, fed).ok_or("image")?;
+    assert!(rt; dropped && finds_the_last_three(alloc, image));
     Ok(())
 }

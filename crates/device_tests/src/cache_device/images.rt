@@ -1,7 +1,6 @@
 //! Starts over images: the table of changed bytes, and reads that fail.
-use super::super::bytes::put;
+use super::super::bytes::{put, seal};
 use super::tools::*;
-use blk_ptr::digest_of;
 use l2_dev::*;
 use l2_log::LogFault;
 use std::alloc::Global;
@@ -11,14 +10,6 @@ use vdev_io::MemCache;
 /// The image that three feeds leave.
 fn three_feeds(alloc: Global) -> Option<Vec<u8>> {
     fed_image(alloc, empty(alloc)?, &[0, 1, 2])
-}
-
-/// Computes the header's digest again.
-fn seal(image: &mut [u8]) {
-    if let Some(front) = image.get(..480) {
-        let digest = digest_of(front);
-        put(image, 480, &digest.0);
-    }
 }
 
 /// The line in which a start is told, as in `2 zero`.
@@ -80,7 +71,7 @@ fn a_start_over_changed_bytes(rt: HostRuntime) -> Result<(), Fail> {
         let mut changed = image.to_vec(alloc)?;
         put(&mut changed, at, bytes);
         if sealed {
-            seal(&mut changed);
+            let _ = seal(&mut changed);
         }
         let (restored, stop) = rebuilt(alloc, changed).ok_or("rebuilt")?;
         assert!(rt; line(restored.len(), stop) == expected);
@@ -101,16 +92,21 @@ fn a_device_that_ends_inside_a_sector(rt: HostRuntime) -> Result<(), Fail> {
     Ok(())
 }
 
+/// How many blocks a start restores where this call of the device fails, and whether it says that the device failed.
+fn with_failed_call(alloc: Global, image: &[u8], call: u64) -> Option<(usize, bool)> {
+    let fail = vec![in alloc; call].ok()?;
+    let dev = MemCache::new(image.to_vec(alloc).ok()?, fail);
+    let (_, restored, stop) = open(alloc, dev)?;
+    Some((restored.len(), stop == Stop::DevFault))
+}
+
 // Each log block is read once, behind the header: the fifth call is none.
 #[test]
 fn a_read_that_fails_ends_the_walk(rt: HostRuntime) -> Result<(), Fail> {
     let alloc = rt.alloc();
     let image = three_feeds(alloc).ok_or("image")?;
     for (call, blocks) in [(0, 0), (1, 0), (2, 1), (3, 2), (4, 3)] {
-        let fail = vec![in alloc; call]?;
-        let dev = MemCache::new(image.to_vec(alloc)?, fail);
-        let (_, restored, stop) = open(alloc, dev).ok_or("open")?;
-        assert!(rt; restored.len() == blocks && (stop == Stop::DevFault) == (call < 4));
+        assert!(rt; with_failed_call(alloc, &image, call) == Some((blocks, call < 4)));
     }
     Ok(())
 }

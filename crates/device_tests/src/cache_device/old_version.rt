@@ -1,5 +1,5 @@
 //! A device of version 1, spelled by hand: what it restores, and what a feed makes of it.
-use super::super::bytes::{has_at, put};
+use super::super::bytes::{has_at, put, seal};
 use super::tools::*;
 use arc_core::Restored;
 use blk_ptr::digest_of;
@@ -40,13 +40,6 @@ fn put_feed(image: &mut [u8], number: u8) -> Option<()> {
     let entry = [512 * u64::from(number), 512, 1, place as u64];
     put_numbers(&mut front, 128, &entry);
     put(image, place + 512, &front);
-    Some(())
-}
-
-/// Writes the header's digest.
-fn seal(image: &mut [u8]) -> Option<()> {
-    let digest = digest_of(image.get(..480)?);
-    put(image, 480, &digest.0);
     Some(())
 }
 
@@ -94,18 +87,25 @@ fn a_device_of_version_1(rt: HostRuntime) -> Result<(), Fail> {
     Ok(())
 }
 
+/// Whether block 3 is found first, with a digest, and behind it the two old blocks that it left.
+fn is_fed_over_old(restored: &[Restored]) -> bool {
+    let Some(newest) = restored.first() else {
+        return false;
+    };
+    let old = [without_digest(2), without_digest(1)];
+    let fed = newest.key == key(3) && newest.place == 4096 && newest.digest.is_some();
+    fed && restored.len() == 3 && restored.ends_with(&old)
+}
+
 #[test]
 fn a_feed_to_a_device_of_version_1(rt: HostRuntime) -> Result<(), Fail> {
     let alloc = rt.alloc();
     let dev = MemCache::new(old_device(alloc).ok_or("image")?, Vec::new(alloc));
     let image = fed_image(alloc, dev, &[3]).ok_or("fed")?;
     // version 2
-    assert!(rt; has_at(&image, 8, &[2, 0, 0, 0, 0, 0, 0, 0]));
+    let is_new = has_at(&image, 8, &[2, 0, 0, 0, 0, 0, 0, 0]);
     let (restored, _) = rebuilt(alloc, image).ok_or("rebuilt")?;
-    let newest = restored.first().ok_or("restored")?;
-    assert!(rt; newest.key == key(3) && newest.place == 4096 && newest.digest.is_some());
-    let old = [without_digest(2), without_digest(1)];
-    assert!(rt; restored.ends_with(&old) && restored.len() == 3);
+    assert!(rt; is_new && is_fed_over_old(&restored));
     Ok(())
 }
 

@@ -130,10 +130,14 @@ pub(super) fn has_restored(alloc: Global, restored: &[Restored], numbers: &[u8])
     true
 }
 
-/// The image of a device that blocks were fed to.
-pub(super) fn fed_image(alloc: Global, dev: MemCache, numbers: &[u8]) -> Option<Vec<u8>> {
-    let fed = after_feeds(alloc, dev, numbers)?;
+/// The image of a device that was fed.
+pub(super) fn image_of(alloc: Global, fed: Fed<MemCache>) -> Option<Vec<u8>> {
     fed.l2.stop().bytes().to_vec(alloc).ok()
+}
+
+/// The image of a device that these blocks are fed to.
+pub(super) fn fed_image(alloc: Global, dev: MemCache, numbers: &[u8]) -> Option<Vec<u8>> {
+    image_of(alloc, after_feeds(alloc, dev, numbers)?)
 }
 
 /// What a start of this image restores, and why the walk ended.

@@ -7,6 +7,7 @@ use Rattle.dbuf_state.specs.Soundness.{plain_cell}
 use Rattle.dbuf_state.specs.declared.event.CellEvent.TheVariants.{Get}
 use Rattle.dbuf_cells.specs.InHand.{IsRoomier}
 use Rattle.dbuf_cells.specs.Loading.{EndsWith, Notes}
+use Rattle.dbuf_cells.specs.Patching.{IsSizedIn}
 use Rattle.dbuf_cells.specs.declared.kept.Kept.{Kept}
 use Rattle.dbuf_cells.proofs.Acts.{noted-ends, noted-evicts, noted-room, roomy-gives, roomy-may-give, claims-alike, noted-claims}
 use Rattle.dbuf_cells.proofs.Claims.{roomy-claims}
@@ -17,6 +18,9 @@ see-requires-clause-cached g c = ap (λ (x : CellLog Kept). dbuf_is (λ d. is_ca
 
 pub see-requires-clause-inside : goal.see-requires-clause-inside
 see-requires-clause-inside g c = subst (λ (x : CellLog Kept). DbufHas (λ d. c.args.w.at + c.args.w.len ≤ size_of d.content) (dbuf_at c.args.at x.dbufs)) (sym c.deref_mut.ensures.value) c.requires.inside
+
+pub see-requires-clause-sized : goal.see-requires-clause-sized
+see-requires-clause-sized g c = subst (λ (x : CellLog Kept). IsSizedIn c.args.at x.dbufs) (sym c.deref_mut.ensures.value) c.requires.sized
 
 pub finish-requires-clause-hand : goal.finish-requires-clause-hand
 finish-requires-clause-hand g c =

@@ -18,7 +18,7 @@ returns-in-Err-clause-answer g c =
     let i = c.cell_of-i.result in
     let m : c.mapped.result ≡ mapped_in c.args.at k.result.value.dbufs = c.mapped.ensures ∙ ap (λ (x : CellLog Kept). mapped_in c.args.at x.dbufs) c.deref.ensures in
     let given = as-given c.args.arcs.now i k.ensures.ready k.result k.result.value k.new.party k.ensures.begins c.give.new.party c.give.ensures.gives in
-    once-at-rest c.args.arcs.now i c.args.at c.args.party.now k.new.party c.give.new.party k.result
+    once-at-rest c.args.arcs.now i c.args.at c.args.party.now c.requires.party k.new.party c.give.new.party k.result
     (λ (j : ℕ) (b : OnHeap) (r s : PartyPlace). Holds g.P.Pool g.D.CacheDev c.args.arcs.now.config j c.args.at c.args.tick (outside c.args.pool.now c.args.cache.now) (outside c.args.pool.now c.args.cache.now) {T = Unit {0}} b r s (Err c.in-Err.fault)) c.cell_of-i.ensures.cell k.ensures
     (test-hold g.P.Pool g.D.CacheDev c.args.arcs.now i c.args.at c.args.tick (outside c.args.pool.now c.args.cache.now) (outside c.args.pool.now c.args.cache.now) k.result k.ensures.ready c.give.new.party c.mapped.result c.in-Err.fault m c.in-Err.ensures given refl)
 
@@ -46,7 +46,7 @@ returns-in-Ok-clause-answer g c =
     let k = c.take_at_rest-cell in
     let i = c.cell_of-i.result in
     let m : c.mapped.result ≡ mapped_in c.args.at k.result.value.dbufs = c.mapped.ensures ∙ ap (λ (x : CellLog Kept). mapped_in c.args.at x.dbufs) c.deref.ensures in
-    once-at-rest c.args.arcs.now i c.args.at c.args.party.now k.new.party c.end_hold.new.party k.result
+    once-at-rest c.args.arcs.now i c.args.at c.args.party.now c.requires.party k.new.party c.end_hold.new.party k.result
     (λ (j : ℕ) (b : OnHeap) (r s : PartyPlace). Holds g.P.Pool g.D.CacheDev c.args.arcs.now.config j c.args.at c.args.tick (outside c.args.pool.now c.args.cache.now) (outside c.bring.new.pool c.bring.new.cache) {T = Unit {0}} b r s c.end_hold.result) c.cell_of-i.ensures.cell k.ensures
     (hold-answers g.P.Pool g.D.CacheDev c.args.arcs.now i c.args.at c.args.tick (outside c.args.pool.now c.args.cache.now) (outside c.bring.new.pool c.bring.new.cache) k.result k.ensures.ready c.in-Ok.cell c.bring.new.party
     (c.in-Ok.ensures.brings k.ensures.ready k.ensures.begins (k.ensures.held ∙ c.requires.free) k.ensures.claimed) c.end_hold.new.party c.end_hold.result
@@ -70,7 +70,7 @@ returns-in-Err-bring-clause-answer g c =
     let i = c.cell_of-i.result in
     let m : c.mapped.result ≡ mapped_in c.args.at k.result.value.dbufs = c.mapped.ensures ∙ ap (λ (x : CellLog Kept). mapped_in c.args.at x.dbufs) c.deref.ensures in
     let f = c.in-Err-bring.ensures.brings k.ensures.ready k.ensures.begins (k.ensures.held ∙ c.requires.free) k.ensures.claimed in
-    once-at-rest c.args.arcs.now i c.args.at c.args.party.now k.new.party c.bring.new.party k.result
+    once-at-rest c.args.arcs.now i c.args.at c.args.party.now c.requires.party k.new.party c.bring.new.party k.result
     (λ (j : ℕ) (b : OnHeap) (r s : PartyPlace). Holds g.P.Pool g.D.CacheDev c.args.arcs.now.config j c.args.at c.args.tick (outside c.args.pool.now c.args.cache.now) (outside c.bring.new.pool c.bring.new.cache) {T = Unit {0}} b r s (Err c.in-Err-bring.fault)) c.cell_of-i.ensures.cell k.ensures
     (refuses-hold g.P.Pool g.D.CacheDev c.args.arcs.now.config i c.args.at c.args.tick (outside c.args.pool.now c.args.cache.now) (outside c.bring.new.pool c.bring.new.cache) k.result k.ensures.ready c.bring.new.party c.in-Err-bring.fault
     (fails-read g.P.Pool g.D.CacheDev c.args.arcs.now.config i c.args.at c.args.tick (outside c.args.pool.now c.args.cache.now) (outside c.bring.new.pool c.bring.new.cache) k.result k.ensures.ready c.bring.new.party c.in-Err-bring.fault f.fails)

@@ -20,7 +20,7 @@ returns-in-Err-clause-answer g c =
     let k = c.take_at_rest-cell in
     let i = c.cell_of-i.result in
     let m : c.mapped-mapped.result ≡ mapped_in c.args.at k.result.value.dbufs = c.mapped-mapped.ensures ∙ ap (λ (x : CellLog Kept). mapped_in c.args.at x.dbufs) c.deref.ensures in
-    once-at-rest c.args.arcs.now i c.args.at c.args.party.now k.new.party c.give.new.party k.result
+    once-at-rest c.args.arcs.now i c.args.at c.args.party.now c.requires.party k.new.party c.give.new.party k.result
     (λ (j : ℕ) (b : OnHeap) (r s : PartyPlace). Writes g.P.Pool g.D.CacheDev c.args.arcs.now.config j c.args.at c.args.tick (outside c.args.pool.now c.args.cache.now) (outside c.args.pool.now c.args.cache.now) {T = Unit {0}} c.args.from c.args.bytes.now b r s (Err c.in-Err.fault)) c.cell_of-i.ensures.cell k.ensures
     (test-patch g.P.Pool g.D.CacheDev c.args.arcs.now i c.args.at c.args.tick (outside c.args.pool.now c.args.cache.now) (outside c.args.pool.now c.args.cache.now) k.result k.ensures.ready c.give.new.party c.args.from c.args.bytes.now c.mapped-mapped.result c.in-Err.fault m (subst (λ (n : ℕ). Tests {T = Unit {0}} c.args.at n c.mapped-mapped.result (Err c.in-Err.fault)) (λ z. c.from.ensures z + length (c.bytes.ensures.shown z)) c.in-Err.ensures) (as-given c.args.arcs.now c.cell_of-i.result k.ensures.ready k.result k.result.value k.new.party k.ensures.begins c.give.new.party c.give.ensures.gives) refl)
 
@@ -41,7 +41,7 @@ returns-in-Err-check_key-clause-answer g c =
     let k = c.take_at_rest-cell in
     let i = c.cell_of-i.result in
     let m : c.mapped-mapped.result ≡ mapped_in c.args.at k.result.value.dbufs = c.mapped-mapped.ensures ∙ ap (λ (x : CellLog Kept). mapped_in c.args.at x.dbufs) c.deref.ensures in
-    once-at-rest c.args.arcs.now i c.args.at c.args.party.now k.new.party c.give-in-Err-check_key.new.party k.result
+    once-at-rest c.args.arcs.now i c.args.at c.args.party.now c.requires.party k.new.party c.give-in-Err-check_key.new.party k.result
     (λ (j : ℕ) (b : OnHeap) (r s : PartyPlace). Writes g.P.Pool g.D.CacheDev c.args.arcs.now.config j c.args.at c.args.tick (outside c.args.pool.now c.args.cache.now) (outside c.args.pool.now c.args.cache.now) {T = Unit {0}} c.args.from c.args.bytes.now b r s (Err (fault.Read c.in-Err-check_key.fault))) c.cell_of-i.ensures.cell k.ensures
     (key-patch g.P.Pool g.D.CacheDev c.args.arcs.now i c.args.at c.args.tick (outside c.args.pool.now c.args.cache.now) (outside c.args.pool.now c.args.cache.now) k.result k.ensures.ready c.give-in-Err-check_key.new.party c.args.from c.args.bytes.now c.mapped-mapped.result c.in-Err-check_key.fault m
     (subst (λ (n : ℕ). ChecksKey {T = Unit {0}} n c.mapped-mapped.result (Err c.in-Err-check_key.fault)) c.len.ensures c.in-Err-check_key.ensures) (ends-inside g.P.Pool g.D.CacheDev c.args.arcs.now i c.args.at c.args.tick (outside c.args.pool.now c.args.cache.now) (outside c.args.pool.now c.args.cache.now) k.result k.ensures.ready (c.args.from + length c.args.bytes.now) c.mapped-mapped.result m (subst (λ (n : ℕ). Tests {T = Unit {0}} c.args.at n c.mapped-mapped.result (Ok c.in_default.field-0)) (λ z. c.from.ensures z + length (c.bytes.ensures.shown z)) c.in_default.ensures)) (as-given c.args.arcs.now c.cell_of-i.result k.ensures.ready k.result k.result.value k.new.party k.ensures.begins c.give-in-Err-check_key.new.party c.give-in-Err-check_key.ensures.gives) refl)
@@ -90,7 +90,7 @@ returns-in-Ok-clause-answer g c =
     let k = c.take_at_rest-cell in
     let i = c.cell_of-i.result in
     let m : c.mapped-mapped.result ≡ mapped_in c.args.at k.result.value.dbufs = c.mapped-mapped.ensures ∙ ap (λ (x : CellLog Kept). mapped_in c.args.at x.dbufs) c.deref.ensures in
-    once-at-rest c.args.arcs.now i c.args.at c.args.party.now k.new.party c.end_patch.new.party k.result
+    once-at-rest c.args.arcs.now i c.args.at c.args.party.now c.requires.party k.new.party c.end_patch.new.party k.result
     (λ (j : ℕ) (b : OnHeap) (r s : PartyPlace). Writes g.P.Pool g.D.CacheDev c.args.arcs.now.config j c.args.at c.args.tick (outside c.args.pool.now c.args.cache.now) (outside c.bring.new.pool c.bring.new.cache) {T = Unit {0}} c.args.from c.args.bytes.now b r s c.end_patch.result) c.cell_of-i.ensures.cell k.ensures
     (patch-answers g.P.Pool g.D.CacheDev c.args.arcs.now i c.args.at c.args.tick (outside c.args.pool.now c.args.cache.now) (outside c.bring.new.pool c.bring.new.cache) k.result k.ensures.ready c.end_patch.new.party c.args.from c.args.bytes.now c.in-Ok.cell c.bring.new.party (c.in-Ok.ensures.brings k.ensures.ready k.ensures.begins (k.ensures.held ∙ c.requires.free) k.ensures.claimed) c.end_patch.result
     (ends-inside g.P.Pool g.D.CacheDev c.args.arcs.now i c.args.at c.args.tick (outside c.args.pool.now c.args.cache.now) (outside c.bring.new.pool c.bring.new.cache) k.result k.ensures.ready (c.args.from + length c.args.bytes.now) c.mapped-mapped.result m (subst (λ (n : ℕ). Tests {T = Unit {0}} c.args.at n c.mapped-mapped.result (Ok c.in_default.field-0)) (λ z. c.from.ensures z + length (c.bytes.ensures.shown z)) c.in_default.ensures)) c.end_patch.ensures.ok c.end_patch.ensures.err c.end_patch.ensures.why)
@@ -113,7 +113,7 @@ returns-in-Err-bring-clause-answer g c =
     let i = c.cell_of-i.result in
     let m : c.mapped-mapped.result ≡ mapped_in c.args.at k.result.value.dbufs = c.mapped-mapped.ensures ∙ ap (λ (x : CellLog Kept). mapped_in c.args.at x.dbufs) c.deref.ensures in
     let f = c.in-Err-bring.ensures.brings k.ensures.ready k.ensures.begins (k.ensures.held ∙ c.requires.free) k.ensures.claimed in
-    once-at-rest c.args.arcs.now i c.args.at c.args.party.now k.new.party c.bring.new.party k.result
+    once-at-rest c.args.arcs.now i c.args.at c.args.party.now c.requires.party k.new.party c.bring.new.party k.result
     (λ (j : ℕ) (b : OnHeap) (r s : PartyPlace). Writes g.P.Pool g.D.CacheDev c.args.arcs.now.config j c.args.at c.args.tick (outside c.args.pool.now c.args.cache.now) (outside c.bring.new.pool c.bring.new.cache) {T = Unit {0}} c.args.from c.args.bytes.now b r s (Err c.in-Err-bring.fault)) c.cell_of-i.ensures.cell k.ensures
     (refuses-patch g.P.Pool g.D.CacheDev c.args.arcs.now i c.args.at c.args.tick (outside c.args.pool.now c.args.cache.now) (outside c.bring.new.pool c.bring.new.cache) k.result k.ensures.ready c.bring.new.party c.args.from c.args.bytes.now c.in-Err-bring.fault
     (fails-read g.P.Pool g.D.CacheDev c.args.arcs.now.config i c.args.at c.args.tick (outside c.args.pool.now c.args.cache.now) (outside c.bring.new.pool c.bring.new.cache) k.result k.ensures.ready c.bring.new.party c.in-Err-bring.fault f.fails) (ends-inside g.P.Pool g.D.CacheDev c.args.arcs.now i c.args.at c.args.tick (outside c.args.pool.now c.args.cache.now) (outside c.bring.new.pool c.bring.new.cache) k.result k.ensures.ready (c.args.from + length c.args.bytes.now) c.mapped-mapped.result m (subst (λ (n : ℕ). Tests {T = Unit {0}} c.args.at n c.mapped-mapped.result (Ok c.in_default.field-0)) (λ z. c.from.ensures z + length (c.bytes.ensures.shown z)) c.in_default.ensures)) (not_loaded f.fails))

@@ -48,7 +48,7 @@ pub returns-in-Ok-clause-answer : goal.returns-in-Ok-clause-answer
 returns-in-Ok-clause-answer g c =
     let k = c.take_at_rest-cell in
     let u = subst (λ (x : CellLog Kept). IsPut c.number-n.result c.args.at c.args.size c.args.fill c.in-Ok.kept x c.write.new.cell) c.deref_mut.ensures.value c.in-Ok.ensures.ok in
-    once-at-rest c.args.arcs.now c.cell_of-i.result c.args.at c.args.party.now k.new.party c.finish.new.party k.result
+    once-at-rest c.args.arcs.now c.cell_of-i.result c.args.at c.args.party.now c.requires.party k.new.party c.finish.new.party k.result
     (λ (j : ℕ). Puts c.args.arcs.now.config j c.args.at c.args.size c.args.fill) c.cell_of-i.ensures.cell k.ensures
     (put-answers c.args.arcs.now c.cell_of-i.result c.args.at c.args.party.now k.result k.new.party k.ensures c.number-n.result c.args.size c.args.fill c.number-n.ensures c.in-Ok.kept c.write.new.cell u c.give_up.new.party c.give_up.ensures
     c.finish.new.party c.finish.ensures.finishes)
@@ -71,7 +71,7 @@ pub returns-in-Err-clause-answer : goal.returns-in-Err-clause-answer
 returns-in-Err-clause-answer g c =
     let k = c.take_at_rest-cell in
     let log = subst (λ (x : CellLog Kept). IsRoomier x c.write.new.cell) c.deref_mut.ensures.value c.in-Err.ensures.err in
-    inr (once-at-rest c.args.arcs.now c.cell_of-i.result c.args.at c.args.party.now k.new.party c.give.new.party k.result
+    inr (once-at-rest c.args.arcs.now c.cell_of-i.result c.args.at c.args.party.now c.requires.party k.new.party c.give.new.party k.result
     (λ (j : ℕ) (b : OnHeap) (r s : PartyPlace). CellTurn c.args.arcs.now.config j b [] [] r s) c.cell_of-i.ensures.cell k.ensures
     (room-given c.args.arcs.now c.cell_of-i.result c.args.at c.args.party.now k.result k.new.party k.ensures c.write.new.cell c.give.new.party log c.give.ensures.gives).turn)
 

@@ -1,9 +1,11 @@
-use Rattle.std.proofs.Common.{refl, sym, ap, ◌∙◌}
+use Rattle.std.proofs.Common.{refl, sym, ap, ◌∙◌, subst}
+use Rattle.std.specs.List.{AllByRecursion}
 use Rattle.std.specs.Option.{option_map_or}
 use Rattle.dbuf_state.specs.CellLog.{CellLog}
-use Rattle.dbuf_state.specs.Dbufs.{dbuf_at}
+use Rattle.dbuf_state.specs.Dbufs.{IsFit, dbuf_at}
 use Rattle.dbuf_state.specs.declared.dbuf.Dbuf.{Dbuf}
 use Rattle.dbuf_state.specs.declared.state.DbState.TheVariants as state
+use Rattle.dbuf_cells.specs.Kept.{bytes_of, key_of}
 use Rattle.dbuf_cells.specs.declared.kept.Kept.{Kept}
 use Rattle.dbuf_cells.proofs.Claims.{claims-through}
 use Rattle.dbuf_cells.proofs.PartySteps.{as-given, finds-bringing}
@@ -13,6 +15,7 @@ pub returns-in-Read-clause-none : goal.returns-in-Read-clause-none
 returns-in-Read-clause-none g c =
     let b = c.take-cell.result in
     finds-bringing c.args.arcs.now c.args.i c.args.at c.args.party.now c.give.new.party b c.in-Read.n
+    (subst (λ (x : CellLog Kept). AllByRecursion (IsFit key_of bytes_of) x.dbufs) c.deref-in-Read.ensures c.told.ensures.fit)
     (ap (λ (x : CellLog Kept). option_map_or (λ (d : Dbuf Kept). d.state) (dbuf_at c.args.at x.dbufs) state.Uncached) (sym c.deref.ensures) ∙ (sym c.state.ensures.state ∙ c.in-Read.is))
     (as-given c.args.arcs.now c.args.i c.args.party.now b b.value c.take-cell.new.party c.take-cell.ensures.begins c.give.new.party c.give.ensures.gives)
 

@@ -30,7 +30,7 @@ pub returns-in-Ok-clause-answer : goal.returns-in-Ok-clause-answer
 returns-in-Ok-clause-answer g c =
     let k = c.take_at_rest-cell in
     let is = subst (λ (x : CellLog Kept). IsUnpinned c.number-n.result c.args.at x c.unpin.new.cell) c.deref_mut.ensures.value c.in-Ok.ensures.ok in
-    once-at-rest c.args.arcs.now c.cell_of-i.result c.args.at c.args.party.now k.new.party c.finish.new.party k.result
+    once-at-rest c.args.arcs.now c.cell_of-i.result c.args.at c.args.party.now c.requires.party k.new.party c.finish.new.party k.result
     (λ (j : ℕ) (b : OnHeap) (r s : PartyPlace). Operates c.args.arcs.now.config j b (Unpin r.number c.args.at ∷ []) [] r s) c.cell_of-i.ensures.cell k.ensures
     (unpin-operates c.args.arcs.now c.cell_of-i.result c.args.at c.args.party.now k.result k.new.party k.ensures c.number-n.result c.number-n.ensures c.unpin.new.cell c.finish.new.party is c.finish.ensures.finishes)
 
@@ -53,7 +53,7 @@ returns-in-Err-clause-answer g c =
     let log = subst (λ (x : CellLog Kept). IsRoomier x c.unpin.new.cell) c.deref_mut.ensures.value c.in-Err.ensures.same in
     let told = subst (λ (x : CellLog Kept). IsNotUnpinned c.number-n.result c.args.at x c.in-Err.fault) c.deref_mut.ensures.value c.in-Err.ensures.err in
     let given = room-given c.args.arcs.now c.cell_of-i.result c.args.at c.args.party.now k.result k.new.party k.ensures c.unpin.new.cell c.give.new.party log c.give.ensures.gives in
-    once-at-rest c.args.arcs.now c.cell_of-i.result c.args.at c.args.party.now k.new.party c.give.new.party k.result
+    once-at-rest c.args.arcs.now c.cell_of-i.result c.args.at c.args.party.now c.requires.party k.new.party c.give.new.party k.result
     (λ (j : ℕ) (b : OnHeap) (r s : PartyPlace). NotUnholds c.args.arcs.now.config j c.args.at b r s c.in-Err.fault) c.cell_of-i.ensures.cell k.ensures
     (not-unpinned c.args.arcs.now c.cell_of-i.result c.args.at c.args.party.now k.result k.new.party k.ensures c.number-n.result c.number-n.ensures c.in-Err.fault c.give.new.party told given)
 

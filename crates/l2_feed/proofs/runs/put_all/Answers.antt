@@ -4,7 +4,7 @@ use Rattle.std.proofs.lemmas.Result.{err_from_is_err_and}
 use Rattle.blk_ptr.specs.Ptr.{sha256_of}
 use Rattle.blk_ptr.specs.declared.key.Key.{Key}
 use Rattle.arc_table.specs.declared.picks.Picked.{Picked as Block}
-use Rattle.l2_feed.proofs.Asking.{no_puts, puts_end, puts_more, puts_stop}
+use Rattle.l2_feed.proofs.Asking.{puts_end, puts_more, puts_stop}
 use Rattle.l2_feed.proofs.Crashing.{own_then, put_keeps, some_then}
 use Rattle.l2_feed.proofs.Writing.{put_turn}
 use Rattle.l2_feed.proofs.runs.put_all.Goals as goal
