@@ -744,6 +744,104 @@ count hit 0 miss 0 past 0 pool 0 l2 0 pass 0 set 0
 rebuilt 3 zero
 end 0
 '''], THREE_FED),
+    Row('two callers are served by the device, over a pool of other bytes', ['run'], COUNTING * 3, '''\
+arc 2 1 16 1 4096 0 4096
+block 0 512 1 Z
+block 512 512 1 Z
+read 0 1 0 0 4
+read 1 2 1 0 4
+''', 0, ['''\
+arc 1
+0 ok l2 Z 00000000
+1 ok l2 Z 00000000
+shard 0 c 4096 p 2048 anon 0 mru 0 mrug 0 mfu 1024 mfug 0 l2 512
+count hit 0 miss 2 past 0 pool 0 l2 2 pass 0 set 0
+rebuilt 3 zero
+end 0
+'''], THREE_FED),
+    Row('one of two callers reads a block of the device', ['run', '--events'], COUNTING * 3, '''\
+arc 2 1 16 1 4096 0 4096
+block 0 512 1 Z
+read 1 1 0 0 4
+''', 0, ['''\
+arc 1
+0 ok l2 Z 00000000
+e 0 0 restore 2 1024 512 1 136192 Z
+e 0 1 restore 2 512 512 1 70144 Z
+e 0 2 restore 2 0 512 1 4096 Z
+e 0 3 miss 1 0 512 1 1
+e 0 4 arrive 1 0 512 1 Z l2
+e 0 5 drop 1 0 512 1
+shard 0 c 4096 p 2048 anon 0 mru 0 mrug 0 mfu 512 mfug 0 l2 1024
+count hit 0 miss 1 past 0 pool 0 l2 1 pass 0 set 0
+rebuilt 3 zero
+end 0
+'''], THREE_FED),
+    Row('a wrong byte on the device, and the pool has the block', ['run'], 1536, '''\
+arc 3 1 16 1 4096 0 4096
+block 0 512 1 Z
+block 512 512 1 Z
+block 1024 512 1 Z
+read 0 1 0 0 4
+read 1 2 1 0 4
+read 2 3 2 0 4
+''', 0, ['''\
+arc 1
+0 ok pool Z 00000000
+1 ok l2 Z 00000000
+2 ok l2 Z 00000000
+shard 0 c 4096 p 2048 anon 0 mru 0 mrug 0 mfu 1536 mfug 0 l2 0
+count hit 0 miss 3 past 0 pool 1 l2 2 pass 0 set 0
+rebuilt 3 zero
+end 0
+'''], changed(THREE_FED, 4196, b'\1')),
+    Row('a wrong byte on the device, and none in the pool', ['run'], COUNTING * 3, '''\
+arc 2 1 16 1 4096 0 4096
+block 0 512 1 Z
+block 512 512 1 Z
+read 0 1 0 0 4
+read 1 2 1 0 4
+''', 1, ['''\
+arc 1
+0 refused digest N
+1 ok l2 Z 00000000
+shard 0 c 4096 p 2048 anon 0 mru 0 mrug 0 mfu 512 mfug 0 l2 512
+count hit 0 miss 2 past 0 pool 1 l2 1 pass 0 set 0
+rebuilt 3 zero
+end 1
+'''], changed(THREE_FED, 4196, b'\1')),
+    Row('the device serves two groups of three callers', ['run'], COUNTING * 3, '''\
+arc 3 1 16 1 4096 0 4096
+block 0 512 1 Z
+block 512 512 1 Z
+block 1024 512 1 Z
+read 2 1 0 0 4
+cap 8192
+read 0 2 1 0 4
+read 1 3 2 0 4
+''', 0, ['''\
+arc 1
+0 ok l2 Z 00000000
+1 cap 8192
+2 ok l2 Z 00000000
+3 ok l2 Z 00000000
+shard 0 c 8192 p 2048 anon 0 mru 0 mrug 0 mfu 1536 mfug 0 l2 0
+count hit 0 miss 3 past 0 pool 0 l2 3 pass 0 set 0
+rebuilt 3 zero
+end 0
+'''], THREE_FED),
+    Row('a pointer to other bytes than the device has', ['run'], COUNTING * 3, '''\
+arc 2 1 16 1 4096 0 4096
+block 0 512 1 N
+read 0 1 0 0 4
+''', 0, ['''\
+arc 1
+0 ok pool N 00010203
+shard 0 c 4096 p 2048 anon 0 mru 0 mrug 0 mfu 512 mfug 0 l2 1024
+count hit 0 miss 1 past 0 pool 1 l2 0 pass 0 set 0
+rebuilt 3 zero
+end 0
+'''], THREE_FED),
 ]
 
 LISTS = [

@@ -59,9 +59,17 @@ fn a_device_whose_header_cannot_be_read(rt: HostRuntime) -> Result<(), Fail> {
     Ok(())
 }
 
+// The device is asked for a fork for each caller, behind the read of its header. One that is refused leaves its caller with no device.
 #[test]
-fn a_device_whose_second_call_would_fail(rt: HostRuntime) -> Result<(), Fail> {
+fn a_device_whose_first_fork_fails(rt: HostRuntime) -> Result<(), Fail> {
     let right = is_found(&rt, 266_240, &[1], "\nrebuilt 0 header magic\n")?;
+    assert!(rt; right);
+    Ok(())
+}
+
+#[test]
+fn a_device_of_which_no_fork_can_be_made(rt: HostRuntime) -> Result<(), Fail> {
+    let right = is_found(&rt, 266_240, &[1, 2], "\nrebuilt 0 header magic\n")?;
     assert!(rt; right);
     Ok(())
 }

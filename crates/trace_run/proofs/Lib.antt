@@ -5,6 +5,8 @@ pub mod CapLemmas
 pub mod CellEnds
 pub mod CellLemmas
 pub mod CellsLeft
+pub mod DeviceLemmas
+pub mod DeviceReadLemmas
 pub mod DropLemmas
 pub mod EndSteps
 pub mod FeederLemmas

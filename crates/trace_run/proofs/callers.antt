@@ -1,6 +1,7 @@
 pub mod AbsorbLemmas
 pub mod AfterEnds
 pub mod CallerActLemmas
+pub mod DeviceSteps
 pub mod GroupCounts
 pub mod GroupLemmas
 pub mod GroupRunLemmas

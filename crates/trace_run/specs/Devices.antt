@@ -1,12 +1,12 @@
 -- What becomes of the cache device that is handed in.
-use Rattle.std.specs.Prelude.{◌≡◌, ◌<◌, ◌≤◌, List, [], Option, None, Some, IfSome}
+use Rattle.std.specs.Prelude.{◌≡◌, ◌<◌, ◌≤◌, nat_lt, if◌then◌else◌, List, [], Option, None, Some, IfSome, min}
 use Rattle.vdev_io.specs.Calls.{DeviceCall, MakesDeviceCalls}
-use Rattle.vdev_io.specs.Faults.{Rose}
+use Rattle.vdev_io.specs.Device.{LeavesSame, Stands}
+use Rattle.vdev_io.specs.Faults.{Rose, last_count}
 use Rattle.vdev_io.specs.declared.device.CacheDev.{Ghosts}
 use Rattle.l2_log.specs.Rules.{least_ring_end}
 use Rattle.l2_dev.specs.declared.stop.Stop.TheVariants as stops
 use Rattle.l2_dev.specs.Cursor.{CursorState}
-use Rattle.l2_dev.specs.Reading.{OnlyRead}
 use Rattle.l2_dev.specs.Rebuilding.{HaveKeys, IsStarted, ring_end_of}
 use Rattle.l2_dev.specs.Restoring.{IsRebuilt}
 use Rattle.trace_text.specs.declared.rebuilt.Rebuilt.{Rebuilt}
@@ -19,16 +19,53 @@ device_of device.None = None
 device_of (device.Short dev) = Some dev
 device_of (device.Ready l2) = Some l2.dev
 
+-- the device that is lent to callers, where it was started
+abbrev pub lent_in : {D : Type 0} → Device D → Option D
+lent_in device.None = None
+lent_in (device.Short dev) = None
+lent_in (device.Ready l2) = Some l2.dev
+
 module _ {D : Type 0} (devices : Ghosts D) where
-  -- the device was read, and nothing else: its length, its kind, the bytes that it tells and what a crash may leave of it are as they were
-  abbrev pub WasOnlyRead : D → D → Type 0
-  WasOnlyRead before after = OnlyRead devices.size devices.told devices.has_sectors devices.may_leave devices.moment devices.left_since devices.faults before after
+  -- The device was read, forked and given forks back, and nothing else: its length, its kind, the bytes that it tells and what a crash may leave of it are
+  -- as they were. Its count of faults has not fallen, as far as a count goes: a fork is taken back by a sum of counts, which ends there.
+  pub record WasOnlyRead (before after : D) : Type 0 where
+    pub size : devices.size after ≡ devices.size before
+    pub told : devices.told after ≡ devices.told before
+    pub kind : devices.has_sectors after ≡ devices.has_sectors before
+    pub crash : LeavesSame (devices.may_leave before) (devices.may_leave after)
+    pub time : Stands (devices.moment before) (devices.moment after) (devices.left_since before) (devices.left_since after)
+    pub faults : min (devices.faults before) last_count ≤ devices.faults after
 
   -- so it was, or it is lost; and none is made up
   abbrev pub MayLose : Option D → Option D → Type 0
   MayLose before None = Unit {0}
   MayLose None (Some after) = ⊥
   MayLose (Some before) (Some after) = WasOnlyRead before after
+
+  -- so it was, and it is not lost
+  abbrev pub IsHandedBack : Option D → Option D → Type 0
+  IsHandedBack None None = Unit {0}
+  IsHandedBack None (Some after) = ⊥
+  IsHandedBack (Some before) None = ⊥
+  IsHandedBack (Some before) (Some after) = WasOnlyRead before after
+
+  -- the device that was handed in, where callers may read it: it is long enough
+  abbrev pub usable : Option D → Option D
+  usable None = None
+  usable (Some dev) = if nat_lt (devices.size dev) least_ring_end then None else Some dev
+
+  -- a device is told as too short exactly where it is
+  abbrev pub IsRightKind : Device D → Type 0
+  IsRightKind device.None = Unit {0}
+  IsRightKind (device.Short dev) = devices.size dev < least_ring_end
+  IsRightKind (device.Ready l2) = least_ring_end ≤ devices.size l2.dev
+
+  -- A device was lent: one that was started was only read meanwhile, and all else of it is as it was; any other is as it was.
+  abbrev pub WasLent : Device D → Device D → Type 0
+  WasLent device.None device.None = Unit {0}
+  WasLent (device.Short before) (device.Short after) = after ≡ before
+  WasLent (device.Ready before) (device.Ready after) = (after.cursor ≡ before.cursor) × (after.alloc ≡ before.alloc) × WasOnlyRead before.dev after.dev
+  WasLent _ _ = ⊥
 
   -- What the start of a device found on it, and how the start left it: a device that is too short is told so and not looked at; else the list and the
   -- stop are those of the bytes that it tells, and it was asked for just the reads that lead there, each once. The stop says that it failed only
@@ -42,7 +79,7 @@ module _ {D : Type 0} (devices : Ghosts D) where
     pub keys : HaveKeys rebuilt.list
     pub only : WasOnlyRead before after
 
-  -- something is reported of a device exactly where one was handed in, and that one is handed back
+  -- something is reported of a device exactly where one was handed in, and this is that device behind its start
   abbrev pub Finds : Option D → Option D → Option Rebuilt → Type 0
   Finds None after rebuilt = (after ≡ None) × (rebuilt ≡ None)
   Finds (Some before) None rebuilt = ⊥

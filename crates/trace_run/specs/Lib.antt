@@ -4,6 +4,8 @@ pub mod Answers
 pub mod Bounded
 pub mod CellEnds
 pub mod CheckText
+pub mod DeviceReads
+pub mod DeviceUse
 pub mod Devices
 pub mod Effects
 pub mod Ends

@@ -33,6 +33,7 @@ use Rattle.trace_run.specs.Answers.{AnswersAll}
 use Rattle.trace_run.specs.Bounded.{device_len, with_bound}
 use Rattle.trace_run.specs.CellEnds.{AreCellsOf}
 use Rattle.trace_run.specs.CheckText.{check_text}
+use Rattle.trace_run.specs.DeviceUse.{WasUsed}
 use Rattle.trace_run.specs.Devices.{Finds, MayLose}
 use Rattle.trace_run.specs.Explaining.{Explain, RunsAlone}
 use Rattle.trace_run.specs.Lines.{has_undone}
@@ -98,12 +99,15 @@ pub record IsRun {C P : Type 0} (pool : Ghosts P) (before after : P) (trace : Tr
   pub failed : fork_failed ≡ true → Rose (pool.faults before) (pool.faults after) × StopsAtGroup trace report.replies
 
 -- The report is that of a run of the trace that the source gave, all of whose lines the program does. The trace's bound of one feed is at most half of
--- the device's ring. What is reported of the device is what its start found, and it is handed back.
+-- the device's ring. What is reported of the device is what its start found; callers had forks of it, and it is handed back.
 pub record IsReport {P D : Type 0} (pool : Ghosts P) (device : Devices D) (before after : Handed P D) (closed : Ended OnHeap) (report : Report) : Type 0 where
   pub trace : Trace
   pub read : WasRead before.source after.source trace
   pub done : has_undone trace ≡ false
-  pub found : Finds device before.cache after.cache report.rebuilt
+  -- the device behind its start
+  pub started : Option D
+  pub found : Finds device before.cache started report.rebuilt
+  pub used : WasUsed device (with_bound trace (device_len device.size before.cache)) report.replies started after.cache
   pub fork_failed : Bool
   pub run : IsRun pool before.pool after.pool (with_bound trace (device_len device.size before.cache)) fork_failed closed report
   -- the cells began with the trace's lines, and were ended

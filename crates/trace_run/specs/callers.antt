@@ -1,5 +1,6 @@
 pub mod CallerLines
 pub mod Callers
+pub mod DeviceForks
 pub mod Group
 pub mod GroupRun
 pub mod Groups

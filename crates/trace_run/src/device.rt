@@ -2,7 +2,7 @@
 ghost use Rattle.std.specs.Prelude.{◌≡◌, IfOk};
 ghost use Rattle.l2_dev.specs.Rebuilding.{HaveKeys};
 ghost use Rattle.trace_run.specs.Bounded.{device_len};
-ghost use Rattle.trace_run.specs.Devices.{Finds, device_of};
+ghost use Rattle.trace_run.specs.Devices.{Finds, IsRightKind, device_of};
 ghost use Rattle.trace_run.specs.Restores.{restored_of};
 
 use blk_ptr::NoMemory;
@@ -44,6 +44,7 @@ pub(crate) fn device_len<D: CacheDev>(cache: &Option<D>) -> u64
 pub(crate) fn begin<D: CacheDev>(alloc: Global, cache: Option<D>) -> Result<Begun<D>, NoMemory>
     ensures found { IfOk result (λ begun. Finds D.CacheDev cache (device_of begun.device) begun.rebuilt) }
     ensures keys { IfOk result (λ begun. HaveKeys (restored_of begun.rebuilt)) }
+    ensures kind { IfOk result (λ begun. IsRightKind D.CacheDev begun.device) }
 {
     let Some(dev) = cache else {
         return Ok(Begun {

@@ -2,6 +2,7 @@
 ghost use Rattle.std.specs.Prelude.{◌≡◌, IfErr, IfOk, List};
 ghost use Rattle.blk_ptr.specs.Key.{IsValid};
 ghost use Rattle.vdev_io.specs.Calls.{KeepsPool};
+ghost use Rattle.trace_run.specs.DeviceReads.{GetAsks};
 ghost use Rattle.trace_run.specs.KeptBlocks.{Stands};
 ghost use Rattle.trace_run.specs.Reads.{CallsFor, DidRead, IsCauseOf, IsGot, kept_then};
 ghost use Rattle.trace_run.specs.declared.kept_blocks.KeptBlock.{KeptBlock};
@@ -43,6 +44,7 @@ pub(crate) fn get<C: Keeps, P: Pool, D: CacheDev>(
     ensures calls { CallsFor P.Pool pool.old pool.new result }
     ensures pool { KeepsPool P.Pool pool.old pool.new }
     ensures device { D.size device.new ≡ D.size device.old }
+    ensures asked { GetAsks D.CacheDev ptr.now.key.size result device.old device.new }
 {
     match arcs.read(rt, party, ptr, t, pool, device) {
         Ok(Read::Held(hold, served)) => {

@@ -1,14 +1,23 @@
-//! The work of several callers at once, each by its own lines, with its own party and its own fork of the pool.
-ghost use Rattle.std.specs.Prelude.{All, ◌≡◌, ◌<◌, ◌≤◌, ◌+◌, ◌^◌, ◌++◌, ◌∷◌, [], IfOk, IsErrOf, List, OnErr, OnOk, length, map, vec_len};
+//! The work of several callers at once, each by its own lines, with its own party and its own forks of the pool and of the cache device.
+ghost use Rattle.std.specs.Prelude.{All, ◌≡◌, ℕ, ◌<◌, ◌≤◌, ◌+◌, ◌^◌, ◌++◌, ◌∷◌, [], IfOk, IsErrOf, List, OnErr, OnOk, filter, length, map, vec_len};
 ghost use Rattle.std.specs.List.{AllByRecursion, AllZip};
 ghost use Rattle.vdev_io.specs.Calls.{KeepsPool};
 ghost use Rattle.trace_text.specs.declared.reply.Reply.{Reply};
 ghost use Rattle.vdev_io.specs.Faults.{CountsIoFault, Rose, last_count};
 ghost use Rattle.vdev_io.specs.declared.fault.IoFault.{IoFault};
+ghost use Rattle.trace_run.specs.DeviceReads.{AsksGiven};
+ghost use Rattle.trace_run.specs.Devices.{WasLent, lent_in};
+ghost use Rattle.trace_run.specs.KeptBlocks.{Stands, read_of};
+ghost use Rattle.trace_run.specs.Lines.{is_of_caller};
+ghost use Rattle.trace_run.specs.callers.CallerLines.{DidLines, at};
+ghost use Rattle.trace_run.specs.callers.DeviceForks.{HasAsked, HaveRead, TakesForkBack, TakesForksBack};
+ghost use Rattle.trace_run.specs.one_caller.OverShards.{AreNamed};
 ghost use Rattle.trace_run.specs.callers.Callers.{Absorbs, AbsorbsAll, AreAtStart, AreEnlisted, HasTried, HaveComeBack, IsReady, Replied};
 ghost use Rattle.trace_run.specs.callers.Group.{HaveWorked, IsFork, LeavesPool};
 ghost use Rattle.trace_run.specs.Tally.{AreDeclared};
 
+use crate::device::Device;
+use crate::device_forks::{device_forks, take_fork_back};
 use crate::kept_blocks::KeptBlocks;
 use crate::lines::all_lines;
 use arc_core::Keeps;
@@ -19,17 +28,19 @@ use std::sync::Wait;
 use std::thread;
 use std::thread::Threads;
 use trace_text::{Op, Reply};
-use vdev_io::{Gate, IoFault, NoCache, Pool};
+use vdev_io::{CacheDev, Gate, IoFault, NoCache, Pool};
 
 /// The most callers that a trace may have.
 const MOST_CALLERS: usize = 16;
 
-/// A caller at work: its party, the reads that it keeps, its fork of the pool, and the replies to its lines once they are done.
+/// A caller at work: its party, the reads that it keeps, its fork of the pool, its fork of the cache device, if it has one, and the replies to
+/// its lines once they are done.
 #[derive(Drop)]
-struct Caller<C: Keeps, P: Pool> {
+struct Caller<C: Keeps, P: Pool, D: CacheDev> {
     party: Party<C>,
     kept: KeptBlocks,
     pool: P,
+    device: Option<D>,
     replies: Result<Vec<Reply>, NoMemory>,
 }
 
@@ -91,20 +102,24 @@ pub(crate) fn forks<P: Pool>(alloc: Global, pool: &mut P, callers: u32) -> Resul
     Ok(forks)
 }
 
-/// Makes a caller of each party, the reads that it keeps, and its fork.
-fn enlist<C: Keeps, P: Pool>(
+/// Makes a caller of each party, the reads that it keeps, and its forks.
+fn enlist<C: Keeps, P: Pool, D: CacheDev>(
     alloc: Global,
     parties: Vec<Party<C>>,
     kept: Vec<KeptBlocks>,
     forks: Vec<P>,
-) -> Result<Vec<Caller<C, P>>, NoMemory>
+    devices: Vec<Option<D>>,
+) -> Result<Vec<Caller<C, P, D>>, NoMemory>
     requires kept { vec_len kept ≡ vec_len parties }
     requires forks { vec_len forks ≡ vec_len parties }
-    ensures { IfOk result (λ callers. AreEnlisted parties.items kept.items forks.items callers.items) }
+    requires devices { vec_len devices ≡ vec_len parties }
+    ensures enlisted { IfOk result (λ callers. AreEnlisted parties.items kept.items forks.items callers.items) }
+    ensures devices { IfOk result (λ callers. map (λ caller. caller.device) callers.items ≡ devices.items) }
 {
     let mut callers = Vec::with_capacity(alloc, parties.len())?;
     let mut kept = kept.into_iter();
     let mut forks = forks.into_iter();
+    let mut devices = devices.into_iter();
     for party in parties {
         let Some(reads) = kept.next() else {
             unreachable!()
@@ -112,22 +127,69 @@ fn enlist<C: Keeps, P: Pool>(
         let Some(pool) = forks.next() else {
             unreachable!()
         };
+        let Some(device) = devices.next() else {
+            unreachable!()
+        };
         callers.push(Caller {
             party,
             kept: reads,
             pool,
+            device,
             replies: Ok(Vec::new(alloc)),
         })?;
     }
     Ok(callers)
 }
 
-/// Does the lines of a caller.
-fn work<C: Keeps, P: Pool, G: Gate>(
+/// Does the lines of a caller over the cache device that it was given, or over none.
+fn lines_over<C: Keeps, P: Pool, D: CacheDev, G: Gate>(
     alloc: Global,
     rt: &impl Wait,
     arcs: &Arcs<C>,
-    caller: &mut Caller<C, P>,
+    party: &mut Party<C>,
+    kept: &mut KeptBlocks,
+    pool: &mut P,
+    device: &mut Option<D>,
+    blocks: &[Ptr],
+    ops: &[Op],
+    first: u32,
+    gate: &G,
+) -> Result<Vec<Reply>, NoMemory>
+    requires stands { Stands arcs.now party.old kept.old }
+    requires declared { AreDeclared (length blocks.now) ops.now }
+    requires named { AreNamed blocks.now (map read_of kept.old) }
+    requires few { first + length ops.now < 2 ^ 32 }
+    ensures stands { IfOk result (λ replies. Stands arcs.now party.new kept.new) }
+    ensures did { IfOk result (λ replies. (size : ℕ) × DidLines arcs.now.config P.Pool size blocks.now (filter (is_of_caller party.old.number) ops.now) replies.items
+        (at party.old (map read_of kept.old) pool.old) (at party.new (map read_of kept.new) pool.new)) }
+    ensures asked { IfOk result (λ replies. AsksGiven D.CacheDev blocks.now (filter (is_of_caller party.old.number) ops.now) replies.items device.old device.new) }
+{
+    match device {
+        Some(device) => all_lines(
+            alloc, rt, arcs, party, kept, pool, device, blocks, ops, first, gate,
+        ),
+        None => all_lines(
+            alloc,
+            rt,
+            arcs,
+            party,
+            kept,
+            pool,
+            &mut NoCache::new(),
+            blocks,
+            ops,
+            first,
+            gate,
+        ),
+    }
+}
+
+/// Does the lines of a caller.
+fn work<C: Keeps, P: Pool, D: CacheDev, G: Gate>(
+    alloc: Global,
+    rt: &impl Wait,
+    arcs: &Arcs<C>,
+    caller: &mut Caller<C, P, D>,
     blocks: &[Ptr],
     ops: &[Op],
     first: u32,
@@ -136,16 +198,17 @@ fn work<C: Keeps, P: Pool, G: Gate>(
     requires ready { IsReady arcs.now blocks.now caller.old }
     requires declared { AreDeclared (length blocks.now) ops.now }
     requires few { first + length ops.now < 2 ^ 32 }
-    ensures { HasTried arcs.now P.Pool blocks.now ops.now caller.old caller.new }
+    ensures tried { HasTried arcs.now P.Pool blocks.now ops.now caller.old caller.new }
+    ensures asked { HasAsked D.CacheDev blocks.now ops.now caller.old caller.new }
 {
-    caller.replies = all_lines(
+    caller.replies = lines_over(
         alloc,
         rt,
         arcs,
         &mut caller.party,
         &mut caller.kept,
         &mut caller.pool,
-        &mut NoCache::new(),
+        &mut caller.device,
         blocks,
         ops,
         first,
@@ -154,11 +217,11 @@ fn work<C: Keeps, P: Pool, G: Gate>(
 }
 
 /// Does the lines of all callers, each in a thread of its own where one can be started.
-fn work_all<R: Threads + Wait + Sync, C: Keeps + Send, P: Pool, G: Gate>(
+fn work_all<R: Threads + Wait + Sync, C: Keeps + Send, P: Pool, D: CacheDev, G: Gate>(
     alloc: Global,
     rt: &R,
     arcs: &Arcs<C>,
-    callers: &mut [Caller<C, P>],
+    callers: &mut [Caller<C, P, D>],
     blocks: &[Ptr],
     ops: &[Op],
     first: u32,
@@ -167,22 +230,26 @@ fn work_all<R: Threads + Wait + Sync, C: Keeps + Send, P: Pool, G: Gate>(
     requires ready { All (IsReady arcs.now blocks.now) callers.old }
     requires declared { AreDeclared (length blocks.now) ops.now }
     requires few { first + length ops.now < 2 ^ 32 }
-    ensures { AllZip (HasTried arcs.now P.Pool blocks.now ops.now) callers.old callers.new }
+    ensures tried { AllZip (HasTried arcs.now P.Pool blocks.now ops.now) callers.old callers.new }
+    ensures asked { AllZip (HasAsked D.CacheDev blocks.now ops.now) callers.old callers.new }
 {
-    let each = |_: usize, caller: &mut Caller<C, P>|
+    let each = |_: usize, caller: &mut Caller<C, P, D>|
         requires { IsReady arcs.now blocks.now caller.old × AreDeclared (length blocks.now) ops.now × (first + length ops.now < 2 ^ 32) }
-        ensures { HasTried arcs.entry.now P.Pool blocks.entry.now ops.entry.now caller.old caller.new }
+        ensures { HasTried arcs.entry.now P.Pool blocks.entry.now ops.entry.now caller.old caller.new × HasAsked D.CacheDev blocks.entry.now ops.entry.now caller.old caller.new }
     { work(alloc, rt, arcs, caller, blocks, ops, first, gate) };
     thread::for_each_mut(rt, callers, MOST_CALLERS, &each);
 }
 
-/// Takes a caller back that has done its lines: the pool takes its fork.
-fn take_back<C: Keeps, P: Pool>(
-    caller: Caller<C, P>,
+/// Takes a caller back that has done its lines: the pool and the cache device take its forks.
+fn take_back<C: Keeps, P: Pool, D: CacheDev>(
+    caller: Caller<C, P, D>,
     pool: &mut P,
+    device: &mut Device<D>,
     worked: &mut Worked<C>,
 ) -> Result<(), NoMemory>
     ensures absorbs { Absorbs P.Pool caller.pool pool.old pool.new }
+    ensures back { TakesForkBack D.CacheDev caller.device (lent_in device.old) (lent_in device.new) }
+    ensures device { WasLent D.CacheDev device.old device.new }
     ensures replied { OnOk result ((replies : List Reply) × (map (λ v. v.items) worked.new.replies.items ≡ map (λ v. v.items) worked.old.replies.items ++ replies ∷ []) × Replied caller replies) }
     ensures party { OnOk result (worked.new.parties.items ≡ worked.old.parties.items ++ caller.party ∷ []) }
     ensures kept { OnOk result (worked.new.kept.items ≡ worked.old.kept.items ++ caller.kept ∷ []) }
@@ -191,9 +258,11 @@ fn take_back<C: Keeps, P: Pool>(
         party,
         kept,
         pool: fork,
+        device: device_fork,
         replies,
     } = caller;
     pool.absorb(fork);
+    take_fork_back(device, device_fork);
     let replies = replies?;
     worked.parties.push(party)?;
     worked.kept.push(kept)?;
@@ -201,13 +270,16 @@ fn take_back<C: Keeps, P: Pool>(
     Ok(())
 }
 
-/// Takes all callers back that have done their lines. The pool takes each fork, also where some caller was short of memory.
-fn take_all_back<C: Keeps, P: Pool>(
+/// Takes all callers back that have done their lines. The pool and the device take each fork, also where some caller was short of memory.
+fn take_all_back<C: Keeps, P: Pool, D: CacheDev>(
     alloc: Global,
-    callers: Vec<Caller<C, P>>,
+    callers: Vec<Caller<C, P, D>>,
     pool: &mut P,
+    device: &mut Device<D>,
 ) -> Result<Worked<C>, NoMemory>
     ensures absorbs { AbsorbsAll P.Pool (map (λ caller. caller.pool) callers.items) pool.old pool.new }
+    ensures back { TakesForksBack D.CacheDev (map (λ caller. caller.device) callers.items) (lent_in device.old) (lent_in device.new) }
+    ensures device { WasLent D.CacheDev device.old device.new }
     ensures came { IfOk result (λ worked. HaveComeBack callers.items (map (λ v. v.items) worked.replies.items) worked.parties.items worked.kept.items) }
 {
     let mut worked = Worked {
@@ -217,7 +289,7 @@ fn take_all_back<C: Keeps, P: Pool>(
     };
     let mut short = false;
     for caller in callers {
-        if take_back(caller, pool, &mut worked).is_err() {
+        if take_back(caller, pool, device, &mut worked).is_err() {
             short = true;
         }
     }
@@ -227,9 +299,9 @@ fn take_all_back<C: Keeps, P: Pool>(
     Ok(worked)
 }
 
-/// Lets callers work at once, each by its own lines among these, with its own party, the reads that it keeps and its own fork of the pool. Then
-/// the pool takes their forks back, by their numbers. The first of the lines has this number in the trace.
-pub(crate) fn run_group<R: Threads + Wait + Sync, C: Keeps + Send, P: Pool, G: Gate>(
+/// Lets callers work at once, each by its own lines among these, with its own party, the reads that it keeps and its own forks of the pool and of
+/// the cache device. Then these take their forks back, by their numbers. The first of the lines has this number in the trace.
+pub(crate) fn run_group<R: Threads + Wait + Sync, C: Keeps + Send, P: Pool, D: CacheDev, G: Gate>(
     alloc: Global,
     rt: &R,
     arcs: &Arcs<C>,
@@ -237,6 +309,7 @@ pub(crate) fn run_group<R: Threads + Wait + Sync, C: Keeps + Send, P: Pool, G: G
     kept: Vec<KeptBlocks>,
     forks: Vec<P>,
     pool: &mut P,
+    device: &mut Device<D>,
     blocks: &[Ptr],
     ops: &[Op],
     first: u32,
@@ -249,9 +322,12 @@ pub(crate) fn run_group<R: Threads + Wait + Sync, C: Keeps + Send, P: Pool, G: G
     requires few { first + length ops.now < 2 ^ 32 }
     ensures worked { IfOk result (λ worked. HaveWorked arcs.now P.Pool blocks.now ops.now (vec_len parties) pool.old pool.new (map (λ v. v.items) worked.replies.items)
         kept.items parties.items worked.kept.items worked.parties.items) }
+    ensures read { IfOk result (λ worked. HaveRead D.CacheDev blocks.now ops.now (vec_len parties) (map (λ v. v.items) worked.replies.items) (lent_in device.old) (lent_in device.new)) }
     ensures pool { LeavesPool P.Pool pool.old pool.new }
+    ensures device { WasLent D.CacheDev device.old device.new }
 {
-    let mut callers = enlist(alloc, parties, kept, forks)?;
+    let devices = device_forks(alloc, device, parties.len())?;
+    let mut callers = enlist(alloc, parties, kept, forks, devices)?;
     work_all(alloc, rt, arcs, &mut callers, blocks, ops, first, gate);
-    take_all_back(alloc, callers, pool)
+    take_all_back(alloc, callers, pool, device)
 }

@@ -1,18 +1,21 @@
 //! Several callers, group by group: the lines of a group at once, and then the line that ends it.
-ghost use Rattle.std.specs.Prelude.{◌≡◌, ℕ, ◌<◌, ◌≤◌, ◌+◌, ◌^◌, ◌++◌, ◌∷◌, [], IfOk, List, OnOk, Some, false, length, slice_get, true, vec_len};
+ghost use Rattle.std.specs.Prelude.{◌≡◌, ℕ, ◌<◌, ◌≤◌, ◌+◌, ◌^◌, ◌++◌, ◌∷◌, [], IfOk, List, OnOk, Option, Some, false, length, slice_get, true, vec_len};
 ghost use Rattle.std.specs.List.{AllByRecursion};
 ghost use Rattle.arc_core.specs.declared.served.Restored.{Restored};
 ghost use Rattle.arc_table.specs.Geometry.{parties_of};
 ghost use Rattle.trace_text.specs.Grammar.{IsFormed, IsOperation};
 ghost use Rattle.trace_text.specs.declared.op.Op.{Op};
 ghost use Rattle.trace_text.specs.declared.reply.Reply.{Reply};
+ghost use Rattle.trace_run.specs.Devices.{WasLent, lent_in};
 ghost use Rattle.trace_run.specs.callers.Callers.{AreAtStart};
+ghost use Rattle.trace_run.specs.callers.DeviceForks.{HaveReadSoFar, ReadAtOnce, these};
 ghost use Rattle.trace_run.specs.callers.Group.{IsFork, LeavesPool};
 ghost use Rattle.trace_run.specs.callers.Groups.{AreBetween, AreOfCallers, DidEndLine, DidLinesAtOnce, AreDone, KeepNothing, StepsOn};
 ghost use Rattle.trace_run.specs.Meeting.{MayGoOn};
 ghost use Rattle.trace_run.specs.Tally.{AreDeclared};
 ghost use Rattle.trace_run.specs.callers.Together.{BeginsGroup, ends_group};
 
+use crate::device::Device;
 use crate::group::{Worked, forks, run_group};
 use crate::in_order::in_order;
 use crate::kept_blocks::KeptBlocks;
@@ -24,7 +27,7 @@ use std::alloc::Global;
 use std::sync::Wait;
 use std::thread::Threads;
 use trace_text::{Op, Reply, Trace};
-use vdev_io::{Gate, IoFault, Pool};
+use vdev_io::{CacheDev, Gate, IoFault, Pool};
 
 /// Several callers between two groups.
 #[derive(Drop)]
@@ -106,14 +109,16 @@ fn group_end(ops: &[Op], from: usize) -> usize
     ops.len()
 }
 
-/// The callers do the lines of a group at once, each on its fork of the pool. The replies, in the order of the lines, come behind those so far.
-fn lines_at_once<R: Threads + Wait + Sync, C: Keeps + Send, P: Pool, G: Gate>(
+/// The callers do the lines of a group at once, each on its forks of the pool and of the cache device. The replies, in the order of the lines, come
+/// behind those so far.
+fn lines_at_once<R: Threads + Wait + Sync, C: Keeps + Send, P: Pool, D: CacheDev, G: Gate>(
     alloc: Global,
     rt: &R,
     arcs: &Arcs<C>,
     crew: Crew<C>,
     forks: Vec<P>,
     pool: &mut P,
+    device: &mut Device<D>,
     blocks: &[Ptr],
     ops: &[Op],
     first: u32,
@@ -126,7 +131,9 @@ fn lines_at_once<R: Threads + Wait + Sync, C: Keeps + Send, P: Pool, G: Gate>(
     requires callers { AreOfCallers (vec_len crew.parties) ops.now }
     requires few { first + length ops.now < 2 ^ 32 }
     ensures did { IfOk result (λ done. DidLinesAtOnce arcs.now P.Pool blocks.now ops.now pool.old pool.new crew done.0 done.1.items) }
+    ensures read { IfOk result (λ done. ReadAtOnce D.CacheDev blocks.now (vec_len crew.parties) (these ops.now done.1.items) (lent_in device.old) (lent_in device.new)) }
     ensures pool { LeavesPool P.Pool pool.old pool.new }
+    ensures device { WasLent D.CacheDev device.old device.new }
 {
     let Crew {
         feeder,
@@ -134,7 +141,7 @@ fn lines_at_once<R: Threads + Wait + Sync, C: Keeps + Send, P: Pool, G: Gate>(
         kept,
     } = crew;
     let worked = run_group(
-        alloc, rt, arcs, parties, kept, forks, pool, blocks, ops, first, gate,
+        alloc, rt, arcs, parties, kept, forks, pool, device, blocks, ops, first, gate,
     )?;
     let Worked {
         parties,
@@ -193,7 +200,7 @@ fn append(replies: &mut Vec<Reply>, more: Vec<Reply>) -> Result<(), NoMemory>
 
 /// Does the next group of a trace, whose lines before it are answered: its lines at once, and then the line that ends it. False where a fork of
 /// the pool failed: then none of it is begun.
-fn next_group<R: Threads + Wait + Sync, C: Keeps + Send, P: Pool, G: Gate>(
+fn next_group<R: Threads + Wait + Sync, C: Keeps + Send, P: Pool, D: CacheDev, G: Gate>(
     alloc: Global,
     rt: &R,
     arcs: &Arcs<C>,
@@ -201,6 +208,7 @@ fn next_group<R: Threads + Wait + Sync, C: Keeps + Send, P: Pool, G: Gate>(
     crew: Crew<C>,
     replies: &mut Vec<Reply>,
     pool: &mut P,
+    device: &mut Device<D>,
     gate: &G,
 ) -> Result<(Crew<C>, bool), NoMemory>
     requires formed { IsFormed trace.now }
@@ -210,7 +218,10 @@ fn next_group<R: Threads + Wait + Sync, C: Keeps + Send, P: Pool, G: Gate>(
     requires more { vec_len replies.old < length trace.now.ops }
     ensures steps { (start : P) (restored : List Restored) → AreBetween arcs.now restored P.Pool trace.now start pool.old replies.old.items crew
         → IfOk result (λ done. StepsOn arcs.now restored P.Pool trace.now start pool.old pool.new replies.old.items replies.new.items done.1 crew done.0) }
+    ensures read { (start : Option D) → HaveReadSoFar D.CacheDev trace.now replies.old.items start (lent_in device.old)
+        → IfOk result (λ done. HaveReadSoFar D.CacheDev trace.now replies.new.items start (lent_in device.new)) }
     ensures pool { LeavesPool P.Pool pool.old pool.new }
+    ensures device { WasLent D.CacheDev device.old device.new }
 {
     let blocks = trace.blocks.as_slice();
     let ops = trace.ops.as_slice();
@@ -228,6 +239,7 @@ fn next_group<R: Threads + Wait + Sync, C: Keeps + Send, P: Pool, G: Gate>(
         crew,
         forks,
         pool,
+        device,
         blocks,
         &ops[first..to],
         first as u32,
@@ -243,13 +255,14 @@ fn next_group<R: Threads + Wait + Sync, C: Keeps + Send, P: Pool, G: Gate>(
 }
 
 /// Does all groups of a trace, one after another, up to one for which a fork of the pool fails.
-pub(crate) fn all_groups<R: Threads + Wait + Sync, C: Keeps + Send, P: Pool, G: Gate>(
+pub(crate) fn all_groups<R: Threads + Wait + Sync, C: Keeps + Send, P: Pool, D: CacheDev, G: Gate>(
     alloc: Global,
     rt: &R,
     arcs: &Arcs<C>,
     trace: &Trace,
     crew: Crew<C>,
     pool: &mut P,
+    device: &mut Device<D>,
     gate: &G,
 ) -> Result<Came<C>, NoMemory>
     requires formed { IsFormed trace.now }
@@ -257,12 +270,24 @@ pub(crate) fn all_groups<R: Threads + Wait + Sync, C: Keeps + Send, P: Pool, G: 
     requires rows { arcs.now.row.parties ≡ parties_of arcs.now.config }
     requires between { (restored : List Restored) × AreBetween arcs.now restored P.Pool trace.now pool.old pool.old [] crew }
     ensures stopped { (restored : List Restored) → AreBetween arcs.now restored P.Pool trace.now pool.old pool.old [] crew → IfOk result (λ came. AreDone arcs.now restored P.Pool trace.now pool.old pool.new came.fork_failed came.replies.items came.crew) }
+    ensures read { IfOk result (λ came. HaveReadSoFar D.CacheDev trace.now came.replies.items (lent_in device.old) (lent_in device.new)) }
     ensures pool { LeavesPool P.Pool pool.old pool.new }
+    ensures device { WasLent D.CacheDev device.old device.new }
 {
     let mut crew = crew;
     let mut replies = Vec::new(alloc);
     while replies.len() < trace.ops.as_slice().len() {
-        let (after, done) = next_group(alloc, rt, arcs, trace, crew, &mut replies, pool, gate)?;
+        let (after, done) = next_group(
+            alloc,
+            rt,
+            arcs,
+            trace,
+            crew,
+            &mut replies,
+            pool,
+            device,
+            gate,
+        )?;
         crew = after;
         if !done {
             return Ok(Came {

@@ -6,6 +6,7 @@ mod bounded;
 mod cells;
 mod check;
 mod device;
+mod device_forks;
 mod ending;
 mod get;
 mod group;

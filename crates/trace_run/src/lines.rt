@@ -6,6 +6,7 @@ ghost use Rattle.trace_run.specs.Acts.{acts_of_hold, acts_of_read};
 ghost use Rattle.trace_run.specs.Answering.{KeepsImage, ReadsImage};
 ghost use Rattle.trace_run.specs.Answers.{AnswersDrop, AnswersHold, AnswersRead, IsInside, window_of};
 ghost use Rattle.trace_run.specs.callers.CallerLines.{DidLine, DidLines, at};
+ghost use Rattle.trace_run.specs.DeviceReads.{AsksFor, LineAsks, LinesAsk};
 ghost use Rattle.trace_run.specs.Effects.{calls_of, effect_of};
 ghost use Rattle.trace_run.specs.KeptBlocks.{Drops, Stands, read_of};
 ghost use Rattle.trace_run.specs.Lines.{caller_of, is_of_caller};
@@ -73,6 +74,7 @@ fn hold_line<C: Keeps, P: Pool, D: CacheDev>(
     ensures calls { IfOk result (λ reply. MakesCalls P.Pool (calls_of (effect_of reply)) pool.old pool.new) }
     ensures pool { KeepsPool P.Pool pool.old pool.new }
     ensures device { D.size device.new ≡ D.size device.old }
+    ensures asked { IfOk result (λ reply. AsksFor D.CacheDev ptr.now.key.size (effect_of reply) device.old device.new) }
 {
     match get(rt, arcs, party, pool, device, ptr, block, t) {
         Ok(Got { served, read }) => {
@@ -107,6 +109,7 @@ fn read_line<C: Keeps, P: Pool, D: CacheDev>(
     ensures calls { IfOk result (λ reply. MakesCalls P.Pool (calls_of (effect_of reply)) pool.old pool.new) }
     ensures pool { KeepsPool P.Pool pool.old pool.new }
     ensures device { D.size device.new ≡ D.size device.old }
+    ensures asked { IfOk result (λ reply. AsksFor D.CacheDev ptr.now.key.size (effect_of reply) device.old device.new) }
 {
     let end = u64::from(window.at) + u64::from(window.len);
     let size = ptr.key.size;
@@ -171,6 +174,7 @@ pub(crate) fn line<C: Keeps, P: Pool, D: CacheDev>(
         (at party.old (map read_of kept.old) pool.old) (at party.new (map read_of kept.new) pool.new)) }
     ensures pool { KeepsPool P.Pool pool.old pool.new }
     ensures device { D.size device.new ≡ D.size device.old }
+    ensures asked { IfOk result (λ reply. LineAsks D.CacheDev blocks.now op.now reply device.old device.new) }
 {
     match *op {
         Op::Read { t, x, w, .. } => {
@@ -239,6 +243,7 @@ pub(crate) fn all_lines<C: Keeps, P: Pool, D: CacheDev, G: Gate>(
         (at party.old (map read_of kept.old) pool.old) (at party.new (map read_of kept.new) pool.new)) }
     ensures pool { KeepsPool P.Pool pool.old pool.new }
     ensures device { D.size device.new ≡ D.size device.old }
+    ensures asked { IfOk result (λ replies. LinesAsk D.CacheDev blocks.now (filter (is_of_caller party.old.number) ops.now) replies.items device.old device.new) }
 {
     let caller = party.number();
     let mut replies = Vec::new(alloc);

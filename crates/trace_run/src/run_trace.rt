@@ -1,16 +1,19 @@
 //! The run of a trace, and its report.
-ghost use Rattle.std.specs.Prelude.{◌≡◌, Bool, IfOk, false};
+ghost use Rattle.std.specs.Prelude.{◌≡◌, ◌≤◌, Bool, IfOk, false};
 ghost use Rattle.l2_dev.specs.Rebuilding.{HaveKeys};
 ghost use Rattle.trace_text.specs.Grammar.{IsFormed};
 ghost use Rattle.trace_run.specs.Outcome.{IsGenReport, IsRun};
 ghost use Rattle.trace_run.specs.CellEnds.{AreCellsOf};
+ghost use Rattle.trace_run.specs.Devices.{WasLent, lent_in};
+ghost use Rattle.trace_run.specs.callers.DeviceForks.{ReadInGroups};
 ghost use Rattle.trace_run.specs.callers.Group.{LeavesPool};
 ghost use Rattle.trace_run.specs.Restores.{restored_of};
-ghost use Rattle.trace_run.specs.callers.Together.{report_status};
+ghost use Rattle.trace_run.specs.callers.Together.{groups_of, report_status};
 ghost use Rattle.trace_run.specs.Words.{IsInRange};
 ghost use Rattle.trace_run.specs.declared.words.Command.TheVariants as command;
 
 use crate::alone::run_alone;
+use crate::device::Device;
 use crate::ran::Reported;
 use crate::together::run_together;
 use crate::zero_pool::ZeroPool;
@@ -20,7 +23,7 @@ use std::alloc::Global;
 use std::sync::Wait;
 use std::thread::Threads;
 use trace_text::{Rebuilt, Trace, gen_trace};
-use vdev_io::{Gate, Pool};
+use vdev_io::{CacheDev, Gate, NoCache, Pool};
 
 /// The keys that were found on the cache device.
 fn restored_of(rebuilt: &Option<Rebuilt>) -> &[Restored]
@@ -32,14 +35,15 @@ fn restored_of(rebuilt: &Option<Rebuilt>) -> &[Restored]
     }
 }
 
-/// Runs a trace and reports on it: one caller's on the pool that is handed in, and several callers' each on a fork of it. This was found on the
-/// cache device.
-pub(crate) fn run_trace<R: Threads + Wait + Sync, P: Pool, G: Gate>(
+/// Runs a trace and reports on it: one caller's on the pool that is handed in, and several callers' each on a fork of it and one of the cache device.
+/// This was found on that device.
+pub(crate) fn run_trace<R: Threads + Wait + Sync, P: Pool, D: CacheDev, G: Gate>(
     alloc: Global,
     rt: &R,
     trace: &Trace,
     rebuilt: Option<Rebuilt>,
     pool: &mut P,
+    device: &mut Device<D>,
     gate: &G,
 ) -> Result<Reported, NoMemory>
     requires formed { IsFormed trace.now }
@@ -49,12 +53,16 @@ pub(crate) fn run_trace<R: Threads + Wait + Sync, P: Pool, G: Gate>(
     ensures cells { IfOk result (λ told. AreCellsOf trace.now told.closed) }
     ensures rebuilt { IfOk result (λ told. told.report.rebuilt ≡ rebuilt) }
     ensures whole { IfOk result (λ told. told.report.short ≡ false) }
+    ensures alone { trace.now.config.callers ≡ 1 → device.new ≡ device.old }
+    ensures together { IfOk result (λ told. 2 ≤ trace.now.config.callers
+        → ReadInGroups D.CacheDev trace.now.blocks trace.now.config.callers (groups_of trace.now.ops told.report.replies) (lent_in device.old) (lent_in device.new)) }
     ensures pool { LeavesPool P.Pool pool.old pool.new }
+    ensures device { WasLent D.CacheDev device.old device.new }
 {
     let ran = if trace.config.callers == 1 {
         run_alone(alloc, rt, trace, restored_of(&rebuilt), pool, gate)?
     } else {
-        run_together(alloc, rt, trace, restored_of(&rebuilt), pool, gate)?
+        run_together(alloc, rt, trace, restored_of(&rebuilt), pool, device, gate)?
     };
     let reported = ran.report(alloc, rebuilt)?;
     Ok(reported)
@@ -74,7 +82,8 @@ pub(crate) fn run_generated_trace<R: Threads + Wait + Sync, G: Gate>(
 {
     let trace = gen_trace(alloc, seed, blocks, ops)?;
     let mut pool = ZeroPool::new(u64::from(blocks) * SECTOR);
-    let mut reported = run_trace(alloc, rt, &trace, None, &mut pool, gate)?;
+    let mut device = Device::<NoCache>::None;
+    let mut reported = run_trace(alloc, rt, &trace, None, &mut pool, &mut device, gate)?;
     reported.report.short = true;
     Ok(reported)
 }

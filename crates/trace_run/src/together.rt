@@ -8,6 +8,9 @@ ghost use Rattle.arc_table.specs.declared.view.Line.{Line};
 ghost use Rattle.l2_dev.specs.Rebuilding.{HaveKeys};
 ghost use Rattle.trace_text.specs.Grammar.{IsFormed};
 ghost use Rattle.trace_run.specs.CellEnds.{AreCellsOf};
+ghost use Rattle.trace_run.specs.Devices.{WasLent, lent_in};
+ghost use Rattle.trace_run.specs.callers.DeviceForks.{ReadInGroups};
+ghost use Rattle.trace_run.specs.callers.Together.{groups_of};
 ghost use Rattle.trace_run.specs.callers.Group.{LeavesPool};
 ghost use Rattle.trace_run.specs.callers.GroupRun.{HaveClosed, HaveStopped, RanTogether};
 ghost use Rattle.trace_run.specs.Meeting.{AreWaiting, IsFed, MadeJoined, MayGoOn};
@@ -15,6 +18,7 @@ ghost use Rattle.trace_run.specs.Opened.{meanings_of};
 ghost use Rattle.trace_run.specs.Restores.{restores_in};
 
 use crate::cells::end_crew;
+use crate::device::Device;
 use crate::ending::all_give_back;
 use crate::groups::{Came, Crew, all_groups, crew_of};
 use crate::opening::open_cache;
@@ -28,7 +32,7 @@ use std::alloc::Global;
 use std::sync::Wait;
 use std::thread::Threads;
 use trace_text::Trace;
-use vdev_io::{Gate, Pool};
+use vdev_io::{CacheDev, Gate, Pool};
 
 /// Closes the cache of a run, once each party has given all back.
 fn close_run(arcs: Cells, parties: Vec<Party<HeapCell>>) -> Result<Closed<HeapCell>, NoMemory>
@@ -88,21 +92,24 @@ fn restore_crew<C: Keeps>(
     })
 }
 
-/// Runs a trace of several callers, group by group, each on its own fork of the pool, once these keys are restored. Where a fork fails, no
+/// Runs a trace of several callers, group by group, each on its own forks of the pool and of the cache device, once these keys are restored. Where a fork fails, no
 /// operation of its group and none behind it is answered.
-pub(crate) fn run_together<R: Threads + Wait + Sync, P: Pool, G: Gate>(
+pub(crate) fn run_together<R: Threads + Wait + Sync, P: Pool, D: CacheDev, G: Gate>(
     alloc: Global,
     rt: &R,
     trace: &Trace,
     restored: &[Restored],
     pool: &mut P,
+    device: &mut Device<D>,
     gate: &G,
 ) -> Result<Ran, NoMemory>
     requires formed { IsFormed trace.now }
     requires keys { HaveKeys restored.now }
     ensures ran { IfOk result (λ ran. RanTogether P.Pool pool.old pool.new trace.now ran.fork_failed restored.now ran.replies.items ran.closed) }
     ensures cells { IfOk result (λ ran. AreCellsOf trace.now ran.closed) }
+    ensures read { IfOk result (λ ran. ReadInGroups D.CacheDev trace.now.blocks trace.now.config.callers (groups_of trace.now.ops ran.replies.items) (lent_in device.old) (lent_in device.new)) }
     ensures pool { LeavesPool P.Pool pool.old pool.new }
+    ensures device { WasLent D.CacheDev device.old device.new }
 {
     let (arcs, parties) = open_cache(alloc, trace)?;
     let crew = crew_of(alloc, parties)?;
@@ -111,7 +118,7 @@ pub(crate) fn run_together<R: Threads + Wait + Sync, P: Pool, G: Gate>(
         crew,
         replies,
         fork_failed,
-    } = all_groups(alloc, rt, &arcs, trace, crew, pool, gate)?;
+    } = all_groups(alloc, rt, &arcs, trace, crew, pool, device, gate)?;
     let closed = close_crew(alloc, rt, arcs, crew)?;
     Ok(Ran {
         replies,

@@ -105,7 +105,8 @@ fn run_source<R: Threads + Wait + Sync, S: Source, K: Sink, P: Pool, D: CacheDev
         Ok(begun) => begun,
         Err(NoMemory) => return untold(Status::NoMemory),
     };
-    let ran = run_trace(alloc, rt, &trace, rebuilt, pool, gate);
+    let mut device = device;
+    let ran = run_trace(alloc, rt, &trace, rebuilt, pool, &mut device, gate);
     *cache = device.back();
     // Its memory serves the report's text.
     drop(trace);

@@ -8,6 +8,7 @@ use mathlib.Core.Option.{some, some-injective, some-ne-none}
 use lib.ListN.{get_elem?}
 use Rattle.blk_ptr.specs.declared.memory.NoMemory.{NoMemory}
 use Rattle.blk_ptr.specs.declared.ptr.Ptr.{Ptr}
+use Rattle.vdev_io.specs.declared.device.CacheDev.{Ghosts as DeviceGhosts}
 use Rattle.vdev_io.specs.declared.pool.Pool.{Ghosts}
 use Rattle.arc_core.specs.declared.config.Config.{Config}
 use Rattle.turn_table.specs.Places.{Place}
@@ -20,6 +21,8 @@ use Rattle.trace_run.specs.declared.group.Caller.{Caller}
 use Rattle.trace_run.specs.declared.kept_blocks.KeptBlock.{KeptBlock}
 use Rattle.trace_run.specs.callers.CallerLines.{At, DidLines, at}
 use Rattle.trace_run.specs.callers.Callers.{AbsorbsAll, AllReplied, AreAtStart, AreEnlisted, HasDone, HasTried, HaveComeBack, IsReady, Replied}
+use Rattle.trace_run.specs.DeviceReads.{AsksGiven}
+use Rattle.trace_run.specs.callers.DeviceForks.{AllAsk, HasAsked}
 use Rattle.trace_run.specs.callers.Group.{HasWorked, HaveWorked, IsFork}
 use Rattle.trace_run.specs.KeptBlocks.{Stands, read_of}
 use Rattle.trace_run.specs.Lines.{caller_of, is_of_caller}
@@ -77,9 +80,9 @@ answers-length len image blocks kept [] (r ∷ rs) answers = absurd answers
 answers-length len image blocks kept (o ∷ os) [] answers = absurd answers
 answers-length len image blocks kept (o ∷ os) (r ∷ rs) answers = ap suc (answers-length len image blocks (kept_after blocks o r kept) os rs answers.1)
 
-module _ {C P : Type 0} (cache : Cache) (pools : Ghosts P) (blocks : List Ptr) (ops : List Op) where
+module _ {C P D : Type 0} (cache : Cache) (pools : Ghosts P) (blocks : List Ptr) (ops : List Op) where
   -- what the lines come to
-  pub lines-done : (n device : ℕ) (old new : Caller C P) (rs : List Reply) → IsReady cache blocks old → old.party.number ≡ n → Stands cache new.party new.kept
+  pub lines-done : (n device : ℕ) (old new : Caller C P D) (rs : List Reply) → IsReady cache blocks old → old.party.number ≡ n → Stands cache new.party new.kept
       → DidLines cache.config pools device blocks (filter (is_of_caller n) ops) rs (at old.party (map read_of old.kept) old.pool) (at new.party (map read_of new.kept) new.pool)
       → HasDone cache pools blocks ops n old new rs
   lines-done n device old new rs ready his stands did =
@@ -97,20 +100,20 @@ module _ {C P : Type 0} (cache : Cache) (pools : Ghosts P) (blocks : List Ptr) (
         calls = lines-calls g pools device blocks os rs a b did;
       }
 
-  -- and of one whose lines are tried, where memory may be short
-  pub lines-tried : (device : ℕ) (old new : Caller C P) → IsReady cache blocks old → IfOk new.replies (λ replies. Stands cache new.party new.kept)
-      → IfOk new.replies (λ replies. DidLines cache.config pools device blocks (filter (is_of_caller old.party.number) ops) replies.items (at old.party (map read_of old.kept) old.pool) (at new.party (map read_of new.kept) new.pool))
+  -- and of one whose lines are tried, where memory may be short, over a device of some length
+  pub lines-tried : (old new : Caller C P D) → IsReady cache blocks old → IfOk new.replies (λ replies. Stands cache new.party new.kept)
+      → IfOk new.replies (λ replies. (size : ℕ) × DidLines cache.config pools size blocks (filter (is_of_caller old.party.number) ops) replies.items (at old.party (map read_of old.kept) old.pool) (at new.party (map read_of new.kept) new.pool))
       → HasTried cache pools blocks ops old new
-  lines-tried device old new ready stands did = record { done = both new.replies stands did }
+  lines-tried old new ready stands did = record { done = both new.replies stands did }
     where
       both : (r : Result (Vec Reply Global) NoMemory) → IfOk r (λ replies. Stands cache new.party new.kept)
-          → IfOk r (λ replies. DidLines cache.config pools device blocks (filter (is_of_caller old.party.number) ops) replies.items (at old.party (map read_of old.kept) old.pool) (at new.party (map read_of new.kept) new.pool))
+          → IfOk r (λ replies. (size : ℕ) × DidLines cache.config pools size blocks (filter (is_of_caller old.party.number) ops) replies.items (at old.party (map read_of old.kept) old.pool) (at new.party (map read_of new.kept) new.pool))
           → IfOk r (λ replies. HasDone cache pools blocks ops old.party.number old new replies.items)
-      both (Ok v) stood done = lines-done old.party.number device old new v.items ready refl stood done
+      both (Ok v) stood done = lines-done old.party.number done.0 old new v.items ready refl stood done.1
       both (Err e) stood done = tt
 
   -- a caller that tried, and was answered so, has worked
-  pub worked-of : (old new : Caller C P) (rs : List Reply) (n : ℕ) → old.party.number ≡ n → HasTried cache pools blocks ops old new → Replied new rs
+  pub worked-of : (old new : Caller C P D) (rs : List Reply) (n : ℕ) → old.party.number ≡ n → HasTried cache pools blocks ops old new → Replied new rs
       → HasWorked cache pools blocks ops n old.pool new.pool rs old.kept old.party new.kept new.party
   worked-of old new rs n his tried replied =
       let there : HasDone cache pools blocks ops old.party.number old new replied.all.items =
@@ -126,17 +129,17 @@ module _ {C P : Type 0} (cache : Cache) (pools : Ghosts P) (blocks : List Ptr) (
   -- ---- all callers
 
   -- callers before their lines, by their numbers from this one on
-  abbrev AllStart : P → (n : ℕ) → List (Caller C P) → Type 0
+  abbrev AllStart : P → (n : ℕ) → List (Caller C P D) → Type 0
   AllStart pool n [] = Unit {0}
   AllStart pool n (caller ∷ callers) = (caller.party.number ≡ n) × IsReady cache blocks caller × IsFork pools pool caller.pool × AllStart pool (suc n) callers
 
   -- what callers that were made of these parties, reads and forks are
-  record Enlisted (pool : P) (n : ℕ) (ps : List (Place (Known C))) (ks : List (List KeptBlock)) (callers : List (Caller C P)) : Type 0 where
+  record Enlisted (pool : P) (n : ℕ) (ps : List (Place (Known C))) (ks : List (List KeptBlock)) (callers : List (Caller C P D)) : Type 0 where
     pub start : AllStart pool n callers
     pub parties : map (λ caller. caller.party) callers ≡ ps
     pub keeps : map (λ caller. caller.kept) callers ≡ ks
 
-  enlisted-start : (pool : P) (n : ℕ) (ps : List (Place (Known C))) (ks : List (List KeptBlock)) (forks : List P) (callers : List (Caller C P)) → AreAtStart cache blocks n ks ps → AllByRecursion (IsFork pools pool) forks → AreEnlisted ps ks forks callers
+  enlisted-start : (pool : P) (n : ℕ) (ps : List (Place (Known C))) (ks : List (List KeptBlock)) (forks : List P) (callers : List (Caller C P D)) → AreAtStart cache blocks n ks ps → AllByRecursion (IsFork pools pool) forks → AreEnlisted ps ks forks callers
       → Enlisted pool n ps ks callers
   enlisted-start pool n [] [] [] [] start fresh made = record { start = tt; parties = refl; keeps = refl }
   enlisted-start pool n [] [] [] (caller ∷ callers) start fresh made = absurd made
@@ -166,47 +169,47 @@ module _ {C P : Type 0} (cache : Cache) (pools : Ghosts P) (blocks : List Ptr) (
         keeps = λ i. one.keeps i ∷ rest.keeps i;
       }
 
-  starts-ready : (pool : P) (n : ℕ) (callers : List (Caller C P)) → AllStart pool n callers → AllByRecursion (IsReady cache blocks) callers
+  starts-ready : (pool : P) (n : ℕ) (callers : List (Caller C P D)) → AllStart pool n callers → AllByRecursion (IsReady cache blocks) callers
   starts-ready pool n [] start = tt
   starts-ready pool n (caller ∷ callers) start = (start.1, starts-ready pool (suc n) callers start.3)
 
   -- callers that were made of these parties, reads and forks may begin
-  pub enlisted-ready : (pool : P) (ps : List (Place (Known C))) (ks : List (List KeptBlock)) (forks : List P) (callers : List (Caller C P)) → AreAtStart cache blocks 0 ks ps → AllByRecursion (IsFork pools pool) forks → AreEnlisted ps ks forks callers
+  pub enlisted-ready : (pool : P) (ps : List (Place (Known C))) (ks : List (List KeptBlock)) (forks : List P) (callers : List (Caller C P D)) → AreAtStart cache blocks 0 ks ps → AllByRecursion (IsFork pools pool) forks → AreEnlisted ps ks forks callers
       → AllByRecursion (IsReady cache blocks) callers
   enlisted-ready pool ps ks forks callers start fresh made = starts-ready pool 0 callers (enlisted-start pool 0 ps ks forks callers start fresh made).start
 
-  replied-length : (news : List (Caller C P)) (rss : List (List Reply)) → AllReplied news rss → length rss ≡ length news
+  replied-length : (news : List (Caller C P D)) (rss : List (List Reply)) → AllReplied news rss → length rss ≡ length news
   replied-length [] [] replied = refl
   replied-length [] (rs ∷ rss) replied = absurd replied
   replied-length (new ∷ news) [] replied = absurd replied
   replied-length (new ∷ news) (rs ∷ rss) replied = ap suc (replied-length news rss replied.1)
 
-  tried-length : (olds news : List (Caller C P)) → AllZip (HasTried cache pools blocks ops) olds news → length news ≡ length olds
+  tried-length : (olds news : List (Caller C P D)) → AllZip (HasTried cache pools blocks ops) olds news → length news ≡ length olds
   tried-length [] [] tried = refl
   tried-length [] (new ∷ news) tried = absurd tried
   tried-length (old ∷ olds) [] tried = absurd tried
   tried-length (old ∷ olds) (new ∷ news) tried = ap suc (tried-length olds news tried.1)
 
-  abbrev pool_of : Caller C P → P
+  abbrev pool_of : Caller C P D → P
   pool_of caller = caller.pool
 
   -- the work of one of these callers, by its place
-  record WorkedHere (m k : ℕ) (fork done : P) (rss : List (List Reply)) (olds news : List (Caller C P)) : Type 0 where
+  record WorkedHere (m k : ℕ) (fork done : P) (rss : List (List Reply)) (olds news : List (Caller C P D)) : Type 0 where
     pub own : List Reply
     pub own_at : get_elem? rss k ≡ some own
-    pub old : Caller C P
+    pub old : Caller C P D
     pub before : get_elem? olds k ≡ some old
-    pub new : Caller C P
+    pub new : Caller C P D
     pub after : get_elem? news k ≡ some new
     pub worked : HasWorked cache pools blocks ops m fork done own old.kept old.party new.kept new.party
 
-  starts-fork : (pool : P) (n : ℕ) (olds : List (Caller C P)) → AllStart pool n olds → (k : ℕ) → k < length olds → IsFork pools pool (get_or (map pool_of olds) k pool)
+  starts-fork : (pool : P) (n : ℕ) (olds : List (Caller C P D)) → AllStart pool n olds → (k : ℕ) → k < length olds → IsFork pools pool (get_or (map pool_of olds) k pool)
   starts-fork pool n [] start k lt = absurd (omega arith)
   starts-fork pool n (old ∷ olds) start zero lt = start.2
   starts-fork pool n (old ∷ olds) start (suc k) lt = starts-fork pool (suc n) olds start.3 k (omega arith)
 
   -- what the caller of each number has done
-  worked-each : (pool : P) (n : ℕ) (olds news : List (Caller C P)) (rss : List (List Reply)) → AllStart pool n olds → AllZip (HasTried cache pools blocks ops) olds news
+  worked-each : (pool : P) (n : ℕ) (olds news : List (Caller C P D)) (rss : List (List Reply)) → AllStart pool n olds → AllZip (HasTried cache pools blocks ops) olds news
       → AllReplied news rss → (k m : ℕ) → m ≡ n + k → k < length olds
       → WorkedHere m k (get_or (map pool_of olds) k pool) (get_or (map pool_of news) k pool) rss olds news
   worked-each pool n [] news rss start tried replied k m is lt = absurd (omega arith)
@@ -225,12 +228,33 @@ module _ {C P : Type 0} (cache : Cache) (pools : Ghosts P) (blocks : List Ptr) (
       let h = worked-each pool (suc n) olds news rss start.3 tried.1 replied.1 k m (omega arith) (omega arith) in
       record { own = h.own; own_at = h.own_at; old = h.old; before = h.before; new = h.new; after = h.after; worked = h.worked }
 
-  pub have-worked : (old new : P) (ps : List (Place (Known C))) (ks : List (List KeptBlock)) (forks : List P) (olds news : List (Caller C P)) (rss : List (List Reply)) (kept : List (List KeptBlock)) (qs : List (Place (Known C)))
+  -- what each asked its fork of the device
+  asked-each : (devices : DeviceGhosts D) (pool : P) (n : ℕ) (olds news : List (Caller C P D)) (rss : List (List Reply)) → AllStart pool n olds → AllZip (HasAsked devices blocks ops) olds news → AllReplied news rss
+      → AllAsk devices blocks ops n (map (λ caller. caller.device) olds) (map (λ caller. caller.device) news) rss
+  asked-each devices pool n [] [] [] start asked replied = tt
+  asked-each devices pool n [] [] (rs ∷ rss) start asked replied = absurd replied
+  asked-each devices pool n [] (new ∷ news) rss start asked replied = absurd asked
+  asked-each devices pool n (old ∷ olds) [] rss start asked replied = absurd asked
+  asked-each devices pool n (old ∷ olds) (new ∷ news) [] start asked replied = absurd replied
+  asked-each devices pool n (old ∷ olds) (new ∷ news) (rs ∷ rss) start asked replied =
+      let here : AsksGiven devices blocks (filter (is_of_caller old.party.number) ops) replied.0.all.items old.device new.device =
+      subst (λ (r : Result (Vec Reply Global) NoMemory). IfOk r (λ replies. AsksGiven devices blocks (filter (is_of_caller old.party.number) ops) replies.items old.device new.device)) replied.0.replied asked.0.asked in (
+        subst (λ (x : ℕ × List Reply). AsksGiven devices blocks (filter (is_of_caller x.0) ops) x.1 old.device new.device) (λ i. (start.0 i, replied.0.replies_are i)) here,
+        asked-each devices pool (suc n) olds news rss start.3 asked.1 replied.1,
+      )
+
+  -- what all of a group asked
+  pub have-asked : (devices : DeviceGhosts D) (pool : P) (ps : List (Place (Known C))) (ks : List (List KeptBlock)) (forks : List P) (olds news : List (Caller C P D)) (rss : List (List Reply)) → AreAtStart cache blocks 0 ks ps
+      → AllByRecursion (IsFork pools pool) forks → AreEnlisted ps ks forks olds → AllZip (HasAsked devices blocks ops) olds news → AllReplied news rss
+      → AllAsk devices blocks ops 0 (map (λ caller. caller.device) olds) (map (λ caller. caller.device) news) rss
+  have-asked devices pool ps ks forks olds news rss start fresh made asked replied = asked-each devices pool 0 olds news rss (enlisted-start pool 0 ps ks forks olds start fresh made).start asked replied
+
+  pub have-worked : (old new : P) (ps : List (Place (Known C))) (ks : List (List KeptBlock)) (forks : List P) (olds news : List (Caller C P D)) (rss : List (List Reply)) (kept : List (List KeptBlock)) (qs : List (Place (Known C)))
       → AreAtStart cache blocks 0 ks ps → AllByRecursion (IsFork pools old) forks → AreEnlisted ps ks forks olds → AllZip (HasTried cache pools blocks ops) olds news
       → AbsorbsAll pools (map pool_of news) old new → HaveComeBack news rss qs kept → HaveWorked cache pools blocks ops (length ps) old new rss ks ps kept qs
   have-worked old new ps ks forks olds news rss kept qs start fresh made tried absorbs came =
       let begun = enlisted-start old 0 ps ks forks olds start fresh made in
-      let many : length olds ≡ length ps = sym (length-map olds (λ (caller : Caller C P). caller.party)) ∙ ap length begun.parties in
+      let many : length olds ≡ length ps = sym (length-map olds (λ (caller : Caller C P D). caller.party)) ∙ ap length begun.parties in
       let same : length news ≡ length olds = tried-length olds news tried in
       let dones : List P = map pool_of news in
       let long : length dones ≡ length ps = length-map news pool_of ∙ (same ∙ many) in
@@ -251,14 +275,14 @@ module _ {C P : Type 0} (cache : Cache) (pools : Ghosts P) (blocks : List Ptr) (
               old = h.old.kept;
               from = h.old.party;
               before = record {
-                kept_at = ap (λ (l : List (List KeptBlock)). get_elem? l n) (sym begun.keeps) ∙ map-at (λ (caller : Caller C P). caller.kept) olds n h.old h.before;
-                party_at = ap (λ (l : List (Place (Known C))). get_elem? l n) (sym begun.parties) ∙ map-at (λ (caller : Caller C P). caller.party) olds n h.old h.before;
+                kept_at = ap (λ (l : List (List KeptBlock)). get_elem? l n) (sym begun.keeps) ∙ map-at (λ (caller : Caller C P D). caller.kept) olds n h.old h.before;
+                party_at = ap (λ (l : List (Place (Known C))). get_elem? l n) (sym begun.parties) ∙ map-at (λ (caller : Caller C P D). caller.party) olds n h.old h.before;
               };
               new = h.new.kept;
               to = h.new.party;
               after = record {
-                kept_at = ap (λ (l : List (List KeptBlock)). get_elem? l n) came.keeps ∙ map-at (λ (caller : Caller C P). caller.kept) news n h.new h.after;
-                party_at = ap (λ (l : List (Place (Known C))). get_elem? l n) came.parties ∙ map-at (λ (caller : Caller C P). caller.party) news n h.new h.after;
+                kept_at = ap (λ (l : List (List KeptBlock)). get_elem? l n) came.keeps ∙ map-at (λ (caller : Caller C P D). caller.kept) news n h.new h.after;
+                party_at = ap (λ (l : List (Place (Known C))). get_elem? l n) came.parties ∙ map-at (λ (caller : Caller C P D). caller.party) news n h.new h.after;
               };
               worked = h.worked;
             };

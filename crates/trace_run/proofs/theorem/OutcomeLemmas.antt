@@ -2,16 +2,13 @@
 use Rattle.std.proofs.Common.{◌≡◌, ℕ, List, false, Option, Some, None, is_some, IfSome, sym, subst, arith}
 use Rattle.arc_table.specs.Ended.{Ended}
 use Rattle.dbuf_cells.specs.Turns.{OnHeap}
-use Rattle.l2_dev.proofs.Walks.{not_read}
 use Rattle.vdev_io.specs.declared.pool.Pool.{Ghosts}
 use Rattle.std.proofs.lemmas.Bool.{false≢true}
 use Rattle.trace_text.specs.declared.report.Report.{Report}
 use Rattle.trace_run.specs.declared.status.Status.{Status}
 use Rattle.trace_run.specs.declared.status.Status.TheVariants as statuses
 use Rattle.trace_run.specs.declared.words.Command.{Command}
-use Rattle.trace_text.specs.declared.rebuilt.Rebuilt.{Rebuilt}
 use Rattle.vdev_io.specs.declared.device.CacheDev.{Ghosts as Devices}
-use Rattle.trace_run.specs.Devices.{Finds, MayLose}
 use Rattle.trace_run.specs.Outcome.{AnswersSink, AnswersWords, IfReported, IfUsage, IsDelivered, IsGenStatus, IsReport, has_report}
 use Rattle.trace_run.specs.States.{Handed, StreamState}
 use Rattle.trace_run.specs.Words.{IsCommand}
@@ -48,19 +45,6 @@ gen-status before after (statuses.Usage index) report which present zero_is sink
 gen-status before after (statuses.BadTrace line kind) report which present zero_is sink = which
 gen-status before after statuses.SourceFault report which present zero_is sink = which
 gen-status before after (statuses.Illegal shard index) report which present zero_is sink = which
-
--- a device that was found, and is handed back, is not lost
-pub found-kept : {D : Type 0} (device : Devices D) (before after : Option D) (rebuilt : Option Rebuilt) → Finds device before after rebuilt → MayLose device before after
-found-kept device None None rebuilt is = tt
-found-kept device None (Some a) rebuilt is = cc
-found-kept device (Some b) None rebuilt is = tt
-found-kept device (Some b) (Some a) None is = absurd is
-found-kept device (Some b) (Some a) (Some rebuilt) is = is.only
-
--- one that isn't touched is none that is lost
-pub nothing-lost : {D : Type 0} (device : Devices D) (cache : Option D) → MayLose device cache cache
-nothing-lost device None = tt
-nothing-lost device (Some d) = not_read device.size device.told device.has_sectors device.may_leave device.moment device.left_since device.faults d
 
 -- the report of a run is there as it was made, or there is none
 pub reported-so : {P D : Type 0} (pool : Ghosts P) (device : Devices D) (before after : Handed P D) (made : Report) (end : Ended OnHeap) (report : Option Report) (closed : Option (Ended OnHeap))

@@ -53,21 +53,21 @@ module _ {C : Type 0} where
   AreAtStart cache blocks n (k ∷ ks) (p ∷ ps) = IsAtStart cache blocks n k p × AreAtStart cache blocks (suc n) ks ps
   AreAtStart cache blocks n _ _ = ⊥
 
-module _ {C P : Type 0} where
+module _ {C P D : Type 0} where
   -- a caller was made of this party, these reads and this fork
-  pub record IsEnlisted (p : Place (Known C)) (kept : List KeptBlock) (fork : P) (caller : Caller C P) : Type 0 where
+  pub record IsEnlisted (p : Place (Known C)) (kept : List KeptBlock) (fork : P) (caller : Caller C P D) : Type 0 where
     pub party : caller.party ≡ p
     pub keeps : caller.kept ≡ kept
     pub pool : caller.pool ≡ fork
 
   -- these callers were made of these parties, reads and forks
-  abbrev pub AreEnlisted : List (Place (Known C)) → List (List KeptBlock) → List P → List (Caller C P) → Type 0
+  abbrev pub AreEnlisted : List (Place (Known C)) → List (List KeptBlock) → List P → List (Caller C P D) → Type 0
   AreEnlisted [] [] [] [] = Unit {0}
   AreEnlisted (p ∷ ps) (k ∷ ks) (fork ∷ forks) (caller ∷ callers) = IsEnlisted p k fork caller × AreEnlisted ps ks forks callers
   AreEnlisted _ _ _ _ = ⊥
 
   -- a caller that may begin
-  pub record IsReady (cache : Cache) (blocks : List Ptr) (caller : Caller C P) : Type 0 where
+  pub record IsReady (cache : Cache) (blocks : List Ptr) (caller : Caller C P D) : Type 0 where
     pub alone : caller.party.joined ≡ []
     pub stands : Stands cache caller.party caller.kept
     pub named : AreNamed blocks (map read_of caller.kept)
@@ -75,7 +75,7 @@ module _ {C P : Type 0} where
   -- ---- after the lines
 
   -- A caller has done its lines, which were answered so, and keeps what they say. Before them it was as this one, with the number n.
-  pub record HasDone (cache : Cache) (pools : Ghosts P) (blocks : List Ptr) (ops : List Op) (n : ℕ) (old new : Caller C P) (replies : List Reply) : Type 0 where
+  pub record HasDone (cache : Cache) (pools : Ghosts P) (blocks : List Ptr) (ops : List Op) (n : ℕ) (old new : Caller C P D) (replies : List Reply) : Type 0 where
     pub number : new.party.number ≡ n
     pub alone : new.party.joined ≡ []
     pub stands : Stands cache new.party new.kept
@@ -85,22 +85,22 @@ module _ {C P : Type 0} where
     pub calls : MakesCalls pools (calls_of_all replies) old.pool new.pool
 
   -- so it was, where memory was enough
-  pub record HasTried (cache : Cache) (pools : Ghosts P) (blocks : List Ptr) (ops : List Op) (old new : Caller C P) : Type 0 where
+  pub record HasTried (cache : Cache) (pools : Ghosts P) (blocks : List Ptr) (ops : List Op) (old new : Caller C P D) : Type 0 where
     pub done : IfOk new.replies (λ replies. HasDone cache pools blocks ops old.party.number old new replies.items)
 
   -- its lines were answered so
-  pub record Replied (caller : Caller C P) (replies : List Reply) : Type 0 where
+  pub record Replied (caller : Caller C P D) (replies : List Reply) : Type 0 where
     pub all : Vec Reply Global
     pub replied : caller.replies ≡ Ok all
     pub replies_are : all.items ≡ replies
 
-  abbrev pub AllReplied : List (Caller C P) → List (List Reply) → Type 0
+  abbrev pub AllReplied : List (Caller C P D) → List (List Reply) → Type 0
   AllReplied [] [] = Unit {0}
   AllReplied (caller ∷ callers) (replies ∷ rest) = Replied caller replies × AllReplied callers rest
   AllReplied _ _ = ⊥
 
   -- what callers that have done their lines come to: their replies, their parties, and what they keep
-  pub record HaveComeBack (callers : List (Caller C P)) (replies : List (List Reply)) (ps : List (Place (Known C))) (kept : List (List KeptBlock)) : Type 0 where
+  pub record HaveComeBack (callers : List (Caller C P D)) (replies : List (List Reply)) (ps : List (Place (Known C))) (kept : List (List KeptBlock)) : Type 0 where
     pub replied : AllReplied callers replies
     pub parties : ps ≡ map (λ caller. caller.party) callers
     pub keeps : kept ≡ map (λ caller. caller.kept) callers

@@ -1,4 +1,5 @@
 use Rattle.std.proofs.Common.{◌≡◌, Option, None, Some, IfSome, refl}
+use Rattle.trace_run.proofs.DeviceLemmas.{only-of}
 use Rattle.trace_run.proofs.device.begin.Goals as goal
 
 -- a fact of what is there
@@ -15,5 +16,5 @@ returns-in-Ready-clause-found g c =
       reads = λ le. (e.started.0, e.started.1, some-told _ (g.D.CacheDev.told c.in-Some.dev) (λ image is. (c.in-Ready.l2.cursor, e.started.2 image is)));
       cause = e.cause;
       keys = e.keys;
-      only = e.read;
+      only = only-of g.D.CacheDev _ _ e.read;
     })

@@ -2,6 +2,7 @@ use Rattle.std.proofs.Common.{Ok, refl, ap, ◌∙◌, subst}
 use Rattle.arc_table.specs.Items.{meanings}
 use Rattle.arc_table.specs.Reading.{outside}
 use Rattle.dbuf_cells.specs.declared.kept.Kept.TheVariants.{Loose}
+use Rattle.trace_run.proofs.DeviceReadLemmas.{DeviceDid, fault-asks, read-asks}
 use Rattle.trace_run.proofs.GetLemmas.{PoolDid, adds, fault-calls, fault-cause, fault-did, fault-stands, held-calls, held-did, held-got, held-stands, lists, ok-valid, past-did, past-got, past-stands, pool-did}
 use Rattle.trace_run.proofs.ReadLemmas.{AddsRead}
 use Rattle.trace_run.proofs.ReadStands.{ListsAnswer}
@@ -92,4 +93,24 @@ pub returns-in-Err-clause-calls : goal.returns-in-Err-clause-calls
 returns-in-Err-clause-calls g c =
     fault-calls g.P.Pool c.args.ptr.now c.args.pool.now c.read.new.pool c.in-Err.fault (subst (PoolDid g.P.Pool c.args.ptr.now c.args.pool.now c.read.new.pool) c.in-Err.is
     (pool-did (meanings g.C.Keeps.holds g.C.Keeps.entries g.C.Keeps.opening g.C.Keeps.claims g.C.Keeps.sound) g.P.Pool g.D.CacheDev c.args.arcs.now.config c.args.ptr.now c.args.t
+    (outside c.args.pool.now c.args.device.now) (outside c.read.new.pool c.read.new.cache) c.args.party.now c.read.new.party c.read.result c.read.ensures.answer))
+
+-- ---- the reads of the device
+
+pub returns-in-Ok-Held-clause-asked : goal.returns-in-Ok-Held-clause-asked
+returns-in-Ok-Held-clause-asked g c =
+    subst (DeviceDid g.D.CacheDev c.args.ptr.now.key.size c.args.device.now c.read.new.cache) (c.in-Ok-Held.is ∙ ap Ok c.in-Ok-Held.field-0-is)
+    (read-asks (meanings g.C.Keeps.holds g.C.Keeps.entries g.C.Keeps.opening g.C.Keeps.claims g.C.Keeps.sound) g.P.Pool g.D.CacheDev c.args.arcs.now.config c.args.ptr.now c.args.t
+    (outside c.args.pool.now c.args.device.now) (outside c.read.new.pool c.read.new.cache) c.args.party.now c.read.new.party c.read.result c.read.ensures.answer)
+
+pub returns-in-Ok-Past-clause-asked : goal.returns-in-Ok-Past-clause-asked
+returns-in-Ok-Past-clause-asked g c =
+    subst (DeviceDid g.D.CacheDev c.args.ptr.now.key.size c.args.device.now c.read.new.cache) (c.in-Ok-Past.is ∙ ap Ok c.in-Ok-Past.field-0-is)
+    (read-asks (meanings g.C.Keeps.holds g.C.Keeps.entries g.C.Keeps.opening g.C.Keeps.claims g.C.Keeps.sound) g.P.Pool g.D.CacheDev c.args.arcs.now.config c.args.ptr.now c.args.t
+    (outside c.args.pool.now c.args.device.now) (outside c.read.new.pool c.read.new.cache) c.args.party.now c.read.new.party c.read.result c.read.ensures.answer)
+
+pub returns-in-Err-clause-asked : goal.returns-in-Err-clause-asked
+returns-in-Err-clause-asked g c =
+    fault-asks g.D.CacheDev c.args.ptr.now.key.size c.args.device.now c.read.new.cache c.in-Err.fault (subst (DeviceDid g.D.CacheDev c.args.ptr.now.key.size c.args.device.now c.read.new.cache) c.in-Err.is
+    (read-asks (meanings g.C.Keeps.holds g.C.Keeps.entries g.C.Keeps.opening g.C.Keeps.claims g.C.Keeps.sound) g.P.Pool g.D.CacheDev c.args.arcs.now.config c.args.ptr.now c.args.t
     (outside c.args.pool.now c.args.device.now) (outside c.read.new.pool c.read.new.cache) c.args.party.now c.read.new.party c.read.result c.read.ensures.answer))

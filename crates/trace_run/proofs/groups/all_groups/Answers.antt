@@ -1,4 +1,6 @@
 use Rattle.std.proofs.Common.{◌<◌, ◌≤◌, length, ap, arith}
+use Rattle.trace_run.specs.Devices.{lent_in}
+use Rattle.trace_run.proofs.DeviceLemmas.{lent-then}
 use Rattle.trace_run.proofs.callers.StepLemmas.{all-stepped, leaves-then, not-stepped, stepped}
 use Rattle.trace_run.proofs.groups.all_groups.Goals as goal
 
@@ -32,6 +34,8 @@ loop-alloc-preserved g c = record {
       (stepped c.args.arcs.now restored g.P.Pool c.args.trace.now c.args.pool.now c.loop-alloc.pool c.next_group.new.pool c.loop-alloc.replies.items c.next_group.new.replies.items c.in_ok-after.done c.loop-alloc.crew c.in_ok-after.after
       c.if-not-done.false (c.in_ok-after.ensures.steps c.args.pool.now restored (c.loop-alloc.invariant.between restored between))).0;
   leaves = leaves-then g.P.Pool c.args.pool.now c.loop-alloc.pool c.next_group.new.pool c.loop-alloc.invariant.leaves c.in_ok-after.ensures.pool;
+  read = c.in_ok-after.ensures.read (lent_in c.args.device.now) c.loop-alloc.invariant.read;
+  lent = lent-then g.D.CacheDev c.args.device.now c.loop-alloc.device c.next_group.new.device c.loop-alloc.invariant.lent c.in_ok-after.ensures.device;
 }
 
 pub returns-clause-stopped : goal.returns-clause-stopped

@@ -1,6 +1,8 @@
 use Rattle.std.proofs.Common.{◌≡◌, ℕ, List, Vec, Global, length, map, vec_len, refl, subst, arith}
 use Rattle.trace_text.specs.declared.reply.Reply.{Reply}
+use Rattle.trace_run.specs.Devices.{lent_in}
 use Rattle.trace_run.specs.callers.Group.{HaveWorked}
+use Rattle.trace_run.proofs.callers.DeviceSteps.{read-in-order}
 use Rattle.trace_run.proofs.callers.TogetherLemmas.{worked-replies}
 use Rattle.trace_run.proofs.groups.lines_at_once.Goals as goal
 
@@ -18,3 +20,9 @@ returns-clause-did g c =
       ordered = c.in_ok-replies.ensures;
       feeder = refl;
     }
+
+-- the same by the replies in the order of the lines
+pub returns-clause-read : goal.returns-clause-read
+returns-clause-read g c =
+    read-in-order g.D.CacheDev c.args.blocks.now c.args.ops.now c.in_ok-replies.replies.items (map (λ (v : Vec Reply Global). v.items) c.in_ok-worked.worked.replies.items) (vec_len c.args.crew.parties) (lent_in c.args.device.now) (lent_in c.run_group.new.device)
+    c.in_ok-worked.ensures.read c.in_ok-replies.ensures

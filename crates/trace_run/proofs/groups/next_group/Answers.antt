@@ -1,4 +1,4 @@
-use Rattle.std.proofs.Common.{◌≡◌, ℕ, List, Some, length, vec_len, refl, sym, ap, ◌∙◌, subst, arith}
+use Rattle.std.proofs.Common.{◌≡◌, ◌<◌, ℕ, List, Some, length, vec_len, refl, sym, ap, ◌∙◌, subst, arith}
 use Rattle.std.specs.Prelude.{slice_get, slice_range}
 use Rattle.std.proofs.lemmas.Option.{slice_get_read}
 use Rattle.blk_ptr.specs.declared.ptr.Ptr.{Ptr}
@@ -8,6 +8,8 @@ use Rattle.trace_run.specs.callers.Callers.{AreAtStart}
 use Rattle.trace_run.specs.callers.Groups.{AreOfCallers}
 use Rattle.trace_run.specs.Tally.{AreDeclared}
 use Rattle.trace_run.proofs.callers.GroupRunLemmas.{come-named, may-start}
+use Rattle.trace_run.specs.Devices.{lent_in}
+use Rattle.trace_run.proofs.callers.DeviceSteps.{read-ended, read-last}
 use Rattle.trace_run.proofs.callers.StepLemmas.{IsUnused, next-ended, next-last, next-may, range-callers, range-declared}
 use Rattle.trace_run.proofs.groups.next_group.Goals as goal
 
@@ -55,3 +57,36 @@ returns-clause-steps g c = λ start restored between.
     c.len-first.result c.group_end-to.result c.as_slice-blocks.result.now c.as_slice-ops.result.now c.as_slice-blocks.ensures c.as_slice-ops.ensures first c.group_end-to.ensures.range.0 c.group_end-to.ensures.range.1 c.group_end-to.ensures.inside
     between (let more = c.requires.more in let long = c.args.replies.now.ok.0 in omega (arith, more, long)) unused c.in_ok-crew.ensures.did c.lines_at_once.ensures.pool
     c.in-Some.op.now here (c.group_end-to.ensures.end c.in-Some.op.now here) c.in_ok-crew-2.crew c.in_ok-crew-2.reply c.in_ok-crew-2.ensures c.append.new.replies.items c.push.new.self.items c.in_ok-append.ensures c.in_ok-push.ensures.items
+
+-- ---- what was asked of the device
+
+pub returns-in_default-clause-read : goal.returns-in_default-clause-read
+returns-in_default-clause-read g c = λ start so_far.
+    let first : c.len-first.result ≡ length c.args.replies.now.items = let is = c.len-first.ensures in let long = c.args.replies.now.ok.0 in omega (arith, is, long) in
+    let more : length c.args.replies.now.items < length c.args.trace.now.ops = let more = c.requires.more in let long = c.args.replies.now.ok.0 in omega (arith, more, long) in
+    let many : vec_len c.args.crew.parties ≡ c.args.trace.now.config.callers =
+    let parties = c.requires.between.2.come.parties in let long = c.args.crew.parties.ok.0 in let same = ap (λ (x : Config). x.callers) c.requires.config in omega (arith, parties, long, same) in
+    let own : AreOfCallers (vec_len c.args.crew.parties) (slice_range c.as_slice-ops.result.now c.len-first.result c.group_end-to.result) =
+    subst (λ (x : ℕ × List Op). AreOfCallers x.0 (slice_range x.1 c.len-first.result c.group_end-to.result)) (λ i. (sym many i, sym c.as_slice-ops.ensures i))
+    (range-callers c.args.trace.now c.requires.formed c.len-first.result c.group_end-to.result
+    (λ k op low high here. c.group_end-to.ensures.inside k op low high (ap (λ (l : List Op). slice_get l k) c.as_slice-ops.ensures ∙ here))) in
+    read-last g.D.CacheDev c.args.trace.now c.args.replies.now.items c.in_ok-crew.answered.items c.len-first.result c.group_end-to.result c.as_slice-blocks.result.now c.as_slice-ops.result.now (vec_len c.args.crew.parties)
+    c.as_slice-blocks.ensures c.as_slice-ops.ensures many first c.group_end-to.ensures.range.0 c.group_end-to.ensures.range.1 c.requires.between.2.few (c.requires.between.2.begins more) own c.in_ok-crew.ensures.did.ordered.all
+    start (lent_in c.args.device.now) (lent_in c.lines_at_once.new.device) so_far c.in_ok-crew.ensures.read
+    c.in_default.ensures.lookup.3 more c.append.new.replies.items c.in_ok-append.ensures
+
+pub returns-clause-read : goal.returns-clause-read
+returns-clause-read g c = λ start so_far.
+    let first : c.len-first.result ≡ length c.args.replies.now.items = let is = c.len-first.ensures in let long = c.args.replies.now.ok.0 in omega (arith, is, long) in
+    let more : length c.args.replies.now.items < length c.args.trace.now.ops = let more = c.requires.more in let long = c.args.replies.now.ok.0 in omega (arith, more, long) in
+    let many : vec_len c.args.crew.parties ≡ c.args.trace.now.config.callers =
+    let parties = c.requires.between.2.come.parties in let long = c.args.crew.parties.ok.0 in let same = ap (λ (x : Config). x.callers) c.requires.config in omega (arith, parties, long, same) in
+    let own : AreOfCallers (vec_len c.args.crew.parties) (slice_range c.as_slice-ops.result.now c.len-first.result c.group_end-to.result) =
+    subst (λ (x : ℕ × List Op). AreOfCallers x.0 (slice_range x.1 c.len-first.result c.group_end-to.result)) (λ i. (sym many i, sym c.as_slice-ops.ensures i))
+    (range-callers c.args.trace.now c.requires.formed c.len-first.result c.group_end-to.result
+    (λ k op low high here. c.group_end-to.ensures.inside k op low high (ap (λ (l : List Op). slice_get l k) c.as_slice-ops.ensures ∙ here))) in
+    let here : slice_get c.as_slice-ops.result.now c.group_end-to.result ≡ Some c.in-Some.op.now = slice_get_read c.as_slice-ops.result.now _ c.group_end-to.result c.in-Some.op.now refl c.in-Some.ensures.lookup.3.0 c.in-Some.ensures.lookup.1 in
+    read-ended g.D.CacheDev c.args.trace.now c.args.replies.now.items c.in_ok-crew.answered.items c.len-first.result c.group_end-to.result c.as_slice-blocks.result.now c.as_slice-ops.result.now (vec_len c.args.crew.parties)
+    c.as_slice-blocks.ensures c.as_slice-ops.ensures many first c.group_end-to.ensures.range.0 c.group_end-to.ensures.range.1 c.requires.between.2.few (c.requires.between.2.begins more) own c.in_ok-crew.ensures.did.ordered.all
+    start (lent_in c.args.device.now) (lent_in c.lines_at_once.new.device) so_far c.in_ok-crew.ensures.read
+    c.in-Some.op.now here (c.group_end-to.ensures.end c.in-Some.op.now here) c.in_ok-crew-2.reply c.append.new.replies.items c.push.new.self.items c.in_ok-append.ensures c.in_ok-push.ensures.items

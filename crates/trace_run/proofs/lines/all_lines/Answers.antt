@@ -4,8 +4,10 @@ use Rattle.std.proofs.lemmas.Option.{slice_get_read}
 use Rattle.trace_text.specs.declared.op.Op.{Op}
 use Rattle.trace_text.specs.declared.reply.Reply.{Reply}
 use Rattle.trace_run.specs.callers.CallerLines.{DidLine, DidLines, at}
+use Rattle.trace_run.specs.DeviceReads.{LinesAsk}
 use Rattle.trace_run.specs.KeptBlocks.{read_of}
 use Rattle.trace_run.specs.Lines.{is_of_caller}
+use Rattle.trace_run.proofs.DeviceReadLemmas.{asks-more}
 use Rattle.trace_run.proofs.LinesLemmas.{his-more, line-named, lines-more, others-more}
 use Rattle.trace_run.proofs.RunLemmas.{keeps-then}
 use Rattle.trace_run.proofs.lines.all_lines.Goals as goal
@@ -34,6 +36,7 @@ loop-number-preserved-then-not-is_of_caller g c =
           (sym (others-more n ops c.loop-number.number op here other)) was.did;
       keeps = was.keeps;
       device = was.device;
+      asked = subst (λ (os : List Op). LinesAsk g.D.CacheDev c.args.blocks.now os c.loop-number.replies.items c.args.device.now c.loop-number.device) (sym (others-more n ops c.loop-number.number op here other)) was.asked;
     }
 
 -- a line of its own
@@ -63,6 +66,8 @@ loop-number-preserved g c =
           (lines-more config pool size blocks (filter (is_of_caller n) (take c.loop-number.number ops)) replies op reply start before after was.did one);
       keeps = keeps-then pool c.args.pool.now c.loop-number.pool c.line.new.pool was.keeps c.in_ok-reply.ensures.pool;
       device = c.in_ok-reply.ensures.device ∙ was.device;
+      asked = subst (λ (x : List Op × List Reply). LinesAsk g.D.CacheDev blocks x.0 x.1 c.args.device.now c.line.new.device) (λ i. (sym (his-more n ops c.loop-number.number op here his) i, sym c.in_ok-push.ensures.items i))
+          (asks-more g.D.CacheDev blocks (filter (is_of_caller n) (take c.loop-number.number ops)) replies op reply c.args.device.now c.loop-number.device c.line.new.device was.asked c.in_ok-reply.ensures.asked);
     }
 
 pub returns-clause-did : goal.returns-clause-did
@@ -76,3 +81,9 @@ returns-clause-did g c =
 pub line-requires-clause-own : goal.line-requires-clause-own
 line-requires-clause-own g c = λ _ _.
     ap (λ (k : ℕ). is_of_caller k c.index-ops-number.result) (c.loop-number.invariant.number ∙ sym c.number-caller.ensures) ∙ (sym c.is_of_caller.ensures ∙ c.if-not-is_of_caller.false)
+
+pub returns-clause-asked : goal.returns-clause-asked
+returns-clause-asked g c =
+    let long : length c.args.ops.now ≤ c.loop-number.number = omega arith in
+    subst (λ (os : List Op). LinesAsk g.D.CacheDev c.args.blocks.now (filter (is_of_caller c.args.party.now.number) os) c.loop-number.replies.items c.args.device.now c.loop-number.device)
+    (take_all c.loop-number.number c.args.ops.now long) c.loop-number.invariant.asked

@@ -4,6 +4,8 @@ use Rattle.trace_text.specs.declared.op.Op.{Op}
 use Rattle.trace_run.specs.callers.CallerLines.{DidLine, at}
 use Rattle.trace_run.specs.KeptBlocks.{read_of}
 use Rattle.trace_run.proofs.callers.CallerActLemmas.{same-caller}
+use Rattle.trace_run.specs.DeviceReads.{LineAsks}
+use Rattle.trace_run.proofs.DeviceReadLemmas.{block-asks, drop-asks}
 use Rattle.trace_run.proofs.LineLemmas.{drop-line, hold-line, read-line}
 use Rattle.trace_run.proofs.RunLemmas.{got}
 use Rattle.trace_run.proofs.lines.line.Goals as goal
@@ -38,3 +40,18 @@ returns-in-Drop-clause-did g c =
     (drop-line c.args.arcs.now.config g.P.Pool (g.D.CacheDev.size c.args.device.now) c.args.blocks.now c.args.party.now q c.args.pool.now c.args.pool.now c.in-Drop.n c.in-Drop.x kept now c.drop_line.result
     (rw c.in-Drop.is at (same-caller c.args.party.now.number c.args.op.now c.requires.own)) c.requires.named
     c.drop_line.ensures.answer c.drop_line.ensures.kept c.drop_line.ensures.drops c.drop_line.ensures.none c.drop_line.ensures.calls)
+
+pub returns-in-Read-clause-asked : goal.returns-in-Read-clause-asked
+returns-in-Read-clause-asked g c =
+    subst (λ (op : Op). IfOk c.read_line.result (λ reply. LineAsks g.D.CacheDev c.args.blocks.now op reply c.args.device.now c.read_line.new.device)) (sym c.in-Read.is)
+    (block-asks g.D.CacheDev c.args.blocks.now c.in-Read.x _ c.args.device.now c.read_line.new.device c.read_line.result (got c.args.blocks.now c.in-Read.x _ (rw c.in-Read.is at c.requires.declared)) c.read_line.ensures.asked)
+
+pub returns-in-Hold-clause-asked : goal.returns-in-Hold-clause-asked
+returns-in-Hold-clause-asked g c =
+    subst (λ (op : Op). IfOk c.hold_line.result (λ reply. LineAsks g.D.CacheDev c.args.blocks.now op reply c.args.device.now c.hold_line.new.device)) (sym c.in-Hold.is)
+    (block-asks g.D.CacheDev c.args.blocks.now c.in-Hold.x _ c.args.device.now c.hold_line.new.device c.hold_line.result (got c.args.blocks.now c.in-Hold.x _ (rw c.in-Hold.is at c.requires.declared)) c.hold_line.ensures.asked)
+
+pub returns-in-Drop-clause-asked : goal.returns-in-Drop-clause-asked
+returns-in-Drop-clause-asked g c =
+    subst (λ (op : Op). LineAsks g.D.CacheDev c.args.blocks.now op c.drop_line.result c.args.device.now c.args.device.now) (sym c.in-Drop.is)
+    (drop-asks g.D.CacheDev 0 c.args.device.now _ 0 c.in-Drop.x c.drop_line.result c.drop_line.ensures.answer)

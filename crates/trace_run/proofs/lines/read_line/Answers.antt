@@ -14,6 +14,7 @@ use Rattle.trace_run.specs.KeptBlocks.{GivesBack, IsOwnedBy, Stands, read_of}
 use Rattle.trace_run.specs.one_caller.OneCaller.{key_held_by}
 use Rattle.trace_run.specs.KeptReads.{KeptRead, kept_read}
 use Rattle.trace_run.specs.Reads.{DidActs, DidAnswer, access_now}
+use Rattle.trace_run.proofs.DeviceReadLemmas.{refused-asks}
 use Rattle.trace_run.proofs.LineLemmas.{acts-none, read-given, read-refused}
 use Rattle.trace_run.proofs.lines.read_line.Goals as goal
 
@@ -45,3 +46,7 @@ pub returns-in_ok-refusal_of-in-Err-clause-did : goal.returns-in_ok-refusal_of-i
 returns-in_ok-refusal_of-in-Err-clause-did g c =
     read-refused c.args.arcs.now.config (g.D.CacheDev.size c.args.device.now) c.args.party.now c.get.new.party c.args.t c.args.ptr.now c.in-Err.fault c.in_ok-refusal_of-in-Err.field-0
     c.in_ok-refusal_of-in-Err.ensures.ok c.in-Err.ensures.did
+
+pub returns-in_ok-refusal_of-in-Err-clause-asked : goal.returns-in_ok-refusal_of-in-Err-clause-asked
+returns-in_ok-refusal_of-in-Err-clause-asked g c =
+    refused-asks g.D.CacheDev c.args.ptr.now.key.size c.in-Err.fault c.in_ok-refusal_of-in-Err.field-0 c.args.device.now c.get.new.device c.in_ok-refusal_of-in-Err.ensures.ok c.in-Err.ensures.asked

@@ -37,3 +37,20 @@ returns-clause-cells g c =
       | else-trace-eq1+in_ok-ran-2 w ↦ rw w.ran-is w.in_ok-ran-2.ensures.cells
     ] in
     rw c.in_ok-reported.ensures.closed here
+
+-- ---- the cache device
+
+pub returns-clause-alone : goal.returns-clause-alone
+returns-clause-alone g c = λ one. elim c.if-trace-eq1.branch [
+  | then-trace-eq1+in_ok-ran w ↦ w.device-is
+  | else-trace-eq1+in_ok-ran-2 w ↦ let other = w.if-trace-eq1.false in absurd (omega (arith, one, other))
+]
+
+pub returns-clause-together : goal.returns-clause-together
+returns-clause-together g c =
+    let ran = c.if-trace-eq1.ran in
+    let told = c.in_ok-reported.ensures in
+    λ two. rw told.report (elim c.if-trace-eq1.branch [
+      | then-trace-eq1+in_ok-ran w ↦ let one = w.if-trace-eq1.true in absurd (omega (arith, two, one))
+      | else-trace-eq1+in_ok-ran-2 w ↦ rw (w.ran-is, w.device-is) w.in_ok-ran-2.ensures.read
+    ])

@@ -5,6 +5,8 @@ use Rattle.trace_run.specs.Openings.{AllKnow, openings_of}
 use Rattle.trace_run.proofs.theorem.CellRun.{closed-cells}
 use Rattle.trace_run.proofs.callers.GroupRunLemmas.{come-wait, group-together, lines-acts, may-resize}
 use Rattle.trace_run.proofs.callers.GroupsLemmas.{crew-rows, have-started}
+use Rattle.trace_run.specs.Devices.{lent_in}
+use Rattle.trace_run.proofs.callers.DeviceSteps.{read-whole}
 use Rattle.trace_run.proofs.OpenLemmas.{last-knows}
 use Rattle.trace_run.proofs.callers.StepLemmas.{between-begun}
 use Rattle.trace_run.proofs.together.run_together.Goals as goal
@@ -83,3 +85,11 @@ returns-clause-cells g c =
     (last-knows (openings_of c.args.trace.now) c.in_ok-crew.crew.parties.items c.in_ok-crew.crew.feeder (subst (AllKnow (openings_of c.args.trace.now)) c.in_ok-crew.ensures.parties c.in_ok-arcs.ensures.known)) in
     let config = c.in_ok-arcs.ensures.config in
     closed-cells c.in_ok-arcs.arcs g.P.Pool c.args.pool.now c.all_groups.new.pool c.args.trace.now c.requires.formed config (subst IsConfig (sym config) c.requires.formed.config) _ c.args.restored.now _ _ (c.in_ok-crew-3.ensures.stopped c.args.restored.now begun) c.in_ok-closed.closed c.in_ok-closed.ensures
+
+pub returns-clause-read : goal.returns-clause-read
+returns-clause-read g c =
+    let many : length c.in_ok-crew.crew.kept.items ≡ length c.in_ok-crew.crew.parties.items = let a = c.in_ok-crew.crew.kept.ok.0 in let b = c.in_ok-crew.crew.parties.ok.0 in let e = c.in_ok-crew.ensures.count in omega (arith, a, b, e) in
+    let begun = between-begun c.in_ok-arcs.arcs c.args.restored.now g.P.Pool c.args.trace.now c.args.pool.now c.in_ok-arcs.parties.items c.in_ok-crew.crew c.in_ok-crew-2.crew
+    c.in_ok-arcs.ensures.parties c.in_ok-crew.ensures.parties c.in_ok-crew.ensures.none many c.in_ok-crew-2.ensures.made c.in_ok-crew-2.ensures.kept
+    (last-knows (openings_of c.args.trace.now) c.in_ok-crew.crew.parties.items c.in_ok-crew.crew.feeder (subst (AllKnow (openings_of c.args.trace.now)) c.in_ok-crew.ensures.parties c.in_ok-arcs.ensures.known)) in
+    read-whole g.D.CacheDev c.args.trace.now c.in_ok-crew-3.field-0.replies.items (c.in_ok-crew-3.ensures.stopped c.args.restored.now begun).between.few (lent_in c.args.device.now) (lent_in c.all_groups.new.device) c.in_ok-crew-3.ensures.read

@@ -2,9 +2,13 @@ use Rattle.std.proofs.Common.{rules, ◌≡◌, Option, sym, ap, ◌∙◌, subs
 use Rattle.trace_text.specs.declared.trace.Trace.{Trace}
 use Rattle.trace_run.specs.Bounded.{device_len, with_bound}
 use Rattle.trace_run.specs.CellEnds.{AreCellsOf}
-use Rattle.trace_run.specs.Devices.{Finds}
+use Rattle.trace_run.specs.DeviceUse.{WasUsed}
+use Rattle.trace_run.specs.Devices.{Finds, IsHandedBack, WasLent, device_of}
+use Rattle.trace_run.specs.declared.device.Device.{Device}
 use Rattle.trace_run.specs.Outcome.{IsRun}
-use Rattle.trace_run.proofs.theorem.OutcomeLemmas.{found-kept, nothing-lost, reported-so}
+use Rattle.trace_run.proofs.DeviceLemmas.{found-kept, lent-back, nothing-lost}
+use Rattle.trace_run.proofs.callers.DeviceSteps.{was-used}
+use Rattle.trace_run.proofs.theorem.OutcomeLemmas.{reported-so}
 use Rattle.trace_run.proofs.top.run_source.Goals as goal
 
 pub returns-in-Err-clause-does : goal.returns-in-Err-clause-does
@@ -22,20 +26,27 @@ pub returns-in-Ok-ran-clause-does : goal.returns-in-Ok-ran-clause-does
 returns-in-Ok-ran-clause-does g c =
     let trace : Trace = c.in-Ok.trace in
     let bounded : c.with_bound-trace.result ≡ with_bound trace (device_len g.D.CacheDev.size c.args.cache.now) = c.with_bound-trace.ensures.bounded ∙ ap (with_bound trace) c.device_len.ensures in
-    let found : Finds g.D.CacheDev c.args.cache.now c.back.result c.in-Ok-begin.begun.rebuilt =
-    subst (λ (x : Option g.row.D.Denot × Option g.row.D.Denot). Finds g.D.CacheDev x.0 x.1 c.in-Ok-begin.begun.rebuilt) (λ i. (c.take.ensures.value i, sym c.back.ensures i)) c.in-Ok-begin.ensures.found in
+    let begun : Device g.row.D.Denot = c.in-Ok-begin.begun.device in
+    let found : Finds g.D.CacheDev c.args.cache.now (device_of begun) c.in-Ok-begin.begun.rebuilt =
+    subst (λ (o : Option g.row.D.Denot). Finds g.D.CacheDev o (device_of begun) c.in-Ok-begin.begun.rebuilt) c.take.ensures.value c.in-Ok-begin.ensures.found in
+    let lent : WasLent g.D.CacheDev begun c.run_trace-ran.new.device = c.run_trace-ran.ensures.device in
+    let kind = c.in-Ok-begin.ensures.kind in
+    let back = subst (IsHandedBack g.D.CacheDev (device_of begun)) (sym c.back.ensures) (lent-back g.D.CacheDev begun c.run_trace-ran.new.device lent) in
     let run = c.in-Ok-ran.ensures.run in
     let told = c.in-Ok-ran.reported in
     record {
       source = search rules;
       took = search rules;
       unrun = search rules;
-      cache = found-kept g.D.CacheDev c.args.cache.now c.back.result c.in-Ok-begin.begun.rebuilt found;
+      cache = found-kept g.D.CacheDev c.args.cache.now (device_of begun) c.back.result c.in-Ok-begin.begun.rebuilt found back;
       reported = reported-so g.P.Pool g.D.CacheDev _ _ told.report told.closed c.deliver.result.report c.deliver.result.closed c.deliver.ensures.same (record {
         trace = trace;
         read = c.in-Ok.ensures.read;
         done = c.in-Ok.ensures.done;
-        found = subst (Finds g.D.CacheDev c.args.cache.now c.back.result) (sym c.in-Ok-ran.ensures.rebuilt) found;
+        started = device_of begun;
+        found = subst (Finds g.D.CacheDev c.args.cache.now (device_of begun)) (sym c.in-Ok-ran.ensures.rebuilt) found;
+        used = subst (λ (t : Trace). WasUsed g.D.CacheDev t told.report.replies (device_of begun) c.back.result) bounded
+            (was-used g.D.CacheDev c.with_bound-trace.result told.report.replies begun c.run_trace-ran.new.device c.back.result c.back.ensures kind lent c.run_trace-ran.ensures.alone c.in-Ok-ran.ensures.together);
         fork_failed = run.0;
         run = subst (λ (t : Trace). IsRun g.P.Pool c.args.pool.now c.run_trace-ran.new.pool t run.0 told.closed told.report) bounded run.1;
         status = run.2;
