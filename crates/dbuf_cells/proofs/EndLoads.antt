@@ -1,5 +1,5 @@
 -- The second turn of a load: what was read is the cell's, or it was given back.
-use Rattle.std.proofs.Common.{◌≡◌, ◌≢◌, ℕ, IsTrue, List, [], refl, sym, ap, ◌∙◌, subst}
+use Rattle.std.proofs.Common.{◌≡◌, ℕ, IsTrue, List, [], refl, sym, ap, ◌∙◌, subst}
 use Rattle.blk_ptr.specs.declared.ptr.Ptr.{Ptr}
 use Rattle.turn_table.specs.Board.{IsAmong}
 use Rattle.arc_table.specs.Cache.{Cache}
@@ -9,7 +9,7 @@ use Rattle.arc_table.specs.declared.read.Read.{Read}
 use Rattle.arc_table.proofs.Afterwards.{stays_party}
 use Rattle.dbuf_state.specs.CellLog.{CellLog}
 use Rattle.dbuf_state.specs.Dbufs.{dbuf_oid}
-use Rattle.dbuf_state.specs.Numbers.{claims_in, mapping_numbers}
+use Rattle.dbuf_state.specs.Numbers.{claims_in}
 use Rattle.dbuf_state.specs.Oids.{is_distinct}
 use Rattle.dbuf_state.specs.declared.dbuf.Dbuf.{Dbuf}
 use Rattle.dbuf_state.specs.declared.fault.DbufFault.TheVariants as fault

@@ -1,5 +1,5 @@
 -- A cell is ended: what its dbufs keep goes, one after the other by rising Oids, and then the End is noted.
-use Rattle.std.proofs.Common.{◌≡◌, ◌≢◌, ℕ, zero, suc, ◌+◌, ◌-◌, ◌<◌, Bool, true, false, not, ◌&&◌, IsTrue, List, [], ◌∷◌, ◌++◌, length, map, cond, get_or, Option, Some, None, refl, sym, ap, ◌∙◌, subst, inl, inr, arith, IsPermutation, IsSortedBy}
+use Rattle.std.proofs.Common.{◌≡◌, ℕ, zero, suc, ◌+◌, ◌-◌, ◌<◌, Bool, true, false, not, ◌&&◌, IsTrue, List, [], ◌∷◌, ◌++◌, length, map, cond, get_or, Option, Some, None, refl, sym, ap, ◌∙◌, subst, inl, inr, arith, IsPermutation}
 use Rattle.std.specs.List.{AllByRecursion, list_all, list_any}
 use Rattle.std.proofs.lemmas.List.{append-nil, append_assoc}
 use Rattle.std.proofs.lemmas.List.Kept.{IsSortedBy-push}
@@ -15,18 +15,15 @@ use Rattle.arc_table.specs.Giving.{AreHolds}
 use Rattle.dbuf_state.specs.CellLog.{CellLog, noted}
 use Rattle.dbuf_state.specs.Dbufs.{DbufHas, IsOfContent, cleared, dbuf_at, dbuf_is, dbuf_oid, is_cached, is_clean, is_clean_in, plain_dbuf, standing_of, with_dbuf, without_kept}
 use Rattle.dbuf_state.specs.Numbers.{claim_in, claims_in}
-use Rattle.dbuf_state.specs.Objects.{Evicting, Never, is_due}
+use Rattle.dbuf_state.specs.Objects.{Never}
 use Rattle.dbuf_state.specs.Oids.{is_distinct, oid_eq, oid_lt}
 use Rattle.dbuf_state.specs.Outline.{OutlineDbuf, outline_dbuf}
-use Rattle.dbuf_state.specs.Soundness.{holds_in, plain_cell}
 use Rattle.dbuf_state.specs.Standings.{is_first_kept, none_kept}
 use Rattle.dbuf_state.specs.declared.dbuf.Content.{Content}
 use Rattle.dbuf_state.specs.declared.dbuf.Content.TheVariants as content
 use Rattle.dbuf_state.specs.declared.dbuf.Dbuf.{Dbuf}
-use Rattle.dbuf_state.specs.declared.event.CellEvent.{CellEvent}
 use Rattle.dbuf_state.specs.declared.event.CellEvent.TheVariants.{End}
 use Rattle.dbuf_state.specs.declared.oid.Oid.{Oid}
-use Rattle.dbuf_state.specs.declared.standing.Standing.{Standing}
 use Rattle.dbuf_state.specs.declared.state.DbState.{DbState}
 use Rattle.dbuf_state.specs.declared.state.DbState.TheVariants as state
 use Rattle.dbuf_state.specs.declared.state.Mapped.TheVariants.{Clean}
@@ -34,7 +31,7 @@ use Rattle.dbuf_state.proofs.HandLemmas.{claims-stay, claims-stay-by-end, end-hi
 use Rattle.dbuf_state.proofs.IndexLemmas.{and-parts, bool_cases}
 use Rattle.dbuf_state.proofs.OutlineLemmas.{block-cached}
 use Rattle.dbuf_state.proofs.StepLemmas.{end-follows}
-use Rattle.dbuf_cells.specs.Emptying.{AreLower, IsEnding, MayEmpty, cached_in}
+use Rattle.dbuf_cells.specs.Emptying.{AreLower, IsEnding, cached_in}
 use Rattle.dbuf_cells.specs.Ending.{DropsEach, EndsCell, EndsFrom, lower_oid}
 use Rattle.dbuf_cells.specs.InHand.{AsTaken, GivesBack, HasGiven, InHand, IsRoomier, MayGive}
 use Rattle.dbuf_cells.specs.Kept.{bytes_of, is_held, key_of}

@@ -1,5 +1,5 @@
 -- What is so of a party with a cell in hand: when it takes the cell, behind each event of a shard, and when it gives the cell back.
-use Rattle.std.proofs.Common.{◌≡◌, ◌≢◌, ℕ, zero, suc, if◌then◌else◌, not, IsTrue, List, [], ◌∷◌, ◌++◌, map, Bool, Option, Some, None, refl, sym, ap, ◌∙◌, subst, inl, inr, is_none, ◌&&◌, eq-eqb}
+use Rattle.std.proofs.Common.{◌≡◌, ℕ, zero, suc, if◌then◌else◌, not, IsTrue, List, [], ◌∷◌, ◌++◌, map, Bool, Option, Some, refl, sym, ap, ◌∙◌, subst, inl, inr, is_none, ◌&&◌, eq-eqb}
 use Rattle.std.specs.List.{AllByRecursion}
 use Rattle.std.specs.Option.{option_map_or}
 use Rattle.std.proofs.lemmas.Bool.{false≢true}

@@ -1,11 +1,10 @@
 -- A party that has every number, and brings nothing of a cell, finds no block there being brought: so it doesn't wait.
 use mathlib.Core.Option.{some}
 use lib.ListN.{get_elem?}
-use Rattle.std.proofs.Common.{◌≡◌, ◌≢◌, ℕ, zero, suc, ◌<◌, ◌≤◌, ◌==◌, Bool, true, false, nat_lt, if◌then◌else◌, List, [], ◌∷◌, ◌++◌, Option, Some, None, refl, sym, ap, ◌∙◌, subst, inl, inr, arith, eq-eqb}
+use Rattle.std.proofs.Common.{◌≡◌, ◌≢◌, ℕ, zero, suc, ◌<◌, ◌≤◌, Bool, true, false, nat_lt, if◌then◌else◌, List, [], ◌∷◌, ◌++◌, Option, Some, None, refl, sym, ap, ◌∙◌, subst, inl, inr, arith, eq-eqb}
 use Rattle.std.proofs.lemmas.Bool.Decides.{nat_tests}
 use Rattle.blk_ptr.specs.declared.ptr.Ptr.{Ptr}
 use Rattle.arc_core.specs.Config.{IsConfig}
-use Rattle.arc_core.specs.declared.config.Config.{Config}
 use Rattle.turn_table.specs.Places.{HasNumber, IsIn}
 use Rattle.turn_table.specs.declared.standing.Kept.{Kept as Joined}
 use Rattle.arc_table.specs.Both.{Takes}
@@ -19,8 +18,7 @@ use Rattle.arc_table.specs.declared.view.Ledger.{Ledger}
 use Rattle.arc_table.proofs.cell_lemmas.CellsInHand.{taken-cell}
 use Rattle.arc_table.proofs.Reached.{Took, took_is}
 use Rattle.dbuf_state.specs.Dbufs.{DbufHas, dbuf_at}
-use Rattle.dbuf_state.specs.InHand.{ClaimsChanged}
-use Rattle.dbuf_state.specs.Numbers.{claim_in, claims_in, mapping_numbers, ptr_numbers}
+use Rattle.dbuf_state.specs.Numbers.{claim_in, claims_in, mapping_numbers}
 use Rattle.dbuf_state.specs.declared.dbuf.Content.{Content}
 use Rattle.dbuf_state.specs.declared.dbuf.Content.TheVariants as content
 use Rattle.dbuf_state.specs.declared.dbuf.Dbuf.{Dbuf}

@@ -16,7 +16,7 @@ use Rattle.arc_table.specs.Reading.{Outside}
 use Rattle.dbuf_state.specs.CellLog.{CellLog, noted}
 use Rattle.dbuf_state.specs.Dbufs.{DbufHas, IsOfContent, dbuf_at, dbuf_is, dirty_with, is_cached, is_clean_in, is_dirty, with_dbuf, written_at}
 use Rattle.dbuf_state.specs.Objects.{Evicting, is_due}
-use Rattle.dbuf_state.specs.Outline.{after_all, mapped_at}
+use Rattle.dbuf_state.specs.Outline.{after_all}
 use Rattle.dbuf_state.specs.Soundness.{plain_cell}
 use Rattle.dbuf_state.specs.declared.dbuf.Dbuf.{Dbuf}
 use Rattle.dbuf_state.specs.declared.event.CellEvent.{CellEvent}
@@ -33,7 +33,7 @@ use Rattle.dbuf_cells.specs.Kept.{bytes_of, key_of}
 use Rattle.dbuf_cells.specs.Loading.{mapped_in}
 use Rattle.dbuf_cells.specs.Places.{cell_of}
 use Rattle.dbuf_cells.specs.Putting.{ReleasesAtMost}
-use Rattle.dbuf_cells.specs.Turns.{CellTurn, OnHeap, OnceAtRest, Operates, PartyPlace, outline_in}
+use Rattle.dbuf_cells.specs.Turns.{OnHeap, OnceAtRest, Operates, PartyPlace, outline_in}
 use Rattle.dbuf_cells.specs.declared.kept.Kept.{Kept}
 
 -- ---- on the way

@@ -1,5 +1,5 @@
 -- What was done with all cells in hand, and then the cells given back, is what a sync answers.
-use Rattle.std.proofs.Common.{◌≡◌, ◌⊎◌, ℕ, ◌+◌, ◌-◌, ◌<◌, ◌≤◌, List, [], ◌∷◌, ◌++◌, length, take, slice_index_or, Result, Ok, Err, Option, refl, sym, ap, ◌∙◌, subst, inl, inr, ⊎_elim, arith}
+use Rattle.std.proofs.Common.{◌≡◌, ◌⊎◌, ℕ, ◌-◌, ◌<◌, ◌≤◌, List, [], ◌∷◌, ◌++◌, length, take, slice_index_or, Result, Ok, Err, Option, refl, sym, ap, ◌∙◌, subst, inl, inr, ⊎_elim, arith}
 use Rattle.vdev_io.specs.declared.fault.IoFault.{IoFault}
 use Rattle.vdev_io.specs.declared.fault.IoFault.TheVariants as io
 use Rattle.vdev_io.specs.declared.pool.Pool.{Ghosts}
@@ -9,7 +9,7 @@ use Rattle.dbuf_cells.specs.InHand.{HasDone}
 use Rattle.dbuf_cells.specs.Turns.{OnHeap, PartyPlace}
 use Rattle.txg_sync.specs.InHand.{HasTakenAll, InSync, MayGiveAll, SyncsInHand, turns_below}
 use Rattle.txg_sync.specs.Items.{SyncItem, need_of}
-use Rattle.txg_sync.specs.Syncing.{AnswersWith, AreAllDirty, Looked, RefusedAt, RefusedFirst, Same, StopsAt, TellsTorn}
+use Rattle.txg_sync.specs.Syncing.{AnswersWith, AreAllDirty, RefusedAt, RefusedFirst, Same, StopsAt}
 use Rattle.txg_sync.specs.Turns.{GivesFrom, SyncsCells, TakesFrom, synced_in}
 use Rattle.txg_sync.specs.Writing.{AnswersDues, StopsIn, sync_fault_of}
 use Rattle.txg_sync.specs.declared.due.Due.{Due}

@@ -1,24 +1,19 @@
 -- All cells in hand: one block more is written, or its write stops.
-use Rattle.std.proofs.Common.{◌≡◌, ◌≢◌, ◌⊎◌, ◌==◌, ℕ, zero, suc, ◌+◌, ◌<◌, Bool, true, false, if◌then◌else◌, not, IsTrue, List, [], ◌∷◌, ◌++◌, length, slice_index_or, slice_set, Option, Some, None, refl, sym, ap, ◌∙◌, subst, inl, inr, ⊎_elim, eq-eqb, ne_eqb, eqb-true, arith}
+use Rattle.std.proofs.Common.{◌≡◌, ◌≢◌, ◌==◌, ℕ, zero, suc, ◌<◌, Bool, true, false, if◌then◌else◌, not, List, [], ◌∷◌, ◌++◌, length, slice_index_or, slice_set, Option, Some, None, refl, sym, ap, ◌∙◌, subst, inl, inr, eq-eqb, ne_eqb, eqb-true, arith}
 use Rattle.std.specs.List.{AllByRecursion}
 use Rattle.std.specs.Option.{option_map_or}
 use Rattle.std.proofs.lemmas.List.{append-nil, length-set, get_or_default, get_or-set_same, get_or-set_other}
 use Rattle.blk_ptr.specs.Ptr.{IsOf, sha256_of}
-use Rattle.blk_ptr.specs.declared.key.Key.{Key}
 use Rattle.blk_ptr.specs.declared.ptr.Ptr.{Ptr}
 use Rattle.arc_core.specs.declared.event.Event.TheVariants.{Insert}
 use Rattle.turn_table.specs.Board.{IsAmong}
-use Rattle.arc_table.specs.Both.{Does}
 use Rattle.arc_table.specs.Cache.{Cache}
 use Rattle.arc_table.specs.Fronts.{list_at}
 use Rattle.arc_table.specs.Geometry.{IsCell, cell_number}
 use Rattle.arc_table.specs.Giving.{AreHolds}
-use Rattle.arc_table.specs.Holding.{ptr_of}
-use Rattle.arc_table.specs.declared.hold.Hold.{Hold}
-use Rattle.arc_table.proofs.Afterwards.{Stays}
 use Rattle.dbuf_state.specs.CellLog.{CellLog, noted}
 use Rattle.dbuf_state.specs.Dbufs.{DbufHas, IsFit, Fits, dbuf_at, dbuf_is, is_cached, is_clean, is_dirty, synced_to, with_dbuf}
-use Rattle.dbuf_state.specs.Objects.{Evicting, Never}
+use Rattle.dbuf_state.specs.Objects.{Never}
 use Rattle.dbuf_state.specs.Soundness.{hold_in, holds_in}
 use Rattle.dbuf_state.specs.declared.dbuf.Content.{Content}
 use Rattle.dbuf_state.specs.declared.dbuf.Content.TheVariants.{Clean, Dirty}
@@ -28,22 +23,21 @@ use Rattle.dbuf_state.specs.declared.event.CellEvent.TheVariants.{Synced}
 use Rattle.dbuf_state.specs.declared.oid.Oid.{Oid}
 use Rattle.dbuf_state.specs.declared.state.DbState.{DbState}
 use Rattle.dbuf_state.proofs.FitLemmas.{all-found}
-use Rattle.dbuf_state.proofs.HandLemmas.{holds-stay-by-note}
 use Rattle.dbuf_state.proofs.IndexLemmas.{and-parts, bool_cases}
 use Rattle.dbuf_cells.specs.InHand.{HasDone, IsRoomier, AreClaimedAlike, ClaimsAre}
 use Rattle.dbuf_cells.specs.Kept.{bytes_of, is_held, key_of}
-use Rattle.dbuf_cells.specs.Turns.{OnHeap, PartyPlace, dbuf_meanings, holds_of}
+use Rattle.dbuf_cells.specs.Turns.{OnHeap, PartyPlace, holds_of}
 use Rattle.dbuf_cells.specs.declared.kept.Kept.{Kept}
 use Rattle.dbuf_cells.specs.declared.kept.Kept.TheVariants.{Held, Loose}
 use Rattle.dbuf_cells.proofs.CellSteps.{done-roomier}
 use Rattle.dbuf_cells.proofs.Evictions.{has-of, is-dbuf}
 use Rattle.txg_sync.specs.InHand.{AreInHand, InSync, IsHolding, IsInHand, turns_below}
 use Rattle.txg_sync.specs.Items.{SyncItem, dirty_bytes_at, written_in}
-use Rattle.txg_sync.specs.Syncing.{Looked, Same}
+use Rattle.txg_sync.specs.Syncing.{Same}
 use Rattle.txg_sync.specs.Turns.{InsertsAll, InsertsItem, inserted, synced_in, there}
 use Rattle.txg_sync.specs.Writing.{IsSyncedTo, KeepsItem, WritesBlock, item_in}
 use Rattle.txg_sync.proofs.Noted.{done-synced, synced-holds, synced-claims}
-use Rattle.txg_sync.proofs.Steps.{Grows, grown_by, holding-stays, inserted-grows, inserted-stays, inserts-more, looked-grows, looked-stays, synced-else, synced-here, synced-more, Remains}
+use Rattle.txg_sync.proofs.Steps.{Grows, holding-stays, inserted-grows, inserted-stays, inserts-more, looked-grows, looked-stays, synced-else, synced-here, synced-more, Remains}
 use Rattle.dbuf_state.specs.Numbers.{claims_in, mapping_numbers}
 
 pub among-below : (n j : ℕ) → j < n → IsAmong j (turns_below n)

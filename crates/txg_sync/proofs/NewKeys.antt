@@ -1,9 +1,9 @@
 -- The keys of a sync are new to the cache, where no key that was taken in before reaches past its place.
-use Rattle.std.proofs.Common.{◌≡◌, ◌≢◌, ◌⊎◌, ℕ, suc, zero, ◌+◌, ◌≤◌, ◌<◌, ◌==◌, Bool, true, false, not, ◌&&◌, ◌||◌, IsTrue, List, [], ◌∷◌, ◌++◌, length, map, Option, Some, None, refl, sym, ap, ◌∙◌, subst, inl, inr, arith}
+use Rattle.std.proofs.Common.{◌≡◌, ◌⊎◌, ℕ, ◌+◌, ◌≤◌, ◌<◌, Bool, true, false, not, ◌||◌, IsTrue, List, [], ◌∷◌, ◌++◌, length, map, refl, sym, ap, ◌∙◌, subst, inl, inr, arith}
 use mathlib.Core.Logic.{dite}
 use mathlib.Core.Option.{some-ne-none}
 use native.Mathlib.Decide.{ℕ_discrete}
-use Rattle.std.specs.List.{AllByRecursion, list_any}
+use Rattle.std.specs.List.{list_any}
 use Rattle.std.proofs.lemmas.Bool.{false≢true}
 use Rattle.std.proofs.lemmas.List.{append-nil}
 use Rattle.blk_ptr.specs.Hash.{shard_of}
@@ -12,11 +12,9 @@ use Rattle.blk_ptr.specs.Order.{key_eq}
 use Rattle.blk_ptr.specs.declared.key.Key.{Key}
 use Rattle.blk_ptr.proofs.Keys.{key_eq-is}
 use Rattle.arc_core.specs.Config.{IsConfig}
-use Rattle.arc_core.specs.Operations.{goes_on, is_pass, number_of}
 use Rattle.arc_core.specs.Places.{takes_in}
 use Rattle.arc_core.specs.PlainShard.{PlainShard, is_cell}
-use Rattle.arc_core.specs.Replay.{is_legal_history, replay}
-use Rattle.arc_core.specs.Sound.{IsSound}
+use Rattle.arc_core.specs.Replay.{is_legal_history}
 use Rattle.arc_core.specs.Step.{after, is_new_here, legal}
 use Rattle.arc_core.specs.declared.config.Config.{Config}
 use Rattle.arc_core.specs.declared.event.Event.{Event}
@@ -24,11 +22,10 @@ use Rattle.arc_core.specs.declared.event.Event.TheVariants.{Pass, Hit, Miss, Arr
 use Rattle.arc_core.proofs.Places.{taken-in}
 use Rattle.arc_table.specs.Both.{Does}
 use Rattle.arc_table.specs.Geometry.{cell_number, parties_of, shard_turn}
-use Rattle.arc_table.specs.Seen.{AreOwnBy, HasAll, HasSeenBy, IsNumberOrCell, MadeBy, events_in, seen_of}
+use Rattle.arc_table.specs.Seen.{AreOwnBy, IsNumberOrCell, MadeBy, events_in, seen_of}
 use Rattle.arc_table.specs.Telling.{Tells, opening_of}
 use Rattle.arc_table.specs.declared.front.Front.{Front}
 use Rattle.arc_table.specs.declared.about.About.{About}
-use Rattle.arc_table.specs.declared.view.Line.{Line}
 use Rattle.arc_table.specs.declared.view.Line.TheVariants as line
 use Rattle.arc_table.specs.opening.OpeningLaws.{opening_sound}
 use Rattle.arc_table.specs.scans.Ending.{DoesRoomy}
@@ -37,11 +34,10 @@ use Rattle.arc_table.proofs.MadeLemmas.{does-made}
 use Rattle.arc_table.proofs.OwnLemmas.{made-all, made-sees}
 use Rattle.arc_table.proofs.scans.RoomyLemmas.{roomy-made}
 use Rattle.dbuf_state.proofs.IndexLemmas.{and-parts}
-use Rattle.dbuf_cells.specs.Turns.{OnHeap, PartyPlace, dbuf_meanings}
+use Rattle.dbuf_cells.specs.Turns.{PartyPlace, dbuf_meanings}
 use Rattle.txg_sync.specs.Items.{SyncItem, at_place, bytes_of_due, items_from, need_of}
-use Rattle.txg_sync.specs.Laws.{EndsBelow, EndsInserted, InsertsEach, NoneIsThere, SeesAlone}
-use Rattle.txg_sync.specs.Turns.{InsertsAll, InsertsItem, inserted, there}
-use Rattle.txg_sync.specs.declared.due.Due.{Due}
+use Rattle.txg_sync.specs.Laws.{EndsBelow, EndsInserted, NoneIsThere, SeesAlone}
+use Rattle.txg_sync.specs.Turns.{InsertsItem, inserted, there}
 
 -- ---- lists of events
 
@@ -147,6 +143,14 @@ module _ (g : Config) (valid : IsConfig g) (tick : ℕ) (x : SyncItem) (place : 
       let b = below (shard_of g.shards k) k (ap (list_any (takes_in k)) (sym is) ∙ any) in
       omega arith
 
+-- it was inserted, and those behind it are
+one-more : (g : Config) → IsConfig g → (tick : ℕ) (x : SyncItem) (place last : ℕ) (xs : List SyncItem) (p r q : PartyPlace) → x.ptr.key.offset ≡ place → 0 < x.ptr.key.size → SeesAlone g p → EndsBelow g place p
+    → InsertsItem g tick x p r → (SeesAlone g r → EndsBelow g (place + x.ptr.key.size) r → EndsInserted g tick last xs r q) → EndsInserted g tick last (x ∷ xs) p q
+one-more g valid tick x place last xs p r q at some alone below (inserted d) rest =
+    let t = rest (now-alone g valid tick x place p r at alone below d) (now-below g valid tick x place p r at alone below d) in
+    record { each = (r, d, t.each); below = t.below; alone = t.alone }
+one-more g valid tick x place last xs p r q at some alone below (there front d tells) rest = absurd (not-there g valid tick x place p r at alone below front d tells some)
+
 -- ---- all blocks
 
 pub none-there : NoneIsThere
@@ -155,18 +159,9 @@ none-there g group tick next cells [] p q valid alone sized below all = record {
   below = λ shard k h. let b = subst (EndsBelow g next) (sym all) below shard k h in omega arith;
   alone = subst (SeesAlone g) (sym all) alone;
 }
-none-there g group tick next cells (due ∷ dues) p q valid alone sized below all = go all.1
-  where
-    x : SyncItem
-    x = at_place group next cells due
-
-    go : InsertsItem g tick (at_place group next cells due) p all.0 → EndsInserted g tick (next + need_of cells (due ∷ dues)) (items_from group next cells (due ∷ dues)) p q
-    go (inserted d) =
-        let rest = none-there g group tick (next + length (bytes_of_due cells due)) cells dues all.0 q valid (now-alone g valid tick (at_place group next cells due) next p all.0 refl alone below d) sized.1
-        (now-below g valid tick (at_place group next cells due) next p all.0 refl alone below d) all.2 in
-        record {
-          each = (all.0, d, rest.each);
-          below = λ shard k h. let b = rest.below shard k h in omega arith;
-          alone = rest.alone;
-        }
-    go (there front d tells) = absurd (not-there g valid tick (at_place group next cells due) next p all.0 refl alone below front d tells sized.0)
+none-there g group tick next cells (due ∷ dues) p q valid alone sized below all =
+    let size = length (bytes_of_due cells due) in
+    let sum : (next + size) + need_of cells dues ≡ next + need_of cells (due ∷ dues) = omega arith in
+    subst (λ (n : ℕ). EndsInserted g tick n (items_from group next cells (due ∷ dues)) p q) sum
+    (one-more g valid tick (at_place group next cells due) next ((next + size) + need_of cells dues) (items_from group (next + size) cells dues) p all.0 q refl sized.0 alone below all.1
+    (λ a b. none-there g group tick (next + size) cells dues all.0 q valid a sized.1 b all.2))

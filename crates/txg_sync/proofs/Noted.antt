@@ -1,6 +1,6 @@
 -- A cell notes that one of its blocks was written, and keeps what has the block's bytes.
-use Rattle.std.proofs.Common.{◌≡◌, ◌≢◌, ◌⊎◌, ℕ, ◌+◌, Bool, true, false, if◌then◌else◌, not, IsTrue, List, [], ◌∷◌, ◌++◌, cond, Option, Some, None, refl, sym, ap, ◌∙◌, subst, inl, inr, ⊎_elim, arith}
-use Rattle.std.specs.Prelude.{option_map, length}
+use Rattle.std.proofs.Common.{◌≡◌, ℕ, ◌+◌, not, IsTrue, List, [], ◌∷◌, ◌++◌, cond, Option, Some, None, refl, sym, ap, ◌∙◌, subst, inl, inr, ⊎_elim, arith}
+use Rattle.std.specs.Prelude.{option_map}
 use mathlib.Core.Option.{some-ne-none}
 use Rattle.blk_ptr.specs.Order.{key_eq}
 use Rattle.blk_ptr.specs.Ptr.{IsOf}
@@ -9,7 +9,6 @@ use Rattle.blk_ptr.specs.declared.ptr.Ptr.{Ptr}
 use Rattle.arc_core.specs.Keeps.{holds_on}
 use Rattle.arc_table.specs.Giving.{AreHolds}
 use Rattle.arc_table.specs.Holding.{IsOneOf, ptr_of}
-use Rattle.arc_table.specs.declared.hold.Hold.{Hold}
 use Rattle.arc_table.proofs.Bookings.{holds_cons}
 use Rattle.dbuf_state.specs.CellLog.{CellLog, noted}
 use Rattle.dbuf_state.specs.Dbufs.{DbufHas, cached_with, dbuf_at, plain_block, plain_dbuf, synced_to, with_dbuf}
@@ -23,12 +22,11 @@ use Rattle.dbuf_state.specs.declared.dbuf.Dbuf.{Dbuf}
 use Rattle.dbuf_state.specs.declared.event.CellEvent.{CellEvent}
 use Rattle.dbuf_state.specs.declared.event.CellEvent.TheVariants.{Synced}
 use Rattle.dbuf_state.specs.declared.oid.Oid.{Oid}
-use Rattle.dbuf_state.proofs.HandLemmas.{claims-stay, holds-stay-by-note, plain-dbuf-is, rest-stays}
+use Rattle.dbuf_state.proofs.HandLemmas.{claims-stay, plain-dbuf-is, rest-stays}
 use Rattle.dbuf_state.proofs.IndexLemmas.{bool_cases}
 use Rattle.dbuf_state.proofs.StepLemmas.{synced-follows}
 use Rattle.dbuf_cells.specs.InHand.{HasDone}
 use Rattle.dbuf_cells.specs.Kept.{bytes_of, is_held, key_of}
-use Rattle.dbuf_cells.specs.Turns.{holds_of}
 use Rattle.dbuf_cells.specs.declared.kept.Kept.{Kept}
 use Rattle.dbuf_cells.specs.declared.kept.Kept.TheVariants.{Held, Loose}
 use Rattle.dbuf_cells.proofs.CellSteps.{done-more}

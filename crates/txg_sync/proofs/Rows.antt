@@ -1,11 +1,9 @@
 -- The blocks that a sync writes stand one behind the other.
-use Rattle.std.proofs.Common.{◌≡◌, ℕ, ◌+◌, ◌-◌, ◌≤◌, List, [], ◌∷◌, ◌++◌, length, take, drop, refl, sym, ap, ◌∙◌, subst, arith, length-append}
+use Rattle.std.proofs.Common.{◌≡◌, ℕ, ◌+◌, List, [], ◌∷◌, ◌++◌, length, take, drop, refl, sym, ap, ◌∙◌, arith, length-append}
 use Rattle.std.proofs.lemmas.List.{append_assoc, length-drop, length-take-le, take-append-drop}
 use Rattle.std.proofs.Math.Seq.{drop-append_seam}
-use Rattle.dbuf_cells.specs.Turns.{OnHeap}
 use Rattle.txg_sync.specs.Items.{at_place, bytes_of_due, items_from, need_of, written_over}
 use Rattle.txg_sync.specs.Laws.{BlocksStandInARow, PlacesAddUp, all_bytes}
-use Rattle.txg_sync.specs.declared.due.Due.{Due}
 use Rattle.vdev_io.specs.Device.{put}
 
 take-seam : (xs ys : List ℕ) → take (length xs) (xs ++ ys) ≡ xs

@@ -1,18 +1,14 @@
 -- All cells are taken, one after another, and given back.
-use Rattle.std.proofs.Common.{◌≡◌, ◌≢◌, ◌==◌, ℕ, zero, suc, ◌+◌, ◌<◌, ◌≤◌, Bool, true, false, if◌then◌else◌, not, IsTrue, List, [], ◌∷◌, ◌++◌, length, map, slice_index_or, Option, Some, None, refl, sym, ap, ◌∙◌, subst, inl, inr, eq-eqb, eqb-true, arith, length-append}
-use Rattle.std.specs.List.{AllByRecursion}
+use Rattle.std.proofs.Common.{◌≡◌, ◌≢◌, ◌==◌, ℕ, zero, suc, ◌+◌, ◌<◌, ◌≤◌, Bool, true, if◌then◌else◌, List, [], ◌∷◌, ◌++◌, length, map, slice_index_or, refl, sym, ap, ◌∙◌, subst, inl, inr, eq-eqb, eqb-true, arith, length-append}
 use Rattle.std.proofs.lemmas.List.{get_or_append_left, map-append}
-use Rattle.blk_ptr.specs.declared.ptr.Ptr.{Ptr}
 use Rattle.turn_table.specs.Board.{IsAmong, without}
 use Rattle.turn_table.specs.Places.{gave_back}
-use Rattle.arc_core.specs.Config.{IsConfig}
 use Rattle.arc_table.specs.Both.{Takes}
-use Rattle.arc_table.specs.Cache.{Cache, IsPartyOf}
+use Rattle.arc_table.specs.Cache.{Cache}
 use Rattle.arc_table.specs.Fronts.{item_at, list_at}
 use Rattle.arc_table.specs.Geometry.{IsCell}
 use Rattle.arc_table.specs.Giving.{AreHolds, IsGivenCell}
 use Rattle.arc_table.specs.Items.{holds_in}
-use Rattle.arc_table.specs.Looking.{HasNoLook}
 use Rattle.arc_table.specs.TableLaws.{item_else, list_else, without_else, list_here}
 use Rattle.arc_table.specs.Views.{after_cell}
 use Rattle.arc_table.specs.declared.item.Item.TheVariants as item
@@ -28,8 +24,7 @@ use Rattle.dbuf_cells.specs.declared.kept.Kept.{Kept}
 use Rattle.dbuf_cells.proofs.CellSteps.{done-sound, entries-own}
 use Rattle.dbuf_cells.proofs.PartySteps.{begins, takes-claims}
 use Rattle.txg_sync.specs.InHand.{AreInHand, HasTakenAll, IsHolding, IsInHand, IsKnown, MayGiveAll, turns_below}
-use Rattle.txg_sync.specs.Items.{SyncItem}
-use Rattle.txg_sync.specs.Turns.{GivesFrom, TakesFrom, synced_in}
+use Rattle.txg_sync.specs.Turns.{TakesFrom, synced_in}
 use Rattle.arc_table.specs.declared.view.Ledger.{Ledger}
 use Rattle.dbuf_cells.proofs.Claims.{keeps-claims}
 

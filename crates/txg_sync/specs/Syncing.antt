@@ -6,7 +6,7 @@ use Rattle.vdev_io.specs.declared.pool.Pool.{Ghosts}
 use Rattle.arc_core.specs.declared.config.Config.{Config}
 use Rattle.arc_table.specs.Both.{Does}
 use Rattle.dbuf_cells.specs.Turns.{OnHeap, PartyPlace, dbuf_meanings}
-use Rattle.txg_sync.specs.Items.{SyncItem, bytes_of_due, due_lt, dues_from, at_place, items_from, need_of, tells_written}
+use Rattle.txg_sync.specs.Items.{SyncItem, due_lt, dues_from, at_place, items_from, need_of, tells_written}
 use Rattle.txg_sync.specs.Turns.{SyncsCells}
 use Rattle.txg_sync.specs.declared.due.Due.{Due}
 use Rattle.txg_sync.specs.declared.syncing.SyncFault.{SyncFault}

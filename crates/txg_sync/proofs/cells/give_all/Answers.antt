@@ -1,8 +1,7 @@
-use Rattle.std.proofs.Common.{◌≡◌, ℕ, suc, ◌+◌, ◌<◌, ◌≤◌, List, [], ◌∷◌, ◌++◌, length, vec_len, refl, sym, ap, ◌∙◌, subst, arith, length-append}
+use Rattle.std.proofs.Common.{◌≡◌, ℕ, suc, List, [], ◌∷◌, ◌++◌, length, sym, ap, ◌∙◌, subst, arith, length-append}
 use Rattle.std.specs.List.{AllByRecursion}
 use Rattle.std.specs.Prelude.{IsTrue}
 use Rattle.std.proofs.lemmas.List.{append_assoc}
-use Rattle.arc_table.specs.Cache.{Cache}
 use Rattle.arc_table.specs.Giving.{IsGivenCell}
 use Rattle.arc_table.specs.Views.{after_cell}
 use Rattle.arc_table.specs.declared.item.Item.TheVariants as item
@@ -15,7 +14,7 @@ use Rattle.dbuf_cells.specs.Turns.{OnHeap, PartyPlace, dbuf_meanings}
 use Rattle.dbuf_cells.specs.declared.kept.Kept.{Kept}
 use Rattle.txg_sync.specs.InHand.{IsKnown, MayGiveAll}
 use Rattle.txg_sync.specs.Turns.{GivesFrom}
-use Rattle.txg_sync.proofs.Taking.{last-claims, last-given, last-held, left-may, most-cells}
+use Rattle.txg_sync.proofs.Taking.{last-claims, last-given, left-may, most-cells}
 use Rattle.txg_sync.proofs.cells.give_all.Goals as goal
 
 pub overflow_cast-i : goal.overflow_cast-i

@@ -1,11 +1,11 @@
-use Rattle.std.proofs.Common.{◌≡◌, ℕ, suc, ◌+◌, ◌<◌, List, [], ◌∷◌, ◌++◌, length, sym, ap, ◌∙◌, subst, arith, length-append}
+use Rattle.std.proofs.Common.{◌≡◌, ℕ, suc, ◌+◌, List, [], ◌∷◌, ◌++◌, length, sym, ap, ◌∙◌, subst, arith, length-append}
 use Rattle.turn_table.specs.Board.{IsAmong}
 use Rattle.arc_core.specs.declared.config.Config.{Config}
 use Rattle.arc_table.specs.Both.{Takes}
 use Rattle.arc_table.specs.Geometry.{IsCell}
 use Rattle.arc_table.specs.declared.item.Item.TheVariants as item
-use Rattle.dbuf_cells.specs.Turns.{OnHeap, PartyPlace, dbuf_meanings}
-use Rattle.txg_sync.specs.InHand.{AreInHand, IsHolding, turns_below}
+use Rattle.dbuf_cells.specs.Turns.{OnHeap, dbuf_meanings}
+use Rattle.txg_sync.specs.InHand.{AreInHand, IsHolding}
 use Rattle.txg_sync.specs.Turns.{TakesFrom}
 use Rattle.txg_sync.proofs.Taking.{hand-more, holding-more, none-above, takes-more}
 use Rattle.txg_sync.proofs.cells.take_all.Goals as goal

@@ -1,4 +1,4 @@
-use Rattle.std.proofs.Common.{◌≡◌, ℕ, ◌+◌, suc, ◌++◌, IsPermutation, drop, take, slice_index_or, sym, subst, arith}
+use Rattle.std.proofs.Common.{◌≡◌, ℕ, ◌+◌, suc, ◌++◌, IsPermutation, drop, take, subst, arith}
 use Rattle.std.specs.List.{AllByRecursion}
 use Rattle.txg_sync.specs.InHand.{IsKnown}
 use Rattle.dbuf_cells.specs.Turns.{OnHeap}

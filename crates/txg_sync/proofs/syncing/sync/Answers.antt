@@ -1,7 +1,6 @@
-use Rattle.std.proofs.Common.{◌≡◌, ℕ, List, drop, length, sym, ap, ◌∙◌, subst, inl}
-use Rattle.dbuf_cells.specs.Turns.{OnHeap, PartyPlace}
+use Rattle.std.proofs.Common.{◌≡◌, List, drop, length, sym, ap, ◌∙◌, subst, inl}
+use Rattle.dbuf_cells.specs.Turns.{OnHeap}
 use Rattle.txg_sync.specs.InHand.{SyncsInHand}
-use Rattle.txg_sync.specs.Items.{SyncItem}
 use Rattle.txg_sync.specs.Turns.{GivesFrom, SyncsCells, TakesFrom}
 use Rattle.txg_sync.proofs.Ended.{answers-so, syncs-cells, take-front}
 use Rattle.arc_table.specs.Fronts.{list_at}

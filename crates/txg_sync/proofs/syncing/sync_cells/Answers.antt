@@ -1,6 +1,6 @@
-use Rattle.std.proofs.Common.{◌≡◌, ◌-◌, ◌≤◌, List, sym, ap, ◌∙◌, subst, arith}
+use Rattle.std.proofs.Common.{◌-◌, ◌≤◌, List, sym, ap, ◌∙◌, subst, arith}
 use Rattle.std.proofs.lemmas.Result.{err_from_is_err_and}
-use Rattle.dbuf_cells.specs.Turns.{OnHeap, PartyPlace}
+use Rattle.dbuf_cells.specs.Turns.{OnHeap}
 use Rattle.txg_sync.specs.Syncing.{AreAllDirty, Same}
 use Rattle.txg_sync.specs.InHand.{AreDueIn}
 use Rattle.txg_sync.specs.Items.{AreApart, need_of}
