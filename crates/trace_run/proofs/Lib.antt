@@ -17,6 +17,7 @@ pub mod KeptQueueLemmas
 pub mod LineLemmas
 pub mod LinesLemmas
 pub mod MappedLemmas
+pub mod MoveLemmas
 pub mod OpenLemmas
 pub mod ReadLemmas
 pub mod ReadStands

@@ -14,6 +14,7 @@ pub mod KeptBlocks
 pub mod KeptQueue
 pub mod KeptReads
 pub mod Lines
+pub mod Making
 pub mod Meeting
 pub mod Opened
 pub mod Openings
