@@ -44,7 +44,7 @@ use Rattle.trace_run.specs.Meeting.{AreLast, IsApart, JoinAll, MadeJoined, PartA
 use Rattle.trace_run.specs.Syncing.{SyncedJoined, SyncsJoined, inserts_in, lines_of}
 use Rattle.trace_run.proofs.CellEnds.{IsUntouched, nothing-from}
 use Rattle.trace_run.proofs.CellsLeft.{LeavesCells}
-use Rattle.trace_run.proofs.EndSteps.{have, q-stands, untouched}
+use Rattle.trace_run.proofs.EndSteps.{have, q-stands, untouched as untouched-by}
 use Rattle.trace_run.proofs.ResizeLemmas.{HasMade, last-of, made-joined, parted, q-all}
 use Rattle.trace_run.proofs.SyncSteps.{AreFound, AreInHand, HasGivenCells, HasTaken, HaveSameHistories, IsFound, IsQuiet, all-given, all-taken, quiet-then}
 use Rattle.trace_run.proofs.callers.MeetLemmas.{own-seen-more}
@@ -93,7 +93,7 @@ module _ (cache : Cache) (p : PartyPlace) (others : List PartyPlace) (stands : S
 
   -- nothing was done to a cell before
   unused : IsUntouched g 0 q
-  unused = untouched cache p others stands alone apart everyone count differ q joins unwritten.0 unwritten.1
+  unused = untouched-by cache p others stands alone apart everyone count differ q joins unwritten.0 unwritten.1
 
   module _ (tick : ℕ) (cells : List OnHeap) (xs : List SyncItem) (Besides : PartyPlace → PartyPlace → Type 0) (r : PartyPlace) (s : SyncsCells g tick cells xs Besides q r) where
     taken : HasTaken g stands.valid 0 cells q s.taken
