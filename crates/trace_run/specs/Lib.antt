@@ -4,6 +4,7 @@ pub mod Answers
 pub mod Bounded
 pub mod CellEnds
 pub mod CheckText
+pub mod Deeds
 pub mod Devices
 pub mod Effects
 pub mod Ends
@@ -12,8 +13,10 @@ pub mod KeptBlocks
 pub mod KeptQueue
 pub mod KeptReads
 pub mod Lines
+pub mod MadeLines
 pub mod Making
 pub mod Meeting
+pub mod Objects
 pub mod Opened
 pub mod Openings
 pub mod Outcome
