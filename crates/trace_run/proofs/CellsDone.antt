@@ -35,12 +35,13 @@ use Rattle.dbuf_cells.specs.Places.{cell_of}
 use Rattle.dbuf_state.specs.Numbers.{event_numbers}
 use Rattle.dbuf_state.specs.declared.event.CellEvent.{CellEvent}
 use Rattle.dbuf_state.specs.declared.oid.Oid.{Oid}
-use Rattle.trace_run.specs.Deeds.{Noted, events_of_cell, lines_of_cell, noted_in}
+use Rattle.trace_run.specs.DbufTurns.{CellsDone, held_through}
+use Rattle.trace_run.specs.Deeds.{Noted, events_of_cell, events_there, lines_of_cell, noted_in}
 use Rattle.trace_run.specs.MadeLines.{made_from, made_of}
 use Rattle.trace_run.specs.Making.{HasSeenItsEvents}
 use Rattle.trace_run.proofs.CellsLeft.{CellsGrow, leaves-seen}
 use Rattle.trace_run.proofs.MadeCells.{given-made, given-made-else, took-made, took-made-else}
-use Rattle.trace_run.proofs.TurnMakes.{AreTurnEvents, TurnMakes, all-made, events_there, held-append, held_through, own-there, starts-on, there-append}
+use Rattle.trace_run.proofs.TurnMakes.{AreTurnEvents, TurnMakes, all-made, held-append, own-there, starts-on, there-append}
 
 noted-here : (i : ℕ) (news : List CellEvent) → events_of_cell i (noted_in i news) ≡ news
 noted-here i [] = refl
@@ -61,25 +62,6 @@ pub lines-append : (i : ℕ) (a b : List Noted) → lines_of_cell i (a ++ b) ≡
 lines-append i a b =
     ap (λ (l : List CellEvent). map line.Entry (map event_numbers l)) (cell-append i a b)
     ∙ (ap (map line.Entry) (map-append event_numbers (events_of_cell i a) (events_of_cell i b)) ∙ map-append line.Entry (map event_numbers (events_of_cell i a)) (map event_numbers (events_of_cell i b)))
-
--- The party did this to cells, and made these events of shards: so it is told by what it made. It has seen all that, and what others did before, and lists what it did.
-pub record CellsDone (g : Config) (noted : List Noted) (es : List Event) (p q : PartyPlace) : Type 0 where
-  pub parties : q.parties ≡ p.parties
-  pub number : q.number ≡ p.number
-  pub joined : q.joined ≡ p.joined
-  pub about : q.own.about ≡ p.own.about
-  pub holds : q.own.ledger.holds ≡ held_through p.number es p.own.ledger.holds
-  pub readings : q.own.ledger.readings ≡ p.own.ledger.readings
-  pub sees : SeesAll g q
-  pub all : HasAll p → HasAll q
-  pub alone : HasAll p → (shard : ℕ) → seen_of g shard q ≡ seen_of g shard p ++ events_there g shard es
-  pub made : (shard : ℕ) → made_of (turn_of g shard) q ≡ made_of (turn_of g shard) p ++ map line.Event (events_there g shard es)
-  pub own : (shard : ℕ) → (ms : List Moment) × (own_moments p.number (moments (opening_of g) (seen_of g shard q)) ≡ own_moments p.number (moments (opening_of g) (seen_of g shard p)) ++ ms)
-      × (map (λ (x : Moment). x.event) ms ≡ own_events p.number (events_there g shard es))
-  pub starts : (i : ℕ) → StartsWith (front_of (turn_of g i) q.own.seen) (front_of (turn_of g i) p.own.seen)
-  pub entries : (i : ℕ) → IsCell g i → made_of i q ≡ made_of i p ++ lines_of_cell i noted
-  pub cells : CellsGrow g p.own.seen q.own.seen
-  pub cells_alone : HasAll p → (i : ℕ) → IsCell g i → front_of i q.own.seen ≡ front_of i p.own.seen ++ lines_of_cell i noted
 
 module _ (g : Config) where
   pub done-none : (p q : PartyPlace) → SeesAll g p → q ≡ p → CellsDone g [] [] p q

@@ -23,11 +23,11 @@ use Rattle.arc_table.specs.Seen.{events_in, seen_of, turn_of}
 use Rattle.arc_table.specs.Telling.{opening_of}
 use Rattle.arc_table.specs.Told.{IsTold}
 use Rattle.arc_table.proofs.SeenLemmas.{events-append, events-map}
-use Rattle.trace_run.specs.Deeds.{HasAct, HasToldAll, Noted, SameMade, act_of_event, acts_of_events, lines_of_cell, with_number}
+use Rattle.trace_run.specs.Deeds.{HasAct, HasToldAll, Noted, SameMade, act_of_event, acts_of_events, events_there, lines_of_cell, with_number}
 use Rattle.trace_run.specs.MadeLines.{made_in, made_of}
 use Rattle.trace_run.proofs.CellsDone.{lines-append}
 use Rattle.trace_run.proofs.MakesLemmas.{MakesMore}
-use Rattle.trace_run.proofs.TurnMakes.{AreTurnEvents, IsTurnEvent, events_there, there-append}
+use Rattle.trace_run.proofs.TurnMakes.{AreTurnEvents, IsTurnEvent, there-append}
 
 -- ---- acts
 

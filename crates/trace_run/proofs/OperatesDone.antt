@@ -20,9 +20,10 @@ use Rattle.dbuf_state.specs.declared.event.CellEvent.TheVariants.{Put, Unpin}
 use Rattle.dbuf_state.specs.declared.fault.DbufFault.{DbufFault}
 use Rattle.dbuf_state.specs.declared.fault.DbufFault.TheVariants as fault
 use Rattle.dbuf_state.specs.declared.oid.Oid.{Oid}
-use Rattle.trace_run.proofs.CellsDone.{CellsDone, done-then, turn-done, waits-done}
+use Rattle.trace_run.proofs.CellsDone.{done-then, turn-done, waits-done}
+use Rattle.trace_run.specs.DbufTurns.{CellsDone, DidOwn, held_through}
 use Rattle.trace_run.specs.Deeds.{noted_in}
-use Rattle.trace_run.proofs.TurnMakes.{AreTurnEvents, IsTurnEvent, held_through}
+use Rattle.trace_run.proofs.TurnMakes.{AreTurnEvents, IsTurnEvent}
 
 all-both : {A : Type 0} (P : A → Type 0) (xs ys : List A) → AllByRecursion P xs → AllByRecursion P ys → AllByRecursion P (xs ++ ys)
 all-both P [] ys a b = b
@@ -51,6 +52,25 @@ held-same n c (e ∷ es) hs all = go all.0 (held-same n c es)
     go (inl drop) rest = ap (λ (x : Event). held_through n (x ∷ es) hs) drop.1 ∙ rest hs all.1
     go (inr release) rest = ap (λ (x : Event). held_through n (x ∷ es) hs) release.2 ∙ rest hs all.1
 
+-- events with the cell's number
+abbrev pub AreOfCell : (c : ℕ) → List Event → Type 0
+AreOfCell c = AllByRecursion (λ e. ((k : Key) × (e ≡ Drop c k)) ⊎ ((k : Key) × (sole : Bool) × (e ≡ Release c k sole)))
+
+at-most-of : (c : ℕ) (k : Key) (es : List Event) → DropsAtMost c k es → AreOfCell c es
+at-most-of c k es (inl none) = subst (AreOfCell c) (sym none) tt
+at-most-of c k es (inr one) = subst (AreOfCell c) (sym one) (inl (k, refl), tt)
+
+evictions-of : (m c : ℕ) (o : Outline) (evs : List CellEvent) (es : List Event) → AreEvictions m c o evs es → AreOfCell c es
+evictions-of m c o [] es none = subst (AreOfCell c) (sym none) tt
+evictions-of m c o (e ∷ evs) es a = subst (AreOfCell c) (sym a.6) (all-both (λ e. ((k : Key) × (e ≡ Drop c k)) ⊎ ((k : Key) × (sole : Bool) × (e ≡ Release c k sole))) a.2 a.3 (at-most-of c a.1.key a.2 a.7) (evictions-of m c (after o e) evs a.3 a.8))
+
+release-of : (c : ℕ) (at : Oid) (o : Outline) (es : List Event) → ReleasesAtMost c at o es → AreOfCell c es
+release-of c at o es (no_hold none) = subst (AreOfCell c) (sym none) tt
+release-of c at o es (one_hold ptr sole there cached is) = subst (AreOfCell c) (sym is) (inr (ptr.key, sole, refl), tt)
+
+both-of : (c : ℕ) (xs ys : List Event) → AreOfCell c xs → AreOfCell c ys → AreOfCell c (xs ++ ys)
+both-of c xs ys a b = all-both (λ e. ((k : Key) × (e ≡ Drop c k)) ⊎ ((k : Key) × (sole : Bool) × (e ≡ Release c k sole))) xs ys a b
+
 -- ---- an operation and its evictions
 
 module _ (g : Config) (valid : IsConfig g) (i : ℕ) (in_range : IsCell g i) (before : OnHeap) (own : List CellEvent) (es : List Event) (p q : PartyPlace) (config : p.own.about.config ≡ g) (sees : SeesAll g p)
@@ -67,14 +87,6 @@ cell-there g valid at = let some_cell = valid.counts.cells.0 in inside (at.objec
     inside n m some_cells = omega (arith, some_cells)
 
 -- ---- puts, and pins that are taken back
-
--- The party did this own thing to the block's cell, and then evicted; these events of shards were made for it.
-pub record DidOwn (g : Config) (at : Oid) (own : CellEvent) (releases : List Event) (p q : PartyPlace) : Type 0 where
-  pub before : OnHeap
-  pub evictions : List CellEvent
-  pub drops : List Event
-  pub evicted : AreEvictions p.number (cell_number g (cell_of g.cells at)) (after_all (outline_in before) (own ∷ [])) evictions drops
-  pub done : CellsDone g (noted_in (cell_of g.cells at) (own ∷ evictions)) (releases ++ drops) p q
 
 module _ (g : Config) (valid : IsConfig g) (at : Oid) (p q : PartyPlace) (config : p.own.about.config ≡ g) (sees : SeesAll g p) where
   abbrev i : ℕ
@@ -102,6 +114,9 @@ module _ (g : Config) (valid : IsConfig g) (at : Oid) (p q : PartyPlace) (config
           drops = o.drops;
           evicted = subst (λ (n : ℕ). AreEvictions n (cell_number g i) (after_all (outline_in once.before) (Put n at size fill ∷ [])) o.evictions o.drops) number o.evicted;
           done = subst (λ (n : ℕ). CellsDone g (noted_in i (Put n at size fill ∷ o.evictions)) (once.happens.es ++ o.drops) p q) number (done-then g [] _ [] _ p once.ready q w d);
+          holds = (done-then g [] _ [] _ p once.ready q w d).holds
+              ∙ held-same p.number (cell_number g i) (once.happens.es ++ o.drops) p.own.ledger.holds
+              (both-of (cell_number g i) once.happens.es o.drops (release-of (cell_number g i) at (outline_in once.before) once.happens.es once.happens.releases) (evictions-of once.ready.number (cell_number g i) _ o.evictions o.drops o.evicted));
         },
       )
 
@@ -117,6 +132,8 @@ module _ (g : Config) (valid : IsConfig g) (at : Oid) (p q : PartyPlace) (config
         drops = o.drops;
         evicted = subst (λ (n : ℕ). AreEvictions n (cell_number g i) (after_all (outline_in once.before) (Unpin n at ∷ [])) o.evictions o.drops) number o.evicted;
         done = subst (λ (n : ℕ). CellsDone g (noted_in i (Unpin n at ∷ o.evictions)) ([] ++ o.drops) p q) number (done-then g [] _ [] _ p once.ready q w d);
+        holds = (done-then g [] _ [] _ p once.ready q w d).holds
+            ∙ held-same p.number (cell_number g i) ([] ++ o.drops) p.own.ledger.holds (evictions-of once.ready.number (cell_number g i) _ o.evictions o.drops o.evicted);
       }
 
   -- where it had no pin, nothing was done

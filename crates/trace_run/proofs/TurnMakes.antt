@@ -43,14 +43,12 @@ use Rattle.arc_table.proofs.MadeLemmas.{does-made}
 use Rattle.arc_table.proofs.OwnLemmas.{grows, made-all, made-alone, made-own, made-sees}
 use Rattle.arc_table.proofs.reads.ReadMoments.{own-single-by}
 use Rattle.dbuf_cells.specs.Turns.{LooksTimes, MakesAll, PartyPlace, dbuf_meanings}
+use Rattle.trace_run.specs.DbufTurns.{held_after, held_through}
+use Rattle.trace_run.specs.Deeds.{events_there}
 use Rattle.trace_run.specs.MadeLines.{made_of}
 use Rattle.trace_run.specs.Making.{HasSeenItsEvents}
 use Rattle.trace_run.proofs.CellsLeft.{LeavesCells, does-leaves, leaves-same, leaves-then}
 use Rattle.trace_run.proofs.MakesLemmas.{MakesMore, does-long, makes-more}
-
--- the events of these that are of keys of this shard
-abbrev pub events_there : Config → (shard : ℕ) → List Event → List Event
-events_there g shard = filter (λ e. option_map_or (λ k. shard_of g.shards k == shard) (event_key e) false)
 
 -- With a cell in hand its party hands a hold of its own to the cell, or drops or releases one with the cell's number c.
 abbrev pub IsTurnEvent : (n c : ℕ) → Event → Type 0
@@ -58,15 +56,6 @@ IsTurnEvent n c e = ((k : Key) × (e ≡ Hand n k c)) ⊎ ((k : Key) × (e ≡ D
 
 abbrev pub AreTurnEvents : (n c : ℕ) → List Event → Type 0
 AreTurnEvents n c = AllByRecursion (IsTurnEvent n c)
-
--- what the number n holds behind one of these, and behind all
-abbrev pub held_after : (n : ℕ) → Event → List Ptr → List Ptr
-held_after n (Hand m k to) hs = if n == m then without_hold k hs else hs
-held_after n other hs = hs
-
-abbrev pub held_through : (n : ℕ) → List Event → List Ptr → List Ptr
-held_through n [] hs = hs
-held_through n (e ∷ es) hs = held_through n es (held_after n e hs)
 
 -- The party made these events of shards: it has seen them, and what others did before; it lists what it did, and of cells it has seen what it had.
 pub record TurnMakes (g : Config) (es : List Event) (p q : PartyPlace) : Type 0 where

@@ -1,11 +1,12 @@
 -- What a party did, as what it made of histories tells it.
-use Rattle.std.specs.Prelude.{◌≡◌, ◌==◌, ℕ, ◌≤◌, filter, if◌then◌else◌, List, [], ◌∷◌, ◌++◌, map}
+use Rattle.std.specs.Prelude.{◌≡◌, ◌==◌, ℕ, ◌≤◌, false, filter, if◌then◌else◌, List, [], ◌∷◌, ◌++◌, map}
 use Rattle.std.specs.List.{AllByRecursion}
+use Rattle.std.specs.Option.{option_map_or}
 use Rattle.blk_ptr.specs.Hash.{shard_of}
 use Rattle.arc_core.specs.declared.config.Config.{Config}
 use Rattle.arc_core.specs.declared.event.Event.{Event}
 use Rattle.arc_core.specs.declared.event.Event.TheVariants.{Pass, Hit, Miss, Arrive, Fail, Drop, Past, Hand, Insert, Release, Pick, FeedEnd, Set, Leave, Clear, Restore, Resize}
-use Rattle.arc_core.specs.Operations.{Act, GivesBack, MakesPrivate, Writes, acts_in, number_of}
+use Rattle.arc_core.specs.Operations.{Act, GivesBack, MakesPrivate, Writes, acts_in, event_key, number_of}
 use Rattle.turn_table.specs.Places.{Place}
 use Rattle.arc_table.specs.declared.view.Known.{Known}
 use Rattle.arc_table.specs.declared.view.Line.{Line}
@@ -47,6 +48,10 @@ HasAct e = (act : Act) × (act_of_event e ≡ act ∷ [])
 -- of these events those with this number
 abbrev pub with_number : ℕ → List Event → List Event
 with_number c = filter (λ e. number_of e == c)
+
+-- the events of these that are of keys of this shard
+abbrev pub events_there : Config → (shard : ℕ) → List Event → List Event
+events_there g shard = filter (λ e. option_map_or (λ k. shard_of g.shards k == shard) (event_key e) false)
 
 -- what was done to a cell, with the cell's number
 pub record Noted : Type 0 where

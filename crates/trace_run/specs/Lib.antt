@@ -4,6 +4,7 @@ pub mod Answers
 pub mod Bounded
 pub mod CellEnds
 pub mod CheckText
+pub mod DbufTurns
 pub mod Deeds
 pub mod Devices
 pub mod Effects
