@@ -32,6 +32,7 @@ pub mod ResizeLemmas
 pub mod RestoreLemmas
 pub mod RunLemmas
 pub mod ServeLemmas
+pub mod StandsDone
 pub mod TakenLemmas
 pub mod TurnMakes
 pub mod callers

@@ -1,5 +1,5 @@
 -- What the calls on dbufs that bring no block come to for their party.
-use Rattle.std.proofs.Common.{◌≡◌, ◌⊎◌, ℕ, zero, suc, ◌+◌, ◌<◌, ◌≤◌, ◌%◌, Bool, List, [], ◌∷◌, ◌++◌, Result, Ok, Err, refl, sym, ap, ◌∙◌, subst, inl, inr, arith, append-nil}
+use Rattle.std.proofs.Common.{◌≡◌, ◌⊎◌, ℕ, zero, suc, ◌+◌, ◌<◌, ◌≤◌, ◌%◌, Bool, false, List, [], ◌∷◌, ◌++◌, Result, Ok, Err, refl, sym, ap, ◌∙◌, subst, inl, inr, arith, append-nil}
 use Rattle.std.specs.List.{AllByRecursion}
 use Rattle.blk_ptr.specs.declared.key.Key.{Key}
 use Rattle.blk_ptr.specs.declared.ptr.Ptr.{Ptr}
@@ -137,8 +137,8 @@ module _ (g : Config) (valid : IsConfig g) (at : Oid) (p q : PartyPlace) (config
       }
 
   -- where it had no pin, nothing was done
-  pub no-pin-done : (T : Type 0) (named : Oid) → AnswersUnhold {T = T} g at p q (Err (fault.NoPin named)) → (named ≡ at) × CellsDone g [] [] p q
+  pub no-pin-done : (T : Type 0) (named : Oid) → AnswersUnhold {T = T} g at p q (Err (fault.NoPin named)) → (before : OnHeap) × (named ≡ at) × (has_pin_at p.number at (outline_in before) ≡ false) × CellsDone g [] [] p q
   no-pin-done T named once =
       let w = waited once in
       let d = turn-done g valid i (cell-there g valid at) once.before [] [] once.ready q (ready-config once) w.sees tt once.happens.1 in
-      (once.happens.0, done-then g [] [] [] [] p once.ready q w d)
+      (once.before, once.happens.0, subst (λ (n : ℕ). has_pin_at n at (outline_in once.before) ≡ false) w.number once.happens.2, done-then g [] [] [] [] p once.ready q w d)

@@ -17,6 +17,7 @@ pub mod Lines
 pub mod MadeLines
 pub mod Making
 pub mod Meeting
+pub mod ObjectLines
 pub mod Objects
 pub mod Opened
 pub mod Openings
