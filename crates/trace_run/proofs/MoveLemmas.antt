@@ -157,7 +157,7 @@ module _ {C : Type 0} (m : Meanings C) (g : Config) (valid : IsConfig g) (k : Ke
   pub roomy-made-own : (e : Event) → (number_of e ≡ p.number) × (is_pass e ≡ false) × IsTrue (goes_on p.number e) → (d : DoesRoomy m g k e p q) → MadeBy (IsNumberOrCell g) g (shard_of g.shards k) d.before (d.makes.passes ++ e ∷ []) p q
   roomy-made-own e fits d = roomy-made m g valid k e p q config seen (inl refl) (inl fits.0, fits.1, fits.2) d
 
-  roomy-mine : (e : Event) → (number_of e ≡ p.number) × (is_pass e ≡ false) × IsTrue (goes_on p.number e) → (d : DoesRoomy m g k e p q) → AreOwn (parties_of g) p.number (d.makes.passes ++ e ∷ [])
+  pub roomy-mine : (e : Event) → (number_of e ≡ p.number) × (is_pass e ≡ false) × IsTrue (goes_on p.number e) → (d : DoesRoomy m g k e p q) → AreOwn (parties_of g) p.number (d.makes.passes ++ e ∷ [])
   roomy-mine e fits d z x at =
       let r = reached m g k d.chain d.before p d.reached d.takes in
       let h = (roomy-made-own e fits d).own z x at in

@@ -6,6 +6,8 @@ pub mod CellEnds
 pub mod CheckText
 pub mod DeviceReads
 pub mod DeviceUse
+pub mod DbufTurns
+pub mod Deeds
 pub mod Devices
 pub mod Effects
 pub mod Ends
@@ -14,8 +16,11 @@ pub mod KeptBlocks
 pub mod KeptQueue
 pub mod KeptReads
 pub mod Lines
+pub mod MadeLines
 pub mod Making
 pub mod Meeting
+pub mod ObjectLines
+pub mod Objects
 pub mod Opened
 pub mod Openings
 pub mod Outcome
