@@ -4,10 +4,10 @@ pub mod Answers
 pub mod Bounded
 pub mod CellEnds
 pub mod CheckText
-pub mod DeviceReads
-pub mod DeviceUse
 pub mod DbufTurns
 pub mod Deeds
+pub mod DeviceReads
+pub mod DeviceUse
 pub mod Devices
 pub mod Effects
 pub mod Ends
@@ -33,5 +33,5 @@ pub mod Stream
 pub mod Syncing
 pub mod Tally
 pub mod Words
-pub mod one_caller
 pub mod callers
+pub mod one_caller

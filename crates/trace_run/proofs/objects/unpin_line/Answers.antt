@@ -2,8 +2,8 @@
 use Rattle.std.proofs.Common.{[], Result, Err, ap, ◌∙◌, subst}
 use Rattle.dbuf_cells.specs.Unholding.{AnswersUnhold}
 use Rattle.dbuf_state.specs.declared.fault.DbufFault.{DbufFault}
-use Rattle.trace_run.proofs.OperatesDone.{no-pin-done, unhold-done}
-use Rattle.trace_run.proofs.StandsDone.{stands-done}
+use Rattle.trace_run.proofs.deeds.OperatesDone.{no-pin-done, unhold-done}
+use Rattle.trace_run.proofs.deeds.StandsDone.{stands-done}
 use Rattle.trace_run.proofs.objects.unpin_line.Goals as goal
 
 pub returns-in-Ok-clause-stands : goal.returns-in-Ok-clause-stands

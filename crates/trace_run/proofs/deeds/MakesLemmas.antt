@@ -26,7 +26,7 @@ use Rattle.arc_table.proofs.Afterwards.{does_mine}
 use Rattle.arc_table.proofs.PassMines.{mines_of_are}
 use Rattle.arc_table.proofs.scans.RoomyAfter.{does_roomy_mine}
 use Rattle.trace_run.specs.MadeLines.{made_from, made_of}
-use Rattle.trace_run.proofs.MadeLemmas.{AreBelow, made-else, made-grown, made-more}
+use Rattle.trace_run.proofs.deeds.MadeLemmas.{AreBelow, made-else, made-grown, made-more}
 
 -- lines that are seen stand in what was seen
 pub seen-below : {May : (n number : ℕ) → Type 0} (g : Config) (n : ℕ) (mines : List Mine) (seen : List (List Line)) (shard : ℕ) → AreSeenBy May g n mines seen → AreBelow (turn_of g shard) (length (front_of (turn_of g shard) seen)) mines

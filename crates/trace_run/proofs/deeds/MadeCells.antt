@@ -28,8 +28,8 @@ use Rattle.arc_table.specs.TableLaws.{front_else, front_here, starts_whole}
 use Rattle.arc_table.specs.Views.{after_cell, mines_from, recorded}
 use Rattle.arc_table.proofs.Reached.{Took}
 use Rattle.trace_run.specs.MadeLines.{is_listed, made_from, made_of, owned_from}
-use Rattle.trace_run.proofs.MadeLemmas.{AreBelow, at-listed, listed-at, listed-none, made-else, made-grown, made-more}
-use Rattle.trace_run.proofs.MakesLemmas.{entries-below}
+use Rattle.trace_run.proofs.deeds.MadeLemmas.{AreBelow, at-listed, listed-at, listed-none, made-else, made-grown, made-more}
+use Rattle.trace_run.proofs.deeds.MakesLemmas.{entries-below}
 
 -- ---- a cell that is taken
 

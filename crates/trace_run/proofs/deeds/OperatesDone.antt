@@ -20,10 +20,10 @@ use Rattle.dbuf_state.specs.declared.event.CellEvent.TheVariants.{Put, Unpin}
 use Rattle.dbuf_state.specs.declared.fault.DbufFault.{DbufFault}
 use Rattle.dbuf_state.specs.declared.fault.DbufFault.TheVariants as fault
 use Rattle.dbuf_state.specs.declared.oid.Oid.{Oid}
-use Rattle.trace_run.proofs.CellsDone.{done-then, turn-done, waits-done}
+use Rattle.trace_run.proofs.deeds.CellsDone.{done-then, turn-done, waits-done}
 use Rattle.trace_run.specs.DbufTurns.{CellsDone, DidOwn, held_through}
 use Rattle.trace_run.specs.Deeds.{noted_in}
-use Rattle.trace_run.proofs.TurnMakes.{AreTurnEvents, IsTurnEvent}
+use Rattle.trace_run.proofs.deeds.TurnMakes.{AreTurnEvents, IsTurnEvent}
 
 all-both : {A : Type 0} (P : A → Type 0) (xs ys : List A) → AllByRecursion P xs → AllByRecursion P ys → AllByRecursion P (xs ++ ys)
 all-both P [] ys a b = b

@@ -19,7 +19,7 @@ use Rattle.arc_table.specs.declared.view.Line.{Line}
 use Rattle.arc_table.specs.declared.view.Line.TheVariants as line
 use Rattle.trace_run.specs.Deeds.{HasAct, act_of_event, acts_of_events, with_number}
 use Rattle.trace_run.specs.MadeLines.{owned_from}
-use Rattle.trace_run.proofs.MadeCells.{owned-map}
+use Rattle.trace_run.proofs.deeds.MadeCells.{owned-map}
 
 -- ---- cells
 

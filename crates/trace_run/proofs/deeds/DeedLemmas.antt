@@ -25,9 +25,9 @@ use Rattle.arc_table.specs.Told.{IsTold}
 use Rattle.arc_table.proofs.SeenLemmas.{events-append, events-map}
 use Rattle.trace_run.specs.Deeds.{HasAct, HasToldAll, Noted, SameMade, act_of_event, acts_of_events, events_there, lines_of_cell, with_number}
 use Rattle.trace_run.specs.MadeLines.{made_in, made_of}
-use Rattle.trace_run.proofs.CellsDone.{lines-append}
-use Rattle.trace_run.proofs.MakesLemmas.{MakesMore}
-use Rattle.trace_run.proofs.TurnMakes.{AreTurnEvents, IsTurnEvent, there-append}
+use Rattle.trace_run.proofs.deeds.CellsDone.{lines-append}
+use Rattle.trace_run.proofs.deeds.MakesLemmas.{MakesMore}
+use Rattle.trace_run.proofs.deeds.TurnMakes.{AreTurnEvents, IsTurnEvent, there-append}
 
 -- ---- acts
 

@@ -40,8 +40,8 @@ use Rattle.trace_run.specs.Deeds.{Noted, events_of_cell, events_there, lines_of_
 use Rattle.trace_run.specs.MadeLines.{made_from, made_of}
 use Rattle.trace_run.specs.Making.{HasSeenItsEvents}
 use Rattle.trace_run.proofs.CellsLeft.{CellsGrow, leaves-seen}
-use Rattle.trace_run.proofs.MadeCells.{given-made, given-made-else, took-made, took-made-else}
-use Rattle.trace_run.proofs.TurnMakes.{AreTurnEvents, TurnMakes, all-made, held-append, own-there, starts-on, there-append}
+use Rattle.trace_run.proofs.deeds.MadeCells.{given-made, given-made-else, took-made, took-made-else}
+use Rattle.trace_run.proofs.deeds.TurnMakes.{AreTurnEvents, TurnMakes, all-made, held-append, own-there, starts-on, there-append}
 
 noted-here : (i : ℕ) (news : List CellEvent) → events_of_cell i (noted_in i news) ≡ news
 noted-here i [] = refl

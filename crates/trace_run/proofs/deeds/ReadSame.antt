@@ -32,8 +32,8 @@ use Rattle.arc_table.proofs.reads.ReadMoments.{own-none, own-single}
 use Rattle.trace_run.specs.Deeds.{SameMade}
 use Rattle.trace_run.specs.Making.{HasSeenItsEvents}
 use Rattle.trace_run.proofs.CellsLeft.{LeavesCells, does-leaves, leaves-same, leaves-then, roomy-leaves}
-use Rattle.trace_run.proofs.DeedLemmas.{own-same, same-then}
-use Rattle.trace_run.proofs.MakesLemmas.{does-long, makes-more, roomy-long}
+use Rattle.trace_run.proofs.deeds.DeedLemmas.{own-same, same-then}
+use Rattle.trace_run.proofs.deeds.MakesLemmas.{does-long, makes-more, roomy-long}
 use Rattle.trace_run.proofs.MoveLemmas.{does-made-own, roomy-made-own, roomy-mine}
 
 -- The party has seen of cells what it had, and made nothing of them and nothing with their numbers; and it has seen all events that it made.

@@ -21,11 +21,11 @@ use Rattle.dbuf_cells.specs.Turns.{CellTurn, OnHeap, Operates, PartyPlace, dbuf_
 use Rattle.dbuf_state.specs.declared.event.CellEvent.{CellEvent}
 use Rattle.dbuf_state.specs.declared.event.CellEvent.TheVariants.{Load, Patch}
 use Rattle.dbuf_state.specs.declared.oid.Oid.{Oid}
-use Rattle.trace_run.proofs.CellsDone.{turn-done}
+use Rattle.trace_run.proofs.deeds.CellsDone.{turn-done}
 use Rattle.trace_run.specs.DbufTurns.{CellsDone}
 use Rattle.trace_run.specs.Deeds.{noted_in}
-use Rattle.trace_run.proofs.OperatesDone.{operates-done, release-kinds}
-use Rattle.trace_run.proofs.TurnMakes.{AreTurnEvents, IsTurnEvent}
+use Rattle.trace_run.proofs.deeds.OperatesDone.{operates-done, release-kinds}
+use Rattle.trace_run.proofs.deeds.TurnMakes.{AreTurnEvents, IsTurnEvent}
 
 all-both : {A : Type 0} (P : A → Type 0) (xs ys : List A) → AllByRecursion P xs → AllByRecursion P ys → AllByRecursion P (xs ++ ys)
 all-both P [] ys a b = b

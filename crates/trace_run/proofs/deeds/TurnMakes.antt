@@ -48,7 +48,7 @@ use Rattle.trace_run.specs.Deeds.{events_there}
 use Rattle.trace_run.specs.MadeLines.{made_of}
 use Rattle.trace_run.specs.Making.{HasSeenItsEvents}
 use Rattle.trace_run.proofs.CellsLeft.{LeavesCells, does-leaves, leaves-same, leaves-then}
-use Rattle.trace_run.proofs.MakesLemmas.{MakesMore, does-long, makes-more}
+use Rattle.trace_run.proofs.deeds.MakesLemmas.{MakesMore, does-long, makes-more}
 
 -- With a cell in hand its party hands a hold of its own to the cell, or drops or releases one with the cell's number c.
 abbrev pub IsTurnEvent : (n c : ℕ) → Event → Type 0
