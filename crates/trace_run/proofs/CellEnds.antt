@@ -140,7 +140,7 @@ AreDropsOf c = AllByRecursion (λ e. (k : Key) × (e ≡ Drop c k))
 abbrev pub AreCellDrops : Config → List Event → Type 0
 AreCellDrops g = AllByRecursion (λ e. parties_of g ≤ number_of e)
 
-all-then : (P : Event → Type 0) (xs ys : List Event) → AllByRecursion P xs → AllByRecursion P ys → AllByRecursion P (xs ++ ys)
+pub all-then : (P : Event → Type 0) (xs ys : List Event) → AllByRecursion P xs → AllByRecursion P ys → AllByRecursion P (xs ++ ys)
 all-then P [] ys a b = b
 all-then P (x ∷ xs) ys a b = (a.0, all-then P xs ys a.1 b)
 
@@ -190,7 +190,7 @@ pub record HasDropped (g : Config) (es : List Event) (p q : PartyPlace) : Type 0
   pub events : es ≡ [] → AreSeen g p.number p.own.mine p.own.seen → AreSeen g q.number q.own.mine q.own.seen
 
 module _ (g : Config) where
-  dropped-none : (p q : PartyPlace) → HasSeenItsEvents g p → HasAll p → q ≡ p → HasDropped g [] p q
+  pub dropped-none : (p q : PartyPlace) → HasSeenItsEvents g p → HasAll p → q ≡ p → HasDropped g [] p q
   dropped-none p q sees all e = subst (HasDropped g [] p) (sym e) record {
     left = leaves-same g p p refl;
     holds = refl;
@@ -210,7 +210,7 @@ module _ (g : Config) where
   none-both [] fs is = (refl, is)
   none-both (e ∷ es) fs is = cc
 
-  dropped-then : (es fs : List Event) (p q r : PartyPlace) → HasDropped g es p q → HasDropped g fs q r → HasDropped g (es ++ fs) p r
+  pub dropped-then : (es fs : List Event) (p q r : PartyPlace) → HasDropped g es p q → HasDropped g fs q r → HasDropped g (es ++ fs) p r
   dropped-then es fs p q r a b = record {
     left = leaves-then g p q r a.left b.left;
     holds = b.holds ∙ a.holds;

@@ -25,6 +25,7 @@ pub mod ResizeLemmas
 pub mod RestoreLemmas
 pub mod RunLemmas
 pub mod ServeLemmas
+pub mod SyncInserts
 pub mod SyncJoined
 pub mod SyncSteps
 pub mod TakenLemmas

@@ -8,6 +8,7 @@ use native.Mathlib.Decide.{ℕ_discrete}
 use Rattle.arc_core.specs.Config.{IsConfig}
 use Rattle.arc_core.specs.declared.config.Config.{Config}
 use Rattle.turn_table.specs.Places.{IsIn, gave_back, saw}
+use Rattle.turn_table.specs.Board.{IsAmong}
 use Rattle.turn_table.specs.declared.standing.Kept.{Kept}
 use Rattle.arc_table.specs.declared.about.About.{About}
 use Rattle.arc_table.specs.declared.item.Item.{Item}
@@ -151,6 +152,9 @@ module _ (g : Config) (valid : IsConfig g) where
       starts = λ k. subst (λ (l : List Line). StartsWith l (front_of (turn_of g k) p.own.seen)) (sym (take-fronts (turn_of g k))) (starts_whole (front_of (turn_of g k) p.own.seen));
     }
 
+    pub take-held : r.held ≡ i ∷ p.held
+    take-held = took.held
+
     pub take-mine : r.own.mine ≡ p.own.mine
     take-mine = took.mine
 
@@ -184,6 +188,7 @@ module _ (g : Config) (valid : IsConfig g) where
     pub quiet : IsQuiet g p q
     pub made : HasSeenItsEntries g q
     pub mine : q.own.mine ≡ p.own.mine
+    pub held : (j : ℕ) → (i ≤ j) × (j < i + length cs) ⊎ IsAmong j p.held → IsAmong j q.held
     pub fronts : (j : ℕ) → front_of j q.own.seen ≡ front_of j p.own.seen
     pub below : (j : ℕ) → j < i → item_at j q.own.records ≡ item_at j p.own.records
     pub hand : AreInHand i cs q
@@ -199,6 +204,10 @@ module _ (g : Config) (valid : IsConfig g) where
     quiet = quiet-same g p p sees all refl;
     made = made;
     mine = refl;
+    held = λ j which. elim which [
+      | inl new ↦ absurd (omega (arith, new.0, new.1))
+      | inr old ↦ old
+    ];
     fronts = λ j. refl;
     below = λ j lt. refl;
     hand = tt;
@@ -215,6 +224,12 @@ module _ (g : Config) (valid : IsConfig g) where
         quiet = quiet-then g p r q quiet rest.quiet;
         made = rest.made;
         mine = rest.mine ∙ take-mine i in_range c p r config sees all made t.1;
+        held = λ j which. rest.held j (elim which [
+          | inl new ↦ dite (ℕ_discrete j i)
+              (λ is. inr (subst (IsAmong j) (sym (take-held i in_range c p r config sees all made t.1)) (inl (sym is))))
+              (λ differs. inl (omega (arith, new.0, differs), omega (arith, new.1)))
+          | inr old ↦ inr (subst (IsAmong j) (sym (take-held i in_range c p r config sees all made t.1)) (inr old))
+        ]);
         fronts = λ j. rest.fronts j ∙ take-fronts i in_range c p r config sees all made t.1 j;
         below = λ j lt. rest.below j (omega (arith, lt)) ∙ take-else i in_range c p r config sees all made t.1 j (λ is. omega (arith, lt, is));
         hand = (record { recorded = rest.below i (omega arith) ∙ first.recorded; seen = rest.fronts i ∙ first.seen }, rest.hand);
