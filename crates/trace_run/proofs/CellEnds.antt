@@ -252,7 +252,7 @@ module _ (g : Config) (valid : IsConfig g) where
         events = λ none seen. made-only g here d.before es p q made (subst (AreOwn (parties_of g) p.number) (sym none) (own-none p.number)) seen;
       }
 
-  look-dropped : (times : ℕ) (p q : PartyPlace) → p.own.about.config ≡ g → HasSeenItsEvents g p → HasAll p → LooksTimes g times p q → HasDropped g [] p q
+  pub look-dropped : (times : ℕ) (p q : PartyPlace) → p.own.about.config ≡ g → HasSeenItsEvents g p → HasAll p → LooksTimes g times p q → HasDropped g [] p q
   look-dropped zero p q config sees all is = dropped-none g p q sees all is
   look-dropped (suc times) p q config sees all l =
       let before = look-dropped times p l.1 config sees all l.2 in

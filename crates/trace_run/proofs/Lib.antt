@@ -28,6 +28,7 @@ pub mod ServeLemmas
 pub mod SyncInserts
 pub mod SyncJoined
 pub mod SyncSteps
+pub mod SyncWrites
 pub mod TakenLemmas
 pub mod callers
 pub mod deeds

@@ -31,10 +31,11 @@ use Rattle.arc_table.proofs.scans.ScanAlone.{scan-alone}
 use Rattle.dbuf_cells.specs.Turns.{PartyPlace, dbuf_meanings}
 use Rattle.txg_sync.specs.Items.{SyncItem}
 use Rattle.txg_sync.specs.Laws.{InsertsEach}
+use Rattle.txg_sync.specs.Turns.{InsertsAll, InsertsItem, inserted, there}
 use Rattle.trace_run.specs.CellEnds.{events_there}
 use Rattle.trace_run.specs.Making.{HasSeenItsEvents}
 use Rattle.trace_run.specs.Syncing.{inserts_in}
-use Rattle.trace_run.proofs.CellEnds.{AreCellDrops, HasDropped, dropped-none, dropped-then}
+use Rattle.trace_run.proofs.CellEnds.{AreCellDrops, HasDropped, dropped-none, dropped-then, look-dropped}
 use Rattle.trace_run.proofs.CellsLeft.{roomy-leaves}
 
 module _ (g : Config) (tick : ℕ) where
@@ -52,6 +53,11 @@ module _ (g : Config) (tick : ℕ) where
     | inl here ↦ rw here (ap (λ (l : List Event). insert_of x ∷ l) (inserts-there shard xs))
     | inr out ↦ rw out (inserts-there shard xs)
   ]
+
+  -- These are the Inserts of those of these blocks whose keys were not there. A block whose key was there has none.
+  abbrev pub AreInserts : List SyncItem → List Event → Type 0
+  AreInserts [] es = es ≡ []
+  AreInserts (x ∷ xs) es = (rest : List Event) × AreInserts xs rest × ((es ≡ insert_of x ∷ rest) ⊎ (es ≡ rest))
 
   pub inserts-cells : (xs : List SyncItem) → AreCellDrops g (inserts_of xs)
   inserts-cells [] = tt
@@ -119,12 +125,41 @@ module _ (g : Config) (valid : IsConfig g) (tick : ℕ) where
 
   -- ---- all blocks
 
+  pub record HasInserted (xs : List SyncItem) (p q : PartyPlace) : Type 0 where
+    pub events : List Event
+    pub are : AreInserts g tick xs events
+    pub cells : AreCellDrops g events
+    pub did : HasDropped g events p q
+
   pub all-inserted : (xs : List SyncItem) (p q : PartyPlace) → p.own.about.config ≡ g → p.number < parties_of g → HasSeenItsEvents g p → HasAll p → ((j : ℕ) → IsCell g j → IsAmong j p.held)
+      → AllByRecursion (λ x. IsCell g x.due.cell) xs → InsertsAll g tick xs p q → HasInserted xs p q
+  all-inserted [] p q config low sees all hand inside is = record { events = []; are = refl; cells = tt; did = dropped-none g p q sees all is }
+  all-inserted (x ∷ xs) p q config low sees all hand inside did = go did.1 (λ es a.
+      all-inserted xs did.0 q (ap (λ (y : About). y.config) a.left.stays.about ∙ config) (subst (λ (n : ℕ). n < parties_of g) (sym a.left.stays.number) low) a.sees a.all
+      (λ j in_range. subst (IsAmong j) (sym a.left.stays.held) (hand j in_range)) inside.1 did.2)
+    where
+      go : InsertsItem g tick x p did.0 → ((es : List Event) → HasDropped g es p did.0 → HasInserted xs did.0 q) → HasInserted (x ∷ xs) p q
+      go (inserted d) rest =
+          let a = one-inserted x p did.0 config low sees all hand inside.0 d in
+          let b = rest (insert_of g tick x ∷ []) a in
+          record {
+            events = insert_of g tick x ∷ b.events;
+            are = (b.events, b.are, inl refl);
+            cells = (omega arith, b.cells);
+            did = dropped-then g (insert_of g tick x ∷ []) b.events p did.0 q a b.did;
+          }
+      go (there front d tells) rest =
+          let a = look-dropped g valid 1 p did.0 config sees all (x.ptr.key, p, refl, d) in
+          let b = rest [] a in
+          record { events = b.events; are = (b.events, b.are, inr refl); cells = b.cells; did = dropped-then g [] b.events p did.0 q a b.did }
+
+  -- where none of their keys was there
+  pub each-inserted : (xs : List SyncItem) (p q : PartyPlace) → p.own.about.config ≡ g → p.number < parties_of g → HasSeenItsEvents g p → HasAll p → ((j : ℕ) → IsCell g j → IsAmong j p.held)
       → AllByRecursion (λ x. IsCell g x.due.cell) xs → InsertsEach g tick xs p q → HasDropped g (inserts_of g tick xs) p q
-  all-inserted [] p q config low sees all hand inside is = dropped-none g p q sees all is
-  all-inserted (x ∷ xs) p q config low sees all hand inside did =
+  each-inserted [] p q config low sees all hand inside is = dropped-none g p q sees all is
+  each-inserted (x ∷ xs) p q config low sees all hand inside did =
       let r : PartyPlace = did.0 in
       let a = one-inserted x p r config low sees all hand inside.0 did.1 in
-      let rest = all-inserted xs r q (ap (λ (y : About). y.config) a.left.stays.about ∙ config) (subst (λ (n : ℕ). n < parties_of g) (sym a.left.stays.number) low) a.sees a.all
+      let rest = each-inserted xs r q (ap (λ (y : About). y.config) a.left.stays.about ∙ config) (subst (λ (n : ℕ). n < parties_of g) (sym a.left.stays.number) low) a.sees a.all
       (λ j in_range. subst (IsAmong j) (sym a.left.stays.held) (hand j in_range)) inside.1 did.2 in
       dropped-then g (insert_of g tick x ∷ []) (inserts_of g tick xs) p r q a rest

@@ -106,7 +106,7 @@ abbrev pub AreFound : (i : ℕ) → PartyPlace → List OnHeap → Type 0
 AreFound i p [] = Unit {0}
 AreFound i p (c ∷ cs) = IsFound i p c × AreFound (suc i) p cs
 
-in-hand-as : (i : ℕ) (cs : List OnHeap) (p q : PartyPlace) → ((j : ℕ) → i ≤ j → j < i + length cs → (item_at j q.own.records ≡ item_at j p.own.records) × (front_of j q.own.seen ≡ front_of j p.own.seen)) → AreInHand i cs p → AreInHand i cs q
+pub in-hand-as : (i : ℕ) (cs : List OnHeap) (p q : PartyPlace) → ((j : ℕ) → i ≤ j → j < i + length cs → (item_at j q.own.records ≡ item_at j p.own.records) × (front_of j q.own.seen ≡ front_of j p.own.seen)) → AreInHand i cs p → AreInHand i cs q
 in-hand-as i [] p q same hand = tt
 in-hand-as i (c ∷ cs) p q same hand =
     let here = same i (omega arith) (omega arith) in (

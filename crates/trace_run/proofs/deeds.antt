@@ -6,6 +6,7 @@ pub mod MadeCells
 pub mod MadeLemmas
 pub mod MakesLemmas
 pub mod OperatesDone
+pub mod OwnAlone
 pub mod ReadSame
 pub mod StandsDone
 pub mod TurnMakes
