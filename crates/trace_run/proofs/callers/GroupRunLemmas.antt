@@ -230,10 +230,13 @@ module _ {C : Type 0} (cache : Cache) (restored : List Restored) (len : ℕ) (im
 
   -- no party has made an entry of a cell
   pub come-unwritten : AllByRecursion (λ o. AreNoEntries cache.config o.own.mine) (crew.feeder ∷ crew.parties.items)
-  come-unwritten = (come.feeder.only.entries, all-from crew.parties.items (λ k p at.
-      let b = come.each k (subst (λ (c : ℕ). k < c) come.parties (within crew.parties.items k p at)) in
-      let same : b.party ≡ p = some-injective b.party p (sym b.at.party_at ∙ at) in
-      subst (λ (q : Place (Known C)). AreNoEntries cache.config q.own.mine) same b.come.waits.told.only.entries))
+  come-unwritten = (
+    come.feeder.only.entries,
+    all-from crew.parties.items (λ k p at.
+        let b = come.each k (subst (λ (c : ℕ). k < c) come.parties (within crew.parties.items k p at)) in
+        let same : b.party ≡ p = some-injective b.party p (sym b.at.party_at ∙ at) in
+        subst (λ (q : Place (Known C)). AreNoEntries cache.config q.own.mine) same b.come.waits.told.only.entries),
+  )
     where
       all-from : (ps : List (Place (Known C))) → ((k : ℕ) (p : Place (Known C)) → get_elem? ps k ≡ some p → AreNoEntries cache.config p.own.mine) → AllByRecursion (λ o. AreNoEntries cache.config o.own.mine) ps
       all-from [] each = tt

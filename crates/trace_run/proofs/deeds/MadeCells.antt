@@ -102,8 +102,8 @@ listed-owned owner turn n place mines (l ∷ ls) same =
     let z : place + 0 ≡ place = omega arith in
     let here : is_listed turn place mines ≡ (owner place == n) = ap (λ (x : ℕ). is_listed turn x mines) (sym z) ∙ (same 0 (omega arith) ∙ ap (λ (x : ℕ). owner x == n) z) in
     let rest : made_from turn (suc place) mines ls ≡ owned_from owner n (suc place) ls = listed-owned owner turn n (suc place) mines ls (λ y below.
-        let e : suc place + y ≡ place + suc y = omega arith in
-        ap (λ (x : ℕ). is_listed turn x mines) e ∙ (same (suc y) (omega (arith, below)) ∙ ap (λ (x : ℕ). owner x == n) (sym e))) in
+    let e : suc place + y ≡ place + suc y = omega arith in
+    ap (λ (x : ℕ). is_listed turn x mines) e ∙ (same (suc y) (omega (arith, below)) ∙ ap (λ (x : ℕ). owner x == n) (sym e))) in
     (λ i. if here i then (l ∷ rest i) else rest i)
 
 pub owned-map : {A B : Type 0} (f : A → B) (owner : ℕ → ℕ) (n place : ℕ) (xs : List A) → owned_from owner n place (map f xs) ≡ map f (owned_from owner n place xs)

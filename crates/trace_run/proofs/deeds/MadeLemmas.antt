@@ -87,8 +87,8 @@ made-same turn place xs ys (l ∷ ls) same =
     let here : is_listed turn place xs ≡ is_listed turn place ys =
     ap (λ (n : ℕ). is_listed turn n xs) (let e : place ≡ place + 0 = omega arith in e) ∙ (same 0 (omega arith) ∙ ap (λ (n : ℕ). is_listed turn n ys) (let e : place + 0 ≡ place = omega arith in e)) in
     let rest : made_from turn (suc place) xs ls ≡ made_from turn (suc place) ys ls = made-same turn (suc place) xs ys ls (λ y below.
-        let e : suc place + y ≡ place + suc y = omega arith in
-        ap (λ (n : ℕ). is_listed turn n xs) e ∙ (same (suc y) (omega (arith, below)) ∙ ap (λ (n : ℕ). is_listed turn n ys) (sym e))) in
+    let e : suc place + y ≡ place + suc y = omega arith in
+    ap (λ (n : ℕ). is_listed turn n xs) e ∙ (same (suc y) (omega (arith, below)) ∙ ap (λ (n : ℕ). is_listed turn n ys) (sym e))) in
     (λ i. if here i then (l ∷ rest i) else rest i)
 
 -- all lines of this turn stand below this place
