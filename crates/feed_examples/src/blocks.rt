@@ -40,14 +40,13 @@ pub struct Blocks {
     pub others: u64,
 }
 
-/// A pool of all blocks, whose calls of these numbers fail.
-pub fn pool(alloc: Global, fail: &[u64]) -> Result<MemPool, NoMemory> {
+/// A pool of all blocks.
+pub(crate) fn pool(alloc: Global) -> Result<MemPool, NoMemory> {
     let mut bytes = Vec::new(alloc);
     for block in 0..KEYS {
         bytes.extend_from_slice(&bytes_of(block))?;
     }
-    let fail = fail.to_vec(alloc)?;
-    MemPool::new(alloc, bytes, fail, Vec::new(alloc))
+    MemPool::new(alloc, bytes, Vec::new(alloc), Vec::new(alloc))
 }
 
 // Whether the device has this block's bytes at this place.

@@ -6,7 +6,7 @@ mod reading;
 mod scene;
 mod soak;
 
-pub use blocks::{Blocks, KEYS, SIZE, bytes_of, pool, ptr_of};
+pub use blocks::{Blocks, KEYS, SIZE, bytes_of, ptr_of};
 pub use reading::{ReadBack, blocks_back, fed_blocks, read_back};
 pub use scene::{
     FeedScene, closed, config_of_one, fed, fed_one_by_one, memory, opened, places, read, read_all,

@@ -1,16 +1,16 @@
 //! A block is read back with the cache device at hand: from there where the cache has no bytes of it.
-ghost use Rattle.std.specs.Prelude.{◌≡◌};
+ghost use Rattle.std.specs.Prelude.{◌≡◌, IfOk};
 ghost use Rattle.std.specs.Option.{option_map};
 ghost use Rattle.arc_table.specs.Holding.{IsHeld};
 ghost use Rattle.arc_examples.specs.Ready.{Gets, IsReady, IsReadyAs};
 ghost use Rattle.feed_examples.specs.Scenes.{IsScene};
 
-use crate::blocks::{bytes_of, ptr_of};
+use crate::blocks::{bytes_of, pool, ptr_of};
 use crate::scene::{FeedScene, fed, read};
 use arc_core::Served;
 use arc_examples::Plain;
 use arc_table::{Arcs, Hold, Party, Read};
-use blk_ptr::Ptr;
+use blk_ptr::{NoMemory, Ptr};
 use l2_dev::FeedStop;
 use std::alloc::Global;
 use std::sync::Wait;
@@ -82,27 +82,28 @@ pub fn read_back<R: Wait, D: CacheDev>(
     Some(ReadBack { from, bytes })
 }
 
-/// Reads and feeds the first so many blocks of the soak one by one. Answers how many feeds were done and gave one place.
+/// Reads and feeds the first so many blocks of the soak one by one, from a pool that has them. Answers how many feeds were done and gave one place.
 pub fn fed_blocks<R: Wait, D: CacheDev>(
     rt: &R,
     alloc: Global,
     scene: &mut FeedScene<D>,
     blocks: u64,
-) -> u64
+) -> Result<u64, NoMemory>
     requires { IsScene scene.old.arcs scene.old.feeder scene.old.one (D.size scene.old.l2.dev) scene.old.l2.cursor }
-    ensures { IsScene scene.new.arcs scene.new.feeder scene.new.one (D.size scene.new.l2.dev) scene.new.l2.cursor }
+    ensures { IfOk result (λ _. IsScene scene.new.arcs scene.new.feeder scene.new.one (D.size scene.new.l2.dev) scene.new.l2.cursor) }
 {
+    scene.pool = pool(alloc)?;
     let mut given = 0u64;
     for number in 0..blocks {
         if !read(rt, scene, &ptr_of(number), number) {
-            return given;
+            return Ok(given);
         }
         let report = fed(rt, alloc, scene);
         if report.end == FeedStop::Done && report.written == 1 {
             given = given.saturating_add(1);
         }
     }
-    given
+    Ok(given)
 }
 
 /// Whether a block came from the device, with its own bytes.

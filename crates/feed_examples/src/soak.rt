@@ -311,7 +311,7 @@ fn soaked<R: Threads + Wait + Sync>(
     requires callers { config.now.callers ≡ 4 }
     requires cells { config.now.cells ≡ 1 }
 {
-    let mut pool = pool(alloc, &[])?;
+    let mut pool = pool(alloc)?;
     let Scene {
         arcs,
         feeder,
