@@ -26,7 +26,8 @@ use Rattle.arc_table.specs.Cells.{SeesAll}
 use Rattle.arc_table.specs.Fronts.{StartsWith, front_of, item_at}
 use Rattle.arc_table.specs.Geometry.{IsCell, cell_number}
 use Rattle.arc_table.specs.Seen.{HasAll, HasSeenBy, HasSeenItsOwn, IsNumberOf, IsNumberOrCell, AllSeenBy, AreSeenBy, FindsEntries, HasSeenItsEntries, events_in, seen_of, turn_of}
-use Rattle.arc_table.specs.TableLaws.{front_else, front_here, item_here, starts_whole}
+use Rattle.arc_table.specs.TableLaws.{item_here, starts_whole}
+use Rattle.arc_table.proofs.TableLaws.{front_else, front_here}
 use Rattle.arc_table.specs.Views.{after_cell}
 use Rattle.arc_table.proofs.Afterwards.{does_ledger}
 use Rattle.arc_table.proofs.cell_lemmas.CellsInHand.{cell-recorded}
