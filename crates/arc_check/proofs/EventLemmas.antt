@@ -5,9 +5,10 @@ use Rattle.blk_ptr.specs.declared.key.Key.{Key}
 use Rattle.arc_core.specs.declared.event.Event.{Event}
 use Rattle.arc_core.specs.declared.event.Event.TheVariants.{Pass, Hit, Miss, Arrive, Fail, Drop, Past, Hand, Insert, Release, Pick, FeedEnd, Set, Leave, Clear, Restore, Resize}
 use Rattle.arc_core.specs.Operations.{event_key}
+use Rattle.trace_text.specs.Grammar.{IsPlain}
 use Rattle.arc_check.specs.declared.words.Name.{Name}
 use Rattle.arc_check.specs.declared.words.Name.TheVariants as names
-use Rattle.arc_check.specs.LogText.{IsEventOf, IsLogKey, IsPlain, IsTold, event_fields, field_count, key_and, maker_of, name_of, name_text, told_fields}
+use Rattle.arc_check.specs.LogText.{IsEventOf, IsLogKey, IsTold, event_fields, field_count, key_and, maker_of, name_of, name_text, told_fields}
 use Rattle.arc_check.specs.Reading.{IsEventRead, IsTailRead, TailOf}
 use Rattle.arc_check.proofs.FieldLemmas.{next-fields}
 

@@ -6,12 +6,12 @@ use Rattle.arc_core.specs.declared.config.Config.{Config}
 use Rattle.arc_core.specs.declared.event.Event.{Event}
 use Rattle.trace_text.specs.declared.fault.Kind.{Kind}
 use Rattle.trace_text.specs.declared.fault.Kind.TheVariants as kinds
-use Rattle.trace_text.specs.Grammar.{fields_of}
+use Rattle.trace_text.specs.Grammar.{fields_of, IsPlain}
 use Rattle.arc_check.specs.declared.words.Name.{Name}
 use Rattle.arc_check.specs.declared.words.Line.{Line}
 use Rattle.arc_check.specs.declared.words.Line.TheVariants as line_of
 use Rattle.arc_check.specs.declared.words.Made.{Made}
-use Rattle.arc_check.specs.LogText.{HasFields, HasWords, IsMade, IsMisspelled, IsPlain, Say, event_fields, field_count, name_of, name_text, parties_of, spelling}
+use Rattle.arc_check.specs.LogText.{HasFields, HasWords, IsMade, IsMisspelled, Say, event_fields, field_count, name_of, name_text, parties_of, spelling}
 use Rattle.arc_check.specs.Reading.{IsBoundsRead, IsEventRead, IsMadeRead, IsNameRead, IsSizesRead}
 use Rattle.arc_check.proofs.EventLemmas.{name_text-injective, rest-counted}
 use Rattle.arc_check.proofs.FieldLemmas.{first-field, next-fields}

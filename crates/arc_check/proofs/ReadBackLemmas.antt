@@ -16,12 +16,12 @@ use Rattle.arc_core.specs.declared.event.Why.{Why}
 use Rattle.arc_core.specs.declared.event.Why.TheVariants as whys
 use Rattle.arc_core.specs.Operations.{event_key}
 use Rattle.trace_text.specs.EventText.{event_line, event_lines, failed_word, history_lines, origin_word, sole_word, spaced, told_words, why_word}
-use Rattle.trace_text.specs.Grammar.{IsDigest, fields_of, lines_of}
+use Rattle.trace_text.specs.Grammar.{IsDigest, fields_of, lines_of, shards_of}
 use Rattle.arc_check.specs.declared.words.Name.{Name}
 use Rattle.arc_check.specs.declared.words.Name.TheVariants as names
 use Rattle.arc_check.specs.declared.words.Line.TheVariants as line_of
 use Rattle.arc_check.specs.declared.words.Made.{Made}
-use Rattle.arc_check.specs.LogText.{Add, AddAll, Adds, Content, IsEventOf, IsLogText, IsMade, IsNext, at_shard, event_fields, histories_to, name_of, name_text, nothing, parties_of, shards_of, spelling, with_line}
+use Rattle.arc_check.specs.LogText.{Add, AddAll, Adds, Content, IsEventOf, IsLogText, IsMade, IsNext, at_shard, event_fields, histories_to, name_of, name_text, nothing, parties_of, spelling, with_line}
 use Rattle.arc_check.specs.ReadBack.{AreAt, IsEventAt, IsReadBack, events_in, log_text}
 use Rattle.arc_check.proofs.CleanLemmas.{Clean, clean-decimal, clean-hex, free-joined, split-append, split-first, split-joined}
 use Rattle.arc_check.proofs.DraftLemmas.{at-more, at-same, close-more}

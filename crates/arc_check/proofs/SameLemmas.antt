@@ -19,14 +19,14 @@ use Rattle.arc_core.specs.declared.event.Origin.TheVariants as origins
 use Rattle.arc_core.specs.declared.event.Why.{Why}
 use Rattle.arc_core.specs.declared.event.Why.TheVariants as whys
 use Rattle.trace_text.specs.EventText.{failed_word, origin_word, sole_word, told_words, why_word}
-use Rattle.trace_text.specs.Grammar.{IsDigest}
+use Rattle.trace_text.specs.Grammar.{IsDigest, AreSizes}
 use Rattle.trace_text.proofs.DigestLemmas.{digest-injective}
 use Rattle.arc_check.specs.declared.words.Name.{Name}
 use Rattle.arc_check.specs.declared.words.Name.TheVariants as names
 use Rattle.arc_check.specs.declared.words.Line.{Line}
 use Rattle.arc_check.specs.declared.words.Line.TheVariants as line_of
 use Rattle.arc_check.specs.declared.words.Made.{Made}
-use Rattle.arc_check.specs.LogText.{AreSizes, HasShape, HasWords, IsEventOf, IsInRange, IsLogKey, IsMade, Say, event_fields, name_of, name_text, parties_of, spelling}
+use Rattle.arc_check.specs.LogText.{HasShape, HasWords, IsEventOf, IsInRange, IsLogKey, IsMade, Say, event_fields, name_of, name_text, parties_of, spelling}
 use Rattle.arc_check.proofs.EventLemmas.{fields-counted, name_text-injective}
 use Rattle.arc_check.proofs.FieldLemmas.{next-fields}
 

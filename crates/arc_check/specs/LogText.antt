@@ -13,7 +13,7 @@ use Rattle.arc_core.specs.Operations.{event_key}
 use Rattle.trace_text.specs.declared.fault.Kind.{Kind}
 use Rattle.trace_text.specs.declared.fault.Kind.TheVariants as kinds
 use Rattle.trace_text.specs.EventText.{failed_word, origin_word, sole_word, told_words, why_word}
-use Rattle.trace_text.specs.Grammar.{IsDigest, IsTooLong, fields_of, is_passed_over, lines_of, longest_text}
+use Rattle.trace_text.specs.Grammar.{IsDigest, IsTooLong, fields_of, is_passed_over, lines_of, longest_text, IsPlain, AreSizes, shards_of}
 use Rattle.arc_check.specs.declared.log.Log.{Log}
 use Rattle.arc_check.specs.declared.log.LogTextFault.{LogTextFault}
 use Rattle.arc_check.specs.declared.log.LogTextFault.TheVariants.{Bad, NoMemory}
@@ -145,16 +145,6 @@ spelling (lines.Made made) = codes "e" ∷ decimal made.shard ∷ decimal made.i
 
 -- ---- the ranges
 
--- a number that has no narrower range
-abbrev pub IsPlain : ℕ → Type 0
-IsPlain n = n ≤ 2 ^ 62
-
--- the sizes of a cache that an `arc` line may give, with the usual bounds of a feed
-pub record AreSizes (sizes : Config) : Type 0 where
-  pub ranged : IsConfig sizes
-  pub write_max : sizes.bounds.write_max ≡ 8388608
-  pub headroom : sizes.bounds.headroom ≡ 2
-
 -- a key that names a block of the largest pool
 pub record IsLogKey (key : Key) : Type 0 where
   pub valid : IsValid (2 ^ 63) key
@@ -245,11 +235,6 @@ abbrev pub with_line : Content → Line → Content
 with_line before (lines.Sizes z) = record before { config = Some z }
 with_line before (lines.Feed b) = record before { config = option_map (λ (z : Config). record z { bounds = b }) before.config; bounded = true }
 with_line before (lines.Made made) = with_event made.event (at_shard made.shard before)
-
--- how many shards there are, once the `arc` line is read
-abbrev pub shards_of : Option Config → ℕ
-shards_of None = 0
-shards_of (Some z) = z.shards
 
 -- the event is the next one of the shard in hand, or the first of a greater shard; and its key is of this shard
 pub record IsNext (before : Content) (made : Made) : Type 0 where

@@ -15,7 +15,7 @@ use Rattle.arc_core.specs.Operations.{event_key}
 use Rattle.trace_text.specs.declared.fault.Kind.{Kind}
 use Rattle.trace_text.specs.declared.fault.Kind.TheVariants as kinds
 use Rattle.trace_text.specs.EventText.{failed_word, origin_word, sole_word, told_words, why_word}
-use Rattle.trace_text.specs.Grammar.{IsDigest, fields_of, is_passed_over}
+use Rattle.trace_text.specs.Grammar.{IsDigest, fields_of, is_passed_over, IsPlain, AreSizes}
 use Rattle.trace_text.specs.Reading.{EndsPart, IsOfDigits}
 use Rattle.arc_check.specs.declared.log.LogTextFault.{LogTextFault}
 use Rattle.arc_check.specs.declared.log.LogTextFault.TheVariants as faults
@@ -28,7 +28,7 @@ use Rattle.arc_check.specs.declared.words.Line.TheVariants as line_of
 use Rattle.arc_check.specs.declared.words.LineFault.{LineFault}
 use Rattle.arc_check.specs.declared.words.LineFault.TheVariants.{NoMemory, Wrong}
 use Rattle.arc_check.specs.declared.words.Made.{Made}
-use Rattle.arc_check.specs.LogText.{AreSizes, Content, HasFault, HasRoom, IsEventOf, IsFaulty, IsInOrder, IsLogKey, IsMade, IsMisplaced, IsMisspelled, IsPlain, IsTold, Say, event_fields, maker_of, name_of, name_text, spelling, told_fields, with_line}
+use Rattle.arc_check.specs.LogText.{Content, HasFault, HasRoom, IsEventOf, IsFaulty, IsInOrder, IsLogKey, IsMade, IsMisplaced, IsMisspelled, IsTold, Say, event_fields, maker_of, name_of, name_text, spelling, told_fields, with_line}
 
 -- ---- fields
 

@@ -3,8 +3,8 @@ ghost use Rattle.std.specs.Prelude.{◌≡◌, ◌≤◌, ◌<◌, ◌+◌, ◌-
 ghost use Rattle.arc_core.specs.Operations.{event_key};
 ghost use Rattle.blk_ptr.specs.Hash.{shard_of};
 ghost use Rattle.arc_check.specs.DraftKeeps.{DraftKeeps, content_in};
-ghost use Rattle.trace_text.specs.Grammar.{fields_of};
-ghost use Rattle.arc_check.specs.LogText.{Adds, Content, IsInRange, IsLog, IsLogSaid, IsNext, at_shard, nothing, shards_of};
+ghost use Rattle.trace_text.specs.Grammar.{fields_of, shards_of};
+ghost use Rattle.arc_check.specs.LogText.{Adds, Content, IsInRange, IsLog, IsLogSaid, IsNext, at_shard, nothing};
 ghost use Rattle.arc_check.specs.Reading.{IsLineCause, IsLineRead, IsPlaced};
 ghost use Rattle.arc_check.specs.declared.words.Line.TheVariants as line_of;
 

@@ -25,5 +25,5 @@ end_line c s hits =
     ++ codes " hits " ++ decimal hits ++ codes "\n"
 
 -- the whole text
-abbrev pub text_of : ℕ → List ℕ → List ℕ
-text_of c pages = page_lines c 0 pages fresh ++ end_line c (after c pages fresh) (hits c pages fresh) ++ codes "end 0\n"
+abbrev pub pages_text : ℕ → List ℕ → List ℕ
+pages_text c pages = page_lines c 0 pages fresh ++ end_line c (after c pages fresh) (hits c pages fresh) ++ codes "end 0\n"

@@ -2,7 +2,7 @@
 ghost use Rattle.std.specs.Prelude.{◌≡◌, ◌+◌, ◌<◌, ◌≤◌, ◌++◌, IfOk, OnOk, OnErr, length, string_bytes};
 ghost use Rattle.arc_paper.specs.Arc.{after, fresh, hits};
 ghost use Rattle.arc_paper.specs.Cache.{IsCapacity};
-ghost use Rattle.arc_paper.specs.Text.{end_line, page_line, page_lines, sizes_words, text_of};
+ghost use Rattle.arc_paper.specs.Text.{end_line, page_line, page_lines, sizes_words, pages_text};
 
 use crate::paper::Paper;
 use key_table::NoMemory;
@@ -13,7 +13,7 @@ use std::fmt::Write;
 /// [`MOST_PAGES`](crate::MOST_PAGES). After [`NoMemory`] `out` is as before.
 pub fn paper_text(alloc: Global, c: u32, pages: &[u64], out: &mut Vec<u8>) -> Result<(), NoMemory>
     requires { IsCapacity c }
-    ensures ok { OnOk result (out.new.items ≡ out.old.items ++ text_of c pages.now) }
+    ensures ok { OnOk result (out.new.items ≡ out.old.items ++ pages_text c pages.now) }
     ensures err { OnErr result (out.new.items ≡ out.old.items) }
 {
     let text = written(alloc, c, pages)?;
@@ -28,7 +28,7 @@ pub fn paper_text(alloc: Global, c: u32, pages: &[u64], out: &mut Vec<u8>) -> Re
 /// The text of these pages.
 fn written(alloc: Global, c: u32, pages: &[u64]) -> Result<String, NoMemory>
     requires { IsCapacity c }
-    ensures { IfOk result (λ text. string_bytes text ≡ text_of c pages.now) }
+    ensures { IfOk result (λ text. string_bytes text ≡ pages_text c pages.now) }
 {
     let mut paper = Paper::new(alloc, c)?;
     let mut text = String::new(alloc);

@@ -18,7 +18,7 @@ use Rattle.arc_table.specs.Geometry.{shard_turn}
 use Rattle.arc_table.specs.Items.{Meanings}
 use Rattle.arc_table.specs.Looking.{HasNoLook}
 use Rattle.arc_table.specs.ShardGiving.{ledger_through, mines_of, passes_in}
-use Rattle.arc_table.specs.TableLaws.{front_here}
+use Rattle.arc_table.proofs.TableLaws.{front_here}
 use Rattle.arc_table.proofs.Reached.{held_again, own_number_is, reached}
 
 -- the party is still what it was to the cache

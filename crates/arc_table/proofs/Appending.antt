@@ -16,7 +16,8 @@ use Rattle.arc_table.specs.Items.{Meanings, lines_in}
 use Rattle.arc_table.specs.pact.Logged.{HasPlace, IsOwn, IsSoundItem, Logged}
 use Rattle.arc_table.specs.pact.Passed.{IsPassNoted, Passed}
 use Rattle.arc_table.specs.pact.Scene.{Scene}
-use Rattle.arc_table.specs.TableLaws.{at_here, at_else, front_here, front_else, get_front, starts_more, starts_whole, there, within}
+use Rattle.arc_table.specs.TableLaws.{at_here, at_else, get_front, starts_whole, within}
+use Rattle.arc_table.proofs.TableLaws.{front_here, front_else, starts_more, there}
 use Rattle.arc_table.proofs.Begun.{InEither, front, rest, in_either}
 
 -- the party of a line, once the lines of the turn i from this place on are n's

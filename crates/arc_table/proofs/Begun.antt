@@ -11,7 +11,8 @@ use Rattle.arc_table.specs.declared.item.Item.TheVariants as item
 use Rattle.arc_table.specs.Geometry.{turns_of}
 use Rattle.arc_table.specs.Items.{no_chain}
 use Rattle.arc_table.specs.opening.Opening.{AreFresh, AreOpeningLogs, IsFresh, IsOpeningLog}
-use Rattle.arc_table.specs.TableLaws.{get_more, within}
+use Rattle.arc_table.specs.TableLaws.{within}
+use Rattle.arc_table.proofs.TableLaws.{get_more}
 
 -- one more shard at its start
 pub more_logs : (g : Config) (n : ℕ) (ls : List ShardLog) (l : ShardLog) → AreOpeningLogs g n ls → IsOpeningLog g l → AreOpeningLogs g (n + 1) (ls ++ l ∷ [])

@@ -23,8 +23,10 @@ use Rattle.arc_table.specs.Items.{Meanings, holds_in}
 use Rattle.arc_table.specs.pact.Rule.{Pact}
 use Rattle.arc_table.specs.pact.Scene.{Scene}
 use Rattle.arc_table.specs.Views.{after_lost, after_same}
-use Rattle.arc_table.specs.pact.AttachedLaws.{StillTaken, mine, theirs, attached_moved, free_taken, free_same}
-use Rattle.arc_table.specs.TableLaws.{same_at, without_else}
+use Rattle.arc_table.specs.pact.AttachedLaws.{StillTaken, attached_moved, free_taken}
+use Rattle.arc_table.proofs.AttachedLaws.{mine, theirs, free_same}
+use Rattle.arc_table.specs.TableLaws.{same_at}
+use Rattle.arc_table.proofs.TableLaws.{without_else}
 
 some_same : {A : Type 0} (x y : A) → ◌≡◌ {A = Option A} (Some x) (Some y) → x ≡ y
 some_same x y q = cc

@@ -31,3 +31,6 @@ pub mod scans
 pub mod feeder
 pub mod reads
 pub mod cell_lemmas
+pub mod TableLaws
+pub mod OpeningLaws
+pub mod AttachedLaws

@@ -15,7 +15,8 @@ use Rattle.arc_table.specs.Fronts.{front_of}
 use Rattle.arc_table.specs.Geometry.{bucket_turn, parties_of, shard_turn}
 use Rattle.arc_table.specs.Items.{Meanings}
 use Rattle.arc_table.specs.ShardGiving.{mines_of, passes_in}
-use Rattle.arc_table.specs.TableLaws.{front_else, within}
+use Rattle.arc_table.specs.TableLaws.{within}
+use Rattle.arc_table.proofs.TableLaws.{front_else}
 use Rattle.arc_table.proofs.Afterwards.{does_mine, does_seen, does_stays}
 use Rattle.arc_table.proofs.PassMines.{mines_of_are}
 use Rattle.arc_table.proofs.Reached.{reached, sound_log}

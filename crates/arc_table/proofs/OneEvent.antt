@@ -37,7 +37,7 @@ use Rattle.turn_table.specs.Board.{IsAmong}
 use Rattle.turn_table.specs.Places.{Place}
 use Rattle.arc_table.specs.declared.about.About.{About}
 use Rattle.arc_table.specs.declared.both.Both.{Both}
-use Rattle.arc_table.specs.declared.hand.Hand.{Hand as TheHand}
+use Rattle.arc_table.specs.declared.in_hand.Hand.{Hand as TheHand}
 use Rattle.arc_table.specs.declared.item.Item.TheVariants as item
 use Rattle.arc_table.specs.declared.view.Known.{Known}
 use Rattle.arc_table.specs.declared.view.Note.{Note}

@@ -21,7 +21,8 @@ use Rattle.arc_table.specs.declared.view.Line.TheVariants as line
 use Rattle.arc_table.specs.declared.view.Mine.{Mine}
 use Rattle.arc_table.specs.Fronts.{StartsWith, front_of}
 use Rattle.arc_table.specs.Geometry.{parties_of}
-use Rattle.arc_table.specs.TableLaws.{get_front, starts_more, starts_whole, there}
+use Rattle.arc_table.specs.TableLaws.{get_front, starts_whole}
+use Rattle.arc_table.proofs.TableLaws.{starts_more, there}
 use Rattle.arc_table.specs.Telling.{opening_of}
 use Rattle.arc_table.specs.Seen.{AddsAll, AddsOwn, AllSeenBy, HasAll, HasSeenBy, IsSeenBy, MadeBy, events_in, seen_of, turn_of}
 use Rattle.arc_table.proofs.SeenLemmas.{events-at, events-map, get-behind}

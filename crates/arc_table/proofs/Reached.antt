@@ -44,7 +44,8 @@ use Rattle.arc_table.specs.pact.Logged.{IsSoundItem, IsSoundLog}
 use Rattle.arc_table.specs.pact.Rule.{Pact}
 use Rattle.arc_table.specs.pact.Scene.{Scene}
 use Rattle.arc_table.specs.ShardGiving.{after_shard, holds_through}
-use Rattle.arc_table.specs.TableLaws.{front_else, item_else, item_here, list_else, list_here, within}
+use Rattle.arc_table.specs.TableLaws.{item_else, item_here, list_else, list_here, within}
+use Rattle.arc_table.proofs.TableLaws.{front_else}
 use Rattle.arc_table.specs.Views.{after_lost}
 use Rattle.arc_table.proofs.Bookings.{holds_cons}
 use Rattle.arc_table.proofs.cell_lemmas.CellGives.{note_within}

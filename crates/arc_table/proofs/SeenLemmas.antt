@@ -27,7 +27,8 @@ use Rattle.arc_table.specs.Items.{Meanings, lines_in}
 use Rattle.arc_table.specs.pact.Logged.{HasPlace}
 use Rattle.arc_table.specs.pact.Rule.{Pact}
 use Rattle.arc_table.specs.pact.Scene.{Scene}
-use Rattle.arc_table.specs.TableLaws.{front_else, within}
+use Rattle.arc_table.specs.TableLaws.{within}
+use Rattle.arc_table.proofs.TableLaws.{front_else}
 use Rattle.arc_table.proofs.HandHeads.{config_then, shard_then}
 use Rattle.arc_table.proofs.Ranges.{bucket_range}
 use Rattle.arc_table.proofs.Reached.{SameButNotes, Took, loses_same, took_is}

@@ -58,8 +58,10 @@ use Rattle.arc_table.specs.pact.Passed.{IsPassNoted, Passed}
 use Rattle.arc_table.specs.pact.Rule.{Pact}
 use Rattle.arc_table.specs.pact.Scene.{Scene}
 use Rattle.arc_table.specs.ShardGiving.{ActsFor, AreAlike, ArePassesNoted, IsActor, IsGivenShard, SameHead, after_shard, buckets_in, holds_through, ledger_through, listed_after, mines_of, passes_in, readings_through}
-use Rattle.arc_table.specs.pact.AttachedLaws.{StillTaken, mine, theirs, attached_moved, free_taken, free_same}
-use Rattle.arc_table.specs.TableLaws.{at_here, at_else, list_here, list_else, same_at, within, without_else}
+use Rattle.arc_table.specs.pact.AttachedLaws.{StillTaken, attached_moved, free_taken}
+use Rattle.arc_table.proofs.AttachedLaws.{mine, theirs, free_same}
+use Rattle.arc_table.specs.TableLaws.{at_here, at_else, list_here, list_else, same_at, within}
+use Rattle.arc_table.proofs.TableLaws.{without_else}
 use Rattle.arc_table.proofs.Appending.{AreMines, Appends, append_logged, append_passed, appended, owned, owned_new}
 use Rattle.arc_table.proofs.Boards.{bucket_of, in_hand}
 use Rattle.arc_table.proofs.Bookings.{AllFar, AllNoMiss, AllNotOf, AllOwn, IsNoMiss, IsNotGiven, booked_through, holds_through_come, holds_through_else, holds_through_far, readings_through_come, readings_through_else, readings_through_far, readings_through_none}

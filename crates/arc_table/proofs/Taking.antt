@@ -16,7 +16,7 @@ use Rattle.turn_table.specs.Places.{Place, gave_back, saw, took}
 use Rattle.arc_table.specs.declared.about.About.{About}
 use Rattle.arc_table.specs.declared.both.Both.{Both}
 use Rattle.arc_table.specs.declared.front.Front.{Front}
-use Rattle.arc_table.specs.declared.hand.Taken.{Taken}
+use Rattle.arc_table.specs.declared.in_hand.Taken.{Taken}
 use Rattle.arc_table.specs.declared.item.Item.{Item}
 use Rattle.arc_table.specs.declared.item.Item.TheVariants as item
 use Rattle.arc_table.specs.declared.view.Known.{Known}
@@ -31,7 +31,8 @@ use Rattle.arc_table.specs.Items.{Meanings, holds_in}
 use Rattle.arc_table.specs.Making.{IsMade}
 use Rattle.arc_table.specs.ShardGiving.{after_shard}
 use Rattle.arc_table.specs.pact.Rule.{Pact}
-use Rattle.arc_table.specs.TableLaws.{front_here, item_here, list_here}
+use Rattle.arc_table.specs.TableLaws.{item_here, list_here}
+use Rattle.arc_table.proofs.TableLaws.{front_here}
 use Rattle.arc_table.specs.Telling.{Tells}
 use Rattle.arc_table.specs.Trying.{FindsBusy, at_shard}
 use Rattle.arc_table.specs.Views.{after_lost, after_same, after_won}

@@ -20,7 +20,8 @@ use Rattle.arc_table.specs.pact.Headed.{IsHead}
 use Rattle.arc_table.specs.Items.{Meanings, headers_in, shard_in}
 use Rattle.arc_table.specs.feeder.Picking.{HasTried}
 use Rattle.arc_table.specs.pact.Rule.{Pact}
-use Rattle.arc_table.specs.TableLaws.{front_else, list_else, without_else}
+use Rattle.arc_table.specs.TableLaws.{list_else}
+use Rattle.arc_table.proofs.TableLaws.{front_else, without_else}
 use Rattle.arc_table.specs.Views.{after_lost, after_same, after_won, note, under_of}
 
 -- ---- records without a bucket

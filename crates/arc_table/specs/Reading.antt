@@ -5,11 +5,11 @@ use Rattle.blk_ptr.specs.declared.key.Key.{Key}
 use Rattle.blk_ptr.specs.declared.key.KeyFault.{KeyFault}
 use Rattle.blk_ptr.specs.declared.digest.Digest.{Digest}
 use Rattle.blk_ptr.specs.declared.ptr.Ptr.{Ptr}
-use Rattle.blk_ptr.specs.Key.{IsFirstFault, IsValid}
+use Rattle.blk_ptr.specs.Key.{IsFirstKeyFault, IsValid}
 use Rattle.blk_ptr.specs.Ptr.{IsOf, range_of, sha256_of}
 use Rattle.vdev_io.specs.declared.device.CacheDev.{Ghosts as DeviceGhosts}
 use Rattle.vdev_io.specs.declared.pool.Pool.{Ghosts as PoolGhosts}
-use Rattle.vdev_io.specs.Device.{LeavesSame, Stands}
+use Rattle.vdev_io.specs.Device.{LeavesSame, LeavesNothingNew}
 use Rattle.arc_core.specs.declared.config.Config.{Config}
 use Rattle.arc_core.specs.declared.event.Event.TheVariants.{Hit, Miss, Arrive, Fail, Past}
 use Rattle.arc_core.specs.declared.event.FailedAt.{FailedAt}
@@ -82,7 +82,7 @@ pub record KeepsDevice {D : Type 0} (device : DeviceGhosts D) (old new : D) : Ty
   pub kind : device.has_sectors new ≡ device.has_sectors old
   pub told : device.told new ≡ device.told old
   pub crash : LeavesSame (device.may_leave old) (device.may_leave new)
-  pub time : Stands (device.moment old) (device.moment new) (device.left_since old) (device.left_since new)
+  pub time : LeavesNothingNew (device.moment old) (device.moment new) (device.left_since old) (device.left_since new)
   pub faults : device.faults old ≤ device.faults new
 
 module _ {P : Type 0} (pools : PoolGhosts P) where
@@ -197,7 +197,7 @@ module _ {C P D : Type 0} (m : Meanings C) (pools : PoolGhosts P) (devices : Dev
   -- What `read` answers. The key names no block of the pool: this is the first test that it fails, and all is as it was. Or it names one, and
   -- the party waited so often, was r then, and had its answer.
   pub data AnswersRead (g : Config) (ptr : Ptr) (t : ℕ) (before now : Outside P D) (p q : Place (Known C)) (result : Result Read ReadFault) : Type 0 where
-    refused : (why : KeyFault) → result ≡ Err (fault.Key why) → IsFirstFault (pools.size before.pool) ptr.key why → q ≡ p → now ≡ before → AnswersRead g ptr t before now p q result
+    refused : (why : KeyFault) → result ≡ Err (fault.Key why) → IsFirstKeyFault (pools.size before.pool) ptr.key why → q ≡ p → now ≡ before → AnswersRead g ptr t before now p q result
     answered : IsValid (pools.size before.pool) ptr.key → (times : ℕ) (r : Place (Known C)) → Waits m g ptr.key times p r → Answers g ptr t before now r q result → AnswersRead g ptr t before now p q result
 
   -- one round of a read: an answer, or the key was being read, and the outside is as it was

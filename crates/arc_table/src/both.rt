@@ -19,11 +19,11 @@ ghost use Rattle.turn_table.specs.Taken.{IfBusy, IfTaken};
 
 use crate::arcs::{Arcs, Party};
 use crate::gives;
-use crate::hand::{Hand, Taken};
+use crate::in_hand::{Hand, Taken};
 use crate::headers::find_ready;
 use crate::heap_shard::HeapShard;
 use crate::item::Item;
-use crate::looks::bucket_turn_of;
+use crate::looking::bucket_turn_of;
 use arc_core::{Config, Keeps};
 use blk_ptr::{Key, Ptr};
 use std::snapshot::Snapshot;

@@ -16,7 +16,7 @@ ghost use Rattle.arc_table.specs.scans.Scanning.{AllPairs, AreApart, IsInHand, g
 use crate::arcs::{Arcs, Party};
 use crate::both::Both;
 use crate::gives;
-use crate::hand::{Hand, Taken};
+use crate::in_hand::{Hand, Taken};
 use crate::item::Item;
 use crate::scan::Scan;
 use crate::spare::spare_all;

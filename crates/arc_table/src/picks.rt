@@ -22,7 +22,7 @@ use crate::gives;
 use crate::headers::block_of;
 use crate::heap_shard::HeapShard;
 use crate::item::Item;
-use crate::looks::bucket_turn_of;
+use crate::looking::bucket_turn_of;
 use crate::view::Known;
 use arc_core::{Event, Keeps};
 use blk_ptr::{Block, Key, NoMemory};

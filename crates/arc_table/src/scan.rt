@@ -19,8 +19,8 @@ ghost use Rattle.arc_table.specs.declared.view.Known.{Known};
 
 use crate::arcs::{Arcs, Party};
 use crate::both::Both;
-use crate::hand::{Hand, Taken};
-use crate::looks::bucket_turn_of;
+use crate::in_hand::{Hand, Taken};
+use crate::looking::bucket_turn_of;
 use crate::spare::place_of;
 use arc_core::{Event, Keeps};
 use blk_ptr::{Key, NoMemory};

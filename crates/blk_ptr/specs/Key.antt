@@ -17,22 +17,22 @@ abbrev pub is_well_formed : Key → Bool
 is_well_formed key = key.offset % sector == 0 && (is_block_size_of key.size && nat_lt 0 key.birth)
 
 -- the first byte past the key's range
-abbrev pub end_of : Key → ℕ
-end_of key = key.offset + key.size
+abbrev pub key_end : Key → ℕ
+key_end key = key.offset + key.size
 
 -- a key that names a block of a pool of this length
 pub record IsValid (pool_len : ℕ) (key : Key) : Type 0 where
   pub formed : IsWellFormed key
-  pub inside : end_of key ≤ pool_len
+  pub inside : key_end key ≤ pool_len
 
 -- this fault is the first of the four tests that the key fails: alignment, size, range, birth
-abbrev pub IsFirstFault : ℕ → Key → KeyFault → Type 0
-IsFirstFault pool_len key Unaligned = ¬ (key.offset % sector ≡ 0)
-IsFirstFault pool_len key Size = (key.offset % sector ≡ 0) × ¬ IsBlockSize key.size
-IsFirstFault pool_len key (OutOfPool end len) =
-    (key.offset % sector ≡ 0) × IsBlockSize key.size × (end ≡ end_of key) × (len ≡ pool_len) × (pool_len < end_of key)
-IsFirstFault pool_len key BirthZero =
-    (key.offset % sector ≡ 0) × IsBlockSize key.size × (end_of key ≤ pool_len) × (key.birth ≡ 0)
+abbrev pub IsFirstKeyFault : ℕ → Key → KeyFault → Type 0
+IsFirstKeyFault pool_len key Unaligned = ¬ (key.offset % sector ≡ 0)
+IsFirstKeyFault pool_len key Size = (key.offset % sector ≡ 0) × ¬ IsBlockSize key.size
+IsFirstKeyFault pool_len key (OutOfPool end len) =
+    (key.offset % sector ≡ 0) × IsBlockSize key.size × (end ≡ key_end key) × (len ≡ pool_len) × (pool_len < key_end key)
+IsFirstKeyFault pool_len key BirthZero =
+    (key.offset % sector ≡ 0) × IsBlockSize key.size × (key_end key ≤ pool_len) × (key.birth ≡ 0)
 
 -- how a fault is printed
 abbrev pub fault_text : KeyFault → List ℕ

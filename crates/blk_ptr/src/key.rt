@@ -42,14 +42,14 @@ pub fn is_block_size(size: u64) -> bool
 }
 
 impl Key {
-    ghost use Rattle.blk_ptr.specs.Key.{IsValid, IsFirstFault};
+    ghost use Rattle.blk_ptr.specs.Key.{IsValid, IsFirstKeyFault};
 
     /// Tests whether this key names a block of a pool of `pool_len` bytes, and gives it back where it does. Err is the first test that
     /// fails, in the order of [`KeyFault`] (`zfs_blkptr_verify` of OpenZFS's `zio.c` makes such tests).
     pub fn check(self, pool_len: u64) -> Result<Key, KeyFault>
         ensures valid { MatchResult result
             (λ key. (key ≡ self) × IsValid pool_len self)
-            (λ fault. IsFirstFault pool_len self fault) }
+            (λ fault. IsFirstKeyFault pool_len self fault) }
     {
         if !self.offset.is_multiple_of(SECTOR) {
             return Err(KeyFault::Unaligned);

@@ -1,6 +1,6 @@
 -- What the operations answer that bring a block.
 use Rattle.std.specs.Prelude.{◌≡◌, ℕ, ◌+◌, ◌<◌, ◌≤◌, List, [], ◌∷◌, ◌++◌, Some, None, Result, Ok, Err}
-use Rattle.blk_ptr.specs.Key.{IsFirstFault}
+use Rattle.blk_ptr.specs.Key.{IsFirstKeyFault}
 use Rattle.blk_ptr.specs.declared.key.KeyFault.{KeyFault}
 use Rattle.blk_ptr.specs.declared.ptr.Ptr.{Ptr}
 use Rattle.vdev_io.specs.declared.device.CacheDev.{Ghosts as DeviceGhosts}
@@ -70,7 +70,7 @@ module _ {P D : Type 0} (pools : PoolGhosts P) (devices : DeviceGhosts D) (g : C
   pub record HasNoKey (cell : OnHeap) (p q : PartyPlace) (why : KeyFault) : Type 0 where
     pub ptr : Ptr
     pub there : mapped_at at (outline_in cell) ≡ Some (Clean ptr)
-    pub first : IsFirstFault (pools.size before.pool) ptr.key why
+    pub first : IsFirstKeyFault (pools.size before.pool) ptr.key why
     pub turn : CellTurn g i cell [] [] p q
     pub outside : now ≡ before
 

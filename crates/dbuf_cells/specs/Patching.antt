@@ -1,6 +1,6 @@
 -- What `patch` answers, and what is so on the way.
 use Rattle.std.specs.Prelude.{◌≡◌, ◌≢◌, ℕ, ◌+◌, ◌≤◌, not, IsTrue, List, [], ◌∷◌, ◌++◌, length, Option, Some, IfNone, IfSome, Result, Ok, Err}
-use Rattle.blk_ptr.specs.Key.{IsFirstFault}
+use Rattle.blk_ptr.specs.Key.{IsFirstKeyFault}
 use Rattle.blk_ptr.specs.Size.{IsBlockSize}
 use Rattle.blk_ptr.specs.declared.ptr.Ptr.{Ptr}
 use Rattle.vdev_io.specs.declared.device.CacheDev.{Ghosts as DeviceGhosts}
@@ -45,7 +45,7 @@ IsSizedIn at ds = (ptr : Ptr) → mapped_in at ds ≡ Some (mapped.Clean ptr) �
 -- the key of a clean block names one of a pool of this length, or this is the first test that it fails
 abbrev pub ChecksKey : {T : Type 0} → (len : ℕ) → Option Mapped → Result T ReadFault → Type 0
 ChecksKey len (Some (mapped.Clean ptr)) (Ok done) = IsBlockSize ptr.key.size
-ChecksKey len (Some (mapped.Clean ptr)) (Err (read.Key why)) = IsFirstFault len ptr.key why
+ChecksKey len (Some (mapped.Clean ptr)) (Err (read.Key why)) = IsFirstKeyFault len ptr.key why
 ChecksKey len (Some (mapped.Clean ptr)) (Err _) = ⊥
 ChecksKey len _ (Ok done) = Unit {0}
 ChecksKey len _ (Err why) = ⊥

@@ -104,10 +104,10 @@ fn each_field_of_a_sealed_header_has_its_rule(rt: HostRuntime) {
 }
 
 /// The entry of the third of three blocks of 512 bytes, with this digest.
-fn third_entry(digest: Option<Digest>) -> Entry
+fn third_entry(digest: Option<Digest>) -> LogEntry
     ensures { result.digest ≡ digest }
 {
-    Entry {
+    LogEntry {
         key: Key {
             offset: 1024,
             size: 512,
@@ -119,7 +119,7 @@ fn third_entry(digest: Option<Digest>) -> Entry
 }
 
 /// The log block of version 2 of one entry.
-fn log_block(rt: &impl Abort, alloc: Global, prev: Option<LogPtr>, entry: Entry) -> LogBlock
+fn log_block(rt: &impl Abort, alloc: Global, prev: Option<LogPtr>, entry: LogEntry) -> LogBlock
     requires { is_there entry.digest ≡ true }
 {
     let mut list = Vec::new(alloc);

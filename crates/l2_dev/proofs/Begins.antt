@@ -14,11 +14,12 @@ use Rattle.l2_dev.specs.Chain.{numbers_in}
 use Rattle.l2_dev.specs.Standing.{Candidate, leading, staying}
 use Rattle.l2_dev.specs.Cursor.{CursorState, numbers_from}
 use Rattle.l2_dev.specs.Promise.{Promise, KeepsPromise}
-use Rattle.l2_dev.specs.PromiseLaws.{left_by, HasTaken, IsHeaderFrom, same_plan}
+use Rattle.l2_dev.specs.PromiseLaws.{left_by, IsHeaderFrom}
+use Rattle.l2_dev.proofs.PromiseLaws.{HasTaken, same_plan}
 use Rattle.l2_dev.specs.Planned.{HasPlanned}
 use Rattle.l2_dev.specs.Steps.{HasFlushed, HeaderWritten}
 use Rattle.l2_dev.specs.Calls.{LeavesWith}
-use Rattle.l2_dev.specs.CallLaws.{IsPlain, Begins, begun_leaves, begun_failed, begun_kept}
+use Rattle.l2_dev.proofs.CallLaws.{IsPlain, Begins, begun_leaves, begun_failed, begun_kept}
 
 pub header_evict : (cursor : CursorState) (header : DevHeader) → numbers_in header ≡ numbers_from cursor → ring_start ≤ cursor.ring.evict
 header_evict cursor header same =

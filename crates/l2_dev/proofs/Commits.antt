@@ -11,7 +11,7 @@ use Rattle.blk_ptr.specs.Ptr.{sha256_of}
 use Rattle.l2_log.specs.Rules.{log_len, header_len}
 use Rattle.l2_log.specs.HeaderBytes.{IsHeader}
 use Rattle.l2_log.specs.LogBytes.{IsLogBlock}
-use Rattle.l2_log.specs.declared.entry.Entry.{Entry}
+use Rattle.l2_log.specs.declared.entry.LogEntry.{LogEntry}
 use Rattle.l2_log.specs.declared.header.DevHeader.{DevHeader}
 use Rattle.l2_log.specs.declared.pointer.LogPtr.{LogPtr}
 use Rattle.l2_log.specs.declared.log_block.LogBlock.{LogBlock}
@@ -24,20 +24,21 @@ use Rattle.l2_dev.specs.Restoring.{written_in, firsts, found_in}
 use Rattle.l2_dev.specs.Standing.{Candidate, Kept, written_of, IsRow, IsOrderly}
 use Rattle.l2_dev.specs.Cursor.{CursorState, IsCursor, numbers_from}
 use Rattle.l2_dev.specs.Promise.{Promise, IsUpheld, KeepsPromise, IsOf, AreGood, kept_range}
-use Rattle.l2_dev.specs.PromiseLaws.{same_plan, with_block, HasCommitted, IsHeaderFrom}
-use Rattle.l2_dev.specs.CommitLaws.{IsNewBlock, new_block_stays}
+use Rattle.l2_dev.specs.PromiseLaws.{with_block, IsHeaderFrom}
+use Rattle.l2_dev.proofs.PromiseLaws.{same_plan, HasCommitted}
+use Rattle.l2_dev.proofs.CommitLaws.{IsNewBlock, new_block_stays}
 use Rattle.l2_dev.specs.Planned.{IsBlockOf, IsHeaderWith, IsReserved, HasSettled}
 use Rattle.l2_dev.specs.Steps.{Wrote, HasFlushed, HeaderWritten}
-use Rattle.l2_dev.specs.TornLaws.{put_there}
+use Rattle.l2_dev.proofs.TornLaws.{put_there}
 use Rattle.l2_dev.specs.Asking.{CommitAsks, LogAsks, header_calls, log_calls}
 use Rattle.l2_dev.specs.Calls.{LeavesTorn, LeavesWith, LogWritten, HasCommitWritten, forgotten, IsCommitBlock, IsCommitLeft}
 use Rattle.l2_log.specs.declared.pointer.LogPtr.{LogPtr}
 use Rattle.l2_dev.specs.declared.fault.DevErr.{DevErr}
 use Rattle.l2_dev.specs.declared.fault.DevErr.TheVariants.{DevFault, NoMemory}
 use Rattle.l2_dev.specs.Promise.{IsBacked, LeftAmong, LeavesOnlyWith}
-use Rattle.l2_dev.specs.StepLaws.{left_among}
+use Rattle.l2_dev.proofs.StepLaws.{left_among}
 use Rattle.l2_dev.specs.Planned.{IsForgotten}
-use Rattle.l2_dev.specs.CallLaws.{IsPlain, Commits, com_leaves, com_failed, com_kept, HasForgotten, forgotten_upheld, not_ready, ring_crash, ring_forgets}
+use Rattle.l2_dev.proofs.CallLaws.{IsPlain, Commits, com_leaves, com_failed, com_kept, HasForgotten, forgotten_upheld, not_ready, ring_crash, ring_forgets}
 use Rattle.l2_dev.proofs.Cursors.{row_up}
 use Rattle.l2_dev.proofs.Puts.{pending_aside, put_writes}
 use Rattle.l2_dev.proofs.Begins.{header_evict, flushed_of}
@@ -57,7 +58,7 @@ reserved_upheld old new p f up =
       in_order = up.in_order;
       some = up.some;
       live = f.live ∙ up.live;
-      pending = up.pending ∙ ap (λ (lap : ℕ). map (written_in lap) (reverse old.pending)) (sym f.lap) ∙ ap (λ (es : List Entry). map (written_in new.ring.lap) (reverse es)) (sym f.pending);
+      pending = up.pending ∙ ap (λ (lap : ℕ). map (written_in lap) (reverse old.pending)) (sym f.lap) ∙ ap (λ (es : List LogEntry). map (written_in new.ring.lap) (reverse es)) (sym f.pending);
     }
 
 -- the log block of the pending entries, with more room or without
@@ -69,7 +70,7 @@ block_of_reserved old new bytes ptr block r of = record {
   prev = of.prev ∙ r.second;
   entries = of.entries ∙ r.pending;
   place = of.place ∙ r.hand;
-  count = of.count ∙ ap (λ (es : List Entry). length es) r.pending;
+  count = of.count ∙ ap (λ (es : List LogEntry). length es) r.pending;
   digest = of.digest;
 }
 
@@ -81,7 +82,7 @@ block_to_reserved old new bytes ptr block r of = record {
   prev = of.prev ∙ sym r.second;
   entries = of.entries ∙ sym r.pending;
   place = of.place ∙ sym r.hand;
-  count = of.count ∙ ap (λ (es : List Entry). length es) (sym r.pending);
+  count = of.count ∙ ap (λ (es : List LogEntry). length es) (sym r.pending);
   digest = of.digest;
 }
 
@@ -128,7 +129,7 @@ settled_from cursor mid after ptr r h = record {
   lap = h.lap ∙ r.lap;
   base = h.base;
   live = h.live ∙ ap (λ (ws : List Written). ws ++ map (written_in mid.ring.lap) mid.pending) r.live
-      ∙ ap (λ (lap : ℕ). cursor.ring.live ++ map (written_in lap) mid.pending) r.lap ∙ ap (λ (es : List Entry). cursor.ring.live ++ map (written_in cursor.ring.lap) es) r.pending;
+      ∙ ap (λ (lap : ℕ). cursor.ring.live ++ map (written_in lap) mid.pending) r.lap ∙ ap (λ (es : List LogEntry). cursor.ring.live ++ map (written_in cursor.ring.lap) es) r.pending;
   newest = h.newest;
   second = h.second ∙ r.newest;
   pending = h.pending;
@@ -142,7 +143,7 @@ commit_fresh cursor bytes ptr block is of = record {
   lap = of.lap;
   start = is.from;
   row = subst (λ (lap : ℕ). IsRow cursor.base cursor.ring.hand (map (written_in lap) (reverse block.entries))) (sym of.lap)
-      (subst (λ (es : List Entry). IsRow cursor.base cursor.ring.hand (map (written_in cursor.ring.lap) (reverse es))) (sym of.entries) is.row);
+      (subst (λ (es : List LogEntry). IsRow cursor.base cursor.ring.hand (map (written_in cursor.ring.lap) (reverse es))) (sym of.entries) is.row);
 }
 
 commit_placed : (cursor : CursorState) (bytes : List ℕ) (ptr : LogPtr) (block : LogBlock) → IsCursor cursor.ring cursor.base cursor.pending cursor.ready → 0 < length cursor.pending → IsBlockOf cursor bytes ptr block
@@ -155,7 +156,7 @@ commit_placed cursor bytes ptr block is some of =
     record {
       ring = record { aligned = rw at is.sound.hand_in.aligned; inside = record { begins = omega arith; ends = omega arith } };
       part = new_block_stays (numbers_from cursor) cursor.ring.hand (cursor.ring.hand + log_len) record { ptr = ptr; block = block } (omega arith) (commit_fresh cursor bytes ptr block is of);
-      count = ap (λ (es : List Entry). length es) of.entries ∙ sym of.count;
+      count = ap (λ (es : List LogEntry). length es) of.entries ∙ sym of.count;
     }
 
 commit_settled : (cursor : CursorState) (bytes : List ℕ) (ptr : LogPtr) (block : LogBlock) → IsCursor cursor.ring cursor.base cursor.pending cursor.ready → 0 < length cursor.pending → IsBlockOf cursor bytes ptr block

@@ -18,7 +18,7 @@ use Rattle.blk_ptr.proofs.Keys.{key_eq-is, key_eq-same}
 use Rattle.l2_ring.specs.declared.live.Written.{Written}
 use Rattle.l2_ring.specs.Ranges.{IsInOrder, IsOlder, range_of}
 use Rattle.l2_dev.specs.Restoring.{firsts, is_same_key, restored_of}
-use Rattle.l2_dev.specs.ListLaws.{filter_yes, filter_no, filter_whole, filter_swap, filter_all, all_passes, all_weaker, all_map, all_unmap, firsts_all}
+use Rattle.l2_dev.proofs.ListLaws.{filter_yes, filter_no, filter_whole, filter_swap, filter_all, all_passes, all_weaker, all_map, all_unmap, firsts_all}
 
 -- whether one of the entries has the key
 abbrev pub has_key : List Written → Key → Bool

@@ -5,3 +5,16 @@ pub mod Firsts
 pub mod Puts
 pub mod Starts
 pub mod Walks
+pub mod CallLaws
+pub mod ChainLaws
+pub mod CommitLaws
+pub mod EndLaws
+pub mod InsideLaws
+pub mod ListLaws
+pub mod NewestLaws
+pub mod PromiseLaws
+pub mod ReadLaws
+pub mod RebuildLaws
+pub mod StandingLaws
+pub mod StepLaws
+pub mod TornLaws

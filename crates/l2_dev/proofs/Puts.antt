@@ -2,13 +2,13 @@
 use Rattle.std.proofs.Common.{◌≡◌, ℕ, ◌+◌, ◌≤◌, List, [], ◌∷◌, length, map, reverse, true, Option, None, Some, Result, Ok, Err, refl, inl, sym, ap, subst, ◌∙◌, arith}
 use Rattle.std.proofs.lemmas.List.{reverse-append}
 use Rattle.std.specs.List.{AllByRecursion}
-use Rattle.l2_log.specs.declared.entry.Entry.{Entry}
+use Rattle.l2_log.specs.declared.entry.LogEntry.{LogEntry}
 use Rattle.l2_ring.specs.declared.live.Written.{Written}
 use Rattle.l2_dev.specs.Restoring.{written_in}
 use Rattle.l2_dev.specs.Standing.{Kept, written_of}
 use Rattle.l2_dev.specs.Cursor.{CursorState, IsCursor, numbers_from}
 use Rattle.l2_dev.specs.Promise.{Promise, IsUpheld}
-use Rattle.l2_dev.specs.PromiseLaws.{same_plan}
+use Rattle.l2_dev.proofs.PromiseLaws.{same_plan}
 use Rattle.l2_dev.specs.Planned.{HasPushed, IsForgotten}
 use Rattle.vdev_io.specs.declared.device.CacheDev.{Ghosts}
 use Rattle.vdev_io.specs.Calls.{Asked, MakesAll, MakesUpTo}
@@ -16,9 +16,9 @@ use Rattle.vdev_io.specs.Device.{IsWritten, IsTorn}
 use Rattle.l2_dev.specs.declared.fault.DevErr.{DevErr}
 use Rattle.l2_dev.specs.declared.fault.DevErr.TheVariants.{DevFault, NoMemory}
 use Rattle.l2_dev.specs.Asking.{AsksFor}
-use Rattle.l2_dev.specs.TornLaws.{IsAside, EntriesAside, put_torn}
-use Rattle.l2_dev.specs.ListLaws.{all_unmap, all_weaker}
-use Rattle.l2_dev.specs.CallLaws.{WritesInRing, HasForgotten, HasPut}
+use Rattle.l2_dev.proofs.TornLaws.{IsAside, EntriesAside, put_torn}
+use Rattle.l2_dev.proofs.ListLaws.{all_unmap, all_weaker}
+use Rattle.l2_dev.proofs.CallLaws.{WritesInRing, HasForgotten, HasPut}
 use Rattle.l2_dev.proofs.Cursors.{IsBetween, row_between, row_up}
 
 -- what is pending lies before the hand
@@ -29,7 +29,7 @@ pending_aside cursor p n is up =
     all_weaker (λ (k : Kept). IsBetween cursor.base cursor.ring.hand k.written) (λ (k : Kept). IsAside cursor.ring.hand n k.written.live.place k.written.live.key.size) p.pending
     (λ k b. inl b.to) (all_unmap (IsBetween cursor.base cursor.ring.hand) written_of p.pending (subst (λ (ws : List Written). AllByRecursion (IsBetween cursor.base cursor.ring.hand) ws) (sym up.pending) rows))
 
-pub pushed_numbers : (entry : Entry) (old new : CursorState) → HasPushed entry old new → numbers_from new ≡ numbers_from old
+pub pushed_numbers : (entry : LogEntry) (old new : CursorState) → HasPushed entry old new → numbers_from new ≡ numbers_from old
 pushed_numbers entry old new h = same_plan (numbers_from new) (numbers_from old) h.base h.evict h.top h.lap
 
 pub forgotten_of : (old new : CursorState) → IsForgotten old new → HasForgotten old new
@@ -44,7 +44,7 @@ forgotten_of old new f = record {
 }
 
 -- the pushed entry as what is kept of it
-pub put_of : (entry : Entry) (bytes : List ℕ) (old new : CursorState) (k : Kept) → k.written ≡ written_in old.ring.lap entry → HasPushed entry old new → HasPut k old new
+pub put_of : (entry : LogEntry) (bytes : List ℕ) (old new : CursorState) (k : Kept) → k.written ≡ written_in old.ring.lap entry → HasPushed entry old new → HasPut k old new
 put_of entry bytes old new k same h = record {
   end = h.end;
   numbers = pushed_numbers entry old new h;
@@ -53,8 +53,8 @@ put_of entry bytes old new k same h = record {
   newest = h.newest;
   second = h.second;
   ready = h.ready;
-  pending = ap (λ (es : List Entry). map (written_in old.ring.lap) (reverse es)) h.pending
-      ∙ ap (λ (es : List Entry). map (written_in old.ring.lap) es) (reverse-append old.pending (entry ∷ []))
+  pending = ap (λ (es : List LogEntry). map (written_in old.ring.lap) (reverse es)) h.pending
+      ∙ ap (λ (es : List LogEntry). map (written_in old.ring.lap) es) (reverse-append old.pending (entry ∷ []))
       ∙ ap (λ (w : Written). w ∷ map (written_in old.ring.lap) (reverse old.pending)) (sym same);
 }
 

@@ -5,7 +5,7 @@ use Rattle.std.proofs.lemmas.Bool.{false≢true}
 use Rattle.std.specs.List.{AllByRecursion}
 use Rattle.vdev_io.specs.Calls.{DeviceCall}
 use Rattle.vdev_io.specs.Device.{LeavesOnly}
-use Rattle.l2_log.specs.declared.entry.Entry.{Entry}
+use Rattle.l2_log.specs.declared.entry.LogEntry.{LogEntry}
 use Rattle.l2_log.specs.declared.pointer.LogPtr.{LogPtr}
 use Rattle.l2_log.specs.declared.header.DevHeader.{DevHeader}
 use Rattle.l2_ring.specs.declared.live.Written.{Written}
@@ -17,12 +17,12 @@ use Rattle.l2_dev.specs.declared.stop.Stop.{Stop}
 use Rattle.l2_dev.specs.Chain.{Visit, IsPassed, IsPlaced, IsLinked, bytes_at, numbers_in}
 use Rattle.l2_dev.specs.Restoring.{IsRebuilt, IsWalked, written_in, firsts, found_in, first_sector, restored_of}
 use Rattle.l2_dev.specs.Standing.{Candidate, Kept, written_of, IsNamed, IsCandidate, IsOrderly, IsKeptIn}
-use Rattle.l2_dev.specs.StandingLaws.{found_among, found_ordered, passed_bytes, block_stays}
-use Rattle.l2_dev.specs.CommitLaws.{passed_stay}
-use Rattle.l2_dev.specs.ListLaws.{all_weaker, firsts_all}
+use Rattle.l2_dev.proofs.StandingLaws.{found_among, found_ordered, passed_bytes, block_stays}
+use Rattle.l2_dev.proofs.CommitLaws.{passed_stay}
+use Rattle.l2_dev.proofs.ListLaws.{all_weaker, firsts_all}
 use Rattle.l2_dev.specs.Cursor.{CursorState, numbers_from}
 use Rattle.l2_dev.specs.Promise.{IsUpheld, KeepsPromise, IsBacked, IsOf, kept_range}
-use Rattle.l2_dev.specs.PromiseLaws.{kept_inside}
+use Rattle.l2_dev.proofs.PromiseLaws.{kept_inside}
 use Rattle.l2_dev.specs.Rebuilding.{IsOpened, IsFresh, IsAlong, IsStarted}
 use Rattle.l2_dev.specs.Reading.{OnlyRead}
 use Rattle.l2_dev.specs.Starting.{IsStartOf, StartKeeps, opening}
@@ -52,7 +52,7 @@ opened_numbers : (end : ℕ) (cursor : CursorState) (restored : List Restored) �
 opened_numbers end cursor restored o = ap (λ (b : ℕ). with_hand (numbers_of cursor.ring) b) o.base
 
 none_pending : (end : ℕ) (cursor : CursorState) (restored : List Restored) → IsOpened end cursor restored → [] ≡ map (written_in cursor.ring.lap) (reverse cursor.pending)
-none_pending end cursor restored o = ap (λ (es : List Entry). map (written_in cursor.ring.lap) (reverse es)) (sym o.pending)
+none_pending end cursor restored o = ap (λ (es : List LogEntry). map (written_in cursor.ring.lap) (reverse es)) (sym o.pending)
 
 module _ (end : ℕ) (image : List ℕ) (cursor : CursorState) (restored : List Restored) (why : Stop) (o : IsOpened end cursor restored) where
   -- nothing was found: the first sector promises nothing

@@ -17,7 +17,7 @@ use Rattle.l2_dev.specs.Asking.{AreReads, end_reads, header_read, last_read, rea
 use Rattle.l2_dev.specs.Cursor.{CursorState}
 use Rattle.l2_dev.specs.Rebuilding.{IsBuilt, IsFresh, IsStarted}
 use Rattle.l2_log.specs.Rules.{header_len, log_len}
-use Rattle.l2_log.specs.declared.entry.Entry.{Entry}
+use Rattle.l2_log.specs.declared.entry.LogEntry.{LogEntry}
 use Rattle.l2_log.specs.declared.pointer.LogPtr.{LogPtr}
 use Rattle.l2_log.specs.declared.log_block.LogBlock.{LogBlock}
 use Rattle.l2_log.specs.declared.header.DevHeader.{DevHeader}
@@ -33,7 +33,7 @@ use Rattle.l2_log.specs.declared.fault.LogFault.TheVariants as fault
 use Rattle.blk_ptr.specs.Ptr.{sha256_of}
 use Rattle.l2_dev.specs.Chain.{Visit, IsStop, IsMisfit, IsBlockFault, bytes_at, IsPassed, IsHeld, IsLinked, IsReached, pointer_behind, numbers_in, ring_len}
 use Rattle.l2_dev.specs.Restoring.{IsUnread, written_in, told_by, is_valid, valid_of, found_in, firsts, restored_of, first_sector, IsHeaderOf}
-use Rattle.l2_dev.specs.ListLaws.{filter_all, all_passes, all_append, all_two, firsts_all}
+use Rattle.l2_dev.proofs.ListLaws.{filter_all, all_passes, all_append, all_two, firsts_all}
 use Rattle.l2_dev.specs.Reading.{OnlyRead}
 use Rattle.l2_dev.specs.Walking.{EndsWith, HasCome, HasWalked, IsFit, IsVisited, visit_of}
 
@@ -41,7 +41,7 @@ use Rattle.l2_dev.specs.Walking.{EndsWith, HasCome, HasWalked, IsFit, IsVisited,
 pub if_told : {A : Type 0} (P : A → Type 0) (o : Option A) (x : A) → o ≡ Some x → IfSome o P → P x
 if_told {A} P o x e h = subst (λ (p : Option A). IfSome p P) e h
 
-formed_in : (lap : ℕ) (es : List Entry) → AllByRecursion (λ (w : Written). IsWellFormed w.live.key) (map (written_in lap) es)
+formed_in : (lap : ℕ) (es : List LogEntry) → AllByRecursion (λ (w : Written). IsWellFormed w.live.key) (map (written_in lap) es)
 formed_in lap [] = tt
 formed_in lap (e ∷ es) = (e.formed, formed_in lap es)
 

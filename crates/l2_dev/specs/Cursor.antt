@@ -4,7 +4,7 @@ use Rattle.std.specs.List.{All}
 use Rattle.blk_ptr.specs.Size.{sector}
 use Rattle.l2_log.specs.Rules.{ring_start, log_len, is_there, most_with}
 use Rattle.l2_log.specs.declared.pointer.LogPtr.{LogPtr}
-use Rattle.l2_log.specs.declared.entry.Entry.{Entry}
+use Rattle.l2_log.specs.declared.entry.LogEntry.{LogEntry}
 use Rattle.l2_ring.specs.declared.plan.Plan.{Plan}
 use Rattle.l2_ring.specs.Ring.{RingState, IsSound, numbers_of, with_hand}
 use Rattle.l2_ring.specs.Stays.{AreLive}
@@ -18,12 +18,12 @@ pub record CursorState : Type 0 where
   pub base : ℕ
   pub newest : Option LogPtr
   pub second : Option LogPtr
-  pub pending : List Entry
+  pub pending : List LogEntry
   pub ready : Bool
 
 -- what a cursor keeps: the live entries lie before the base, the pending ones lie in a row from there to the hand, and
 -- there is room for their log block
-pub record IsCursor (ring : RingState) (base : ℕ) (pending : List Entry) (ready : Bool) : Type 0 where
+pub record IsCursor (ring : RingState) (base : ℕ) (pending : List LogEntry) (ready : Bool) : Type 0 where
   pub sound : IsSound ring
   pub aligned : base % sector ≡ 0
   pub from : ring_start ≤ base

@@ -1,5 +1,5 @@
 -- What the steps of a cursor do.
-use Rattle.l2_log.specs.declared.entry.Entry.{Entry}
+use Rattle.l2_log.specs.declared.entry.LogEntry.{LogEntry}
 use Rattle.std.specs.Prelude.{◌≡◌, ℕ, ◌+◌, List, [], ◌∷◌, ◌++◌, false, map, length, Some}
 use Rattle.std.specs.List.{filter}
 use Rattle.blk_ptr.specs.Ptr.{sha256_of}
@@ -60,7 +60,7 @@ pub record HasSettled (ptr : LogPtr) (old new : CursorState) : Type 0 where
   pub ready : new.ready ≡ old.ready
 
 -- one more entry is pending, and the hand has passed its block
-pub record HasPushed (entry : Entry) (old new : CursorState) : Type 0 where
+pub record HasPushed (entry : LogEntry) (old new : CursorState) : Type 0 where
   pub pending : new.pending ≡ old.pending ++ entry ∷ []
   pub hand : new.ring.hand ≡ old.ring.hand + entry.key.size
   pub end : new.ring.end ≡ old.ring.end

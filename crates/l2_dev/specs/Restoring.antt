@@ -4,7 +4,7 @@ use Rattle.std.specs.List.{filter, flat_map}
 use Rattle.blk_ptr.specs.Order.{key_eq}
 use Rattle.l2_log.specs.Rules.{header_len}
 use Rattle.l2_log.specs.HeaderBytes.{IsHeader, IsFirstRefusal}
-use Rattle.l2_log.specs.declared.entry.Entry.{Entry}
+use Rattle.l2_log.specs.declared.entry.LogEntry.{LogEntry}
 use Rattle.l2_log.specs.declared.header.DevHeader.{DevHeader}
 use Rattle.l2_log.specs.declared.fault.LogFault.{LogFault}
 use Rattle.l2_log.specs.declared.fault.LogFault.TheVariants as fault
@@ -17,7 +17,7 @@ use Rattle.l2_dev.specs.declared.stop.Stop.TheVariants as stop
 use Rattle.l2_dev.specs.Chain.{Visit, IsChain, numbers_in}
 
 -- what an entry of a log block of this lap tells of
-abbrev pub written_in : ℕ → Entry → Written
+abbrev pub written_in : ℕ → LogEntry → Written
 written_in lap entry = record { live = record { key = entry.key; place = entry.place; digest = entry.digest }; lap = lap }
 
 -- what a log block tells of, from the last entry to the first

@@ -8,7 +8,7 @@ ghost use Rattle.l2_ring.specs.Ring.{IsRoom, IsPlan, IsPlanFor, HasPlan, IsLower
 ghost use Rattle.l2_ring.specs.Stays.{stays, falls, live_of};
 
 use blk_ptr::NoMemory;
-use l2_log::{DevHeader, Entries, Entry, LOG_LEN, LogBlock, LogPtr, VERSION};
+use l2_log::{DevHeader, Entries, LogEntry, LOG_LEN, LogBlock, LogPtr, VERSION};
 use l2_ring::{Live, Plan, Ring};
 use std::alloc::Global;
 use std::marker::Model;
@@ -22,7 +22,7 @@ pub struct Cursor {
     base: u64,
     newest: Option<LogPtr>,
     second: Option<LogPtr>,
-    pending: Vec<Entry>,
+    pending: Vec<LogEntry>,
     /// Whether a begin was answered Ok, and no call an error since.
     ready: bool,
 }
@@ -45,14 +45,14 @@ impl Model for Cursor {
 }
 
 /// Adds the entries, which lie in the lower part, to the live ones.
-fn add_all(ring: &mut Ring, entries: &[Entry])
+fn add_all(ring: &mut Ring, entries: &[LogEntry])
     requires room { length entries.now ≤ ring.old.spare }
     requires lower { All (λ entry. IsLower ring.old entry.place entry.key.size) entries.now }
     ensures numbers { IsSameRing ring.old ring.new }
     ensures live { ring.new.live ≡ ring.old.live ++ map (written_in ring.old.lap) entries.now }
 {
     for entry in entries {
-        let Entry { key, place, digest } = *entry;
+        let LogEntry { key, place, digest } = *entry;
         ring.add(Live { key, place, digest });
     }
 }
@@ -168,7 +168,7 @@ impl Cursor {
     }
 
     /// Adds an entry whose block was written at the hand.
-    pub(crate) fn push(&mut self, entry: Entry) -> Result<(), NoMemory>
+    pub(crate) fn push(&mut self, entry: LogEntry) -> Result<(), NoMemory>
         requires ready { self.old.ready ≡ true }
         requires place { entry.place ≡ self.old.ring.hand }
         requires digest { is_there entry.digest ≡ true }

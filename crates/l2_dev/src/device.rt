@@ -19,7 +19,7 @@ use crate::cursor::Cursor;
 use crate::fault::DevErr;
 use crate::write::{write_at, write_header, write_through};
 use blk_ptr::{Block, Key};
-use l2_log::{Entry, LOG_LEN, LogPtr};
+use l2_log::{LogEntry, LOG_LEN, LogPtr};
 use l2_ring::{Live, Ring};
 use std::alloc::Global;
 use vdev_io::CacheDev;
@@ -36,7 +36,7 @@ pub struct L2Dev<D: CacheDev> {
 fn put_block<D: CacheDev>(
     dev: &mut D,
     cursor: &mut Cursor,
-    entry: Entry,
+    entry: LogEntry,
     bytes: &[u8],
 ) -> Result<(), DevErr>
     requires inside { entry.place + length bytes.now ≤ D.size dev.old }
@@ -137,7 +137,7 @@ impl<D: CacheDev> L2Dev<D> {
             → PutKeeps D.told D.has_sectors D.may_leave D.moment D.left_since self.old.dev self.new.dev self.old.cursor self.new.cursor p key block.now result }
     {
         let place = self.cursor.ring().hand();
-        let entry = Entry {
+        let entry = LogEntry {
             key,
             place,
             digest: Some(block.digest()),

@@ -17,7 +17,7 @@ ghost use Rattle.l2_dev.specs.declared.walk.WalkEnd.TheVariants as ends;
 
 use crate::stop::Stop;
 use blk_ptr::{NoMemory, SECTOR, digest_of};
-use l2_log::{DevHeader, Entry, LOG_LEN, LogBlock, LogFault, LogPtr, LogReadFault, RING_START};
+use l2_log::{DevHeader, LogEntry, LOG_LEN, LogBlock, LogFault, LogPtr, LogReadFault, RING_START};
 use l2_ring::{Live, Plan, Written};
 use std::alloc::{AllocError, AllocFailed, Global};
 use vdev_io::{CacheDev, Failed};
@@ -176,10 +176,10 @@ fn is_valid(plan: Plan, place: u64, written: &Written) -> bool
 }
 
 /// What an entry of a log block of this lap tells of.
-fn written_in(lap: u64, entry: &Entry) -> Written
+fn written_in(lap: u64, entry: &LogEntry) -> Written
     ensures { result ≡ written_in lap entry.now }
 {
-    let Entry { key, place, digest } = *entry;
+    let LogEntry { key, place, digest } = *entry;
     Written {
         live: Live { key, place, digest },
         lap,

@@ -12,7 +12,8 @@ use Rattle.arc_table.specs.declared.view.Known.{Known}
 use Rattle.arc_table.specs.Items.{Meanings}
 use Rattle.l2_ring.specs.declared.live.Written.{Written}
 use Rattle.l2_ring.specs.declared.plan.Plan.{Plan}
-use Rattle.l2_ring.specs.RangeLaws.{HaveOneRange, fall_together}
+use Rattle.l2_ring.specs.RangeLaws.{HaveOneRange}
+use Rattle.l2_ring.proofs.RangeLaws.{fall_together}
 use Rattle.l2_ring.specs.Ring.{numbers_of}
 use Rattle.l2_ring.specs.Stays.{falls, live_of, stays}
 use Rattle.l2_dev.specs.declared.report.FeedStop.{FeedStop}

@@ -9,7 +9,7 @@ use Rattle.arc_core.specs.declared.config.Config.{Config}
 use Rattle.arc_table.specs.declared.picks.Picked.{Picked as Block}
 use Rattle.l2_ring.specs.declared.live.Live.{Live}
 use Rattle.l2_ring.specs.declared.plan.Plan.{Plan}
-use Rattle.l2_ring.specs.RangeLaws.{plans_are_one}
+use Rattle.l2_ring.proofs.RangeLaws.{plans_are_one}
 use Rattle.l2_ring.specs.Ring.{IsPlanFor, IsSound, numbers_of}
 use Rattle.l2_ring.specs.Stays.{AreLive, falls, live_of}
 use Rattle.vdev_io.specs.Calls.{DeviceCall}

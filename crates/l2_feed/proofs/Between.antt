@@ -18,7 +18,7 @@ use Rattle.arc_core.specs.Replay.{is_legal_history, replay}
 use Rattle.arc_core.proofs.OwnEvents.{own-events-are}
 use Rattle.arc_core.proofs.Stepping.{replay-append}
 use Rattle.arc_table.specs.Items.{Meanings}
-use Rattle.arc_table.specs.opening.OpeningLaws.{opening_sound}
+use Rattle.arc_table.proofs.OpeningLaws.{opening_sound}
 use Rattle.arc_table.specs.Seen.{seen_of}
 use Rattle.arc_table.specs.Telling.{opening_of}
 use Rattle.l2_feed.specs.Acts.{Act}

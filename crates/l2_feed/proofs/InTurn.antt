@@ -29,7 +29,7 @@ use Rattle.turn_table.specs.Places.{Place}
 use Rattle.arc_table.specs.declared.view.Known.{Known}
 use Rattle.arc_table.specs.Cache.{Cache}
 use Rattle.arc_table.specs.Items.{Meanings}
-use Rattle.arc_table.specs.opening.OpeningLaws.{opening_sound}
+use Rattle.arc_table.proofs.OpeningLaws.{opening_sound}
 use Rattle.arc_table.specs.Seen.{seen_of}
 use Rattle.arc_table.specs.Telling.{opening_of}
 use Rattle.l2_ring.specs.declared.live.Written.{Written}
@@ -38,9 +38,9 @@ use Rattle.l2_dev.specs.declared.report.FeedReport.{FeedReport}
 use Rattle.l2_dev.specs.declared.report.FeedStop.{FeedStop}
 use Rattle.l2_dev.specs.declared.report.FeedStop.TheVariants as stop
 use Rattle.l2_dev.specs.Cursor.{CursorState}
-use Rattle.l2_dev.specs.ListLaws.{firsts_prefix}
-use Rattle.l2_dev.specs.NewestLaws.{newest_is_restored}
-use Rattle.l2_dev.specs.ReadLaws.{reads_keep}
+use Rattle.l2_dev.proofs.ListLaws.{firsts_prefix}
+use Rattle.l2_dev.proofs.NewestLaws.{newest_is_restored}
+use Rattle.l2_dev.proofs.ReadLaws.{reads_keep}
 use Rattle.l2_dev.specs.Rebuilding.{HaveKeys}
 use Rattle.l2_dev.specs.Restoring.{firsts, is_same_key, restored_of}
 use Rattle.l2_feed.specs.Crashes.{FeedKeeps}

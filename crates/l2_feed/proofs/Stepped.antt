@@ -30,7 +30,7 @@ use Rattle.arc_table.specs.Both.{Does}
 use Rattle.arc_table.specs.Geometry.{parties_of}
 use Rattle.arc_table.specs.Items.{Meanings}
 use Rattle.arc_table.specs.pact.Logged.{IsSoundItem, IsSoundLog}
-use Rattle.arc_table.specs.opening.OpeningLaws.{opening_sound}
+use Rattle.arc_table.proofs.OpeningLaws.{opening_sound}
 use Rattle.arc_table.specs.feeder.Picking.{ArePicks, Feeds}
 use Rattle.arc_table.specs.pact.Rule.{Pact}
 use Rattle.arc_table.specs.scans.Scanning.{AreOfOthers}

@@ -9,7 +9,7 @@ use Rattle.arc_table.specs.declared.view.Known.{Known}
 use Rattle.arc_table.specs.Cache.{Cache}
 use Rattle.arc_table.specs.Items.{Meanings}
 use Rattle.l2_log.specs.Rules.{log_len}
-use Rattle.l2_log.specs.declared.entry.Entry.{Entry}
+use Rattle.l2_log.specs.declared.entry.LogEntry.{LogEntry}
 use Rattle.l2_log.specs.declared.log_block.LogBlock.{LogBlock}
 use Rattle.l2_log.specs.declared.pointer.LogPtr.{LogPtr}
 use Rattle.l2_ring.specs.declared.live.Written.{Written}
@@ -66,7 +66,7 @@ put_start run old ready none whole = record {
   hand = refl;
   many = ap length none;
   whole = whole;
-  pending = ap (λ (es : List Entry). map (written_in old.ring.lap) es ++ row_of old.ring.lap old.ring.hand run) none;
+  pending = ap (λ (es : List LogEntry). map (written_in old.ring.lap) es ++ row_of old.ring.lap old.ring.hand run) none;
 }
 
 module _ (run : List Block) (i : ℕ) (d : Block) (old now : CursorState) (below : i < length run) (so : PutSo run i old now) where
@@ -82,7 +82,7 @@ module _ (run : List Block) (i : ℕ) (d : Block) (old now : CursorState) (below
   pub next_room : now.ring.hand + (b.key.size + bytes_of (drop (i + 1) run)) ≡ old.ring.hand + bytes_of run
   next_room = let e = ap bytes_of next ∙ bytes_cons b (drop (i + 1) run) in let h = so.hand in omega arith
 
-  pub put_turn : (new : CursorState) (entry : Entry) → entry.key ≡ b.key → entry.place ≡ now.ring.hand → entry.digest ≡ Some (sha256_of b.block.value) → HasPushed entry now new → PutSo run (i + 1) old new
+  pub put_turn : (new : CursorState) (entry : LogEntry) → entry.key ≡ b.key → entry.place ≡ now.ring.hand → entry.digest ≡ Some (sha256_of b.block.value) → HasPushed entry now new → PutSo run (i + 1) old new
   put_turn new entry key place digest pushed =
       let lap : ℕ = old.ring.lap in
       let behind : List Written = row_of lap new.ring.hand (drop (i + 1) run) in
@@ -103,7 +103,7 @@ module _ (run : List Block) (i : ℕ) (d : Block) (old now : CursorState) (below
         many = (let e = ap length pushed.pending in let m = so.many in let l = length-last now.pending entry in omega arith);
         whole = next_whole.1;
         pending =
-            ap (λ (es : List Entry). map (written_in lap) es ++ behind) pushed.pending
+            ap (λ (es : List LogEntry). map (written_in lap) es ++ behind) pushed.pending
             ∙ (ap (λ (ws : List Written). ws ++ behind) (map-append (written_in lap) now.pending (entry ∷ []))
             ∙ (append_assoc (map (written_in lap) now.pending) (written_in lap entry ∷ []) behind
             ∙ (ap (λ (x : Written × ℕ). map (written_in lap) now.pending ++ (x.0 ∷ row_of lap x.1 (drop (i + 1) run))) (λ z. (told z, hand z))
@@ -197,7 +197,7 @@ committed run old now new ptr before told so s w = record {
   ready = s.ready ∙ so.ready;
 }
 
-some_pending : (lap hand : ℕ) (run : List Block) (es : List Entry) → 0 < length run → map (written_in lap) es ≡ row_of lap hand run → 0 < length es
+some_pending : (lap hand : ℕ) (run : List Block) (es : List LogEntry) → 0 < length run → map (written_in lap) es ≡ row_of lap hand run → 0 < length es
 some_pending lap hand [] es none is = absurd (omega arith)
 some_pending lap hand (b ∷ bs) [] some is = cc
 some_pending lap hand (b ∷ bs) (e ∷ es) some is = omega arith

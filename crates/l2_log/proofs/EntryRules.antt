@@ -3,7 +3,7 @@ use Rattle.std.proofs.Common.{◌≡◌, ℕ, ◌+◌, ◌*◌, ◌<◌, ◌≤�
 use Rattle.std.proofs.lemmas.Bool.{cases_lt, cases_order, false≢true}
 use Rattle.std.proofs.lemmas.List.Elements.{All-head, All-tail}
 use Rattle.blk_ptr.specs.declared.digest.Digest.{Digest}
-use Rattle.l2_log.specs.declared.entry.Entry.{Entry}
+use Rattle.l2_log.specs.declared.entry.LogEntry.{LogEntry}
 use Rattle.l2_log.specs.declared.fault.LogFault.{LogFault}
 use Rattle.l2_log.specs.declared.fault.LogFault.TheVariants as fault
 use Rattle.l2_log.specs.Rules.{first_entry, entry_len, fields_len, is_there}
@@ -54,7 +54,7 @@ kept_entry_digest digests at None kept h there is = tt
 kept_entry_digest true at (Some d) kept h there is = kept_digest (at + 32) (Some d) kept (omega arith) is
 kept_entry_digest false at (Some d) kept h there is = absurd (false≢true (sym there))
 
-kept_entry : {from to : ℕ} {xs ys : List ℕ} (digests : Bool) (at : ℕ) (e : Entry) → IsKeptOutside from to xs ys → at + entry_len digests ≤ from
+kept_entry : {from to : ℕ} {xs ys : List ℕ} (digests : Bool) (at : ℕ) (e : LogEntry) → IsKeptOutside from to xs ys → at + entry_len digests ≤ from
     → is_there e.digest ≡ digests → IsEntry digests xs at e → IsEntry digests ys at e
 kept_entry digests at e kept h there is =
     let lens = entry_lens digests in
@@ -70,18 +70,18 @@ kept_entry digests at e kept h there is =
     }
 
 -- entries outside the range of a change
-pub kept_entries : {from to : ℕ} {xs ys : List ℕ} (digests : Bool) (at : ℕ) (es : List Entry) → IsKeptOutside from to xs ys → at + entry_len digests * length es ≤ from
+pub kept_entries : {from to : ℕ} {xs ys : List ℕ} (digests : Bool) (at : ℕ) (es : List LogEntry) → IsKeptOutside from to xs ys → at + entry_len digests * length es ≤ from
     → HaveDigests digests es → AreEntries digests xs at es → AreEntries digests ys at es
 kept_entries digests at [] kept h have is = tt
 kept_entries digests at (e ∷ es) kept h have is =
-    let P : Entry → Type 0 = λ entry. is_there entry.digest ≡ digests in
+    let P : LogEntry → Type 0 = λ entry. is_there entry.digest ≡ digests in
     let behind = place_behind digests at (length es) in (
       kept_entry digests at e kept (omega arith) (All-head P e es have) is.0,
       kept_entries digests (at + entry_len digests) es kept (omega arith) (All-tail P e es have) is.1,
     )
 
 -- one more entry behind the others
-pub entries_more : (digests : Bool) (bytes : List ℕ) (at n : ℕ) (es : List Entry) (e : Entry) → n ≡ at + entry_len digests * length es → AreEntries digests bytes at es
+pub entries_more : (digests : Bool) (bytes : List ℕ) (at n : ℕ) (es : List LogEntry) (e : LogEntry) → n ≡ at + entry_len digests * length es → AreEntries digests bytes at es
     → IsEntry digests bytes n e → AreEntries digests bytes at (es ++ e ∷ [])
 entries_more digests bytes at n [] e h is last =
     let none = place_none digests at in (subst (λ (m : ℕ). IsEntry digests bytes m e) (h ∙ none) last, tt)
@@ -94,7 +94,7 @@ digest_only true at None xs ys there x y = absurd (false≢true there)
 digest_only true at (Some d) xs ys there x y = λ k ge lt. part_same (at + 32) 32 xs ys (ap (λ d. d.0) (x ∙ sym y)) k ge (omega arith)
 digest_only false at d xs ys there x y = λ k ge lt. absurd (omega arith)
 
-entry_only : (digests : Bool) (at : ℕ) (e : Entry) (xs ys : List ℕ) → AreBytes xs → AreBytes ys → is_there e.digest ≡ digests
+entry_only : (digests : Bool) (at : ℕ) (e : LogEntry) (xs ys : List ℕ) → AreBytes xs → AreBytes ys → is_there e.digest ≡ digests
     → IsEntry digests xs at e → IsEntry digests ys at e → AreSame at (at + entry_len digests) xs ys
 entry_only digests at e xs ys bx by there x y =
     let offset : AreSame at (at + 8) xs ys = word_only at xs ys bx by (x.offset ∙ sym y.offset) in
@@ -121,15 +121,15 @@ entry_only digests at e xs ys bx by there x y =
     ]
 
 -- the same entries are the same bytes
-pub entries_only : (digests : Bool) (at n : ℕ) (es : List Entry) (xs ys : List ℕ) → n ≡ at + entry_len digests * length es → AreBytes xs → AreBytes ys → HaveDigests digests es
+pub entries_only : (digests : Bool) (at n : ℕ) (es : List LogEntry) (xs ys : List ℕ) → n ≡ at + entry_len digests * length es → AreBytes xs → AreBytes ys → HaveDigests digests es
     → AreEntries digests xs at es → AreEntries digests ys at es → AreSame at n xs ys
 entries_only digests at n [] xs ys h bx by have x y = λ k ge lt. let none = place_none digests at in absurd (omega arith)
 entries_only digests at n (e ∷ es) xs ys h bx by have x y =
-    let P : Entry → Type 0 = λ entry. is_there entry.digest ≡ digests in
+    let P : LogEntry → Type 0 = λ entry. is_there entry.digest ≡ digests in
     same_joined at (at + entry_len digests) n xs ys (entry_only digests at e xs ys bx by (All-head P e es have) x.0 y.0)
     (entries_only digests (at + entry_len digests) n es xs ys (h ∙ place_behind digests at (length es)) bx by (All-tail P e es have) x.1 y.1)
 
-entry_rule : (digests : Bool) (bytes : List ℕ) (at : ℕ) (e : Entry) → is_there e.digest ≡ digests → IsEntry digests bytes at e → (k : ℕ) → EntryRule digests bytes at k
+entry_rule : (digests : Bool) (bytes : List ℕ) (at : ℕ) (e : LogEntry) → is_there e.digest ≡ digests → IsEntry digests bytes at e → (k : ℕ) → EntryRule digests bytes at k
 entry_rule digests bytes at e there is k = record {
   offset = λ p. rw is.offset e.formed.aligned;
   size = λ p. rw is.size record { block = e.formed.sized; most = rw there at e.sized };
@@ -139,7 +139,7 @@ entry_rule digests bytes at e there is k = record {
 }
 
 -- entries keep the rule of each
-pub entries_rule : (digests : Bool) (bytes : List ℕ) (at : ℕ) (es : List Entry) → HaveDigests digests es → AreEntries digests bytes at es → (i n : ℕ) → i < length es
+pub entries_rule : (digests : Bool) (bytes : List ℕ) (at : ℕ) (es : List LogEntry) → HaveDigests digests es → AreEntries digests bytes at es → (i n : ℕ) → i < length es
     → n ≡ at + entry_len digests * i → (k : ℕ) → EntryRule digests bytes n k
 entries_rule digests bytes at [] have is i n lt h k = absurd (omega arith)
 entries_rule digests bytes at (e ∷ es) have is zero n lt h k =
@@ -166,7 +166,7 @@ put_pad at None xs ys kept none zeros = rw (none refl) zeros
 put_pad at (Some d) xs ys kept none zeros = kept_zeros_behind (at + 64) (at + 96) kept (omega arith) zeros
 
 -- the first entry that is broken
-pub broken_entry : (digests : Bool) (bytes : List ℕ) (count i : ℕ) (es : List Entry) (f : LogFault) → i < count → length es ≡ i → HaveDigests digests es
+pub broken_entry : (digests : Bool) (bytes : List ℕ) (count i : ℕ) (es : List LogEntry) (f : LogFault) → i < count → length es ≡ i → HaveDigests digests es
     → AreEntries digests bytes first_entry es
     → IsFieldFault (first_entry + entry_len digests * i) (first_entry + entry_len digests * i + entry_len digests) (EntryRule digests bytes (first_entry + entry_len digests * i)) f
     → IsEntriesFault digests bytes count f

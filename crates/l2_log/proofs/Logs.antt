@@ -5,7 +5,7 @@ use Rattle.l2_log.specs.declared.fault.LogFault.{LogFault}
 use Rattle.l2_log.specs.declared.fault.LogFault.TheVariants as fault
 use Rattle.l2_log.specs.declared.fault.LogReadFault.{LogReadFault}
 use Rattle.l2_log.specs.declared.fault.LogReadFault.TheVariants as refusal
-use Rattle.l2_log.specs.declared.entry.Entry.{Entry}
+use Rattle.l2_log.specs.declared.entry.LogEntry.{LogEntry}
 use Rattle.std.proofs.lemmas.Bool.{eq-eqb}
 use Rattle.l2_log.specs.Rules.{first_entry, entry_len, log_len, stored_version, has_digests}
 use Rattle.l2_log.specs.Bytes.{word, AreZero, AreSame, AreBytes, IsZeroIn}
@@ -43,7 +43,7 @@ broken_entries bytes count (refusal.Fault _) same front zeros prev b = absurd b
 broken_entries bytes count refusal.NoMemory same front zeros prev b = tt
 
 -- a byte behind the entries that is not zero, where all before it is whole
-pub broken_log_end : (bytes : List ℕ) (es : List Entry) (from : ℕ) (f : LogFault) → length es ≡ word bytes 16 → from ≡ first_entry + entry_len (tells_digests bytes) * word bytes 16
+pub broken_log_end : (bytes : List ℕ) (es : List LogEntry) (from : ℕ) (f : LogFault) → length es ≡ word bytes 16 → from ≡ first_entry + entry_len (tells_digests bytes) * word bytes 16
     → IsLogFront bytes → AreZero 32 64 bytes → ((k : ℕ) → PointerRule bytes 64 k) → HaveDigests (tells_digests bytes) es → AreEntries (tells_digests bytes) bytes first_entry es
     → IsFieldFault from log_len (IsZeroIn from log_len bytes) f → IsFirstLogFault bytes f
 broken_log_end bytes es from (fault.Field at) count place front zeros prev have entries b = (

@@ -5,7 +5,7 @@ use Rattle.blk_ptr.specs.Size.{sector}
 use Rattle.blk_ptr.specs.declared.digest.Digest.{Digest}
 use Rattle.l2_log.specs.Bytes.{word, digest_at, IsZeroIn, AreZero}
 use Rattle.l2_log.specs.Rules.{entry_len, fields_len, IsEntrySize}
-use Rattle.l2_log.specs.declared.entry.Entry.{Entry}
+use Rattle.l2_log.specs.declared.entry.LogEntry.{LogEntry}
 
 -- the 32 bytes from this place are this digest, where there is one
 abbrev pub IsDigestIfAny : List ℕ → ℕ → Option Digest → Type 0
@@ -13,7 +13,7 @@ IsDigestIfAny bytes at None = Unit {0}
 IsDigestIfAny bytes at (Some digest) = digest_at bytes at ≡ digest
 
 -- the bytes from this place are those of this entry
-pub record IsEntry (digests : Bool) (bytes : List ℕ) (at : ℕ) (entry : Entry) : Type 0 where
+pub record IsEntry (digests : Bool) (bytes : List ℕ) (at : ℕ) (entry : LogEntry) : Type 0 where
   pub offset : word bytes at ≡ entry.key.offset
   pub size : word bytes (at + 8) ≡ entry.key.size
   pub birth : word bytes (at + 16) ≡ entry.key.birth
@@ -22,7 +22,7 @@ pub record IsEntry (digests : Bool) (bytes : List ℕ) (at : ℕ) (entry : Entry
   pub zeros : AreZero (at + fields_len digests) (at + entry_len digests) bytes
 
 -- the bytes from this place are those of these entries one behind the other
-abbrev pub AreEntries : Bool → List ℕ → ℕ → List Entry → Type 0
+abbrev pub AreEntries : Bool → List ℕ → ℕ → List LogEntry → Type 0
 AreEntries digests bytes at [] = Unit {0}
 AreEntries digests bytes at (entry ∷ entries) =
     IsEntry digests bytes at entry × AreEntries digests bytes (at + entry_len digests) entries

@@ -38,8 +38,8 @@ abbrev pub least_ring_end : ℕ
 least_ring_end = 266240
 
 -- the most entries of a log block that a pointer may tell of (L2ARC_LOG_BLK_MAX_ENTRIES)
-abbrev pub most_entries : ℕ
-most_entries = 1022
+abbrev pub most_old_entries : ℕ
+most_old_entries = 1022
 
 -- the most entries of a log block, with digests and without
 abbrev pub most_with : Bool → ℕ
@@ -83,7 +83,7 @@ first_entry = 128
 -- a count of entries that a pointer may tell of
 pub record IsCount (count : ℕ) : Type 0 where
   pub least : 1 ≤ count
-  pub most : count ≤ most_entries
+  pub most : count ≤ most_old_entries
 
 -- a count of entries that a log block may have, with digests or without
 pub record IsCountWith (digests : Bool) (count : ℕ) : Type 0 where

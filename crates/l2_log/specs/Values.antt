@@ -12,7 +12,7 @@ use Rattle.std.proofs.lemmas.List.Elements.{All-head, All-tail}
 use Rattle.l2_log.specs.Rules.{IsVersion, IsCount, IsCountWith, IsRingEnd, IsRingPlace, has_digests, is_there, largest_with, stored_version, entry_len, first_entry}
 use Rattle.l2_log.specs.Bytes.{word, AreZero}
 use Rattle.l2_log.specs.declared.pointer.LogPtr.{LogPtr}
-use Rattle.l2_log.specs.declared.entry.Entry.{Entry}
+use Rattle.l2_log.specs.declared.entry.LogEntry.{LogEntry}
 use Rattle.l2_log.specs.declared.header.DevHeader.{DevHeader}
 use Rattle.l2_log.specs.declared.log_block.LogBlock.{LogBlock}
 use Rattle.l2_log.specs.PointerBytes.{IsPointerOrNone}
@@ -126,7 +126,7 @@ record EntryRules (t : EntryFields) : Type 0 where
   aligned : t.3 % sector ≡ 0
   sized : t.1 ≤ largest_with (is_there t.4)
 
-entry_of : (t : EntryFields) → EntryRules t → Entry
+entry_of : (t : EntryFields) → EntryRules t → LogEntry
 entry_of t r = record {
   key = record { offset = t.0; size = t.1; birth = t.2 };
   place = t.3;
@@ -150,7 +150,7 @@ same_digest bytes at digests None (Some b) hp hq x y = absurd (false≢true (hp 
 same_digest bytes at digests (Some a) None hp hq x y = absurd (false≢true (hq ∙ sym hp))
 same_digest bytes at digests (Some a) (Some b) hp hq x y = ap (λ (d : Digest). let o : Option Digest = Some d in o) (sym x ∙ y)
 
-same_entry : (digests : Bool) (bytes : List ℕ) (at : ℕ) (a b : Entry) → is_there a.digest ≡ digests → is_there b.digest ≡ digests
+same_entry : (digests : Bool) (bytes : List ℕ) (at : ℕ) (a b : LogEntry) → is_there a.digest ≡ digests → is_there b.digest ≡ digests
     → IsEntry digests bytes at a → IsEntry digests bytes at b → a ≡ b
 unfolding entry_of
 same_entry digests bytes at a b ha hb x y =
@@ -164,23 +164,23 @@ same_entry digests bytes at a b ha hb x y =
     record { formed = a.formed; aligned = a.aligned; sized = a.sized } record { formed = b.formed; aligned = b.aligned; sized = b.sized }
 
 -- each of these entries has a digest, or none has
-abbrev pub HaveDigests : Bool → List Entry → Type 0
+abbrev pub HaveDigests : Bool → List LogEntry → Type 0
 HaveDigests digests es = All (λ entry. is_there entry.digest ≡ digests) es
 
 -- bytes are one list of so many entries at most
-pub same_entries_of_bytes : (digests : Bool) (bytes : List ℕ) (at : ℕ) (es fs : List Entry) → length es ≡ length fs → HaveDigests digests es → HaveDigests digests fs
+pub same_entries_of_bytes : (digests : Bool) (bytes : List ℕ) (at : ℕ) (es fs : List LogEntry) → length es ≡ length fs → HaveDigests digests es → HaveDigests digests fs
     → AreEntries digests bytes at es → AreEntries digests bytes at fs → es ≡ fs
 same_entries_of_bytes digests bytes at [] [] len he hf x y = refl
 same_entries_of_bytes digests bytes at [] (b ∷ fs) len he hf x y = absurd (omega arith)
 same_entries_of_bytes digests bytes at (a ∷ es) [] len he hf x y = absurd (omega arith)
 same_entries_of_bytes digests bytes at (a ∷ es) (b ∷ fs) len he hf x y =
-    let P : Entry → Type 0 = λ entry. is_there entry.digest ≡ digests in
+    let P : LogEntry → Type 0 = λ entry. is_there entry.digest ≡ digests in
     let first = same_entry digests bytes at a b (All-head P a es he) (All-head P b fs hf) x.0 y.0 in
     let rest = same_entries_of_bytes digests bytes (at + entry_len digests) es fs (omega arith) (All-tail P a es he) (All-tail P b fs hf) x.1 y.1 in
     cc (first, rest)
 
 abbrev pub LogFields : Type 0
-LogFields = ℕ × Option LogPtr × List Entry × ℕ
+LogFields = ℕ × Option LogPtr × List LogEntry × ℕ
 
 record LogRules (t : LogFields) : Type 0 where
   lapped : 1 ≤ t.0

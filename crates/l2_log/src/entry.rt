@@ -11,7 +11,7 @@ pub const LARGEST_OLD_BLOCK: u64 = 1_048_576;
 
 /// That a block lies on the device, and where (`l2arc_log_ent_phys_t`).
 #[derive(Clone, Copy, Debug, PartialEq, Eq)]
-pub struct Entry {
+pub struct LogEntry {
     /// The block, whose numbers are in their ranges.
     pub key: Key,
     /// The place of its first byte on the device, a multiple of [`SECTOR`](blk_ptr::SECTOR).

@@ -5,7 +5,7 @@ ghost use Rattle.l2_log.specs.Rules.{entry_len, fields_len, is_there, IsEntrySiz
 ghost use Rattle.l2_log.specs.Places.{IsFieldFault};
 ghost use Rattle.l2_log.specs.EntryBytes.{IsEntry, IsDigestIfAny, EntryRule};
 
-use crate::entry::{Entry, LARGEST_OLD_BLOCK};
+use crate::entry::{LogEntry, LARGEST_OLD_BLOCK};
 use crate::fault::LogFault;
 use crate::words::{check_zeros, put_digest, put_word, read_digest, word_at};
 use blk_ptr::{Digest, Key, SECTOR, is_block_size};
@@ -46,7 +46,7 @@ fn check_pad(bytes: &[u8], at: usize, digests: bool) -> Result<(), LogFault>
 }
 
 /// Reads the entry, with its digest or without, whose bytes begin at place `at`.
-pub(crate) fn entry_at(bytes: &[u8], at: usize, digests: bool) -> Result<Entry, LogFault>
+pub(crate) fn entry_at(bytes: &[u8], at: usize, digests: bool) -> Result<LogEntry, LogFault>
     requires inside { at + entry_len digests ≤ length bytes.now }
     requires short { length bytes.now ≤ 65536 }
     ensures { MatchResult result
@@ -82,7 +82,7 @@ pub(crate) fn entry_at(bytes: &[u8], at: usize, digests: bool) -> Result<Entry, 
         size,
         birth,
     };
-    Ok(Entry {
+    Ok(LogEntry {
         key,
         place,
         digest: digest_at(bytes, at + 32, digests),
@@ -102,7 +102,7 @@ fn put_digest_if_any(out: &mut [u8], at: usize, digest: Option<Digest>)
 }
 
 /// Writes the entry to the bytes from place `at`, which are zero.
-pub(crate) fn put_entry(out: &mut [u8], at: usize, entry: &Entry)
+pub(crate) fn put_entry(out: &mut [u8], at: usize, entry: &LogEntry)
     requires inside { at + entry_len (is_there entry.now.digest) ≤ length out.old }
     requires zero { AreZero at (at + entry_len (is_there entry.now.digest)) out.old }
     ensures entry { IsEntry (is_there entry.now.digest) out.new at entry.now }

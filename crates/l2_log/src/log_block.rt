@@ -3,7 +3,7 @@ ghost use Rattle.std.specs.Prelude.{◌≡◌, ◌≤◌, length};
 ghost use Rattle.std.specs.List.{All};
 ghost use Rattle.l2_log.specs.Rules.{IsVersion, IsCount, IsCountWith, has_digests, most_with, stored_version, is_there};
 
-use crate::entry::Entry;
+use crate::entry::LogEntry;
 use crate::fault::LogReadFault;
 use crate::header::{OLD_VERSION, VERSION};
 use crate::log_bytes::{check_log_front, entry_place, put_entries, read_entries};
@@ -46,15 +46,15 @@ fn stored_of(digests: bool) -> u64
 /// The entries of a log block, from 1 to [`MOST_OLD_ENTRIES`]. Contracts see the list.
 #[derive(Debug, Drop)]
 pub struct Entries {
-    entries: Vec<Entry>,
+    entries: Vec<LogEntry>,
 }
 
 impl Model for Entries {
     ghost use Rattle.std.specs.Prelude.{List, length};
     ghost use Rattle.l2_log.specs.Rules.{IsCount};
-    ghost use Rattle.l2_log.specs.declared.entry.Entry.{Entry};
+    ghost use Rattle.l2_log.specs.declared.entry.LogEntry.{LogEntry};
 
-    ghost Value = { List Entry };
+    ghost Value = { List LogEntry };
 
     ghost view = { λ entries. entries.entries.items };
 
@@ -63,7 +63,7 @@ impl Model for Entries {
 
 impl Entries {
     /// These entries. It takes no memory.
-    pub fn new(entries: Vec<Entry>) -> Entries
+    pub fn new(entries: Vec<LogEntry>) -> Entries
         requires { IsCount (length entries.items) }
         ensures { result ≡ entries.items }
     {
@@ -71,7 +71,7 @@ impl Entries {
     }
 
     /// The entries, in their order.
-    pub fn as_slice(&self) -> &[Entry]
+    pub fn as_slice(&self) -> &[LogEntry]
         ensures entries { result.now ≡ self.now }
         ensures counted { IsCount (length self.now) }
     {
@@ -79,7 +79,7 @@ impl Entries {
     }
 
     /// Gives the vector back. It takes no memory.
-    pub fn into_vec(self) -> Vec<Entry>
+    pub fn into_vec(self) -> Vec<LogEntry>
         ensures entries { result.items ≡ self }
         ensures counted { IsCount (length self) }
     {

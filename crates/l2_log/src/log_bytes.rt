@@ -6,7 +6,7 @@ ghost use Rattle.l2_log.specs.Bytes.{word, AreBytes, AreZero, IsKeptOutside};
 ghost use Rattle.l2_log.specs.EntryBytes.{AreEntries};
 ghost use Rattle.l2_log.specs.LogBytes.{IsLogFront, IsFirstLogFault, IsEntryRefusal};
 
-use crate::entry::Entry;
+use crate::entry::LogEntry;
 use crate::entry_bytes::{entry_at, put_entry};
 use crate::fault::{LogFault, LogReadFault};
 use crate::header::VERSION;
@@ -54,7 +54,7 @@ pub(crate) fn read_entries(
     bytes: &[u8],
     count: usize,
     digests: bool,
-) -> Result<Vec<Entry>, LogReadFault>
+) -> Result<Vec<LogEntry>, LogReadFault>
     requires whole { length bytes.now ≡ log_len }
     requires counted { IsCountWith digests count }
     ensures { MatchResult result
@@ -69,7 +69,7 @@ pub(crate) fn read_entries(
 }
 
 /// Writes the entries from the first place on, where all is zero.
-pub(crate) fn put_entries(out: &mut [u8], entries: &[Entry], digests: bool)
+pub(crate) fn put_entries(out: &mut [u8], entries: &[LogEntry], digests: bool)
     requires whole { length out.old ≡ log_len }
     requires counted { IsCountWith digests (length entries.now) }
     requires told { All (λ entry. is_there entry.digest ≡ digests) entries.now }

@@ -11,7 +11,7 @@ use Rattle.l2_ring.specs.Ranges.{IsOlder, range_of}
 use Rattle.l2_ring.specs.Ring.{RingState, IsPlanFor, numbers_of}
 use Rattle.l2_ring.specs.Stays.{stays, falls, AreLive}
 use Rattle.l2_ring.specs.Queue.{AreOldestFirst, DropsFront, IsPlanOver, fallen}
-use Rattle.l2_ring.specs.PlanLaws.{stays_tells, tells_stays, older_falls_always}
+use Rattle.l2_ring.proofs.PlanLaws.{stays_tells, tells_stays, older_falls_always}
 
 -- where an older entry stays, the newer one does
 newer_stays : (ring : RingState) (n : ℕ) (plan : Plan) (old new : Written) (b : Bool) → IsPlanFor ring n plan → ring.hand ≤ ring.evict → 0 < old.live.key.size

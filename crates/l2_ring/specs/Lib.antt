@@ -1,4 +1,3 @@
-pub mod PlanLaws
 pub mod Queue
 pub mod RangeLaws
 pub mod Ranges

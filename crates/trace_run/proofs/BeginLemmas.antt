@@ -10,7 +10,7 @@ use lib.ListN.{get_elem?}
 use Rattle.arc_lists.proofs.Tables.{cases_true}
 use Rattle.blk_ptr.specs.declared.ptr.Ptr.{Ptr}
 use Rattle.arc_table.specs.opening.Opening.{AreFreshCells, IsFreshCell}
-use Rattle.arc_table.specs.TableLaws.{get_more}
+use Rattle.arc_table.proofs.TableLaws.{get_more}
 use Rattle.dbuf_cells.specs.Kept.{bytes_of, is_held, key_of}
 use Rattle.dbuf_cells.specs.Places.{cell_of}
 use Rattle.dbuf_cells.specs.Turns.{OnHeap, dbuf_meanings}

@@ -41,7 +41,8 @@ use Rattle.arc_table.specs.pact.Rule.{Pact}
 use Rattle.arc_table.specs.pact.Scene.{Scene}
 use Rattle.arc_table.specs.Seen.{AreOwn, AreOwnBy, AreSeen, FindsEntries, HasAll, HasSeenItsEntries, IsNumberOrCell, IsSeen, MadeBy, events_in, seen_of, turn_of}
 use Rattle.arc_table.specs.ShardGiving.{holds_through, readings_through}
-use Rattle.arc_table.specs.TableLaws.{front_else, front_here, item_here, starts_whole, within}
+use Rattle.arc_table.specs.TableLaws.{item_here, starts_whole, within}
+use Rattle.arc_table.proofs.TableLaws.{front_else, front_here}
 use Rattle.arc_table.specs.Telling.{opening_of}
 use Rattle.arc_table.specs.Views.{after_cell, mines_from, recorded}
 use Rattle.arc_table.proofs.Afterwards.{does_ledger}

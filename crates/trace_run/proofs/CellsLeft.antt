@@ -33,7 +33,8 @@ use Rattle.arc_table.specs.Reading.{Answers, AnswersRead, EndsAtPool, EndsMiss, 
 use Rattle.arc_table.specs.Seen.{AllEntriesSeen, AreEntriesSeen, HasSeenItsEntries, IsEntrySeen}
 use Rattle.arc_table.specs.scans.Scanning.{AllPairs, after_scan, gave_all, won_all}
 use Rattle.arc_table.specs.ShardGiving.{after_shard, mines_of}
-use Rattle.arc_table.specs.TableLaws.{front_else, get_front, starts_whole}
+use Rattle.arc_table.specs.TableLaws.{get_front, starts_whole}
+use Rattle.arc_table.proofs.TableLaws.{front_else}
 use Rattle.arc_table.specs.Views.{after_same, after_won}
 use Rattle.arc_table.proofs.reads.AfterRead.{stays_config}
 use Rattle.arc_table.proofs.Afterwards.{Stays, does_mine, does_stays, stays_then}

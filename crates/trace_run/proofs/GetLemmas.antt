@@ -5,7 +5,7 @@ use Rattle.blk_ptr.specs.declared.digest.Digest.{Digest}
 use Rattle.blk_ptr.specs.declared.key.Key.{Key}
 use Rattle.blk_ptr.specs.declared.ptr.Ptr.{Ptr}
 use Rattle.blk_ptr.specs.Hash.{shard_of}
-use Rattle.blk_ptr.specs.Key.{IsFirstFault, IsValid}
+use Rattle.blk_ptr.specs.Key.{IsFirstKeyFault, IsValid}
 use Rattle.blk_ptr.specs.Ptr.{IsOf, IsPlainRead, range_of, sha256_of}
 use Rattle.vdev_io.specs.declared.device.CacheDev.{Ghosts as DeviceGhosts}
 use Rattle.vdev_io.specs.declared.pool.Pool.{Ghosts as PoolGhosts}
@@ -144,7 +144,7 @@ module _ {P : Type 0} (pools : PoolGhosts P) (ptr : Ptr) where
   PoolDid old new (Ok (gave.Past block kept)) = GivesBlock pools ptr old new block.value
   PoolDid old new (Err (fault.PoolFault)) = MakesCall pools Failed old new × IsValid (pools.size old) ptr.key
   PoolDid old new (Err (fault.Mismatch found)) = GivesOthers pools ptr old new found × IsValid (pools.size old) ptr.key
-  PoolDid old new (Err (fault.Key why)) = (new ≡ old) × IsFirstFault (pools.size old) ptr.key why
+  PoolDid old new (Err (fault.Key why)) = (new ≡ old) × IsFirstKeyFault (pools.size old) ptr.key why
   PoolDid old new (Err (fault.NoMemory)) = Unit {0}
 
 module _ {C P D : Type 0} (m : Meanings C) (pools : PoolGhosts P) (devices : DeviceGhosts D) (g : Config) (ptr : Ptr) (t : ℕ) where

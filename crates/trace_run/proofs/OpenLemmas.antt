@@ -21,7 +21,7 @@ use Rattle.arc_table.specs.declared.view.Line.{Line}
 use Rattle.arc_table.specs.Cache.{Cache, all_newcomers}
 use Rattle.arc_table.specs.Fronts.{front_of, seen_by_both}
 use Rattle.arc_table.specs.Geometry.{IsCell, parties_of}
-use Rattle.arc_table.specs.TableLaws.{there}
+use Rattle.arc_table.proofs.TableLaws.{there}
 use Rattle.arc_table.specs.Views.{after_learned, newcomer as known}
 use Rattle.arc_table.specs.Telling.{opening_of}
 use Rattle.trace_run.specs.KeptBlocks.{AllQuiet, Stands}

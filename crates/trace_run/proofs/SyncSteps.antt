@@ -24,7 +24,8 @@ use Rattle.arc_table.specs.Geometry.{IsCell}
 use Rattle.arc_table.specs.Giving.{IsGivenCell}
 use Rattle.arc_table.specs.Items.{lines_in}
 use Rattle.arc_table.specs.Seen.{FindsEntries, HasAll, HasSeenItsEntries, events_in, seen_of, turn_of}
-use Rattle.arc_table.specs.TableLaws.{front_else, front_here, item_else, starts_whole, without_else}
+use Rattle.arc_table.specs.TableLaws.{item_else, starts_whole}
+use Rattle.arc_table.proofs.TableLaws.{front_else, front_here, without_else}
 use Rattle.arc_table.specs.Views.{after_cell, mines_from, recorded}
 use Rattle.arc_table.proofs.cell_lemmas.CellsInHand.{taken-cell}
 use Rattle.arc_table.proofs.cell_lemmas.EntriesSeen.{given-entries, given-sees, seen-at-take}

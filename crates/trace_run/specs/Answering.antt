@@ -1,4 +1,5 @@
 -- What the answer to one operation comes to.
+use Rattle.dbuf_state.specs.Dbufs.{window_of}
 use Rattle.std.specs.Prelude.{◌≡◌, ℕ, List, IfSome, slice_get}
 use Rattle.blk_ptr.specs.declared.ptr.Ptr.{Ptr}
 use Rattle.blk_ptr.specs.Ptr.{IsOf, range_of}
@@ -7,7 +8,6 @@ use Rattle.trace_text.specs.declared.op.Op.TheVariants as ops
 use Rattle.trace_text.specs.declared.reply.Reply.{Reply}
 use Rattle.trace_text.specs.declared.reply.Reply.TheVariants as replies
 use Rattle.dbuf_state.specs.declared.window.Window.{Window}
-use Rattle.trace_run.specs.Answers.{window_of}
 
 -- What is shown are the bytes that the image has in the key's range, and these are of the pointer.
 pub record ShowsRange (image : List ℕ) (ptr : Ptr) (window : Window) (shown : List ℕ) : Type 0 where

@@ -1,7 +1,7 @@
 -- What the operations of a trace may be answered, for a pool of some length that may tell its bytes.
 use Rattle.std.specs.Prelude.{◌==◌, ◌≡◌, ℕ, ◌+◌, ◌<◌, ◌≤◌, ◌&&◌, Bool, true, false, List, [], ◌∷◌, length, take, drop, Option, Some, slice_get, if◌then◌else◌}
 use Rattle.blk_ptr.specs.declared.ptr.Ptr.{Ptr}
-use Rattle.blk_ptr.specs.Key.{IsValid, IsFirstFault}
+use Rattle.blk_ptr.specs.Key.{IsValid, IsFirstKeyFault}
 use Rattle.trace_text.specs.declared.op.Op.{Op}
 use Rattle.trace_text.specs.declared.op.Op.TheVariants as ops
 use Rattle.trace_text.specs.declared.reply.Reply.{Reply}
@@ -9,13 +9,10 @@ use Rattle.trace_text.specs.declared.reply.Reply.TheVariants.{Read, Kept, Droppe
 use Rattle.trace_text.specs.declared.reply.Refusal.{Refusal}
 use Rattle.trace_text.specs.declared.reply.Refusal.TheVariants.{PoolFault, Mismatch, Key, Range, NoHold}
 use Rattle.dbuf_state.specs.declared.window.Window.{Window}
+use Rattle.dbuf_state.specs.Dbufs.{window_of}
 use Rattle.trace_run.specs.Effects.{Effect, Answered, GivenBack, PoolRefused, NoEffect, effect_of}
 use Rattle.vdev_io.specs.Calls.{is_failed}
 use Rattle.trace_run.specs.Read.{IsReadOf, IsMismatch}
-
--- the bytes of a block that a window shows
-abbrev pub window_of : Window → List ℕ → List ℕ
-window_of window bytes = take window.len (drop window.at bytes)
 
 -- the window ends inside a block of this size
 abbrev pub IsInside : Window → ℕ → Type 0
@@ -25,7 +22,7 @@ IsInside window size = window.at + window.len ≤ size
 abbrev pub IsReadRefusal : ℕ → Option (List ℕ) → Ptr → Refusal → Type 0
 IsReadRefusal pool_len image ptr PoolFault = IsValid pool_len ptr.key
 IsReadRefusal pool_len image ptr (Mismatch found) = IsValid pool_len ptr.key × IsMismatch image ptr found
-IsReadRefusal pool_len image ptr (Key fault) = IsFirstFault pool_len ptr.key fault
+IsReadRefusal pool_len image ptr (Key fault) = IsFirstKeyFault pool_len ptr.key fault
 IsReadRefusal pool_len image ptr other = ⊥
 
 -- the same where a window is asked for: one that ends past the block's size is refused before the key is looked at

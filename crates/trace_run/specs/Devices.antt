@@ -1,7 +1,7 @@
 -- What becomes of the cache device that is handed in.
 use Rattle.std.specs.Prelude.{◌≡◌, ◌<◌, ◌≤◌, nat_lt, if◌then◌else◌, List, [], Option, None, Some, IfSome, min}
 use Rattle.vdev_io.specs.Calls.{DeviceCall, MakesDeviceCalls}
-use Rattle.vdev_io.specs.Device.{LeavesSame, Stands}
+use Rattle.vdev_io.specs.Device.{LeavesSame, LeavesNothingNew}
 use Rattle.vdev_io.specs.Faults.{Rose, last_count}
 use Rattle.vdev_io.specs.declared.device.CacheDev.{Ghosts}
 use Rattle.l2_log.specs.Rules.{least_ring_end}
@@ -33,7 +33,7 @@ module _ {D : Type 0} (devices : Ghosts D) where
     pub told : devices.told after ≡ devices.told before
     pub kind : devices.has_sectors after ≡ devices.has_sectors before
     pub crash : LeavesSame (devices.may_leave before) (devices.may_leave after)
-    pub time : Stands (devices.moment before) (devices.moment after) (devices.left_since before) (devices.left_since after)
+    pub time : LeavesNothingNew (devices.moment before) (devices.moment after) (devices.left_since before) (devices.left_since after)
     pub faults : min (devices.faults before) last_count ≤ devices.faults after
 
   -- so it was, or it is lost; and none is made up

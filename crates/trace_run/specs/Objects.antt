@@ -2,7 +2,7 @@
 use Rattle.std.specs.Prelude.{◌≡◌, ◌≢◌, ◌⊎◌, ◌==◌, ℕ, ◌+◌, ◌<◌, ◌≤◌, Bool, true, false, if◌then◌else◌, List, [], ◌∷◌, ◌++◌, length, map, Option, Some, None}
 use Rattle.std.specs.List.{AllByRecursion}
 use Rattle.blk_ptr.specs.declared.ptr.Ptr.{Ptr}
-use Rattle.blk_ptr.specs.Key.{IsFirstFault, IsValid}
+use Rattle.blk_ptr.specs.Key.{IsFirstKeyFault, IsValid}
 use Rattle.arc_core.specs.declared.config.Config.{Config}
 use Rattle.arc_core.specs.declared.served.Served.{Served}
 use Rattle.arc_core.specs.Operations.{Act, Fails, GivesBack, Loads, MakesPrivate, actor_of}
@@ -173,7 +173,7 @@ pub record AnswersRange (at : Oid) (last end size : ℕ) (o : Outline) : Type 0 
 
 -- the key of the block's pointer names none of the pool
 abbrev pub AnswersKey : (pool_len : ℕ) → Oid → Outline → Refusal → Type 0
-AnswersKey pool_len at o (refusals.Key why) = (ptr : Ptr) × (mapped_at at o ≡ Some (Clean ptr)) × IsFirstFault pool_len ptr.key why
+AnswersKey pool_len at o (refusals.Key why) = (ptr : Ptr) × (mapped_at at o ≡ Some (Clean ptr)) × IsFirstKeyFault pool_len ptr.key why
 AnswersKey pool_len at o refusals.PoolFault = ⊥
 AnswersKey pool_len at o (refusals.Mismatch found) = ⊥
 AnswersKey pool_len at o (refusals.Range end size) = ⊥

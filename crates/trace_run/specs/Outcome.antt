@@ -6,8 +6,8 @@ use Rattle.std.specs.Io.KnownBytes.{Appends}
 use Rattle.vdev_io.specs.Faults.{Rose}
 use Rattle.trace_text.specs.Grammar.{IsTraceText, IsFirstFault, longest_text}
 use Rattle.trace_text.specs.Pages.{IsFirstPageFault, IsPageText}
-use Rattle.trace_text.specs.ReportText.{text_of}
-use Rattle.arc_paper.specs.Text.{text_of as paper_text_of}
+use Rattle.trace_text.specs.ReportText.{report_text}
+use Rattle.arc_paper.specs.Text.{report_text as paper_text_of}
 use Rattle.arc_check.specs.Judging.{IsVerdict}
 use Rattle.arc_check.specs.LogText.{IsLogText}
 use Rattle.arc_check.specs.LogText.{IsFirstFault as IsFirstLogFault}
@@ -178,11 +178,11 @@ AnswersSource before after (statuses.Illegal shard index) = ⊥
 -- What was written behind what the sink had: the report's text where the status is the report's, a front of it where the sink
 -- failed, and else nothing. The text has the events where they are asked for. One call of the sink failed where that is told, and none else.
 abbrev pub AnswersSink : Bool → StreamState → StreamState → Status → Option Report → Type 0
-AnswersSink events before after statuses.Ok (Some report) = Appends before.told after.told (text_of report events) × (report.status ≡ 0) × NoneFailed before after
-AnswersSink events before after statuses.ReadsFailed (Some report) = Appends before.told after.told (text_of report events) × (report.status ≡ 1) × NoneFailed before after
-AnswersSink events before after statuses.PoolFault (Some report) = Appends before.told after.told (text_of report events) × (report.status ≡ 6) × NoneFailed before after
+AnswersSink events before after statuses.Ok (Some report) = Appends before.told after.told (report_text report events) × (report.status ≡ 0) × NoneFailed before after
+AnswersSink events before after statuses.ReadsFailed (Some report) = Appends before.told after.told (report_text report events) × (report.status ≡ 1) × NoneFailed before after
+AnswersSink events before after statuses.PoolFault (Some report) = Appends before.told after.told (report_text report events) × (report.status ≡ 6) × NoneFailed before after
 AnswersSink events before after statuses.SinkFault (Some report) =
-    AppendsFront before.told after.told (text_of report events) × OneFailed before after
+    AppendsFront before.told after.told (report_text report events) × OneFailed before after
 AnswersSink events before after statuses.Ok None = after ≡ before
 AnswersSink events before after statuses.ReadsFailed None = after ≡ before
 AnswersSink events before after statuses.PoolFault None = after ≡ before

@@ -2,7 +2,7 @@
 use Rattle.std.specs.Prelude.{◌≡◌, ℕ, List, [], ◌∷◌, ◌++◌, Option, Result, Ok, Err}
 use Rattle.blk_ptr.specs.declared.ptr.Ptr.{Ptr}
 use Rattle.blk_ptr.specs.Hash.{shard_of}
-use Rattle.blk_ptr.specs.Key.{IsValid, IsFirstFault}
+use Rattle.blk_ptr.specs.Key.{IsValid, IsFirstKeyFault}
 use Rattle.arc_core.specs.declared.config.Config.{Config}
 use Rattle.arc_core.specs.declared.event.Event.{Event}
 use Rattle.arc_core.specs.declared.served.ReadFault.{ReadFault}
@@ -95,7 +95,7 @@ pub record IsGot (image : Option (List ℕ)) (block : ℕ) (ptr : Ptr) (got : Go
 abbrev pub IsCauseOf : (pool_len : ℕ) → (image : Option (List ℕ)) → Ptr → ReadFault → Type 0
 IsCauseOf pool_len image ptr (fault.PoolFault) = IsValid pool_len ptr.key
 IsCauseOf pool_len image ptr (fault.Mismatch found) = IsValid pool_len ptr.key × IsMismatch image ptr found
-IsCauseOf pool_len image ptr (fault.Key why) = IsFirstFault pool_len ptr.key why
+IsCauseOf pool_len image ptr (fault.Key why) = IsFirstKeyFault pool_len ptr.key why
 IsCauseOf pool_len image ptr (fault.NoMemory) = Unit {0}
 
 -- The reads of the pool that were made for it. Of want of memory nothing is said.

@@ -3,7 +3,7 @@ ghost use Rattle.std.specs.Prelude.{◌≡◌, ◌⊎◌, ℕ, ◌<◌, ◌≤�
 ghost use Rattle.std.specs.List.{AllByRecursion};
 ghost use Rattle.arc_core.specs.declared.served.Restored.{Restored};
 ghost use Rattle.arc_table.specs.Geometry.{parties_of};
-ghost use Rattle.blk_ptr.specs.Key.{IsValid, end_of};
+ghost use Rattle.blk_ptr.specs.Key.{IsValid, key_end};
 ghost use Rattle.blk_ptr.specs.Size.{sector};
 ghost use Rattle.trace_text.specs.Grammar.{IsFormed, IsOperation};
 ghost use Rattle.trace_text.specs.declared.op.Op.{Op};
@@ -173,8 +173,8 @@ pub(crate) struct Syncs {
 
 /// The first byte behind a block whose key names one of a pool of this length; 0 where it names none.
 fn end_of_valid(ptr: &Ptr, pool_len: u64) -> u64
-    ensures valid { IsValid pool_len ptr.now.key → result ≡ end_of ptr.now.key }
-    ensures which { (result ≡ 0) ⊎ (IsValid pool_len ptr.now.key × (result ≡ end_of ptr.now.key)) }
+    ensures valid { IsValid pool_len ptr.now.key → result ≡ key_end ptr.now.key }
+    ensures which { (result ≡ 0) ⊎ (IsValid pool_len ptr.now.key × (result ≡ key_end ptr.now.key)) }
 {
     match ptr.key.check(pool_len) {
         Ok(key) => key.offset + key.size,

@@ -3,7 +3,7 @@ use Rattle.std.proofs.Common.{◌≡◌, ℕ, zero, suc, ◌<◌, List, [], ◌�
 use Rattle.hex.specs.Hex.{IsBytes, decode_sized, encode_lower, lower_digits}
 use Rattle.hex.proofs.HexLemmas.{decode_sized-encode_lower, length-encode_with}
 use Rattle.blk_ptr.specs.declared.digest.Digest.{Digest}
-use Rattle.trace_text.specs.Grammar.{IsDigest, IsRun}
+use Rattle.trace_text.specs.Grammar.{IsDigest, IsPatchBytes}
 
 -- what is decoded from a field is the only digest that the field may spell
 digest-only : (bytes field : List ℕ) (digest : Digest) → decode_sized field 32 ≡ Ok bytes → IsDigest digest → field ≡ encode_lower digest.0 → bytes ≡ digest.0
@@ -26,7 +26,7 @@ bytes-injective a b fits_a fits_b e =
     let same = sym one ∙ (again ∙ other) in
     cc
 
-pub run-injective : (a b : List ℕ) → IsRun a → IsRun b → encode_lower a ≡ encode_lower b → a ≡ b
+pub run-injective : (a b : List ℕ) → IsPatchBytes a → IsPatchBytes b → encode_lower a ≡ encode_lower b → a ≡ b
 run-injective a b p q e = bytes-injective a b p.bytes q.bytes e
 
 -- a byte alone

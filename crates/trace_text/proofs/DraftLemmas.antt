@@ -10,7 +10,7 @@ use Rattle.trace_text.specs.declared.words.LineFault.{LineFault}
 use Rattle.trace_text.specs.declared.words.LineFault.TheVariants.{NoMemory, Wrong}
 use Rattle.trace_text.specs.declared.words.Seen.{Seen}
 use Rattle.trace_text.specs.declared.words.Word.{Word}
-use Rattle.trace_text.specs.Grammar.{Content, HasShape, IsMisspelled, MayBegin, field_count, fields_of, seen_of, text_of}
+use Rattle.trace_text.specs.Grammar.{Content, HasShape, IsMisspelled, MayBegin, field_count, fields_of, seen_of, word_text}
 use Rattle.trace_text.specs.Reading.{IsLineFormRead, IsLineRead}
 
 -- a line has a first field
@@ -25,18 +25,18 @@ pub begun-fault : (before : Content) (line first : List ℕ) (rest : List (List 
 begun-fault before line first rest config r e kind is same parts known fault = rw (is, same, parts) (inl (rw known (fault rest)))
 
 -- what is told of fields that have the shape of their word
-line-fault : (before : Content) (word : Word) (rest : List (List ℕ)) (e : LineFault) → MayBegin before.config word → HasShape word (text_of word ∷ rest)
-    → IsLineFormRead (seen_of before) word rest (Err e) → IsLineRead before (text_of word ∷ rest) (Err e)
+line-fault : (before : Content) (word : Word) (rest : List (List ℕ)) (e : LineFault) → MayBegin before.config word → HasShape word (word_text word ∷ rest)
+    → IsLineFormRead (seen_of before) word rest (Err e) → IsLineRead before (word_text word ∷ rest) (Err e)
 line-fault before word rest (Wrong kinds.Number) may shape form = inl (word, (refl, may), shape, λ line said. form line said.spelled)
 line-fault before word rest (Wrong kinds.Order) may shape form = inr (form.0, record { word = word; begins = (refl, may); spelled = form.1 }, λ stands. form.2 stands.0)
 line-fault before word rest (Wrong other) may shape form = absurd form
 line-fault before word rest NoMemory may shape form = tt
 
 pub kept-fault : (before : Content) (line first : List ℕ) (rest : List (List ℕ)) (config : Option Config) (seen : Seen) (word : Word) (e : LineFault) → fields_of line ≡ first ∷ rest
-    → before.config ≡ config → seen ≡ seen_of before → first ≡ text_of word → MayBegin config word → HasShape word (fields_of line)
+    → before.config ≡ config → seen ≡ seen_of before → first ≡ word_text word → MayBegin config word → HasShape word (fields_of line)
     → (length rest ≡ field_count word → IsLineFormRead seen word rest (Err e)) → IsLineRead before (fields_of line) (Err e)
 kept-fault before line first rest config seen word e parts known same spelled may shape form =
-    let all : fields_of line ≡ text_of word ∷ rest = parts ∙ ap (λ f. f ∷ rest) spelled in
-    let here : HasShape word (text_of word ∷ rest) = subst (HasShape word) all shape in
+    let all : fields_of line ≡ word_text word ∷ rest = parts ∙ ap (λ f. f ∷ rest) spelled in
+    let here : HasShape word (word_text word ∷ rest) = subst (HasShape word) all shape in
     let begins : MayBegin before.config word = subst (λ (c : Option Config). MayBegin c word) (sym known) may in
     subst (λ (fs : List (List ℕ)). IsLineRead before fs (Err e)) (sym all) (line-fault before word rest e begins here (subst (λ (s : Seen). IsLineFormRead s word rest (Err e)) same (form here.0)))

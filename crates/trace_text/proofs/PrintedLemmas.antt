@@ -20,7 +20,7 @@ use Rattle.trace_text.specs.declared.words.Line.{Line}
 use Rattle.trace_text.specs.declared.words.Line.TheVariants.{Sizes, Limited, Declared, Mapped, Operation}
 use Rattle.trace_text.specs.declared.words.Word.{Word}
 use Rattle.trace_text.specs.declared.words.Word.TheVariants as words
-use Rattle.trace_text.specs.Grammar.{Add, AddAll, Adds, AreApart, AreSizes, BeginsWith, Content, HasRoom, IsDeclarable, IsFormed, IsInRange, IsMapped, IsMappingOn, IsPossible, IsTraceText, MayBegin, MayStand, callers_of, content_of, fields_after, fields_of, is_passed_over, lines_of, longest_text, nothing, seen_of, shards_of, spelling, text_of, usual_bounds, with_line, word_of}
+use Rattle.trace_text.specs.Grammar.{Add, AddAll, Adds, AreApart, AreSizes, BeginsWith, Content, HasRoom, IsDeclarable, IsFormed, IsInRange, IsMapped, IsMappingOn, IsPossible, IsTraceText, MayBegin, MayStand, callers_of, content_of, fields_after, fields_of, is_passed_over, lines_of, longest_text, nothing, seen_of, shards_of, spelling, word_text, usual_bounds, with_line, word_of}
 use Rattle.trace_text.specs.TraceText.{line_text, line_words, lines_text, text_of_trace}
 use Rattle.trace_text.proofs.LawLemmas.{FewCallers}
 
@@ -74,7 +74,7 @@ byte-alone : (b : ℕ) → b < 256 → IsBytes (b ∷ [])
 byte-alone b lt zero = lt
 byte-alone b lt (suc k) = omega arith
 
-word-above : (word : Word) → AtLeast 33 (text_of word)
+word-above : (word : Word) → AtLeast 33 (word_text word)
 word-above words.Arc = (omega arith, (omega arith, (omega arith, tt)))
 word-above words.L2 = (omega arith, (omega arith, tt))
 word-above words.Block = (omega arith, (omega arith, (omega arith, (omega arith, (omega arith, tt)))))
@@ -146,7 +146,7 @@ join-above (f ∷ g ∷ gs) hs =
 
 -- the fields of a printed line are its spelling
 fields-line : (l : Line) → IsTidy l → fields_of (line_words l) ≡ spelling l
-fields-line l h = fields-join (text_of (word_of l)) (fields_after l) (word-above (word_of l)) h
+fields-line l h = fields-join (word_text (word_of l)) (fields_after l) (word-above (word_of l)) h
 
 -- a printed line is parted from what follows
 lines-line : (l : Line) (rest : List ℕ) → IsTidy l → lines_of (line_text l ++ rest) ≡ line_words l ∷ lines_of rest

@@ -11,7 +11,7 @@ use Rattle.trace_text.specs.declared.words.Line.{Line}
 use Rattle.trace_text.specs.declared.words.Line.TheVariants.{Sizes, Limited, Declared, Mapped, Operation}
 use Rattle.trace_text.specs.declared.words.Word.{Word}
 use Rattle.trace_text.specs.declared.words.Word.TheVariants as words
-use Rattle.trace_text.specs.Grammar.{BeginsWith, IsInRange, Spell, fields_after, spelling, text_of, word_of}
+use Rattle.trace_text.specs.Grammar.{BeginsWith, IsInRange, Spell, fields_after, spelling, word_text, word_of}
 
 -- whether two texts are one
 abbrev same_text : List ℕ → List ℕ → Bool
@@ -23,14 +23,14 @@ same_text (a ∷ text) (b ∷ other) = cond (eqb a b) (same_text text other) fal
 -- the first of these words that is spelled so
 abbrev spelled_in : List Word → List ℕ → Option Word
 spelled_in [] text = None
-spelled_in (word ∷ others) text = cond (same_text (text_of word) text) (Some word) (spelled_in others text)
+spelled_in (word ∷ others) text = cond (same_text (word_text word) text) (Some word) (spelled_in others text)
 
 abbrev all_words : List Word
 all_words = words.Arc ∷ words.L2 ∷ words.Block ∷ words.Object ∷ words.Read ∷ words.Hold ∷ words.Drop
     ∷ words.Get ∷ words.Put ∷ words.Patch ∷ words.Pin ∷ words.Unpin ∷ words.Feed ∷ words.Txg ∷ words.Cap ∷ []
 
 -- each word is the first that is spelled as it is
-spelled_in-text : (word : Word) → spelled_in all_words (text_of word) ≡ Some word
+spelled_in-text : (word : Word) → spelled_in all_words (word_text word) ≡ Some word
 spelled_in-text words.Arc = refl
 spelled_in-text words.L2 = refl
 spelled_in-text words.Block = refl
@@ -48,7 +48,7 @@ spelled_in-text words.Txg = refl
 spelled_in-text words.Cap = refl
 
 -- two words with one spelling are one
-pub text_of-injective : (v w : Word) → text_of v ≡ text_of w → v ≡ w
+pub text_of-injective : (v w : Word) → word_text v ≡ word_text w → v ≡ w
 text_of-injective v w e =
     let both : Some v ≡ Some w = sym (spelled_in-text v) ∙ ap (spelled_in all_words) e ∙ spelled_in-text w in
     cc
@@ -98,22 +98,22 @@ pub record IsLineOf (callers shards : ℕ) (word : Word) (fields : List (List �
   pub after : fields ≡ fields_after line
   pub ranged : IsInRange callers shards line
 
-pub line-of : (callers shards : ℕ) (word : Word) (fields : List (List ℕ)) (line : Line) → Spell callers shards (text_of word ∷ fields) line → IsLineOf callers shards word fields line
+pub line-of : (callers shards : ℕ) (word : Word) (fields : List (List ℕ)) (line : Line) → Spell callers shards (word_text word ∷ fields) line → IsLineOf callers shards word fields line
 line-of callers shards word fields line s =
     let e = s.spelled in
-    let same : text_of (word_of line) ≡ text_of word = cc in
+    let same : word_text (word_of line) ≡ word_text word = cc in
     record { form = form-as word line (text_of-injective (word_of line) word same); after = cc; ranged = s.ranged }
 
 -- two lines with one spelling have one word
 pub same-word : (l m : Line) → spelling l ≡ spelling m → word_of l ≡ word_of m
 same-word l m e =
-    let same : text_of (word_of l) ≡ text_of (word_of m) = cc in text_of-injective (word_of l) (word_of m) same
+    let same : word_text (word_of l) ≡ word_text (word_of m) = cc in text_of-injective (word_of l) (word_of m) same
 
 -- the word that a line's fields begin with
 pub begins-word : (config : Option Config) (fields : List (List ℕ)) (word : Word) (line : Line) → BeginsWith config fields word → fields ≡ spelling line → word_of line ≡ word
 begins-word config [] word line begins is = absurd begins
 begins-word config (first ∷ fields) word line begins is =
-    let same : first ≡ text_of (word_of line) = cc in
+    let same : first ≡ word_text (word_of line) = cc in
     text_of-injective (word_of line) word (sym same ∙ begins.0)
 
 -- fields begin with one word

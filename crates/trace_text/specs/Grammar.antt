@@ -42,22 +42,22 @@ is_passed_over (b ∷ line) = b == 35
 -- ---- how each line is spelled
 
 -- the spelling of a word
-abbrev pub text_of : Word → List ℕ
-text_of words.Arc = codes "arc"
-text_of words.L2 = codes "l2"
-text_of words.Block = codes "block"
-text_of words.Object = codes "object"
-text_of words.Read = codes "read"
-text_of words.Hold = codes "hold"
-text_of words.Drop = codes "drop"
-text_of words.Get = codes "get"
-text_of words.Put = codes "put"
-text_of words.Patch = codes "patch"
-text_of words.Pin = codes "pin"
-text_of words.Unpin = codes "unpin"
-text_of words.Feed = codes "feed"
-text_of words.Txg = codes "txg"
-text_of words.Cap = codes "cap"
+abbrev pub word_text : Word → List ℕ
+word_text words.Arc = codes "arc"
+word_text words.L2 = codes "l2"
+word_text words.Block = codes "block"
+word_text words.Object = codes "object"
+word_text words.Read = codes "read"
+word_text words.Hold = codes "hold"
+word_text words.Drop = codes "drop"
+word_text words.Get = codes "get"
+word_text words.Put = codes "put"
+word_text words.Patch = codes "patch"
+word_text words.Pin = codes "pin"
+word_text words.Unpin = codes "unpin"
+word_text words.Feed = codes "feed"
+word_text words.Txg = codes "txg"
+word_text words.Cap = codes "cap"
 
 -- how many fields come after a word
 abbrev pub field_count : Word → ℕ
@@ -119,7 +119,7 @@ fields_after (Operation (ops.Cap c)) = decimal c ∷ []
 
 -- the fields of a line
 abbrev pub spelling : Line → List (List ℕ)
-spelling line = text_of (word_of line) ∷ fields_after line
+spelling line = word_text (word_of line) ∷ fields_after line
 
 -- ---- the ranges
 
@@ -160,7 +160,7 @@ pub record IsMappable (mapping : Mapping) : Type 0 where
   pub block : IsPlain mapping.block
 
 -- from 1 to 64 bytes
-pub record IsRun (run : List ℕ) : Type 0 where
+pub record IsPatchBytes (run : List ℕ) : Type 0 where
   pub some : 1 ≤ length run
   pub few : length run ≤ 64
   pub bytes : IsBytes run
@@ -172,7 +172,7 @@ IsOperation callers shards (ops.Hold n t x) = (n < callers) × IsPlain t × IsPl
 IsOperation callers shards (ops.Drop n x) = (n < callers) × IsPlain x
 IsOperation callers shards (ops.Get n t at w) = (n < callers) × IsPlain t × IsOid at × (w.at < 2 ^ 32)
 IsOperation callers shards (ops.Put n t at size fill) = (n < callers) × IsPlain t × IsOid at × IsBlockSize size × (fill < 256)
-IsOperation callers shards (ops.Patch n t at from bytes) = (n < callers) × IsPlain t × IsOid at × (from < 2 ^ 32) × IsRun bytes
+IsOperation callers shards (ops.Patch n t at from bytes) = (n < callers) × IsPlain t × IsOid at × (from < 2 ^ 32) × IsPatchBytes bytes
 IsOperation callers shards (ops.Pin n t at) = (n < callers) × IsPlain t × IsOid at
 IsOperation callers shards (ops.Unpin n at) = (n < callers) × IsOid at
 IsOperation callers shards ops.Feed = Unit {0}
@@ -293,7 +293,7 @@ MayBegin config word = (word ≡ words.Arc) ↔ IsNone config
 -- the fields begin with this word, which may stand here
 abbrev pub BeginsWith : Option Config → List (List ℕ) → Word → Type 0
 BeginsWith config [] word = ⊥
-BeginsWith config (first ∷ fields) word = (first ≡ text_of word) × MayBegin config word
+BeginsWith config (first ∷ fields) word = (first ≡ word_text word) × MayBegin config word
 
 -- there are as many fields as the word wants, and none is empty
 abbrev pub HasShape : Word → List (List ℕ) → Type 0

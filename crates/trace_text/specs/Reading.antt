@@ -18,7 +18,7 @@ use Rattle.trace_text.specs.declared.words.LineFault.{LineFault}
 use Rattle.trace_text.specs.declared.words.LineFault.TheVariants.{Wrong, NoMemory}
 use Rattle.trace_text.specs.declared.words.Seen.{Seen}
 use Rattle.trace_text.specs.declared.words.Word.{Word}
-use Rattle.trace_text.specs.Grammar.{Content, HasFault, HasRoom, IsDigest, IsFaulty, IsInOrder, IsMisplaced, IsMisspelled, IsNew, IsOid, IsRun, MayBegin, Say, Spell, fields_of, is_passed_over, seen_of, text_of, with_line}
+use Rattle.trace_text.specs.Grammar.{Content, HasFault, HasRoom, IsDigest, IsFaulty, IsInOrder, IsMisplaced, IsMisspelled, IsNew, IsOid, IsPatchBytes, MayBegin, Say, Spell, fields_of, is_passed_over, seen_of, word_text, with_line}
 
 -- a text that begins with no plus sign, and with no zero before another byte
 abbrev pub BeginsAsNumber : List ℕ → Type 0
@@ -72,8 +72,8 @@ IsRoomFilled field room bytes false = (others : List ℕ) → length others ≡ 
 
 -- the field is a run of bytes, or it is none
 abbrev pub IsRunRead : List ℕ → Option (List ℕ) → Type 0
-IsRunRead field (Some bytes) = (field ≡ encode_lower bytes) × IsRun bytes
-IsRunRead field None = (bytes : List ℕ) → IsRun bytes → field ≡ encode_lower bytes → ⊥
+IsRunRead field (Some bytes) = (field ≡ encode_lower bytes) × IsPatchBytes bytes
+IsRunRead field None = (bytes : List ℕ) → IsPatchBytes bytes → field ≡ encode_lower bytes → ⊥
 
 -- the field is a byte, or it is none
 abbrev pub IsFillRead : List ℕ → Option ℕ → Type 0
@@ -82,8 +82,8 @@ IsFillRead field None = (byte : ℕ) → byte < 256 → field ≡ encode_lower (
 
 -- the field is a word, or it is none
 abbrev pub IsWordRead : List ℕ → Option Word → Type 0
-IsWordRead field (Some word) = field ≡ text_of word
-IsWordRead field None = (word : Word) → field ≡ text_of word → ⊥
+IsWordRead field (Some word) = field ≡ word_text word
+IsWordRead field None = (word : Word) → field ≡ word_text word → ⊥
 
 -- the first field is a number from low to high and the others are left, or it is none
 abbrev pub TakesNumber : ℕ → ℕ → List (List ℕ) → List (List ℕ) → Result ℕ Kind → Type 0
@@ -105,9 +105,9 @@ TakesDigest old new (Err kind) =
 
 -- the first field is a run of bytes and the others are left, or it is none
 abbrev pub TakesRun : List (List ℕ) → List (List ℕ) → Result (List ℕ) Kind → Type 0
-TakesRun old new (Ok bytes) = (old ≡ encode_lower bytes ∷ new) × IsRun bytes
+TakesRun old new (Ok bytes) = (old ≡ encode_lower bytes ∷ new) × IsPatchBytes bytes
 TakesRun old new (Err kind) =
-    (kind ≡ kinds.Number) × ((bytes : List ℕ) (rest : List (List ℕ)) → IsRun bytes → old ≡ encode_lower bytes ∷ rest → ⊥)
+    (kind ≡ kinds.Number) × ((bytes : List ℕ) (rest : List (List ℕ)) → IsPatchBytes bytes → old ≡ encode_lower bytes ∷ rest → ⊥)
 
 -- the first field is a byte and the others are left, or it is none
 abbrev pub TakesByte : List (List ℕ) → List (List ℕ) → Result ℕ Kind → Type 0
@@ -129,10 +129,10 @@ TakesSize old new (Err kind) =
 
 -- the fields after this word are a line that may stand here, or why they are none
 abbrev pub IsFormRead : Seen → Word → List (List ℕ) → Result Line Kind → Type 0
-IsFormRead seen word fields (Ok line) = Spell seen.callers seen.shards (text_of word ∷ fields) line × IsInOrder seen line
-IsFormRead seen word fields (Err kinds.Number) = (line : Line) → Spell seen.callers seen.shards (text_of word ∷ fields) line → ⊥
+IsFormRead seen word fields (Ok line) = Spell seen.callers seen.shards (word_text word ∷ fields) line × IsInOrder seen line
+IsFormRead seen word fields (Err kinds.Number) = (line : Line) → Spell seen.callers seen.shards (word_text word ∷ fields) line → ⊥
 IsFormRead seen word fields (Err kinds.Order) =
-    (line : Line) × Spell seen.callers seen.shards (text_of word ∷ fields) line × (IsInOrder seen line → ⊥)
+    (line : Line) × Spell seen.callers seen.shards (word_text word ∷ fields) line × (IsInOrder seen line → ⊥)
 IsFormRead seen word fields (Err kinds.First) = ⊥
 IsFormRead seen word fields (Err kinds.Word) = ⊥
 IsFormRead seen word fields (Err kinds.Shape) = ⊥
@@ -147,7 +147,7 @@ IsLineFormRead seen word fields (Err NoMemory) = Unit {0}
 
 -- the first field is a word that may stand here, or why it is none
 abbrev pub IsBegun : Option Config → List ℕ → Result Word Kind → Type 0
-IsBegun config first (Ok word) = (first ≡ text_of word) × MayBegin config word
+IsBegun config first (Ok word) = (first ≡ word_text word) × MayBegin config word
 IsBegun config first (Err kind) = (fields : List (List ℕ)) → IsMisspelled config (first ∷ fields) kind
 
 -- the fields are a line that may stand here, or why they are none

@@ -52,8 +52,8 @@ last_lines report =
     ++ status_line report.status
 
 -- the whole text, with the events or without
-abbrev pub text_of : Report → Bool → List ℕ
-text_of report events =
+abbrev pub report_text : Report → Bool → List ℕ
+report_text report events =
     codes "arc 1\n"
     ++ (if report.short then [] else reply_lines 0 report.replies)
     ++ (if events then history_lines 0 report.histories else [])

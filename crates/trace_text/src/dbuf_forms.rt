@@ -1,6 +1,6 @@
 //! The forms of the lines about blocks of objects, as those of `forms`.
 ghost use Rattle.std.specs.Prelude.{◌≡◌, ◌∷◌, IfOk, length};
-ghost use Rattle.trace_text.specs.Grammar.{IsInOrder, Spell, field_count, text_of};
+ghost use Rattle.trace_text.specs.Grammar.{IsInOrder, Spell, field_count, word_text};
 ghost use Rattle.trace_text.specs.Reading.{IsFormRead, IsLineFormRead};
 ghost use Rattle.trace_text.specs.declared.words.Word.TheVariants as words;
 
@@ -19,7 +19,7 @@ use std::alloc::Global;
 
 /// A block of an object that is mapped: object, block of it, and declared block.
 pub(crate) fn mapped(seen: Seen, fields: &mut Parts<'_>) -> Result<Line, Kind>
-    ensures ok { IfOk result (λ line. Spell seen.callers seen.shards (text_of words.Object ∷ fields.old) line × IsInOrder seen line) }
+    ensures ok { IfOk result (λ line. Spell seen.callers seen.shards (word_text words.Object ∷ fields.old) line × IsInOrder seen line) }
     ensures err { length fields.old ≡ field_count words.Object → IsFormRead seen words.Object fields.old result }
 {
     let at = next_oid(fields)?;
@@ -34,7 +34,7 @@ pub(crate) fn mapped(seen: Seen, fields: &mut Parts<'_>) -> Result<Line, Kind>
 
 /// A look at a block: caller, tick, object, block, and the window's start and length.
 pub(crate) fn got(seen: Seen, fields: &mut Parts<'_>) -> Result<Line, Kind>
-    ensures ok { IfOk result (λ line. Spell seen.callers seen.shards (text_of words.Get ∷ fields.old) line × IsInOrder seen line) }
+    ensures ok { IfOk result (λ line. Spell seen.callers seen.shards (word_text words.Get ∷ fields.old) line × IsInOrder seen line) }
     ensures err { length fields.old ≡ field_count words.Get → IsFormRead seen words.Get fields.old result }
 {
     let n = next_below(fields, seen.callers)?;
@@ -49,7 +49,7 @@ pub(crate) fn got(seen: Seen, fields: &mut Parts<'_>) -> Result<Line, Kind>
 
 /// A whole block that is written: caller, tick, object, block, size and byte.
 pub(crate) fn put(seen: Seen, fields: &mut Parts<'_>) -> Result<Line, Kind>
-    ensures ok { IfOk result (λ line. Spell seen.callers seen.shards (text_of words.Put ∷ fields.old) line × IsInOrder seen line) }
+    ensures ok { IfOk result (λ line. Spell seen.callers seen.shards (word_text words.Put ∷ fields.old) line × IsInOrder seen line) }
     ensures err { length fields.old ≡ field_count words.Put → IsFormRead seen words.Put fields.old result }
 {
     let n = next_below(fields, seen.callers)?;
@@ -69,7 +69,7 @@ pub(crate) fn put(seen: Seen, fields: &mut Parts<'_>) -> Result<Line, Kind>
 
 /// A part of a block that is written: caller, tick, object, block, start and bytes.
 pub(crate) fn patched(alloc: Global, seen: Seen, fields: &mut Parts<'_>) -> Result<Line, LineFault>
-    ensures ok { IfOk result (λ line. Spell seen.callers seen.shards (text_of words.Patch ∷ fields.old) line × IsInOrder seen line) }
+    ensures ok { IfOk result (λ line. Spell seen.callers seen.shards (word_text words.Patch ∷ fields.old) line × IsInOrder seen line) }
     ensures err { length fields.old ≡ field_count words.Patch → IsLineFormRead seen words.Patch fields.old result }
 {
     let n = next_below(fields, seen.callers)?;
@@ -90,7 +90,7 @@ pub(crate) fn patched(alloc: Global, seen: Seen, fields: &mut Parts<'_>) -> Resu
 
 /// A dbuf that is kept: caller, tick, object and block.
 pub(crate) fn pinned(seen: Seen, fields: &mut Parts<'_>) -> Result<Line, Kind>
-    ensures ok { IfOk result (λ line. Spell seen.callers seen.shards (text_of words.Pin ∷ fields.old) line × IsInOrder seen line) }
+    ensures ok { IfOk result (λ line. Spell seen.callers seen.shards (word_text words.Pin ∷ fields.old) line × IsInOrder seen line) }
     ensures err { length fields.old ≡ field_count words.Pin → IsFormRead seen words.Pin fields.old result }
 {
     let n = next_below(fields, seen.callers)?;
@@ -102,7 +102,7 @@ pub(crate) fn pinned(seen: Seen, fields: &mut Parts<'_>) -> Result<Line, Kind>
 
 /// The end of a pin: caller, object and block.
 pub(crate) fn unpinned(seen: Seen, fields: &mut Parts<'_>) -> Result<Line, Kind>
-    ensures ok { IfOk result (λ line. Spell seen.callers seen.shards (text_of words.Unpin ∷ fields.old) line × IsInOrder seen line) }
+    ensures ok { IfOk result (λ line. Spell seen.callers seen.shards (word_text words.Unpin ∷ fields.old) line × IsInOrder seen line) }
     ensures err { length fields.old ≡ field_count words.Unpin → IsFormRead seen words.Unpin fields.old result }
 {
     let n = next_below(fields, seen.callers)?;

@@ -1,7 +1,7 @@
 //! The form of each line of a trace: its first word, and what its fields say. A line is split once, as its fields are read: so one that
 //! has too few fields or too many is found out on the way, and then its fault is the shape, whatever was told of a field.
 ghost use Rattle.std.specs.Prelude.{◌≡◌, ◌<◌, ◌≤◌, ◌∷◌, IfOk, MatchResult, length};
-ghost use Rattle.trace_text.specs.Grammar.{IsInOrder, Spell, field_count, text_of};
+ghost use Rattle.trace_text.specs.Grammar.{IsInOrder, Spell, field_count, word_text};
 ghost use Rattle.trace_text.specs.Reading.{IsFormRead};
 ghost use Rattle.trace_text.specs.declared.words.Word.TheVariants as words;
 
@@ -20,7 +20,7 @@ const LARGEST_SIZE: u64 = 1 << 32;
 
 /// The sizes of the cache: callers, shards, buckets, cells, `c`, MINTIME and the bytes of dbufs.
 pub(crate) fn sizes(seen: Seen, fields: &mut Parts<'_>) -> Result<Line, Kind>
-    ensures ok { IfOk result (λ line. Spell seen.callers seen.shards (text_of words.Arc ∷ fields.old) line × IsInOrder seen line) }
+    ensures ok { IfOk result (λ line. Spell seen.callers seen.shards (word_text words.Arc ∷ fields.old) line × IsInOrder seen line) }
     ensures err { length fields.old ≡ field_count words.Arc → IsFormRead seen words.Arc fields.old result }
 {
     let callers = next_number(fields, 1, 16)? as u32;
@@ -48,7 +48,7 @@ pub(crate) fn sizes(seen: Seen, fields: &mut Parts<'_>) -> Result<Line, Kind>
 
 /// The bounds of a feed: the most bytes that it writes, and its headroom.
 pub(crate) fn limited(seen: Seen, fields: &mut Parts<'_>) -> Result<Line, Kind>
-    ensures ok { IfOk result (λ line. Spell seen.callers seen.shards (text_of words.L2 ∷ fields.old) line × IsInOrder seen line) }
+    ensures ok { IfOk result (λ line. Spell seen.callers seen.shards (word_text words.L2 ∷ fields.old) line × IsInOrder seen line) }
     ensures err { length fields.old ≡ field_count words.L2 → IsFormRead seen words.L2 fields.old result }
 {
     let write_max = next_number(fields, SECTOR, LARGEST_SIZE)?;
@@ -68,7 +68,7 @@ pub(crate) fn limited(seen: Seen, fields: &mut Parts<'_>) -> Result<Line, Kind>
 
 /// A block pointer: offset, size, birth and digest.
 pub(crate) fn declared(seen: Seen, fields: &mut Parts<'_>) -> Result<Line, Kind>
-    ensures ok { IfOk result (λ line. Spell seen.callers seen.shards (text_of words.Block ∷ fields.old) line × IsInOrder seen line) }
+    ensures ok { IfOk result (λ line. Spell seen.callers seen.shards (word_text words.Block ∷ fields.old) line × IsInOrder seen line) }
     ensures err { length fields.old ≡ field_count words.Block → IsFormRead seen words.Block fields.old result }
 {
     let offset = next_number(fields, 0, LARGEST_PLAIN)?;
@@ -89,7 +89,7 @@ pub(crate) fn declared(seen: Seen, fields: &mut Parts<'_>) -> Result<Line, Kind>
 
 /// A read: caller, tick, block, and the window's start and length.
 pub(crate) fn read(seen: Seen, fields: &mut Parts<'_>) -> Result<Line, Kind>
-    ensures ok { IfOk result (λ line. Spell seen.callers seen.shards (text_of words.Read ∷ fields.old) line × IsInOrder seen line) }
+    ensures ok { IfOk result (λ line. Spell seen.callers seen.shards (word_text words.Read ∷ fields.old) line × IsInOrder seen line) }
     ensures err { length fields.old ≡ field_count words.Read → IsFormRead seen words.Read fields.old result }
 {
     let n = next_below(fields, seen.callers)?;
@@ -105,7 +105,7 @@ pub(crate) fn read(seen: Seen, fields: &mut Parts<'_>) -> Result<Line, Kind>
 
 /// A read that keeps the block: caller, tick and block.
 pub(crate) fn held(seen: Seen, fields: &mut Parts<'_>) -> Result<Line, Kind>
-    ensures ok { IfOk result (λ line. Spell seen.callers seen.shards (text_of words.Hold ∷ fields.old) line × IsInOrder seen line) }
+    ensures ok { IfOk result (λ line. Spell seen.callers seen.shards (word_text words.Hold ∷ fields.old) line × IsInOrder seen line) }
     ensures err { length fields.old ≡ field_count words.Hold → IsFormRead seen words.Hold fields.old result }
 {
     let n = next_below(fields, seen.callers)?;
@@ -118,7 +118,7 @@ pub(crate) fn held(seen: Seen, fields: &mut Parts<'_>) -> Result<Line, Kind>
 
 /// The end of such a read: caller and block.
 pub(crate) fn dropped(seen: Seen, fields: &mut Parts<'_>) -> Result<Line, Kind>
-    ensures ok { IfOk result (λ line. Spell seen.callers seen.shards (text_of words.Drop ∷ fields.old) line × IsInOrder seen line) }
+    ensures ok { IfOk result (λ line. Spell seen.callers seen.shards (word_text words.Drop ∷ fields.old) line × IsInOrder seen line) }
     ensures err { length fields.old ≡ field_count words.Drop → IsFormRead seen words.Drop fields.old result }
 {
     let n = next_below(fields, seen.callers)?;
@@ -130,7 +130,7 @@ pub(crate) fn dropped(seen: Seen, fields: &mut Parts<'_>) -> Result<Line, Kind>
 
 /// One feed of the cache device.
 pub(crate) fn fed(seen: Seen, fields: &mut Parts<'_>) -> Result<Line, Kind>
-    ensures ok { IfOk result (λ line. Spell seen.callers seen.shards (text_of words.Feed ∷ fields.old) line × IsInOrder seen line) }
+    ensures ok { IfOk result (λ line. Spell seen.callers seen.shards (word_text words.Feed ∷ fields.old) line × IsInOrder seen line) }
     ensures err { length fields.old ≡ field_count words.Feed → IsFormRead seen words.Feed fields.old result }
 {
     no_more(fields)?;
@@ -139,7 +139,7 @@ pub(crate) fn fed(seen: Seen, fields: &mut Parts<'_>) -> Result<Line, Kind>
 
 /// The end of a group: its tick.
 pub(crate) fn synced(seen: Seen, fields: &mut Parts<'_>) -> Result<Line, Kind>
-    ensures ok { IfOk result (λ line. Spell seen.callers seen.shards (text_of words.Txg ∷ fields.old) line × IsInOrder seen line) }
+    ensures ok { IfOk result (λ line. Spell seen.callers seen.shards (word_text words.Txg ∷ fields.old) line × IsInOrder seen line) }
     ensures err { length fields.old ≡ field_count words.Txg → IsFormRead seen words.Txg fields.old result }
 {
     let t = next_number(fields, 0, LARGEST_PLAIN)?;
@@ -149,7 +149,7 @@ pub(crate) fn synced(seen: Seen, fields: &mut Parts<'_>) -> Result<Line, Kind>
 
 /// A new capacity of every shard, with which all shards together stay as small as the first line allows.
 pub(crate) fn capped(seen: Seen, fields: &mut Parts<'_>) -> Result<Line, Kind>
-    ensures ok { IfOk result (λ line. Spell seen.callers seen.shards (text_of words.Cap ∷ fields.old) line × IsInOrder seen line) }
+    ensures ok { IfOk result (λ line. Spell seen.callers seen.shards (word_text words.Cap ∷ fields.old) line × IsInOrder seen line) }
     ensures err { length fields.old ≡ field_count words.Cap → IsFormRead seen words.Cap fields.old result }
 {
     let c = next_number(fields, 4096, LARGEST_SIZE)?;

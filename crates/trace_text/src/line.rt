@@ -1,6 +1,6 @@
 //! Which lines of a text are passed over, and what the others are.
 ghost use Rattle.std.specs.Prelude.{◌≡◌, ◌≢◌, ◌↔◌, ◌∷◌, IfOk, IsTrue, length};
-ghost use Rattle.trace_text.specs.Grammar.{HasShape, IsInOrder, Spell, fields_of, field_count, text_of};
+ghost use Rattle.trace_text.specs.Grammar.{HasShape, IsInOrder, Spell, fields_of, field_count, word_text};
 ghost use Rattle.trace_text.specs.Reading.{IsFormRead, IsLineFormRead};
 ghost use Rattle.trace_text.specs.declared.words.Word.TheVariants as words;
 
@@ -57,7 +57,7 @@ pub(crate) fn line_after(
     seen: Seen,
     fields: &mut Parts<'_>,
 ) -> Result<Line, LineFault>
-    ensures ok { IfOk result (λ line. Spell seen.callers seen.shards (text_of word ∷ fields.old) line × IsInOrder seen line) }
+    ensures ok { IfOk result (λ line. Spell seen.callers seen.shards (word_text word ∷ fields.old) line × IsInOrder seen line) }
     ensures err { length fields.old ≡ field_count word → IsLineFormRead seen word fields.old result }
 {
     match word {
@@ -69,7 +69,7 @@ pub(crate) fn line_after(
 /// The same, of a word whose lines need no memory of their own.
 fn plain_after(word: Word, seen: Seen, fields: &mut Parts<'_>) -> Result<Line, Kind>
     requires { word ≢ words.Patch }
-    ensures ok { IfOk result (λ line. Spell seen.callers seen.shards (text_of word ∷ fields.old) line × IsInOrder seen line) }
+    ensures ok { IfOk result (λ line. Spell seen.callers seen.shards (word_text word ∷ fields.old) line × IsInOrder seen line) }
     ensures err { length fields.old ≡ field_count word → IsFormRead seen word fields.old result }
 {
     match word {

@@ -2,7 +2,7 @@
 ghost use Rattle.std.specs.Prelude.{◌≡◌, ◌++◌, OnOk, OnErr, IfOk, codes, decimal, string_bytes};
 ghost use Rattle.trace_text.specs.EndText.{io_line};
 ghost use Rattle.trace_text.specs.RebuiltText.{rebuilt_line};
-ghost use Rattle.trace_text.specs.ReportText.{count_line, last_lines, reply_lines, reply_text, status_line, text_of};
+ghost use Rattle.trace_text.specs.ReportText.{count_line, last_lines, reply_lines, reply_text, status_line, report_text};
 
 use crate::counting::counts_of;
 use crate::items::History;
@@ -24,7 +24,7 @@ pub fn report_text(
     events: bool,
     out: &mut Vec<u8>,
 ) -> Result<(), NoMemory>
-    ensures ok { OnOk result (out.new.items ≡ out.old.items ++ text_of report.now events) }
+    ensures ok { OnOk result (out.new.items ≡ out.old.items ++ report_text report.now events) }
     ensures err { OnErr result (out.new.items ≡ out.old.items) }
 {
     let text = written(alloc, report, events)?;
@@ -38,7 +38,7 @@ pub fn report_text(
 
 /// The text of a report.
 fn written(alloc: Global, report: &Report, events: bool) -> Result<Vec<u8>, AllocError>
-    ensures { IfOk result (λ text. text.items ≡ text_of report.now events) }
+    ensures { IfOk result (λ text. text.items ≡ report_text report.now events) }
 {
     let mut text = Vec::from_slice(alloc, b"arc 1\n")?;
     if !report.short {

@@ -7,7 +7,7 @@ use Rattle.turn_table.specs.Places.{Place, took, gave_back}
 use Rattle.turn_table.specs.Moments.{WasFree, MayGive}
 use Rattle.turn_examples.specs.declared.twins.Copies.{Copies}
 use Rattle.turn_examples.specs.Twins.{copy_of, copies, renewed, NowIs, Agrees}
-use Rattle.turn_examples.specs.TwinLaws.{gives_both, gives_same}
+use Rattle.turn_examples.proofs.TwinLaws.{gives_both, gives_same}
 
 -- the copy that a party has taken is the one that it finds free
 pub same_copy : (p : Place Copies) (a s : ℕ) → copy_of 0 p.own.held ≡ Some a → WasFree Agrees p 1 s → a ≡ s

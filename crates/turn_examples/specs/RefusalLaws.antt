@@ -1,5 +1,5 @@
 -- The steps of the count keep its rule.
-use Rattle.std.proofs.Common.{◌≡◌, ◌≢◌, ◌==◌, if◌then◌else◌, ℕ, zero, suc, ◌+◌, ◌≤◌, List, [], ◌∷◌, ◌++◌, length, set, true, false, refl, sym, ap, ◌∙◌, subst, ⊎_elim, eq-eqb, ne_eqb, arith, length-append}
+use Rattle.std.proofs.Common.{◌≡◌, ◌≢◌, ◌==◌, ℕ, zero, suc, ◌+◌, ◌≤◌, List, [], ◌∷◌, ◌++◌, length, set, true, false, refl, sym, ap, ◌∙◌, subst, ⊎_elim, eq-eqb, ne_eqb, arith, length-append}
 use Rattle.std.proofs.lemmas.List.Sums.{sum_by-cons}
 use mathlib.Core.Option.{some, some-injective, some-ne-none}
 use mathlib.Core.Logic.{dite}
@@ -7,30 +7,28 @@ use native.Mathlib.Decide.{ℕ_discrete}
 use lib.ListN.{get_elem?}
 use Rattle.atomic_table.proofs.Lists.{at_set, set_here, set_else, set_again}
 use Rattle.turn_table.specs.Board.{Turn, free, taken, KeepsWon, KeepsLost, KeepsLearned}
-use Rattle.turn_table.specs.Places.{Place}
-use Rattle.turn_table.specs.Moments.{MayGive}
 use Rattle.turn_table.proofs.Rows.{within, same_at}
 use Rattle.turn_examples.specs.declared.refusals.Clerk.{Clerk}
 use Rattle.turn_examples.specs.Refusals.{won, lost, told_by, NowIs, Counted}
 
 -- what all have told, once one of them knows something else
-told_set : (views : List Clerk) (n : ℕ) (w u : Clerk) → get_elem? views n ≡ some w → told_by (set views n u) + w.told ≡ told_by views + u.told
+pub told_set : (views : List Clerk) (n : ℕ) (w u : Clerk) → get_elem? views n ≡ some w → told_by (set views n u) + w.told ≡ told_by views + u.told
 told_set [] n w u at = absurd (some-ne-none w (sym at))
 told_set (x ∷ xs) zero w u at = let e : x.told ≡ w.told = ap (λ (z : Clerk). z.told) (some-injective x w at) in let f : told_by (x ∷ xs) ≡ x.told + told_by xs = sum_by-cons (λ (z : Clerk). z.told) x xs in let g : told_by (u ∷ xs) ≡ u.told + told_by xs = sum_by-cons (λ (z : Clerk). z.told) u xs in omega arith
 told_set (x ∷ xs) (suc n) w u at = let r = told_set xs n w u at in let f : told_by (x ∷ xs) ≡ x.told + told_by xs = sum_by-cons (λ (z : Clerk). z.told) x xs in let g : told_by (x ∷ set xs n u) ≡ x.told + told_by (set xs n u) = sum_by-cons (λ (z : Clerk). z.told) x (set xs n u) in omega arith
 
-told_same : (views : List Clerk) (n : ℕ) (w u : Clerk) → get_elem? views n ≡ some w → u.told ≡ w.told → told_by (set views n u) ≡ told_by views
+pub told_same : (views : List Clerk) (n : ℕ) (w u : Clerk) → get_elem? views n ≡ some w → u.told ≡ w.told → told_by (set views n u) ≡ told_by views
 told_same views n w u at e = let r = told_set views n w u at in omega arith
 
 -- the count stays what it is now, where the party n still knows it
-now_stays : (views : List Clerk) (n x : ℕ) (w u : Clerk) (t : Turn ℕ) → get_elem? views n ≡ some w → u.count ≡ w.count → NowIs views t x → NowIs (set views n u) t x
+pub now_stays : (views : List Clerk) (n x : ℕ) (w u : Clerk) (t : Turn ℕ) → get_elem? views n ≡ some w → u.count ≡ w.count → NowIs views t x → NowIs (set views n u) t x
 now_stays views n x w u (free v) at same e = e
 now_stays views n x w u (taken m) at same e = dite (ℕ_discrete m n)
     (λ q. let one : e.0 ≡ w = same_at views n e.0 w (subst (λ (z : ℕ). get_elem? views z ≡ some e.0) q e.1) at in
     (u, subst (λ (z : ℕ). get_elem? (set views n u) z ≡ some u) (sym q) (set_here views n u (within views n w at)), same ∙ (ap (λ (z : Clerk). z.count) (sym one) ∙ e.2)))
     (λ q. (e.0, set_else views n m u q ∙ e.1, e.2))
 
-noted_set : (views : List Clerk) (n : ℕ) (u : Clerk) → u.told ≤ length u.notes → ((m : ℕ) (z : Clerk) → get_elem? views m ≡ some z → z.told ≤ length z.notes)
+pub noted_set : (views : List Clerk) (n : ℕ) (u : Clerk) → u.told ≤ length u.notes → ((m : ℕ) (z : Clerk) → get_elem? views m ≡ some z → z.told ≤ length z.notes)
     → (m : ℕ) (z : Clerk) → get_elem? (set views n u) m ≡ some z → z.told ≤ length z.notes
 noted_set views n u own all m z e = ⊎_elim (λ p. subst (λ (y : Clerk). y.told ≤ length y.notes) p.1 own) (λ p. all m z p.1) (at_set views n m u z e)
 
@@ -60,35 +58,3 @@ keeps_lost b n i m w k e ne at =
 
 pub keeps_learned : KeepsLearned Counted (λ w u. w)
 keeps_learned b n m w u k ne at at' = subst (λ (l : List Clerk). Counted record { turns = b.turns; views = l }) (sym (set_again b.views n w at)) k
-
--- who has the count gives it back, with what it has told since
-pub gives_count : (p : Place Clerk) (v : ℕ) (u : Clerk) → v + p.own.told ≡ p.own.count + u.told → u.told ≤ length u.notes → MayGive Counted p 0 v u
-gives_count p v u grown own b k s e =
-    let n : ℕ = p.number in
-    let w : Clerk = p.own in
-    let at : get_elem? b.views n ≡ some w = s.shows.0 in
-    let mine : NowIs b.views (taken n) (told_by b.views) = k.now (taken n) e in
-    let one : mine.0 ≡ w = same_at b.views n mine.0 w mine.1 at in
-    let is : w.count ≡ told_by b.views = ap (λ (z : Clerk). z.count) (sym one) ∙ mine.2 in
-    let sum = told_set b.views n w u at in record {
-      now = λ t f. ⊎_elim
-          (λ q. subst (λ (s : Turn ℕ). NowIs (set b.views n u) s (told_by (set b.views n u))) q.1 (let o : v ≡ told_by (set b.views n u) = omega arith in o))
-          (λ q. absurd (q.0 refl))
-          (at_set b.turns 0 0 (free v) t f);
-      noted = noted_set b.views n u own k.noted;
-    }
-
--- who has another turn gives it back, and has told nothing
-pub gives_other : (p : Place Clerk) (i v : ℕ) (u : Clerk) → i ≢ 0 → u.told ≡ p.own.told → u.count ≡ p.own.count → length p.own.notes ≤ length u.notes → MayGive Counted p i v u
-gives_other p i v u far told count more b k s e =
-    let n : ℕ = p.number in
-    let w : Clerk = p.own in
-    let at : get_elem? b.views n ≡ some w = s.shows.0 in
-    let own : w.told ≤ length w.notes = k.noted n w at in
-    let same : told_by (set b.views n u) ≡ told_by b.views = told_same b.views n w u at told in record {
-      now = λ t f. subst (NowIs (set b.views n u) t) (sym same) (⊎_elim
-          (λ q. absurd (far (sym q.0)))
-          (λ q. now_stays b.views n (told_by b.views) w u t at count (k.now t q.1))
-          (at_set b.turns i 0 (free v) t f));
-      noted = noted_set b.views n u (omega arith) k.noted;
-    }

@@ -7,7 +7,7 @@ use Rattle.std.specs.List.{list_any}
 use Rattle.std.proofs.lemmas.Bool.{false≢true}
 use Rattle.std.proofs.lemmas.List.{append-nil}
 use Rattle.blk_ptr.specs.Hash.{shard_of}
-use Rattle.blk_ptr.specs.Key.{end_of}
+use Rattle.blk_ptr.specs.Key.{key_end}
 use Rattle.blk_ptr.specs.Order.{key_eq}
 use Rattle.blk_ptr.specs.declared.key.Key.{Key}
 use Rattle.blk_ptr.proofs.Keys.{key_eq-is}
@@ -27,7 +27,7 @@ use Rattle.arc_table.specs.Telling.{Tells, opening_of}
 use Rattle.arc_table.specs.declared.front.Front.{Front}
 use Rattle.arc_table.specs.declared.about.About.{About}
 use Rattle.arc_table.specs.declared.view.Line.TheVariants as line
-use Rattle.arc_table.specs.opening.OpeningLaws.{opening_sound}
+use Rattle.arc_table.proofs.OpeningLaws.{opening_sound}
 use Rattle.arc_table.specs.scans.Ending.{DoesRoomy}
 use Rattle.arc_table.specs.scans.Scanning.{ArePasses}
 use Rattle.arc_table.proofs.MadeLemmas.{does-made}
@@ -115,9 +115,9 @@ module _ (g : Config) (valid : IsConfig g) (tick : ℕ) (x : SyncItem) (place : 
     here = ap events_in made.here ∙ (events-are (d.before.history ++ (d.makes.passes ++ e ∷ []))
         ∙ ap (λ (l : List Event). l ++ (d.makes.passes ++ e ∷ [])) (made.found.whole ∙ (ap (λ (l : List Event). seen_of g (shard_of g.shards k) p ++ l) (made.found.alone alone.all) ∙ append-nil (seen_of g (shard_of g.shards k) p))))
 
-    one : (j : Key) → list_any (takes_in j) (e ∷ []) ≡ true → end_of j ≤ place + k.size
+    one : (j : Key) → list_any (takes_in j) (e ∷ []) ≡ true → key_end j ≤ place + k.size
     one j h = elim (bool-of (key_eq j k)) [
-      | inl same ↦ let is : j ≡ k = key_eq-is j k same in let size = ap end_of is in omega arith
+      | inl same ↦ let is : j ≡ k = key_eq-is j k same in let size = ap key_end is in omega arith
       | inr far ↦ absurd (false≢true (sym (ap (λ (b : Bool). b || false) far) ∙ h))
     ]
 

@@ -9,7 +9,8 @@ use Rattle.arc_table.specs.Fronts.{item_at, list_at}
 use Rattle.arc_table.specs.Geometry.{IsCell}
 use Rattle.arc_table.specs.Giving.{AreHolds, IsGivenCell}
 use Rattle.arc_table.specs.Items.{holds_in}
-use Rattle.arc_table.specs.TableLaws.{item_else, list_else, without_else, list_here}
+use Rattle.arc_table.specs.TableLaws.{item_else, list_else, list_here}
+use Rattle.arc_table.proofs.TableLaws.{without_else}
 use Rattle.arc_table.specs.Views.{after_cell}
 use Rattle.arc_table.specs.declared.item.Item.TheVariants as item
 use Rattle.arc_table.proofs.Reached.{Took, took_is}

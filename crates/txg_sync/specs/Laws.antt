@@ -1,7 +1,7 @@
 -- Laws of a sync: where it writes, and that its keys are new to the cache.
 use Rattle.std.specs.Prelude.{◌≡◌, ℕ, ◌+◌, ◌<◌, ◌≤◌, IsTrue, List, [], ◌∷◌, ◌++◌, length}
 use Rattle.std.specs.List.{AllByRecursion, list_any}
-use Rattle.blk_ptr.specs.Key.{end_of}
+use Rattle.blk_ptr.specs.Key.{key_end}
 use Rattle.blk_ptr.specs.declared.key.Key.{Key}
 use Rattle.arc_core.specs.Config.{IsConfig}
 use Rattle.arc_core.specs.Places.{takes_in}
@@ -36,7 +36,7 @@ PlacesAddUp = (group next : ℕ) (cells : List OnHeap) (done : List Due) (due : 
 
 -- each key that an event took in, of those that the party has seen, ends at or before this place
 abbrev pub EndsBelow : Config → (place : ℕ) → PartyPlace → Type 0
-EndsBelow g place p = (shard : ℕ) (k : Key) → IsTrue (list_any (takes_in k) (seen_of g shard p)) → end_of k ≤ place
+EndsBelow g place p = (shard : ℕ) (k : Key) → IsTrue (list_any (takes_in k) (seen_of g shard p)) → key_end k ≤ place
 
 -- the party has every number of this cache, and has seen all that it made of shards
 pub record SeesAlone (g : Config) (p : PartyPlace) : Type 0 where

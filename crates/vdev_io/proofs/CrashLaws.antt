@@ -6,7 +6,7 @@ use Rattle.std.proofs.lemmas.Bool.{cases_lt}
 use Rattle.std.proofs.lemmas.Bool.Decides.{nat_tests}
 use Rattle.vdev_io.specs.Device.{put}
 use Rattle.vdev_io.specs.SectorDisk.{DiskCall, Write, Flush, SectorImages, after_call, after_calls, AreInside, IsSameSector, HasFlags, touches, written_after, is_written, written_before, flag_of, is_new}
-use Rattle.vdev_io.specs.SectorLaws.{put_length, put_before, put_behind}
+use Rattle.vdev_io.proofs.SectorLaws.{put_length, put_before, put_behind}
 
 -- both images keep the length of the disk
 pub images_len : (n : ℕ) (disk : SectorImages) (calls : List DiskCall) → AreInside n calls → length disk.flushed ≡ n → length disk.now ≡ n

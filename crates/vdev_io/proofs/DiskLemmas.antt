@@ -1,8 +1,9 @@
 -- What a write and a flush do to the disk of sectors.
 use Rattle.std.proofs.Common.{◌≡◌, ℕ, ◌+◌, ◌≤◌, Bool, true, false, List, [], ◌∷◌, ◌++◌, length, Option, None, Some, Ok, refl, sym, ap, subst, ◌∙◌, arith, if◌then◌else◌}
-use Rattle.vdev_io.specs.Device.{put, IsWritten, LeavesOnly, LeavesNoMore, FollowsBySector, Stands}
+use Rattle.vdev_io.specs.Device.{put, IsWritten, LeavesOnly, LeavesNoMore, FollowsBySector, LeavesNothingNew}
 use Rattle.vdev_io.specs.SectorDisk.{Disk, DiskCall, Write, Flush, SectorImages, after_call, after_calls, AreInside, KeepsImages, IsCrash, DiskMayLeave, DiskLeftSince, MayHaveLeft, images, told_image}
-use Rattle.vdev_io.specs.SectorLaws.{put_length, crash_of_write, crash_of_flush, crash_leaves_told}
+use Rattle.vdev_io.specs.SectorLaws.{crash_leaves_told}
+use Rattle.vdev_io.proofs.SectorLaws.{put_length, crash_of_write, crash_of_flush}
 use Rattle.vdev_io.proofs.CrashLaws.{images_len}
 
 after_calls-push : (disk : SectorImages) (calls : List DiskCall) (call : DiskCall) → after_calls disk (calls ++ call ∷ []) ≡ after_call (after_calls disk calls) call
@@ -92,11 +93,11 @@ crash-flush old new r c crash = subst (λ (image : List ℕ). IsCrash (images ol
 
 -- where nothing was recorded, time stands still
 stands : (calls : List DiskCall) (opening : List ℕ) (disk : Disk) → disk.calls ≡ calls → disk.opening ≡ opening
-    → Stands (length disk.calls) (length calls) (DiskLeftSince disk) (MayHaveLeft record { flushed = opening; now = opening } calls)
+    → LeavesNothingNew (length disk.calls) (length calls) (DiskLeftSince disk) (MayHaveLeft record { flushed = opening; now = opening } calls)
 stands calls opening disk same_calls same_opening =
-    subst (λ (cs : List DiskCall). Stands (length disk.calls) (length cs) (DiskLeftSince disk) (MayHaveLeft record { flushed = opening; now = opening } cs)) same_calls
-    (subst (λ (image : List ℕ). Stands (length disk.calls) (length disk.calls) (DiskLeftSince disk) (MayHaveLeft record { flushed = image; now = image } disk.calls)) same_opening
+    subst (λ (cs : List DiskCall). LeavesNothingNew (length disk.calls) (length cs) (DiskLeftSince disk) (MayHaveLeft record { flushed = opening; now = opening } cs)) same_calls
+    (subst (λ (image : List ℕ). LeavesNothingNew (length disk.calls) (length disk.calls) (DiskLeftSince disk) (MayHaveLeft record { flushed = image; now = image } disk.calls)) same_opening
     record { later = omega arith; same = λ t c le. (λ x. x, λ x. x) })
 
-pub stands-same : (old new : Disk) → old.calls ≡ new.calls → old.opening ≡ new.opening → Stands (length old.calls) (length new.calls) (DiskLeftSince old) (DiskLeftSince new)
+pub stands-same : (old new : Disk) → old.calls ≡ new.calls → old.opening ≡ new.opening → LeavesNothingNew (length old.calls) (length new.calls) (DiskLeftSince old) (DiskLeftSince new)
 stands-same old new calls opening = stands new.calls new.opening old calls opening

@@ -3,3 +3,4 @@ pub mod CrashLaws
 pub mod DiskLemmas
 pub mod JournalLemmas
 pub mod SettleLemmas
+pub mod SectorLaws

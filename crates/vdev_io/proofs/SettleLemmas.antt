@@ -5,7 +5,7 @@ use Rattle.std.proofs.lemmas.Bool.{cases_lt}
 use Rattle.vdev_io.specs.Device.{put}
 use Rattle.vdev_io.specs.SectorDisk.{DiskCall, IsSameSector, IsSameBut, IsCrash, IsCrashBy, SectorImages, is_new, is_written, flag_of, written_before}
 use Rattle.vdev_io.proofs.CrashLaws.{past_end, either_image, new_if_unwritten, new_if_written}
-use Rattle.vdev_io.specs.SectorLaws.{put_length, put_before, put_inside, put_behind}
+use Rattle.vdev_io.proofs.SectorLaws.{put_length, put_before, put_inside, put_behind}
 
 -- how long the sector's part of the image is
 part_len : (s m : ℕ) (flushed old : List ℕ) → length flushed ≡ length old → s ≤ length old → m ≡ min 512 (length old - s)

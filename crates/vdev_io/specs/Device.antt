@@ -58,6 +58,6 @@ abbrev pub ElapsesTo : ℕ → (ℕ → List ℕ → Type 0) → (ℕ → List �
 ElapsesTo before past since leaves = (t : ℕ) (c : List ℕ) → t ≤ before → since t c → past t c ⊎ leaves c
 
 -- time goes on, and no crash leaves anything that none left before
-pub record Stands (before now : ℕ) (past since : ℕ → List ℕ → Type 0) : Type 0 where
+pub record LeavesNothingNew (before now : ℕ) (past since : ℕ → List ℕ → Type 0) : Type 0 where
   pub later : before ≤ now
   pub same : (t : ℕ) (c : List ℕ) → t ≤ before → past t c ↔ since t c

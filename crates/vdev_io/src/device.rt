@@ -1,6 +1,6 @@
 //! The cache device as a trait: its calls, and what a crash may leave of it.
 ghost use Rattle.std.specs.Prelude.{◌≡◌, ℕ, ◌+◌, ◌≤◌, List, Option, None, Some, Bool, false, length, take, drop, IsTrue, IfOk, OnOk, OnErr, IfSome};
-ghost use Rattle.vdev_io.specs.Device.{IsWritten, LeavesOnly, LeavesNoMore, LeavesSame, FollowsBySector, Elapses, ElapsesTo, Stands};
+ghost use Rattle.vdev_io.specs.Device.{IsWritten, LeavesOnly, LeavesNoMore, LeavesSame, FollowsBySector, Elapses, ElapsesTo, LeavesNothingNew};
 ghost use Rattle.vdev_io.specs.Untold.{untold};
 ghost use Rattle.vdev_io.specs.Faults.{CountsFault, CountsIoFault, CountsOne, HasCause, HasIoCause, sum_of_counts};
 
@@ -51,7 +51,7 @@ pub trait CacheDev: Sized + Send + Drop {
         ensures kind { has_sectors self.new ≡ has_sectors self.old }
         ensures told { told self.new ≡ told self.old }
         ensures crash { LeavesSame (may_leave self.old) (may_leave self.new) }
-        ensures time { Stands (moment self.old) (moment self.new) (left_since self.old) (left_since self.new) }
+        ensures time { LeavesNothingNew (moment self.old) (moment self.new) (left_since self.old) (left_since self.new) }
         ensures counted { CountsOne (reads self.old) (reads self.new) }
         ensures cause { HasCause (faults self.old) (faults self.new) result }
         ensures fault { CountsFault (faults self.old) (faults self.new) result };
@@ -91,7 +91,7 @@ pub trait CacheDev: Sized + Send + Drop {
         ensures kind { has_sectors self.new ≡ has_sectors self.old }
         ensures told { told self.new ≡ told self.old }
         ensures crash { LeavesSame (may_leave self.old) (may_leave self.new) }
-        ensures time { Stands (moment self.old) (moment self.new) (left_since self.old) (left_since self.new) }
+        ensures time { LeavesNothingNew (moment self.old) (moment self.new) (left_since self.old) (left_since self.new) }
         ensures reads { reads self.new ≡ reads self.old }
         ensures cause { HasIoCause (faults self.old) (faults self.new) result }
         ensures fault { CountsIoFault (faults self.old) (faults self.new) result };
@@ -104,7 +104,7 @@ pub trait CacheDev: Sized + Send + Drop {
         ensures kind { has_sectors self.new ≡ has_sectors self.old }
         ensures told { told self.new ≡ told self.old }
         ensures crash { LeavesSame (may_leave self.old) (may_leave self.new) }
-        ensures time { Stands (moment self.old) (moment self.new) (left_since self.old) (left_since self.new) };
+        ensures time { LeavesNothingNew (moment self.old) (moment self.new) (left_since self.old) (left_since self.new) };
 
     /// An image that is told has the device's length.
     ghost told_len: { (dev : Self) (image : List ℕ) → told dev ≡ Some image → length image ≡ size dev };

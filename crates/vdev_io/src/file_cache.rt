@@ -1,6 +1,6 @@
 //! A cache device over a file or a block device. Nothing is told of its content.
 ghost use Rattle.std.specs.Prelude.{◌≡◌, ◌^◌, ◌≤◌, None, IfOk, IsTrue, OnOk, false, is_err, if◌then◌else◌, string_bytes};
-ghost use Rattle.vdev_io.specs.Device.{Elapses, ElapsesTo, FollowsBySector, LeavesSame, Stands};
+ghost use Rattle.vdev_io.specs.Device.{Elapses, ElapsesTo, FollowsBySector, LeavesSame, LeavesNothingNew};
 ghost use Rattle.vdev_io.specs.Faults.{CountsFault, CountsIoFault, CountsOne, HasCause, HasIoCause, sum_of_counts};
 ghost use Rattle.vdev_io.specs.Place.{HasLength, ReadsAt, WritesAt};
 ghost use Rattle.vdev_io.specs.Untold.{GivesAnything, OfLength, TellsNothing, untold};
@@ -86,7 +86,7 @@ where
         ensures counted { CountsOne self.old.reads self.new.reads }
         ensures told { GivesAnything result }
         ensures crash { LeavesSame (OfLength self.old.len) (OfLength self.new.len) }
-        ensures time { Stands 0 0 (λ _. OfLength self.old.len) (λ _. OfLength self.new.len) }
+        ensures time { LeavesNothingNew 0 0 (λ _. OfLength self.old.len) (λ _. OfLength self.new.len) }
         ensures cause { HasCause self.old.faults.count self.new.faults.count result }
         ensures fault { CountsFault self.old.faults.count self.new.faults.count result }
     {
@@ -116,7 +116,7 @@ where
         ensures file { self.new.file ≡ self.old.file }
         ensures kept { (self.new.len ≡ self.old.len) × (self.new.name ≡ self.old.name) × (self.new.reads ≡ self.old.reads) }
         ensures crash { LeavesSame (OfLength self.old.len) (OfLength self.new.len) }
-        ensures time { Stands 0 0 (λ _. OfLength self.old.len) (λ _. OfLength self.new.len) }
+        ensures time { LeavesNothingNew 0 0 (λ _. OfLength self.old.len) (λ _. OfLength self.new.len) }
         ensures cause { HasIoCause self.old.faults.count self.new.faults.count result }
         ensures fault { CountsIoFault self.old.faults.count self.new.faults.count result }
     {

@@ -37,8 +37,10 @@ use Rattle.arc_table.specs.pact.Passed.{IsPassNoted, Passed}
 use Rattle.arc_table.specs.pact.Rule.{Pact}
 use Rattle.arc_table.specs.pact.Scene.{Scene}
 use Rattle.arc_table.specs.Views.{after_cell, mines_from, note, recorded}
-use Rattle.arc_table.specs.pact.AttachedLaws.{attached_moved, free_taken, free_same}
-use Rattle.arc_table.specs.TableLaws.{at_here, at_else, list_here, list_else, there, within}
+use Rattle.arc_table.specs.pact.AttachedLaws.{attached_moved, free_taken}
+use Rattle.arc_table.proofs.AttachedLaws.{free_same}
+use Rattle.arc_table.specs.TableLaws.{at_here, at_else, list_here, list_else, within}
+use Rattle.arc_table.proofs.TableLaws.{there}
 use Rattle.arc_table.proofs.Appending.{AreMines, Appends, NewNoted, append_logged, append_passed, appended, owned}
 use Rattle.arc_table.proofs.Boards.{in_hand, stays_but}
 

@@ -34,7 +34,8 @@ use Rattle.arc_table.specs.scans.Scanning.{AllPairs, after_scan, gave_all, won_a
 use Rattle.arc_table.specs.pact.Scene.{Scene}
 use Rattle.arc_table.specs.ShardGiving.{after_shard, buckets_in, holds_through, listed_after}
 use Rattle.arc_table.specs.scans.Sparing.{turns_in}
-use Rattle.arc_table.specs.TableLaws.{front_else, front_here, item_else, item_here, list_else, list_here, within, without_else}
+use Rattle.arc_table.specs.TableLaws.{item_else, item_here, list_else, list_here, within}
+use Rattle.arc_table.proofs.TableLaws.{front_else, front_here, without_else}
 use Rattle.arc_table.specs.Views.{after_lost, after_same, after_won}
 use Rattle.arc_table.proofs.Afterwards.{does_ledger}
 use Rattle.arc_table.proofs.HoldEvents.{listed_now}

@@ -29,7 +29,8 @@ use Rattle.arc_table.specs.pact.Logged.{HasPlace}
 use Rattle.arc_table.specs.pact.Rule.{Pact}
 use Rattle.arc_table.specs.pact.Scene.{Scene}
 use Rattle.arc_table.specs.Seen.{AllEntriesSeen, AllSeenBy, AreEntriesSeen, FindsEntries, HasAll, HasSeenBy, HasSeenItsEntries, IsEntrySeen, IsSeenBy, MadeBy, turn_of}
-use Rattle.arc_table.specs.TableLaws.{front_else, front_here, get_front, starts_whole, there, within}
+use Rattle.arc_table.specs.TableLaws.{get_front, starts_whole, within}
+use Rattle.arc_table.proofs.TableLaws.{front_else, front_here, there}
 use Rattle.arc_table.specs.Views.{after_cell, after_lost, after_won, mines_from, recorded}
 use Rattle.arc_table.proofs.OwnLemmas.{get-either}
 use Rattle.arc_table.proofs.Reached.{SameButNotes, Took, loses_same, took_is}

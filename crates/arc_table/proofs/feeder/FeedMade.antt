@@ -26,7 +26,8 @@ use Rattle.arc_table.specs.pact.Rule.{Pact}
 use Rattle.arc_table.specs.scans.Scanning.{AreOfOthers}
 use Rattle.arc_table.specs.Seen.{AreOwnBy, Finds, HasSeenBy, IsSeenBy, MadeBy, events_in, pass_owner, turn_of}
 use Rattle.arc_table.specs.ShardGiving.{mines_of, passes_in}
-use Rattle.arc_table.specs.TableLaws.{front_else, front_here, within}
+use Rattle.arc_table.specs.TableLaws.{within}
+use Rattle.arc_table.proofs.TableLaws.{front_else, front_here}
 use Rattle.arc_table.proofs.HandHeads.{config_then, shard_then}
 use Rattle.arc_table.proofs.PassMines.{mines_of_are}
 use Rattle.arc_table.proofs.reads.ReadMoments.{own-single-by}

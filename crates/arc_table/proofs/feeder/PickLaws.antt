@@ -37,7 +37,8 @@ use Rattle.arc_table.specs.feeder.Picking.{ArePicks, Feeds, PicksAll, left_to_pi
 use Rattle.arc_table.specs.pact.Rule.{Pact}
 use Rattle.arc_table.specs.scans.Scanning.{AreOfOthers}
 use Rattle.arc_table.specs.Seen.{HasAll}
-use Rattle.arc_table.specs.TableLaws.{get_more, list_here}
+use Rattle.arc_table.specs.TableLaws.{list_here}
+use Rattle.arc_table.proofs.TableLaws.{get_more}
 use Rattle.arc_table.proofs.feeder.Candidates.{candidate_is, fewer_picked}
 use Rattle.arc_table.proofs.HandHeads.{config_then, shard_then}
 use Rattle.arc_table.proofs.Reached.{SameButNotes, Took, loses_same, took_is}

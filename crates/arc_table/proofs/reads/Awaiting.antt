@@ -57,7 +57,8 @@ use Rattle.arc_table.specs.Items.{Meanings, lines_in}
 use Rattle.arc_table.specs.pact.Logged.{IsOwn}
 use Rattle.arc_table.specs.scans.Scanning.{ArePasses, after_scan, gave_all, won_all}
 use Rattle.arc_table.specs.ShardGiving.{after_shard, mines_of, passes_in, readings_through}
-use Rattle.arc_table.specs.TableLaws.{front_here, within}
+use Rattle.arc_table.specs.TableLaws.{within}
+use Rattle.arc_table.proofs.TableLaws.{front_here}
 use Rattle.arc_table.specs.Telling.{opening_of}
 use Rattle.arc_table.specs.Views.{after_same, after_won}
 use Rattle.arc_table.proofs.reads.ArriveEvents.{IsReadBy}

@@ -22,7 +22,7 @@ use Rattle.arc_table.specs.Items.{Meanings}
 use Rattle.arc_table.specs.scans.Scanning.{ArePasses, added, after_scan, gave_all, notes_of, won_all}
 use Rattle.arc_table.specs.ShardGiving.{after_shard, ledger_through, mines_of, passes_in, readings_through}
 use Rattle.arc_table.specs.scans.Sparing.{turns_in}
-use Rattle.arc_table.specs.TableLaws.{front_here}
+use Rattle.arc_table.proofs.TableLaws.{front_here}
 use Rattle.arc_table.specs.Views.{after_same, after_won}
 use Rattle.arc_table.proofs.Afterwards.{Stays}
 use Rattle.arc_table.proofs.Reached.{own_number_is, reached}

@@ -21,7 +21,8 @@ use Rattle.arc_table.specs.Geometry.{IsBucket, bucket_turn, parties_of, shard_tu
 use Rattle.arc_table.specs.Items.{Meanings}
 use Rattle.arc_table.specs.scans.Scanning.{AllPairs, AreOfOthers, ArePasses, after_scan, gave_all, won_all}
 use Rattle.arc_table.specs.ShardGiving.{after_shard, mines_of, passes_in}
-use Rattle.arc_table.specs.TableLaws.{front_else, front_here, within}
+use Rattle.arc_table.specs.TableLaws.{within}
+use Rattle.arc_table.proofs.TableLaws.{front_else, front_here}
 use Rattle.arc_table.specs.Views.{after_same}
 use Rattle.arc_table.proofs.PassMines.{mines_of_are}
 use Rattle.arc_table.proofs.Reached.{reached, sound_log}

@@ -18,7 +18,7 @@ use Rattle.arc_core.proofs.Others.{sparing}
 use Rattle.hash_chain.specs.Chain.{Chain, header_at}
 use Rattle.hash_chain.specs.declared.header.Header.{Header}
 use Rattle.turn_table.specs.Places.{Place, gave_back}
-use Rattle.arc_table.specs.declared.hand.Hand.{Hand}
+use Rattle.arc_table.specs.declared.in_hand.Hand.{Hand}
 use Rattle.arc_table.specs.declared.scan.Scan.{Scan}
 use Rattle.arc_table.specs.declared.item.Item.TheVariants as item
 use Rattle.arc_table.specs.declared.view.Known.{Known}

@@ -20,7 +20,7 @@ use Rattle.turn_table.specs.Board.{IsAmong}
 use Rattle.turn_table.specs.Moments.{WasFree}
 use Rattle.turn_table.specs.Places.{IsOther, Place, saw, took}
 use Rattle.arc_table.specs.declared.both.Both.{Both}
-use Rattle.arc_table.specs.declared.hand.Taken.{Taken}
+use Rattle.arc_table.specs.declared.in_hand.Taken.{Taken}
 use Rattle.arc_table.specs.declared.scan.Scan.{Scan}
 use Rattle.arc_table.specs.declared.item.Item.TheVariants as item
 use Rattle.arc_table.specs.declared.view.Known.{Known}

@@ -33,7 +33,8 @@ use Rattle.arc_table.specs.pact.Headed.{IsHead}
 use Rattle.arc_table.specs.Items.{Meanings, headers_in, shard_in}
 use Rattle.arc_table.specs.pact.Rule.{Pact}
 use Rattle.arc_table.specs.scans.Scanning.{takes_room, AllPairs, AreApart, AreOfOthers, ArePasses, IsBucketOf, IsInHand, MayScan, Scans, added, notes_of, won_all}
-use Rattle.arc_table.specs.TableLaws.{item_else, item_here, list_else, without_else}
+use Rattle.arc_table.specs.TableLaws.{item_else, item_here, list_else}
+use Rattle.arc_table.proofs.TableLaws.{without_else}
 use Rattle.arc_table.specs.Views.{after_lost, after_same, after_won, note, under_of}
 use Rattle.arc_table.proofs.Boards.{in_hand}
 use Rattle.arc_table.proofs.Ranges.{bucket_range}

@@ -19,7 +19,7 @@ use Rattle.arc_core.specs.View.{view_of}
 use Rattle.arc_core.proofs.Sparing.{spared-same}
 use Rattle.hash_chain.specs.declared.header.Header.{Header}
 use Rattle.hash_chain.specs.Chain.{Chain, IsWith, header_at}
-use Rattle.arc_table.specs.declared.hand.Taken.{Taken}
+use Rattle.arc_table.specs.declared.in_hand.Taken.{Taken}
 use Rattle.arc_table.specs.Fronts.{item_at}
 use Rattle.arc_table.specs.Geometry.{bucket_turn}
 use Rattle.arc_table.specs.pact.Headed.{IsHead, Says}

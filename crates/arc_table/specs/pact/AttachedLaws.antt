@@ -20,9 +20,6 @@ module _ {C : Type 0} where
   pub taken_same : (n k : ℕ) → ◌≡◌ {A = Turn (Item C)} (taken n) (taken k) → n ≡ k
   taken_same n k q = cc
 
-  pub free_same : (u v : Item C) → ◌≡◌ {A = Turn (Item C)} (free u) (free v) → u ≡ v
-  free_same u v q = cc
-
 module _ {C : Type 0} (m : Meanings C) where
   -- the turn j is n's, and what n knows now agrees with the scene; or it is another party's, for which nothing has changed
   pub data StillTaken (b : Board (Item C) (Known C)) (s t : Scene C) (n : ℕ) (u : Known C) (j k : ℕ) : Type 0 where

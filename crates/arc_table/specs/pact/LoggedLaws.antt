@@ -7,7 +7,8 @@ use Rattle.arc_table.specs.Fronts.{with_at, front_of, put, seen_by_both, StartsW
 use Rattle.arc_table.specs.Items.{Meanings, lines_in}
 use Rattle.arc_table.specs.pact.Logged.{Logged}
 use Rattle.arc_table.specs.pact.Scene.{Scene}
-use Rattle.arc_table.specs.TableLaws.{at_here, at_else, front_here, front_else, front_both, starts_whole}
+use Rattle.arc_table.specs.TableLaws.{at_here, at_else, starts_whole}
+use Rattle.arc_table.proofs.TableLaws.{front_here, front_else, front_both}
 
 module _ {C : Type 0} (m : Meanings C) where
   -- a party sees something

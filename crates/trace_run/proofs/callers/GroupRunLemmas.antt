@@ -29,7 +29,8 @@ use Rattle.arc_table.specs.Fronts.{StartsWith}
 use Rattle.arc_table.specs.Geometry.{parties_of}
 use Rattle.arc_table.specs.Items.{Meanings}
 use Rattle.arc_table.specs.Seen.{events_in, seen_of}
-use Rattle.arc_table.specs.TableLaws.{get_last, get_more, there, within}
+use Rattle.arc_table.specs.TableLaws.{within}
+use Rattle.arc_table.proofs.TableLaws.{get_last, get_more, there}
 use Rattle.arc_table.specs.Telling.{opening_of}
 use Rattle.trace_text.specs.declared.ends.ShardEnd.{ShardEnd}
 use Rattle.trace_text.specs.declared.op.Op.{Op}

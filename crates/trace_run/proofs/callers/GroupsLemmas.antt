@@ -26,7 +26,8 @@ use Rattle.arc_table.specs.declared.view.Line.{Line}
 use Rattle.arc_table.specs.Cache.{Cache}
 use Rattle.arc_table.specs.Fronts.{StartsWith, front_of}
 use Rattle.arc_table.specs.Seen.{seen_of, turn_of}
-use Rattle.arc_table.specs.TableLaws.{starts_whole, there}
+use Rattle.arc_table.specs.TableLaws.{starts_whole}
+use Rattle.arc_table.proofs.TableLaws.{there}
 use Rattle.arc_table.specs.Telling.{opening_of}
 use Rattle.trace_text.specs.declared.op.Op.{Op}
 use Rattle.trace_text.specs.declared.op.Op.TheVariants as ops

@@ -7,19 +7,19 @@ use Rattle.blk_ptr.specs.declared.key.Key.{Key}
 use Rattle.blk_ptr.specs.declared.key.KeyFault.{KeyFault}
 use Rattle.blk_ptr.specs.declared.key.KeyFault.TheVariants as fault
 use Rattle.blk_ptr.specs.declared.ptr.Ptr.{Ptr}
-use Rattle.blk_ptr.specs.Key.{IsFirstFault, IsValid, end_of}
+use Rattle.blk_ptr.specs.Key.{IsFirstKeyFault, IsValid, key_end}
 use Rattle.blk_ptr.specs.Size.{sector}
 use Rattle.trace_run.specs.callers.Together.{IsFirstPlace}
 
 -- a key that fails one of the tests is not valid
-pub fault-not-valid : (len : ℕ) (key : Key) (why : KeyFault) → IsFirstFault len key why → IsValid len key → ⊥
+pub fault-not-valid : (len : ℕ) (key : Key) (why : KeyFault) → IsFirstKeyFault len key why → IsValid len key → ⊥
 fault-not-valid len key fault.Unaligned fails valid = fails valid.formed.aligned
 fault-not-valid len key fault.Size fails valid = fails.1 valid.formed.sized
 fault-not-valid len key (fault.OutOfPool end l) fails valid = let i = valid.inside in let o = fails.4 in omega arith
 fault-not-valid len key fault.BirthZero fails valid = let b = valid.formed.born in let z = fails.3 in omega arith
 
 -- a valid key's end is at a sector's boundary
-valid-aligned : (len : ℕ) (key : Key) → IsValid len key → end_of key % sector ≡ 0
+valid-aligned : (len : ℕ) (key : Key) → IsValid len key → key_end key % sector ≡ 0
 valid-aligned len key valid = multiples key.offset key.size valid.formed.aligned valid.formed.sized.0
   where
     multiples : (x y : ℕ) → x % sector ≡ 0 → y % sector ≡ 0 → (x + y) % sector ≡ 0
@@ -28,14 +28,14 @@ valid-aligned len key valid = multiples key.offset key.size valid.formed.aligned
 pub place-aligned : (len : ℕ) (blocks : List Ptr) (place : ℕ) → IsFirstPlace len blocks place → place % sector ≡ 0
 place-aligned len blocks place first = go first.least
   where
-    go : ((place ≡ 0) ⊎ ((k : ℕ) × (ptr : Ptr) × (slice_get blocks k ≡ Some ptr) × IsValid len ptr.key × (place ≡ end_of ptr.key))) → place % sector ≡ 0
+    go : ((place ≡ 0) ⊎ ((k : ℕ) × (ptr : Ptr) × (slice_get blocks k ≡ Some ptr) × IsValid len ptr.key × (place ≡ key_end ptr.key))) → place % sector ≡ 0
     go (inl none) = ap (λ (n : ℕ). n % sector) none
     go (inr found) = ap (λ (n : ℕ). n % sector) found.4 ∙ valid-aligned len found.1.key found.3
 
 pub place-inside : (len : ℕ) (blocks : List Ptr) (place : ℕ) → IsFirstPlace len blocks place → place ≤ len
 place-inside len blocks place first = go first.least
   where
-    go : ((place ≡ 0) ⊎ ((k : ℕ) × (ptr : Ptr) × (slice_get blocks k ≡ Some ptr) × IsValid len ptr.key × (place ≡ end_of ptr.key))) → place ≤ len
+    go : ((place ≡ 0) ⊎ ((k : ℕ) × (ptr : Ptr) × (slice_get blocks k ≡ Some ptr) × IsValid len ptr.key × (place ≡ key_end ptr.key))) → place ≤ len
     go (inl none) = omega (arith, none)
     go (inr found) = let e = found.4 in let i = found.3.inside in omega arith
 
@@ -43,31 +43,31 @@ place-inside len blocks place first = go first.least
 
 -- the place behind the first so many blocks
 pub record IsPlaceOf (len : ℕ) (blocks : List Ptr) (done place : ℕ) : Type 0 where
-  pub behind : (k : ℕ) (ptr : Ptr) → k < done → slice_get blocks k ≡ Some ptr → IsValid len ptr.key → end_of ptr.key ≤ place
-  pub least : (place ≡ 0) ⊎ ((k : ℕ) × (ptr : Ptr) × (slice_get blocks k ≡ Some ptr) × IsValid len ptr.key × (place ≡ end_of ptr.key))
+  pub behind : (k : ℕ) (ptr : Ptr) → k < done → slice_get blocks k ≡ Some ptr → IsValid len ptr.key → key_end ptr.key ≤ place
+  pub least : (place ≡ 0) ⊎ ((k : ℕ) × (ptr : Ptr) × (slice_get blocks k ≡ Some ptr) × IsValid len ptr.key × (place ≡ key_end ptr.key))
 
 some-same : (a b : Ptr) → ◌≡◌ {A = Option Ptr} (Some a) (Some b) → a ≡ b
 some-same a b is = cc
 
-pub place-more : (len : ℕ) (blocks : List Ptr) (done place end : ℕ) (ptr : Ptr) → slice_get blocks done ≡ Some ptr → (IsValid len ptr.key → end ≡ end_of ptr.key) → ((end ≡ 0) ⊎ (IsValid len ptr.key × (end ≡ end_of ptr.key)))
+pub place-more : (len : ℕ) (blocks : List Ptr) (done place end : ℕ) (ptr : Ptr) → slice_get blocks done ≡ Some ptr → (IsValid len ptr.key → end ≡ key_end ptr.key) → ((end ≡ 0) ⊎ (IsValid len ptr.key × (end ≡ key_end ptr.key)))
     → IsPlaceOf len blocks done place → IsPlaceOf len blocks (suc done) (max place end)
 place-more len blocks done place end ptr here valid which so = record { behind = behind; least = least which }
   where
-    behind : (k : ℕ) (x : Ptr) → k < suc done → slice_get blocks k ≡ Some x → IsValid len x.key → end_of x.key ≤ max place end
+    behind : (k : ℕ) (x : Ptr) → k < suc done → slice_get blocks k ≡ Some x → IsValid len x.key → key_end x.key ≤ max place end
     behind k x lt at is_valid = elim (cases_lt k done) [
       | inl early ↦ let old = so.behind k x early at is_valid in omega (arith, old)
       | inr late ↦
           let last : k ≡ done = omega (arith, late, lt) in
           let same : ptr ≡ x = some-same ptr x (sym here ∙ (ap (slice_get blocks) (sym last) ∙ at)) in
-          let e = subst (λ (p : Ptr). IsValid len p.key → end ≡ end_of p.key) same valid is_valid in
+          let e = subst (λ (p : Ptr). IsValid len p.key → end ≡ key_end p.key) same valid is_valid in
           omega (arith, e)
     ]
 
-    least : ((end ≡ 0) ⊎ (IsValid len ptr.key × (end ≡ end_of ptr.key))) → (max place end ≡ 0) ⊎ ((k : ℕ) × (x : Ptr) × (slice_get blocks k ≡ Some x) × IsValid len x.key × (max place end ≡ end_of x.key))
-    least (inl none) = subst (λ (p : ℕ). (p ≡ 0) ⊎ ((k : ℕ) × (x : Ptr) × (slice_get blocks k ≡ Some x) × IsValid len x.key × (p ≡ end_of x.key))) (let e : place ≡ max place end = omega (arith, none) in e) so.least
+    least : ((end ≡ 0) ⊎ (IsValid len ptr.key × (end ≡ key_end ptr.key))) → (max place end ≡ 0) ⊎ ((k : ℕ) × (x : Ptr) × (slice_get blocks k ≡ Some x) × IsValid len x.key × (max place end ≡ key_end x.key))
+    least (inl none) = subst (λ (p : ℕ). (p ≡ 0) ⊎ ((k : ℕ) × (x : Ptr) × (slice_get blocks k ≡ Some x) × IsValid len x.key × (p ≡ key_end x.key))) (let e : place ≡ max place end = omega (arith, none) in e) so.least
     least (inr found) = elim (cases_lt place end) [
       | inl below ↦ inr (done, ptr, here, found.0, (let e : max place end ≡ end = omega (arith, below) in e) ∙ found.1)
-      | inr above ↦ subst (λ (p : ℕ). (p ≡ 0) ⊎ ((k : ℕ) × (x : Ptr) × (slice_get blocks k ≡ Some x) × IsValid len x.key × (p ≡ end_of x.key))) (let e : place ≡ max place end = omega (arith, above) in e) so.least
+      | inr above ↦ subst (λ (p : ℕ). (p ≡ 0) ⊎ ((k : ℕ) × (x : Ptr) × (slice_get blocks k ≡ Some x) × IsValid len x.key × (p ≡ key_end x.key))) (let e : place ≡ max place end = omega (arith, above) in e) so.least
     ]
 
 pub place-none : (len : ℕ) (blocks : List Ptr) → IsPlaceOf len blocks 0 0

@@ -25,7 +25,8 @@ use Rattle.arc_table.specs.Cells.{SeesAll}
 use Rattle.arc_table.specs.Fronts.{StartsWith, front_of, item_at}
 use Rattle.arc_table.specs.Geometry.{IsCell, cell_number, parties_of}
 use Rattle.arc_table.specs.Seen.{FindsEntries, HasAll, HasSeenItsEntries, events_in, seen_of, turn_of}
-use Rattle.arc_table.specs.TableLaws.{front_else, front_here, item_here, starts_whole, within}
+use Rattle.arc_table.specs.TableLaws.{item_here, starts_whole, within}
+use Rattle.arc_table.proofs.TableLaws.{front_else, front_here}
 use Rattle.arc_table.specs.Telling.{opening_of}
 use Rattle.arc_table.specs.Views.{after_cell}
 use Rattle.arc_table.proofs.cell_lemmas.EntriesSeen.{given-entries, given-sees, seen-at-take}

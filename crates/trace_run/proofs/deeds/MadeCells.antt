@@ -24,7 +24,8 @@ use Rattle.arc_table.specs.Geometry.{IsCell, parties_of}
 use Rattle.arc_table.specs.Giving.{IsGivenCell}
 use Rattle.arc_table.specs.Items.{Meanings, lines_in}
 use Rattle.arc_table.specs.Seen.{HasSeenItsEntries, turn_of}
-use Rattle.arc_table.specs.TableLaws.{front_else, front_here, starts_whole}
+use Rattle.arc_table.specs.TableLaws.{starts_whole}
+use Rattle.arc_table.proofs.TableLaws.{front_else, front_here}
 use Rattle.arc_table.specs.Views.{after_cell, mines_from, recorded}
 use Rattle.arc_table.proofs.Reached.{Took}
 use Rattle.trace_run.specs.MadeLines.{is_listed, made_from, made_of, owned_from}

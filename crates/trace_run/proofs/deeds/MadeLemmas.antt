@@ -9,7 +9,8 @@ use Rattle.arc_lists.proofs.Tables.{cases_true}
 use Rattle.arc_table.specs.declared.view.Line.{Line}
 use Rattle.arc_table.specs.declared.view.Mine.{Mine}
 use Rattle.arc_table.specs.Fronts.{StartsWith}
-use Rattle.arc_table.specs.TableLaws.{there, within}
+use Rattle.arc_table.specs.TableLaws.{within}
+use Rattle.arc_table.proofs.TableLaws.{there}
 use Rattle.trace_run.specs.MadeLines.{is_at, is_listed, made_from}
 
 -- ---- what is listed

@@ -7,7 +7,7 @@ use Rattle.blk_ptr.specs.declared.key.Key.{Key}
 use Rattle.blk_ptr.specs.declared.key.KeyFault.{KeyFault}
 use Rattle.blk_ptr.specs.declared.key.KeyFault.TheVariants as fault
 use Rattle.blk_ptr.specs.declared.ptr.Ptr.{Ptr}
-use Rattle.blk_ptr.specs.Key.{IsFirstFault, IsValid, end_of}
+use Rattle.blk_ptr.specs.Key.{IsFirstKeyFault, IsValid, key_end}
 use Rattle.blk_ptr.specs.Order.{digest_eq}
 use Rattle.blk_ptr.specs.Ptr.{IsOf, range_of, sha256_of}
 use Rattle.blk_ptr.specs.Size.{IsBlockSize, is_block_size_of, sector}
@@ -21,9 +21,10 @@ use Rattle.trace_text.specs.declared.reply.Reply.TheVariants.{Read, Kept, Droppe
 use Rattle.trace_text.specs.declared.reply.Refusal.{Refusal}
 use Rattle.trace_text.specs.declared.reply.Refusal.TheVariants as refusal
 use Rattle.dbuf_state.specs.declared.window.Window.{Window}
+use Rattle.dbuf_state.specs.Dbufs.{window_of}
 use Rattle.trace_run.specs.KeptReads.{KeptRead}
 use Rattle.trace_run.specs.one_caller.Asking.{NamesServed, asked_by, next_call}
-use Rattle.trace_run.specs.Answers.{AnswersDrop, AnswersHold, AnswersRead, window_of}
+use Rattle.trace_run.specs.Answers.{AnswersDrop, AnswersHold, AnswersRead}
 use Rattle.trace_run.specs.Effects.{calls_from, calls_of, effect_of}
 use Rattle.trace_run.specs.Lines.{shard_of_line}
 use Rattle.trace_run.specs.one_caller.OneCaller.{kept_after, oldest_kept}
@@ -65,15 +66,15 @@ size-not n fails = elim (cases_true (is_block_size_of n)) [
 pub valid-key : (len : ℕ) (key : Key) → IsValid len key → key_fault len key ≡ None
 valid-key len key valid =
     let birth : (key.birth == 0) ≡ false = other-test key.birth (λ e. absurd (omega (arith, e, valid.formed.born))) in
-    rw (zero-test (key.offset % sector) valid.formed.aligned, size-test key.size valid.formed.sized, least-test len (end_of key) valid.inside, birth) refl
+    rw (zero-test (key.offset % sector) valid.formed.aligned, size-test key.size valid.formed.sized, least-test len (key_end key) valid.inside, birth) refl
 
-first-key : (len : ℕ) (key : Key) (why : KeyFault) → IsFirstFault len key why → key_fault len key ≡ Some why
+first-key : (len : ℕ) (key : Key) (why : KeyFault) → IsFirstKeyFault len key why → key_fault len key ≡ Some why
 first-key len key fault.Unaligned fails = rw (other-test (key.offset % sector) fails) refl
 first-key len key fault.Size fails = rw (zero-test (key.offset % sector) fails.0, size-not key.size fails.1) refl
 first-key len key (fault.OutOfPool end most) fails =
-    rw (zero-test (key.offset % sector) fails.0, size-test key.size fails.1, less-test len (end_of key) fails.4, fails.2, fails.3) refl
+    rw (zero-test (key.offset % sector) fails.0, size-test key.size fails.1, less-test len (key_end key) fails.4, fails.2, fails.3) refl
 first-key len key fault.BirthZero fails =
-    rw (zero-test (key.offset % sector) fails.0, size-test key.size fails.1, least-test len (end_of key) fails.2, zero-test key.birth fails.3) refl
+    rw (zero-test (key.offset % sector) fails.0, size-test key.size fails.1, least-test len (key_end key) fails.2, zero-test key.birth fails.3) refl
 
 -- ---- what the pool gives
 

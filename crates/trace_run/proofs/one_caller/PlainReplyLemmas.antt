@@ -25,12 +25,13 @@ use Rattle.trace_text.specs.declared.reply.Refusal.{Refusal}
 use Rattle.trace_text.specs.declared.reply.Refusal.TheVariants as refusal
 use Rattle.dbuf_state.specs.declared.window.Window.{Window}
 use Rattle.vdev_io.specs.Calls.{Call, Failed, Gave}
+use Rattle.dbuf_state.specs.Dbufs.{window_of}
 use Rattle.trace_run.specs.one_caller.Access as access
 use Rattle.trace_run.specs.KeptReads.{KeptRead}
 use Rattle.trace_run.specs.one_caller.Access.{Access, access_of, events_of_answered, events_of_drop, events_of_refused, held_key}
 use Rattle.trace_run.specs.one_caller.Asking.{NamesServed, place_asked, place_in, place_on, place_to_ask, serves, source_of}
 use Rattle.trace_run.specs.Answering.{IsReadOfImage, KeepsImage, ReadsImage}
-use Rattle.trace_run.specs.Answers.{AnswersHold, AnswersRead, window_of}
+use Rattle.trace_run.specs.Answers.{AnswersHold, AnswersRead}
 use Rattle.trace_run.specs.Effects.{Effect, Answered, GivenBack, PoolRefused, NoEffect, calls_of, effect_of, effect_of_refusal}
 use Rattle.trace_run.specs.one_caller.OneCaller.{events_of, events_of_dropping, events_of_hold, events_of_read, oldest_key}
 use Rattle.trace_run.specs.one_caller.PlainReport.{IsPlainReply, ShowsCollision}

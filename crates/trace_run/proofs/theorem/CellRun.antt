@@ -19,7 +19,8 @@ use Rattle.arc_table.specs.Ended.{Ended, Ends}
 use Rattle.arc_table.specs.Fronts.{front_of}
 use Rattle.arc_table.specs.Geometry.{IsCell, parties_of}
 use Rattle.arc_table.specs.Seen.{AreEntriesSeen, seen_of}
-use Rattle.arc_table.specs.TableLaws.{get_front, get_last, there, within}
+use Rattle.arc_table.specs.TableLaws.{get_front, within}
+use Rattle.arc_table.proofs.TableLaws.{get_last, there}
 use Rattle.dbuf_cells.specs.Turns.{OnHeap, PartyPlace, dbuf_meanings}
 use Rattle.vdev_io.specs.declared.pool.Pool.{Ghosts}
 use Rattle.trace_text.specs.declared.reply.Reply.{Reply}

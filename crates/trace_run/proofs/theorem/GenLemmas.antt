@@ -9,7 +9,7 @@ use Rattle.arc_lists.proofs.Tables.{cases_true, some_is}
 use Rattle.blk_ptr.specs.declared.key.KeyFault.{KeyFault}
 use Rattle.blk_ptr.specs.declared.key.KeyFault.TheVariants as fault
 use Rattle.blk_ptr.specs.declared.ptr.Ptr.{Ptr}
-use Rattle.blk_ptr.specs.Key.{IsFirstFault}
+use Rattle.blk_ptr.specs.Key.{IsFirstKeyFault}
 use Rattle.blk_ptr.specs.Ptr.{IsOf, range_of}
 use Rattle.trace_text.specs.declared.mapping.Mapping.{Mapping}
 use Rattle.trace_text.specs.declared.op.Op.{Op}
@@ -23,7 +23,8 @@ use Rattle.dbuf_state.specs.declared.window.Window.{Window}
 use Rattle.arc_core.specs.declared.config.Config.{Config}
 use Rattle.trace_text.specs.Generator.{IsGenerated, empty_window, generated_block, generated_read, generated_sizes, zero_digest}
 use Rattle.vdev_io.specs.declared.pool.Pool.{Ghosts}
-use Rattle.trace_run.specs.Answers.{Answers, AnswersAll, AnswersRead, is_pool_fault, is_refusal, window_of}
+use Rattle.dbuf_state.specs.Dbufs.{window_of}
+use Rattle.trace_run.specs.Answers.{Answers, AnswersAll, AnswersRead, is_pool_fault, is_refusal}
 use Rattle.arc_table.specs.Telling.{opening_of}
 use Rattle.trace_run.specs.Outcome.{generated}
 use Rattle.trace_run.specs.one_caller.PlainReport.{ArePlainReplies, IsPlainReply, IsPlainReport, ShowsCollision}
@@ -106,7 +107,7 @@ of-zeros blocks i lt = rw (zeros blocks i lt) (record { size = length-replicate 
 aligned : (i : ℕ) → i * 512 % 512 ≡ 0
 aligned i = omega arith
 
-valid-key : (blocks i : ℕ) (why : KeyFault) → i < blocks → IsFirstFault (blocks * 512) (generated_block i).key why → ⊥
+valid-key : (blocks i : ℕ) (why : KeyFault) → i < blocks → IsFirstKeyFault (blocks * 512) (generated_block i).key why → ⊥
 valid-key blocks i fault.Unaligned lt fails = fails (aligned i)
 valid-key blocks i fault.Size lt fails = fails.1 (refl, omega arith, omega arith)
 valid-key blocks i (fault.OutOfPool end len) lt fails = absurd (omega (arith, fails.4))
@@ -119,7 +120,7 @@ no-refusal blocks ptr (Refused refusal.PoolFault) made served_well answer = absu
 no-refusal blocks ptr (Refused (refusal.Mismatch digest)) made served_well answer =
     absurd (answer.1.1.plain.1 (rw made.2 (of-zeros blocks made.0 made.1)))
 no-refusal blocks ptr (Refused (refusal.Key why)) made served_well answer =
-    absurd (valid-key blocks made.0 why made.1 (subst (λ (p : Ptr). IsFirstFault (blocks * 512) p.key why) made.2 answer.1))
+    absurd (valid-key blocks made.0 why made.1 (subst (λ (p : Ptr). IsFirstKeyFault (blocks * 512) p.key why) made.2 answer.1))
 no-refusal blocks ptr (Refused (refusal.Range end size)) made served_well answer = absurd (omega (arith, answer.0, answer.2))
 no-refusal blocks ptr (Refused other) made served_well answer = absurd answer
 no-refusal blocks ptr other made served_well answer = refl

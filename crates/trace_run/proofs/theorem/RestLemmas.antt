@@ -37,7 +37,7 @@ use Rattle.arc_table.specs.Geometry.{numbers_of, parties_of, shard_turn}
 use Rattle.arc_table.specs.Items.{Meanings, shard_in}
 use Rattle.arc_table.specs.pact.Logged.{IsSoundLog}
 use Rattle.arc_table.specs.pact.Scene.{Scene}
-use Rattle.arc_table.specs.opening.OpeningLaws.{opening_sound}
+use Rattle.arc_table.proofs.OpeningLaws.{opening_sound}
 use Rattle.arc_table.specs.Telling.{opening_of}
 use Rattle.trace_run.specs.KeptBlocks.{IsIdle}
 use Rattle.arc_table.specs.Seen.{turn_of}

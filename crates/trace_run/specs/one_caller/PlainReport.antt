@@ -11,7 +11,7 @@ use Rattle.trace_text.specs.declared.reply.Reply.TheVariants.{Read}
 use Rattle.trace_text.specs.declared.report.Report.{Report}
 use Rattle.trace_text.specs.declared.trace.Trace.{Trace}
 use Rattle.dbuf_state.specs.declared.window.Window.{Window}
-use Rattle.trace_run.specs.Answers.{window_of}
+use Rattle.dbuf_state.specs.Dbufs.{window_of}
 use Rattle.trace_run.specs.Read.{IsFromPool}
 
 -- The block was found cached, or on the cache device, and the window is of bytes that are of the pointer. Those of the plain run are of it too, and are

@@ -7,7 +7,7 @@ use Rattle.blk_ptr.specs.declared.key.Key.{Key}
 use Rattle.blk_ptr.specs.declared.key.KeyFault.{KeyFault}
 use Rattle.blk_ptr.specs.declared.key.KeyFault.TheVariants as key_faults
 use Rattle.blk_ptr.specs.declared.ptr.Ptr.{Ptr}
-use Rattle.blk_ptr.specs.Key.{end_of as end_of_key}
+use Rattle.blk_ptr.specs.Key.{key_end as end_of_key}
 use Rattle.blk_ptr.specs.Order.{digest_eq, key_eq}
 use Rattle.blk_ptr.specs.Ptr.{range_of, sha256_of}
 use Rattle.blk_ptr.specs.Size.{is_block_size_of, sector}
@@ -25,10 +25,11 @@ use Rattle.trace_text.specs.declared.rebuilt.Rebuilt.{Rebuilt}
 use Rattle.trace_text.specs.declared.report.Report.{Report}
 use Rattle.trace_text.specs.declared.trace.Trace.{Trace}
 use Rattle.dbuf_state.specs.declared.window.Window.{Window}
+use Rattle.dbuf_state.specs.Dbufs.{window_of}
 use Rattle.trace_run.specs.KeptReads.{KeptRead}
 use Rattle.trace_run.specs.one_caller.Asking.{asked_by, next_call, place_asked, source_at}
 use Rattle.trace_run.specs.one_caller.OverShards.{shards_after}
-use Rattle.trace_run.specs.Answers.{is_refusal, window_of}
+use Rattle.trace_run.specs.Answers.{is_refusal}
 use Rattle.trace_run.specs.Effects.{Effect, Answered, GivenBack, PoolRefused, NoEffect, calls_of, effect_of}
 use Rattle.trace_run.specs.Ends.{ends_of}
 use Rattle.arc_table.specs.Telling.{opening_of}

@@ -1,7 +1,7 @@
 //! A disk of sectors in memory, which can be stopped and torn by a crash.
 ghost use Rattle.std.specs.Prelude.{◌≡◌, ◌+◌, ◌-◌, ◌≤◌, ◌*◌, ◌↔◌, ◌||◌, ◌∷◌, ◌++◌, [], true, false, drop, length, nat_lt, slice_index_or, take, if◌then◌else◌, IfOk, OnOk, OnErr, IfSome, IsErrOf, IsTrue, MatchResult, is_err};
 ghost use Rattle.blk_ptr.specs.Size.{sector};
-ghost use Rattle.vdev_io.specs.Device.{put, IsWritten, LeavesOnly, LeavesNoMore, LeavesSame, FollowsBySector, Elapses, ElapsesTo, Stands};
+ghost use Rattle.vdev_io.specs.Device.{put, IsWritten, LeavesOnly, LeavesNoMore, LeavesSame, FollowsBySector, Elapses, ElapsesTo, LeavesNothingNew};
 ghost use Rattle.vdev_io.specs.Faults.{CountsFault, CountsIoFault, CountsOne, HasCause, HasIoCause, sum_of_counts};
 ghost use Rattle.vdev_io.specs.SectorDisk.{Disk, Flush, HasFlags, IsCrash, IsCrashBy, IsSameBut, IsSameSector, KeepsImages, Write, DiskLeftSince, DiskMayLeave, images, is_stopped, told_image};
 ghost use Rattle.vdev_io.specs.DiskLaws.{told_has_len, told_is_left, counts_now, only_now, since_earlier};
@@ -185,7 +185,7 @@ impl CacheDev for SectorDisk {
         ensures told { told_image self.new ≡ told_image self.old }
         ensures size { length (images self.new).now ≡ length (images self.old).now }
         ensures crash { LeavesSame (DiskMayLeave self.old) (DiskMayLeave self.new) }
-        ensures time { Stands (length self.old.calls) (length self.new.calls) (DiskLeftSince self.old) (DiskLeftSince self.new) }
+        ensures time { LeavesNothingNew (length self.old.calls) (length self.new.calls) (DiskLeftSince self.old) (DiskLeftSince self.new) }
         ensures cause { HasCause self.old.faults self.new.faults result }
         ensures fault { CountsFault self.old.faults self.new.faults result }
         ensures stopped { is_err result ≡ is_stopped self.old }
@@ -252,7 +252,7 @@ impl CacheDev for SectorDisk {
         ensures told { told_image self.new ≡ told_image self.old }
         ensures size { length (images self.new).now ≡ length (images self.old).now }
         ensures crash { LeavesSame (DiskMayLeave self.old) (DiskMayLeave self.new) }
-        ensures time { Stands (length self.old.calls) (length self.new.calls) (DiskLeftSince self.old) (DiskLeftSince self.new) }
+        ensures time { LeavesNothingNew (length self.old.calls) (length self.new.calls) (DiskLeftSince self.old) (DiskLeftSince self.new) }
         ensures cause { HasIoCause self.old.faults self.new.faults result }
         ensures fault { CountsIoFault self.old.faults self.new.faults result }
         ensures reads { self.new.reads ≡ self.old.reads }
@@ -272,7 +272,7 @@ impl CacheDev for SectorDisk {
         ensures told { told_image self.new ≡ told_image self.old }
         ensures size { length (images self.new).now ≡ length (images self.old).now }
         ensures crash { LeavesSame (DiskMayLeave self.old) (DiskMayLeave self.new) }
-        ensures time { Stands (length self.old.calls) (length self.new.calls) (DiskLeftSince self.old) (DiskLeftSince self.new) }
+        ensures time { LeavesNothingNew (length self.old.calls) (length self.new.calls) (DiskLeftSince self.old) (DiskLeftSince self.new) }
     {
         self.faults = self.faults.saturating_add(other.faults);
         self.reads = self.reads.saturating_add(other.reads);

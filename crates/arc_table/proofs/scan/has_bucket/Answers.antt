@@ -1,6 +1,6 @@
 use Rattle.std.proofs.Common.{◌≡◌, List, IsTrue, sym, ap, ◌∙◌, subst}
 use Rattle.std.specs.Prelude.{is_some}
-use Rattle.arc_table.specs.declared.hand.Taken.{Taken}
+use Rattle.arc_table.specs.declared.in_hand.Taken.{Taken}
 use Rattle.arc_table.specs.scans.Sparing.{turn_place}
 use Rattle.arc_table.proofs.scans.Spares.{hand_has, hand_lacks}
 use Rattle.arc_table.proofs.scan.has_bucket.Goals as goal

@@ -1,7 +1,7 @@
 use Rattle.std.proofs.Common.{◌≡◌, ◌<◌, length, arith, Option, Some, None, ℕ, List, ◌∷◌, ap, sym, ◌∙◌, subst}
 use Rattle.std.proofs.lemmas.Option.{none-some}
 use Rattle.hash_chain.specs.Chain.{Chain, IsWith, header_at}
-use Rattle.arc_table.specs.declared.hand.Taken.{Taken}
+use Rattle.arc_table.specs.declared.in_hand.Taken.{Taken}
 use Rattle.arc_table.specs.scans.Scanning.{pairs_of}
 use Rattle.arc_table.specs.scans.Sparing.{spared_header, turn_place}
 use Rattle.arc_table.proofs.scans.Spares.{at_first, found_turn, no_turn, past_first, turn_below}

@@ -3,7 +3,7 @@ use Rattle.turn_table.specs.Board.{opening}
 use Rattle.turn_table.specs.Places.{Place}
 use Rattle.turn_examples.specs.declared.refusals.Clerk.{Clerk}
 use Rattle.turn_examples.specs.Refusals.{clerk, Counted}
-use Rattle.turn_examples.specs.RefusalLaws.{gives_other}
+use Rattle.turn_examples.proofs.RefusalLaws.{gives_other}
 use Rattle.turn_examples.proofs.Tallies.{counted_at_first}
 use Rattle.cache_tests.proofs.rules.a_refusal_is_counted_once.Goals as goal
 

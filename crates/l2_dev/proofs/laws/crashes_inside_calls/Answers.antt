@@ -1,5 +1,5 @@
 use Rattle.std.specs.Prelude.{IsTrue}
-use Rattle.l2_dev.specs.InsideLaws.{begin_crashes, commit_crashes, put_crashes}
+use Rattle.l2_dev.proofs.InsideLaws.{begin_crashes, commit_crashes, put_crashes}
 use Rattle.l2_dev.proofs.laws.crashes_inside_calls.Goals as goal
 
 pub returns-clause-begin : goal.returns-clause-begin

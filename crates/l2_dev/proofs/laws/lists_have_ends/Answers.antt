@@ -1,5 +1,5 @@
 use Rattle.std.specs.Prelude.{IsTrue}
-use Rattle.l2_dev.specs.EndLaws.{begin_ends, commit_ends, crashes_are_made, put_ends, start_ends}
+use Rattle.l2_dev.proofs.EndLaws.{begin_ends, commit_ends, crashes_are_made, put_ends, start_ends}
 use Rattle.l2_dev.proofs.laws.lists_have_ends.Goals as goal
 
 pub returns-clause-start : goal.returns-clause-start

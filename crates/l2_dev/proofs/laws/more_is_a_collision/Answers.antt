@@ -1,5 +1,5 @@
 use Rattle.std.specs.Prelude.{IsTrue}
-use Rattle.l2_dev.specs.EndLaws.{more_collides}
+use Rattle.l2_dev.proofs.EndLaws.{more_collides}
 use Rattle.l2_dev.proofs.laws.more_is_a_collision.Goals as goal
 
 pub returns : goal.returns

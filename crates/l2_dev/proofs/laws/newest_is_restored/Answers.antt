@@ -1,4 +1,4 @@
-use Rattle.l2_dev.specs.NewestLaws.{newest_is_restored}
+use Rattle.l2_dev.proofs.NewestLaws.{newest_is_restored}
 use Rattle.l2_dev.proofs.laws.newest_is_restored.Goals as goal
 
 pub returns : goal.returns

@@ -1,4 +1,4 @@
-use Rattle.l2_dev.specs.ReadLaws.{calls_keep, reads_keep}
+use Rattle.l2_dev.proofs.ReadLaws.{calls_keep, reads_keep}
 use Rattle.l2_dev.proofs.laws.reads_keep_promises.Goals as goal
 
 pub returns-clause-same : goal.returns-clause-same

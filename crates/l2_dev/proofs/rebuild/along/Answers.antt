@@ -3,7 +3,7 @@ use Rattle.l2_ring.specs.declared.live.Written.{Written}
 use Rattle.l2_ring.specs.Ring.{numbers_of}
 use Rattle.l2_dev.specs.Chain.{numbers_in}
 use Rattle.l2_dev.specs.Restoring.{firsts, restored_of}
-use Rattle.l2_dev.specs.PromiseLaws.{same_plan}
+use Rattle.l2_dev.proofs.PromiseLaws.{same_plan}
 use Rattle.l2_dev.proofs.Firsts.{restored_keys}
 use Rattle.l2_dev.proofs.Walks.{fit_live}
 use Rattle.l2_dev.proofs.rebuild.along.Goals as goal

@@ -13,7 +13,7 @@ use Rattle.l2_dev.specs.declared.walk.WalkEnd.{WalkEnd}
 use Rattle.l2_dev.specs.declared.walk.WalkEnd.TheVariants as ends
 use Rattle.l2_dev.specs.Asking.{end_reads, visit_read}
 use Rattle.l2_dev.specs.Chain.{IsHeld, IsStop, numbers_in}
-use Rattle.l2_dev.specs.ListLaws.{all_append}
+use Rattle.l2_dev.proofs.ListLaws.{all_append}
 use Rattle.l2_dev.specs.Restoring.{valid_of}
 use Rattle.l2_dev.specs.Walking.{EndsWith, IsFit, visit_of}
 use Rattle.l2_dev.proofs.Walks.{come_nowhere, come_further, come_to_end, end_are_reads, ended_chain, ended_reads, fit_more, reads_err, same_len, rose_from, not_read, read_twice, visit_behind, visits_are_reads, whole_reads}

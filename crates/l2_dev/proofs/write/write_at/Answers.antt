@@ -1,6 +1,6 @@
 use Rattle.vdev_io.specs.Calls.{Write}
 use Rattle.vdev_io.proofs.CallLemmas.{asked_once, makes_write}
-use Rattle.l2_dev.specs.CallLaws.{wrote_once}
+use Rattle.l2_dev.proofs.CallLaws.{wrote_once}
 use Rattle.l2_dev.proofs.write.write_at.Goals as goal
 
 pub returns-clause-wrote : goal.returns-clause-wrote

@@ -3,7 +3,7 @@ use Rattle.std.proofs.lemmas.Result.{err_from_is_err_and}
 use Rattle.vdev_io.specs.Calls.{Flush, Write}
 use Rattle.vdev_io.proofs.CallLemmas.{asked_behind, asked_once, makes_flush, up_to_wider}
 use Rattle.vdev_io.specs.declared.fault.Failed.{Failed}
-use Rattle.l2_dev.specs.CallLaws.{wrote_flushed}
+use Rattle.l2_dev.proofs.CallLaws.{wrote_flushed}
 use Rattle.l2_dev.proofs.Puts.{written_flushed}
 use Rattle.l2_dev.proofs.write.write_through.Goals as goal
 

@@ -2,7 +2,7 @@ use Rattle.std.proofs.Common.{◌≡◌, ℕ, List, drop, length, map, ◌+◌, 
 use Rattle.std.specs.Prelude.{reverse}
 use Rattle.l2_log.specs.Rules.{log_len}
 use Rattle.l2_ring.specs.declared.live.Live.{Live}
-use Rattle.l2_log.specs.declared.entry.Entry.{Entry}
+use Rattle.l2_log.specs.declared.entry.LogEntry.{LogEntry}
 use Rattle.l2_ring.specs.Ring.{IsPlanFor, IsRoom, numbers_of, with_hand}
 use Rattle.l2_ring.specs.Stays.{AreLive}
 use Rattle.l2_dev.specs.Restoring.{written_in}
@@ -45,7 +45,7 @@ pub returns-clause-acts : goal.returns-clause-acts
 returns-clause-acts g c =
     let e = c.clear_all-taken.ensures.acts in
     let old = c.args.l2.now.cursor in
-    let based : old.base ≡ old.ring.hand = subst (λ (es : List Entry). IsRow old.base old.ring.hand (map (written_in old.ring.lap) (reverse es))) c.requires.device.pending c.ring-ring.ensures.kept.row in
+    let based : old.base ≡ old.ring.hand = subst (λ (es : List LogEntry). IsRow old.base old.ring.hand (map (written_in old.ring.lap) (reverse es))) c.requires.device.pending c.ring-ring.ensures.kept.row in
     let n : c.args.bytes + log_len * c.runs_of-runs.result ≡ batch_len c.args.blocks.now = (λ i. c.requires.sum i + log_len * c.runs_of-runs.ensures i) in
     let b : Begins c.args.l2.now.cursor c.begin-begun.new.self.cursor (batch_len c.args.blocks.now) c.args.dropped.now.items c.begin-begun.new.dropped.items c.begin-begun.result =
     record {

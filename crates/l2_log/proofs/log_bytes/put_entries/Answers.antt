@@ -1,7 +1,7 @@
 use Rattle.std.proofs.Common.{◌≡◌, ◌+◌, arith, take, sym, ◌∙◌}
 use Rattle.std.proofs.lemmas.List.{take_more, length-take-le}
 use Rattle.std.proofs.lemmas.List.Elements.{All-get_or, All-take}
-use Rattle.l2_log.specs.declared.entry.Entry.{Entry}
+use Rattle.l2_log.specs.declared.entry.LogEntry.{LogEntry}
 use Rattle.l2_log.specs.Rules.{first_entry, log_len, entry_len, is_there}
 use Rattle.l2_log.proofs.Numbers.{kept_joined}
 use Rattle.l2_log.proofs.EntryRules.{entries_more, kept_entries, next_place}
@@ -11,14 +11,14 @@ pub put_entry-requires-clause-zero : goal.put_entry-requires-clause-zero
 put_entry-requires-clause-zero c =
     let d = c.args.digests in
     let there : is_there c.index-entries-i.result.digest ≡ d =
-    rw c.index-entries-i.is (All-get_or (λ (entry : Entry). is_there entry.digest ≡ d) c.args.entries.now c.loop-i.i c.index-entries-i.result c.loop-i-test.true c.requires.told) in
+    rw c.index-entries-i.is (All-get_or (λ (entry : LogEntry). is_there entry.digest ≡ d) c.args.entries.now c.loop-i.i c.index-entries-i.result c.loop-i-test.true c.requires.told) in
     rw there (λ k ge lt. c.loop-i.invariant.zeros k (omega arith) (omega (arith, c.entry_place.ensures.whole)))
 
 pub loop-i-preserved : goal.loop-i-preserved
 loop-i-preserved c =
     let i = c.loop-i.i in
     let d = c.args.digests in
-    let P = λ (entry : Entry). is_there entry.digest ≡ d in
+    let P = λ (entry : LogEntry). is_there entry.digest ≡ d in
     let there : is_there c.index-entries-i.result.digest ≡ d =
     rw c.index-entries-i.is (All-get_or P c.args.entries.now i c.index-entries-i.result c.loop-i-test.true c.requires.told) in
     let before = take i c.args.entries.now in

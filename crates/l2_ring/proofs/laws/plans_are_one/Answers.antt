@@ -1,4 +1,4 @@
-use Rattle.l2_ring.specs.RangeLaws.{plans_are_one}
+use Rattle.l2_ring.proofs.RangeLaws.{plans_are_one}
 use Rattle.l2_ring.proofs.laws.plans_are_one.Goals as goal
 
 pub returns : goal.returns

@@ -3,7 +3,7 @@ use Rattle.turn_table.specs.Places.{Place}
 use Rattle.turn_examples.specs.declared.histories.Writer.{Writer}
 use Rattle.turn_table.specs.Histories.{front_of}
 use Rattle.turn_table.proofs.Histories.{front_here}
-use Rattle.turn_examples.specs.HistoryLaws.{appends, returns_same}
+use Rattle.turn_examples.proofs.HistoryLaws.{appends, returns_same}
 use Rattle.turn_examples.proofs.histories.append.Goals as goal
 
 pub give-requires-clause-rule : goal.give-requires-clause-rule

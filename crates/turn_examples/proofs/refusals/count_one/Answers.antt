@@ -2,7 +2,7 @@ use Rattle.std.proofs.Common.{◌≡◌, ◌+◌, ◌≤◌, length, ap, arith}
 use Rattle.turn_table.specs.Places.{Place}
 use Rattle.turn_examples.specs.declared.refusals.Clerk.{Clerk}
 use Rattle.turn_examples.specs.Refusals.{clerk}
-use Rattle.turn_examples.specs.RefusalLaws.{gives_count}
+use Rattle.turn_examples.proofs.RefusalLaws.{gives_count}
 use Rattle.turn_examples.proofs.refusals.count_one.Goals as goal
 
 pub give-requires-clause-rule : goal.give-requires-clause-rule

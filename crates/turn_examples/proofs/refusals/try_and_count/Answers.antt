@@ -1,7 +1,7 @@
 use Rattle.std.proofs.Common.{◌∷◌, [], refl, arith, length-append}
 use Rattle.turn_table.specs.Places.{Place}
 use Rattle.turn_examples.specs.declared.refusals.Clerk.{Clerk}
-use Rattle.turn_examples.specs.RefusalLaws.{gives_other}
+use Rattle.turn_examples.proofs.RefusalLaws.{gives_other}
 use Rattle.turn_examples.proofs.refusals.try_and_count.Goals as goal
 
 pub give-requires-clause-rule : goal.give-requires-clause-rule

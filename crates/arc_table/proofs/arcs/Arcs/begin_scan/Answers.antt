@@ -2,7 +2,7 @@ use Rattle.std.proofs.Common.{◌≡◌, ◌<◌, [], sym, ap, ◌∙◌, subst,
 use Rattle.arc_core.specs.ShardLog.{ShardLog}
 use Rattle.arc_core.specs.Step.{legal}
 use Rattle.arc_table.specs.declared.both.Both.{Both}
-use Rattle.arc_table.specs.declared.hand.Taken.{Taken}
+use Rattle.arc_table.specs.declared.in_hand.Taken.{Taken}
 use Rattle.arc_table.specs.declared.scan.Scan.{Scan}
 use Rattle.arc_table.specs.scans.Evicting.{MayBegin}
 use Rattle.arc_table.specs.Items.{Meanings, meanings}

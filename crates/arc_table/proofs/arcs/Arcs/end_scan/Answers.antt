@@ -6,7 +6,7 @@ use Rattle.arc_core.specs.declared.event.Event.{Event}
 use Rattle.arc_core.specs.ShardLog.{ShardLog}
 use Rattle.hash_chain.specs.Chain.{Chain}
 use Rattle.turn_table.specs.Places.{Place, gave_back}
-use Rattle.arc_table.specs.declared.hand.Hand.{Hand}
+use Rattle.arc_table.specs.declared.in_hand.Hand.{Hand}
 use Rattle.arc_table.specs.declared.view.Known.{Known}
 use Rattle.arc_table.specs.Cache.{Cache, IsPartyOf}
 use Rattle.arc_table.specs.scans.Ending.{HasMade}

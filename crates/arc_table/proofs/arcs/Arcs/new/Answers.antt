@@ -3,7 +3,7 @@ use Rattle.turn_table.specs.Board.{opening, numbered}
 use Rattle.arc_table.specs.Geometry.{parties_of}
 use Rattle.arc_table.specs.Items.{Meanings, meanings}
 use Rattle.arc_table.specs.opening.Opening.{about_of}
-use Rattle.arc_table.specs.opening.OpeningLaws.{opens}
+use Rattle.arc_table.proofs.OpeningLaws.{opens}
 use Rattle.arc_table.specs.pact.Rule.{Pact}
 use Rattle.arc_table.specs.Views.{newcomer}
 use Rattle.arc_table.proofs.arcs.Arcs.new.Goals as goal

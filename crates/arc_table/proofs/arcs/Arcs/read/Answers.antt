@@ -2,7 +2,7 @@ use Rattle.std.proofs.Common.{ℕ, zero, suc, refl, sym, ap, ◌∙◌, subst, a
 use Rattle.blk_ptr.specs.declared.key.Key.{Key}
 use Rattle.blk_ptr.specs.declared.key.KeyFault.{KeyFault}
 use Rattle.blk_ptr.specs.declared.key.KeyFault.TheVariants as fault
-use Rattle.blk_ptr.specs.Key.{IsFirstFault, IsValid}
+use Rattle.blk_ptr.specs.Key.{IsFirstKeyFault, IsValid}
 use Rattle.arc_core.specs.declared.config.Config.{Config}
 use Rattle.turn_table.specs.Board.{IsAmong}
 use Rattle.turn_table.specs.Places.{Place}
@@ -14,7 +14,7 @@ use Rattle.arc_table.proofs.reads.Readers.{waits_not}
 use Rattle.arc_table.proofs.arcs.Arcs.read.Goals as goal
 
 -- a key that fails a test is not valid
-not_valid : (len : ℕ) (k : Key) (why : KeyFault) → IsFirstFault len k why → IsValid len k → ⊥
+not_valid : (len : ℕ) (k : Key) (why : KeyFault) → IsFirstKeyFault len k why → IsValid len k → ⊥
 not_valid len k (fault.Unaligned) first valid = first valid.formed.aligned
 not_valid len k (fault.Size) first valid = first.1 valid.formed.sized
 not_valid len k (fault.OutOfPool end n) first valid = let a = first.4 in let b = valid.inside in omega arith
@@ -26,11 +26,11 @@ waits_first m g k p q first zero r w = (p, refl, subst (FindsReading m g k p) (s
 waits_first m g k p q first (suc times) r w = (w.0, waits_first m g k p q first times w.0 w.1, w.2)
 
 pub returns-in-Err-clause-answer : goal.returns-in-Err-clause-answer
-returns-in-Err-clause-answer g c = refused c.in-Err.fault refl (subst (λ (n : ℕ). IsFirstFault n c.args.ptr.now.key c.in-Err.fault) c.len.ensures c.in-Err.ensures.valid) refl refl
+returns-in-Err-clause-answer g c = refused c.in-Err.fault refl (subst (λ (n : ℕ). IsFirstKeyFault n c.args.ptr.now.key c.in-Err.fault) c.len.ensures c.in-Err.ensures.valid) refl refl
 
 pub returns-in-Err-clause-alone : goal.returns-in-Err-clause-alone
 returns-in-Err-clause-alone g c none valid =
-    absurd (not_valid (g.P.Pool.size c.args.pool.now) c.args.ptr.now.key c.in-Err.fault (subst (λ (n : ℕ). IsFirstFault n c.args.ptr.now.key c.in-Err.fault) c.len.ensures c.in-Err.ensures.valid) valid)
+    absurd (not_valid (g.P.Pool.size c.args.pool.now) c.args.ptr.now.key c.in-Err.fault (subst (λ (n : ℕ). IsFirstKeyFault n c.args.ptr.now.key c.in-Err.fault) c.len.ensures c.in-Err.ensures.valid) valid)
 
 pub read_round-requires-clause-valid : goal.read_round-requires-clause-valid
 read_round-requires-clause-valid g c κs within = subst (λ (n : ℕ). IsValid n c.args.ptr.now.key) c.len.ensures c.in_default.ensures.valid.1

@@ -1,7 +1,7 @@
 use Rattle.std.proofs.Common.{refl, subst}
 use Rattle.arc_core.specs.PlainShard.{entry_of}
 use Rattle.hash_chain.specs.Chain.{header_at}
-use Rattle.arc_table.specs.declared.hand.Taken.{Taken}
+use Rattle.arc_table.specs.declared.in_hand.Taken.{Taken}
 use Rattle.arc_table.specs.declared.item.Item.TheVariants as item
 use Rattle.arc_table.specs.Geometry.{bucket_turn}
 use Rattle.arc_table.specs.pact.Headed.{IsHead}

@@ -3,7 +3,7 @@ use Rattle.l2_ring.specs.declared.plan.Plan.{Plan}
 use Rattle.l2_ring.specs.declared.live.Written.{Written}
 use Rattle.l2_ring.specs.Ring.{numbers_of, with_hand}
 use Rattle.l2_ring.specs.Stays.{AreLive}
-use Rattle.l2_dev.specs.PromiseLaws.{same_plan}
+use Rattle.l2_dev.proofs.PromiseLaws.{same_plan}
 use Rattle.l2_dev.proofs.Cursors.{at_rest, row_up}
 use Rattle.l2_dev.proofs.cursor.Cursor.forget.Goals as goal
 

@@ -1,5 +1,5 @@
 use Rattle.std.proofs.Common.{refl, ap, ◌∙◌, List, length}
-use Rattle.l2_log.specs.declared.entry.Entry.{Entry}
+use Rattle.l2_log.specs.declared.entry.LogEntry.{LogEntry}
 use Rattle.l2_dev.proofs.cursor.Cursor.write_block.Goals as goal
 
 pub returns-clause-block : goal.returns-clause-block
@@ -14,7 +14,7 @@ returns-clause-block c =
         prev = refl;
         entries = entries;
         place = c.hand.ensures.hand;
-        count = c.write-written.ensures.count ∙ ap (λ (es : List Entry). length es) entries;
+        count = c.write-written.ensures.count ∙ ap (λ (es : List LogEntry). length es) entries;
         digest = c.write-written.ensures.digest;
       },
     )

@@ -7,8 +7,8 @@ use Rattle.l2_ring.specs.declared.live.Written.{Written}
 use Rattle.l2_ring.specs.Ring.{RingState}
 use Rattle.l2_dev.specs.declared.fault.DevErr.{DevErr}
 use Rattle.l2_dev.specs.Calls.{put_entry}
-use Rattle.l2_dev.specs.CallLaws.{ring_crash, ring_forgets, put_kept}
-use Rattle.l2_dev.specs.TornLaws.{EntriesAside}
+use Rattle.l2_dev.proofs.CallLaws.{ring_crash, ring_forgets, put_kept}
+use Rattle.l2_dev.proofs.TornLaws.{EntriesAside}
 use Rattle.l2_dev.proofs.Begins.{flushed_of}
 use Rattle.l2_dev.proofs.Puts.{asks_err, pending_aside, put_writes, put_of, forgotten_of, written_ok, written_err}
 use Rattle.l2_dev.proofs.device.L2Dev.put.Goals as goal

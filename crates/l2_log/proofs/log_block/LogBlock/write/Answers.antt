@@ -1,5 +1,5 @@
 use Rattle.std.proofs.Common.{ℕ, ◌*◌, ◌<◌, length, List, ap, arith, ◌∙◌}
-use Rattle.l2_log.specs.declared.entry.Entry.{Entry}
+use Rattle.l2_log.specs.declared.entry.LogEntry.{LogEntry}
 use Rattle.l2_log.proofs.Numbers.{kept_word, kept_zeros, kept_zeros_behind}
 use Rattle.l2_log.proofs.Pointers.{kept_pointer}
 use Rattle.l2_log.proofs.Logs.{one_log_block}
@@ -16,7 +16,7 @@ returns-clause-spelled c =
       whole = omega arith;
       magic = numbers 0 (omega arith);
       lap = numbers 1 (omega arith);
-      count = numbers 2 (omega arith) ∙ ap (λ (es : List Entry). length es) c.as_slice-entries.ensures.entries;
+      count = numbers 2 (omega arith) ∙ ap (λ (es : List LogEntry). length es) c.as_slice-entries.ensures.entries;
       version = numbers 3 (omega arith) ∙ c.stored_of.ensures;
       zeros = kept_zeros 32 64 ke (omega arith) (kept_zeros 32 64 kb (omega arith)
           (kept_zeros_behind 32 64 ka (omega arith) (λ k ge lt. c.clear.ensures k (omega arith) (omega arith))));

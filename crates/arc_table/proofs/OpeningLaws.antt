@@ -31,8 +31,10 @@ use Rattle.arc_table.specs.opening.Opening.{AreFresh, AreFreshCells, IsFresh, Is
 use Rattle.arc_table.specs.pact.Rule.{Pact}
 use Rattle.arc_table.specs.pact.Scene.{Scene}
 use Rattle.arc_table.specs.Views.{newcomer, no_ledger}
-use Rattle.arc_table.specs.pact.AttachedLaws.{free_taken, free_same}
-use Rattle.arc_table.specs.TableLaws.{there, within}
+use Rattle.arc_table.specs.pact.AttachedLaws.{free_taken}
+use Rattle.arc_table.proofs.AttachedLaws.{free_same}
+use Rattle.arc_table.specs.TableLaws.{within}
+use Rattle.arc_table.proofs.TableLaws.{there}
 
 -- ---- a shard at its start is sound
 

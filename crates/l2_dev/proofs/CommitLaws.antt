@@ -9,12 +9,12 @@ use Rattle.l2_ring.specs.declared.plan.Plan.{Plan}
 use Rattle.l2_ring.specs.Ring.{with_hand}
 use Rattle.l2_ring.specs.Stays.{stays}
 use Rattle.l2_ring.specs.Ranges.{Range, Stays, IsOlder, IsInOrder, range_of}
-use Rattle.l2_ring.specs.PlanLaws.{stays_tells, tells_stays, stays_further, older_than_new, stays_beside}
+use Rattle.l2_ring.proofs.PlanLaws.{stays_tells, tells_stays, stays_further, older_than_new, stays_beside}
 use Rattle.l2_dev.specs.Chain.{Visit}
 use Rattle.l2_dev.specs.Restoring.{valid_of, found_in, told_by, is_valid}
 use Rattle.l2_dev.specs.Standing.{IsOrderly, passed_ranges, block_range, IsRow}
-use Rattle.l2_dev.specs.ListLaws.{filter_alike, filter_whole, all_passes, all_append, all_map, all_weaker}
-use Rattle.l2_dev.specs.StandingLaws.{BlocksStay, told_lap}
+use Rattle.l2_dev.proofs.ListLaws.{filter_alike, filter_whole, all_passes, all_append, all_map, all_weaker}
+use Rattle.l2_dev.proofs.StandingLaws.{BlocksStay, told_lap}
 
 -- two tests that follow from each other are one
 pub same_test : (a b : Bool) → (a ≡ true → b ≡ true) → (b ≡ true → a ≡ true) → a ≡ b

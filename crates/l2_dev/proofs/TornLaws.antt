@@ -12,7 +12,7 @@ use Rattle.l2_log.proofs.Numbers.{part_from_same}
 use Rattle.l2_dev.specs.Chain.{Visit, IsHeld, bytes_at}
 use Rattle.l2_dev.specs.Restoring.{first_sector}
 use Rattle.l2_dev.specs.Standing.{Candidate, Kept, IsKeptIn, IsLeftBy}
-use Rattle.l2_dev.specs.ListLaws.{all_two}
+use Rattle.l2_dev.proofs.ListLaws.{all_two}
 
 -- a range beside the one that is written
 abbrev pub IsAside : ℕ → ℕ → ℕ → ℕ → Type 0

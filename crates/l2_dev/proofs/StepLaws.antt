@@ -7,16 +7,16 @@ use Rattle.l2_log.specs.Rules.{ring_start, log_len, header_len}
 use Rattle.l2_log.specs.declared.header.DevHeader.{DevHeader}
 use Rattle.l2_ring.specs.declared.plan.Plan.{Plan}
 use Rattle.l2_ring.specs.Ranges.{Stays}
-use Rattle.l2_ring.specs.PlanLaws.{written_aside}
+use Rattle.l2_ring.proofs.PlanLaws.{written_aside}
 use Rattle.l2_dev.specs.Chain.{Visit, IsHeld, IsPlaced, IsPassed}
 use Rattle.l2_dev.specs.Restoring.{first_sector}
 use Rattle.l2_dev.specs.Standing.{Candidate, Kept, IsCandidate, IsKeptIn, IsLeftBy, Rebuilds, AnyOf, block_range}
 use Rattle.l2_dev.specs.Cursor.{CursorState, numbers_from}
 use Rattle.l2_dev.specs.Promise.{Promise, IsUpheld, IsBacked, IsOf, LeftAmong, LeavesOnlyWith, kept_range}
 use Rattle.l2_dev.specs.Steps.{TornFrom, Wrote}
-use Rattle.l2_dev.specs.TornLaws.{IsAside, BlocksAside, EntriesAside, left_aside, all_held_aside, all_kept_aside, sector_torn}
-use Rattle.l2_dev.specs.ListLaws.{all_weaker}
-use Rattle.l2_dev.specs.RebuildLaws.{left_rebuilds}
+use Rattle.l2_dev.proofs.TornLaws.{IsAside, BlocksAside, EntriesAside, left_aside, all_held_aside, all_kept_aside, sector_torn}
+use Rattle.l2_dev.proofs.ListLaws.{all_weaker}
+use Rattle.l2_dev.proofs.RebuildLaws.{left_rebuilds}
 
 pub any_two : {X : Type 0} (P Q R : X → Type 0) (xs : List X) → ((x : X) → P x → Q x → R x) → AnyOf P xs → AllByRecursion Q xs → AnyOf R xs
 any_two P Q R [] f any all = any

@@ -18,13 +18,14 @@ use Rattle.l2_dev.specs.Restoring.{first_sector, written_in, firsts, found_in}
 use Rattle.l2_dev.specs.Standing.{Candidate, Kept, written_of, IsNamed, IsCandidate, IsKeptIn, IsLeftBy, AnyOf, IsOrderly, leading, staying}
 use Rattle.l2_dev.specs.Cursor.{CursorState, numbers_from}
 use Rattle.l2_dev.specs.Promise.{Promise, IsUpheld, IsBacked, IsOf, AreGood, KeepsPromise, LeftAmong, LeavesOnlyWith, Covers, kept_range}
-use Rattle.l2_dev.specs.PromiseLaws.{left_by, with_block, HasTaken, taken_upheld, taken_covers, HasCommitted, committed_upheld, IsHeaderFrom, upheld_named, kept_inside}
+use Rattle.l2_dev.specs.PromiseLaws.{left_by, with_block, IsHeaderFrom}
+use Rattle.l2_dev.proofs.PromiseLaws.{HasTaken, taken_upheld, taken_covers, HasCommitted, committed_upheld, upheld_named, kept_inside}
 use Rattle.l2_dev.specs.Steps.{TornFrom, Wrote, HasFlushed}
-use Rattle.l2_dev.specs.StepLaws.{backed_in_ring, backed_by_header, blocks_behind, entries_behind, left_among, leaves_from, leaves_on, leaves_wider}
-use Rattle.l2_dev.specs.StandingLaws.{leading_all}
+use Rattle.l2_dev.proofs.StepLaws.{backed_in_ring, backed_by_header, blocks_behind, entries_behind, left_among, leaves_from, leaves_on, leaves_wider}
+use Rattle.l2_dev.proofs.StandingLaws.{leading_all}
 use Rattle.l2_ring.specs.Stays.{stays}
-use Rattle.l2_dev.specs.TornLaws.{BlocksAside, EntriesAside, all_kept_aside, put_torn, put_there}
-use Rattle.l2_dev.specs.ListLaws.{filter_all, all_weaker, all_append, all_right}
+use Rattle.l2_dev.proofs.TornLaws.{BlocksAside, EntriesAside, all_kept_aside, put_torn, put_there}
+use Rattle.l2_dev.proofs.ListLaws.{filter_all, all_weaker, all_append, all_right}
 use Rattle.l2_dev.specs.Calls.{LeavesWith, forgotten, with_put}
 
 told_written : {T E : Type 0} (at : ℕ) (bytes : List ℕ) (old new : Option (List ℕ)) (result : Result T E) → IsWritten at bytes old new result

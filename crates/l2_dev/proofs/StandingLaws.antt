@@ -14,11 +14,11 @@ use Rattle.l2_ring.specs.declared.plan.Plan.{Plan}
 use Rattle.l2_ring.specs.Ring.{RingState, IsPlanFor, numbers_of, last_lap}
 use Rattle.l2_ring.specs.Stays.{stays, stays_at}
 use Rattle.l2_ring.specs.Ranges.{Range, Stays, IsOlder, IsInOrder, range_of}
-use Rattle.l2_ring.specs.PlanLaws.{stays_tells, tells_stays, stayed_before, older_falls, logs_fit}
+use Rattle.l2_ring.proofs.PlanLaws.{stays_tells, tells_stays, stayed_before, older_falls, logs_fit}
 use Rattle.l2_dev.specs.Chain.{Visit, IsPassed, IsLinked, numbers_in, ring_len}
 use Rattle.l2_dev.specs.Restoring.{valid_of, found_in, told_by, written_in, is_valid}
 use Rattle.l2_dev.specs.Standing.{IsOrderly, passed_ranges, block_range, leading}
-use Rattle.l2_dev.specs.ListLaws.{FailsOn, filter_yes, filter_none, filter_alike, filter_both, filter_all, all_append, all_left, all_right, all_weaker, all_two, all_map, all_unmap, map_filter}
+use Rattle.l2_dev.proofs.ListLaws.{FailsOn, filter_yes, filter_none, filter_alike, filter_both, filter_all, all_append, all_left, all_right, all_weaker, all_two, all_map, all_unmap, map_filter}
 
 -- the test whether a plan keeps a range
 abbrev pub keeps : Plan → Range → Bool

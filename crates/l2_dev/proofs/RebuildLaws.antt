@@ -17,11 +17,11 @@ use Rattle.l2_ring.specs.declared.plan.Plan.{Plan}
 use Rattle.arc_core.specs.declared.served.Restored.{Restored}
 use Rattle.l2_dev.specs.declared.stop.Stop.{Stop}
 use Rattle.l2_dev.specs.Chain.{Visit, IsHeld, IsChain, numbers_in, pointer_behind, ring_len}
-use Rattle.l2_dev.specs.ChainLaws.{begins_with, linked_next}
+use Rattle.l2_dev.proofs.ChainLaws.{begins_with, linked_next}
 use Rattle.l2_dev.specs.Restoring.{found_in, valid_of, firsts, is_same_key, restored_of, restored_from, IsHeaderOf, IsRefused, IsBare}
 use Rattle.l2_dev.specs.Standing.{Candidate, Kept, written_of, IsCandidate, IsLeftBy, IsRestoredBy, Rebuilds, restored_by, AnyOf}
-use Rattle.l2_dev.specs.StandingLaws.{standing_fits, block_stays}
-use Rattle.l2_dev.specs.ListLaws.{firsts_prefix, all_right}
+use Rattle.l2_dev.proofs.StandingLaws.{standing_fits, block_stays}
+use Rattle.l2_dev.proofs.ListLaws.{firsts_prefix, all_right}
 
 -- what is restored of log blocks that begin with others
 restored_front : (numbers : Plan) (vs rest : List Visit) → (more : List Restored) × (restored_from numbers (vs ++ rest) ≡ restored_from numbers vs ++ more)
