@@ -300,14 +300,6 @@ impl Shard {
         &self.history
     }
 
-    /// Gives the events so far away, and the shard with its entries goes.
-    pub fn into_history(self) -> Vec<Event>
-        ensures { result.items ≡ self.history }
-    {
-        let Shard { history, .. } = self;
-        history
-    }
-
     /// What is known of a key.
     pub fn entry(&self, key: Key) -> Option<EntryView>
         ensures { result ≡ option_map view_of (entry_of key self.now.now) }

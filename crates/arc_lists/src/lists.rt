@@ -18,7 +18,6 @@ use crate::queues::{Queues, oldest};
 use crate::sizes::Sizes;
 use crate::target;
 use blk_ptr::{Key, NoMemory, State};
-use key_table::NO_PLACE;
 use std::alloc::Global;
 use std::marker::Model;
 
@@ -132,17 +131,8 @@ impl Lists {
     }
 
     /// Gives a key a state: it leaves the sequence on which it stands, and where it is unheld and the state has a sequence, it stands
-    /// at that sequence's head (`arc_change_state` of OpenZFS's `arc.c`).
-    #[inline(always)]
-    pub fn change_state(&mut self, key: Key, s: State, unheld: bool)
-        requires there { IsSome (item_at member_key key self.old.members) }
-        requires size { IsBlockSize key.size }
-        ensures { self.new ≡ put key s unheld (take_out key self.old) }
-    {
-        self.change_state_near(NO_PLACE, key, s, unheld);
-    }
-
-    /// Gives a key a state as `change_state` does. `near` is where the key's row stood among the members, and may be any number.
+    /// at that sequence's head (`arc_change_state` of OpenZFS's `arc.c`). `near` is where the key's row stood among the members, and
+    /// may be any number.
     #[inline(always)]
     pub fn change_state_near(&mut self, near: usize, key: Key, s: State, unheld: bool)
         requires there { IsSome (item_at member_key key self.old.members) }
@@ -156,26 +146,6 @@ impl Lists {
         self.queues.leave(before.state, before.at);
         let at = self.queues.enter(s, key, unheld);
         *standing = Standing { state: s, at };
-    }
-
-    /// Puts a key that stands on no sequence at the head of its state's sequence.
-    pub fn free(&mut self, key: Key)
-        requires { IsBound key self.old }
-        ensures { self.new ≡ freed key self.old }
-    {
-        let Standing { state, at: _ } = self.members.find(key);
-        let at = self.queues.put_at_head(state, key);
-        let _ = self.members.set(key, Standing { state, at });
-    }
-
-    /// Takes a key off its sequence.
-    pub fn bind(&mut self, key: Key)
-        requires { IsTrue (stands key self.old.sequences) }
-        ensures { self.new ≡ record self.old { sequences = taken_off key self.old.sequences } }
-    {
-        let Standing { state, at } = self.members.find(key);
-        self.queues.leave(state, at);
-        let _ = self.members.set(key, Standing { state, at: None });
     }
 
     /// How many bytes the keys of a state have together, whether they stand on its sequence or not.

@@ -104,13 +104,4 @@ impl Members {
     {
         self.rows.remove(&Name(key))
     }
-
-    /// Gives a key that is there another standing, and answers the one that it had.
-    pub fn set(&mut self, key: Key, standing: Standing) -> Standing
-        requires { IsSome (item_at post_key key self.old.posts) }
-        ensures standing { item_at post_key key self.old.posts ≡ Some (post key result) }
-        ensures posts { self.new ≡ record self.old { posts = with_change post_key key (λ _. post key standing) self.old.posts } }
-    {
-        self.rows.set(&Name(key), standing)
-    }
 }

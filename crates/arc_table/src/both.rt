@@ -19,9 +19,9 @@ ghost use Rattle.turn_table.specs.Taken.{IfBusy, IfTaken};
 
 use crate::arcs::{Arcs, Party};
 use crate::gives;
-use crate::in_hand::{Hand, Taken};
 use crate::headers::find_ready;
 use crate::heap_shard::HeapShard;
+use crate::in_hand::{Hand, Taken};
 use crate::item::Item;
 use crate::looking::bucket_turn_of;
 use arc_core::{Config, Keeps};

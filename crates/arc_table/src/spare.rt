@@ -11,8 +11,8 @@ ghost use Rattle.arc_table.specs.InHand.{buckets_of};
 ghost use Rattle.arc_table.specs.scans.Scanning.{AllPairs, AreApart};
 ghost use Rattle.arc_table.specs.scans.Sparing.{AreHeadsBut, spared_header, turn_place, turns_in, with_bucket};
 
-use crate::in_hand::{Hand, Taken};
 use crate::heap_bucket::HeapBucket;
+use crate::in_hand::{Hand, Taken};
 use crate::looking::bucket_turn_of;
 use arc_core::{Config, EntryView, Shard};
 use blk_ptr::{Key, State};

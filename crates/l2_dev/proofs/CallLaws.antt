@@ -8,7 +8,7 @@ use Rattle.vdev_io.specs.Device.{IsTornBySector, IsWritten, LeavesNoMore, Follow
 use Rattle.l2_log.specs.Rules.{ring_start, log_len, header_len}
 use Rattle.l2_log.specs.HeaderBytes.{IsHeader}
 use Rattle.l2_log.specs.declared.header.DevHeader.{DevHeader}
-use Rattle.l2_log.specs.declared.entry.Entry.{Entry}
+use Rattle.l2_log.specs.declared.entry.LogEntry.{LogEntry}
 use Rattle.l2_log.specs.declared.pointer.LogPtr.{LogPtr}
 use Rattle.l2_ring.specs.declared.live.Written.{Written}
 use Rattle.l2_ring.specs.declared.plan.Plan.{Plan}
@@ -127,7 +127,7 @@ module _ {D : Type 0} (tells : D → Option (List ℕ)) (has_sectors : D → Boo
         in_order = up.in_order;
         some = up.some;
         live = f.live ∙ up.live;
-        pending = ap (λ (es : List Entry). map (written_in new.ring.lap) (reverse es)) (sym f.pending);
+        pending = ap (λ (es : List LogEntry). map (written_in new.ring.lap) (reverse es)) (sym f.pending);
       }
 
   pub not_ready : (cursor : CursorState) (P : Type 0) → cursor.ready ≡ false → cursor.ready ≡ true → P

@@ -7,7 +7,7 @@ use Rattle.l2_log.specs.Rules.{ring_start, log_len}
 use Rattle.l2_log.specs.HeaderBytes.{IsHeader}
 use Rattle.l2_log.specs.declared.header.DevHeader.{DevHeader}
 use Rattle.l2_log.specs.declared.pointer.LogPtr.{LogPtr}
-use Rattle.l2_log.specs.declared.entry.Entry.{Entry}
+use Rattle.l2_log.specs.declared.entry.LogEntry.{LogEntry}
 use Rattle.l2_ring.specs.declared.live.Written.{Written}
 use Rattle.l2_ring.specs.declared.plan.Plan.{Plan}
 use Rattle.l2_ring.specs.Ring.{RingState, IsPlanFor, HasPlan, numbers_of, with_hand, last_lap}
@@ -118,7 +118,7 @@ taken_upheld n plan old new p candidates t up =
       some = filter_all (λ (k : Kept). 0 < k.written.live.key.size) (λ k. stays plan k.written) p.kept up.some;
       live = t.live ∙ ap (λ (ws : List Written). filter (stays plan) ws) up.live ∙ filter_reverse (stays plan) (map written_of p.kept)
           ∙ ap (λ (ws : List Written). reverse ws) (sym filtered);
-      pending = ap (λ (es : List Entry). map (written_in new.ring.lap) (reverse es)) (sym t.pending);
+      pending = ap (λ (es : List LogEntry). map (written_in new.ring.lap) (reverse es)) (sym t.pending);
     }
 
 -- and all that was restored restores what the plan leaves
@@ -183,7 +183,7 @@ committed_numbers v old new h =
 committed_told : (v : Visit) (old new : CursorState) (p : Promise) → HasCommitted v old new → IsUpheld old p → told_by v ≡ map written_of p.pending
 committed_told v old new p h up =
     ap (λ (lap : ℕ). map (written_in lap) (reverse v.block.entries)) h.fresh.lap
-    ∙ ap (λ (es : List Entry). map (written_in old.ring.lap) (reverse es)) h.entries ∙ sym up.pending
+    ∙ ap (λ (es : List LogEntry). map (written_in old.ring.lap) (reverse es)) h.entries ∙ sym up.pending
 
 reversed_pending : (cursor : CursorState) (p : Promise) → IsUpheld cursor p → reverse (map written_of p.pending) ≡ map (written_in cursor.ring.lap) cursor.pending
 reversed_pending cursor p up =
@@ -231,5 +231,5 @@ committed_upheld v old new p candidates h up =
           ∙ ap (λ (ws : List Written). reverse (map written_of p.kept) ++ ws) (sym (reversed_pending old p up))
           ∙ sym (reverse-append (map written_of p.pending) (map written_of p.kept))
           ∙ ap (λ (ws : List Written). reverse ws) (sym (map-append written_of p.pending p.kept));
-      pending = ap (λ (es : List Entry). map (written_in new.ring.lap) (reverse es)) (sym h.pending);
+      pending = ap (λ (es : List LogEntry). map (written_in new.ring.lap) (reverse es)) (sym h.pending);
     }

@@ -6,7 +6,7 @@ use Rattle.std.proofs.lemmas.List.{length-map}
 use Rattle.std.proofs.lemmas.List.Elements.{filter-append}
 use Rattle.std.specs.List.{AllByRecursion, filter}
 use Rattle.l2_log.specs.Rules.{log_len}
-use Rattle.l2_log.specs.declared.entry.Entry.{Entry}
+use Rattle.l2_log.specs.declared.entry.LogEntry.{LogEntry}
 use Rattle.l2_log.specs.declared.pointer.LogPtr.{LogPtr}
 use Rattle.l2_log.specs.declared.header.DevHeader.{DevHeader}
 use Rattle.l2_ring.specs.declared.live.Written.{Written}
@@ -80,14 +80,14 @@ ordered_left [] ys ordered = tt
 ordered_left (x ∷ xs) ys ordered = (all_left (IsOlder x) xs ys ordered.0, ordered_left xs ys ordered.1)
 
 -- entries have some bytes
-entry_bytes : (lap : ℕ) (es : List Entry) → AllByRecursion (λ (w : Written). 0 < w.live.key.size) (map (written_in lap) es)
+entry_bytes : (lap : ℕ) (es : List LogEntry) → AllByRecursion (λ (w : Written). 0 < w.live.key.size) (map (written_in lap) es)
 entry_bytes lap [] = tt
 entry_bytes lap (e ∷ es) = let sized = e.formed.sized.1 in (omega arith, entry_bytes lap es)
 
 pub told_bytes : (v : Visit) → AllByRecursion (λ (w : Written). 0 < w.live.key.size) (told_by v)
 told_bytes v = entry_bytes v.block.lap (reverse v.block.entries)
 
-told_lap_of : (lap : ℕ) (es : List Entry) → AllByRecursion (λ (w : Written). w.lap ≡ lap) (map (written_in lap) es)
+told_lap_of : (lap : ℕ) (es : List LogEntry) → AllByRecursion (λ (w : Written). w.lap ≡ lap) (map (written_in lap) es)
 told_lap_of lap [] = tt
 told_lap_of lap (e ∷ es) = (refl, told_lap_of lap es)
 

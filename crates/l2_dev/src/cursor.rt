@@ -8,7 +8,7 @@ ghost use Rattle.l2_ring.specs.Ring.{IsRoom, IsPlan, IsPlanFor, HasPlan, IsLower
 ghost use Rattle.l2_ring.specs.Stays.{stays, falls, live_of};
 
 use blk_ptr::NoMemory;
-use l2_log::{DevHeader, Entries, LogEntry, LOG_LEN, LogBlock, LogPtr, VERSION};
+use l2_log::{DevHeader, Entries, LOG_LEN, LogBlock, LogEntry, LogPtr, VERSION};
 use l2_ring::{Live, Plan, Ring};
 use std::alloc::Global;
 use std::marker::Model;

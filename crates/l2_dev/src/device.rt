@@ -19,7 +19,7 @@ use crate::cursor::Cursor;
 use crate::fault::DevErr;
 use crate::write::{write_at, write_header, write_through};
 use blk_ptr::{Block, Key};
-use l2_log::{LogEntry, LOG_LEN, LogPtr};
+use l2_log::{LOG_LEN, LogEntry, LogPtr};
 use l2_ring::{Live, Ring};
 use std::alloc::Global;
 use vdev_io::CacheDev;

@@ -17,7 +17,7 @@ ghost use Rattle.l2_dev.specs.declared.walk.WalkEnd.TheVariants as ends;
 
 use crate::stop::Stop;
 use blk_ptr::{NoMemory, SECTOR, digest_of};
-use l2_log::{DevHeader, LogEntry, LOG_LEN, LogBlock, LogFault, LogPtr, LogReadFault, RING_START};
+use l2_log::{DevHeader, LOG_LEN, LogBlock, LogEntry, LogFault, LogPtr, LogReadFault, RING_START};
 use l2_ring::{Live, Plan, Written};
 use std::alloc::{AllocError, AllocFailed, Global};
 use vdev_io::{CacheDev, Failed};

@@ -5,7 +5,7 @@ ghost use Rattle.l2_log.specs.Rules.{entry_len, fields_len, is_there, IsEntrySiz
 ghost use Rattle.l2_log.specs.Places.{IsFieldFault};
 ghost use Rattle.l2_log.specs.EntryBytes.{IsEntry, IsDigestIfAny, EntryRule};
 
-use crate::entry::{LogEntry, LARGEST_OLD_BLOCK};
+use crate::entry::{LARGEST_OLD_BLOCK, LogEntry};
 use crate::fault::LogFault;
 use crate::words::{check_zeros, put_digest, put_word, read_digest, word_at};
 use blk_ptr::{Digest, Key, SECTOR, is_block_size};

@@ -18,7 +18,7 @@ mod pointer;
 mod pointer_bytes;
 mod words;
 
-pub use entry::{LogEntry, LARGEST_OLD_BLOCK};
+pub use entry::{LARGEST_OLD_BLOCK, LogEntry};
 pub use fault::{LogFault, LogReadFault};
 pub use header::{DevHeader, HEADER_LEN, LEAST_RING_END, RING_START, VERSION};
 pub use log_block::{Entries, LOG_LEN, LogBlock, MOST_ENTRIES, MOST_OLD_ENTRIES};

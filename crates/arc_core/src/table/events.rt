@@ -115,14 +115,6 @@ impl Table {
         });
     }
 
-    /// `n` gives one hold back.
-    pub fn give_back(&mut self, n: u32, key: Key)
-        requires { IsTrue (legal self.old.shard (Event.Drop n key)) }
-        ensures { self.new ≡ record self.old { shard = effect self.old.shard (Event.Drop n key) } }
-    {
-        self.give_back_near(NO_PLACE, n, key);
-    }
-
     /// `n` gives one hold back. `near` is where the entry stood, and may be any number.
     #[inline(always)]
     pub fn give_back_near(&mut self, near: usize, n: u32, key: Key)
