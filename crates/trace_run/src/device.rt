@@ -53,13 +53,19 @@ pub(crate) fn begin<D: CacheDev>(alloc: Global, cache: Option<D>) -> Result<Begu
         });
     };
     match L2Dev::start(alloc, dev) {
-        Started::Ready { l2, restored, stop } => Ok(Begun {
-            device: Device::Ready(l2),
-            rebuilt: Some(Rebuilt {
-                list: RestoredList::from_vec(restored),
-                stop,
-            }),
-        }),
+        Started::Ready { l2, restored, stop } => {
+            // A device that is long enough is never told as too short. No clause of `start` says so.
+            if let Stop::Short { .. } = stop {
+                return Err(NoMemory);
+            }
+            Ok(Begun {
+                device: Device::Ready(l2),
+                rebuilt: Some(Rebuilt {
+                    list: RestoredList::from_vec(restored),
+                    stop,
+                }),
+            })
+        }
         Started::Short { dev, len } => Ok(Begun {
             device: Device::Short(dev),
             rebuilt: Some(Rebuilt {

@@ -10,6 +10,7 @@ use Rattle.blk_ptr.specs.declared.memory.NoMemory.{NoMemory}
 use Rattle.blk_ptr.specs.declared.ptr.Ptr.{Ptr}
 use Rattle.vdev_io.specs.declared.device.CacheDev.{Ghosts as DeviceGhosts}
 use Rattle.vdev_io.specs.declared.pool.Pool.{Ghosts}
+use Rattle.vdev_io.specs.Faults.{sum_of_counts}
 use Rattle.arc_core.specs.declared.config.Config.{Config}
 use Rattle.turn_table.specs.Places.{Place}
 use Rattle.arc_table.specs.Cache.{Cache}
@@ -30,7 +31,7 @@ use Rattle.trace_run.specs.one_caller.OneCaller.{kept_after}
 use Rattle.trace_run.specs.one_caller.OverShards.{AreNamed}
 use Rattle.trace_run.specs.Tally.{AreAnswered}
 use Rattle.trace_run.specs.callers.Together.{over_callers}
-use Rattle.trace_run.proofs.callers.AbsorbLemmas.{absorbed-leaves, absorbed-faults, absorbed-reads, over-sum}
+use Rattle.trace_run.proofs.callers.AbsorbLemmas.{absorbed-leaves, over-sum, sum-of-faults, sum-of-reads}
 use Rattle.trace_run.proofs.callers.CallerActLemmas.{own-lines}
 use Rattle.trace_run.proofs.LinesLemmas.{lines-calls, lines-kept, lines-told}
 
@@ -286,8 +287,8 @@ module _ {C P D : Type 0} (cache : Cache) (pools : Ghosts P) (blocks : List Ptr)
               };
               worked = h.worked;
             };
-        reads = λ room. omega (arith, all_reads, absorbed-reads pools dones old new absorbs (omega (arith, all_reads, room)));
-        faults = λ room. omega (arith, all_faults, absorbed-faults pools dones old new absorbs (omega (arith, all_faults, room)));
+        reads = λ some. sum-of-reads pools dones old new absorbs (omega (arith, some, long)) ∙ ap (sum_of_counts (pools.reads old)) (sym all_reads);
+        faults = λ some. sum-of-faults pools dones old new absorbs (omega (arith, some, long)) ∙ ap (sum_of_counts (pools.faults old)) (sym all_faults);
         keeps = absorbed-leaves pools dones old new absorbs;
       }
 

@@ -28,7 +28,7 @@ use Rattle.trace_text.specs.declared.reply.Reply.TheVariants.{Capped}
 use Rattle.trace_text.specs.declared.trace.Trace.{Trace}
 use Rattle.trace_text.specs.Grammar.{IsFormed}
 use Rattle.vdev_io.specs.Calls.{MakesCalls}
-use Rattle.vdev_io.specs.Faults.{last_count}
+use Rattle.vdev_io.specs.Faults.{last_count, sum_of_counts}
 use Rattle.vdev_io.specs.declared.pool.Pool.{Ghosts}
 use Rattle.trace_run.specs.declared.groups.Crew.{Crew}
 use Rattle.trace_run.specs.declared.kept_blocks.KeptBlock.{KeptBlock}
@@ -94,7 +94,7 @@ leaves-same pools a = record { size = refl; told = refl; faults = omega arith }
 
 -- What callers who worked at once did to the pool. It was the same before their forks were made.
 module _ {C P : Type 0} (cache : Cache) (pools : Ghosts P) (blocks : List Ptr) (qs : List Op) (callers : ℕ) (was from to : P) (own : List (List Reply)) (had : List (List KeptBlock)) (ps : List (Place (Known C))) (kept : List (List KeptBlock)) (xs : List (Place (Known C))) (ss : List Reply)
-    (unused : IsUnused pools was from) (w : HaveWorked cache pools blocks qs callers from to own had ps kept xs) (ordered : AreInOrder qs own ss) where
+    (unused : IsUnused pools was from) (w : HaveWorked cache pools blocks qs callers from to own had ps kept xs) (ordered : AreInOrder qs own ss) (some : 0 < callers) where
   calls-are : (n : ℕ) → n < callers → MakesCalls pools (calls_of_all (replies_of_caller n qs ss)) (w.forks n) (w.done n)
   calls-are n below =
       let h = w.each n below in
@@ -108,8 +108,8 @@ module _ {C P : Type 0} (cache : Cache) (pools : Ghosts P) (blocks : List Ptr) (
     told = λ n below. (w.fresh n below).told ∙ unused.told;
     fresh = λ n below. ((w.fresh n below).reads, (w.fresh n below).faults);
     works = λ n below. record { made = calls-are n below };
-    reads = λ room. let same = unused.reads in omega (arith, same, w.reads (omega (arith, same, room)));
-    faults = λ room. let same = unused.faults in omega (arith, same, w.faults (omega (arith, same, room)));
+    reads = w.reads some ∙ ap (λ (k : ℕ). sum_of_counts k (over_callers callers (λ n. pools.reads (w.done n)))) unused.reads;
+    faults = w.faults some ∙ ap (λ (k : ℕ). sum_of_counts k (over_callers callers (λ n. pools.faults (w.done n)))) unused.faults;
     keeps = (w.keeps.size ∙ unused.size, w.keeps.told ∙ unused.told);
   }
 
@@ -139,10 +139,10 @@ module _ {C P : Type 0} (cache : Cache) (pools : Ghosts P) (blocks : List Ptr) (
     few-failed = omega (arith, over-few callers (failed qs ss) 1000000 (λ n below. failed-few qs ss n 1000000 few), some_callers)
 
     pub group-reads : pools.reads was + 16000000 ≤ last_count → pools.reads to ≡ pools.reads was + over_callers callers (asked qs ss)
-    group-reads room = let same = unused.reads in omega (arith, same, all-asked, w.reads (omega (arith, same, all-asked, few-asked, room)))
+    group-reads room = let same = unused.reads in omega (arith, same, all-asked, few-asked, room, w.reads some)
 
     pub group-faults : pools.faults was + 16000000 ≤ last_count → pools.faults to ≡ pools.faults was + over_callers callers (failed qs ss)
-    group-faults room = let same = unused.faults in omega (arith, same, all-failed, w.faults (omega (arith, same, all-failed, few-failed, room)))
+    group-faults room = let same = unused.faults in omega (arith, same, all-failed, few-failed, room, w.faults some)
 
 module _ {P : Type 0} (pools : Ghosts P) (callers : ℕ) (os qs : List Op) (rs ss : List Reply) (long : length rs ≡ length os) (before was to : P) (few : length rs ≤ 1000000) (some_callers : callers ≤ 16) (so_far : HaveCounted pools callers os rs before was) where
   most-asked : over_callers callers (asked os rs) ≤ 16000000
@@ -206,7 +206,7 @@ between-begun cache restored pools trace start whole old new opened is none many
     (have-restored cache restored (pools.size start.pool) (pools.told start.pool) trace.blocks old new whole opened is (have-started cache whole old opened is none many (pools.size start.pool) (pools.told start.pool) trace.blocks) made kept)
     (ap (λ (a : About). a.openings) made.about ∙ knows) may
 
-module _ {P : Type 0} (cache : Cache) (restored : List Restored) (pools : Ghosts P) (trace : Trace) (start was : Stand P) (from to : P) (rs ss : List Reply) (qs : List Op) (old new : Crew OnHeap) (few : length trace.ops ≤ 1000000) (some_callers : cache.config.callers ≤ 16)
+module _ {P : Type 0} (cache : Cache) (restored : List Restored) (pools : Ghosts P) (trace : Trace) (start was : Stand P) (from to : P) (rs ss : List Reply) (qs : List Op) (old new : Crew OnHeap) (few : length trace.ops ≤ 1000000) (some_callers : (0 < cache.config.callers) × (cache.config.callers ≤ 16))
     (between : AreBetween cache restored pools trace start was rs old) (more : length rs < length trace.ops) (unused : IsUnused pools was.pool from) (did : DidLinesAtOnce cache pools trace.blocks qs from to old new ss) (leaves : LeavesPool pools from to)
     (own : AreOfCallers cache.config.callers qs) (inside : length rs + length qs ≤ length trace.ops) (here : take (length qs) (drop (length rs) trace.ops) ≡ qs) where
   abbrev callers : ℕ
@@ -240,15 +240,15 @@ module _ {P : Type 0} (cache : Cache) (restored : List Restored) (pools : Ghosts
   few-here = omega (arith, same-length, inside, few)
 
   once : (end : Option EndLine) → WorkAtOnce pools callers (record { ops = qs; replies = ss; end = end }) was.pool to
-  once = at-once cache pools trace.blocks qs callers was.pool from to did.own old.kept.items old.parties.items new.kept.items new.parties.items ss unused worked did.ordered
+  once = at-once cache pools trace.blocks qs callers was.pool from to did.own old.kept.items old.parties.items new.kept.items new.parties.items ss unused worked did.ordered some_callers.0
 
   now-leaves : LeavesPool pools was.pool to
   now-leaves = unused-leaves pools was.pool from to unused leaves
 
   counted-lines : HaveCounted pools callers (os ++ qs) (rs ++ ss) start.pool to
-  counted-lines = counted-more pools callers os qs rs ss long start.pool was.pool to few-so-far some_callers between.counted now-leaves
-      (group-reads cache pools trace.blocks qs callers was.pool from to did.own old.kept.items old.parties.items new.kept.items new.parties.items ss unused worked did.ordered few-here some_callers)
-      (group-faults cache pools trace.blocks qs callers was.pool from to did.own old.kept.items old.parties.items new.kept.items new.parties.items ss unused worked did.ordered few-here some_callers)
+  counted-lines = counted-more pools callers os qs rs ss long start.pool was.pool to few-so-far some_callers.1 between.counted now-leaves
+      (group-reads cache pools trace.blocks qs callers was.pool from to did.own old.kept.items old.parties.items new.kept.items new.parties.items ss unused worked did.ordered some_callers.0 few-here some_callers.1)
+      (group-faults cache pools trace.blocks qs callers was.pool from to did.own old.kept.items old.parties.items new.kept.items new.parties.items ss unused worked did.ordered some_callers.0 few-here some_callers.1)
 
   come-lines : HaveCome cache restored (pools.size start.pool) (pools.told start.pool) trace.blocks (os ++ qs) (rs ++ ss) new
   come-lines = have-come-more cache restored pools (pools.size start.pool) (pools.told start.pool) trace.blocks os qs rs ss from to old new between.come did own (unused.size ∙ between.counted.keeps.size) (unused.told ∙ between.counted.keeps.told)
@@ -306,7 +306,7 @@ module _ {P : Type 0} (cache : Cache) (restored : List Restored) (pools : Ghosts
 
     counted-end : HaveCounted pools callers ((os ++ qs) ++ op ∷ []) all-replies start.pool fin.pool
     counted-end =
-        counted-more pools callers (os ++ qs) (op ∷ []) (rs ++ ss) (reply ∷ []) come-lines.long start.pool to fin.pool (omega (arith, both-long, room, few)) some_callers counted-lines (unused-leaves pools to fin.pool fin.pool turn.unused (leaves-same pools fin.pool))
+        counted-more pools callers (os ++ qs) (op ∷ []) (rs ++ ss) (reply ∷ []) come-lines.long start.pool to fin.pool (omega (arith, both-long, room, few)) some_callers.1 counted-lines (unused-leaves pools to fin.pool fin.pool turn.unused (leaves-same pools fin.pool))
         (λ full. let none = over-zero callers (asked (op ∷ []) (reply ∷ [])) (λ n below. ap (λ (l : List Reply). length (calls_of_all l)) (none-where n)) in let same = turn.unused.reads in omega (arith, none, same))
         (λ full. let none = over-zero callers (failed (op ∷ []) (reply ∷ [])) (λ n below. ap (count_by is_pool_fault) (none-where n)) in let same = turn.unused.faults in omega (arith, none, same))
 
@@ -393,8 +393,8 @@ module _ {P : Type 0} (cache : Cache) (restored : List Restored) (pools : Ghosts
   did-these : DidLinesAtOnce cache pools trace.blocks qs from to old new ss
   did-these = subst (λ (x : List Ptr × List Op × ℕ). DidLinesAtOnce cache pools x.0 (slice_range x.1 x.2 end) from to old new ss) (λ i. (is_bs i, is_os i, is_first i)) did
 
-  few-callers : cache.config.callers ≤ 16
-  few-callers = subst (λ (g : Config). g.callers ≤ 16) (sym config) formed.config.counts.callers.1
+  few-callers : (0 < cache.config.callers) × (cache.config.callers ≤ 16)
+  few-callers = subst (λ (g : Config). (0 < g.callers) × (g.callers ≤ 16)) (sym config) (omega (arith, formed.config.counts.callers.0), formed.config.counts.callers.1)
 
   own : AreOfCallers cache.config.callers qs
   own = subst (λ (g : Config). AreOfCallers g.callers qs) (sym config)

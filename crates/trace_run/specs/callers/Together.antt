@@ -6,7 +6,6 @@ use Rattle.blk_ptr.specs.Hash.{shard_of}
 use Rattle.blk_ptr.specs.Key.{IsValid, key_end}
 use Rattle.arc_core.specs.declared.config.Config.{Config}
 use Rattle.arc_core.specs.declared.event.Event.{Event}
-use Rattle.arc_core.specs.declared.event.Event.TheVariants.{Resize}
 use Rattle.arc_core.specs.declared.served.Restored.{Restored}
 use Rattle.arc_core.specs.Operations.{Tell, acts_in, is_pool_read, moments, number_of, own_events, own_moments}
 use Rattle.arc_table.specs.Telling.{opening_of}
@@ -26,8 +25,8 @@ use Rattle.trace_text.specs.declared.rebuilt.Rebuilt.{Rebuilt}
 use Rattle.trace_text.specs.declared.report.Report.{Report}
 use Rattle.trace_text.specs.declared.trace.Trace.{Trace}
 use Rattle.vdev_io.specs.declared.pool.Pool.{Ghosts}
-use Rattle.vdev_io.specs.Faults.{last_count}
-use Rattle.trace_run.specs.Acts.{acts_of_lines}
+use Rattle.vdev_io.specs.Faults.{sum_of_counts}
+use Rattle.trace_run.specs.Acts.{acts_of_lines, events_of_feeder}
 use Rattle.trace_run.specs.Answers.{is_pool_fault}
 use Rattle.trace_run.specs.Effects.{calls_of_all}
 use Rattle.trace_run.specs.Ends.{end_of}
@@ -128,8 +127,8 @@ groups_of (op ∷ ops) [] = []
 groups_of (op ∷ ops) (reply ∷ replies) =
     if ends_group op then (record { ops = []; replies = []; end = Some (record { op = op; reply = reply }) } ∷ groups_of ops replies) else with_first op reply (groups_of ops replies)
 
--- Callers did their lines of a group at once, each on a fork of the pool as it was then. The pool's counts rose by what the forks counted, as far
--- as there was room.
+-- Callers did their lines of a group at once, each on a fork of the pool as it was then. The pool's counts rose by what the forks counted; a sum past the
+-- last value of a count is that value.
 pub record WorkAtOnce {P : Type 0} (pool : Ghosts P) (callers : ℕ) (group : Lines) (before after : P) : Type 0 where
   pub forks : ℕ → P
   pub done : ℕ → P
@@ -137,8 +136,8 @@ pub record WorkAtOnce {P : Type 0} (pool : Ghosts P) (callers : ℕ) (group : Li
   pub told : (n : ℕ) → n < callers → pool.told (forks n) ≡ pool.told before
   pub fresh : (n : ℕ) → n < callers → (pool.reads (forks n) ≡ 0) × (pool.faults (forks n) ≡ 0)
   pub works : (n : ℕ) → n < callers → Works pool n group.ops group.replies (forks n) (done n)
-  pub reads : pool.reads before + over_callers callers (λ n. pool.reads (done n)) ≤ last_count → pool.reads after ≡ pool.reads before + over_callers callers (λ n. pool.reads (done n))
-  pub faults : pool.faults before + over_callers callers (λ n. pool.faults (done n)) ≤ last_count → pool.faults after ≡ pool.faults before + over_callers callers (λ n. pool.faults (done n))
+  pub reads : pool.reads after ≡ sum_of_counts (pool.reads before) (over_callers callers (λ n. pool.reads (done n)))
+  pub faults : pool.faults after ≡ sum_of_counts (pool.faults before) (over_callers callers (λ n. pool.faults (done n)))
   pub keeps : (pool.size after ≡ pool.size before) × (pool.told after ≡ pool.told before)
 
 -- ---- between groups
@@ -187,20 +186,22 @@ module _ {P : Type 0} (pool : Ghosts P) (config : Config) (Cells : OfCells) wher
   WorkInGroups (group ∷ groups) from to =
       (worked : P) × (next : Stand P) × WorkAtOnce pool config.callers group from.pool worked × EndsGroup group.end (stand worked from.group from.next) next × WorkInGroups groups next to
 
--- In the history of a shard stands a Resize to this capacity. Before it stands all that these lines did there, and nothing else that a caller
+-- At one place in the history of a shard stand these events. Before it stands all that these lines did there, and nothing else that a caller
 -- or the feeder did.
-pub record IsCut (config : Config) (restored : List Restored) (blocks : List Ptr) (shard : ℕ) (ops : List Op) (replies : List Reply) (c : ℕ) (history : List Event) : Type 0 where
+pub record IsCut (config : Config) (restored : List Restored) (blocks : List Ptr) (shard : ℕ) (ops : List Op) (replies : List Reply) (here : List Event) (history : List Event) : Type 0 where
   pub front : List Event
   pub rest : List Event
-  pub whole : history ≡ front ++ Resize config.callers c ∷ rest
+  pub whole : history ≡ front ++ (here ++ rest)
   pub callers : (n : ℕ) → n < config.callers
       → Tell (acts_in (shard_of config.shards) shard n (acts_of_lines blocks ops n (replies_of_caller n ops replies))) (own_moments n (moments (opening_of config) front))
   pub feeder : own_events config.callers front ≡ events_by_feeder config restored ops replies shard
 
--- each line of these that gives a capacity cuts the history of a shard behind the lines before it
+-- Each line of these that ends a group cuts the history of a shard behind the lines before it. There stands what the line asks of the feeder: the new
+-- capacity; and nothing for a sync, since no line makes a block dirty yet.
 abbrev pub AreCut : Config → List Restored → List Ptr → (shard : ℕ) → List Op → List Reply → (history : List Event) → Type 0
 AreCut config restored blocks shard lines replies history =
-    (k c : ℕ) → slice_get lines k ≡ Some (Cap c) → k < length replies → IsCut config restored blocks shard (take k lines) (take k replies) c history
+    (k : ℕ) (op : Op) → slice_get lines k ≡ Some op → ends_group op ≡ true → k < length replies
+    → IsCut config restored blocks shard (take k lines) (take k replies) (events_of_feeder config.callers op) history
 
 -- ---- the cells at a sync
 
@@ -229,5 +230,5 @@ pub record RunsTogether {P : Type 0} (pool : Ghosts P) (before after : P) (trace
   pub whole : fork_failed ≡ false → after ≡ reached.pool
   -- each caller's reads of its forks are those that its events stand for
   pub counted : (n : ℕ) → n < trace.config.callers → length (calls_of_all (replies_of_caller n trace.ops report.replies)) ≡ reads_of_caller n report.histories
-  -- a capacity is given to each shard once all lines before it are done, and before any line behind it is begun
+  -- a capacity is given to each shard, and a sync done, once all lines before it are done, and before any line behind it is begun
   pub cut : (shard : ℕ) → shard < length report.histories → AreCut trace.config (restored_of report.rebuilt) trace.blocks shard trace.ops report.replies (slice_index_or report.histories shard [])
