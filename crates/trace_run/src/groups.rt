@@ -95,7 +95,10 @@ fn ends_group(op: &Op) -> bool
 {
     match *op {
         Op::Read { .. } | Op::Hold { .. } | Op::Drop { .. } => false,
-        _ => true,
+        Op::Get { .. } | Op::Put { .. } | Op::Patch { .. } | Op::Pin { .. } | Op::Unpin { .. } => {
+            false
+        }
+        Op::Feed | Op::Txg { .. } | Op::Cap { .. } => true,
     }
 }
 

@@ -218,7 +218,12 @@ pub(crate) fn caller_of(op: &Op) -> Option<u32>
 {
     match *op {
         Op::Read { n, .. } | Op::Hold { n, .. } | Op::Drop { n, .. } => Some(n),
-        _ => None,
+        Op::Get { n, .. }
+        | Op::Put { n, .. }
+        | Op::Patch { n, .. }
+        | Op::Pin { n, .. }
+        | Op::Unpin { n, .. } => Some(n),
+        Op::Feed | Op::Txg { .. } | Op::Cap { .. } => None,
     }
 }
 
@@ -228,7 +233,12 @@ pub(crate) fn is_of_caller(op: &Op, caller: u32) -> bool
 {
     match *op {
         Op::Read { n, .. } | Op::Hold { n, .. } | Op::Drop { n, .. } => n == caller,
-        _ => false,
+        Op::Get { n, .. }
+        | Op::Put { n, .. }
+        | Op::Patch { n, .. }
+        | Op::Pin { n, .. }
+        | Op::Unpin { n, .. } => n == caller,
+        Op::Feed | Op::Txg { .. } | Op::Cap { .. } => false,
     }
 }
 

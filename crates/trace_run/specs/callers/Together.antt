@@ -18,7 +18,7 @@ use Rattle.txg_sync.specs.Syncing.{AnswersWith}
 use Rattle.txg_sync.specs.Turns.{synced_in}
 use Rattle.txg_sync.specs.declared.syncing.Synced.{Synced as Syncing}
 use Rattle.trace_text.specs.declared.op.Op.{Op}
-use Rattle.trace_text.specs.declared.op.Op.TheVariants.{Read, Hold, Drop, Cap, Txg}
+use Rattle.trace_text.specs.declared.op.Op.TheVariants.{Read, Hold, Drop, Get, Put, Patch, Pin, Unpin, Feed, Cap, Txg}
 use Rattle.trace_text.specs.declared.reply.Reply.{Reply}
 use Rattle.trace_text.specs.declared.reply.Reply.TheVariants.{Synced}
 use Rattle.trace_text.specs.declared.rebuilt.Rebuilt.{Rebuilt}
@@ -87,12 +87,19 @@ reads_of_caller n histories = sum_by (λ history. count_by (λ e. is_pool_read e
 
 -- ---- groups
 
--- the line ends its group, and is done once all callers have come back
+-- The line ends its group, and is done once all callers have come back. A feed will not, but none is done yet.
 abbrev pub ends_group : Op → Bool
 ends_group (Read n t x window) = false
 ends_group (Hold n t x) = false
 ends_group (Drop n x) = false
-ends_group other = true
+ends_group (Get n t at window) = false
+ends_group (Put n t at size fill) = false
+ends_group (Patch n t at from bytes) = false
+ends_group (Pin n t at) = false
+ends_group (Unpin n at) = false
+ends_group Feed = true
+ends_group (Txg t) = true
+ends_group (Cap c) = true
 
 -- a group begins with the line of this number: it is the first line, or the one before it ends a group
 abbrev pub BeginsGroup : List Op → ℕ → Type 0

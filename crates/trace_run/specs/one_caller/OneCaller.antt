@@ -61,7 +61,15 @@ kept_after_drop block NoEffect kept = kept
 abbrev pub kept_after : List Ptr → Op → Reply → List KeptRead → List KeptRead
 kept_after blocks (ops.Hold n t x) reply kept = option_map_or (λ ptr. kept_after_hold x ptr (effect_of reply) kept) (slice_get blocks x) kept
 kept_after blocks (ops.Drop n x) reply kept = kept_after_drop x (effect_of reply) kept
-kept_after blocks other reply kept = kept
+kept_after blocks (ops.Read n t x window) reply kept = kept
+kept_after blocks (ops.Get n t at window) reply kept = kept
+kept_after blocks (ops.Put n t at size fill) reply kept = kept
+kept_after blocks (ops.Patch n t at from bytes) reply kept = kept
+kept_after blocks (ops.Pin n t at) reply kept = kept
+kept_after blocks (ops.Unpin n at) reply kept = kept
+kept_after blocks ops.Feed reply kept = kept
+kept_after blocks (ops.Txg t) reply kept = kept
+kept_after blocks (ops.Cap c) reply kept = kept
 
 -- ---- the events of an operation
 
@@ -90,13 +98,20 @@ events_of_dropping n block kept NoEffect = []
 abbrev pub only_feeder : ℕ
 only_feeder = 1
 
--- the events of an operation with this reply, where these reads are kept
+-- The events of an operation with this reply, where these reads are kept. Of one on an object, a feed and a sync nothing is said yet, since none is done
+-- for one caller.
 abbrev pub events_of : List Ptr → PlainShard → List KeptRead → Op → Reply → List Event
 events_of blocks s kept (ops.Read n t x window) reply = option_map_or (λ ptr. events_of_read n t s ptr (effect_of reply)) (slice_get blocks x) []
 events_of blocks s kept (ops.Hold n t x) reply = option_map_or (λ ptr. events_of_hold n t s ptr (effect_of reply)) (slice_get blocks x) []
 events_of blocks s kept (ops.Drop n x) reply = events_of_dropping n x kept (effect_of reply)
 events_of blocks s kept (ops.Cap c) reply = event.Resize only_feeder c ∷ []
-events_of blocks s kept other reply = []
+events_of blocks s kept (ops.Get n t at window) reply = []
+events_of blocks s kept (ops.Put n t at size fill) reply = []
+events_of blocks s kept (ops.Patch n t at from bytes) reply = []
+events_of blocks s kept (ops.Pin n t at) reply = []
+events_of blocks s kept (ops.Unpin n at) reply = []
+events_of blocks s kept ops.Feed reply = []
+events_of blocks s kept (ops.Txg t) reply = []
 
 -- those that it makes in the shard of this number
 abbrev pub events_there : (shards : ℕ) → List Ptr → (shard : ℕ) → PlainShard → List KeptRead → Op → Reply → List Event
@@ -112,7 +127,15 @@ NamesSource access NoEffect = Unit {0}
 abbrev pub IsFoundAs : List Ptr → PlainShard → Op → Reply → Type 0
 IsFoundAs blocks s (ops.Read n t x window) reply = IfSome (slice_get blocks x) (λ ptr. NamesSource (access_of s ptr) (effect_of reply))
 IsFoundAs blocks s (ops.Hold n t x) reply = IfSome (slice_get blocks x) (λ ptr. NamesSource (access_of s ptr) (effect_of reply))
-IsFoundAs blocks s other reply = Unit {0}
+IsFoundAs blocks s (ops.Drop n x) reply = Unit {0}
+IsFoundAs blocks s (ops.Get n t at window) reply = Unit {0}
+IsFoundAs blocks s (ops.Put n t at size fill) reply = Unit {0}
+IsFoundAs blocks s (ops.Patch n t at from bytes) reply = Unit {0}
+IsFoundAs blocks s (ops.Pin n t at) reply = Unit {0}
+IsFoundAs blocks s (ops.Unpin n at) reply = Unit {0}
+IsFoundAs blocks s ops.Feed reply = Unit {0}
+IsFoundAs blocks s (ops.Txg t) reply = Unit {0}
+IsFoundAs blocks s (ops.Cap c) reply = Unit {0}
 
 -- ---- all operations
 
