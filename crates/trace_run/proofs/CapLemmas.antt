@@ -47,6 +47,11 @@ his-some : (n : ℕ) (op : Op) → is_of_caller n op ≡ true → IsSome (caller
 his-some n (ops.Read m t x window) his = refl
 his-some n (ops.Hold m t x) his = refl
 his-some n (ops.Drop m x) his = refl
+his-some n (ops.Get m t at window) his = refl
+his-some n (ops.Put m t at size fill) his = refl
+his-some n (ops.Patch m t at from bytes) his = refl
+his-some n (ops.Pin m t at) his = refl
+his-some n (ops.Unpin m at) his = refl
 his-some n other his = absurd (false≢true his)
 
 -- the feeder's party is still joined behind a caller's own line

@@ -90,6 +90,11 @@ module _ (trace : Trace) (formed : IsFormed trace) where
   caller-below (ops.Read m t x w) possible n of = subst (λ (k : ℕ). k < trace.config.callers) (some-number m n of) possible.0.0
   caller-below (ops.Hold m t x) possible n of = subst (λ (k : ℕ). k < trace.config.callers) (some-number m n of) possible.0.0
   caller-below (ops.Drop m x) possible n of = subst (λ (k : ℕ). k < trace.config.callers) (some-number m n of) possible.0.0
+  caller-below (ops.Get m t at window) possible n of = subst (λ (k : ℕ). k < trace.config.callers) (some-number m n of) possible.0.0
+  caller-below (ops.Put m t at size fill) possible n of = subst (λ (k : ℕ). k < trace.config.callers) (some-number m n of) possible.0.0
+  caller-below (ops.Patch m t at from bytes) possible n of = subst (λ (k : ℕ). k < trace.config.callers) (some-number m n of) possible.0.0
+  caller-below (ops.Pin m t at) possible n of = subst (λ (k : ℕ). k < trace.config.callers) (some-number m n of) possible.0.0
+  caller-below (ops.Unpin m at) possible n of = subst (λ (k : ℕ). k < trace.config.callers) (some-number m n of) possible.0.0
   caller-below other possible n of = cc
 
   pub all-callers : (k : ℕ) (op : Op) → slice_get trace.ops k ≡ Some op → (n : ℕ) → caller_of op ≡ Some n → n < trace.config.callers

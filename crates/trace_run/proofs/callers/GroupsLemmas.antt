@@ -123,6 +123,11 @@ ends-nobody : (op : Op) → ends_group op ≡ true → caller_of op ≡ None
 ends-nobody (ops.Read n t x window) is = cc
 ends-nobody (ops.Hold n t x) is = cc
 ends-nobody (ops.Drop n x) is = cc
+ends-nobody (ops.Get n t at window) is = cc
+ends-nobody (ops.Put n t at size fill) is = cc
+ends-nobody (ops.Patch n t at from bytes) is = cc
+ends-nobody (ops.Pin n t at) is = cc
+ends-nobody (ops.Unpin n at) is = cc
 ends-nobody other is = refl
 
 -- the lines of a group are all some caller's

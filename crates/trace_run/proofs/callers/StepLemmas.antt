@@ -338,6 +338,11 @@ none-ends : (op : Op) → caller_of op ≡ None → ends_group op ≡ true
 none-ends (ops.Read n t x window) none = cc
 none-ends (ops.Hold n t x) none = cc
 none-ends (ops.Drop n x) none = cc
+none-ends (ops.Get n t at window) none = cc
+none-ends (ops.Put n t at size fill) none = cc
+none-ends (ops.Patch n t at from bytes) none = cc
+none-ends (ops.Pin n t at) none = cc
+none-ends (ops.Unpin n at) none = cc
 none-ends other none = refl
 
 module _ {X : Type 0} where

@@ -106,7 +106,8 @@ mine-of blocks s kept (ops.Hold n t x) reply m his = subst (λ (k : ℕ). AllByR
     go None = tt
     go (Some ptr) = mine-hold n t s ptr (effect_of reply)
 mine-of blocks s kept (ops.Drop n x) reply m his = subst (λ (k : ℕ). AllByRecursion (IsMine k) (events_of blocks s kept (ops.Drop n x) reply)) (some-number n m his) (mine-dropping n x kept (effect_of reply))
-mine-of blocks s kept other reply m his = cc
+mine-of blocks s kept (ops.Cap c) reply m his = cc
+mine-of blocks s kept other reply m his = tt
 
 -- a new capacity, or a key that is restored
 abbrev pub is_given : Event → Bool

@@ -27,6 +27,11 @@ pub one-caller : (sizes : Config) (blocks : List Ptr) (op : Op) → sizes.caller
 one-caller sizes blocks (ops.Read n t x w) one possible = omega (arith, possible.0.0)
 one-caller sizes blocks (ops.Hold n t x) one possible = omega (arith, possible.0.0)
 one-caller sizes blocks (ops.Drop n x) one possible = omega (arith, possible.0.0)
+one-caller sizes blocks (ops.Get n t at window) one possible = omega (arith, possible.0.0)
+one-caller sizes blocks (ops.Put n t at size fill) one possible = omega (arith, possible.0.0)
+one-caller sizes blocks (ops.Patch n t at from bytes) one possible = omega (arith, possible.0.0)
+one-caller sizes blocks (ops.Pin n t at) one possible = omega (arith, possible.0.0)
+one-caller sizes blocks (ops.Unpin n at) one possible = omega (arith, possible.0.0)
 one-caller sizes blocks other one possible = tt
 
 pub possible-at : (sizes : Config) (blocks : List Ptr) (os : List Op) (k : ℕ) (op : Op) → All (IsPossible sizes blocks) os → slice_get os k ≡ Some op → IsPossible sizes blocks op
