@@ -39,13 +39,13 @@ use Rattle.trace_text.specs.declared.reply.Reply.{Reply}
 use Rattle.trace_text.specs.declared.reply.Reply.TheVariants.{Dropped, Refused}
 use Rattle.trace_run.specs.KeptReads.{KeptRead}
 use Rattle.trace_run.specs.one_caller.Access as access
-use Rattle.trace_run.specs.one_caller.Access.{Access, MayComeFrom, events_of_answered, events_of_drop, held_key as access_key}
+use Rattle.trace_run.specs.one_caller.Access.{Access, MayComeFrom, events_of_answered, events_of_drop, held_by_access as access_key}
 use Rattle.trace_run.specs.Acts.{acts_of, acts_of_drop, acts_of_dropping, acts_of_hold, acts_of_read}
 use Rattle.trace_run.specs.Answering.{KeepsImage, ReadsImage}
 use Rattle.trace_run.specs.Answers.{AnswersDrop, AnswersHold, AnswersRead}
 use Rattle.trace_run.specs.Effects.{Effect, Answered, GivenBack, PoolRefused, NoEffect, calls_of, effect_of}
 use Rattle.trace_run.specs.callers.CallerLines.{DidLine, DidThere, at}
-use Rattle.trace_run.specs.KeptBlocks.{Drops, GivesBack, IsOwnedBy, held_key}
+use Rattle.trace_run.specs.KeptBlocks.{Drops, GivesKeptBack, IsOwnedBy, held_key}
 use Rattle.trace_run.specs.Lines.{is_in_shard, shard_of_block}
 use Rattle.trace_run.specs.one_caller.OneCaller.{NamesSource, events_of, events_of_dropping, events_of_hold, events_of_read, events_there, is_of_block, kept_after, kept_after_drop, kept_after_hold, key_held_by, oldest_key, without_oldest}
 use Rattle.trace_run.specs.one_caller.OverShards.{AreNamed, IsNamed}
@@ -178,7 +178,7 @@ module _ {C : Type 0} (m : Meanings C) (g : Config) (valid : IsConfig g) (t : �
       }
 
   -- what is kept of it is given back
-  pub read-given : (from : Served) (kept : Kept) → IsOwnedBy r.number kept → held_key kept ≡ key_held_by ptr from → DidAnswer g t ptr from p r → GivesBack m g kept r q
+  pub read-given : (from : Served) (kept : Kept) → IsOwnedBy r.number kept → held_key kept ≡ key_held_by ptr from → DidAnswer g t ptr from p r → GivesKeptBack m g kept r q
       → DidActs g here (Reads p.number t ptr from ∷ []) (events from) p q
   read-given from (Loose key block) owned is did gives = acts-one g p q (Reads p.number t ptr from) (events from) refl (read-loose from is did gives)
   read-given from (Held hold) owned is did gives =

@@ -4,7 +4,7 @@ ghost use Rattle.std.specs.Prelude.{◌≡◌, ◌++◌, ◌∷◌, [], is_some,
 ghost use Rattle.arc_core.specs.Operations.{Act};
 ghost use Rattle.arc_table.specs.Items.{meanings};
 ghost use Rattle.trace_run.specs.Acts.{acts_of_drops};
-ghost use Rattle.trace_run.specs.KeptBlocks.{AreOfOthers, DroppedAlone, Drops, GivesAll, GivesBack, IsTakenOut, Stands, read_of};
+ghost use Rattle.trace_run.specs.KeptBlocks.{AreOfOthers, DroppedAlone, Drops, GivesAll, GivesKeptBack, IsTakenOut, Stands, read_of};
 ghost use Rattle.trace_run.specs.one_caller.OneCaller.{oldest_key, oldest_kept, without_oldest};
 ghost use Rattle.arc_table.specs.Seen.{HasAll};
 ghost use Rattle.trace_run.specs.Making.{HasTold};
@@ -94,7 +94,7 @@ pub(crate) fn give_back<C: Keeps>(
 )
     requires { (front : List KeptBlock) × (rest : List KeptBlock) × Stands arcs.now party.old (front ++ read ∷ rest) }
     ensures stands { (front rest : List KeptBlock) → Stands arcs.now party.old (front ++ read ∷ rest) → Stands arcs.now party.new (front ++ rest) }
-    ensures gives { GivesBack (meanings C.holds C.entries C.opening C.claims C.sound) arcs.now.config read.kept party.old party.new }
+    ensures gives { GivesKeptBack (meanings C.holds C.entries C.opening C.claims C.sound) arcs.now.config read.kept party.old party.new }
 {
     match read.kept {
         Kept::Held(hold) => arcs.drop_hold(rt, party, hold),

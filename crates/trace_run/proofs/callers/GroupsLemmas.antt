@@ -46,7 +46,7 @@ use Rattle.trace_run.specs.one_caller.OneCaller.{kept_after, kept_after_all}
 use Rattle.trace_run.specs.Restores.{events_by_feeder, restores_in}
 use Rattle.trace_run.specs.Opened.{AreOpened, IsOpened}
 use Rattle.trace_run.specs.Tally.{AreAnswered}
-use Rattle.trace_run.specs.callers.Together.{AreCut, BeginsGroup, IsCut, Lines, ends_group, groups_of, replies_of_caller, with_first}
+use Rattle.trace_run.specs.callers.Together.{AreCut, BeginsGroup, IsCut, GroupLines, ends_group, groups_of, replies_of_caller, with_first}
 use Rattle.trace_run.proofs.FeederLemmas.{own-restores}
 use Rattle.trace_run.proofs.callers.MeetLemmas.{parted-waits, same-own-events, starts-then}
 use Rattle.trace_run.proofs.OpenLemmas.{new-seen}
@@ -176,13 +176,13 @@ EndsWhole [] = Unit {0}
 EndsWhole (o ∷ []) = ends_group o ≡ true
 EndsWhole (o ∷ (x ∷ xs)) = EndsWhole (x ∷ xs)
 
-some-group : (o : Op) (os : List Op) (r : Reply) (rs : List Reply) → (first : Lines) × (rest : List Lines) × (groups_of (o ∷ os) (r ∷ rs) ≡ first ∷ rest)
+some-group : (o : Op) (os : List Op) (r : Reply) (rs : List Reply) → (first : GroupLines) × (rest : List GroupLines) × (groups_of (o ∷ os) (r ∷ rs) ≡ first ∷ rest)
 some-group o os r rs = elim (cases_true (ends_group o)) [
   | inl ends ↦ (record { ops = []; replies = []; end = Some (record { op = o; reply = r }) }, groups_of os rs, rw ends refl)
   | inr inside ↦ go (groups_of os rs) (rw inside refl)
 ]
   where
-    go : (gs : List Lines) → groups_of (o ∷ os) (r ∷ rs) ≡ with_first o r gs → (first : Lines) × (rest : List Lines) × (groups_of (o ∷ os) (r ∷ rs) ≡ first ∷ rest)
+    go : (gs : List GroupLines) → groups_of (o ∷ os) (r ∷ rs) ≡ with_first o r gs → (first : GroupLines) × (rest : List GroupLines) × (groups_of (o ∷ os) (r ∷ rs) ≡ first ∷ rest)
     go [] is = (record { ops = o ∷ []; replies = r ∷ []; end = None }, [], is)
     go (g ∷ gs) is = (record { ops = o ∷ g.ops; replies = r ∷ g.replies; end = g.end }, gs, is)
 
@@ -196,10 +196,10 @@ groups-append (o ∷ (x ∷ xs)) qs (r ∷ []) ss same whole = absurd (omega (ar
 groups-append (o ∷ (x ∷ xs)) qs (r ∷ (s ∷ rs)) ss same whole =
     let rest = groups-append (x ∷ xs) qs (s ∷ rs) ss (omega (arith, same)) whole in
     elim (cases_true (ends_group o)) [
-      | inl ends ↦ rw ends (ap (λ (l : List Lines). record { ops = []; replies = []; end = Some (record { op = o; reply = r }) } ∷ l) rest)
+      | inl ends ↦ rw ends (ap (λ (l : List GroupLines). record { ops = []; replies = []; end = Some (record { op = o; reply = r }) } ∷ l) rest)
       | inr inside ↦
           let some_of = some-group x xs s rs in
-          rw inside (ap (with_first o r) rest ∙ (ap (λ (l : List Lines). with_first o r (l ++ groups_of qs ss)) some_of.2 ∙ ap (λ (l : List Lines). with_first o r l ++ groups_of qs ss) (sym some_of.2)))
+          rw inside (ap (with_first o r) rest ∙ (ap (λ (l : List GroupLines). with_first o r (l ++ groups_of qs ss)) some_of.2 ∙ ap (λ (l : List GroupLines). with_first o r l ++ groups_of qs ss) (sym some_of.2)))
     ]
 
 -- lines of callers are one group, which the next line ends
@@ -235,7 +235,7 @@ groups-prefix (o ∷ os) more [] same = absurd (omega arith)
 groups-prefix (o ∷ os) more (r ∷ rs) same =
     let rest = groups-prefix os more rs (omega (arith, same)) in
     elim (cases_true (ends_group o)) [
-      | inl ends ↦ rw ends (ap (λ (l : List Lines). record { ops = []; replies = []; end = Some (record { op = o; reply = r }) } ∷ l) rest)
+      | inl ends ↦ rw ends (ap (λ (l : List GroupLines). record { ops = []; replies = []; end = Some (record { op = o; reply = r }) } ∷ l) rest)
       | inr inside ↦ rw inside (ap (with_first o r) rest)
     ]
 

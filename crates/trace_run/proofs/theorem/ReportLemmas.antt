@@ -19,7 +19,7 @@ use Rattle.arc_table.specs.Telling.{opening_of}
 use Rattle.trace_run.specs.Lines.{caller_of}
 use Rattle.trace_run.specs.one_caller.OneCaller.{one_caller_histories}
 use Rattle.trace_run.specs.one_caller.PlainRun.{report_with, status_of}
-use Rattle.trace_run.specs.Restores.{restored_of, restores_in}
+use Rattle.trace_run.specs.Restores.{found_keys, restores_in}
 
 -- ---- the operations are those of the one caller
 
@@ -43,12 +43,12 @@ all-own P [] own = tt
 all-own P (op ∷ os) own = (own 0 op refl, all-own P os (λ k o at. own (suc k) o at))
 
 -- a report by its parts
-pub report-is : (trace : Trace) (report : Report) → report.histories ≡ one_caller_histories trace.config.shards trace.blocks 0 (opening_of trace.config) (restores_in trace.config (restored_of report.rebuilt)) trace.ops report.replies
-    → report.ends ≡ ends_of trace.config (one_caller_histories trace.config.shards trace.blocks 0 (opening_of trace.config) (restores_in trace.config (restored_of report.rebuilt)) trace.ops report.replies)
+pub report-is : (trace : Trace) (report : Report) → report.histories ≡ one_caller_histories trace.config.shards trace.blocks 0 (opening_of trace.config) (restores_in trace.config (found_keys report.rebuilt)) trace.ops report.replies
+    → report.ends ≡ ends_of trace.config (one_caller_histories trace.config.shards trace.blocks 0 (opening_of trace.config) (restores_in trace.config (found_keys report.rebuilt)) trace.ops report.replies)
     → report.status ≡ status_of report.replies → report.short ≡ false
     → report.io ≡ None → report ≡ report_with trace report.rebuilt report.replies
 report-is trace report histories ends status short io =
-    let hs = one_caller_histories trace.config.shards trace.blocks 0 (opening_of trace.config) (restores_in trace.config (restored_of report.rebuilt)) trace.ops report.replies in
+    let hs = one_caller_histories trace.config.shards trace.blocks 0 (opening_of trace.config) (restores_in trace.config (found_keys report.rebuilt)) trace.ops report.replies in
     let first : Report = record report { histories = hs } in
     let second : Report = record first { ends = ends_of trace.config hs } in
     let third : Report = record second { status = status_of report.replies } in

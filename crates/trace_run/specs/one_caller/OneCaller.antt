@@ -14,7 +14,7 @@ use Rattle.arc_core.specs.Replay.{replay}
 use Rattle.trace_text.specs.declared.op.Op.{Op}
 use Rattle.trace_text.specs.declared.op.Op.TheVariants as ops
 use Rattle.trace_text.specs.declared.reply.Reply.{Reply}
-use Rattle.trace_run.specs.one_caller.Access.{Access, AsksPool, MayComeFrom, access_of, events_of_answered, events_of_drop, events_of_refused, held_key}
+use Rattle.trace_run.specs.one_caller.Access.{Access, AsksPool, MayComeFrom, access_of, events_of_answered, events_of_drop, events_of_refused, held_by_access}
 use Rattle.trace_run.specs.Effects.{Effect, Answered, GivenBack, PoolRefused, NoEffect, effect_of}
 use Rattle.trace_run.specs.Lines.{is_in_shard, replies_where}
 use Rattle.trace_run.specs.KeptReads.{KeptRead, kept_read}
@@ -75,7 +75,7 @@ kept_after blocks (ops.Cap c) reply kept = kept
 
 -- what a read of a pointer makes in this shard: an answered one gives its hold back at once
 abbrev pub events_of_read : (n t : ℕ) → PlainShard → Ptr → Effect → List Event
-events_of_read n t s ptr (Answered from) = events_of_answered n t ptr from (access_of s ptr) ++ events_of_drop n (held_key ptr (access_of s ptr))
+events_of_read n t s ptr (Answered from) = events_of_answered n t ptr from (access_of s ptr) ++ events_of_drop n (held_by_access ptr (access_of s ptr))
 events_of_read n t s ptr GivenBack = []
 events_of_read n t s ptr (PoolRefused call) = events_of_refused n t ptr (access_of s ptr)
 events_of_read n t s ptr NoEffect = []

@@ -35,7 +35,7 @@ use Rattle.trace_run.specs.Ends.{ends_of}
 use Rattle.arc_table.specs.Telling.{opening_of}
 use Rattle.trace_run.specs.Lines.{shard_of_line}
 use Rattle.trace_run.specs.one_caller.OneCaller.{kept_after, oldest_kept, one_caller_histories}
-use Rattle.trace_run.specs.Restores.{restored_of, restored_shard, restores_in}
+use Rattle.trace_run.specs.Restores.{found_keys, restored_shard, restores_in}
 use Rattle.vdev_io.specs.Calls.{Call, Gave, Failed}
 
 -- the bytes that the pool tells, and those of the cache device: where there is none, it has none
@@ -185,8 +185,8 @@ status_of replies = if list_any is_refusal replies then 1 else 0
 abbrev pub report_with : Trace → Option Rebuilt → List Reply → Report
 report_with trace rebuilt replies = record {
   replies = replies;
-  histories = one_caller_histories trace.config.shards trace.blocks 0 (opening_of trace.config) (restores_in trace.config (restored_of rebuilt)) trace.ops replies;
-  ends = ends_of trace.config (one_caller_histories trace.config.shards trace.blocks 0 (opening_of trace.config) (restores_in trace.config (restored_of rebuilt)) trace.ops replies);
+  histories = one_caller_histories trace.config.shards trace.blocks 0 (opening_of trace.config) (restores_in trace.config (found_keys rebuilt)) trace.ops replies;
+  ends = ends_of trace.config (one_caller_histories trace.config.shards trace.blocks 0 (opening_of trace.config) (restores_in trace.config (found_keys rebuilt)) trace.ops replies);
   io = None;
   rebuilt = rebuilt;
   status = status_of replies;
@@ -200,4 +200,4 @@ no_contents ptr = []
 -- the report of one caller's run over these bytes, where this was found on the cache device, and the pool and the device answered their reads so
 abbrev pub report_of : Trace → Option Rebuilt → Images → (calls device_calls : List Call) → Report
 report_of trace rebuilt images calls device_calls =
-    report_with trace rebuilt (replies_to images trace.config.shards trace.blocks (restored_shard trace.config (restored_of rebuilt)) [] no_contents trace.ops calls device_calls)
+    report_with trace rebuilt (replies_to images trace.config.shards trace.blocks (restored_shard trace.config (found_keys rebuilt)) [] no_contents trace.ops calls device_calls)

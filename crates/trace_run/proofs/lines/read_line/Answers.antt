@@ -9,8 +9,8 @@ use Rattle.arc_table.specs.Cache.{Cache}
 use Rattle.arc_table.specs.Items.{Meanings, meanings}
 use Rattle.trace_run.specs.declared.get.Got.{Got}
 use Rattle.trace_run.specs.declared.kept_blocks.KeptBlock.{KeptBlock}
-use Rattle.trace_run.specs.one_caller.Access.{events_of_answered, events_of_drop, held_key as access_key}
-use Rattle.trace_run.specs.KeptBlocks.{GivesBack, IsOwnedBy, Stands, read_of}
+use Rattle.trace_run.specs.one_caller.Access.{events_of_answered, events_of_drop, held_by_access as access_key}
+use Rattle.trace_run.specs.KeptBlocks.{GivesKeptBack, IsOwnedBy, Stands, read_of}
 use Rattle.trace_run.specs.one_caller.OneCaller.{key_held_by}
 use Rattle.trace_run.specs.KeptReads.{KeptRead, kept_read}
 use Rattle.trace_run.specs.Reads.{DidActs, DidAnswer, access_now, now_of}
@@ -25,7 +25,7 @@ owned-last P (y ∷ ys) x all = owned-last P ys x all.1
 
 -- a read that was got is given back
 given-did : {C : Type 0} (m : Meanings C) (cache : Cache) (t block : ℕ) (ptr : Ptr) (got : Got) (p r q : Place (Known C)) (kept : List KeptBlock) → Stands cache r (kept ++ got.read ∷ [])
-    → DidAnswer cache.config t ptr got.served p r → read_of got.read ≡ kept_read block (key_held_by ptr got.served) → GivesBack m cache.config got.read.kept r q
+    → DidAnswer cache.config t ptr got.served p r → read_of got.read ≡ kept_read block (key_held_by ptr got.served) → GivesKeptBack m cache.config got.read.kept r q
     → DidActs cache.config (shard_of cache.config.shards ptr.key) (Reads p.number t ptr got.served ∷ [])
     (events_of_answered p.number t ptr got.served (access_now cache.config ptr p) ++ events_of_drop p.number (access_key ptr (access_now cache.config ptr p))) p q
 given-did m cache t block ptr got p r q kept stands did is gives =
