@@ -36,11 +36,12 @@ use Rattle.arc_table.specs.Reading.{Answers, AnswersRead, EndsAtPool, EndsMiss, 
 use Rattle.arc_table.proofs.Afterwards.{Stays, stays_party}
 use Rattle.trace_run.specs.declared.kept_blocks.KeptBlock.{KeptBlock}
 use Rattle.trace_run.specs.Effects.{calls_from}
-use Rattle.trace_run.specs.KeptBlocks.{AllQuiet, IsOwnedBy, Stands, held_key, listed_all, listed_for, no_entries, times}
+use Rattle.trace_run.specs.KeptBlocks.{AllQuiet, IsOwnedBy, Stands, held_key, listed_all, listed_for, times}
 use Rattle.trace_run.specs.KeptReads.{kept_read}
 use Rattle.trace_run.specs.Read.{IsMismatch}
 use Rattle.trace_run.specs.Reads.{CallsFor, DidAnswer, DidFail, DidRead, IsCauseOf, IsGot, now_of}
-use Rattle.arc_table.specs.Seen.{AddsAll, HasAll, HasSeenItsOwn}
+use Rattle.arc_table.specs.Seen.{AddsAll, HasAll}
+use Rattle.trace_run.specs.Making.{HasSeenItsEvents}
 use Rattle.trace_run.proofs.CellsLeft.{LeavesCells, leaves-seen, read-leaves}
 use Rattle.trace_run.proofs.KeptBlockLemmas.{times-append, times-middle}
 use Rattle.trace_run.proofs.ReadLemmas.{AddsFailed, AddsRead, AddsServed, read-adds, read-seen}
@@ -59,7 +60,7 @@ all-last P (y ∷ ys) x all last = (all.0, all-last P ys x all.1 last)
 pub hold-ptr : (ptr : Ptr) (n : ℕ) (hold : Hold) → IsHoldOf ptr n hold → ptr ≡ ptr_of hold
 hold-ptr ptr n hold h = λ i. record { key = sym h.key i; digest = sym h.block.digest i }
 
-module _ {C : Type 0} (cache : Cache) (p q : Place (Known C)) (kept : List KeptBlock) (stands : Stands cache p kept) (left : LeavesCells cache.config p q) (seen : HasSeenItsOwn cache.config q) where
+module _ {C : Type 0} (cache : Cache) (p q : Place (Known C)) (kept : List KeptBlock) (stands : Stands cache p kept) (left : LeavesCells cache.config p q) (seen : HasSeenItsEvents cache.config q) where
   abbrev stays : Stays p q
   stays = left.stays
 
@@ -68,7 +69,7 @@ module _ {C : Type 0} (cache : Cache) (p q : Place (Known C)) (kept : List KeptB
     valid = stands.valid;
     of = stays_party cache p q stays stands.of;
     free = stays.held ∙ stands.free;
-    cells = leaves-seen cache.config no_entries p q left stands.cells;
+    cells = leaves-seen cache.config p q left stands.cells;
     idle = lists.readings ∙ stands.idle;
     unclaimed = λ i. ap (list_at i) lists.claims ∙ stands.unclaimed i;
     seen = seen;
@@ -83,7 +84,7 @@ module _ {C : Type 0} (cache : Cache) (p q : Place (Known C)) (kept : List KeptB
     valid = stands.valid;
     of = stays_party cache p q stays stands.of;
     free = stays.held ∙ stands.free;
-    cells = leaves-seen cache.config no_entries p q left stands.cells;
+    cells = leaves-seen cache.config p q left stands.cells;
     idle = lists.readings ∙ stands.idle;
     unclaimed = λ i. ap (list_at i) lists.claims ∙ stands.unclaimed i;
     seen = seen;
@@ -102,8 +103,8 @@ module _ {C : Type 0} (cache : Cache) (p q : Place (Known C)) (kept : List KeptB
 
 -- ---- what was done
 
-module _ {C P D : Type 0} (m : Meanings C) (g : Config) (valid : IsConfig g) (pools : PoolGhosts P) (devices : DeviceGhosts D) (ptr : Ptr) (t size : ℕ) (p q : Place (Known C)) where
-  pub did-answer : (from : Served) → AddsServed m g valid pools devices ptr t from p q → DidAnswer g size t ptr from p q
+module _ {C P D : Type 0} (m : Meanings C) (g : Config) (valid : IsConfig g) (pools : PoolGhosts P) (devices : DeviceGhosts D) (ptr : Ptr) (t : ℕ) (p q : Place (Known C)) where
+  pub did-answer : (from : Served) → AddsServed m g valid pools devices ptr t from p q → DidAnswer g t ptr from p q
   did-answer from a = record {
     act = record {
       made = a.ms;
@@ -112,11 +113,12 @@ module _ {C P D : Type 0} (m : Meanings C) (g : Config) (valid : IsConfig g) (po
       alone = λ x. subst (λ (es : List Event). AddsAll g _ es p q) (a.alone x).0 (a.moves.alone x);
       all = a.moves.all;
       joined = a.moves.joined;
+      only = a.moves.only;
     };
     source = λ x. (a.alone x).1;
   }
 
-  pub did-fail : AddsFailed m g valid pools devices ptr t p q → DidFail g size t ptr p q
+  pub did-fail : AddsFailed m g valid pools devices ptr t p q → DidFail g t ptr p q
   did-fail a = record {
     act = record {
       made = a.ms;
@@ -125,6 +127,7 @@ module _ {C P D : Type 0} (m : Meanings C) (g : Config) (valid : IsConfig g) (po
       alone = λ x. subst (λ (es : List Event). AddsAll g _ es p q) (a.alone x).0 (a.moves.alone x);
       all = a.moves.all;
       joined = a.moves.joined;
+      only = a.moves.only;
     };
     asked = λ x. (a.alone x).1;
   }
@@ -236,7 +239,7 @@ module _ {C P D : Type 0} (m : Meanings C) (cache : Cache) (pools : PoolGhosts P
   pub adds : AddsRead m cache.config stands.valid pools devices ptr t p q result
   adds = read-adds m cache.config stands.valid pools devices ptr t before now p q result stands.of.config stands.seen answer
 
-  seen : HasSeenItsOwn cache.config q
+  seen : HasSeenItsEvents cache.config q
   seen = read-seen m cache.config stands.valid pools devices ptr t p q result stands.seen adds
 
   pub lists : ListsAnswer ptr p q result
@@ -269,8 +272,8 @@ module _ {C P D : Type 0} (m : Meanings C) (cache : Cache) (pools : PoolGhosts P
     pub held-stands : Stands cache q (kept ++ record { block = block; kept = Held hold } ∷ [])
     held-stands = stands-held cache p q kept stands left seen block ptr hold held-lists.1 held-lists.0
 
-    pub held-did : DidAnswer cache.config size t ptr from p q
-    held-did = did-answer m cache.config stands.valid pools devices ptr t size p q from (subst (AddsRead m cache.config stands.valid pools devices ptr t p q) is adds)
+    pub held-did : DidAnswer cache.config t ptr from p q
+    held-did = did-answer m cache.config stands.valid pools devices ptr t p q from (subst (AddsRead m cache.config stands.valid pools devices ptr t p q) is adds)
 
     pub held-got : IsGot (pools.told before.pool) block ptr (record { served = from; read = record { block = block; kept = Held hold } })
     held-got = go from (subst (PoolDid pools ptr before.pool now.pool) is (pool-did m pools devices cache.config ptr t before now p q result answer))
@@ -287,17 +290,17 @@ module _ {C P D : Type 0} (m : Meanings C) (cache : Cache) (pools : PoolGhosts P
   pub past-stands : Lists [] p q → (b : KeptBlock) → listed_for b.kept ≡ [] → IsOwnedBy p.number b.kept → Stands cache q (kept ++ b ∷ [])
   past-stands same b none owned = stands-more cache p q kept stands left seen b owned (subst (λ (l : List Ptr). Lists l p q) (sym none) same)
 
-  pub past-did : AddsServed m cache.config stands.valid pools devices ptr t served.Past p q → DidAnswer cache.config size t ptr served.Past p q
-  past-did a = did-answer m cache.config stands.valid pools devices ptr t size p q served.Past a
+  pub past-did : AddsServed m cache.config stands.valid pools devices ptr t served.Past p q → DidAnswer cache.config t ptr served.Past p q
+  past-did a = did-answer m cache.config stands.valid pools devices ptr t p q served.Past a
 
   pub fault-stands : (why : ReadFault) → result ≡ Err why → Stands cache q kept
   fault-stands why is = stands-same cache p q kept stands left seen (subst (ListsAnswer ptr p q) is lists)
 
-  pub fault-did : (why : ReadFault) → result ≡ Err why → DidRead cache.config size t ptr p q (Err why)
+  pub fault-did : (why : ReadFault) → result ≡ Err why → DidRead cache.config t ptr p q (Err why)
   fault-did why is = go why (subst (AddsRead m cache.config stands.valid pools devices ptr t p q) is adds)
     where
-      go : (w : ReadFault) → AddsRead m cache.config stands.valid pools devices ptr t p q (Err w) → DidRead cache.config size t ptr p q (Err w)
-      go (fault.PoolFault) a = did-fail m cache.config stands.valid pools devices ptr t size p q a
-      go (fault.Mismatch found) a = did-fail m cache.config stands.valid pools devices ptr t size p q a
+      go : (w : ReadFault) → AddsRead m cache.config stands.valid pools devices ptr t p q (Err w) → DidRead cache.config t ptr p q (Err w)
+      go (fault.PoolFault) a = did-fail m cache.config stands.valid pools devices ptr t p q a
+      go (fault.Mismatch found) a = did-fail m cache.config stands.valid pools devices ptr t p q a
       go (fault.Key why) a = a
       go (fault.NoMemory) a = tt

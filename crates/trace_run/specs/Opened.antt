@@ -13,7 +13,7 @@ use Rattle.dbuf_state.specs.declared.dbuf.Content.TheVariants.{Clean}
 use Rattle.dbuf_state.specs.declared.state.DbState.TheVariants as state
 use Rattle.dbuf_state.specs.declared.state.Mapping.{Mapping}
 use Rattle.trace_run.specs.KeptBlocks.{Stands}
-use Rattle.arc_table.specs.Told.{IsTold}
+use Rattle.trace_run.specs.Making.{HasTold}
 
 -- a cell at its start: it has this limit and maps this, and nothing was done to it
 pub record HasBegun (limit : ℕ) (opening : List Mapping) (cell : CellLog Kept) : Type 0 where
@@ -29,7 +29,7 @@ module _ {C : Type 0} where
     pub begun : p.own.ledger ≡ no_ledger
     pub seen : p.own.seen ≡ []
     pub stands : Stands cache p []
-    pub told : IsTold cache.config [] p
+    pub told : HasTold cache.config [] p
 
   -- it is alone under its number
   pub record IsOpened (cache : Cache) (n : ℕ) (p : Place (Known C)) : Type 0 where

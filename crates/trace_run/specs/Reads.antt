@@ -28,7 +28,7 @@ use Rattle.trace_run.specs.one_caller.OneCaller.{key_held_by}
 use Rattle.trace_run.specs.KeptReads.{kept_read}
 use Rattle.trace_run.specs.Read.{IsFromPool, IsMismatch, IsReadOf}
 use Rattle.arc_table.specs.Seen.{AddsAll, AddsOwn, HasAll, seen_of}
-use Rattle.arc_table.specs.Told.{IsTold}
+use Rattle.trace_run.specs.Making.{HasTold, MadeItsOwn}
 
 module _ {C : Type 0} where
   -- what a party that has every number finds of a shard: the replay of what it has seen
@@ -39,39 +39,40 @@ module _ {C : Type 0} where
   abbrev pub access_now : Config → Ptr → Place (Known C) → Access
   access_now g ptr p = access_of (now_of g (shard_of g.shards ptr.key) p) ptr
 
-  -- The party did this act, once. A party that is alone has seen just these events more.
-  pub record DidAct (g : Config) (device : ℕ) (act : Act) (es : List Event) (p q : Place (Known C)) : Type 0 where
+  -- The party did this act, once, with its own number. A party that is alone has seen just these events more.
+  pub record DidAct (g : Config) (act : Act) (es : List Event) (p q : Place (Known C)) : Type 0 where
     pub made : List Moment
     pub own : AddsOwn g (shard_of g.shards (act_key act)) made p q
     pub act_is : StandsFor act made
+    pub only : MadeItsOwn g p → MadeItsOwn g q
     pub alone : HasAll p → AddsAll g (shard_of g.shards (act_key act)) es p q
     pub all : HasAll p → HasAll q
     pub joined : q.joined ≡ p.joined
 
   -- the read was answered, and its bytes came from here; or the pool was asked for them, and failed or gave others
-  pub record DidAnswer (g : Config) (device t : ℕ) (ptr : Ptr) (from : Served) (p q : Place (Known C)) : Type 0 where
-    pub act : DidAct g device (Keeps p.number t ptr from) (events_of_answered p.number t ptr from (access_now g ptr p)) p q
+  pub record DidAnswer (g : Config) (t : ℕ) (ptr : Ptr) (from : Served) (p q : Place (Known C)) : Type 0 where
+    pub act : DidAct g (Keeps p.number t ptr from) (events_of_answered p.number t ptr from (access_now g ptr p)) p q
     pub source : HasAll p → MayComeFrom (access_now g ptr p) from
 
-  pub record DidFail (g : Config) (device t : ℕ) (ptr : Ptr) (p q : Place (Known C)) : Type 0 where
-    pub act : DidAct g device (Fails p.number t ptr) (events_of_refused p.number t ptr (access_now g ptr p)) p q
+  pub record DidFail (g : Config) (t : ℕ) (ptr : Ptr) (p q : Place (Known C)) : Type 0 where
+    pub act : DidAct g (Fails p.number t ptr) (events_of_refused p.number t ptr (access_now g ptr p)) p q
     pub asked : HasAll p → AsksPool (access_now g ptr p)
 
   -- In one shard the party's own number has these acts more. A party that is alone has seen just these events more, and in no other shard any.
-  pub record DidActs (g : Config) (device shard : ℕ) (acts : List Act) (es : List Event) (p q : Place (Known C)) : Type 0 where
+  pub record DidActs (g : Config) (shard : ℕ) (acts : List Act) (es : List Event) (p q : Place (Known C)) : Type 0 where
     pub number : q.number ≡ p.number
-    pub told : (before : List Act) → IsTold g before p → IsTold g (before ++ acts) q
+    pub told : (before : List Act) → HasTold g before p → HasTold g (before ++ acts) q
     pub alone : HasAll p → AddsAll g shard es p q
     pub all : HasAll p → HasAll q
     pub joined : q.joined ≡ p.joined
 
   -- What a read at this tick that came to this did. Of want of memory nothing is said.
-  abbrev pub DidRead : Config → (device t : ℕ) → Ptr → (p q : Place (Known C)) → Result Got ReadFault → Type 0
-  DidRead g device t ptr p q (Ok got) = DidAnswer g device t ptr got.served p q
-  DidRead g device t ptr p q (Err (fault.PoolFault)) = DidFail g device t ptr p q
-  DidRead g device t ptr p q (Err (fault.Mismatch found)) = DidFail g device t ptr p q
-  DidRead g device t ptr p q (Err (fault.Key why)) = q ≡ p
-  DidRead g device t ptr p q (Err (fault.NoMemory)) = Unit {0}
+  abbrev pub DidRead : Config → (t : ℕ) → Ptr → (p q : Place (Known C)) → Result Got ReadFault → Type 0
+  DidRead g t ptr p q (Ok got) = DidAnswer g t ptr got.served p q
+  DidRead g t ptr p q (Err (fault.PoolFault)) = DidFail g t ptr p q
+  DidRead g t ptr p q (Err (fault.Mismatch found)) = DidFail g t ptr p q
+  DidRead g t ptr p q (Err (fault.Key why)) = q ≡ p
+  DidRead g t ptr p q (Err (fault.NoMemory)) = Unit {0}
 
 -- what a caller keeps once a read is kept that came to this
 abbrev pub kept_then : List KeptBlock → Result Got ReadFault → List KeptBlock

@@ -22,7 +22,6 @@ use Rattle.arc_core.specs.Replay.{is_legal_history, replay}
 use Rattle.arc_core.specs.ShardLog.{ShardLog}
 use Rattle.turn_table.specs.Places.{Place, SomeHas}
 use Rattle.arc_table.specs.declared.view.Known.{Known}
-use Rattle.arc_table.specs.declared.view.Line.{Line}
 use Rattle.arc_table.specs.Cache.{Cache}
 use Rattle.arc_table.specs.Ended.{Ended, Ends}
 use Rattle.arc_table.specs.Geometry.{parties_of}
@@ -43,7 +42,7 @@ use Rattle.trace_run.specs.Effects.{calls_of_all}
 use Rattle.trace_run.specs.Ends.{ends_of}
 use Rattle.arc_table.specs.Telling.{opening_of}
 use Rattle.trace_run.specs.Explaining.{BeginsWith, EndsWith, Explain, drops_at_end}
-use Rattle.trace_run.specs.KeptBlocks.{DroppedAlone, GivesAll, Stands, StandsWith, holds_in, read_of}
+use Rattle.trace_run.specs.KeptBlocks.{DroppedAlone, GivesAll, Stands, holds_in, read_of}
 use Rattle.trace_run.specs.Lines.{caller_of, is_in_shard, is_of_caller, replies_where, shard_of_block, shard_of_line}
 use Rattle.trace_run.specs.one_caller.OneCaller.{AreFoundAs, IsFoundAs, events_of_drops, kept_after, kept_after_all, one_caller_history, only_feeder}
 use Rattle.trace_run.specs.Opened.{HasJoined}
@@ -53,6 +52,7 @@ use Rattle.trace_run.specs.Restores.{events_by_feeder, restored_shard, restores_
 use Rattle.arc_table.specs.Seen.{HasAll, seen_of}
 use Rattle.trace_run.specs.Tally.{AreAnswered, IsOfCaller}
 use Rattle.arc_table.specs.Told.{IsTold}
+use Rattle.trace_run.specs.Making.{AreNoEntries, HasTold}
 use Rattle.trace_run.proofs.MappedLemmas.{ran-mapped}
 use Rattle.trace_run.proofs.callers.CallerActLemmas.{callers-none}
 use Rattle.trace_run.proofs.FeederLemmas.{given-unread, own-restores, restores-given}
@@ -198,7 +198,7 @@ module _ {C P : Type 0} (m : Meanings C) (cache : Cache) (pools : Ghosts P) (blo
     (p q r : Place (Known C)) (kept : List KeptBlock)
     (one : cache.config.callers ≡ 1) (own : (k : ℕ) (op : Op) → slice_get os k ≡ Some op → IfSome (caller_of op) (λ n. n ≡ 0))
     (restored : List Restored) (new : Place (Known C)) (first : HasJoined cache (parties_of cache.config) new) (fed : HasFed cache.config (restores_in cache.config restored) new p)
-    (did : DidLines cache.config pools 0 blocks os replies (at p [] before) (at q (map read_of kept) after))
+    (did : DidLines cache.config pools blocks os replies (at p [] before) (at q (map read_of kept) after))
     (between : Stands cache q kept) (gives : GivesAll m cache.config kept q r) (last : Stands cache r []) where
   abbrev g : Config
   g = cache.config
@@ -222,16 +222,16 @@ module _ {C P : Type 0} (m : Meanings C) (cache : Cache) (pools : Ghosts P) (blo
   to-him = replies_where (is_of_caller 0) os replies
 
   same-count : length replies ≡ length os
-  same-count = lines-length g pools 0 blocks os replies a b did
+  same-count = lines-length g pools blocks os replies a b did
 
   alone : HasAll p
   alone = fed.all (joined-all cache new first)
 
   all-q : HasAll q
-  all-q = lines-all g pools 0 blocks os replies a b did alone
+  all-q = lines-all g pools blocks os replies a b did alone
 
   number-q : q.number ≡ 0
-  number-q = lines-number g pools 0 blocks os replies a b did ∙ (fed.number ∙ first.number)
+  number-q = lines-number g pools blocks os replies a b did ∙ (fed.number ∙ first.number)
 
   number-r : r.number ≡ 0
   number-r = all-number m cache kept q r between gives ∙ number-q
@@ -240,10 +240,10 @@ module _ {C P : Type 0} (m : Meanings C) (cache : Cache) (pools : Ghosts P) (blo
   dropped = all-alone m cache kept q r between gives all-q
 
   kept-is : map read_of kept ≡ kept_after_all blocks [] os replies
-  kept-is = lines-kept g pools 0 blocks os replies a b did
+  kept-is = lines-kept g pools blocks os replies a b did
 
   named : AreNamed blocks (map read_of kept)
-  named = lines-named g pools 0 blocks os replies a b tt did
+  named = lines-named g pools blocks os replies a b tt did
 
   parties-r : r.parties ≡ parties_of cache.config
   parties-r = last.of.row.1 ∙ (sym first.new.stands.of.row.1 ∙ first.new.parties)
@@ -268,7 +268,7 @@ module _ {C P : Type 0} (m : Meanings C) (cache : Cache) (pools : Ghosts P) (blo
 
   all-seen : (shard : ℕ) → seen_of g shard r ≡ history_of shard
   all-seen shard =
-      let lines = lines-seen g pools 0 blocks os replies a b did alone shard in
+      let lines = lines-seen g pools blocks os replies a b did alone shard in
       let over : List Event = events_over g.shards blocks start [] shard os replies in
       let from : seen_of g shard q ≡ begun shard ++ over =
       lines ∙ (λ h. seen-first shard h ++ events_over g.shards blocks (λ i. opens i h) [] shard os replies) in
@@ -278,8 +278,12 @@ module _ {C P : Type 0} (m : Meanings C) (cache : Cache) (pools : Ghosts P) (blo
       ∙ (named-drops g blocks 0 shard (map read_of kept) named ∙ ap (λ (l : List KeptRead). events_of_drops 0 (kept_in_shard g.shards blocks shard l)) kept-is) in
       dropped.seen shard ∙ ((λ h. from h ++ drops h) ∙ (append_assoc (begun shard) over end ∙ ap (λ (es : List Event). begun shard ++ es) (history-over g.shards blocks 0 shard start os replies)))
 
+  -- what it did is told
+  pub told-r : HasTold g (acts_of_all blocks [] os replies ++ acts_of_drops q.number (map read_of kept)) r
+  told-r = all-told m cache kept q r between gives (acts_of_all blocks [] os replies) (lines-told g pools blocks os replies a b did [] (fed.told [] first.new.told))
+
   -- the party that closes the cache is as it was, as far as shards go
-  module _ (entries : ℕ → List Line) (z : Place (Known C)) (same-number : z.number ≡ r.number) (same-parties : z.parties ≡ r.parties) (stands-z : StandsWith entries cache z []) (all-z : HasAll z)
+  module _ (z : Place (Known C)) (same-number : z.number ≡ r.number) (same-parties : z.parties ≡ r.parties) (stands-z : Stands cache z []) (all-z : HasAll z)
       (seen-z : (shard : ℕ) → seen_of g shard z ≡ seen_of g shard r) (closed : Ended C) (ends : Ends m cache (z ∷ []) closed) where
     number-z : z.number ≡ 0
     number-z = same-number ∙ number-r
@@ -332,8 +336,7 @@ module _ {C P : Type 0} (m : Meanings C) (cache : Cache) (pools : Ghosts P) (blo
 
     told-all : IsTold g (acts_of_caller blocks 0 his to-him) r
     told-all =
-        let lines = lines-told g pools 0 blocks os replies a b did [] (fed.told [] first.new.told) in
-        let then = all-told m cache kept q r between gives (acts_of_all blocks [] os replies) lines in
+        let then = told-r.acts in
         subst (λ (l : List Act). IsTold g l r) (λ h. sole-acts blocks [] os replies same-count all-his h ++ acts_of_drops (number-q h) ((kept-is ∙ sole-kept blocks [] os replies same-count all-his) h)) then
 
     told-z : IsTold g (acts_of_caller blocks 0 his to-him) z
@@ -376,7 +379,7 @@ module _ {C P : Type 0} (m : Meanings C) (cache : Cache) (pools : Ghosts P) (blo
     -- ---- the reads of the pool
 
     his-answers : AreAnswered (pools.size before) (pools.told before) blocks [] his to-him × (calls_of_all replies ≡ calls_of_all to-him)
-    his-answers = sole-answers blocks (pools.size before) (pools.told before) [] os replies all-his (lines-answers g pools 0 blocks os replies a b did)
+    his-answers = sole-answers blocks (pools.size before) (pools.told before) [] os replies all-his (lines-answers g pools blocks os replies a b did)
 
     counted-all : length (calls_of_all replies) ≡ sum_by pool_reads (histories_of closed)
     counted-all =
@@ -425,8 +428,8 @@ module _ {C P : Type 0} (m : Meanings C) (cache : Cache) (pools : Ghosts P) (blo
 
     pub ran : RanAlone pools before after trace restored replies closed
     ran = record {
-      answers = lines-answered g pools 0 blocks 0 os replies a b own refl did;
-      made = lines-calls g pools 0 blocks os replies a b did;
+      answers = lines-answered g pools blocks 0 os replies a b own refl did;
+      made = lines-calls g pools blocks os replies a b did;
       histories = counted-off (λ (log : ShardLog). log.history) history_of closed.shards 0 (λ i l at_l. the-history i l at_l ∙ ap history_of (omega arith))
           ∙ ap (λ (n : ℕ). map history_of (range_with_len 0 n)) ends.shards;
       found = all-counted _ (λ shard. found-over g.shards blocks shard start [] os replies found-all) 0 g.shards;
@@ -438,13 +441,13 @@ module _ {C P : Type 0} (m : Meanings C) (cache : Cache) (pools : Ghosts P) (blo
       where
         found-all : AllLinesOver (λ s kept op reply. IsFoundAs blocks s op reply) g.shards blocks start [] os replies
         found-all = subst (λ (s : ℕ → PlainShard). AllLinesOver (λ s kept op reply. IsFoundAs blocks s op reply) g.shards blocks s [] os replies) (λ h i. opens i h)
-            (lines-found g pools 0 blocks os replies a b did alone)
+            (lines-found g pools blocks os replies a b did alone)
 
 -- what is asked of the run, by the trace
 module _ {C P : Type 0} (m : Meanings C) (cache : Cache) (pools : Ghosts P) (trace : Trace) (replies : List Reply) (before after : P) (p q r : Place (Known C)) (kept : List KeptBlock)
     (config : cache.config ≡ trace.config) (formed : IsFormed trace) (one : trace.config.callers ≡ 1)
     (restored : List Restored) (new : Place (Known C)) (first : HasJoined cache (parties_of cache.config) new) (fed : HasFed cache.config (restores_in cache.config restored) new p)
-    (did : DidLines cache.config pools 0 trace.blocks trace.ops replies (at p [] before) (at q (map read_of kept) after))
+    (did : DidLines cache.config pools trace.blocks trace.ops replies (at p [] before) (at q (map read_of kept) after))
     (between : Stands cache q kept) (gives : GivesAll m cache.config kept q r) (last : Stands cache r []) where
   callers : cache.config.callers ≡ 1
   callers = ap (λ (g : Config). g.callers) config ∙ one
@@ -461,11 +464,15 @@ module _ {C P : Type 0} (m : Meanings C) (cache : Cache) (pools : Ghosts P) (tra
   pub still-rows : cache.row.parties ≡ parties_of cache.config
   still-rows = sym last.of.row.1 ∙ parties-r m cache pools trace.blocks trace.ops replies before after p q r kept callers own restored new first fed did between gives last
 
+  -- it made nothing of a cell
+  pub still-only : AreNoEntries cache.config r.own.mine
+  still-only = (told-r m cache pools trace.blocks trace.ops replies before after p q r kept callers own restored new first fed did between gives last).only.entries
+
   -- the feeder's party has still joined it
   pub still-joined : r.joined ≡ q.joined
   still-joined = (all-keep m cache kept q r between gives).0
 
-  module _ (entries : ℕ → List Line) (z : Place (Known C)) (same-number : z.number ≡ r.number) (same-parties : z.parties ≡ r.parties) (stands-z : StandsWith entries cache z []) (all-z : HasAll z)
+  module _ (z : Place (Known C)) (same-number : z.number ≡ r.number) (same-parties : z.parties ≡ r.parties) (stands-z : Stands cache z []) (all-z : HasAll z)
       (seen-z : (shard : ℕ) → seen_of cache.config shard z ≡ seen_of cache.config shard r) where
     pub end-there : (n : ℕ) → n < parties_of cache.config → SomeHas n (z ∷ [])
     end-there = all-there cache z (same-parties ∙ parties-r m cache pools trace.blocks trace.ops replies before after p q r kept callers own restored new first fed did between gives last) all-z
@@ -474,5 +481,5 @@ module _ {C P : Type 0} (m : Meanings C) (cache : Cache) (pools : Ghosts P) (tra
     ran-alone given ps closed same listed ends =
         ran-mapped pools before after trace restored replies closed
         (subst (λ (g : Config). RanAlone pools before after (record { config = g; blocks = trace.blocks; objects = []; ops = trace.ops }) restored replies closed) config
-        (ran m cache pools trace.blocks trace.ops replies before after p q r kept callers own restored new first fed did between gives last entries z same-number same-parties stands-z all-z seen-z closed
+        (ran m cache pools trace.blocks trace.ops replies before after p q r kept callers own restored new first fed did between gives last z same-number same-parties stands-z all-z seen-z closed
         (subst (λ (x : Cache × List (Place (Known C))). Ends m x.0 x.1 closed) (λ i. (same i, listed i)) ends)))

@@ -7,7 +7,6 @@ use Rattle.arc_core.specs.declared.served.Restored.{Restored}
 use Rattle.arc_core.specs.Operations.{Act, pool_reads}
 use Rattle.turn_table.specs.Places.{Place}
 use Rattle.arc_table.specs.declared.view.Known.{Known}
-use Rattle.arc_table.specs.declared.view.Line.{Line}
 use Rattle.arc_table.specs.Cache.{Cache}
 use Rattle.arc_table.specs.Ended.{Ended, Ends}
 use Rattle.arc_table.specs.Geometry.{parties_of}
@@ -23,15 +22,15 @@ use Rattle.trace_run.specs.one_caller.Alone.{ends_in, histories_of}
 use Rattle.trace_run.specs.Answers.{AnswersAll}
 use Rattle.trace_run.specs.Explaining.{Explain}
 use Rattle.trace_run.specs.CellEnds.{EndedCrew}
-use Rattle.trace_run.specs.KeptBlocks.{StandsWith}
+use Rattle.trace_run.specs.KeptBlocks.{Stands}
 use Rattle.trace_run.specs.Meeting.{AreWaiting, HaveGivenBack, IsFed}
-use Rattle.trace_run.specs.Restores.{restored_of}
+use Rattle.trace_run.specs.Restores.{found_keys}
 use Rattle.trace_run.specs.callers.Together.{RunsTogether, StopsAtGroup, answered_ops, faults_told, report_of_closed}
 
--- all parties of a cache, by their numbers, none of which keeps anything, and which have seen these entries of cells
-pub record HaveStopped {C : Type 0} (entries : ℕ → List Line) (cache : Cache) (ps : List (Place (Known C))) : Type 0 where
+-- all parties of a cache, by their numbers, none of which keeps anything
+pub record HaveStopped {C : Type 0} (cache : Cache) (ps : List (Place (Known C))) : Type 0 where
   pub count : length ps ≡ parties_of cache.config
-  pub each : (n : ℕ) (p : Place (Known C)) → get_elem? ps n ≡ some p → (p.number ≡ n) × StandsWith entries cache p []
+  pub each : (n : ℕ) (p : Place (Known C)) → get_elem? ps n ≡ some p → (p.number ≡ n) × Stands cache p []
 
 -- The callers gave back what they kept, the feeder ended all cells, and the cache was closed with these parties.
 pub record HaveClosed {C : Type 0} (m : Meanings C) (cache : Cache) (crew : Crew C) (closed : Ended C) : Type 0 where
@@ -50,5 +49,5 @@ pub record RanTogether {P : Type 0} (pools : Ghosts P) (before after : P) (trace
   pub explained : Explain trace restored replies (ends_in closed) (histories_of closed)
   pub reads : pools.reads before < 2 ^ 63 → pools.reads after ≡ pools.reads before + sum_by pool_reads (histories_of closed)
   pub faults : pools.faults before < 2 ^ 63 → pools.faults after ≡ pools.faults before + faults_told fork_failed replies
-  pub together : (rebuilt : Option Rebuilt) → restored_of rebuilt ≡ restored → RunsTogether pools before after trace fork_failed closed.cells (report_of_closed fork_failed rebuilt replies closed)
+  pub together : (rebuilt : Option Rebuilt) → found_keys rebuilt ≡ restored → RunsTogether pools before after trace fork_failed closed.cells (report_of_closed fork_failed rebuilt replies closed)
   pub failed : fork_failed ≡ true → Rose (pools.faults before) (pools.faults after) × StopsAtGroup trace replies

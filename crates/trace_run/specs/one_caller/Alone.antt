@@ -38,7 +38,7 @@ pub record LinesAlone (C : Type 0) {P : Type 0} (pools : Ghosts P) (before after
   pub opens : (shard : ℕ) → now_of trace.config shard first.party ≡ restored_shard trace.config restored shard
   pub from : first.pool ≡ before
   pub to : last.pool ≡ after
-  pub lines : DidLines trace.config pools 0 trace.blocks trace.ops replies first last
+  pub lines : DidLines trace.config pools trace.blocks trace.ops replies first last
 
 -- Each operation of the one caller was answered, the pool was read just as the replies say, and the closed cache has the restores, the caller's events and no
 -- others. They explain the replies.
