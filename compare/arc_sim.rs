@@ -6,12 +6,13 @@
 //! cache device and what a start finds on it. It was written from the rules alone and shares no code with the program, so it serves as a
 //! baseline of speed and as a second opinion on each report, on the pool and on the device. What several callers are answered is no
 //! function of the trace: then it ends with status 13, which says that it can't tell.
-//! With `--reads` as the first word a trace with other lines than `arc`, `block`, `read`, `hold` and `drop` is refused, and so is a cache
-//! device, as by a program that has no more yet.
+//! With `--undone=WORD,WORD..` in front of its words a trace with an operation of such a word is refused, as by a program that doesn't do it yet, and with
+//! `--undone-alone=..` so is one of a single caller.
 
 mod dbufs;
 mod device;
 mod key;
+#[allow(dead_code)]
 mod pool;
 mod sha256;
 #[allow(dead_code)]
@@ -30,7 +31,7 @@ use std::fmt::{self, Display, Write as _};
 use std::io::{self, Read, Write};
 use std::process::ExitCode;
 use std::sync::Arc;
-use trace::{LONGEST_TRACE, Lines, MOST_OPS, Oid, Op, Pointer, Trace, What, number, parse};
+use trace::{LONGEST_TRACE, MOST_OPS, Oid, Op, Pointer, Trace, What, number, parse};
 
 /// The reads that a seed draws over blocks of zero bytes.
 fn draw(seed: u64, blocks: u64, ops: u64) -> Trace {
@@ -552,19 +553,27 @@ fn command(words: &[String]) -> Result<Command, usize> {
     if words.len() > end { Err(end) } else { Ok(command) }
 }
 
+/// Whether an operation is one that is named as undone.
+fn has_undone(trace: &Trace, undone: &[String]) -> bool {
+    let list = |word: &'_ String| {
+        let of_several = word.strip_prefix("--undone=");
+        let list = of_several.or_else(|| word.strip_prefix("--undone-alone=").filter(|_| trace.callers == 1));
+        list.unwrap_or("").split(',').map(str::to_string).collect::<Vec<_>>()
+    };
+    let named: Vec<String> = undone.iter().flat_map(list).collect();
+    trace.ops.iter().any(|op| named.iter().any(|word| word == op.word()))
+}
+
 /// Does what the words ask, and gives the exit status.
 fn perform() -> u8 {
     let words: Vec<String> = std::env::args().skip(1).collect();
-    let (words, lines) = match &words[..] {
-        [first, rest @ ..] if first == "--reads" => (rest, Lines::Reads),
-        all => (all, Lines::All),
-    };
+    let is_undone = |word: &&String| word.starts_with("--undone");
+    let (undone, words) = words.split_at(words.iter().take_while(is_undone).count());
     let [pool, cache, words @ ..] = words else { return 9 };
     let Some(pool) = Pool::open(pool) else { return 11 };
-    let device = match (cache.as_str(), lines) {
-        ("-", _) => None,
-        (_, Lines::Reads) => return 12,
-        (name, Lines::All) => match Device::open(name) {
+    let device = match cache.as_str() {
+        "-" => None,
+        name => match Device::open(name) {
             Some(device) => Some(device),
             None => return 12,
         },
@@ -582,7 +591,10 @@ fn perform() -> u8 {
             if text.len() > LONGEST_TRACE {
                 return 3;
             }
-            let Ok(trace) = parse(&text, 16, lines) else { return 3 };
+            let Ok(trace) = parse(&text, 16) else { return 3 };
+            if has_undone(&trace, undone) {
+                return 3;
+            }
             if trace.callers > 1 {
                 return 13;
             }

@@ -16,7 +16,7 @@ const LOG_BLOCK: u64 = 65_536;
 const MOST_ENTRIES: [u64; 2] = [1_022, 681];
 const ENTRY: [usize; 2] = [64, 96];
 const LARGEST_OLD_BLOCK: u64 = 1_048_576;
-const HEADER_MAGIC: u64 = 0x5a46_5341_4343_4845;
+const HEADER_MAGIC: u64 = 0x5a46_5343_4143_4845;
 const LOG_MAGIC: u64 = 0x4c4f_4742_4c4b_4844;
 
 #[derive(Clone, Copy)]
