@@ -164,7 +164,7 @@ fn perform() -> Checked<String> {
     if device != "-" {
         image = Some(std::fs::read(device).map_err(|fault| format!("{device}: {fault}"))?);
         let (file, len) = Device::open(device).ok_or("the device can't be had")?;
-        found = Some(Device::start(file, len).map_err(|fault| format!("{device}: {fault}"))?);
+        found = Some(Device::start(file, len));
     }
     let named = |name: &String| Some(name.clone()).filter(|name| name != "-");
     let files = Files {

@@ -21,7 +21,7 @@ mod shard;
 mod trace;
 
 use dbufs::{Cell, Kept};
-use device::Device;
+use device::{Device, RUN};
 use key::Key;
 use pool::Pool;
 use sha256::{Digest, Hex, sha256};
@@ -172,7 +172,7 @@ impl Sim<'_> {
             sim.cells[cell].map(*oid, trace.blocks[*block]);
         }
         if let Some((file, len)) = device {
-            let found = Device::start(file, len)?;
+            let found = Device::start(file, len);
             for live in &found.restored {
                 sim.shards[live.key.shard_of(trace.shards)].restore(live.key, live.place, live.digest);
             }
@@ -303,29 +303,43 @@ impl Sim<'_> {
 
     // ---- the feed
 
-    /// Feeds the device: how much was picked, how many bytes, and how many places were given and taken.
-    fn feed(&mut self) -> Result<String, Stop> {
-        let Some(device) = &mut self.device else { return Ok("feed none".into()) };
+    /// Feeds the device: how much was picked, how many bytes, how many places were given and taken, and whether it failed.
+    fn feed(&mut self) -> String {
+        let Some(device) = &mut self.device else { return "feed none".into() };
         let most = self.trace.write_max.min(device.half());
-        let (mut picked, mut bytes, mut cleared) = (0, 0, 0);
+        let (mut picked, mut bytes, mut written, mut cleared) = (0, 0, 0, 0);
+        let mut has_failed = false;
         for s in 0..self.shards.len() {
             let picks = self.shards[s].pick(most, self.trace.headroom);
             if picks.is_empty() {
                 continue;
             }
+            picked += picks.len();
             let blocks: Vec<_> = picks.iter().map(|place| self.shards[s].block(*place)).collect();
-            for dropped in device.begin(&blocks)? {
+            bytes += blocks.iter().map(|(key, ..)| key.size).sum::<u64>();
+            let (dropped, began) = device.begin(&blocks);
+            for dropped in dropped {
                 let shard = &mut self.shards[dropped.key.shard_of(self.trace.shards)];
                 cleared += u64::from(shard.clear(dropped.key, dropped.place));
             }
-            let places = device.write(&blocks)?;
-            for (place, on_device) in picks.iter().zip(places) {
-                self.shards[s].set(*place, on_device);
+            has_failed = began.is_err();
+            for (picks, run) in picks.chunks(RUN).zip(blocks.chunks(RUN)) {
+                // behind the first fault nothing is written
+                let places = if has_failed { None } else { device.write_run(run).ok() };
+                has_failed = places.is_none();
+                for (i, place) in picks.iter().enumerate() {
+                    match &places {
+                        Some(places) => self.shards[s].set(*place, places[i]),
+                        None => self.shards[s].leave(*place),
+                    }
+                }
+                written += places.map_or(0, |places| places.len());
             }
-            picked += picks.len();
-            bytes += blocks.iter().map(|(key, ..)| key.size).sum::<u64>();
+            if has_failed {
+                break;
+            }
         }
-        Ok(format!("feed picked {picked} bytes {bytes} written {picked} cleared {cleared} ok"))
+        format!("feed picked {picked} bytes {bytes} written {written} cleared {cleared} {}", if has_failed { "fault" } else { "ok" })
     }
 
     // ---- the lines
@@ -334,7 +348,7 @@ impl Sim<'_> {
     fn answer(&mut self, i: usize, op: &Op) -> Result<Result<(), Refusal>, Stop> {
         Ok(match &op.what {
             What::Feed => {
-                let reply = self.feed()?;
+                let reply = self.feed();
                 self.replies.push_str(&reply);
                 Ok(())
             }
@@ -480,6 +494,7 @@ impl Display for Event {
             Event::Pick(key) => write!(f, "pick {FEEDER} {key}"),
             Event::FeedEnd => write!(f, "feedend {FEEDER}"),
             Event::Set(key, place) => write!(f, "set {FEEDER} {key} {place}"),
+            Event::Leave(key) => write!(f, "leave {FEEDER} {key} device"),
             Event::Clear(key) => write!(f, "clear {FEEDER} {key}"),
             Event::Restore(of) => match &of.2 {
                 Some(digest) => write!(f, "restore {FEEDER} {} {} {}", of.0, of.1, Hex(digest)),

@@ -1,7 +1,7 @@
 //! What a report tells of a run, and what is known of the pool and of the cache device that it ran over: nothing here goes by an order of events of
 //! different shards.
 
-use crate::device::{Device, Found, Live};
+use crate::device::{Block, Device, Found, Live, RUN};
 use crate::event_words::key_of;
 use crate::judged::{Event, FailedAt, Origin, Shard, What, Why};
 use crate::key::Key;
@@ -15,9 +15,6 @@ use std::sync::Arc;
 pub type Checked<T> = Result<T, String>;
 
 pub type Bytes = Arc<[u8]>;
-
-/// how many blocks a log block tells of
-const LOGGED: usize = 681;
 
 /// What an event found under its key: the digest of the bytes that are kept, a place on the device, and the digest that is known.
 #[derive(Clone, Copy, Default)]
@@ -320,7 +317,7 @@ impl Told<'_> {
         Ok(())
     }
 
-    fn blocks_of(&self, s: usize, picks: &[usize]) -> Checked<Vec<(Key, Digest, Bytes)>> {
+    fn blocks_of(&self, s: usize, picks: &[usize]) -> Checked<Vec<Block>> {
         let history = &self.histories[s];
         let block = |at: &usize| {
             let (Some(key), Some(digest)) = (key_of(&history.events[*at]), history.under[*at].kept) else { return Err("a pick of no bytes".to_string()) };
@@ -329,20 +326,24 @@ impl Told<'_> {
         picks.iter().map(block).collect()
     }
 
-    fn write(&mut self, device: &mut Device, blocks: &[(Key, Digest, Bytes)]) -> Checked<(Vec<(Key, u64)>, Vec<u64>)> {
+    fn write(&mut self, device: &mut Device, blocks: &[Block]) -> Checked<(Vec<(Key, u64)>, Vec<u64>)> {
         if blocks.is_empty() {
             return Ok((vec![], vec![]));
         }
         let fault = |fault: std::io::Error| format!("the device: {fault}");
-        let dropped = device.begin(blocks).map_err(fault)?.iter().map(|live| (live.key, live.place)).collect();
-        let places = device.write(blocks).map_err(fault)?;
+        let (dropped, began) = device.begin(blocks);
+        began.map_err(fault)?;
+        let mut places = vec![];
+        for run in blocks.chunks(RUN) {
+            places.extend(device.write_run(run).map_err(fault)?);
+        }
         let writes = &mut self.device.as_mut().ok_or("there is no device")?.writes;
         writes.push((0, 512, None));
         writes.extend(blocks.iter().zip(&places).map(|((key, digest, _), place)| (*place, key.size, Some(*digest))));
         // a log block stands behind each run of blocks
-        let lasts = blocks.chunks(LOGGED).zip(places.chunks(LOGGED)).filter_map(|(blocks, places)| Some((blocks.last()?, places.last()?)));
+        let lasts = blocks.chunks(RUN).zip(places.chunks(RUN)).filter_map(|(blocks, places)| Some((blocks.last()?, places.last()?)));
         writes.extend(lasts.map(|((key, ..), place)| (place + key.size, 65_536, None)));
-        Ok((dropped, places))
+        Ok((dropped.iter().map(|live| (live.key, live.place)).collect(), places))
     }
 }
 
