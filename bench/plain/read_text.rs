@@ -6,10 +6,13 @@
 //! baseline of the speed with which a trace is read.
 
 #[allow(dead_code)]
+#[path = "../../compare/key.rs"]
 mod key;
 #[allow(dead_code)]
+#[path = "../../compare/sha256.rs"]
 mod sha256;
 #[allow(dead_code)]
+#[path = "../../compare/trace.rs"]
 mod trace;
 
 use std::io::{self, Read};
