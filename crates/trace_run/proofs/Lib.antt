@@ -9,6 +9,8 @@ pub mod DeviceLemmas
 pub mod DeviceReadLemmas
 pub mod DropLemmas
 pub mod EndSteps
+pub mod FeedLemmas
+pub mod FeedStands
 pub mod FeederLemmas
 pub mod GetLemmas
 pub mod GiveLemmas
@@ -19,12 +21,14 @@ pub mod LinesLemmas
 pub mod MappedLemmas
 pub mod MoveLemmas
 pub mod OpenLemmas
+pub mod PickedLemmas
 pub mod ReadLemmas
 pub mod ReadStands
 pub mod ResizeLemmas
 pub mod RestoreLemmas
 pub mod RunLemmas
 pub mod ServeLemmas
+pub mod StartLemmas
 pub mod SyncInserts
 pub mod SyncJoined
 pub mod SyncSteps
