@@ -25,7 +25,7 @@ use Rattle.trace_run.specs.DbufTurns.{CellsDone, DidOwn, held_through}
 use Rattle.trace_run.specs.Deeds.{noted_in}
 use Rattle.trace_run.proofs.deeds.TurnMakes.{AreTurnEvents, IsTurnEvent}
 
-all-both : {A : Type 0} (P : A → Type 0) (xs ys : List A) → AllByRecursion P xs → AllByRecursion P ys → AllByRecursion P (xs ++ ys)
+pub all-both : {A : Type 0} (P : A → Type 0) (xs ys : List A) → AllByRecursion P xs → AllByRecursion P ys → AllByRecursion P (xs ++ ys)
 all-both P [] ys a b = b
 all-both P (x ∷ xs) ys a b = (a.0, all-both P xs ys a.1 b)
 
@@ -60,15 +60,15 @@ at-most-of : (c : ℕ) (k : Key) (es : List Event) → DropsAtMost c k es → Ar
 at-most-of c k es (inl none) = subst (AreOfCell c) (sym none) tt
 at-most-of c k es (inr one) = subst (AreOfCell c) (sym one) (inl (k, refl), tt)
 
-evictions-of : (m c : ℕ) (o : Outline) (evs : List CellEvent) (es : List Event) → AreEvictions m c o evs es → AreOfCell c es
+pub evictions-of : (m c : ℕ) (o : Outline) (evs : List CellEvent) (es : List Event) → AreEvictions m c o evs es → AreOfCell c es
 evictions-of m c o [] es none = subst (AreOfCell c) (sym none) tt
 evictions-of m c o (e ∷ evs) es a = subst (AreOfCell c) (sym a.6) (all-both (λ e. ((k : Key) × (e ≡ Drop c k)) ⊎ ((k : Key) × (sole : Bool) × (e ≡ Release c k sole))) a.2 a.3 (at-most-of c a.1.key a.2 a.7) (evictions-of m c (after o e) evs a.3 a.8))
 
-release-of : (c : ℕ) (at : Oid) (o : Outline) (es : List Event) → ReleasesAtMost c at o es → AreOfCell c es
+pub release-of : (c : ℕ) (at : Oid) (o : Outline) (es : List Event) → ReleasesAtMost c at o es → AreOfCell c es
 release-of c at o es (no_hold none) = subst (AreOfCell c) (sym none) tt
 release-of c at o es (one_hold ptr sole there cached is) = subst (AreOfCell c) (sym is) (inr (ptr.key, sole, refl), tt)
 
-both-of : (c : ℕ) (xs ys : List Event) → AreOfCell c xs → AreOfCell c ys → AreOfCell c (xs ++ ys)
+pub both-of : (c : ℕ) (xs ys : List Event) → AreOfCell c xs → AreOfCell c ys → AreOfCell c (xs ++ ys)
 both-of c xs ys a b = all-both (λ e. ((k : Key) × (e ≡ Drop c k)) ⊎ ((k : Key) × (sole : Bool) × (e ≡ Release c k sole))) xs ys a b
 
 -- ---- an operation and its evictions
