@@ -7,7 +7,7 @@ use Rattle.arc_lint.specs.declared.ended.Ended.TheVariants.{Fine, Usage, Faulty,
 use Rattle.arc_lint.specs.declared.verdict.Format.{Format}
 use Rattle.arc_lint.specs.declared.verdict.Verdict.{Verdict}
 use Rattle.arc_lint.specs.declared.verdict.Verdict.TheVariants.{Trace, Pages, Log, Bad}
-use Rattle.arc_lint.specs.Stream.{AppendsFront, Gives, NoneFailed, OneFailed, StreamState}
+use Rattle.vdev_io.specs.Streams.{AppendsFront, Gives, NoneFailed, OneFailed, StreamState}
 use Rattle.arc_lint.specs.Told.{verdict_text}
 use Rattle.arc_lint.specs.Verdict.{IsVerdict}
 

@@ -1,6 +1,5 @@
 pub mod Answers
 pub mod Shown
-pub mod Stream
 pub mod Told
 pub mod Verdict
 pub mod Wanted

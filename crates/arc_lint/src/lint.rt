@@ -2,15 +2,14 @@
 ghost use Rattle.std.specs.Prelude.{◌+◌};
 ghost use Rattle.trace_text.specs.Grammar.{longest_text};
 ghost use Rattle.arc_lint.specs.Answers.{Answers};
-ghost use Rattle.arc_lint.specs.Stream.{TakesAtMost, sink_state, source_state};
+ghost use Rattle.vdev_io.specs.Streams.{TakesAtMost, sink_state, source_state};
 
 use crate::ended::Ended;
 use crate::print::verdict_text;
-use crate::stream::{ReadAllFault, read_all, write_all};
 use crate::verdict::{Format, Verdict, verdict_on};
 use std::alloc::Global;
 use trace_text::LONGEST_TEXT;
-use vdev_io::{Failed, Sink, Source};
+use vdev_io::{Failed, ReadAllFault, Sink, Source, read_all, write_all};
 
 /// Reads the source, and writes to the sink what its text declares, or its first line at fault: the one that `read_trace`,
 /// `read_pages` or `read_events` tells. At [`Ended::SourceFault`] and [`Ended::NoMemory`] nothing is written, and at [`Ended::SinkFault`] a front of it was.

@@ -7,7 +7,6 @@ mod ended;
 mod line;
 mod lint;
 mod print;
-mod stream;
 mod verdict;
 mod wanted;
 

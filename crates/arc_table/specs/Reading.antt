@@ -41,7 +41,7 @@ use Rattle.arc_table.specs.Fetching.{CameFromCache, IsAskedAtMost, IsFound, Unse
 use Rattle.arc_table.specs.Holding.{IsHeld, IsHoldOf}
 use Rattle.arc_table.specs.Items.{Meanings}
 use Rattle.vdev_io.specs.Calls.{Failed, Gave, MakesCall}
-use Rattle.arc_table.specs.pact.Standing.{is_cached_with}
+use Rattle.arc_table.specs.pact.Standing.{IsCachedWith}
 
 -- ---- words
 
@@ -189,9 +189,9 @@ module _ {C P D : Type 0} (m : Meanings C) (pools : PoolGhosts P) (devices : Dev
   -- A read past the cache, which keeps bytes of another digest than the pointer's: the device was not asked.
   -- Or memory was refused before any of these, and all is as it was.
   pub data Answers (g : Config) (ptr : Ptr) (t : ℕ) (before now : Outside P D) (p q : Place (Known C)) (result : Result Read ReadFault) : Type 0 where
-    hit : (hold : Hold) → result ≡ Ok (gave.Held hold served.Hit) → (d : Does m g ptr.key (Hit p.number ptr.key t ∷ []) p q) → is_cached_with ptr d.before.now → IsHeldOf m g ptr p q hold → now ≡ before → Answers g ptr t before now p q result
+    hit : (hold : Hold) → result ≡ Ok (gave.Held hold served.Hit) → (d : Does m g ptr.key (Hit p.number ptr.key t ∷ []) p q) → IsCachedWith ptr d.before.now → IsHeldOf m g ptr p q hold → now ≡ before → Answers g ptr t before now p q result
     missed : (r : Place (Known C)) (d : DoesRoomy m g ptr.key (Miss p.number ptr.key t) p r) → IsTrue (is_missing ptr.key d.before.now) → EndsMiss g ptr (known_at ptr.key d.before) before now r q result → Answers g ptr t before now p q result
-    past : (kept : Digest) → kept ≢ ptr.digest → (d : Does m g ptr.key (Past p.number ptr.key kept ∷ []) p q) → is_cached_with (ptr_with ptr.key kept) d.before.now → now.device ≡ before.device → EndsPast pools ptr kept before.pool now.pool result → Answers g ptr t before now p q result
+    past : (kept : Digest) → kept ≢ ptr.digest → (d : Does m g ptr.key (Past p.number ptr.key kept ∷ []) p q) → IsCachedWith (ptr_with ptr.key kept) d.before.now → now.device ≡ before.device → EndsPast pools ptr kept before.pool now.pool result → Answers g ptr t before now p q result
     no_memory : result ≡ Err fault.NoMemory → Does m g ptr.key [] p q → now ≡ before → Answers g ptr t before now p q result
 
   -- What `read` answers. The key names no block of the pool: this is the first test that it fails, and all is as it was. Or it names one, and

@@ -11,7 +11,7 @@ ghost use Rattle.arc_table.specs.Items.{meanings};
 ghost use Rattle.arc_table.specs.Looking.{HasNoLook};
 ghost use Rattle.arc_table.specs.Making.{IsMade, IsOf, IsTaken};
 ghost use Rattle.arc_table.specs.Ready.{IsReady};
-ghost use Rattle.arc_table.specs.pact.Standing.{is_cached_with};
+ghost use Rattle.arc_table.specs.pact.Standing.{IsCachedWith};
 ghost use Rattle.arc_table.specs.Trying.{FindsBusy};
 ghost use Rattle.turn_table.specs.Board.{IsAmong};
 ghost use Rattle.turn_table.specs.Places.{IsOther};
@@ -77,8 +77,8 @@ impl<C: Keeps> Arcs<C> {
         ensures new { result.0.hand.before.value ≡ result.0.shard }
         ensures takes { TakesBoth (meanings C.holds C.entries C.opening C.claims C.sound) self.now.config ptr.now.key result.0.hand.own.bucket result.0.shard party.old party.new }
         ensures ready { IfSome result.1 (λ at. IsReady ptr.now at result.0.hand.own.bucket.headers) }
-        ensures here { IfSome result.1 (λ at. is_cached_with ptr.now result.0.shard.now) }
-        ensures elsewhere { IfNone result.1 (is_cached_with ptr.now result.0.shard.now → ⊥) }
+        ensures here { IfSome result.1 (λ at. IsCachedWith ptr.now result.0.shard.now) }
+        ensures elsewhere { IfNone result.1 (IsCachedWith ptr.now result.0.shard.now → ⊥) }
     {
         let turn = shard_turn_of(&self.config, ptr.key);
         let own = self.take_bucket(rt, party, ptr.key);

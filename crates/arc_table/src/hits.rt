@@ -12,7 +12,7 @@ ghost use Rattle.arc_table.specs.Items.{meanings};
 ghost use Rattle.arc_table.specs.Looking.{HasNoLook};
 ghost use Rattle.arc_table.specs.Making.{IsTaken};
 ghost use Rattle.arc_table.specs.Ready.{IsReady};
-ghost use Rattle.arc_table.specs.pact.Standing.{StandsSo, is_cached_with};
+ghost use Rattle.arc_table.specs.pact.Standing.{StandsSo, IsCachedWith};
 ghost use Rattle.arc_table.specs.Trying.{AnswersHit, MayAnswerHolder};
 
 use crate::arcs::{Arcs, Party};
@@ -141,7 +141,7 @@ impl<C: Keeps> Arcs<C> {
     ) -> Result<Hold, NoMemory>
         requires party { IsPartyOf self.now party.old }
         requires taken { IsTaken (meanings C.holds C.entries C.opening C.claims C.sound) self.now.config ptr.key both party.old }
-        requires here { is_cached_with ptr both.shard.now }
+        requires here { IsCachedWith ptr both.shard.now }
         requires ready { IsReady ptr at both.hand.own.bucket.headers }
         ensures ok { IfOk result (λ hold. Makes (meanings C.holds C.entries C.opening C.claims C.sound) self.now.config ptr.key both.shard (Event.Hit party.old.number ptr.key tick ∷ []) party.old party.new) }
         ensures hold { IfOk result (λ hold. IsHoldOf ptr party.old.number hold × IsHeld self.now.config party.new hold) }

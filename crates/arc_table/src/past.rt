@@ -5,7 +5,7 @@ ghost use Rattle.arc_table.specs.Both.{Makes};
 ghost use Rattle.arc_table.specs.Cache.{IsPartyOf};
 ghost use Rattle.arc_table.specs.Items.{meanings};
 ghost use Rattle.arc_table.specs.Making.{IsTaken};
-ghost use Rattle.arc_table.specs.pact.Standing.{is_cached_with};
+ghost use Rattle.arc_table.specs.pact.Standing.{IsCachedWith};
 
 use crate::arcs::{Arcs, Party};
 use crate::both::Both;
@@ -24,7 +24,7 @@ impl<C: Keeps> Arcs<C> {
     ) -> Result<Vec<u8>, NoMemory>
         requires party { IsPartyOf self.now party.old }
         requires taken { IsTaken (meanings C.holds C.entries C.opening C.claims C.sound) self.now.config key both party.old }
-        requires kept { is_cached_with (record { key = key; digest = kept }) both.shard.now }
+        requires kept { IsCachedWith (record { key = key; digest = kept }) both.shard.now }
         ensures room { IfOk result (λ bytes. vec_len bytes ≡ key.size) }
         ensures ok { OnOk result (Makes (meanings C.holds C.entries C.opening C.claims C.sound) self.now.config key both.shard (Event.Past party.old.number key kept ∷ []) party.old party.new) }
         ensures err { OnErr result (Makes (meanings C.holds C.entries C.opening C.claims C.sound) self.now.config key both.shard [] party.old party.new) }

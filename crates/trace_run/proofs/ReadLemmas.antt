@@ -34,7 +34,7 @@ use Rattle.arc_table.specs.Geometry.{shard_turn}
 use Rattle.arc_table.specs.Items.{Meanings}
 use Rattle.arc_table.specs.Reading.{Answers, AnswersRead, EndsAtPool, EndsMiss, EndsPast, GoesToPool, Outside, TurnsToPool, Waits, answered, cleared, from_device, from_none, from_pool, hit, missed, no_memory, past, read, refused, unread, unserved}
 use Rattle.arc_table.specs.scans.Scanning.{ArePasses}
-use Rattle.arc_table.specs.pact.Standing.{is_cached_with}
+use Rattle.arc_table.specs.pact.Standing.{IsCachedWith}
 use Rattle.arc_table.proofs.Reached.{reached}
 use Rattle.trace_run.specs.one_caller.Access as access
 use Rattle.trace_run.specs.one_caller.Access.{Access, AsksPool, MayComeFrom, access_of, events_of_answered, events_of_refused}
@@ -48,7 +48,7 @@ use Rattle.arc_table.proofs.scans.ScanAlone.{scan-alone}
 use Rattle.arc_table.proofs.reads.ReadMoments.{moment, own-behind, own-none, own-one, own-single}
 
 -- bytes that are cached with a digest are kept with it
-cached-keeps : (ptr : Ptr) (s : PlainShard) → is_cached_with ptr s → IsTrue (entry_is (keeps_digest ptr.digest) ptr.key s)
+cached-keeps : (ptr : Ptr) (s : PlainShard) → IsCachedWith ptr s → IsTrue (entry_is (keeps_digest ptr.digest) ptr.key s)
 cached-keeps ptr s cached = go (entry_of ptr.key s) cached
   where
     go : (o : Option Entry) → IsTrue (option_map_or (λ e. is_resident e && keeps_digest ptr.digest e) o false) → IsTrue (option_map_or (keeps_digest ptr.digest) o false)

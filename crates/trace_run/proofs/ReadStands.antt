@@ -40,7 +40,7 @@ use Rattle.arc_table.specs.Items.{Meanings}
 use Rattle.arc_table.specs.Reading.{Answers, AnswersRead, EndsAtPool, EndsMiss, EndsPast, GoesToPool, Outside, TurnsToPool, Waits, answered, cleared, from_device, from_none, from_pool, hit, missed, no_memory, past, read, refused, unread, unserved}
 use Rattle.arc_table.specs.scans.Scanning.{ArePasses}
 use Rattle.arc_table.specs.ShardGiving.{holds_through}
-use Rattle.arc_table.specs.pact.Standing.{is_cached_with}
+use Rattle.arc_table.specs.pact.Standing.{IsCachedWith}
 use Rattle.arc_table.proofs.reads.AfterRead.{stays_config, turns_stays, waits_stays}
 use Rattle.arc_table.proofs.Afterwards.{does_ledger}
 use Rattle.arc_table.proofs.Reached.{reached}
@@ -54,7 +54,7 @@ pub record Lists {C : Type 0} (new : List Ptr) (p q : Place (Known C)) : Type 0 
   pub claims : q.own.ledger.claims ≡ p.own.ledger.claims
 
 -- the digest of bytes that are cached with it
-cached-digest : (ptr : Ptr) (s : PlainShard) → is_cached_with ptr s → digest_at ptr.key s ≡ Some ptr.digest
+cached-digest : (ptr : Ptr) (s : PlainShard) → IsCachedWith ptr s → digest_at ptr.key s ≡ Some ptr.digest
 cached-digest ptr s cached = go (entry_of ptr.key s) cached
   where
     kept : (o : Option Digest) → option_map_or (λ kept. digest_eq kept ptr.digest) o false ≡ true → o ≡ Some ptr.digest
@@ -86,7 +86,7 @@ module _ {C : Type 0} (m : Meanings C) (g : Config) (valid : IsConfig g) where
       let l = does_ledger m g valid k [] p q config d in
       record { holds = ap (λ (x : Ledger). x.holds) l; readings = ap (λ (x : Ledger). x.readings) l; claims = ap (λ (x : Ledger). x.claims) l }
 
-  lists-hit : (ptr : Ptr) (t : ℕ) (p q : Place (Known C)) → p.own.about.config ≡ g → (d : Does m g ptr.key (Hit p.number ptr.key t ∷ []) p q) → is_cached_with ptr d.before.now → Lists (ptr ∷ []) p q
+  lists-hit : (ptr : Ptr) (t : ℕ) (p q : Place (Known C)) → p.own.about.config ≡ g → (d : Does m g ptr.key (Hit p.number ptr.key t ∷ []) p q) → IsCachedWith ptr d.before.now → Lists (ptr ∷ []) p q
   lists-hit ptr t p q config d cached =
       let l = does_ledger m g valid ptr.key (Hit p.number ptr.key t ∷ []) p q config d in
       record { holds = ap (λ (x : Ledger). x.holds) l ∙ rw (eq-eqb p.number p.number refl, cached-digest ptr d.before.now cached) refl; readings = ap (λ (x : Ledger). x.readings) l; claims = ap (λ (x : Ledger). x.claims) l }

@@ -10,5 +10,4 @@ pub mod RanLemmas
 pub mod ReportLemmas
 pub mod RestLemmas
 pub mod SourceLemmas
-pub mod StreamLemmas
 pub mod WordLemmas

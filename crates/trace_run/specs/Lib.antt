@@ -29,7 +29,6 @@ pub mod Reads
 pub mod Restores
 pub mod States
 pub mod Status
-pub mod Stream
 pub mod Syncing
 pub mod Tally
 pub mod Words

@@ -39,8 +39,9 @@ use Rattle.trace_run.specs.Explaining.{Explain, RunsAlone}
 use Rattle.trace_run.specs.Lines.{has_undone}
 use Rattle.trace_run.specs.one_caller.PlainRun.{images, report_of}
 use Rattle.trace_run.specs.Restores.{restored_of}
-use Rattle.trace_run.specs.States.{Handed, NoneFailed, OneFailed, StreamState}
-use Rattle.trace_run.specs.Stream.{Gives, AppendsFront, TakesAtMost}
+use Rattle.trace_run.specs.States.{Handed}
+use Rattle.vdev_io.specs.Streams.{NoneFailed, OneFailed, StreamState}
+use Rattle.vdev_io.specs.Streams.{Gives, AppendsFront, TakesAtMost}
 use Rattle.trace_run.specs.callers.Together.{RunsTogether, StopsAtGroup, TellsClosed, answered_ops, faults_told, report_status}
 use Rattle.trace_run.specs.Words.{IsCommand, IsFirstWrong}
 

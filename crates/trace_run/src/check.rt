@@ -4,17 +4,16 @@ ghost use Rattle.arc_check.specs.LogText.{IsLog};
 ghost use Rattle.trace_text.specs.EndText.{end_lines};
 ghost use Rattle.trace_text.specs.Grammar.{longest_text};
 ghost use Rattle.trace_run.specs.CheckText.{check_text, illegal_text, legal_text};
-ghost use Rattle.trace_run.specs.Stream.{TakesAtMost};
-ghost use Rattle.trace_run.specs.States.{sink_state, source_state};
+ghost use Rattle.vdev_io.specs.Streams.{TakesAtMost};
+ghost use Rattle.vdev_io.specs.Streams.{sink_state, source_state};
 ghost use Rattle.trace_run.specs.Outcome.{AnswersLog, AnswersLogSource, IfUsage, IsReadStatus, WasLogRead};
 
 use crate::status::Status;
-use crate::stream::{ReadAllFault, read_all, write_all};
 use arc_check::{History, Log, LogTextFault, Verdict, check, read_events};
 use std::alloc::{AllocError, Global};
 use std::fmt::Write;
 use trace_text::{LONGEST_TEXT, ShardEnd};
-use vdev_io::{Failed, Sink, Source};
+use vdev_io::{Failed, ReadAllFault, Sink, Source, read_all, write_all};
 
 /// Reads a log of events from the source, and writes to the sink whether each shard's history is legal, with what the shards end with, or
 /// else the first event that may not come where it stands.

@@ -22,7 +22,6 @@ mod resizing;
 mod restoring;
 mod run_trace;
 mod status;
-mod stream;
 mod syncing;
 mod together;
 mod top;

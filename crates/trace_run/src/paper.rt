@@ -2,16 +2,15 @@
 ghost use Rattle.std.specs.Prelude.{◌≡◌, ◌+◌, ◌≤◌, IfErr, IfOk};
 ghost use Rattle.arc_paper.specs.Cache.{IsCapacity};
 ghost use Rattle.trace_text.specs.Grammar.{longest_text};
-ghost use Rattle.trace_run.specs.Stream.{TakesAtMost};
-ghost use Rattle.trace_run.specs.States.{sink_state, source_state};
+ghost use Rattle.vdev_io.specs.Streams.{TakesAtMost};
+ghost use Rattle.vdev_io.specs.Streams.{sink_state, source_state};
 ghost use Rattle.trace_run.specs.Outcome.{AnswersPages, AnswersPageSource, IfUsage, IsReadStatus, WerePagesRead};
 
 use crate::status::Status;
-use crate::stream::{ReadAllFault, read_all, write_all};
 use arc_paper::paper_text;
 use std::alloc::Global;
 use trace_text::{LONGEST_TEXT, TraceFault, read_pages};
-use vdev_io::{Failed, Sink, Source};
+use vdev_io::{Failed, ReadAllFault, Sink, Source, read_all, write_all};
 
 /// Reads a list of pages from the source, and writes to the sink which of them are hits of a cache for `c` pages.
 pub(crate) fn run_paper<S: Source, K: Sink>(

@@ -2,10 +2,11 @@
 ghost use Rattle.std.specs.Prelude.{◌≡◌, ◌<◌, ◌^◌, IfOk, IfErr, None, false, is_some, ◌+◌};
 ghost use Rattle.trace_text.specs.Grammar.{IsFormed, longest_text};
 ghost use Rattle.trace_run.specs.Lines.{has_undone};
-ghost use Rattle.trace_run.specs.Stream.{TakesAtMost};
+ghost use Rattle.vdev_io.specs.Streams.{TakesAtMost};
 ghost use Rattle.trace_run.specs.Outcome.{AnswersWords, AnswersSource, AnswersSink, Does, DoesRun, IfReported, IfUsage, IsDelivered, IsGenReport, IsGenStatus, IsReadStatus, IsReportStatus, WasRead, has_report};
 ghost use Rattle.trace_run.specs.callers.Group.{LeavesPool};
-ghost use Rattle.trace_run.specs.States.{handed, sink_state, source_state};
+ghost use Rattle.trace_run.specs.States.{handed};
+ghost use Rattle.vdev_io.specs.Streams.{sink_state, source_state};
 ghost use Rattle.trace_run.specs.Words.{IsInRange, texts};
 ghost use Rattle.trace_run.specs.declared.words.Command.TheVariants as command;
 
@@ -16,7 +17,6 @@ use crate::paper::run_paper;
 use crate::ran::Reported;
 use crate::run_trace::{run_generated_trace, run_trace};
 use crate::status::{Outcome, Status};
-use crate::stream::{ReadAllFault, read_all, write_all};
 use crate::undone::{first_undone, has_undone};
 use crate::words::Command;
 use blk_ptr::NoMemory;
@@ -24,7 +24,7 @@ use std::alloc::Global;
 use std::sync::Wait;
 use std::thread::Threads;
 use trace_text::{Kind, LONGEST_TEXT, Trace, TraceFault, read_trace, report_text};
-use vdev_io::{CacheDev, Failed, Gate, Pool, Sink, Source};
+use vdev_io::{CacheDev, Failed, Gate, Pool, ReadAllFault, Sink, Source, read_all, write_all};
 
 /// Does what the words ask: `run` reads a trace from the source and runs it over the pool, `gen` makes a trace and runs it
 /// over a pool of its own. Both write the report to the sink. `paper` reads a list of pages from the source, and writes to the sink

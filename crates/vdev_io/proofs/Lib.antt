@@ -4,3 +4,4 @@ pub mod DiskLemmas
 pub mod JournalLemmas
 pub mod SettleLemmas
 pub mod SectorLaws
+pub mod StreamLemmas

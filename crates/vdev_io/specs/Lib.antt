@@ -9,4 +9,5 @@ pub mod Place
 pub mod Pool
 pub mod SectorDisk
 pub mod SectorLaws
+pub mod Streams
 pub mod Untold

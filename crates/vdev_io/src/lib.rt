@@ -16,6 +16,7 @@ mod pool;
 mod sink;
 mod source;
 mod stream;
+mod whole;
 
 pub use device::{CacheDev, NoCache};
 pub use fault::{Failed, IoFault};
@@ -28,3 +29,4 @@ pub use pool::Pool;
 pub use sink::Sink;
 pub use source::Source;
 pub use stream::{StdSink, StdSource};
+pub use whole::{ReadAllFault, read_all, write_all};

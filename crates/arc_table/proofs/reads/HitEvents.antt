@@ -41,7 +41,7 @@ use Rattle.arc_table.specs.Holding.{IsListed, own}
 use Rattle.arc_table.specs.InHand.{made_since}
 use Rattle.arc_table.specs.Items.{Meanings}
 use Rattle.arc_table.specs.Making.{IsMade, IsTaken}
-use Rattle.arc_table.specs.pact.Standing.{Follows, bytes_at, bytes_of, followed, is_cached_with}
+use Rattle.arc_table.specs.pact.Standing.{Follows, bytes_at, bytes_of, followed, IsCachedWith}
 use Rattle.arc_table.proofs.KeptHeads.{own_with, says_lent, with_again}
 use Rattle.arc_table.proofs.OneEvent.{one_made, taken_few, taken_head, taken_number, taken_sound}
 use Rattle.arc_table.proofs.Standings.{both_true}
@@ -111,7 +111,7 @@ pub record Cached (ptr : Ptr) (s : PlainShard) (hs : List Header) : Type 0 where
   pub kept : bytes_at ptr.key hs ≡ Some bytes
   pub of : IsOf bytes ptr
 
-pub cached : (ptr : Ptr) (s : PlainShard) (hs : List Header) → is_cached_with ptr s → IsHead (entry_of ptr.key s) (header_at ptr.key hs) → Cached ptr s hs
+pub cached : (ptr : Ptr) (s : PlainShard) (hs : List Header) → IsCachedWith ptr s → IsHead (entry_of ptr.key s) (header_at ptr.key hs) → Cached ptr s hs
 cached ptr s hs here head =
     let p = passing (λ e. is_resident e && keeps_digest ptr.digest e) ptr.key s here in
     let two = both_true (is_resident p.entry) (keeps_digest ptr.digest p.entry) p.passes in
@@ -186,7 +186,7 @@ pub entry_hit : (n t : ℕ) (k : Key) (s : PlainShard) (e : Entry) → IsSound s
 entry_hit n t k s e sound number there resident =
     own-entry s (Hit n k t) k sound (hit_legal n t k s e number there resident) refl ∙ ap (option_map (hit_entry n s.mintime t)) there
 
-module _ {C : Type 0} (m : Meanings C) (g : Config) (ptr : Ptr) (b : Both) (q : Place (Known C)) (taken : IsTaken m g ptr.key b q) (same : q.own.about.config ≡ g) (valid : IsConfig g) (here : is_cached_with ptr b.shard.now) where
+module _ {C : Type 0} (m : Meanings C) (g : Config) (ptr : Ptr) (b : Both) (q : Place (Known C)) (taken : IsTaken m g ptr.key b q) (same : q.own.about.config ≡ g) (valid : IsConfig g) (here : IsCachedWith ptr b.shard.now) where
   pub found : Cached ptr b.shard.now b.hand.own.bucket.headers
   found = cached ptr b.shard.now b.hand.own.bucket.headers here (taken_head m g ptr.key b q taken same valid)
 

@@ -12,7 +12,7 @@ use Rattle.hash_chain.specs.declared.header.Header.{Header}
 use Rattle.hash_chain.specs.Chain.{header_at}
 use Rattle.arc_table.specs.pact.Headed.{HasBlock, IsHead}
 use Rattle.arc_table.specs.Ready.{has_block, keeps_block}
-use Rattle.arc_table.specs.pact.Standing.{is_cached_with}
+use Rattle.arc_table.specs.pact.Standing.{IsCachedWith}
 
 -- where the headers are the heads of the entries, the two are one
 pub block_cached : (ptr : Ptr) (s : PlainShard) (hs : List Header) → IsHead (entry_of ptr.key s) (header_at ptr.key hs) → has_block ptr hs ≡ entry_is (λ e. is_resident e && keeps_digest ptr.digest e) ptr.key s
@@ -33,17 +33,17 @@ block_cached ptr s hs head = by_head (entry_of ptr.key s) (header_at ptr.key hs)
 
 module _ {A : Type 0} (ptr : Ptr) (s : PlainShard) (hs : List Header) (o : Option A) (head : IsHead (entry_of ptr.key s) (header_at ptr.key hs)) (there : is_some o ≡ has_block ptr hs) where
   -- where a header with such a block was found, the bytes are cached with the pointer's digest
-  pub found_cached : IfSome o (λ x. is_cached_with ptr s)
+  pub found_cached : IfSome o (λ x. IsCachedWith ptr s)
   found_cached = by_found o there
     where
-      by_found : (o : Option A) → is_some o ≡ has_block ptr hs → IfSome o (λ x. is_cached_with ptr s)
+      by_found : (o : Option A) → is_some o ≡ has_block ptr hs → IfSome o (λ x. IsCachedWith ptr s)
       by_found None h = tt
       by_found (Some x) h = sym (block_cached ptr s hs head) ∙ sym h
 
   -- and where there was none they aren't
-  pub not_found : IfNone o (is_cached_with ptr s → ⊥)
+  pub not_found : IfNone o (IsCachedWith ptr s → ⊥)
   not_found = by_found o there
     where
-      by_found : (o : Option A) → is_some o ≡ has_block ptr hs → IfNone o (is_cached_with ptr s → ⊥)
+      by_found : (o : Option A) → is_some o ≡ has_block ptr hs → IfNone o (IsCachedWith ptr s → ⊥)
       by_found None h = λ here. false≢true (h ∙ (block_cached ptr s hs head ∙ here))
       by_found (Some x) h = tt

@@ -30,7 +30,7 @@ use Rattle.arc_table.specs.scans.Ending.{DoesRoomy, MakesRoomy}
 use Rattle.arc_table.specs.Holding.{IsHeld, IsHoldOf}
 use Rattle.arc_table.specs.Items.{Meanings}
 use Rattle.arc_table.specs.Reading.{Answers, EndsMiss, EndsPast, Outside, hit, known_at, missed, no_memory, past, ptr_with}
-use Rattle.arc_table.specs.pact.Standing.{is_cached_with}
+use Rattle.arc_table.specs.pact.Standing.{IsCachedWith}
 use Rattle.arc_table.proofs.Afterwards.{Stays, does_stays}
 use Rattle.arc_table.proofs.Reached.{reached}
 use Rattle.arc_table.proofs.scans.RoomyAfter.{does_roomy_stays, missed_readings}
@@ -61,7 +61,7 @@ module _ {C P D : Type 0} (m : Meanings C) (pools : PoolGhosts P) (devices : Dev
   number : q.number ≡ p.number
   number = taken_number m g ptr.key chain log p q r takes
 
-  pub round_hit : (o : Outside P D) (hold : Hold) → is_cached_with ptr log.now → Makes m g ptr.key log (Hit q.number ptr.key t ∷ []) q r → IsHoldOf ptr q.number hold × IsHeld g r hold
+  pub round_hit : (o : Outside P D) (hold : Hold) → IsCachedWith ptr log.now → Makes m g ptr.key log (Hit q.number ptr.key t ∷ []) q r → IsHoldOf ptr q.number hold × IsHeld g r hold
       → Answers m pools devices g ptr t o o p r (Ok (gave.Held hold served.Hit))
   round_hit o hold here makes held =
       hit hold refl (does_these m g ptr.key chain log p q r takes (Hit p.number ptr.key t ∷ []) (subst (λ (n : ℕ). Makes m g ptr.key log (Hit n ptr.key t ∷ []) q r) number makes)) here
@@ -70,7 +70,7 @@ module _ {C P D : Type 0} (m : Meanings C) (pools : PoolGhosts P) (devices : Dev
   pub round_none : (o : Outside P D) → Makes m g ptr.key log [] q r → Answers m pools devices g ptr t o o p r (Err fault.NoMemory)
   round_none o makes = no_memory refl (does_these m g ptr.key chain log p q r takes [] makes) refl
 
-  pub round_past : (before now : Outside P D) (kept : Digest) (result : Result Read ReadFault) → (kept ≢ ptr.digest) × is_cached_with (ptr_with ptr.key kept) log.now → Makes m g ptr.key log (Past q.number ptr.key kept ∷ []) q r
+  pub round_past : (before now : Outside P D) (kept : Digest) (result : Result Read ReadFault) → (kept ≢ ptr.digest) × IsCachedWith (ptr_with ptr.key kept) log.now → Makes m g ptr.key log (Past q.number ptr.key kept ∷ []) q r
       → now.device ≡ before.device → EndsPast pools ptr kept before.pool now.pool result → Answers m pools devices g ptr t before now p r result
   round_past before now kept result stands makes unasked end =
       past kept stands.0 (does_these m g ptr.key chain log p q r takes (Past p.number ptr.key kept ∷ []) (subst (λ (n : ℕ). Makes m g ptr.key log (Past n ptr.key kept ∷ []) q r) number makes)) stands.1 unasked end

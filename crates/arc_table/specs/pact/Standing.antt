@@ -12,15 +12,15 @@ use Rattle.arc_table.specs.declared.hits.Standing.{Standing}
 use Rattle.arc_table.specs.declared.hits.Standing.TheVariants as standing
 
 -- its bytes are cached at rest with this digest
-abbrev pub is_cached_with : Ptr → PlainShard → Type 0
-is_cached_with ptr s = IsTrue (entry_is (λ e. is_resident e && keeps_digest ptr.digest e) ptr.key s)
+abbrev pub IsCachedWith : Ptr → PlainShard → Type 0
+IsCachedWith ptr s = IsTrue (entry_is (λ e. is_resident e && keeps_digest ptr.digest e) ptr.key s)
 
 -- the shard says this of the pointer
 abbrev pub StandsSo : Ptr → PlainShard → Standing → Type 0
 StandsSo ptr s (standing.Missing) = IsTrue (is_missing ptr.key s)
 StandsSo ptr s (standing.Reading owner) = IsTrue (entry_is (reads owner) ptr.key s)
 StandsSo ptr s (standing.Other kept) = (kept ≢ ptr.digest) × IsTrue (entry_is (λ e. is_resident e && keeps_digest kept e) ptr.key s)
-StandsSo ptr s (standing.Here) = is_cached_with ptr s
+StandsSo ptr s (standing.Here) = IsCachedWith ptr s
 
 -- the bytes that a header has, if there is one
 abbrev pub bytes_of : Option Header → Option (List ℕ)

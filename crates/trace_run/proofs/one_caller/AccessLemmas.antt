@@ -14,7 +14,7 @@ use Rattle.arc_lists.proofs.Tables.{cases_true}
 use Rattle.arc_core.specs.declared.entry.Entry.{Entry}
 use Rattle.arc_core.specs.PlainShard.{PlainShard, entry_of, is_resident, keeps_digest}
 use Rattle.arc_core.specs.Step.{is_missing, is_without_bytes}
-use Rattle.arc_table.specs.pact.Standing.{is_cached_with}
+use Rattle.arc_table.specs.pact.Standing.{IsCachedWith}
 use Rattle.arc_table.specs.Reading.{ptr_with}
 use Rattle.trace_run.specs.one_caller.Access as access
 use Rattle.trace_run.specs.one_caller.Access.{access_of, found}
@@ -54,10 +54,10 @@ found-other asked kept o other is = rw is (elim (cases_true (digest_eq kept aske
   | inr differs ↦ rw differs refl
 ])
 
-pub access-cached : (ptr : Ptr) (s : PlainShard) → is_cached_with ptr s → access_of s ptr ≡ access.Hit
+pub access-cached : (ptr : Ptr) (s : PlainShard) → IsCachedWith ptr s → access_of s ptr ≡ access.Hit
 access-cached ptr s cached = found-same ptr.digest _ (resident-in ptr.digest (entry_of ptr.key s) cached)
 
-pub access-other : (ptr : Ptr) (kept : Digest) (s : PlainShard) → kept ≢ ptr.digest → is_cached_with (ptr_with ptr.key kept) s → access_of s ptr ≡ access.Past kept
+pub access-other : (ptr : Ptr) (kept : Digest) (s : PlainShard) → kept ≢ ptr.digest → IsCachedWith (ptr_with ptr.key kept) s → access_of s ptr ≡ access.Past kept
 access-other ptr kept s other cached = found-other ptr.digest kept _ other (resident-in kept (entry_of ptr.key s) cached)
 
 pub access-missed : (ptr : Ptr) (s : PlainShard) → IsTrue (is_missing ptr.key s) → access_of s ptr ≡ access.Miss

@@ -10,7 +10,8 @@ use Rattle.trace_run.specs.declared.status.Status.TheVariants as statuses
 use Rattle.trace_run.specs.declared.words.Command.{Command}
 use Rattle.vdev_io.specs.declared.device.CacheDev.{Ghosts as Devices}
 use Rattle.trace_run.specs.Outcome.{AnswersSink, AnswersWords, IfReported, IfUsage, IsDelivered, IsGenStatus, IsReport, has_report}
-use Rattle.trace_run.specs.States.{Handed, StreamState}
+use Rattle.trace_run.specs.States.{Handed}
+use Rattle.vdev_io.specs.Streams.{StreamState}
 use Rattle.trace_run.specs.Words.{IsCommand}
 
 pub words_accepted : (words : List (List ℕ)) (did : Command → Type 0) (status : Status) → IfUsage status ⊥ → (command : Command) → IsCommand words command → did command

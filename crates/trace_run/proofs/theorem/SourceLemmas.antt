@@ -9,8 +9,8 @@ use Rattle.trace_text.specs.declared.fault.TraceFault.TheVariants.{Bad}
 use Rattle.trace_text.specs.declared.trace.Trace.{Trace}
 use Rattle.trace_run.specs.Lines.{has_undone}
 use Rattle.trace_run.specs.Outcome.{IsBadTrace}
-use Rattle.trace_run.specs.States.{NoneFailed, StreamState}
-use Rattle.trace_run.specs.Stream.{Gives}
+use Rattle.vdev_io.specs.Streams.{NoneFailed, StreamState}
+use Rattle.vdev_io.specs.Streams.{Gives}
 
 -- a line of its trace is not done yet
 pub undone-trace : (before after : StreamState) (text shown : List ℕ) (trace : Trace) (line : ℕ) → Gives before.told after.told longest_text text → NoneFailed before after

@@ -1,5 +1,5 @@
 use Rattle.std.proofs.Common.{sym, ◌∙◌}
-use Rattle.trace_run.specs.States.{source_state}
+use Rattle.vdev_io.specs.Streams.{source_state}
 use Rattle.trace_run.proofs.theorem.SourceLemmas.{faulty-trace, undone-trace}
 use Rattle.trace_run.proofs.top.read_source.Goals as goal
 

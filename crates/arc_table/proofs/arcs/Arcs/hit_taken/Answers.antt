@@ -16,7 +16,7 @@ use Rattle.arc_table.proofs.reads.HitEvents.{block_of_it, found, hit_legal, hit_
 use Rattle.arc_table.proofs.KeptHeads.{lent_at, own_with}
 use Rattle.arc_table.proofs.OneEvent.{makes_these, none_made, none_since, some_is, taken_few}
 use Rattle.arc_table.proofs.Lent.{lent, lent_taken}
-use Rattle.arc_table.specs.pact.Standing.{is_cached_with}
+use Rattle.arc_table.specs.pact.Standing.{IsCachedWith}
 use Rattle.arc_table.proofs.arcs.Arcs.hit_taken.Goals as goal
 
 pub give_back-requires-clause-taken : goal.give_back-requires-clause-taken
@@ -39,7 +39,7 @@ hit_near-requires-clause-legal g c =
     let same = c.deref_mut-shard.ensures.value in
     let b = lent c.args.both c.deref_mut-shard.result.now in
     let taken = lent_taken m c.args.self.now.config c.args.ptr.key c.args.both c.args.party.now c.deref_mut-shard.result.now same c.requires.taken in
-    let here = subst (λ (l : ShardLog). is_cached_with c.args.ptr l.now) (sym same) c.requires.here in
+    let here = subst (λ (l : ShardLog). IsCachedWith c.args.ptr l.now) (sym same) c.requires.here in
     let valid = taken.kind.valid in
     let f = found m c.args.self.now.config c.args.ptr b c.args.party.now taken c.requires.party.config valid here in
     subst (λ (x : ℕ × PlainShard). IsTrue (legal x.1 (Hit x.0 c.args.ptr.key c.args.tick))) (λ z. (sym c.number-owner.ensures z, (sym c.reserve.ensures.log z).now))
@@ -72,7 +72,7 @@ follow_hit-requires-clause-range g c =
     let same = c.deref_mut-shard.ensures.value in
     let b = lent c.args.both c.deref_mut-shard.result.now in
     let taken = lent_taken m c.args.self.now.config c.args.ptr.key c.args.both c.args.party.now c.deref_mut-shard.result.now same c.requires.taken in
-    let here = subst (λ (l : ShardLog). is_cached_with c.args.ptr l.now) (sym same) c.requires.here in
+    let here = subst (λ (l : ShardLog). IsCachedWith c.args.ptr l.now) (sym same) c.requires.here in
     let f = found m c.args.self.now.config c.args.ptr b c.args.party.now taken c.requires.party.config taken.kind.valid here in
     let at = lent_at c.args.ptr c.args.at b.hand.own.bucket c.take_block.new.self f.header c.requires.ready f.had c.in-Ok-take_block.ensures.ok c.in-Ok-take_block.ensures.map in
     at.within
@@ -83,7 +83,7 @@ follow_hit-requires-clause-found g c =
     let same = c.deref_mut-shard.ensures.value in
     let b = lent c.args.both c.deref_mut-shard.result.now in
     let taken = lent_taken m c.args.self.now.config c.args.ptr.key c.args.both c.args.party.now c.deref_mut-shard.result.now same c.requires.taken in
-    let here = subst (λ (l : ShardLog). is_cached_with c.args.ptr l.now) (sym same) c.requires.here in
+    let here = subst (λ (l : ShardLog). IsCachedWith c.args.ptr l.now) (sym same) c.requires.here in
     let f = found m c.args.self.now.config c.args.ptr b c.args.party.now taken c.requires.party.config taken.kind.valid here in
     let at = lent_at c.args.ptr c.args.at b.hand.own.bucket c.take_block.new.self f.header c.requires.ready f.had c.in-Ok-take_block.ensures.ok c.in-Ok-take_block.ensures.map in
     own_with c.args.ptr.key (Some (kept_lent f.header)) b.hand.own.bucket.headers c.take_block.new.self.headers at.with ∙ sym at.place
@@ -94,7 +94,7 @@ follow_hit-requires-clause-key g c =
     let same = c.deref_mut-shard.ensures.value in
     let b = lent c.args.both c.deref_mut-shard.result.now in
     let taken = lent_taken m c.args.self.now.config c.args.ptr.key c.args.both c.args.party.now c.deref_mut-shard.result.now same c.requires.taken in
-    let here = subst (λ (l : ShardLog). is_cached_with c.args.ptr l.now) (sym same) c.requires.here in
+    let here = subst (λ (l : ShardLog). IsCachedWith c.args.ptr l.now) (sym same) c.requires.here in
     let f = found m c.args.self.now.config c.args.ptr b c.args.party.now taken c.requires.party.config taken.kind.valid here in
     let at = lent_at c.args.ptr c.args.at b.hand.own.bucket c.take_block.new.self f.header c.requires.ready f.had c.in-Ok-take_block.ensures.ok c.in-Ok-take_block.ensures.map in
     subst (λ (o : Option Header). IfSome o (λ h. h.key ≡ c.args.ptr.key)) (sym at.place) at.key
@@ -105,7 +105,7 @@ follow_hit-requires-clause-mfu g c h stands mfu =
     let same = c.deref_mut-shard.ensures.value in
     let b = lent c.args.both c.deref_mut-shard.result.now in
     let taken = lent_taken m c.args.self.now.config c.args.ptr.key c.args.both c.args.party.now c.deref_mut-shard.result.now same c.requires.taken in
-    let here = subst (λ (l : ShardLog). is_cached_with c.args.ptr l.now) (sym same) c.requires.here in
+    let here = subst (λ (l : ShardLog). IsCachedWith c.args.ptr l.now) (sym same) c.requires.here in
     let f = found m c.args.self.now.config c.args.ptr b c.args.party.now taken c.requires.party.config taken.kind.valid here in
     let at = lent_at c.args.ptr c.args.at b.hand.own.bucket c.take_block.new.self f.header c.requires.ready f.had c.in-Ok-take_block.ensures.ok c.in-Ok-take_block.ensures.map in
     mfu_says m c.args.self.now.config c.args.ptr b c.args.party.now taken c.requires.party.config taken.kind.valid here c.args.tick c.hit_near.new.self
@@ -117,7 +117,7 @@ give_both-requires-2-clause-made g c =
     let same = c.deref_mut-shard.ensures.value in
     let b = lent c.args.both c.deref_mut-shard.result.now in
     let taken = lent_taken m c.args.self.now.config c.args.ptr.key c.args.both c.args.party.now c.deref_mut-shard.result.now same c.requires.taken in
-    let here = subst (λ (l : ShardLog). is_cached_with c.args.ptr l.now) (sym same) c.requires.here in
+    let here = subst (λ (l : ShardLog). IsCachedWith c.args.ptr l.now) (sym same) c.requires.here in
     let f = found m c.args.self.now.config c.args.ptr b c.args.party.now taken c.requires.party.config taken.kind.valid here in
     let at = lent_at c.args.ptr c.args.at b.hand.own.bucket c.take_block.new.self f.header c.requires.ready f.had c.in-Ok-take_block.ensures.ok c.in-Ok-take_block.ensures.map in
     hit_made m c.args.self.now.config c.args.ptr b c.args.party.now taken c.requires.party.config taken.kind.valid here c.args.tick c.hit_near.new.self

@@ -10,7 +10,7 @@ use Rattle.arc_table.proofs.OneEvent.{alike_made, makes_these, same_head, some_i
 use Rattle.arc_table.proofs.reads.PastEvents.{past_legal}
 use Rattle.arc_table.proofs.Lent.{lent, lent_taken}
 use Rattle.arc_table.specs.Both.{Makes}
-use Rattle.arc_table.specs.pact.Standing.{is_cached_with}
+use Rattle.arc_table.specs.pact.Standing.{IsCachedWith}
 use Rattle.arc_table.proofs.arcs.Arcs.past_taken.Goals as goal
 
 pub past-requires-clause-legal : goal.past-requires-clause-legal
@@ -19,7 +19,7 @@ past-requires-clause-legal g c =
     let same = c.deref_mut-shard.ensures.value in
     let b = lent c.args.both c.deref_mut-shard.result.now in
     let taken = lent_taken m c.args.self.now.config c.args.key c.args.both c.args.party.now c.deref_mut-shard.result.now same c.requires.taken in
-    let kept = subst (λ (l : ShardLog). is_cached_with (record { key = c.args.key; digest = c.args.kept }) l.now) (sym same) c.requires.kept in
+    let kept = subst (λ (l : ShardLog). IsCachedWith (record { key = c.args.key; digest = c.args.kept }) l.now) (sym same) c.requires.kept in
     subst (λ (x : ℕ × PlainShard). IsTrue (legal x.1 (Past x.0 c.args.key c.args.kept))) (λ z. (sym c.number.ensures z, (sym c.reserve.ensures.log z).now))
     (past_legal c.args.party.now.number c.args.key c.args.kept b.shard.now (taken_few m c.args.self.now.config c.args.key b c.args.party.now taken c.requires.party.config taken.kind.valid) kept)
 
@@ -29,7 +29,7 @@ give_both-requires-clause-made g c =
     let same = c.deref_mut-shard.ensures.value in
     let b = lent c.args.both c.deref_mut-shard.result.now in
     let taken = lent_taken m c.args.self.now.config c.args.key c.args.both c.args.party.now c.deref_mut-shard.result.now same c.requires.taken in
-    let kept = subst (λ (l : ShardLog). is_cached_with (record { key = c.args.key; digest = c.args.kept }) l.now) (sym same) c.requires.kept in
+    let kept = subst (λ (l : ShardLog). IsCachedWith (record { key = c.args.key; digest = c.args.kept }) l.now) (sym same) c.requires.kept in
     let config = c.args.self.now.config in
     let k = c.args.key in
     let q = c.args.party.now in

@@ -5,7 +5,7 @@ use Rattle.arc_core.specs.PlainShard.{entry_of}
 use Rattle.arc_core.specs.View.{view_of}
 use Rattle.arc_table.specs.Items.{meanings}
 use Rattle.arc_table.specs.Reading.{outside}
-use Rattle.arc_table.specs.pact.Standing.{is_cached_with}
+use Rattle.arc_table.specs.pact.Standing.{IsCachedWith}
 use Rattle.arc_table.proofs.reads.AfterRead.{answers_stays}
 use Rattle.arc_table.proofs.Afterwards.{does_stays, stays_free, stays_party}
 use Rattle.arc_table.proofs.Reached.{reached, sound_log}
@@ -86,17 +86,17 @@ unreachable-requires g c =
     let log = sound_log m c.args.self.now.config c.args.ptr.key b.result.0.hand.own.bucket b.result.0.shard c.args.party.now b.new.party b.ensures.takes c.requires.party.config b.ensures.kind.valid in
     let shown = c.entry-found.ensures ∙ ap (λ (l : ShardLog). option_map view_of (entry_of c.args.ptr.key l.now)) c.deref.ensures in
     let stood = c.in-Here.ensures b.result.0.shard.now log.replayed.sound shown in
-    subst (λ o. IfNone o (is_cached_with c.args.ptr b.result.0.shard.now → ⊥)) c.in_default.is b.ensures.elsewhere stood
+    subst (λ o. IfNone o (IsCachedWith c.args.ptr b.result.0.shard.now → ⊥)) c.in_default.is b.ensures.elsewhere stood
 
 pub hit_taken-requires-clause-here : goal.hit_taken-requires-clause-here
 hit_taken-requires-clause-here g c =
-    subst (λ o. IfSome o (λ ready. is_cached_with c.args.ptr c.take_ready-both.result.0.shard.now)) c.in-Some.is c.take_ready-both.ensures.here
+    subst (λ o. IfSome o (λ ready. IsCachedWith c.args.ptr c.take_ready-both.result.0.shard.now)) c.in-Some.is c.take_ready-both.ensures.here
 
 pub returns-in-Ok-clause-answer : goal.returns-in-Ok-clause-answer
 returns-in-Ok-clause-answer g c =
     let m = meanings g.C.Keeps.holds g.C.Keeps.entries g.C.Keeps.opening g.C.Keeps.claims g.C.Keeps.sound in
     let b = c.take_ready-both in
-    let here = subst (λ o. IfSome o (λ ready. is_cached_with c.args.ptr c.take_ready-both.result.0.shard.now)) c.in-Some.is c.take_ready-both.ensures.here in
+    let here = subst (λ o. IfSome o (λ ready. IsCachedWith c.args.ptr c.take_ready-both.result.0.shard.now)) c.in-Some.is c.take_ready-both.ensures.here in
     round_hit m g.P.Pool g.D.CacheDev c.args.self.now.config c.args.ptr c.args.tick b.result.0.hand.own.bucket b.result.0.shard c.args.party.now b.new.party c.hit_taken.new.party b.ensures.takes
     (outside c.args.pool.now c.args.cache.now) c.in-Ok.hold here c.in-Ok.ensures.ok c.in-Ok.ensures.hold
 

@@ -1,6 +1,6 @@
 use Rattle.std.proofs.Common.{◌≡◌, ◌+◌, ◌-◌, ◌<◌, ◌≤◌, length}
 use Rattle.std.specs.Io.KnownBytes.{Consumes}
-use Rattle.arc_lint.proofs.stream.read_all.Given as goal
+use Rattle.vdev_io.proofs.whole.read_all.Given as goal
 
 -- the text so far is what the source gave
 abbrev pub invariant-loop-piece : goal.invariant-loop-piece

@@ -1,7 +1,7 @@
 use Rattle.std.proofs.Common.{◌∙◌, arith, length-drop}
 use Rattle.std.proofs.lemmas.List.{take_rest}
-use Rattle.arc_lint.proofs.StreamLemmas.{more_written}
-use Rattle.arc_lint.proofs.stream.write_all.Goals as goal
+use Rattle.vdev_io.proofs.StreamLemmas.{more_written}
+use Rattle.vdev_io.proofs.whole.write_all.Goals as goal
 
 pub loop-at-preserved : goal.loop-at-preserved
 loop-at-preserved g c =

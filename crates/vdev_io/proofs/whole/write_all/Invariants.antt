@@ -1,6 +1,6 @@
 use Rattle.std.proofs.Common.{◌≡◌, ◌-◌, ◌≤◌, length, take}
 use Rattle.std.specs.Io.KnownBytes.{Appends}
-use Rattle.arc_lint.proofs.stream.write_all.Given as goal
+use Rattle.vdev_io.proofs.whole.write_all.Given as goal
 
 -- the front of the text is written
 abbrev pub invariant-loop-at : goal.invariant-loop-at

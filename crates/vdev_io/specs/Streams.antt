@@ -2,8 +2,28 @@
 use Rattle.std.specs.Prelude.{◌≡◌, ℕ, ◌+◌, ◌≤◌, List, ◌++◌, length, take, Option, Result, Ok, Err}
 use Rattle.std.specs.Io.KnownBytes.{Appends, Consumes, IsAtEnd}
 use Rattle.vdev_io.specs.Faults.{CountsOne}
-use Rattle.trace_run.specs.declared.stream.ReadAllFault.{ReadAllFault}
-use Rattle.trace_run.specs.declared.stream.ReadAllFault.TheVariants.{NoMemory, SourceFault}
+use Rattle.vdev_io.specs.declared.sink.Sink.{Ghosts as SinkGhosts}
+use Rattle.vdev_io.specs.declared.source.Source.{Ghosts as SourceGhosts}
+use Rattle.vdev_io.specs.declared.whole.ReadAllFault.{ReadAllFault}
+use Rattle.vdev_io.specs.declared.whole.ReadAllFault.TheVariants.{NoMemory, SourceFault}
+
+-- the bytes that a stream tells, which are those left of a source or those written to a sink, and its count of faults
+pub record StreamState : Type 0 where
+  pub told : Option (List ℕ)
+  pub faults : ℕ
+
+abbrev pub source_state : {S : Type 0} → SourceGhosts S → S → StreamState
+source_state members source = record { told = members.left source; faults = members.faults source }
+
+abbrev pub sink_state : {K : Type 0} → SinkGhosts K → K → StreamState
+sink_state members sink = record { told = members.written sink; faults = members.faults sink }
+
+-- no call of the stream failed; and one did, which was counted where a count has room for it
+abbrev pub NoneFailed : StreamState → StreamState → Type 0
+NoneFailed before after = after.faults ≡ before.faults
+
+abbrev pub OneFailed : StreamState → StreamState → Type 0
+OneFailed before after = CountsOne before.faults after.faults
 
 -- The source gave this text. It was read to its end, unless the text is longer than it may be; then it is by one byte.
 pub record Gives (before after : Option (List ℕ)) (most : ℕ) (text : List ℕ) : Type 0 where

@@ -4,7 +4,7 @@ use Rattle.std.specs.Io.KnownBytes.{Appends, Consumes}
 use Rattle.std.specs.Io.KnownBytes.{Keeps}
 use Rattle.std.proofs.KnownBytes.{Appends-trans, Consumes-kept, Consumes-nil, Consumes-trans}
 use Rattle.std.proofs.Math.Seq.{take-add}
-use Rattle.trace_run.specs.Stream.{Gives, GivesPiece, TakesAtMost}
+use Rattle.vdev_io.specs.Streams.{Gives, GivesPiece, TakesAtMost}
 
 pub more_read : (before mid after : Option (List ℕ)) (old new : List ℕ) (n : ℕ) → Consumes before mid old → GivesPiece mid after old new n → Consumes before after new
 more_read before mid after old new n h g = rw g.appended (Consumes-trans before mid after old g.piece h g.consumed)

@@ -2,17 +2,19 @@
 ghost use Rattle.std.specs.Prelude.{◌≡◌, ◌≤◌, ◌+◌, ◌^◌, ◌<◌, length, IfOk, OnOk};
 ghost use Rattle.std.specs.Io.KnownBytes.{Appends};
 ghost use Rattle.vdev_io.specs.Faults.{CountsFault};
-ghost use Rattle.arc_lint.specs.Stream.{Gives, GivesPiece, AppendsFront, CountsReading, TakesAtMost};
+ghost use Rattle.vdev_io.specs.Streams.{Gives, GivesPiece, AppendsFront, CountsReading, TakesAtMost};
 
+use crate::fault::Failed;
+use crate::sink::Sink;
+use crate::source::Source;
 use std::alloc::{AllocError, Global};
-use vdev_io::{Failed, Sink, Source};
 
 /// The bytes that are asked for in one read.
 const PIECE: usize = 65_536;
 
 /// Why a source was not read.
 #[derive(Clone, Copy, Debug, PartialEq, Eq)]
-pub(crate) enum ReadAllFault {
+pub enum ReadAllFault {
     /// The source failed.
     SourceFault,
     /// Memory was refused.
@@ -21,7 +23,7 @@ pub(crate) enum ReadAllFault {
 
 impl From<AllocError> for ReadAllFault {
     ghost use Rattle.std.specs.Prelude.{◌≡◌};
-    ghost use Rattle.arc_lint.specs.declared.stream.ReadAllFault.TheVariants.{NoMemory};
+    ghost use Rattle.vdev_io.specs.declared.whole.ReadAllFault.TheVariants.{NoMemory};
 
     ghost from_gives = { λ _ fault. fault ≡ NoMemory };
 
@@ -32,7 +34,7 @@ impl From<AllocError> for ReadAllFault {
 
 impl From<Failed> for ReadAllFault {
     ghost use Rattle.std.specs.Prelude.{◌≡◌};
-    ghost use Rattle.arc_lint.specs.declared.stream.ReadAllFault.TheVariants.{SourceFault};
+    ghost use Rattle.vdev_io.specs.declared.whole.ReadAllFault.TheVariants.{SourceFault};
 
     ghost from_gives = { λ _ fault. fault ≡ SourceFault };
 
@@ -42,7 +44,7 @@ impl From<Failed> for ReadAllFault {
 }
 
 /// Reads a source to its end, or up to the first byte past `most`. However it ends, no more was taken, and the first call that fails is the last.
-pub(crate) fn read_all<S: Source>(
+pub fn read_all<S: Source>(
     alloc: Global,
     source: &mut S,
     most: usize,
@@ -82,7 +84,7 @@ fn read_piece<S: Source>(
 }
 
 /// Writes all of a text, or a front of it where a call of the sink fails, which is the last one.
-pub(crate) fn write_all<K: Sink>(sink: &mut K, text: &[u8]) -> Result<(), Failed>
+pub fn write_all<K: Sink>(sink: &mut K, text: &[u8]) -> Result<(), Failed>
     ensures ok { OnOk result (Appends (K.written sink.old) (K.written sink.new) text.now) }
     ensures faults { CountsFault (K.faults sink.old) (K.faults sink.new) result }
     ensures front { AppendsFront (K.written sink.old) (K.written sink.new) text.now }
