@@ -65,8 +65,10 @@ pub record FindsCell (g : Config) (i : ℕ) (cell : OnHeap) (p q : PartyPlace) :
 -- ---- what was brought, and what that asked of the pool and of the cache device
 
 module _ {P D : Type 0} (pools : PoolGhosts P) (devices : DeviceGhosts D) (g : Config) (p : PartyPlace) (before now : Outside P D) where
-  -- the reads for a pointer that came to this; what a party that has every number asked the device for follows from the shard
+  -- The reads for a pointer that came to this, whose key names a block of the pool. What a party that has every number asked the device for follows from the
+  -- shard.
   pub record SpentOnRead (ptr : Ptr) (e : Effect) : Type 0 where
+    pub valid : IsValid (pools.size before.pool) ptr.key
     pub calls : MakesCalls pools (calls_of e) before.pool now.pool
     pub asked : AsksFor devices ptr.key.size e before.device now.device
     pub asks : HasAll p → Asks devices (now_of g (shard_of g.shards ptr.key) p) ptr e before.device now.device
@@ -129,34 +131,33 @@ pub record DidWork (g : Config) (t c : ℕ) (brought : Brought) (es : List Event
   pub cells : (i : ℕ) → IsCell g i → StartsWith (front_of i q.own.seen) (front_of i p.own.seen)
   pub cells_alone : HasAll p → (i : ℕ) → IsCell g i → front_of i q.own.seen ≡ front_of i p.own.seen ++ lines_of_cell i noted
 
+-- the block was clean with this pointer, and its bytes were not there
+pub record WasToBring (at : Oid) (ptr : Ptr) (o : Outline) : Type 0 where
+  pub pointer : mapped_at at o ≡ Some (Clean ptr)
+  pub uncached : is_cached_at at o ≡ false
+
 -- the object map has the block, and the range ends inside it
 pub record EndsInside (at : Oid) (last : ℕ) (o : Outline) : Type 0 where
   pub mapped : Mapped
   pub there : mapped_at at o ≡ Some mapped
   pub inside : last ≤ mapped_size mapped
 
-module _ {P D : Type 0} (pools : PoolGhosts P) (devices : DeviceGhosts D) (g : Config) (at : Oid) (t : ℕ) (before now : Outside P D) (p q : PartyPlace) where
+module _ (g : Config) (at : Oid) (t : ℕ) (p q : PartyPlace) where
   abbrev pub its_cell : ℕ
   its_cell = cell_of g.cells at
 
   abbrev pub its_number : ℕ
   its_number = cell_number g its_cell
 
-  -- the block was clean with this pointer, and its bytes were not there; the key names a block of the pool
-  pub record WasToBring (ptr : Ptr) (o : Outline) : Type 0 where
-    pub pointer : mapped_at at o ≡ Some (Clean ptr)
-    pub uncached : is_cached_at at o ≡ false
-    pub valid : IsValid (pools.size before.pool) ptr.key
-
   -- what was brought is the block that the object map had there, as the party found the cell
   abbrev pub IsBrought : Brought → Type 0
   IsBrought Nothing = Unit {0}
-  IsBrought (Loaded ptr from) = (cell : OnHeap) × FindsCell g its_cell cell p q × WasToBring ptr (outline_in cell)
+  IsBrought (Loaded ptr from) = (cell : OnHeap) × FindsCell g its_cell cell p q × WasToBring at ptr (outline_in cell)
   IsBrought (Refused ptr) = ⊥
 
   -- The party did this to the block's cell, which it found so, right behind the Load if a block was brought. It let go what the operation writes over,
   -- and then what was over the limit was evicted, each block with its drop.
-  pub record Did (own : CellEvent) (brought : Brought) (reply : Reply) (Fits : OnHeap → Type 0) : Type 0 where
+  pub record Did (own : CellEvent) (brought : Brought) (Fits : OnHeap → Type 0) : Type 0 where
     pub cell : OnHeap
     pub found : FindsCell g its_cell cell p q
     pub fits : Fits cell
@@ -167,29 +168,72 @@ module _ {P D : Type 0} (pools : PoolGhosts P) (devices : DeviceGhosts D) (g : C
     pub drops : List Event
     pub evictions : AreEvictions p.number its_number (after_all (outline_in cell) (loads_of p.number at brought ++ own ∷ [])) (map (events.Evict p.number) evicted) drops
     pub work : DidWork g t its_number brought (released ++ drops) (noted_in its_cell (loads_of p.number at brought ++ own ∷ map (events.Evict p.number) evicted)) p q
-    pub spent : SpentOn pools devices g p before now brought reply
 
   -- The line was refused for this cause, as the party found the block's cell. Nothing was done to cells, and what was tried to be brought, if anything was, was refused.
-  pub record DidNot (brought : Brought) (reply : Reply) (Why : OnHeap → Type 0) : Type 0 where
+  pub record DidNot (brought : Brought) (Why : OnHeap → Type 0) : Type 0 where
     pub cell : OnHeap
     pub found : FindsCell g its_cell cell p q
     pub why : Why cell
     pub work : DidWork g t its_number brought [] [] p q
-    pub spent : SpentOn pools devices g p before now brought reply
 
+-- ---- the lines that ask for no block's bytes, and so for no tick, by their replies
+
+module _ (g : Config) (at : Oid) (p q : PartyPlace) where
+  -- the block was written whole
+  abbrev pub DidPut : (size fill : ℕ) → Reply → Type 0
+  DidPut size fill replies.Done = Did g at 0 p q (events.Put p.number at size fill) Nothing (λ cell. Unit {0})
+  DidPut size fill (replies.Refused refusal) = ⊥
+  DidPut size fill (replies.Got most shown) = ⊥
+  DidPut size fill (replies.Read served digest shown) = ⊥
+  DidPut size fill (replies.Kept served) = ⊥
+  DidPut size fill replies.Dropped = ⊥
+  DidPut size fill (replies.Fed report) = ⊥
+  DidPut size fill replies.FedNone = ⊥
+  DidPut size fill (replies.Synced group blocks bytes) = ⊥
+  DidPut size fill (replies.Capped c) = ⊥
+
+  -- there was no pin of the party's
+  abbrev pub RefusesUnpin : Refusal → Type 0
+  RefusesUnpin (refusals.NoPin named) = DidNot g at 0 p q Nothing (λ cell. (named ≡ at) × (has_pin_at p.number at (outline_in cell) ≡ false))
+  RefusesUnpin (refusals.NoBlock named) = ⊥
+  RefusesUnpin (refusals.Range end size) = ⊥
+  RefusesUnpin (refusals.Key why) = ⊥
+  RefusesUnpin refusals.PoolFault = ⊥
+  RefusesUnpin (refusals.Mismatch found) = ⊥
+  RefusesUnpin (refusals.NoHold block) = ⊥
+  RefusesUnpin refusals.NoMemory = ⊥
+
+  -- a pin of the party's went, or there was none
+  abbrev pub DidUnpin : Reply → Type 0
+  DidUnpin replies.Done = Did g at 0 p q (events.Unpin p.number at) Nothing (λ cell. Unit {0})
+  DidUnpin (replies.Refused refusal) = RefusesUnpin refusal
+  DidUnpin (replies.Got size shown) = ⊥
+  DidUnpin (replies.Read served digest shown) = ⊥
+  DidUnpin (replies.Kept served) = ⊥
+  DidUnpin replies.Dropped = ⊥
+  DidUnpin (replies.Fed report) = ⊥
+  DidUnpin replies.FedNone = ⊥
+  DidUnpin (replies.Synced group blocks bytes) = ⊥
+  DidUnpin (replies.Capped c) = ⊥
+
+module _ {P D : Type 0} (pools : PoolGhosts P) (devices : DeviceGhosts D) (g : Config) (at : Oid) (t : ℕ) (before now : Outside P D) (p q : PartyPlace) where
   -- ---- why a line was refused that asks for a block's bytes
+
+  -- nothing was brought, for this cause
+  abbrev pub AsksNothing : Refusal → (OnHeap → Type 0) → Type 0
+  AsksNothing refusal Why = DidNot g at t p q Nothing Why × SpentOn pools devices g p before now Nothing (replies.Refused refusal)
 
   -- the bytes of the block were asked for, and refused for this cause
   abbrev pub FailsToBring : (last : ℕ) → Refusal → Type 0
-  FailsToBring last refusal = (ptr : Ptr) × DidNot (Refused ptr) (replies.Refused refusal) (λ cell. EndsInside at last (outline_in cell)
-      × WasToBring ptr (outline_in cell) × IsReadRefusal (pools.size before.pool) (pools.told before.pool) ptr refusal)
+  FailsToBring last refusal = (ptr : Ptr) × DidNot g at t p q (Refused ptr) (λ cell. EndsInside at last (outline_in cell)
+      × WasToBring at ptr (outline_in cell) × IsReadRefusal (pools.size before.pool) (pools.told before.pool) ptr refusal)
+      × SpentOn pools devices g p before now (Refused ptr) (replies.Refused refusal)
 
   -- By the refusal, where the range ends here. In this order: there is no such block; the range ends past it; its key names none of the pool; the bytes were refused.
   abbrev pub RefusesBytes : (last : ℕ) → Refusal → Type 0
-  RefusesBytes last (refusals.NoBlock named) = DidNot Nothing (replies.Refused (refusals.NoBlock named)) (λ cell. AnswersNoBlock at named (outline_in cell))
-  RefusesBytes last (refusals.Range end size) = DidNot Nothing (replies.Refused (refusals.Range end size)) (λ cell. AnswersRange at last end size (outline_in cell))
-  RefusesBytes last (refusals.Key why) = DidNot Nothing (replies.Refused (refusals.Key why)) (λ cell. EndsInside at last (outline_in cell)
-      × AnswersKey (pools.size before.pool) at (outline_in cell) (refusals.Key why))
+  RefusesBytes last (refusals.NoBlock named) = AsksNothing (refusals.NoBlock named) (λ cell. AnswersNoBlock at named (outline_in cell))
+  RefusesBytes last (refusals.Range end size) = AsksNothing (refusals.Range end size) (λ cell. AnswersRange at last end size (outline_in cell))
+  RefusesBytes last (refusals.Key why) = AsksNothing (refusals.Key why) (λ cell. EndsInside at last (outline_in cell) × AnswersKey (pools.size before.pool) at (outline_in cell) (refusals.Key why))
   RefusesBytes last refusals.PoolFault = FailsToBring last refusals.PoolFault
   RefusesBytes last (refusals.Mismatch found) = FailsToBring last (refusals.Mismatch found)
   RefusesBytes last (refusals.NoHold block) = ⊥
@@ -207,23 +251,15 @@ module _ {P D : Type 0} (pools : PoolGhosts P) (devices : DeviceGhosts D) (g : C
   RefusesBlock (refusals.NoPin named) = ⊥
   RefusesBlock refusals.NoMemory = ⊥
 
-  -- there was no pin of the party's
-  abbrev pub RefusesUnpin : Refusal → Type 0
-  RefusesUnpin (refusals.NoPin named) = DidNot Nothing (replies.Refused (refusals.NoPin named)) (λ cell. (named ≡ at) × (has_pin_at p.number at (outline_in cell) ≡ false))
-  RefusesUnpin (refusals.NoBlock named) = ⊥
-  RefusesUnpin (refusals.Range end size) = ⊥
-  RefusesUnpin (refusals.Key why) = ⊥
-  RefusesUnpin refusals.PoolFault = ⊥
-  RefusesUnpin (refusals.Mismatch found) = ⊥
-  RefusesUnpin (refusals.NoHold block) = ⊥
-  RefusesUnpin refusals.NoMemory = ⊥
+  -- ---- these lines, by their replies
 
-  -- ---- the lines, by their replies
+  -- the operation was done, and this was asked for what was brought for it
+  abbrev pub Brings : CellEvent → Reply → (OnHeap → Type 0) → Type 0
+  Brings own reply Fits = (brought : Brought) × Did g at t p q own brought Fits × SpentOn pools devices g p before now brought reply
 
   -- the block's size and the window were shown, as some legal replay of the cell's history has them
   abbrev pub DidGet : Window → Reply → Type 0
-  DidGet w (replies.Got size shown) = (brought : Brought) × Did (events.Get p.number at) brought (replies.Got size shown)
-      (λ cell. IsAnswerAfter cell.value.limit cell.value.opening cell.value.history at w size shown)
+  DidGet w (replies.Got size shown) = Brings (events.Get p.number at) (replies.Got size shown) (λ cell. IsAnswerAfter cell.value.limit cell.value.opening cell.value.history at w size shown)
   DidGet w (replies.Refused refusal) = RefusesBytes (w.at + w.len) refusal
   DidGet w replies.Done = ⊥
   DidGet w (replies.Read served digest shown) = ⊥
@@ -236,7 +272,7 @@ module _ {P D : Type 0} (pools : PoolGhosts P) (devices : DeviceGhosts D) (g : C
 
   -- the part was written over
   abbrev pub DidPatch : (from : ℕ) → List ℕ → Reply → Type 0
-  DidPatch from bytes replies.Done = (brought : Brought) × Did (events.Patch p.number at from bytes) brought replies.Done (λ cell. Unit {0})
+  DidPatch from bytes replies.Done = Brings (events.Patch p.number at from bytes) replies.Done (λ cell. Unit {0})
   DidPatch from bytes (replies.Refused refusal) = RefusesBytes (from + length bytes) refusal
   DidPatch from bytes (replies.Got size shown) = ⊥
   DidPatch from bytes (replies.Read served digest shown) = ⊥
@@ -249,7 +285,7 @@ module _ {P D : Type 0} (pools : PoolGhosts P) (devices : DeviceGhosts D) (g : C
 
   -- the block was pinned
   abbrev pub DidPin : Reply → Type 0
-  DidPin replies.Done = (brought : Brought) × Did (events.Pin p.number at) brought replies.Done (λ cell. Unit {0})
+  DidPin replies.Done = Brings (events.Pin p.number at) replies.Done (λ cell. Unit {0})
   DidPin (replies.Refused refusal) = RefusesBlock refusal
   DidPin (replies.Got size shown) = ⊥
   DidPin (replies.Read served digest shown) = ⊥
@@ -259,32 +295,6 @@ module _ {P D : Type 0} (pools : PoolGhosts P) (devices : DeviceGhosts D) (g : C
   DidPin replies.FedNone = ⊥
   DidPin (replies.Synced group blocks bytes) = ⊥
   DidPin (replies.Capped c) = ⊥
-
-  -- the block was written whole
-  abbrev pub DidPut : (size fill : ℕ) → Reply → Type 0
-  DidPut size fill replies.Done = Did (events.Put p.number at size fill) Nothing replies.Done (λ cell. Unit {0})
-  DidPut size fill (replies.Refused refusal) = ⊥
-  DidPut size fill (replies.Got most shown) = ⊥
-  DidPut size fill (replies.Read served digest shown) = ⊥
-  DidPut size fill (replies.Kept served) = ⊥
-  DidPut size fill replies.Dropped = ⊥
-  DidPut size fill (replies.Fed report) = ⊥
-  DidPut size fill replies.FedNone = ⊥
-  DidPut size fill (replies.Synced group blocks bytes) = ⊥
-  DidPut size fill (replies.Capped c) = ⊥
-
-  -- a pin of the party's went, or there was none
-  abbrev pub DidUnpin : Reply → Type 0
-  DidUnpin replies.Done = Did (events.Unpin p.number at) Nothing replies.Done (λ cell. Unit {0})
-  DidUnpin (replies.Refused refusal) = RefusesUnpin refusal
-  DidUnpin (replies.Got size shown) = ⊥
-  DidUnpin (replies.Read served digest shown) = ⊥
-  DidUnpin (replies.Kept served) = ⊥
-  DidUnpin replies.Dropped = ⊥
-  DidUnpin (replies.Fed report) = ⊥
-  DidUnpin replies.FedNone = ⊥
-  DidUnpin (replies.Synced group blocks bytes) = ⊥
-  DidUnpin (replies.Capped c) = ⊥
 
 -- ---- what a refusal tells
 

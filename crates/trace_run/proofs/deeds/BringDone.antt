@@ -139,7 +139,7 @@ module _ (g : Config) (t c : ℕ) where
         let empty : w.ms ≡ [] = no-moments w.ms w.events in
         subst (λ (n : ℕ). Tell (acts_in (shard_of g.shards) shard n (did ++ [])) (own_moments n (moments (opening_of g) (seen_of g shard r)))) (sym number)
         (subst (λ (x : List Act × List Moment). Tell x.0 x.1)
-        (λ i. (acts_in (shard_of g.shards) shard p.number (append-nil did (~ i)), (sym (w.more ∙ (ap (λ (l : List Moment). own_moments p.number (moments (opening_of g) (seen_of g shard q)) ++ l) empty
+        (λ i. (acts_in (shard_of g.shards) shard p.number (sym (append-nil did) i), (sym (w.more ∙ (ap (λ (l : List Moment). own_moments p.number (moments (opening_of g) (seen_of g shard q)) ++ l) empty
         ∙ (append-nil (own_moments p.number (moments (opening_of g) (seen_of g shard q))) ∙ own-same g [] p q refl d shard)))) i))
         (told shard));
   }
@@ -211,7 +211,7 @@ module _ (g : Config) (n c : ℕ) (ptr : Ptr) where
 -- One act of the party's own, told in the shard of its key by the moments of its access and those of the hands behind it
 module _ (g : Config) (act : Act) (shard : ℕ) (hands : List Event) (ms : List Moment) (es : List Event) (p q : PartyPlace) (his : actor_of act ≡ p.number) (there : shard_of g.shards (act_key act) ≡ shard)
     (moves : Moves g shard ms es p q) (stands : (ns : List Moment) → map (λ (m : Moment). m.event) ns ≡ own_events p.number (events_there g shard hands) → StandsFor act (ms ++ ns))
-    (else : (j : ℕ) → j ≢ shard → events_there g j hands ≡ []) where
+    (off : (j : ℕ) → j ≢ shard → events_there g j hands ≡ []) where
   abbrev f : Key → ℕ
   f = shard_of g.shards
 
@@ -232,7 +232,7 @@ module _ (g : Config) (act : Act) (shard : ℕ) (hands : List Event) (ms : List 
 
   off-shard : (j : ℕ) → j ≢ shard → (did : List Act) (r : PartyPlace) → MakesOwn g hands q r p.number j → IsTold g did p → Tell (acts_in f j p.number (did ++ act ∷ [])) (own r j)
   off-shard j differs did r w told =
-      let empty : w.ms ≡ [] = no-moments w.ms (w.events ∙ ap (own_events p.number) (else j differs)) in
+      let empty : w.ms ≡ [] = no-moments w.ms (w.events ∙ ap (own_events p.number) (off j differs)) in
       let all : own r j ≡ own p j = w.more ∙ (ap (λ (l : List Moment). own q j ++ l) empty ∙ (append-nil (own q j) ∙ ap (λ (l : List Event). own_moments p.number (moments (opening_of g) l)) (moves.own.others j differs))) in
       subst (λ (x : List Act × List Moment). Tell x.0 x.1)
       (λ i. (sym (acts-append f j p.number did (act ∷ []) ∙ (ap (λ (l : List Act). acts_in f j p.number did ++ l) (act-else j differs) ∙ append-nil (acts_in f j p.number did))) i, sym all i)) (told j)

@@ -100,8 +100,10 @@ module _ (g : Config) (t c : ℕ) (above : parties_of g ≤ c) (brought : Brough
   abbrev f : Key → ℕ
   f = shard_of g.shards
 
-  abbrev own_acts cell_acts : List Act
+  abbrev own_acts : List Act
   own_acts = acts_of_bringing p.number t c brought
+
+  abbrev cell_acts : List Act
   cell_acts = acts_of_events es
 
   number : q.number ≡ p.number
