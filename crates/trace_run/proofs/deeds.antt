@@ -1,3 +1,5 @@
+pub mod BringDone
+pub mod CellFound
 pub mod CellsDone
 pub mod ClosedDeeds
 pub mod DeedLemmas
@@ -5,8 +7,11 @@ pub mod GetsDone
 pub mod MadeCells
 pub mod MadeLemmas
 pub mod MakesLemmas
+pub mod ObjectAnswers
+pub mod ObjectWork
 pub mod OperatesDone
 pub mod OwnAlone
 pub mod ReadSame
 pub mod StandsDone
 pub mod TurnMakes
+pub mod WorkDone

@@ -1,9 +1,10 @@
 -- What a caller's line on an object came to: how the block's cell was found, what was brought for the line, what it did, and why it was refused.
-use Rattle.std.specs.Prelude.{◌≡◌, ℕ, ◌+◌, ◌==◌, ◌≤◌, false, if◌then◌else◌, List, [], ◌∷◌, ◌++◌, length, map, slice_index_or, Option, Some, None}
+use Rattle.std.specs.Prelude.{◌≡◌, ℕ, ◌+◌, ◌==◌, ◌≤◌, false, if◌then◌else◌, List, [], ◌∷◌, ◌++◌, length, map, slice_index_or, Option, Some, None, IfSome}
 use Rattle.blk_ptr.specs.declared.ptr.Ptr.{Ptr}
 use Rattle.blk_ptr.specs.declared.key.Key.{Key}
 use Rattle.blk_ptr.specs.Hash.{shard_of}
 use Rattle.blk_ptr.specs.Key.{IsValid}
+use Rattle.blk_ptr.specs.Size.{IsBlockSize}
 use Rattle.vdev_io.specs.declared.device.CacheDev.{Ghosts as DeviceGhosts}
 use Rattle.vdev_io.specs.declared.pool.Pool.{Ghosts as PoolGhosts}
 use Rattle.vdev_io.specs.Calls.{MakesCalls}
@@ -34,6 +35,8 @@ use Rattle.dbuf_state.specs.declared.oid.Oid.{Oid}
 use Rattle.dbuf_state.specs.declared.state.Mapped.{Mapped}
 use Rattle.dbuf_state.specs.declared.state.Mapped.TheVariants.{Clean}
 use Rattle.dbuf_state.specs.declared.window.Window.{Window}
+use Rattle.trace_text.specs.declared.op.Op.{Op}
+use Rattle.trace_text.specs.declared.op.Op.TheVariants as ops
 use Rattle.trace_text.specs.declared.reply.Refusal.{Refusal}
 use Rattle.trace_text.specs.declared.reply.Refusal.TheVariants as refusals
 use Rattle.trace_text.specs.declared.reply.Reply.{Reply}
@@ -295,6 +298,57 @@ module _ {P D : Type 0} (pools : PoolGhosts P) (devices : DeviceGhosts D) (g : C
   DidPin replies.FedNone = ⊥
   DidPin (replies.Synced group blocks bytes) = ⊥
   DidPin (replies.Capped c) = ⊥
+
+  -- ---- by the line: no other one is on an object
+
+  abbrev pub DidObject : Op → Reply → Type 0
+  DidObject (ops.Get n u x w) reply = DidGet w reply
+  DidObject (ops.Patch n u x from bytes) reply = DidPatch from bytes reply
+  DidObject (ops.Pin n u x) reply = DidPin reply
+  DidObject (ops.Put n u x size fill) reply = DidPut g at p q size fill reply × (now ≡ before)
+  DidObject (ops.Unpin n x) reply = DidUnpin g at p q reply × (now ≡ before)
+  DidObject (ops.Read n u x window) reply = ⊥
+  DidObject (ops.Hold n u x) reply = ⊥
+  DidObject (ops.Drop n x) reply = ⊥
+  DidObject ops.Feed reply = ⊥
+  DidObject (ops.Txg u) reply = ⊥
+  DidObject (ops.Cap c) reply = ⊥
+
+-- the block of the object map that a line is on, and the tick at which its bytes are brought; a line that brings none has none
+pub record OnObject : Type 0 where
+  pub at : Oid
+  pub tick : ℕ
+
+abbrev pub on_object : Op → Option OnObject
+on_object (ops.Get n t at w) = Some (record { at = at; tick = t })
+on_object (ops.Patch n t at from bytes) = Some (record { at = at; tick = t })
+on_object (ops.Pin n t at) = Some (record { at = at; tick = t })
+on_object (ops.Put n t at size fill) = Some (record { at = at; tick = 0 })
+on_object (ops.Unpin n at) = Some (record { at = at; tick = 0 })
+on_object (ops.Read n t x window) = None
+on_object (ops.Hold n t x) = None
+on_object (ops.Drop n x) = None
+on_object ops.Feed = None
+on_object (ops.Txg t) = None
+on_object (ops.Cap c) = None
+
+-- a block that is written whole has a size that a block may have
+abbrev pub IsSized : Op → Type 0
+IsSized (ops.Put n t at size fill) = IsBlockSize size
+IsSized (ops.Get n t at w) = Unit {0}
+IsSized (ops.Patch n t at from bytes) = Unit {0}
+IsSized (ops.Pin n t at) = Unit {0}
+IsSized (ops.Unpin n at) = Unit {0}
+IsSized (ops.Read n t x window) = Unit {0}
+IsSized (ops.Hold n t x) = Unit {0}
+IsSized (ops.Drop n x) = Unit {0}
+IsSized ops.Feed = Unit {0}
+IsSized (ops.Txg t) = Unit {0}
+IsSized (ops.Cap c) = Unit {0}
+
+-- what a line on an object came to
+abbrev pub DidObjectLine : {P D : Type 0} → PoolGhosts P → DeviceGhosts D → Config → (before now : Outside P D) → (p q : PartyPlace) → Op → Reply → Type 0
+DidObjectLine pools devices g before now p q op reply = IfSome (on_object op) (λ on. DidObject pools devices g on.at on.tick before now p q op reply)
 
 -- ---- what a refusal tells
 

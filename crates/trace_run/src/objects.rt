@@ -1,10 +1,10 @@
 //! A caller's lines on objects: blocks of the object map, whose bytes cells of dbufs keep (`dmu_read` and `dmu_write` of OpenZFS's `dmu.c`).
-ghost use Rattle.std.specs.Prelude.{◌≡◌, ◌≤◌, IfOk, List, length};
+ghost use Rattle.std.specs.Prelude.{◌≡◌, IfOk, List, is_some, true};
 ghost use Rattle.arc_table.specs.Reading.{KeepsDevice, outside};
 ghost use Rattle.blk_ptr.specs.Size.{IsBlockSize};
 ghost use Rattle.vdev_io.specs.Calls.{KeepsPool};
 ghost use Rattle.trace_run.specs.KeptBlocks.{Stands};
-ghost use Rattle.trace_run.specs.ObjectLines.{DidGet, DidPatch, DidPin, DidPut, DidUnpin, TellsFault};
+ghost use Rattle.trace_run.specs.ObjectLines.{DidGet, DidObjectLine, DidPatch, DidPin, DidPut, DidUnpin, IsSized, TellsFault, on_object};
 ghost use Rattle.trace_run.specs.declared.kept_blocks.KeptBlock.{KeptBlock};
 
 use crate::lines::refusal_of as refusal_of_read;
@@ -14,7 +14,7 @@ use dbuf_cells::{Cells, HeapCell, get, hold, patch, put, unhold};
 use dbuf_state::{DbufFault, Oid, Shown, Window};
 use std::alloc::Global;
 use std::sync::Wait;
-use trace_text::{Refusal, Reply};
+use trace_text::{Op, Refusal, Reply};
 use vdev_io::{CacheDev, Pool};
 
 /// What a caller is told of a fault of a call on dbufs. Want of memory ends the run.
@@ -144,5 +144,42 @@ pub(crate) fn unpin_line(
     match unhold(arcs, rt, party, at) {
         Ok(()) => Ok(Reply::Done),
         Err(fault) => Ok(Reply::Refused(refusal_of(fault)?)),
+    }
+}
+
+/// Answers a caller's line on an object.
+pub(crate) fn object_line<P: Pool, D: CacheDev>(
+    alloc: Global,
+    rt: &impl Wait,
+    arcs: &Cells,
+    party: &mut Party<HeapCell>,
+    pool: &mut P,
+    device: &mut D,
+    op: &Op,
+) -> Result<Reply, NoMemory>
+    requires stands { (kept : List KeptBlock) × Stands arcs.now party.old kept }
+    requires object { is_some (on_object op.now) ≡ true }
+    requires sized { IsSized op.now }
+    ensures stands { (kept : List KeptBlock) → Stands arcs.now party.old kept → IfOk result (λ reply. Stands arcs.now party.new kept) }
+    ensures did { IfOk result (DidObjectLine P.Pool D.CacheDev arcs.now.config (outside pool.old device.old) (outside pool.new device.new) party.old party.new op.now) }
+    ensures pool { KeepsPool P.Pool pool.old pool.new }
+    ensures device { KeepsDevice D.CacheDev device.old device.new }
+{
+    match op {
+        Op::Get { t, at, w, .. } => get_line(rt, arcs, party, pool, device, *at, *w, *t),
+        Op::Put { at, size, fill, .. } => put_line(alloc, rt, arcs, party, *at, *size, *fill),
+        Op::Patch {
+            t, at, from, bytes, ..
+        } => {
+            let bytes = Shown::of(bytes.bytes());
+            patch_line(
+                alloc, rt, arcs, party, pool, device, *at, *from, &bytes, *t,
+            )
+        }
+        Op::Pin { t, at, .. } => pin_line(rt, arcs, party, pool, device, *at, *t),
+        Op::Unpin { at, .. } => unpin_line(rt, arcs, party, *at),
+        Op::Read { .. } | Op::Hold { .. } | Op::Drop { .. } | Op::Feed | Op::Txg { .. } | Op::Cap { .. } => {
+            unreachable!()
+        }
     }
 }

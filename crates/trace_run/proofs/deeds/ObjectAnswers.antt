@@ -129,7 +129,7 @@ module _ {C P D : Type 0} (m : Meanings C) (pools : PoolGhosts P) (devices : Dev
 -- ---- evictions
 
 -- they are evictions by n of some blocks
-evicts : (n c : ℕ) (o : Outline) (evs : List CellEvent) (es : List Event) → AreEvictions n c o evs es → (oids : List Oid) × (evs ≡ map (events.Evict n) oids)
+pub evicts : (n c : ℕ) (o : Outline) (evs : List CellEvent) (es : List Event) → AreEvictions n c o evs es → (oids : List Oid) × (evs ≡ map (events.Evict n) oids)
 evicts n c o [] es none = ([], refl)
 evicts n c o (e ∷ evs) es a =
     let rest = evicts n c (after o e) evs a.3 a.8 in
@@ -175,8 +175,8 @@ module _ (g : Config) (valid : IsConfig g) (at : Oid) (t : ℕ) (p q : PartyPlac
 
   module _ (brought : Brought) (back : PartyPlace) (hands : List Event) (b : BringDone g t c brought hands p back) (handing : AreHands p.number c hands) (mid : OnHeap) (own : CellEvent) (released : List Event)
       (of : AreOfCell c released) (o : Operates g i mid (loads_of p.number at brought ++ own ∷ []) (hands ++ released) back q) where
-    abbrev loads : List CellEvent
-    loads = loads_of p.number at brought
+    abbrev own_loads : List CellEvent
+    own_loads = loads_of p.number at brought
 
     back-config : back.own.about.config ≡ g
     back-config = still back b.seen
@@ -187,10 +187,10 @@ module _ (g : Config) (valid : IsConfig g) (at : Oid) (t : ℕ) (p q : PartyPlac
     all_of : AreOfCell c (released ++ o.drops)
     all_of = both-of c released o.drops of (evictions-of back.number c _ o.evictions o.drops o.evicted)
 
-    evicted-are : (oids : List Oid) × (o.evictions ≡ map (events.Evict back.number) oids)
+    abbrev evicted-are : (found : List Oid) × (o.evictions ≡ map (events.Evict back.number) found)
     evicted-are = evicts back.number c _ o.evictions o.drops o.evicted
 
-    pub oids : List Oid
+    abbrev pub oids : List Oid
     oids = evicted-are.0
 
     are-oids : o.evictions ≡ map (events.Evict p.number) oids
@@ -201,14 +201,14 @@ module _ (g : Config) (valid : IsConfig g) (at : Oid) (t : ℕ) (p q : PartyPlac
 
     low : p.number < parties_of g
     low = subst (λ (n : ℕ). n < parties_of g) b.seen.number
-        (turn-low g valid i in_range mid ((loads ++ own ∷ []) ++ o.evictions) ((hands ++ released) ++ o.drops) back q back-config b.sees turn-kinds-all o.turn)
+        (turn-low g valid i in_range mid ((own_loads ++ own ∷ []) ++ o.evictions) ((hands ++ released) ++ o.drops) back q back-config b.sees turn-kinds-all o.turn)
 
-    own-done : CellsDone g (noted_in i (loads ++ own ∷ map (events.Evict p.number) oids)) (hands ++ (released ++ o.drops)) back q
+    own-done : CellsDone g (noted_in i (own_loads ++ own ∷ map (events.Evict p.number) oids)) (hands ++ (released ++ o.drops)) back q
     own-done = subst (λ (x : List CellEvent × List Event). CellsDone g (noted_in i x.0) x.1 back q)
-        (λ k. ((append_assoc loads (own ∷ []) o.evictions ∙ ap (λ (l : List CellEvent). loads ++ own ∷ l) are-oids) k, append_assoc hands released o.drops k))
-        (operates-done g valid i in_range mid (loads ++ own ∷ []) (hands ++ released) back q back-config b.sees kinds o)
+        (λ k. ((append_assoc own_loads (own ∷ []) o.evictions ∙ ap (λ (l : List CellEvent). own_loads ++ own ∷ l) are-oids) k, append_assoc hands released o.drops k))
+        (operates-done g valid i in_range mid (own_loads ++ own ∷ []) (hands ++ released) back q back-config b.sees kinds o)
 
-    pub own-work : DidWork g t c brought (released ++ o.drops) (noted_in i (loads ++ own ∷ map (events.Evict p.number) oids)) p q
+    pub own-work : DidWork g t c brought (released ++ o.drops) (noted_in i (own_loads ++ own ∷ map (events.Evict p.number) oids)) p q
     own-work = work-done g t c above brought hands (released ++ o.drops) _ p back q low b handing all_of own-done
 
     pub own-keeps : KeepsStanding g p q
@@ -221,13 +221,13 @@ module _ (g : Config) (valid : IsConfig g) (at : Oid) (t : ℕ) (p q : PartyPlac
     }
 
     pub own-found : FindsCell g i mid p q
-    own-found = found-before g i in_range mid p back q b.seen (turn-finds g valid i in_range mid ((loads ++ own ∷ []) ++ o.evictions) ((hands ++ released) ++ o.drops) back q back-config b.sees turn-kinds-all o.turn)
+    own-found = found-before g i in_range mid p back q b.seen (turn-finds g valid i in_range mid ((own_loads ++ own ∷ []) ++ o.evictions) ((hands ++ released) ++ o.drops) back q back-config b.sees turn-kinds-all o.turn)
 
     pub own-grows : StartsWith (front_of i q.own.seen) (front_of i back.own.seen)
     own-grows = own-done.cells i in_range
 
-    pub own-evicted : AreEvictions p.number c (after_all (outline_in mid) (loads ++ own ∷ [])) (map (events.Evict p.number) oids) o.drops
-    own-evicted = subst (λ (x : ℕ × List CellEvent). AreEvictions x.0 c (after_all (outline_in mid) (loads ++ own ∷ [])) x.1 o.drops) (λ k. (b.seen.number k, are-oids k)) o.evicted
+    pub own-evicted : AreEvictions p.number c (after_all (outline_in mid) (own_loads ++ own ∷ [])) (map (events.Evict p.number) oids) o.drops
+    own-evicted = subst (λ (x : ℕ × List CellEvent). AreEvictions x.0 c (after_all (outline_in mid) (own_loads ++ own ∷ [])) x.1 o.drops) (λ k. (b.seen.number k, are-oids k)) o.evicted
 
   -- ---- what was not done
 
@@ -614,14 +614,14 @@ module _ (g : Config) (valid : IsConfig g) (at : Oid) (t : ℕ) (p q : PartyPlac
     pub patch-done : {T : Type 0} (from : ℕ) (bytes : List ℕ) (done : T) → AnswersPatch pools devices g at t before now from bytes p q (Ok done) → DidPatch pools devices g at t before now p q from bytes replies.Done × KeepsStanding g p q
     patch-done from bytes done once = patched once.ready (waited once) once.before from bytes once.happens
 
-    pub patch-refused : {T : Type 0} (from : ℕ) (bytes : List ℕ) (why : DbufFault) (refusal : Refusal) → TellsFault why refusal → AnswersPatch {T = T} pools devices g at t before now from bytes p q (Err why)
+    pub patch-refused : (T : Type 0) (from : ℕ) (bytes : List ℕ) (why : DbufFault) (refusal : Refusal) → TellsFault why refusal → AnswersPatch pools devices g at t before now {T = T} from bytes p q (Err why)
         → DidPatch pools devices g at t before now p q from bytes (replies.Refused refusal) × KeepsStanding g p q
-    patch-refused from bytes (dbuf_fault.Read why) refusal tells once =
+    patch-refused T from bytes (dbuf_fault.Read why) refusal tells once =
         not-accessed once.ready (waited once) once.before (from + length bytes) why refusal tells (is-inside once.ready (waited once) once.before (from + length bytes) once.happens.0) once.happens.1
-    patch-refused from bytes (dbuf_fault.NoBlock named) refusal tells once = no-block once.ready (waited once) once.before (from + length bytes) named refusal tells once.happens
-    patch-refused from bytes (dbuf_fault.Range end size) refusal tells once = ends-past once.ready (waited once) once.before (from + length bytes) end size refusal tells once.happens
-    patch-refused from bytes (dbuf_fault.NoPin named) refusal tells once = absurd once.happens
-    patch-refused from bytes dbuf_fault.NoMemory refusal tells once = absurd tells
+    patch-refused T from bytes (dbuf_fault.NoBlock named) refusal tells once = no-block once.ready (waited once) once.before (from + length bytes) named refusal tells once.happens
+    patch-refused T from bytes (dbuf_fault.Range end size) refusal tells once = ends-past once.ready (waited once) once.before (from + length bytes) end size refusal tells once.happens
+    patch-refused T from bytes (dbuf_fault.NoPin named) refusal tells once = absurd once.happens
+    patch-refused T from bytes dbuf_fault.NoMemory refusal tells once = absurd tells
 
     pub pin-done : {T : Type 0} (done : T) → AnswersHold pools devices g at t before now p q (Ok done) → DidPin pools devices g at t before now p q replies.Done × KeepsStanding g p q
     pin-done done once = acted once.ready (waited once) once.before (λ n. events.Pin n at) (λ b. Unit {0}) replies.Done _ (λ x sound fits. tt) (λ o. refl) once.happens
@@ -633,16 +633,16 @@ module _ (g : Config) (valid : IsConfig g) (at : Oid) (t : ℕ) (p q : PartyPlac
     read-block (fault.Key why) refusal is r = subst (RefusesBlock pools devices g at t before now p q) (sym is) (subst (RefusesBytes pools devices g at t before now p q 0) is r)
     read-block (fault.NoMemory) refusal is r = absurd is
 
-    pub pin-refused : {T : Type 0} (why : DbufFault) (refusal : Refusal) → TellsFault why refusal → AnswersHold {T = T} pools devices g at t before now p q (Err why) → DidPin pools devices g at t before now p q (replies.Refused refusal) × KeepsStanding g p q
-    pin-refused (dbuf_fault.Read why) refusal tells once =
+    pub pin-refused : (T : Type 0) (why : DbufFault) (refusal : Refusal) → TellsFault why refusal → AnswersHold pools devices g at t before now {T = T} p q (Err why) → DidPin pools devices g at t before now p q (replies.Refused refusal) × KeepsStanding g p q
+    pin-refused T (dbuf_fault.Read why) refusal tells once =
         let r = refuses once.ready (waited once) once.before 0 why refusal tells (is-inside once.ready (waited once) once.before 0 once.happens.0) once.happens.1 in
         (read-block why refusal tells r.0, r.1)
-    pin-refused (dbuf_fault.NoBlock named) refusal tells once =
+    pin-refused T (dbuf_fault.NoBlock named) refusal tells once =
         let r = no-block once.ready (waited once) once.before 0 named refusal tells once.happens in
         (subst (RefusesBlock pools devices g at t before now p q) (sym tells) (subst (RefusesBytes pools devices g at t before now p q 0) tells r.0), r.1)
-    pin-refused (dbuf_fault.Range end size) refusal tells once = absurd once.happens
-    pin-refused (dbuf_fault.NoPin named) refusal tells once = absurd once.happens
-    pin-refused dbuf_fault.NoMemory refusal tells once = absurd tells
+    pin-refused T (dbuf_fault.Range end size) refusal tells once = absurd once.happens
+    pin-refused T (dbuf_fault.NoPin named) refusal tells once = absurd once.happens
+    pin-refused T dbuf_fault.NoMemory refusal tells once = absurd tells
 
 -- ---- puts, and pins that are taken back
 
@@ -656,23 +656,23 @@ module _ (g : Config) (valid : IsConfig g) (at : Oid) (p q : PartyPlace) (config
       (subst (λ (n : ℕ). Operates g (cell_of g.cells at) once.before (events.Put n at size fill ∷ []) es once.ready q) w.number once.happens.operates)
 
   -- a put is refused memory alone
-  pub put-refused : {T : Type 0} (size fill : ℕ) (why : DbufFault) (refusal : Refusal) → TellsFault why refusal → AnswersPut {T = T} g at size fill p q (Err why) → DidPut g at p q size fill (replies.Refused refusal) × KeepsStanding g p q
-  put-refused size fill (dbuf_fault.Read why) refusal tells answer = absurd answer
-  put-refused size fill (dbuf_fault.NoBlock named) refusal tells answer = absurd answer
-  put-refused size fill (dbuf_fault.Range end most) refusal tells answer = absurd answer
-  put-refused size fill (dbuf_fault.NoPin named) refusal tells answer = absurd answer
-  put-refused size fill dbuf_fault.NoMemory refusal tells answer = absurd tells
+  pub put-refused : (T : Type 0) (size fill : ℕ) (why : DbufFault) (refusal : Refusal) → TellsFault why refusal → AnswersPut {T = T} g at size fill p q (Err why) → DidPut g at p q size fill (replies.Refused refusal) × KeepsStanding g p q
+  put-refused T size fill (dbuf_fault.Read why) refusal tells answer = absurd answer
+  put-refused T size fill (dbuf_fault.NoBlock named) refusal tells answer = absurd answer
+  put-refused T size fill (dbuf_fault.Range end most) refusal tells answer = absurd answer
+  put-refused T size fill (dbuf_fault.NoPin named) refusal tells answer = absurd answer
+  put-refused T size fill dbuf_fault.NoMemory refusal tells answer = absurd tells
 
   pub unpin-done : {T : Type 0} (done : T) → AnswersUnhold g at p q (Ok done) → DidUnpin g at p q replies.Done × KeepsStanding g p q
   unpin-done done once =
       let w = waited g valid at 0 p q config sees once in
       operated g valid at 0 p q config sees once.ready w once.before (events.Unpin p.number at) [] tt refl (subst (λ (n : ℕ). Operates g (cell_of g.cells at) once.before (events.Unpin n at ∷ []) [] once.ready q) w.number once.happens)
 
-  pub unpin-refused : {T : Type 0} (why : DbufFault) (refusal : Refusal) → TellsFault why refusal → AnswersUnhold {T = T} g at p q (Err why) → DidUnpin g at p q (replies.Refused refusal) × KeepsStanding g p q
-  unpin-refused (dbuf_fault.NoPin named) refusal tells once =
+  pub unpin-refused : (T : Type 0) (why : DbufFault) (refusal : Refusal) → TellsFault why refusal → AnswersUnhold {T = T} g at p q (Err why) → DidUnpin g at p q (replies.Refused refusal) × KeepsStanding g p q
+  unpin-refused T (dbuf_fault.NoPin named) refusal tells once =
       subst (λ (r : Refusal). DidUnpin g at p q (replies.Refused r) × KeepsStanding g p q) (sym tells)
       (unpinned-none g valid at 0 p q config sees once.ready (waited g valid at 0 p q config sees once) once.before named once.happens.0 once.happens.2 once.happens.1)
-  unpin-refused (dbuf_fault.Read why) refusal tells once = absurd once.happens
-  unpin-refused (dbuf_fault.NoBlock named) refusal tells once = absurd once.happens
-  unpin-refused (dbuf_fault.Range end size) refusal tells once = absurd once.happens
-  unpin-refused dbuf_fault.NoMemory refusal tells once = absurd tells
+  unpin-refused T (dbuf_fault.Read why) refusal tells once = absurd once.happens
+  unpin-refused T (dbuf_fault.NoBlock named) refusal tells once = absurd once.happens
+  unpin-refused T (dbuf_fault.Range end size) refusal tells once = absurd once.happens
+  unpin-refused T dbuf_fault.NoMemory refusal tells once = absurd tells

@@ -11,20 +11,14 @@ use Rattle.arc_core.specs.declared.config.Config.{Config}
 use Rattle.arc_core.specs.declared.event.Event.{Event}
 use Rattle.arc_core.specs.declared.event.Event.TheVariants.{Drop, Hand, Release}
 use Rattle.arc_core.specs.Operations.{Act, Moment, Tell, actor_of, acts_in, moments, own_events, own_moments}
-use Rattle.turn_table.specs.declared.standing.Kept.{Kept as Joined}
-use Rattle.turn_table.specs.Places.{Apart}
-use Rattle.arc_table.specs.declared.view.Known.{Known}
 use Rattle.arc_table.specs.declared.view.Line.{Line}
-use Rattle.arc_table.specs.Cache.{Cache, IsPartyOf}
 use Rattle.arc_table.specs.Geometry.{IsCell, parties_of}
 use Rattle.arc_table.specs.Seen.{HasAll, seen_of, turn_of}
 use Rattle.arc_table.specs.Telling.{opening_of}
 use Rattle.arc_table.specs.Told.{IsTold}
-use Rattle.dbuf_cells.specs.Turns.{KeepsClaims, OnHeap, PartyPlace}
-use Rattle.trace_run.specs.declared.kept_blocks.KeptBlock.{KeptBlock}
+use Rattle.dbuf_cells.specs.Turns.{PartyPlace}
 use Rattle.trace_run.specs.DbufTurns.{CellsDone, held_through}
 use Rattle.trace_run.specs.Deeds.{HasAct, HasToldAll, Noted, act_of_event, acts_of_events, events_there, lines_of_cell, with_number}
-use Rattle.trace_run.specs.KeptBlocks.{AllQuiet, IsOwnedBy, Stands, times}
 use Rattle.trace_run.specs.MadeLines.{made_in, made_of}
 use Rattle.trace_run.specs.ObjectLines.{DidWork, brought_there, events_of_bringing}
 use Rattle.trace_run.specs.Objects.{Brought, Nothing, Loaded, Refused, acts_of_bringing}
@@ -41,7 +35,7 @@ use Rattle.trace_run.proofs.deeds.TurnMakes.{AreTurnEvents, IsTurnEvent, held-ap
 abbrev pub AreHands : (n c : ℕ) → List Event → Type 0
 AreHands n c = AllByRecursion (λ e. (k : Key) × (e ≡ Hand n k c))
 
-of-kinds : (n c : ℕ) (es : List Event) → AreOfCell c es → AreTurnEvents n c es
+pub of-kinds : (n c : ℕ) (es : List Event) → AreOfCell c es → AreTurnEvents n c es
 of-kinds n c [] all = tt
 of-kinds n c (e ∷ es) all = (one all.0, of-kinds n c es all.1)
   where
@@ -49,7 +43,7 @@ of-kinds n c (e ∷ es) all = (one all.0, of-kinds n c es all.1)
     one (inl drop) = inr (inl drop)
     one (inr release) = inr (inr release)
 
-hand-kinds : (n c : ℕ) (es : List Event) → AreHands n c es → AreTurnEvents n c es
+pub hand-kinds : (n c : ℕ) (es : List Event) → AreHands n c es → AreTurnEvents n c es
 hand-kinds n c [] all = tt
 hand-kinds n c (e ∷ es) all = (inl all.0, hand-kinds n c es all.1)
 
@@ -59,7 +53,7 @@ hand-acts n c [] all = refl
 hand-acts n c (e ∷ es) all = (λ i. act_of_event (all.0.1 i) ++ acts_of_events es) ∙ hand-acts n c es all.1
 
 -- the acts of a cell's events have its number
-of-acts : (c : ℕ) (es : List Event) → AreOfCell c es → AreActsBy c (acts_of_events es)
+pub of-acts : (c : ℕ) (es : List Event) → AreOfCell c es → AreActsBy c (acts_of_events es)
 of-acts c [] all = tt
 of-acts c (e ∷ es) all = all-both (λ (act : Act). actor_of act ≡ c) (act_of_event e) (acts_of_events es) (one all.0) (of-acts c es all.1)
   where
@@ -185,20 +179,3 @@ module _ (g : Config) (t c : ℕ) (above : parties_of g ≤ c) (brought : Brough
   pub holds-same : q.own.ledger.holds ≡ p.own.ledger.holds
   holds-same = d.holds ∙ ((λ i. held_through (b.seen.number i) (hands ++ es) m.own.ledger.holds)
       ∙ (held-append g p.number hands es m.own.ledger.holds ∙ (ap (held_through p.number es) b.holds ∙ held-same p.number c es p.own.ledger.holds of)))
-
--- its caller stands between its lines again
-module _ (cache : Cache) (kept : List KeptBlock) (t c : ℕ) (brought : Brought) (hands es : List Event) (noted : List Noted) (p m q : PartyPlace) (b : BringDone cache.config t c brought hands p m) (d : CellsDone cache.config noted (hands ++ es) m q) where
-  pub stands-again : Stands cache p kept → IsPartyOf cache q → q.held ≡ [] → KeepsClaims p q → q.own.ledger.holds ≡ p.own.ledger.holds → Stands cache q kept
-  stands-again stands of free claims holds = record {
-    valid = stands.valid;
-    of = of;
-    free = free;
-    cells = d.sees.1;
-    idle = d.readings ∙ (b.readings ∙ stands.idle);
-    unclaimed = λ i. claims i ∙ stands.unclaimed i;
-    seen = d.sees.0;
-    apart = subst (λ (x : ℕ × List (Joined (Known OnHeap))). Apart x.0 x.1) (λ i. (sym (d.number ∙ b.seen.number) i, sym (d.joined ∙ b.seen.joined) i)) stands.apart;
-    joined = subst AllQuiet (sym (d.joined ∙ b.seen.joined)) stands.joined;
-    owned = subst (λ (n : ℕ). AllByRecursion (λ x. IsOwnedBy n x.kept) kept) (sym (d.number ∙ b.seen.number)) stands.owned;
-    listed = λ x. ap (times x) holds ∙ stands.listed x;
-  }
