@@ -3,7 +3,6 @@ pub mod CellFound
 pub mod CellsDone
 pub mod ClosedDeeds
 pub mod DeedLemmas
-pub mod GetsDone
 pub mod MadeCells
 pub mod MadeLemmas
 pub mod MakesLemmas
@@ -12,6 +11,5 @@ pub mod ObjectWork
 pub mod OperatesDone
 pub mod OwnAlone
 pub mod ReadSame
-pub mod StandsDone
 pub mod TurnMakes
 pub mod WorkDone

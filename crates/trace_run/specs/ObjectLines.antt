@@ -11,7 +11,6 @@ use Rattle.vdev_io.specs.Calls.{MakesCalls}
 use Rattle.arc_core.specs.declared.config.Config.{Config}
 use Rattle.arc_core.specs.declared.event.Event.{Event}
 use Rattle.arc_core.specs.declared.event.Event.TheVariants.{Hand}
-use Rattle.arc_core.specs.declared.served.Served.{Served}
 use Rattle.arc_core.specs.Operations.{Act}
 use Rattle.arc_core.specs.PlainShard.{PlainShard}
 use Rattle.arc_table.specs.declared.view.Line.{Line}
@@ -46,7 +45,7 @@ use Rattle.trace_run.specs.Deeds.{HasToldAll, Noted, acts_of_events, events_ther
 use Rattle.trace_run.specs.DeviceReads.{AsksFor}
 use Rattle.trace_run.specs.Effects.{Effect, Answered, calls_of, effect_of}
 use Rattle.trace_run.specs.Objects.{AnswersKey, AnswersNoBlock, AnswersRange, Brought, Nothing, Loaded, Refused, acts_of_bringing, loads_of}
-use Rattle.trace_run.specs.one_caller.Access.{Access, AsksPool, MayComeFrom, access_of, events_of_answered, events_of_refused, held_key}
+use Rattle.trace_run.specs.one_caller.Access.{AsksPool, MayComeFrom, access_of, events_of_answered, events_of_refused, held_key}
 use Rattle.trace_run.specs.one_caller.Asking.{Asks}
 use Rattle.trace_run.specs.Reads.{IsRefused, access_now, now_of}
 

@@ -169,17 +169,22 @@ pub(crate) fn object_line<P: Pool, D: CacheDev>(
         Op::Get { t, at, w, .. } => get_line(rt, arcs, party, pool, device, *at, *w, *t),
         Op::Put { at, size, fill, .. } => put_line(alloc, rt, arcs, party, *at, *size, *fill),
         Op::Patch {
-            t, at, from, bytes, ..
+            t,
+            at,
+            from,
+            bytes,
+            ..
         } => {
             let bytes = Shown::of(bytes.bytes());
-            patch_line(
-                alloc, rt, arcs, party, pool, device, *at, *from, &bytes, *t,
-            )
+            patch_line(alloc, rt, arcs, party, pool, device, *at, *from, &bytes, *t)
         }
         Op::Pin { t, at, .. } => pin_line(rt, arcs, party, pool, device, *at, *t),
         Op::Unpin { at, .. } => unpin_line(rt, arcs, party, *at),
-        Op::Read { .. } | Op::Hold { .. } | Op::Drop { .. } | Op::Feed | Op::Txg { .. } | Op::Cap { .. } => {
-            unreachable!()
-        }
+        Op::Read { .. }
+        | Op::Hold { .. }
+        | Op::Drop { .. }
+        | Op::Feed
+        | Op::Txg { .. }
+        | Op::Cap { .. } => { unreachable!() }
     }
 }

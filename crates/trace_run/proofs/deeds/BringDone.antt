@@ -1,9 +1,7 @@
 -- What a party did once the block's bytes are there that its line asks for: nothing, or an access whose hold it is about to hand to the cell; or the access was refused.
-use Rattle.std.proofs.Common.{◌≡◌, ◌≢◌, ◌⊎◌, ℕ, ◌<◌, ◌≤◌, ◌==◌, Bool, true, false, if◌then◌else◌, List, [], ◌∷◌, ◌++◌, map, Option, Some, None, Result, Ok, Err, refl, sym, ap, ◌∙◌, subst, inl, inr, arith, append-nil, append_assoc, eq-eqb, ne_eqb}
-use Rattle.std.specs.Prelude.{filter, not, ◌&&◌}
+use Rattle.std.proofs.Common.{◌≡◌, ◌≢◌, ℕ, ◌<◌, ◌==◌, if◌then◌else◌, List, [], ◌∷◌, ◌++◌, map, Some, Result, Ok, Err, refl, sym, ap, ◌∙◌, subst, inl, inr, append-nil, append_assoc, eq-eqb, ne_eqb}
 use Rattle.std.specs.List.{AllByRecursion}
 use Rattle.std.proofs.lemmas.List.{map-append}
-use Rattle.std.proofs.lemmas.List.Elements.{filter-append}
 use mathlib.Core.Logic.{dite}
 use native.Mathlib.Decide.{ℕ_discrete}
 use Rattle.blk_ptr.specs.Hash.{shard_of}
@@ -21,19 +19,14 @@ use Rattle.arc_core.specs.declared.served.ReadFault.TheVariants as fault
 use Rattle.arc_core.specs.declared.served.Served.{Served}
 use Rattle.arc_core.specs.declared.served.Served.TheVariants as served
 use Rattle.arc_core.specs.Operations.{Act, Fails, IsHonest, IsServed, Loads, Moment, StandsFor, Tell, act_key, actor_of, acts_in, moments, own_events, own_moments}
-use Rattle.arc_core.specs.PlainShard.{PlainShard}
 use Rattle.arc_core.specs.Replay.{replay}
 use Rattle.arc_table.specs.declared.hold.Hold.{Hold}
 use Rattle.arc_table.specs.declared.read.Read.{Read}
 use Rattle.arc_table.specs.declared.read.Read.TheVariants as gave
-use Rattle.arc_table.specs.declared.view.Known.{Known}
-use Rattle.arc_table.specs.declared.view.Line.{Line}
-use Rattle.arc_table.specs.declared.view.Line.TheVariants as line
-use Rattle.arc_table.specs.Booking.{without_hold}
 use Rattle.arc_table.specs.Cells.{SeesAll}
-use Rattle.arc_table.specs.Geometry.{IsCell, parties_of}
+use Rattle.arc_table.specs.Geometry.{parties_of}
 use Rattle.arc_table.specs.Reading.{AnswersRead, Outside}
-use Rattle.arc_table.specs.Seen.{AddsAll, HasAll, HasSeenItsEntries, events_in, seen_of, turn_of}
+use Rattle.arc_table.specs.Seen.{HasAll, HasSeenItsEntries, seen_of}
 use Rattle.arc_table.specs.Telling.{opening_of}
 use Rattle.arc_table.specs.Told.{IsTold}
 use Rattle.arc_table.proofs.Tells.{Tell-append, Tell-one}
@@ -42,16 +35,15 @@ use Rattle.dbuf_cells.specs.Turns.{PartyPlace, dbuf_meanings}
 use Rattle.trace_run.specs.DbufTurns.{CellsDone, held_through}
 use Rattle.trace_run.specs.Deeds.{SameMade, events_there, with_number}
 use Rattle.trace_run.specs.MadeLines.{made_in, made_of}
-use Rattle.trace_run.specs.Making.{HasSeenItsEvents}
 use Rattle.trace_run.specs.ObjectLines.{CameFrom, brought_there, events_of_bringing, events_of_hand}
 use Rattle.trace_run.specs.Objects.{Brought, Nothing, Loaded, Refused, acts_of_bringing}
 use Rattle.trace_run.specs.one_caller.Access as access
 use Rattle.trace_run.specs.one_caller.Access.{Access, AsksPool, MayComeFrom, access_of, events_of_answered, events_of_refused, held_key}
 use Rattle.trace_run.specs.Reads.{access_now, now_of}
-use Rattle.trace_run.proofs.CellsLeft.{LeavesCells, leaves-seen}
+use Rattle.trace_run.proofs.CellsLeft.{leaves-seen}
 use Rattle.trace_run.proofs.MoveLemmas.{Moves}
 use Rattle.trace_run.proofs.ReadLemmas.{AddsFailed, AddsRead, AddsServed, read-adds}
-use Rattle.trace_run.proofs.ReadStands.{Lists, ListsAnswer, read-lists}
+use Rattle.trace_run.proofs.ReadStands.{ListsAnswer, read-lists}
 use Rattle.trace_run.proofs.deeds.CellFound.{LeavesSeen, seen-done, seen-left, seen-then}
 use Rattle.trace_run.proofs.deeds.DeedLemmas.{acts-append, in-more, same-then}
 use Rattle.trace_run.proofs.deeds.ReadSame.{OnlyOwn, read-only}
@@ -139,8 +131,11 @@ module _ (g : Config) (t c : ℕ) where
         let empty : w.ms ≡ [] = no-moments w.ms w.events in
         subst (λ (n : ℕ). Tell (acts_in (shard_of g.shards) shard n (did ++ [])) (own_moments n (moments (opening_of g) (seen_of g shard r)))) (sym number)
         (subst (λ (x : List Act × List Moment). Tell x.0 x.1)
-        (λ i. (acts_in (shard_of g.shards) shard p.number (sym (append-nil did) i), (sym (w.more ∙ (ap (λ (l : List Moment). own_moments p.number (moments (opening_of g) (seen_of g shard q)) ++ l) empty
-        ∙ (append-nil (own_moments p.number (moments (opening_of g) (seen_of g shard q))) ∙ own-same g [] p q refl d shard)))) i))
+        (λ i. (
+          acts_in (shard_of g.shards) shard p.number (sym (append-nil did) i),
+          (sym (w.more ∙ (ap (λ (l : List Moment). own_moments p.number (moments (opening_of g) (seen_of g shard q)) ++ l) empty
+              ∙ (append-nil (own_moments p.number (moments (opening_of g) (seen_of g shard q))) ∙ own-same g [] p q refl d shard)))) i,
+        ))
         (told shard));
   }
 

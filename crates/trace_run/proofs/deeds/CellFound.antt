@@ -1,11 +1,11 @@
 -- How a party found a cell in a turn of it, as seen from before that turn and from behind it.
-use Rattle.std.proofs.Common.{◌≡◌, ◌⊎◌, ℕ, ◌<◌, List, [], ◌∷◌, ◌++◌, map, refl, sym, ap, ◌∙◌, subst, append-nil, append_assoc}
+use Rattle.std.proofs.Common.{◌≡◌, ◌⊎◌, ℕ, ◌<◌, List, [], ◌++◌, map, refl, sym, ap, ◌∙◌, subst, append-nil}
 use Rattle.std.specs.Prelude.{slice_index_or}
 use Rattle.arc_core.specs.Config.{IsConfig}
 use Rattle.arc_core.specs.declared.config.Config.{Config}
 use Rattle.arc_core.specs.declared.event.Event.{Event}
 use Rattle.turn_table.specs.declared.standing.Kept.{Kept}
-use Rattle.turn_table.specs.Places.{IsIn, Place}
+use Rattle.turn_table.specs.Places.{IsIn}
 use Rattle.arc_table.specs.declared.about.About.{About}
 use Rattle.arc_table.specs.declared.item.Item.TheVariants as item
 use Rattle.arc_table.specs.declared.view.Known.{Known}
@@ -16,13 +16,11 @@ use Rattle.arc_table.specs.Fronts.{StartsWith, front_of}
 use Rattle.arc_table.specs.Geometry.{IsCell, cell_number}
 use Rattle.arc_table.specs.Seen.{FindsEntries, HasAll}
 use Rattle.arc_table.specs.TableLaws.{starts_whole}
-use Rattle.arc_table.specs.Views.{after_won}
-use Rattle.turn_table.specs.Places as places
 use Rattle.arc_table.proofs.Afterwards.{Stays}
 use Rattle.arc_table.proofs.cell_lemmas.CellsInHand.{taken-cell}
 use Rattle.arc_table.proofs.Reached.{Took, took_is}
 use Rattle.dbuf_cells.specs.Turns.{CellTurn, OnHeap, PartyPlace, dbuf_meanings}
-use Rattle.dbuf_state.specs.Numbers.{event_numbers, opening_numbers}
+use Rattle.dbuf_state.specs.Numbers.{event_numbers}
 use Rattle.dbuf_state.specs.declared.event.CellEvent.{CellEvent}
 use Rattle.trace_run.specs.DbufTurns.{CellsDone}
 use Rattle.trace_run.specs.ObjectLines.{FindsCell, cell_lines}

@@ -1,5 +1,5 @@
 -- What the calls on dbufs answer, as what a caller's line on an object came to.
-use Rattle.std.proofs.Common.{◌≡◌, ◌≢◌, ◌⊎◌, ℕ, ◌+◌, ◌<◌, ◌≤◌, false, List, [], ◌∷◌, ◌++◌, length, map, Option, Some, None, Result, Ok, Err, refl, sym, ap, ◌∙◌, subst, inl, inr, arith, append-nil, append_assoc}
+use Rattle.std.proofs.Common.{◌≡◌, ℕ, ◌+◌, ◌<◌, ◌≤◌, false, List, [], ◌∷◌, ◌++◌, length, map, Some, Result, Ok, Err, refl, sym, ap, ◌∙◌, subst, arith, append-nil, append_assoc}
 use Rattle.std.specs.List.{AllByRecursion}
 use Rattle.blk_ptr.specs.declared.digest.Digest.{Digest}
 use Rattle.blk_ptr.specs.declared.key.Key.{Key}
@@ -9,21 +9,16 @@ use Rattle.blk_ptr.specs.Hash.{shard_of}
 use Rattle.blk_ptr.specs.Key.{IsFirstKeyFault, IsValid}
 use Rattle.vdev_io.specs.declared.device.CacheDev.{Ghosts as DeviceGhosts}
 use Rattle.vdev_io.specs.declared.pool.Pool.{Ghosts as PoolGhosts}
-use Rattle.vdev_io.specs.Calls.{Failed, Gave, MakesCalls}
+use Rattle.vdev_io.specs.Calls.{Failed, Gave}
 use Rattle.arc_core.specs.Config.{IsConfig}
 use Rattle.arc_core.specs.declared.config.Config.{Config}
 use Rattle.arc_core.specs.declared.event.Event.{Event}
-use Rattle.arc_core.specs.declared.event.Event.TheVariants.{Hand}
 use Rattle.arc_core.specs.declared.served.ReadFault.{ReadFault}
 use Rattle.arc_core.specs.declared.served.ReadFault.TheVariants as fault
-use Rattle.arc_core.specs.declared.served.Served.{Served}
-use Rattle.arc_core.specs.declared.served.Served.TheVariants as served
-use Rattle.arc_core.specs.declared.shard.EntryView.{EntryView}
 use Rattle.arc_core.specs.Replay.{replay}
 use Rattle.turn_table.specs.declared.standing.Kept.{Kept as Joined}
 use Rattle.turn_table.specs.Places.{Apart, Place}
 use Rattle.arc_table.specs.declared.about.About.{About}
-use Rattle.arc_table.specs.declared.hold.Hold.{Hold}
 use Rattle.arc_table.specs.declared.read.Read.{Read}
 use Rattle.arc_table.specs.declared.read.Read.TheVariants as gave
 use Rattle.arc_table.specs.declared.view.Known.{Known}
@@ -32,12 +27,12 @@ use Rattle.arc_table.specs.Cells.{SeesAll}
 use Rattle.arc_table.specs.Fronts.{StartsWith, front_of}
 use Rattle.arc_table.specs.Geometry.{IsCell, cell_number, parties_of}
 use Rattle.arc_table.specs.Items.{Meanings}
-use Rattle.arc_table.specs.Reading.{Answers, AnswersRead, EndsMiss, EndsPast, GoesToPool, Outside, answered, from_device, from_none, from_pool, hit, missed, no_memory, past, read, refused, unread}
+use Rattle.arc_table.specs.Reading.{Answers, AnswersRead, Outside, answered, from_device, from_none, from_pool, hit, missed, no_memory, past, read, refused, unread}
 use Rattle.arc_table.specs.Seen.{HasAll, seen_of}
 use Rattle.arc_table.specs.TableLaws.{starts_whole}
 use Rattle.arc_table.specs.Telling.{opening_of}
 use Rattle.dbuf_cells.specs.Accessing as dbufs
-use Rattle.dbuf_cells.specs.Accessing.{Acts, AnswersGet, AnswersHold, EndsPast as RangeEndsPast, HasNoBlock, HasNoKey, NotAccessed, no_bytes, no_key, no_room, not_loaded}
+use Rattle.dbuf_cells.specs.Accessing.{Acts, AnswersGet, AnswersHold, EndsPast as RangeEndsPast, HasNoBlock, NotAccessed, no_bytes, no_key, no_room, not_loaded}
 use Rattle.dbuf_cells.specs.Bringing as bringing
 use Rattle.dbuf_cells.specs.Bringing.{Brings, Reads, handed, here, loaded}
 use Rattle.dbuf_cells.specs.Patching.{AnswersPatch, Patches}
@@ -48,15 +43,13 @@ use Rattle.dbuf_cells.specs.Unholding.{AnswersUnhold}
 use Rattle.dbuf_state.specs.Answers.{IsAnswer, IsAnswerAfter}
 use Rattle.dbuf_state.specs.Faults.{fault_of}
 use Rattle.dbuf_state.specs.Objects.{Never}
-use Rattle.dbuf_state.specs.Outline.{Outline, after, after_all, has_pin_at, is_cached_at, mapped_at}
+use Rattle.dbuf_state.specs.Outline.{Outline, after, after_all, has_pin_at}
 use Rattle.dbuf_state.specs.Soundness.{IsSound, plain_cell}
 use Rattle.dbuf_state.specs.declared.event.CellEvent.{CellEvent}
 use Rattle.dbuf_state.specs.declared.event.CellEvent.TheVariants as events
 use Rattle.dbuf_state.specs.declared.fault.DbufFault.{DbufFault}
 use Rattle.dbuf_state.specs.declared.fault.DbufFault.TheVariants as dbuf_fault
 use Rattle.dbuf_state.specs.declared.oid.Oid.{Oid}
-use Rattle.dbuf_state.specs.declared.state.Mapped.{Mapped}
-use Rattle.dbuf_state.specs.declared.state.Mapped.TheVariants.{Clean}
 use Rattle.dbuf_state.specs.declared.window.Window.{Window}
 use Rattle.trace_text.specs.declared.reply.Refusal.{Refusal}
 use Rattle.trace_text.specs.declared.reply.Refusal.TheVariants as refusals
@@ -65,19 +58,18 @@ use Rattle.trace_text.specs.declared.reply.Reply.TheVariants as replies
 use Rattle.trace_run.specs.declared.kept_blocks.KeptBlock.{KeptBlock}
 use Rattle.trace_run.specs.DbufTurns.{CellsDone}
 use Rattle.trace_run.specs.Answers.{IsReadRefusal}
-use Rattle.trace_run.specs.Deeds.{Noted, noted_in}
-use Rattle.trace_run.specs.Effects.{Answered, Effect, PoolRefused}
+use Rattle.trace_run.specs.Deeds.{noted_in}
+use Rattle.trace_run.specs.Effects.{Answered, PoolRefused}
 use Rattle.trace_run.specs.KeptBlocks.{AllQuiet, IsOwnedBy, Stands, times}
 use Rattle.trace_run.specs.ObjectLines.{Brings as BringsLine, Did, DidGet, DidNot, DidPatch, DidPin, DidPut, DidUnpin, DidWork, EndsInside, FailsToBring, FindsCell, IsBrought, RefusesBlock, RefusesBytes, ReleasesFor, SpentOn, SpentOnRead, TellsFault, WasToBring}
 use Rattle.trace_run.specs.Objects.{Brought, Nothing, Loaded, Refused, loads_of}
-use Rattle.trace_run.specs.one_caller.Asking.{Asks}
 use Rattle.trace_run.specs.Reads.{IsRefused, now_of}
 use Rattle.trace_run.proofs.DeviceReadLemmas.{DeviceDid}
 use Rattle.trace_run.proofs.DeviceReadLemmas as device
 use Rattle.trace_run.proofs.GetLemmas.{PoolDid, fault-calls, fault-cause, held-calls, ok-valid, pool-did}
 use Rattle.trace_run.proofs.one_caller.AskingLemmas as asking
 use Rattle.trace_run.proofs.deeds.BringDone.{BringDone, bring-then, bytes-refuse, nothing-brought, pool-refuses, read-brings, source_of_read}
-use Rattle.trace_run.proofs.deeds.CellFound.{LeavesSeen, found-before, found-behind, seen-done, seen-then, turn-finds}
+use Rattle.trace_run.proofs.deeds.CellFound.{LeavesSeen, found-before, found-behind, seen-done, turn-finds}
 use Rattle.trace_run.proofs.deeds.CellsDone.{done-then, turn-done, turn-low, waits-done}
 use Rattle.trace_run.proofs.deeds.OperatesDone.{AreOfCell, all-both, both-of, cell-there, evictions-of, operates-done, release-of}
 use Rattle.trace_run.proofs.deeds.TurnMakes.{AreTurnEvents, IsTurnEvent, starts-on}
@@ -373,13 +365,16 @@ module _ (g : Config) (valid : IsConfig g) (at : Oid) (t : ℕ) (p q : PartyPlac
         was-to-bring = record { pointer = reads.pointer; uncached = reads.uncached }
 
       come : (back : PartyPlace) (mid : OnHeap) (loads : List CellEvent) (hands : List Event) → Brings pools devices g i at t before now cell ready back mid loads hands → (brought : Brought) × Came brought back loads hands
-      come back mid loads hands (here same is none nothing unchanged) = (Nothing, record {
-        done = subst (λ (x : PartyPlace × List Event). BringDone g t c Nothing x.1 p x.0) (λ k. (sym same k, sym nothing k)) (nothing-brought g t c p ready w);
-        loads_are = none;
-        handing = subst (AreHands p.number c) (sym nothing) tt;
-        brings = λ grows. tt;
-        spent = λ reply. unchanged;
-      })
+      come back mid loads hands (here same is none nothing unchanged) = (
+        Nothing,
+        record {
+          done = subst (λ (x : PartyPlace × List Event). BringDone g t c Nothing x.1 p x.0) (λ k. (sym same k, sym nothing k)) (nothing-brought g t c p ready w);
+          loads_are = none;
+          handing = subst (AreHands p.number c) (sym nothing) tt;
+          brings = λ grows. tt;
+          spent = λ reply. unchanged;
+        },
+      )
       come back mid loads hands (loaded ptr got reads pointer are handed_are) =
           let d = marked-done ptr back (Ok got) reads in
           let number : ready.number ≡ p.number = w.number in
@@ -473,11 +468,11 @@ module _ (g : Config) (valid : IsConfig g) (at : Oid) (t : ℕ) (p q : PartyPlac
           subst (λ (r : Refusal). RefusesBytes pools devices g at t before now p q last r × KeepsStanding g p q) (sym is) (
             (
               record {
-              cell = cell;
-              found = idle-found ready w cell reads.marked q reads.turn
-                  (subst (λ (x : PartyPlace). StartsWith (front_of i q.own.seen) (front_of i x.own.seen)) key.0 (last_turn.cells i in_range));
-              why = (inside, (ptr, reads.pointer, key.2));
-              work = work-done g t c above Nothing [] [] [] p back q (low-p (fault.Key why) reads) (nothing-brought g t c p back d) tt tt last_turn;
+                cell = cell;
+                found = idle-found ready w cell reads.marked q reads.turn
+                    (subst (λ (x : PartyPlace). StartsWith (front_of i q.own.seen) (front_of i x.own.seen)) key.0 (last_turn.cells i in_range));
+                why = (inside, (ptr, reads.pointer, key.2));
+                work = work-done g t c above Nothing [] [] [] p back q (low-p (fault.Key why) reads) (nothing-brought g t c p back d) tt tt last_turn;
               },
               key.1,
             ),
@@ -588,7 +583,6 @@ module _ (g : Config) (valid : IsConfig g) (at : Oid) (t : ℕ) (p q : PartyPlac
             ),
             own-keeps br.0 a.back a.hands br.1.done br.1.handing a.mid own a.es of o,
           )
-
 
     -- ---- by what the calls answer
 

@@ -1,7 +1,7 @@
 -- A line on an object, with what it did beside its reply: by what the contract of its call says it came to.
 use Rattle.std.proofs.Common.{◌≡◌, ℕ, ◌+◌, true, List, [], ◌∷◌, ◌++◌, length, map, refl, sym, subst}
 use Rattle.std.specs.Prelude.{IsSome}
-use Rattle.std.proofs.lemmas.Bool.{eqb-true}
+use Rattle.std.proofs.lemmas.Bool.{eqb-true, false≢true}
 use Rattle.std.specs.List.{AllByRecursion}
 use Rattle.blk_ptr.specs.declared.ptr.Ptr.{Ptr}
 use Rattle.vdev_io.specs.declared.device.CacheDev.{Ghosts as DeviceGhosts}
@@ -53,7 +53,7 @@ module _ (g : Config) (at : Oid) (t : ℕ) (p q : PartyPlace) where
 
   module _ (own : CellEvent) (brought : Brought) (Fits : OnHeap → Type 0) (d : Did g at t p q own brought Fits) where
     -- what it did
-    pub did-work : Work
+    abbrev pub did-work : Work
     did-work = record {
       brought = brought;
       noted = noted_in (cell_of g.cells at) (loads_of p.number at brought ++ own ∷ map (events.Evict p.number) d.evicted);
@@ -207,9 +207,9 @@ module _ {P D : Type 0} (pools : PoolGhosts P) (devices : DeviceGhosts D) (g : C
   object-work (ops.Pin n t at) reply his d some = subst (λ (m : ℕ). HasWork (ops.Pin m t at) reply) (sym (eqb-true n p.number his)) (pin-work t at reply d)
   object-work (ops.Put n t at size fill) reply his d some = subst (λ (m : ℕ). HasWork (ops.Put m t at size fill) reply) (sym (eqb-true n p.number his)) (put-work t at size fill reply d.0 d.1)
   object-work (ops.Unpin n at) reply his d some = subst (λ (m : ℕ). HasWork (ops.Unpin m at) reply) (sym (eqb-true n p.number his)) (unpin-work at reply d.0 d.1)
-  object-work (ops.Read n t x window) reply his d some = absurd some
-  object-work (ops.Hold n t x) reply his d some = absurd some
-  object-work (ops.Drop n x) reply his d some = absurd some
-  object-work ops.Feed reply his d some = absurd some
-  object-work (ops.Txg t) reply his d some = absurd some
-  object-work (ops.Cap c) reply his d some = absurd some
+  object-work (ops.Read n t x window) reply his d some = absurd (false≢true some)
+  object-work (ops.Hold n t x) reply his d some = absurd (false≢true some)
+  object-work (ops.Drop n x) reply his d some = absurd (false≢true some)
+  object-work ops.Feed reply his d some = absurd (false≢true some)
+  object-work (ops.Txg t) reply his d some = absurd (false≢true some)
+  object-work (ops.Cap c) reply his d some = absurd (false≢true some)

@@ -1,25 +1,23 @@
 -- What a line on an object did, once the cell's last turn is done: what was brought for it, and then what was done to the cell.
-use Rattle.std.proofs.Common.{◌≡◌, ◌≢◌, ◌⊎◌, ℕ, ◌<◌, ◌≤◌, ◌==◌, Bool, true, false, if◌then◌else◌, List, [], ◌∷◌, ◌++◌, map, refl, sym, ap, ◌∙◌, subst, inl, inr, arith, append-nil, append_assoc, eq-eqb, ne_eqb}
-use Rattle.std.specs.Prelude.{filter}
+use Rattle.std.proofs.Common.{◌≡◌, ◌≢◌, ◌⊎◌, ℕ, ◌<◌, ◌≤◌, ◌==◌, Bool, true, false, List, [], ◌∷◌, ◌++◌, map, refl, sym, ap, ◌∙◌, subst, inl, inr, arith, append-nil, append_assoc, ne_eqb}
 use Rattle.std.specs.List.{AllByRecursion}
 use Rattle.std.proofs.lemmas.List.Elements.{filter-append}
 use Rattle.arc_lists.proofs.Tables.{cases_true}
 use Rattle.blk_ptr.specs.Hash.{shard_of}
 use Rattle.blk_ptr.specs.declared.key.Key.{Key}
-use Rattle.blk_ptr.specs.declared.ptr.Ptr.{Ptr}
 use Rattle.arc_core.specs.declared.config.Config.{Config}
 use Rattle.arc_core.specs.declared.event.Event.{Event}
 use Rattle.arc_core.specs.declared.event.Event.TheVariants.{Drop, Hand, Release}
 use Rattle.arc_core.specs.Operations.{Act, Moment, Tell, actor_of, acts_in, moments, own_events, own_moments}
 use Rattle.arc_table.specs.declared.view.Line.{Line}
-use Rattle.arc_table.specs.Geometry.{IsCell, parties_of}
-use Rattle.arc_table.specs.Seen.{HasAll, seen_of, turn_of}
+use Rattle.arc_table.specs.Geometry.{parties_of}
+use Rattle.arc_table.specs.Seen.{seen_of}
 use Rattle.arc_table.specs.Telling.{opening_of}
 use Rattle.arc_table.specs.Told.{IsTold}
 use Rattle.dbuf_cells.specs.Turns.{PartyPlace}
 use Rattle.trace_run.specs.DbufTurns.{CellsDone, held_through}
 use Rattle.trace_run.specs.Deeds.{HasAct, HasToldAll, Noted, act_of_event, acts_of_events, events_there, lines_of_cell, with_number}
-use Rattle.trace_run.specs.MadeLines.{made_in, made_of}
+use Rattle.trace_run.specs.MadeLines.{made_in}
 use Rattle.trace_run.specs.ObjectLines.{DidWork, brought_there, events_of_bringing}
 use Rattle.trace_run.specs.Objects.{Brought, Nothing, Loaded, Refused, acts_of_bringing}
 use Rattle.trace_run.specs.Reads.{now_of}

@@ -1,6 +1,6 @@
 -- One caller's lines on objects, and its syncs, as a plain function of the trace, the bytes that the pool and the device tell, and which calls of either failed: what each
 -- is replied, what it makes in the shards, and what becomes of the cells (dbuf.c and spa_sync, for a single thread).
-use Rattle.std.specs.Prelude.{ℕ, zero, suc, ◌+◌, ◌-◌, ◌==◌, nat_lt, ◌&&◌, not, if◌then◌else◌, Bool, true, false, List, [], ◌∷◌, ◌++◌, drop, find, is_none, length, map, max, sum_by, Option, Some, None}
+use Rattle.std.specs.Prelude.{ℕ, zero, suc, ◌+◌, ◌-◌, ◌==◌, nat_lt, if◌then◌else◌, Bool, true, false, List, [], ◌∷◌, ◌++◌, drop, find, is_none, length, map, max, sum_by, Option, Some, None}
 use Rattle.std.specs.Option.{option_map_or}
 use Rattle.std.specs.List.{range_with_len}
 use Rattle.blk_ptr.specs.declared.key.Key.{Key}
