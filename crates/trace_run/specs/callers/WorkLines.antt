@@ -17,10 +17,12 @@ use Rattle.trace_text.specs.declared.op.Op.TheVariants as ops
 use Rattle.trace_text.specs.declared.reply.Reply.{Reply}
 use Rattle.trace_text.specs.declared.reply.Reply.TheVariants as replies
 use Rattle.trace_run.specs.Acts.{acts_of}
+use Rattle.trace_run.specs.callers.CallerLines.{DidLine, at}
 use Rattle.trace_run.specs.Deeds.{HasToldAll, Noted}
 use Rattle.trace_run.specs.Effects.{Effect, Answered, calls_of, effect_of}
 use Rattle.trace_run.specs.KeptReads.{KeptRead}
-use Rattle.trace_run.specs.ObjectLines.{DidObjectLine}
+use Rattle.trace_run.specs.DeviceReads.{LineAsks}
+use Rattle.trace_run.specs.ObjectLines.{DidObjectLine, OnObject, on_object}
 use Rattle.trace_run.specs.Objects.{Brought, GoesTogether, Line, Loaded, NotesNothing, NotesOwn, Nothing, OwnEvent, Refused, Work, acts_of_bringing, no_work, own_event}
 use Rattle.trace_run.specs.one_caller.OneCaller.{kept_after}
 
@@ -120,3 +122,33 @@ pub record DidWorkLine {P D : Type 0} (pools : PoolGhosts P) (devices : DeviceGh
   pub joined : q.joined ≡ p.joined
   pub pool : KeepsPool pools before.pool now.pool
   pub device : KeepsDevice devices before.device now.device
+
+-- ---- a caller's lines, one after another
+
+-- a caller between its lines: its party, the reads that it keeps, and the pool and the device that it asks
+pub record AtWork (P D : Type 0) : Type 0 where
+  pub party : PartyPlace
+  pub kept : List KeptRead
+  pub outside : Outside P D
+
+module _ {P D : Type 0} (pools : PoolGhosts P) (devices : DeviceGhosts D) (g : Config) (blocks : List Ptr) where
+  -- a line on no object is as before, and one on an object keeps no read
+  abbrev pub DidLineBy : Option OnObject → Line → (old new : AtWork P D) → Type 0
+  DidLineBy None l old new = (l.work ≡ no_work)
+      × DidLine g pools (devices.size old.outside.device) blocks l.op l.reply (at old.party old.kept old.outside.pool) (at new.party new.kept new.outside.pool)
+      × LineAsks devices blocks l.op l.reply old.outside.device new.outside.device
+  DidLineBy (Some on) l old new = (new.kept ≡ old.kept) × DidWorkLine pools devices g blocks old.kept old.outside new.outside old.party new.party l
+
+  -- the lines were answered, each with this work
+  abbrev pub DidAll : List Line → (old new : AtWork P D) → Type 0
+  DidAll [] old new = new ≡ old
+  DidAll (l ∷ ls) old new = (next : AtWork P D) × DidLineBy (on_object l.op) l old next × DidAll ls next new
+
+-- the lines of these operations with these replies, each with some work
+abbrev pub AreLinesOf : List Op → List Reply → List Line → Type 0
+AreLinesOf [] [] [] = Unit {0}
+AreLinesOf [] [] (l ∷ ls) = ⊥
+AreLinesOf [] (r ∷ rs) ls = ⊥
+AreLinesOf (op ∷ ops_left) [] ls = ⊥
+AreLinesOf (op ∷ ops_left) (r ∷ rs) [] = ⊥
+AreLinesOf (op ∷ ops_left) (r ∷ rs) (l ∷ ls) = (l.op ≡ op) × (l.reply ≡ r) × AreLinesOf ops_left rs ls
