@@ -1,12 +1,15 @@
+pub mod BringDone
+pub mod CellFound
 pub mod CellsDone
 pub mod ClosedDeeds
 pub mod DeedLemmas
-pub mod GetsDone
 pub mod MadeCells
 pub mod MadeLemmas
 pub mod MakesLemmas
+pub mod ObjectAnswers
+pub mod ObjectWork
 pub mod OperatesDone
 pub mod OwnAlone
 pub mod ReadSame
-pub mod StandsDone
 pub mod TurnMakes
+pub mod WorkDone

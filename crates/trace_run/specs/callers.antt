@@ -6,3 +6,4 @@ pub mod GroupRun
 pub mod Groups
 pub mod InOrder
 pub mod Together
+pub mod WorkLines

@@ -4,5 +4,6 @@ pub mod Asking
 pub mod Lent
 pub mod OneCaller
 pub mod OverShards
+pub mod PlainObjects
 pub mod PlainReport
 pub mod PlainRun

@@ -41,7 +41,7 @@ fn window_of(block: &Block, window: Window) -> Shown
 }
 
 /// What a caller is told of a read that was refused. Want of memory ends the run.
-fn refusal_of(fault: ReadFault) -> Result<Refusal, NoMemory>
+pub(crate) fn refusal_of(fault: ReadFault) -> Result<Refusal, NoMemory>
     ensures ok { IfOk result (IsRefused fault) }
     ensures err { OnErr result (fault ≡ ReadFault.NoMemory) }
 {

@@ -35,7 +35,7 @@ pub events-acts : (es fs : List Event) → acts_of_events (es ++ fs) ≡ acts_of
 events-acts [] fs = refl
 events-acts (e ∷ es) fs = ap (λ (l : List Act). act_of_event e ++ l) (events-acts es fs) ∙ sym (append_assoc (act_of_event e) (acts_of_events es) (acts_of_events fs))
 
-acts-append : (f : Key → ℕ) (shard n : ℕ) (a b : List Act) → acts_in f shard n (a ++ b) ≡ acts_in f shard n a ++ acts_in f shard n b
+pub acts-append : (f : Key → ℕ) (shard n : ℕ) (a b : List Act) → acts_in f shard n (a ++ b) ≡ acts_in f shard n a ++ acts_in f shard n b
 acts-append f shard n a b = filter-append _ a b
 
 -- acts of this number alone
@@ -101,7 +101,7 @@ all-both P [] ys a b = b
 all-both P (x ∷ xs) ys a b = (a.0, all-both P xs ys a.1 b)
 
 -- each of a turn's events with a cell's number stands for an act
-turn-kinds : (g : Config) (n d shard c : ℕ) (es : List Event) → AreTurnEvents n d es → n < parties_of g → parties_of g ≤ c → AllByRecursion HasAct (with_number c (events_there g shard es))
+pub turn-kinds : (g : Config) (n d shard c : ℕ) (es : List Event) → AreTurnEvents n d es → n < parties_of g → parties_of g ≤ c → AllByRecursion HasAct (with_number c (events_there g shard es))
 turn-kinds g n d shard c [] kinds low above = tt
 turn-kinds g n d shard c (e ∷ es) kinds low above =
     subst (AllByRecursion HasAct) (sym (ap (with_number c) (there-append g shard (e ∷ []) es) ∙ filter-append _ (events_there g shard (e ∷ [])) (events_there g shard es)))
@@ -132,7 +132,7 @@ none-numbered n c (e ∷ es) all differs =
 
 module _ {C : Type 0} (g : Config) where
   -- what was made of a shard more
-  in-more : (shard : ℕ) (es : List Event) (p q : Place (Known C)) → made_of (turn_of g shard) q ≡ made_of (turn_of g shard) p ++ map line.Event es → made_in g shard q ≡ made_in g shard p ++ es
+  pub in-more : (shard : ℕ) (es : List Event) (p q : Place (Known C)) → made_of (turn_of g shard) q ≡ made_of (turn_of g shard) p ++ map line.Event es → made_in g shard q ≡ made_in g shard p ++ es
   in-more shard es p q more = ap events_in more ∙ (events-append (made_of (turn_of g shard) p) (map line.Event es) ∙ ap (λ (l : List Event). made_in g shard p ++ l) (events-map es))
 
   -- events of the party's own number alone

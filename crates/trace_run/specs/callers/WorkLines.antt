@@ -1,0 +1,154 @@
+-- A caller's lines, those on objects among them, each with what it did beside its reply; and what such lines come to, one after another.
+use Rattle.std.specs.Prelude.{◌≡◌, ℕ, ◌==◌, Bool, false, List, [], ◌∷◌, ◌++◌, Option, Some, None}
+use Rattle.std.specs.Option.{option_map_or}
+use Rattle.blk_ptr.specs.declared.ptr.Ptr.{Ptr}
+use Rattle.vdev_io.specs.declared.device.CacheDev.{Ghosts as DeviceGhosts}
+use Rattle.vdev_io.specs.declared.pool.Pool.{Ghosts as PoolGhosts}
+use Rattle.vdev_io.specs.Calls.{Call, KeepsPool}
+use Rattle.arc_core.specs.declared.config.Config.{Config}
+use Rattle.arc_core.specs.Operations.{Act}
+use Rattle.arc_table.specs.Geometry.{cell_number}
+use Rattle.arc_table.specs.Reading.{KeepsDevice, Outside}
+use Rattle.dbuf_cells.specs.Places.{cell_of}
+use Rattle.dbuf_cells.specs.Turns.{PartyPlace}
+use Rattle.dbuf_state.specs.declared.oid.Oid.{Oid}
+use Rattle.trace_text.specs.declared.op.Op.{Op}
+use Rattle.trace_text.specs.declared.op.Op.TheVariants as ops
+use Rattle.trace_text.specs.declared.reply.Reply.{Reply}
+use Rattle.trace_text.specs.declared.reply.Reply.TheVariants as replies
+use Rattle.trace_run.specs.Acts.{acts_of}
+use Rattle.trace_run.specs.callers.CallerLines.{DidLine, at}
+use Rattle.trace_run.specs.Deeds.{HasToldAll, Noted}
+use Rattle.trace_run.specs.Effects.{Effect, Answered, calls_of, effect_of}
+use Rattle.trace_run.specs.KeptReads.{KeptRead}
+use Rattle.trace_run.specs.DeviceReads.{LineAsks}
+use Rattle.trace_run.specs.ObjectLines.{DidObjectLine, OnObject, on_object}
+use Rattle.trace_run.specs.Objects.{Brought, GoesTogether, Line, Loaded, NotesNothing, NotesOwn, Nothing, OwnEvent, Refused, Work, acts_of_bringing, no_work, own_event}
+use Rattle.trace_run.specs.one_caller.OneCaller.{kept_after}
+
+-- the caller of a line, where it is a caller's
+abbrev pub caller_of_line : Op → Option ℕ
+caller_of_line (ops.Read n t x window) = Some n
+caller_of_line (ops.Hold n t x) = Some n
+caller_of_line (ops.Drop n x) = Some n
+caller_of_line (ops.Get n t at w) = Some n
+caller_of_line (ops.Put n t at size fill) = Some n
+caller_of_line (ops.Patch n t at from bytes) = Some n
+caller_of_line (ops.Pin n t at) = Some n
+caller_of_line (ops.Unpin n at) = Some n
+caller_of_line ops.Feed = None
+caller_of_line (ops.Txg t) = None
+caller_of_line (ops.Cap c) = None
+
+abbrev pub is_line_of : ℕ → Op → Bool
+is_line_of n op = option_map_or (λ (m : ℕ). m == n) (caller_of_line op) false
+
+-- what a reply says was done, where this was brought for its line: a block that was brought was read, whatever the line did with it then
+abbrev pub effect_with : Brought → Reply → Effect
+effect_with Nothing reply = effect_of reply
+effect_with (Loaded ptr from) reply = Answered from
+effect_with (Refused ptr) reply = effect_of reply
+
+-- the reads of the pool that all lines made, in their order
+abbrev pub calls_of_lines : List Line → List Call
+calls_of_lines [] = []
+calls_of_lines (l ∷ ls) = calls_of (effect_with l.work.brought l.reply) ++ calls_of_lines ls
+
+-- ---- acts
+
+-- those for what was brought at this tick, under the caller's number, and then those of the cell
+abbrev pub acts_on : Config → (n t : ℕ) → Oid → Work → List Act
+acts_on g n t at work = acts_of_bringing n t (cell_number g (cell_of g.cells at)) work.brought ++ work.acts
+
+-- by the line, where its caller keeps these reads
+abbrev pub acts_with_op : Config → List Ptr → List KeptRead → Op → Reply → Work → List Act
+acts_with_op g blocks kept (ops.Read n t x window) reply work = acts_of blocks kept (ops.Read n t x window) reply
+acts_with_op g blocks kept (ops.Hold n t x) reply work = acts_of blocks kept (ops.Hold n t x) reply
+acts_with_op g blocks kept (ops.Drop n x) reply work = acts_of blocks kept (ops.Drop n x) reply
+acts_with_op g blocks kept (ops.Get n t at w) reply work = acts_on g n t at work
+acts_with_op g blocks kept (ops.Patch n t at from bytes) reply work = acts_on g n t at work
+acts_with_op g blocks kept (ops.Pin n t at) reply work = acts_on g n t at work
+acts_with_op g blocks kept (ops.Put n t at size fill) reply work = work.acts
+acts_with_op g blocks kept (ops.Unpin n at) reply work = work.acts
+acts_with_op g blocks kept ops.Feed reply work = []
+acts_with_op g blocks kept (ops.Txg t) reply work = []
+acts_with_op g blocks kept (ops.Cap c) reply work = []
+
+abbrev pub acts_with : Config → List Ptr → List KeptRead → Line → List Act
+acts_with g blocks kept l = acts_with_op g blocks kept l.op l.reply l.work
+
+-- all lines' acts, and all that they did to cells, one after another
+abbrev pub acts_of_work : Config → List Ptr → List KeptRead → List Line → List Act
+acts_of_work g blocks kept [] = []
+acts_of_work g blocks kept (l ∷ ls) = acts_with g blocks kept l ++ acts_of_work g blocks (kept_after blocks l.op l.reply kept) ls
+
+abbrev pub noted_of_work : List Line → List Noted
+noted_of_work [] = []
+noted_of_work (l ∷ ls) = l.work.noted ++ noted_of_work ls
+
+-- ---- which work a line may have
+
+-- by its reply: an answered line on an object did its own thing to the block's cell, and a refused one nothing
+abbrev pub NotesLine : Config → (n : ℕ) → OwnEvent → Work → Reply → Type 0
+NotesLine g n own work (replies.Got size shown) = NotesOwn g n own work
+NotesLine g n own work replies.Done = NotesOwn g n own work
+NotesLine g n own work (replies.Refused refusal) = NotesNothing work
+NotesLine g n own work (replies.Read served digest shown) = ⊥
+NotesLine g n own work (replies.Kept served) = ⊥
+NotesLine g n own work replies.Dropped = ⊥
+NotesLine g n own work (replies.Fed report) = ⊥
+NotesLine g n own work replies.FedNone = ⊥
+NotesLine g n own work (replies.Synced group blocks bytes) = ⊥
+NotesLine g n own work (replies.Capped c) = ⊥
+
+-- a line on no object did nothing beside its reply
+abbrev pub NotesFor : Config → (n : ℕ) → Option OwnEvent → Work → Reply → Type 0
+NotesFor g n None work reply = work ≡ no_work
+NotesFor g n (Some own) work reply = NotesLine g n own work reply
+
+-- the work fits the line, which is n's, and what it was answered
+pub record IsWorkOf (g : Config) (n : ℕ) (l : Line) : Type 0 where
+  pub together : GoesTogether l.op l.reply l.work.brought
+  pub notes : NotesFor g n (own_event l.op) l.work l.reply
+
+-- ---- a line on an object, with its work
+
+-- The line came to this, by what the contract of its call says; its work fits it; and its acts and its entries of cells are told.
+pub record DidWorkLine {P D : Type 0} (pools : PoolGhosts P) (devices : DeviceGhosts D) (g : Config) (blocks : List Ptr) (kept : List KeptRead) (before now : Outside P D) (p q : PartyPlace) (l : Line) : Type 0 where
+  pub came : DidObjectLine pools devices g before now p q l.op l.reply
+  pub fits : IsWorkOf g p.number l
+  pub number : q.number ≡ p.number
+  pub told : (did : List Act) (had : List Noted) → HasToldAll g did had p → HasToldAll g (did ++ acts_with g blocks kept l) (had ++ l.work.noted) q
+  pub joined : q.joined ≡ p.joined
+  pub pool : KeepsPool pools before.pool now.pool
+  pub device : KeepsDevice devices before.device now.device
+
+-- ---- a caller's lines, one after another
+
+-- a caller between its lines: its party, the reads that it keeps, and the pool and the device that it asks
+pub record AtWork (P D : Type 0) : Type 0 where
+  pub party : PartyPlace
+  pub kept : List KeptRead
+  pub outside : Outside P D
+
+module _ {P D : Type 0} (pools : PoolGhosts P) (devices : DeviceGhosts D) (g : Config) (blocks : List Ptr) where
+  -- a line on no object is as before, and one on an object keeps no read
+  abbrev pub DidLineBy : Option OnObject → Line → (old new : AtWork P D) → Type 0
+  DidLineBy None l old new = (l.work ≡ no_work)
+      × DidLine g pools (devices.size old.outside.device) blocks l.op l.reply (at old.party old.kept old.outside.pool) (at new.party new.kept new.outside.pool)
+      × LineAsks devices blocks l.op l.reply old.outside.device new.outside.device
+  DidLineBy (Some on) l old new = (new.kept ≡ old.kept) × DidWorkLine pools devices g blocks old.kept old.outside new.outside old.party new.party l
+
+  -- the lines were answered, each with this work
+  abbrev pub DidAll : List Line → (old new : AtWork P D) → Type 0
+  DidAll [] old new = new ≡ old
+  DidAll (l ∷ ls) old new = (next : AtWork P D) × DidLineBy (on_object l.op) l old next × DidAll ls next new
+
+-- the lines of these operations with these replies, each with some work
+abbrev pub AreLinesOf : List Op → List Reply → List Line → Type 0
+AreLinesOf [] [] [] = Unit {0}
+AreLinesOf [] [] (l ∷ ls) = ⊥
+AreLinesOf [] (r ∷ rs) ls = ⊥
+AreLinesOf (op ∷ ops_left) [] ls = ⊥
+AreLinesOf (op ∷ ops_left) (r ∷ rs) [] = ⊥
+AreLinesOf (op ∷ ops_left) (r ∷ rs) (l ∷ ls) = (l.op ≡ op) × (l.reply ≡ r) × AreLinesOf ops_left rs ls
