@@ -37,7 +37,7 @@ use Rattle.trace_run.specs.Meeting.{AreLast, HasLearned, HaveParted, IsApart, Jo
 use Rattle.trace_run.proofs.CellsLeft.{LeavesCells, leaves-grow, leaves-same, leaves-seen, leaves-then, roomy-leaves}
 use Rattle.trace_run.proofs.MoveLemmas.{Moves, roomy-made-own, roomy-moves}
 use Rattle.trace_run.specs.Making.{AreEventsSeen, MadeItsOwn}
-use Rattle.trace_run.proofs.PickedLemmas.{resize-picked, roomy-picks}
+use Rattle.trace_run.proofs.feeds.PickedLemmas.{resize-picked, roomy-picks}
 use Rattle.trace_run.proofs.callers.MeetLemmas.{HaveJoined, all-parted, are-last, joined-front, joined_of, left_alone, parted-then, parted_from, starts-events, starts-then}
 use Rattle.trace_run.proofs.callers.TurnLemmas.{joined, joined-all, joined-stands}
 

@@ -31,7 +31,7 @@ use Rattle.trace_run.specs.Making.{AreNoEntries}
 use Rattle.trace_run.specs.Meeting.{MadeJoined, resizes_in}
 use Rattle.trace_run.specs.Openings.{Knows}
 use Rattle.trace_run.specs.Syncing.{SyncedJoined, SyncsJoined, inserts_in, lines_of}
-use Rattle.trace_run.proofs.SyncJoined.{none-among, none-dirty-in}
+use Rattle.trace_run.proofs.syncs.SyncJoined.{none-among, none-dirty-in}
 use Rattle.trace_run.proofs.callers.GroupsLemmas.{EndsSo, cap-ends, sync-ends}
 
 -- The pool is as it was, and has counted nothing since.

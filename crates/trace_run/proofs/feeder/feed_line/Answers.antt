@@ -4,8 +4,8 @@ use Rattle.trace_text.specs.declared.reply.Reply.TheVariants.{Fed}
 use Rattle.trace_run.specs.declared.device.Device.{Device}
 use Rattle.trace_run.specs.declared.device.Device.TheVariants as device
 use Rattle.trace_run.specs.Feeds.{DoesFeeds}
-use Rattle.trace_run.proofs.FeedLemmas.{idle-again, one-done}
-use Rattle.trace_run.proofs.FeedStands.{idle-ready}
+use Rattle.trace_run.proofs.feeds.FeedLemmas.{idle-again, one-done}
+use Rattle.trace_run.proofs.feeds.FeedStands.{idle-ready}
 use Rattle.trace_run.proofs.feeder.feed_line.Goals as goal
 
 pub feed-requires-clause-feeder : goal.feed-requires-clause-feeder

@@ -7,7 +7,7 @@ use Rattle.trace_text.specs.declared.reply.Reply.{Reply}
 use Rattle.trace_text.specs.declared.reply.Reply.TheVariants.{FedNone}
 use Rattle.trace_run.specs.declared.device.Device.{Device}
 use Rattle.trace_run.specs.Feeds.{DoesFeeds, IsIdleFeeder, MayBeFed, is_feed}
-use Rattle.trace_run.proofs.FeedLemmas.{done-more, done-same, done-tried, few-lines}
+use Rattle.trace_run.proofs.feeds.FeedLemmas.{done-more, done-same, done-tried, few-lines}
 use Rattle.trace_run.proofs.feeder.feed_lines.Goals as goal
 use Rattle.trace_run.proofs.feeder.feed_lines.Goals.{then-is_feed+in_ok-push, else-is_feed}
 

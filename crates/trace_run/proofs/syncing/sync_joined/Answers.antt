@@ -1,7 +1,7 @@
 use Rattle.std.proofs.Common.{[], map, ap, ◌∙◌}
 use Rattle.dbuf_cells.specs.Turns.{PartyPlace}
 use Rattle.trace_run.proofs.EndSteps.{have, q-stands}
-use Rattle.trace_run.proofs.SyncJoined.{done-joined, done-last, done-leaves, only-memory, refused-leaves}
+use Rattle.trace_run.proofs.syncs.SyncJoined.{done-joined, done-last, done-leaves, only-memory, refused-leaves}
 use Rattle.trace_run.proofs.callers.TurnLemmas.{all-may, may-join}
 use Rattle.trace_run.proofs.syncing.sync_joined.Goals as goal
 

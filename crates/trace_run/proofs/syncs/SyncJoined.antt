@@ -46,7 +46,7 @@ use Rattle.trace_run.proofs.CellEnds.{IsUntouched, nothing-from}
 use Rattle.trace_run.proofs.CellsLeft.{LeavesCells}
 use Rattle.trace_run.proofs.EndSteps.{have, q-stands, untouched as untouched-by}
 use Rattle.trace_run.proofs.ResizeLemmas.{HasMade, last-of, made-joined, parted, q-all}
-use Rattle.trace_run.proofs.SyncSteps.{AreFound, AreInHand, HasGivenCells, HasTaken, HaveSameHistories, IsFound, IsQuiet, all-given, all-taken, quiet-then}
+use Rattle.trace_run.proofs.syncs.SyncSteps.{AreFound, AreInHand, HasGivenCells, HasTaken, HaveSameHistories, IsFound, IsQuiet, all-given, all-taken, quiet-then}
 use Rattle.trace_run.proofs.callers.MeetLemmas.{own-seen-more}
 
 -- ---- cells to which nothing was done have no dirty block

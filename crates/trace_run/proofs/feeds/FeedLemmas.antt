@@ -27,7 +27,7 @@ use Rattle.trace_run.specs.declared.device.Device.TheVariants as device
 use Rattle.trace_run.specs.Devices.{lent_in}
 use Rattle.trace_run.specs.Feeds.{AreFedReplies, DoesFeeds, FeedDone, IsIdleFeeder, MadeFeeds, MadeFeedsOf, TriesFeeds, is_feed}
 use Rattle.trace_run.proofs.AnswerLemmas.{take_one}
-use Rattle.trace_run.proofs.FeedStands.{acts-still, idle-ready}
+use Rattle.trace_run.proofs.feeds.FeedStands.{acts-still, idle-ready}
 
 -- ---- the lines among others
 

@@ -25,8 +25,8 @@ use Rattle.trace_run.specs.Making.{HasSeenItsEvents}
 use Rattle.trace_run.specs.Syncing.{lines_of}
 use Rattle.trace_run.proofs.CellEnds.{HasDropped, HasEndedSome, cell-drops-there, drops-unmade}
 use Rattle.trace_run.proofs.CellsLeft.{leaves-seen}
-use Rattle.trace_run.proofs.SyncInserts.{HasInserted, all-inserted}
-use Rattle.trace_run.proofs.SyncSteps.{AreInHand, HasGivenCells, HasTaken, all-given, all-taken, in-hand-as}
+use Rattle.trace_run.proofs.syncs.SyncInserts.{HasInserted, all-inserted}
+use Rattle.trace_run.proofs.syncs.SyncSteps.{AreInHand, HasGivenCells, HasTaken, all-given, all-taken, in-hand-as}
 use Rattle.trace_run.proofs.callers.MeetLemmas.{starts-then}
 
 lines-both : (xs ys : List CellEvent) → lines_of (xs ++ ys) ≡ lines_of xs ++ lines_of ys

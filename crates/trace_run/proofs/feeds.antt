@@ -1,0 +1,4 @@
+pub mod FeedLemmas
+pub mod FeedStands
+pub mod PickedLemmas
+pub mod StartLemmas

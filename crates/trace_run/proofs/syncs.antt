@@ -1,0 +1,4 @@
+pub mod SyncInserts
+pub mod SyncJoined
+pub mod SyncSteps
+pub mod SyncWrites
