@@ -2,11 +2,14 @@
 //! checked against a plain map.
 #![tactic(auto)]
 
+mod ends;
 mod plain_map;
 mod rows;
 mod scene;
 mod soak;
 
-pub use rows::{all_calls, bad_names, patched_block, written_block, written_in_two};
-pub use scene::{SIZE, Scene, end, oid_of, opened};
+pub use ends::{Answered, end_all, every_call, private_block, reads, three_gets};
+pub use plain_map::Answer;
+pub use rows::{NEW, all_calls, bad_names, patched_block, written_block, written_in_two};
+pub use scene::{Crowd, SIZE, Scene, Worker, end, oid_of, opened, opened_crowd, ptr_of};
 pub use soak::run_soak;

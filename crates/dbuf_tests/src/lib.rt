@@ -3,7 +3,11 @@
 #![tactic(auto)]
 
 #[cfg(test)]
+mod ends;
+#[cfg(test)]
 mod kept;
+#[cfg(test)]
+mod memory;
 #[cfg(test)]
 mod one_cell;
 #[cfg(test)]
