@@ -2,11 +2,13 @@
 //! checked against a plain map.
 #![tactic(auto)]
 
+mod ends;
 mod plain_map;
 mod rows;
 mod scene;
 mod soak;
 
-pub use rows::{all_calls, bad_names, patched_block, written_block, written_in_two};
-pub use scene::{SIZE, Scene, end, oid_of, opened};
+pub use ends::{Answered, end_all, every_call, private_block, reads, three_gets};
+pub use rows::{NEW, all_calls, bad_names, patched_block, written_block, written_in_two};
+pub use scene::{SIZE, Scene, end, oid_of, opened, ptr_of};
 pub use soak::run_soak;

@@ -11,14 +11,14 @@ use std::sync::Wait;
 use txg_sync::{SyncFault, Synced, sync};
 use vdev_io::{MemPool, NoCache, Pool};
 
-// A block that no cell maps from the start.
-const NEW: Oid = Oid {
+/// A block that no cell maps from the start.
+pub const NEW: Oid = Oid {
     object: 7,
     block: 0,
 };
 
 // Whether a get answers this size and these bytes.
-fn shows<R: Wait>(
+pub(crate) fn shows<R: Wait>(
     arcs: &Cells,
     rt: &R,
     one: &mut Party<HeapCell>,
@@ -37,8 +37,8 @@ fn shows<R: Wait>(
     }
 }
 
-// Whether a patch is done.
-fn patches<R: Wait>(
+// A patch of at most 64 bytes.
+pub(crate) fn patches<R: Wait>(
     alloc: Global,
     arcs: &Cells,
     rt: &R,
@@ -70,7 +70,28 @@ fn patches<R: Wait>(
     )
 }
 
-// Whether a sync into a pool of at most 2^40 bytes answers so.
+// A sync into a pool of at most 2^40 bytes.
+pub(crate) fn try_sync<R: Wait>(
+    alloc: Global,
+    arcs: &Cells,
+    rt: &R,
+    feeder: &mut Party<HeapCell>,
+    tick: u64,
+    pool: &mut MemPool,
+    next: u64,
+) -> Result<Synced, SyncFault>
+    requires one { IsOne arcs.now 1 feeder.old }
+    requires callers { arcs.now.config.callers ≡ 1 }
+    ensures { IsOne arcs.now 1 feeder.new }
+{
+    let len = pool.len();
+    if len > 1_099_511_627_776 || next > len || next % 512 != 0 {
+        return Err(SyncFault::NoMemory);
+    }
+    sync(alloc, arcs, rt, feeder, 1, tick, pool, next)
+}
+
+// Whether such a sync answers so.
 fn syncs<R: Wait>(
     alloc: Global,
     arcs: &Cells,
@@ -85,11 +106,7 @@ fn syncs<R: Wait>(
     requires callers { arcs.now.config.callers ≡ 1 }
     ensures { IsOne arcs.now 1 feeder.new }
 {
-    let len = pool.len();
-    if len > 1_099_511_627_776 || next > len || next % 512 != 0 {
-        return false;
-    }
-    sync(alloc, arcs, rt, feeder, 1, tick, pool, next) == answer
+    try_sync(alloc, arcs, rt, feeder, tick, pool, next) == answer
 }
 
 // The byte of the pool at this place.

@@ -23,6 +23,15 @@ const TWO: Config = Config {
     },
 };
 
+// The same with one cell of 512 bytes, and with one of 4,096.
+pub(crate) const NARROW: Config = Config { cells: 1, ..TWO };
+
+pub(crate) const WIDE: Config = Config {
+    cells: 1,
+    dbuf_bytes: 4096,
+    ..TWO
+};
+
 #[test]
 fn each_call_is_done_once(rt: HostRuntime) -> Result<(), Fail> {
     let mut s = opened(rt.alloc(), &TWO, 2, 2048, &[]).ok().ok_or("memory")?;
