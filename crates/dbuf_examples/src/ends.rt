@@ -14,12 +14,15 @@ use std::sync::Wait;
 use txg_sync::{SyncFault, Synced};
 use vdev_io::{MemPool, NoCache};
 
-/// What the calls of `every_call` answered: those on dbufs in their order, and the sync between the fifth and the sixth of them.
+/// What the calls of `every_call` answered.
 #[derive(Clone, Copy, Debug, PartialEq, Eq)]
 pub struct Answered {
-    /// The calls on dbufs: a get, a hold, a patch, an unhold, a put, and two gets.
-    pub calls: [Result<(), DbufFault>; 7],
-    /// The sync.
+    /// What the gets of two bytes showed: of the second block before all others, and then, behind the sync, of it, of the first block and of the new
+    /// one.
+    pub gets: [Result<[u8; 2], DbufFault>; 4],
+    /// The calls between them: a hold, a patch, an unhold and a put.
+    pub calls: [Result<(), DbufFault>; 4],
+    /// The sync behind these.
     pub sync: Result<Synced, SyncFault>,
 }
 
@@ -80,7 +83,16 @@ pub fn reads<R: Wait>(
         .is_ok()
 }
 
-// A get of two bytes, without them.
+// The first two of these bytes.
+fn first_two(bytes: &[u8]) -> [u8; 2] {
+    let mut two = [0u8; 2];
+    for (to, byte) in two.iter_mut().zip(bytes) {
+        *to = *byte;
+    }
+    two
+}
+
+// A get of the first two bytes.
 fn try_get<R: Wait>(
     arcs: &Cells,
     rt: &R,
@@ -88,13 +100,13 @@ fn try_get<R: Wait>(
     at: Oid,
     tick: u64,
     pool: &mut MemPool,
-) -> Result<(), DbufFault>
+) -> Result<[u8; 2], DbufFault>
     requires { IsOne arcs.now 0 one.old }
     ensures { IsOne arcs.now 0 one.new }
 {
     let w = Window { at: 0, len: 2 };
     match get(arcs, rt, one, at, w, tick, pool, &mut NoCache::new()) {
-        Ok((_, _)) => Ok(()),
+        Ok((_, shown)) => Ok(first_two(shown.bytes())),
         Err(fault) => Err(fault),
     }
 }
@@ -122,9 +134,11 @@ pub fn every_call<R: Wait>(
     let written = put(alloc, arcs, rt, one, NEW, 512, 0xab);
     let sync = try_sync(alloc, arcs, rt, feeder, 4, pool, 1024);
     let again = try_get(arcs, rt, one, high, 5, pool);
-    let new = try_get(arcs, rt, one, NEW, 6, pool);
-    let calls = [got, held, patched, unheld, written, again, new];
-    Answered { calls, sync }
+    let changed = try_get(arcs, rt, one, low, 6, pool);
+    let new = try_get(arcs, rt, one, NEW, 7, pool);
+    let gets = [got, again, changed, new];
+    let calls = [held, patched, unheld, written];
+    Answered { gets, calls, sync }
 }
 
 /// All cells end, and the cache is closed.

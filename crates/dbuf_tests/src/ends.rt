@@ -214,7 +214,7 @@ fn a_synced_block_is_inserted_and_dropped_at_the_end(rt: HostRuntime) -> Result<
 }
 
 // What every call answers, and what the cache ends with, where these calls of the pool fail.
-fn every_call_of<R: Wait>(
+pub(crate) fn every_call_of<R: Wait>(
     alloc: Global,
     rt: &R,
     fails: &[u64],
@@ -244,13 +244,22 @@ const BOTH: Result<Synced, SyncFault> = Ok(Synced {
     next: 2048,
 });
 
-// The answer of a read that the pool failed.
-const POOL: Result<(), DbufFault> = Err(DbufFault::Read(ReadFault::PoolFault));
+// Why a call was refused whose read the pool failed.
+const POOL: DbufFault = DbufFault::Read(ReadFault::PoolFault);
+
+// What the gets show where none is refused: each byte of the second block is 1, the first byte of the first one was patched, and the new one is written
+// whole.
+const SHOWN: [Result<[u8; 2], DbufFault>; 4] = [
+    Ok([1, 1]),
+    Ok([1, 1]),
+    Ok([9, 0]),
+    Ok([0xab, 0xab]),
+];
 
 #[test]
 fn every_call_goes_well(rt: HostRuntime) -> Result<(), Fail> {
     let (answered, closed) = every_call_of(rt.alloc(), &rt, &[]).ok_or("memory")?;
-    assert!(rt; answered.calls == [Ok(()); 7] && answered.sync == BOTH);
+    assert!(rt; answered.gets == SHOWN && answered.calls == [Ok(()); 4] && answered.sync == BOTH);
     let [miss_b, arrive_b, hand_b] = load(1, 1);
     let [miss_a, arrive_a, hand_a] = load(0, 2);
     let release = released();
@@ -284,8 +293,8 @@ fn released() -> Event {
 #[test]
 fn the_get_fails(rt: HostRuntime) -> Result<(), Fail> {
     let (answered, closed) = every_call_of(rt.alloc(), &rt, &[0]).ok_or("memory")?;
-    let calls = [POOL, Ok(()), Ok(()), Ok(()), Ok(()), Ok(()), Ok(())];
-    assert!(rt; answered.calls == calls && answered.sync == BOTH);
+    let gets = [Err(POOL), SHOWN[1], SHOWN[2], SHOWN[3]];
+    assert!(rt; answered.gets == gets && answered.calls == [Ok(()); 4] && answered.sync == BOTH);
     let [miss, fail] = failed(1, 1);
     let [miss_a, arrive_a, hand_a] = load(0, 2);
     let [miss_b, arrive_b, hand_b] = load(1, 5);
@@ -313,8 +322,8 @@ fn the_get_fails(rt: HostRuntime) -> Result<(), Fail> {
 fn the_hold_fails_and_the_patch_loads(rt: HostRuntime) -> Result<(), Fail> {
     let (answered, closed) = every_call_of(rt.alloc(), &rt, &[1]).ok_or("memory")?;
     let no_pin = Err(DbufFault::NoPin(oid_of(0)));
-    let calls = [Ok(()), POOL, Ok(()), no_pin, Ok(()), Ok(()), Ok(())];
-    assert!(rt; answered.calls == calls && answered.sync == BOTH);
+    let calls = [Err(POOL), Ok(()), no_pin, Ok(())];
+    assert!(rt; answered.gets == SHOWN && answered.calls == calls && answered.sync == BOTH);
     let [miss_b, arrive_b, hand_b] = load(1, 1);
     let [miss, fail] = failed(0, 2);
     let [miss_a, arrive_a, hand_a] = load(0, 3);
@@ -344,7 +353,8 @@ fn a_write_fails(rt: HostRuntime) -> Result<(), Fail> {
     let [miss_b, arrive_b, hand_b] = load(1, 1);
     let [miss_a, arrive_a, hand_a] = load(0, 2);
     let (answered, closed) = every_call_of(rt.alloc(), &rt, &[2]).ok_or("memory")?;
-    assert!(rt; answered.calls == [Ok(()); 7] && answered.sync == Err(SyncFault::PoolFault));
+    assert!(rt; answered.gets == SHOWN && answered.calls == [Ok(()); 4]);
+    assert!(rt; answered.sync == Err(SyncFault::PoolFault));
     let events = [
         miss_b,
         arrive_b,
@@ -357,7 +367,8 @@ fn a_write_fails(rt: HostRuntime) -> Result<(), Fail> {
     ];
     assert!(rt; has_events(&closed, &events));
     let (answered, closed) = every_call_of(rt.alloc(), &rt, &[3]).ok_or("memory")?;
-    assert!(rt; answered.calls == [Ok(()); 7] && answered.sync == Err(SyncFault::PoolFault));
+    assert!(rt; answered.gets == SHOWN && answered.calls == [Ok(()); 4]);
+    assert!(rt; answered.sync == Err(SyncFault::PoolFault));
     let events = [
         miss_b,
         arrive_b,

@@ -7,6 +7,8 @@ mod ends;
 #[cfg(test)]
 mod kept;
 #[cfg(test)]
+mod memory;
+#[cfg(test)]
 mod one_cell;
 #[cfg(test)]
 mod rows;
