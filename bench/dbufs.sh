@@ -1,7 +1,8 @@
 #!/usr/bin/env bash
-# Proves, builds and runs a million gets of 100,000 blocks over dbufs and a sync of 10,000 dirty blocks in a copy of the repository, and prints nanoseconds
-# a get and a block beside those of a plain map with an LRU list, and of a plain loop that hashes and writes. One caller; one cell and sixteen; the dbufs keep all
-# blocks, or a fourth of them. It needs rustc and python3.
+# Proves, builds and runs a million gets of 100,000 blocks over dbufs, and a sync of 10,000 dirty blocks, in a copy of the repository. Beside them run plain
+# maps with an LRU list each, one a cell, behind a lock each, and a plain loop that hashes and writes. Gets are of 1, 2 or 4 callers, over one cell or
+# sixteen, which keep all blocks or a fourth of them; each block's first get loads it. All run in turn, ROUNDS times (default 5). A row has the
+# median nanoseconds a get or a block of both, and the median of the ratios. It needs rustc and python3.
 set -eu
 here=$(cd "$(dirname "$0")" && pwd)
 copy=$(mktemp -d)
@@ -16,14 +17,35 @@ cp "$here/../HANDLES" "$copy/"
 mkdir "$copy/crates/dbufs_bench"
 cp -r "$here/dbufs/src" "$here/dbufs/proofs" "$copy/crates/dbufs_bench/"
 find "$copy/crates/dbufs_bench" -name '*.in' -exec sh -c 'mv "$1" "${1%.in}"' _ {} \;
-printf 'dbufs_bench: arc_core arc_examples arc_table dbuf_cells dbuf_examples dbuf_state txg_sync vdev_io\n' >> "$copy/crates.txt"
+printf 'dbufs_bench: arc_core arc_examples arc_table blk_ptr dbuf_cells dbuf_examples dbuf_state turn_table txg_sync vdev_io\n' >> "$copy/crates.txt"
 mkdir "$copy/baseline"
 cp "$here/dbufs/plain.rs" "$here/../compare/sha256.rs" "$copy/baseline/"
 rustc --edition 2024 -O -A warnings -o "$copy/plain" "$copy/baseline/plain.rs"
-(cd "$copy/crates/dbufs_bench" && rt run > "$copy/ours" 2> "$copy/log") || { cat "$copy/ours" "$copy/log"; exit 1; }
-"$copy/plain" > "$copy/theirs"
-paste -d' ' "$copy/ours" "$copy/theirs" | python3 -c '
+(cd "$copy/crates/dbufs_bench" && rt run -- sync > "$copy/log" 2>&1) || { cat "$copy/log"; exit 1; }
+ours=$copy/crates/dbufs_bench/out/dbufs_bench
+# Notes what was measured, and what both programs print for these words.
+row() {
+    echo "$1,$("$ours" ${*:2}),$("$copy/plain" ${*:2})" >> "$copy/rows"
+}
+for _ in $(seq "${ROUNDS:-5}"); do
+    for callers in 1 2 4; do
+        row "$callers callers 1 cell all kept" 1 51200000 $callers
+        row "$callers callers 16 cells all kept" 16 3200000 $callers
+        row "$callers callers 1 cell a fourth kept" 1 12800000 $callers
+        row "$callers callers 16 cells a fourth kept" 16 800000 $callers
+    done
+    row "sync" sync
+done
+python3 - "$copy/rows" <<'PY'
 import sys
-for line in sys.stdin:
-    cells, limit, gets, blocks, _, _, plain_gets, plain_blocks = map(int, line.split())
-    print(f"{cells:3}{limit:12,}{gets:8,} ns{plain_gets:8,} ns{gets / plain_gets:7.2f}{blocks:8,} ns{plain_blocks:8,} ns{blocks / plain_blocks:7.2f}")'
+from statistics import median
+
+rows = {}
+for line in open(sys.argv[1]):
+    name, ours, plain = line.strip().split(',')
+    rows.setdefault(name, []).append((int(ours), int(plain)))
+for name, row in rows.items():
+    ours, plain = median(o for o, _ in row), median(p for _, p in row)
+    print(f'{name:38}{ours:8,.0f} ns{plain:8,.0f} ns{median(o / p for o, p in row):7.2f}')
+PY
+uptime

@@ -247,8 +247,13 @@ fn worker_of(
     })
 }
 
-/// A new cache of four callers, whose cells map so many blocks.
-pub(crate) fn opened_crowd(alloc: Global, config: &Config, blocks: u64) -> Result<Crowd, NoMemory>
+/// A new cache of four callers, whose cells map so many blocks, each caller with a fork of a pool of so many bytes.
+pub fn opened_crowd(
+    alloc: Global,
+    config: &Config,
+    blocks: u64,
+    len: usize,
+) -> Result<Crowd, NoMemory>
     requires valid { IsConfig config.now }
     requires callers { config.now.callers ≡ 4 }
     ensures config { IfOk result (λ c. c.arcs.config ≡ config.now) }
@@ -256,7 +261,7 @@ pub(crate) fn opened_crowd(alloc: Global, config: &Config, blocks: u64) -> Resul
     ensures low { IfOk result (λ c. IsOne c.arcs 0 c.low.0.party × IsOne c.arcs 1 c.low.1.party) }
     ensures high { IfOk result (λ c. IsOne c.arcs 2 c.high.0.party × IsOne c.arcs 3 c.high.1.party) }
 {
-    let image = image_of(alloc, blocks, 65_536)?;
+    let image = image_of(alloc, blocks, len)?;
     let (arcs, mut parties, mut pool) = made(alloc, config, blocks, image, Vec::new(alloc))?;
     let feeder = last_of(&arcs, &mut parties)?;
     let four = worker_of(alloc, &arcs, &mut parties, &mut pool, 4)?;

@@ -217,7 +217,7 @@ pub fn run_soak<R: Threads + Wait + Sync>(
         mut feeder,
         low,
         high,
-    } = opened_crowd(alloc, &config, BLOCKS)?;
+    } = opened_crowd(alloc, &config, BLOCKS, 65_536)?;
     let (low, high) = call_four(alloc, rt, &arcs, low, high);
     end_cells(&arcs, rt, &mut feeder)?;
     let ((one, two), (three, four)) = (low, high);
