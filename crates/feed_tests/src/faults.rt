@@ -1,37 +1,67 @@
 //! Feeds in which one call of the device fails.
-use arc_core::{Event, Why};
+use arc_core::{Event, Origin, Why};
 use arc_examples::Plain;
 use arc_table::Closed;
+use blk_ptr::{NoMemory, Ptr};
 use feed_examples::{closed, config_of_one, fed, memory, opened, read, zeros_of};
-use l2_dev::FeedStop;
+use l2_dev::{FeedReport, FeedStop};
 use std::alloc::Global;
 use std::sync::Wait;
 use std::test::Fail;
 
-/// How many of a shard's events are picks, sets, and leaves for the device's fault.
-fn counts(events: &[Event]) -> [usize; 3] {
-    let picks = events.iter().filter(|e| matches!(e, Event::Pick { .. }));
-    let sets = events.iter().filter(|e| matches!(e, Event::Set { .. }));
-    let device = Why::Device;
-    let left = events.iter().filter(|e| matches!(e, Event::Leave { why, .. } if *why == device));
-    [picks.count(), sets.count(), left.count()]
+/// What the feeder did to a shard's block.
+#[derive(Clone, Copy)]
+enum Fed {
+    /// Nothing.
+    Not,
+    /// It picked the block, and left it, since the device failed.
+    Left,
+    /// It picked the block, and gave it this place.
+    At(u64),
 }
 
-/// What stands in the histories of both shards.
-fn of_both(closed: &Closed<Plain>) -> [[usize; 3]; 2] {
+/// The history of a shard whose block was read at this tick, and then fed so.
+fn history(alloc: Global, ptr: &Ptr, t: u64, fed: Fed) -> Result<Vec<Event>, NoMemory> {
+    let key = ptr.key;
+    let mut events = vec![in alloc;
+        Event::Miss { n: 0, key, t },
+        Event::Arrive {
+            n: 0,
+            key,
+            digest: ptr.digest,
+            from: Origin::Pool
+        },
+        Event::Drop { n: 0, key },
+    ]?;
+    let settled = match fed {
+        Fed::Not => return Ok(events),
+        Fed::Left => Event::Leave {
+            n: 1,
+            key,
+            why: Why::Device,
+        },
+        Fed::At(place) => Event::Set { n: 1, key, place },
+    };
+    events.extend_from_slice(&[Event::Pick { n: 1, key }, Event::FeedEnd { n: 1 }, settled])?;
+    Ok(events)
+}
+
+/// Whether both shards have these histories.
+fn are_of_both(closed: &Closed<Plain>, first: &[Event], second: &[Event]) -> bool {
     match closed.shards() {
-        [first, second] => [counts(first.history()), counts(second.history())],
-        _ => [[0; 3]; 2],
+        [one, two] => one.history() == first && two.history() == second,
+        _ => false,
     }
 }
 
-/// Feeds two shards, of which a block of each was read, over a device whose call of this number fails. Answers the end, and what stands in the
-/// histories of both.
+/// Feeds two shards, of which a block of each was read, over a device whose call of this number fails. Answers the report, and whether the histories
+/// are of blocks that were fed so.
 fn fed_with<R: Wait>(
     rt: &R,
     alloc: Global,
     fail: u64,
-) -> Result<(FeedStop, [[usize; 3]; 2]), Fail> {
+    blocks: [Fed; 2],
+) -> Result<(FeedReport, bool), Fail> {
     let numbers = config_of_one(2, 4096, 131_072);
     let device = memory(alloc, 266_240, &[fail])?;
     let mut scene = opened(alloc, &numbers, 16_384, device)?;
@@ -43,22 +73,47 @@ fn fed_with<R: Wait>(
     }
     let report = fed(rt, alloc, &mut scene);
     let closed = closed(alloc, scene)?;
-    Ok((report.end, of_both(&closed)))
+    let one = history(alloc, &first, 1, blocks[0])?;
+    let two = history(alloc, &second, 2, blocks[1])?;
+    Ok((report, are_of_both(&closed, &one, &two)))
+}
+
+/// What is reported where so many blocks were picked, and so many have a place.
+fn report(picked: u32, written: u32, end: FeedStop) -> FeedReport {
+    FeedReport {
+        picked,
+        bytes: u64::from(picked).wrapping_mul(512),
+        written,
+        cleared: 0,
+        end,
+    }
 }
 
 #[test]
 fn each_call_of_a_feed_of_two_shards_fails(rt: HostRuntime) -> Result<(), Fail> {
     let alloc = rt.alloc();
-    // the first and the last call that fails, how the feed ends, and what stands in the histories of both shards
+    let whole = report(2, 2, FeedStop::Done);
+    let both = [Fed::At(4096), Fed::At(70_144)];
+    // the first and the last call that fails, what is reported, and what was done to the blocks
     let rows = [
-        (0, 0, FeedStop::Done, [[1, 1, 0], [1, 1, 0]]),
-        (1, 7, FeedStop::DevFault, [[1, 0, 1], [0, 0, 0]]),
-        (8, 14, FeedStop::DevFault, [[1, 1, 0], [1, 0, 1]]),
-        (15, 15, FeedStop::Done, [[1, 1, 0], [1, 1, 0]]),
+        (0, 0, whole, both),
+        (
+            1,
+            7,
+            report(1, 0, FeedStop::DevFault),
+            [Fed::Left, Fed::Not],
+        ),
+        (
+            8,
+            14,
+            report(2, 1, FeedStop::DevFault),
+            [Fed::At(4096), Fed::Left],
+        ),
+        (15, 15, whole, both),
     ];
-    for (first, last, end, events) in rows {
+    for (first, last, reported, blocks) in rows {
         for call in first..=last {
-            assert!(rt; fed_with(&rt, alloc, call)? == (end, events));
+            assert!(rt; fed_with(&rt, alloc, call, blocks)? == (reported, true));
         }
     }
     Ok(())

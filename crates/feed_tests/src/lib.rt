@@ -4,6 +4,10 @@
 #[cfg(test)]
 mod faults;
 #[cfg(test)]
+mod memory;
+#[cfg(test)]
+mod reading;
+#[cfg(test)]
 mod rows;
 #[cfg(test)]
 mod soak;

@@ -1,0 +1,47 @@
+//! A feed that memory may be refused to, wherever that comes: its report is of what stands in the histories. With ample memory it is done; by hand each
+//! allocation is refused in turn.
+use arc_core::{Event, Why};
+use arc_examples::Plain;
+use arc_table::Closed;
+use feed_examples::{closed, config_of_one, fed, memory, opened, read, zeros_of};
+use l2_dev::FeedStop;
+use std::test::Fail;
+
+/// How many picks, sets, and leaves for want of memory the shards have.
+fn counts(closed: &Closed<Plain>) -> [u32; 3] {
+    let mut counts = [0u32; 3];
+    for shard in closed.shards() {
+        for event in shard.history() {
+            match event {
+                Event::Pick { .. } => counts[0] = counts[0].saturating_add(1),
+                Event::Set { .. } => counts[1] = counts[1].saturating_add(1),
+                Event::Leave { why, .. } if *why == Why::Memory => {
+                    counts[2] = counts[2].saturating_add(1);
+                }
+                _ => {}
+            }
+        }
+    }
+    counts
+}
+
+#[test]
+fn a_feed_tells_what_it_did(rt: HostRuntime) -> Result<(), Fail> {
+    let alloc = rt.alloc();
+    let numbers = config_of_one(2, 4096, 131_072);
+    let device = memory(alloc, 266_240, &[])?;
+    let mut scene = opened(alloc, &numbers, 16_384, device)?;
+    // one of each shard
+    if !read(&rt, &mut scene, &zeros_of(alloc, 0, 512)?, 1) {
+        return Err("read".into());
+    }
+    if !read(&rt, &mut scene, &zeros_of(alloc, 3, 512)?, 2) {
+        return Err("read".into());
+    }
+    let report = fed(&rt, alloc, &mut scene);
+    let counts = counts(&closed(alloc, scene)?);
+    let left = report.picked.saturating_sub(report.written);
+    assert!(rt; counts == [report.picked, report.written, left]);
+    assert!(rt; (report.end == FeedStop::Done) == (report.written == 2));
+    Ok(())
+}
