@@ -45,7 +45,7 @@ use Rattle.trace_run.specs.Deeds.{HasToldAll, Noted, acts_of_events, events_ther
 use Rattle.trace_run.specs.DeviceReads.{AsksFor}
 use Rattle.trace_run.specs.Effects.{Effect, Answered, calls_of, effect_of}
 use Rattle.trace_run.specs.Objects.{AnswersKey, AnswersNoBlock, AnswersRange, Brought, Nothing, Loaded, Refused, acts_of_bringing, loads_of}
-use Rattle.trace_run.specs.one_caller.Access.{AsksPool, MayComeFrom, access_of, events_of_answered, events_of_refused, held_key}
+use Rattle.trace_run.specs.one_caller.Access.{AsksPool, MayComeFrom, access_of, events_of_answered, events_of_refused, held_by_access}
 use Rattle.trace_run.specs.one_caller.Asking.{Asks}
 use Rattle.trace_run.specs.Reads.{IsRefused, access_now, now_of}
 
@@ -97,7 +97,7 @@ events_of_hand n c (Some key) = Hand n key c ∷ []
 -- what a party that is alone makes for what was brought, in the shard of its key, which it finds so
 abbrev pub events_of_bringing : PlainShard → (n t c : ℕ) → Brought → List Event
 events_of_bringing s n t c Nothing = []
-events_of_bringing s n t c (Loaded ptr from) = events_of_answered n t ptr from (access_of s ptr) ++ events_of_hand n c (held_key ptr (access_of s ptr))
+events_of_bringing s n t c (Loaded ptr from) = events_of_answered n t ptr from (access_of s ptr) ++ events_of_hand n c (held_by_access ptr (access_of s ptr))
 events_of_bringing s n t c (Refused ptr) = events_of_refused n t ptr (access_of s ptr)
 
 -- what was brought is of this shard, of so many

@@ -38,7 +38,7 @@ use Rattle.trace_run.specs.MadeLines.{made_in, made_of}
 use Rattle.trace_run.specs.ObjectLines.{CameFrom, brought_there, events_of_bringing, events_of_hand}
 use Rattle.trace_run.specs.Objects.{Brought, Nothing, Loaded, Refused, acts_of_bringing}
 use Rattle.trace_run.specs.one_caller.Access as access
-use Rattle.trace_run.specs.one_caller.Access.{Access, AsksPool, MayComeFrom, access_of, events_of_answered, events_of_refused, held_key}
+use Rattle.trace_run.specs.one_caller.Access.{Access, AsksPool, MayComeFrom, access_of, events_of_answered, events_of_refused, held_by_access}
 use Rattle.trace_run.specs.Reads.{access_now, now_of}
 use Rattle.trace_run.proofs.CellsLeft.{leaves-seen}
 use Rattle.trace_run.proofs.MoveLemmas.{Moves}
@@ -149,7 +149,7 @@ hands_of n c ptr served.Pool = Hand n ptr.key c ∷ []
 hands_of n c ptr served.L2 = Hand n ptr.key c ∷ []
 
 -- it is what a party that is alone hands
-hand-of : (n c : ℕ) (ptr : Ptr) (a : Access) (from : Served) → MayComeFrom a from → events_of_hand n c (held_key ptr a) ≡ hands_of n c ptr from
+hand-of : (n c : ℕ) (ptr : Ptr) (a : Access) (from : Served) → MayComeFrom a from → events_of_hand n c (held_by_access ptr a) ≡ hands_of n c ptr from
 hand-of n c ptr access.Hit from is = ap (hands_of n c ptr) (sym is)
 hand-of n c ptr (access.Past kept) from is = ap (hands_of n c ptr) (sym is)
 hand-of n c ptr access.Miss from (inl is) = ap (hands_of n c ptr) (sym is)
@@ -271,10 +271,10 @@ module _ {P D : Type 0} (g : Config) (valid : IsConfig g) (pools : PoolGhosts P)
     }
       where
         there-alone : HasAll p → (j : ℕ) → seen_of g j q ++ events_there g j hands
-            ≡ seen_of g j p ++ (if shard == j then events_of_answered p.number t ptr from (access_of (now_of g j p) ptr) ++ events_of_hand p.number c (held_key ptr (access_of (now_of g j p) ptr)) else [])
+            ≡ seen_of g j p ++ (if shard == j then events_of_answered p.number t ptr from (access_of (now_of g j p) ptr) ++ events_of_hand p.number c (held_by_access ptr (access_of (now_of g j p) ptr)) else [])
         there-alone all j = dite (ℕ_discrete shard j)
             (λ same. subst (λ (x : ℕ). seen_of g x q ++ events_there g x hands
-            ≡ seen_of g x p ++ (if shard == x then events_of_answered p.number t ptr from (access_of (now_of g x p) ptr) ++ events_of_hand p.number c (held_key ptr (access_of (now_of g x p) ptr)) else [])) same
+            ≡ seen_of g x p ++ (if shard == x then events_of_answered p.number t ptr from (access_of (now_of g x p) ptr) ++ events_of_hand p.number c (held_by_access ptr (access_of (now_of g x p) ptr)) else [])) same
             (rw (eq-eqb shard shard refl)
             (ap (λ (l : List Event). l ++ events_there g shard hands) (a.moves.alone all).here
             ∙ (append_assoc (seen_of g shard p) a.es (events_there g shard hands)

@@ -135,7 +135,7 @@ module _ {P D : Type 0} (pools : PoolGhosts P) (devices : DeviceGhosts D) (g : C
   -- a line on no object is as before, and one on an object keeps no read
   abbrev pub DidLineBy : Option OnObject → Line → (old new : AtWork P D) → Type 0
   DidLineBy None l old new = (l.work ≡ no_work)
-      × DidLine g pools (devices.size old.outside.device) blocks l.op l.reply (at old.party old.kept old.outside.pool) (at new.party new.kept new.outside.pool)
+      × DidLine g pools blocks l.op l.reply (at old.party old.kept old.outside.pool) (at new.party new.kept new.outside.pool)
       × LineAsks devices blocks l.op l.reply old.outside.device new.outside.device
   DidLineBy (Some on) l old new = (new.kept ≡ old.kept) × DidWorkLine pools devices g blocks old.kept old.outside new.outside old.party new.party l
 

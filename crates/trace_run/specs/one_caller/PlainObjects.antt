@@ -46,11 +46,11 @@ use Rattle.trace_run.specs.Lines.{shard_of_line}
 use Rattle.trace_run.specs.ObjectLines.{events_of_hand}
 use Rattle.trace_run.specs.Objects.{Brought, Loaded, Nothing, Refused}
 use Rattle.trace_run.specs.Openings.{opening_map}
-use Rattle.trace_run.specs.Restores.{restored_of, restored_shard, restores_in}
+use Rattle.trace_run.specs.Restores.{found_keys, restored_shard, restores_in}
 use Rattle.trace_run.specs.one_caller.Asking.{asked_by, asked_by_read, next_call}
 use Rattle.trace_run.specs.one_caller.OneCaller.{events_of_drops, events_there as line_events, kept_after, only_feeder}
 use Rattle.trace_run.specs.one_caller.OverShards.{kept_in_shard, shards_after}
-use Rattle.trace_run.specs.one_caller.Access.{access_of, events_of_answered, events_of_refused, held_key}
+use Rattle.trace_run.specs.one_caller.Access.{access_of, events_of_answered, events_of_refused, held_by_access}
 use Rattle.trace_run.specs.one_caller.PlainRun.{Contents, Images, bytes_in, contents_after, contents_with, images, key_fault, no_contents, refused_read, reply_to, source_in, status_of}
 
 -- ---- the state
@@ -163,7 +163,7 @@ brought_by ptr from (Some (NoPin at)) = Nothing
 -- the events that this makes in its shard
 abbrev pub bringing_events : PlainShard → (n t c : ℕ) → Brought → List Event
 bringing_events s n t c Nothing = []
-bringing_events s n t c (Loaded ptr from) = events_of_answered n t ptr from (access_of s ptr) ++ events_of_hand n c (held_key ptr (access_of s ptr))
+bringing_events s n t c (Loaded ptr from) = events_of_answered n t ptr from (access_of s ptr) ++ events_of_hand n c (held_by_access ptr (access_of s ptr))
 bringing_events s n t c (Refused ptr) = events_of_refused n t ptr (access_of s ptr)
 
 abbrev pub is_held_from : Served → Bool
@@ -488,7 +488,7 @@ first_place pool_len (ptr ∷ ptrs) = if is_none (key_fault pool_len ptr.key) th
 abbrev pub begins : Trace → Option Rebuilt → (pool : List ℕ) → (calls device_calls writes : List Call) → Going
 begins trace rebuilt pool calls device_calls writes = record {
   world = record {
-    shards = restored_shard trace.config (restored_of rebuilt);
+    shards = restored_shard trace.config (found_keys rebuilt);
     contents = no_contents;
     cells = opening_cells trace;
     pool = pool;
@@ -496,7 +496,7 @@ begins trace rebuilt pool calls device_calls writes = record {
     group = 1;
   };
   kept = [];
-  made = restores_in trace.config (restored_of rebuilt);
+  made = restores_in trace.config (found_keys rebuilt);
   calls = calls;
   device_calls = device_calls;
   writes = writes;
