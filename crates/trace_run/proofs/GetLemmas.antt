@@ -103,8 +103,8 @@ module _ {C : Type 0} (cache : Cache) (p q : Place (Known C)) (kept : List KeptB
 
 -- ---- what was done
 
-module _ {C P D : Type 0} (m : Meanings C) (g : Config) (valid : IsConfig g) (pools : PoolGhosts P) (devices : DeviceGhosts D) (ptr : Ptr) (t size : ℕ) (p q : Place (Known C)) where
-  pub did-answer : (from : Served) → AddsServed m g valid pools devices ptr t from p q → DidAnswer g size t ptr from p q
+module _ {C P D : Type 0} (m : Meanings C) (g : Config) (valid : IsConfig g) (pools : PoolGhosts P) (devices : DeviceGhosts D) (ptr : Ptr) (t : ℕ) (p q : Place (Known C)) where
+  pub did-answer : (from : Served) → AddsServed m g valid pools devices ptr t from p q → DidAnswer g t ptr from p q
   did-answer from a = record {
     act = record {
       made = a.ms;
@@ -118,7 +118,7 @@ module _ {C P D : Type 0} (m : Meanings C) (g : Config) (valid : IsConfig g) (po
     source = λ x. (a.alone x).1;
   }
 
-  pub did-fail : AddsFailed m g valid pools devices ptr t p q → DidFail g size t ptr p q
+  pub did-fail : AddsFailed m g valid pools devices ptr t p q → DidFail g t ptr p q
   did-fail a = record {
     act = record {
       made = a.ms;
@@ -272,8 +272,8 @@ module _ {C P D : Type 0} (m : Meanings C) (cache : Cache) (pools : PoolGhosts P
     pub held-stands : Stands cache q (kept ++ record { block = block; kept = Held hold } ∷ [])
     held-stands = stands-held cache p q kept stands left seen block ptr hold held-lists.1 held-lists.0
 
-    pub held-did : DidAnswer cache.config size t ptr from p q
-    held-did = did-answer m cache.config stands.valid pools devices ptr t size p q from (subst (AddsRead m cache.config stands.valid pools devices ptr t p q) is adds)
+    pub held-did : DidAnswer cache.config t ptr from p q
+    held-did = did-answer m cache.config stands.valid pools devices ptr t p q from (subst (AddsRead m cache.config stands.valid pools devices ptr t p q) is adds)
 
     pub held-got : IsGot (pools.told before.pool) block ptr (record { served = from; read = record { block = block; kept = Held hold } })
     held-got = go from (subst (PoolDid pools ptr before.pool now.pool) is (pool-did m pools devices cache.config ptr t before now p q result answer))
@@ -290,17 +290,17 @@ module _ {C P D : Type 0} (m : Meanings C) (cache : Cache) (pools : PoolGhosts P
   pub past-stands : Lists [] p q → (b : KeptBlock) → listed_for b.kept ≡ [] → IsOwnedBy p.number b.kept → Stands cache q (kept ++ b ∷ [])
   past-stands same b none owned = stands-more cache p q kept stands left seen b owned (subst (λ (l : List Ptr). Lists l p q) (sym none) same)
 
-  pub past-did : AddsServed m cache.config stands.valid pools devices ptr t served.Past p q → DidAnswer cache.config size t ptr served.Past p q
-  past-did a = did-answer m cache.config stands.valid pools devices ptr t size p q served.Past a
+  pub past-did : AddsServed m cache.config stands.valid pools devices ptr t served.Past p q → DidAnswer cache.config t ptr served.Past p q
+  past-did a = did-answer m cache.config stands.valid pools devices ptr t p q served.Past a
 
   pub fault-stands : (why : ReadFault) → result ≡ Err why → Stands cache q kept
   fault-stands why is = stands-same cache p q kept stands left seen (subst (ListsAnswer ptr p q) is lists)
 
-  pub fault-did : (why : ReadFault) → result ≡ Err why → DidRead cache.config size t ptr p q (Err why)
+  pub fault-did : (why : ReadFault) → result ≡ Err why → DidRead cache.config t ptr p q (Err why)
   fault-did why is = go why (subst (AddsRead m cache.config stands.valid pools devices ptr t p q) is adds)
     where
-      go : (w : ReadFault) → AddsRead m cache.config stands.valid pools devices ptr t p q (Err w) → DidRead cache.config size t ptr p q (Err w)
-      go (fault.PoolFault) a = did-fail m cache.config stands.valid pools devices ptr t size p q a
-      go (fault.Mismatch found) a = did-fail m cache.config stands.valid pools devices ptr t size p q a
+      go : (w : ReadFault) → AddsRead m cache.config stands.valid pools devices ptr t p q (Err w) → DidRead cache.config t ptr p q (Err w)
+      go (fault.PoolFault) a = did-fail m cache.config stands.valid pools devices ptr t p q a
+      go (fault.Mismatch found) a = did-fail m cache.config stands.valid pools devices ptr t p q a
       go (fault.Key why) a = a
       go (fault.NoMemory) a = tt

@@ -18,7 +18,7 @@ use Rattle.trace_run.specs.KeptReads.{KeptRead}
 use Rattle.trace_run.specs.declared.kept_blocks.KeptBlock.{KeptBlock}
 use Rattle.trace_run.specs.one_caller.Access.{events_of_drop}
 use Rattle.trace_run.specs.Acts.{acts_of_drop, acts_of_drops}
-use Rattle.trace_run.specs.KeptBlocks.{DroppedAlone, Drops, GivesAll, GivesBack, Stands, held_key, holds_in, read_of}
+use Rattle.trace_run.specs.KeptBlocks.{DroppedAlone, Drops, GivesAll, GivesKeptBack, Stands, held_key, holds_in, read_of}
 use Rattle.trace_run.specs.one_caller.OneCaller.{events_of_drops}
 use Rattle.arc_table.specs.Seen.{HasAll, seen_of, turn_of}
 use Rattle.trace_run.specs.Deeds.{HasToldAll, Noted}
@@ -64,7 +64,7 @@ module _ {C : Type 0} (m : Meanings C) (cache : Cache) where
   abbrev g : Config
   g = cache.config
 
-  step : (b : KeptBlock) (bs : List KeptBlock) (p r : Place (Known C)) → Stands cache p (b ∷ bs) → GivesBack m g b.kept p r → Stands cache r bs × Drops g (held_key b.kept) p r
+  step : (b : KeptBlock) (bs : List KeptBlock) (p r : Place (Known C)) → Stands cache p (b ∷ bs) → GivesKeptBack m g b.kept p r → Stands cache r bs × Drops g (held_key b.kept) p r
   step b bs p r stands gives = (given-stands m cache p r [] bs b stands b.kept refl gives, given-drops m cache p r [] bs b stands b.kept refl gives)
 
   pub all-stand : (kept : List KeptBlock) (p q : Place (Known C)) → Stands cache p kept → GivesAll m g kept p q → Stands cache q []

@@ -37,7 +37,7 @@ use Rattle.arc_table.specs.ShardGiving.{ledger_through}
 use Rattle.arc_table.proofs.Afterwards.{does_ledger, does_stays, stays_party}
 use Rattle.arc_table.proofs.Reached.{reached, rests}
 use Rattle.trace_run.specs.declared.kept_blocks.KeptBlock.{KeptBlock}
-use Rattle.trace_run.specs.KeptBlocks.{Adds, AllQuiet, Drops, GivesBack, IsOwnedBy, Stands, held_key, is_ptr, listed_all, listed_for, times}
+use Rattle.trace_run.specs.KeptBlocks.{Adds, AllQuiet, Drops, GivesKeptBack, IsOwnedBy, Stands, held_key, is_ptr, listed_all, listed_for, times}
 use Rattle.arc_table.specs.Fronts.{StartsWith, front_of, list_at}
 use Rattle.arc_table.specs.Seen.{AddsAll, AddsOwn, AreOwn, IsNumberOrCell, MadeBy, turn_of}
 use Rattle.arc_table.specs.TableLaws.{starts_whole}
@@ -254,12 +254,12 @@ module _ {C : Type 0} (m : Meanings C) (cache : Cache) (p q : Place (Known C)) (
     pub held-keeps : KeepsJoined g p q
     held-keeps = (made.same.joined, grows g (shard_of g.shards hold.key) d.before (Drop hold.owner hold.key ∷ []) p q made)
 
-  pub given-keeps : (kept : Kept) → read.kept ≡ kept → GivesBack m g kept p q → KeepsJoined g p q
+  pub given-keeps : (kept : Kept) → read.kept ≡ kept → GivesKeptBack m g kept p q → KeepsJoined g p q
   given-keeps (Held hold) is d = held-keeps hold is d
   given-keeps (Loose key block) is same = keeps-same g p q same
 
   -- what is left of the kept reads is held
-  pub given-stands : (kept : Kept) → read.kept ≡ kept → GivesBack m g kept p q → Stands cache q (front ++ rest)
+  pub given-stands : (kept : Kept) → read.kept ≡ kept → GivesKeptBack m g kept p q → Stands cache q (front ++ rest)
   given-stands (Held hold) is d = held-stands hold is d
   given-stands (Loose key block) is same = subst (λ (x : Place (Known C)). Stands cache x (front ++ rest)) (sym same)
       record {
@@ -276,11 +276,11 @@ module _ {C : Type 0} (m : Meanings C) (cache : Cache) (p q : Place (Known C)) (
         listed = λ x. let a = stands.listed x in let b = times-middle x front rest read in let c : times x (listed_for read.kept) ≡ 0 = ap (λ (k : Kept). times x (listed_for k)) is in omega arith;
       }
 
-  pub given-drops : (kept : Kept) → read.kept ≡ kept → GivesBack m g kept p q → Drops g (held_key kept) p q
+  pub given-drops : (kept : Kept) → read.kept ≡ kept → GivesKeptBack m g kept p q → Drops g (held_key kept) p q
   given-drops (Held hold) is d = held-adds hold is d
   given-drops (Loose key block) is same = same
 
 -- a read that is given back leaves cells as they were
-pub given-leaves : {C : Type 0} (m : Meanings C) (g : Config) → IsConfig g → (p q : Place (Known C)) → p.own.about.config ≡ g → (kept : Kept) → GivesBack m g kept p q → LeavesCells g p q
+pub given-leaves : {C : Type 0} (m : Meanings C) (g : Config) → IsConfig g → (p q : Place (Known C)) → p.own.about.config ≡ g → (kept : Kept) → GivesKeptBack m g kept p q → LeavesCells g p q
 given-leaves m g valid p q config (Held hold) d = does-leaves m g valid hold.key (Drop hold.owner hold.key ∷ []) p q config d
 given-leaves m g valid p q config (Loose key block) same = leaves-same g p q same

@@ -39,13 +39,13 @@ use Rattle.trace_text.specs.declared.reply.Reply.{Reply}
 use Rattle.trace_text.specs.declared.reply.Reply.TheVariants.{Dropped, Refused}
 use Rattle.trace_run.specs.KeptReads.{KeptRead}
 use Rattle.trace_run.specs.one_caller.Access as access
-use Rattle.trace_run.specs.one_caller.Access.{Access, MayComeFrom, events_of_answered, events_of_drop, held_key as access_key}
+use Rattle.trace_run.specs.one_caller.Access.{Access, MayComeFrom, events_of_answered, events_of_drop, held_by_access as access_key}
 use Rattle.trace_run.specs.Acts.{acts_of, acts_of_drop, acts_of_dropping, acts_of_hold, acts_of_read}
 use Rattle.trace_run.specs.Answering.{KeepsImage, ReadsImage}
 use Rattle.trace_run.specs.Answers.{AnswersDrop, AnswersHold, AnswersRead}
 use Rattle.trace_run.specs.Effects.{Effect, Answered, GivenBack, PoolRefused, NoEffect, calls_of, effect_of}
 use Rattle.trace_run.specs.callers.CallerLines.{DidLine, DidThere, at}
-use Rattle.trace_run.specs.KeptBlocks.{Drops, GivesBack, IsOwnedBy, held_key}
+use Rattle.trace_run.specs.KeptBlocks.{Drops, GivesKeptBack, IsOwnedBy, held_key}
 use Rattle.trace_run.specs.Lines.{is_in_shard, shard_of_block}
 use Rattle.trace_run.specs.one_caller.OneCaller.{NamesSource, events_of, events_of_dropping, events_of_hold, events_of_read, events_there, is_of_block, kept_after, kept_after_drop, kept_after_hold, key_held_by, oldest_key, without_oldest}
 use Rattle.trace_run.specs.one_caller.OverShards.{AreNamed, IsNamed}
@@ -62,10 +62,10 @@ use Rattle.arc_table.proofs.reads.ReadMoments.{moment}
 use Rattle.trace_run.proofs.RunLemmas.{told-all}
 use Rattle.arc_table.proofs.ToldLemmas.{adds-all-then, adds-own-then, told-more}
 
-module _ {C : Type 0} (g : Config) (device : ℕ) (p q : Place (Known C)) where
+module _ {C : Type 0} (g : Config) (p q : Place (Known C)) where
   -- nothing was done
-  pub acts-none : (shard : ℕ) → q ≡ p → DidActs g device shard [] [] p q
-  acts-none shard is = subst (DidActs g device shard [] [] p) (sym is) (record {
+  pub acts-none : (shard : ℕ) → q ≡ p → DidActs g shard [] [] p q
+  acts-none shard is = subst (DidActs g shard [] [] p) (sym is) (record {
     number = refl;
     told = λ before noted told. subst (λ (l : List Act). HasToldAll g l noted p) (sym (append-nil before)) told;
     alone = λ a. record { number = refl; here = sym (append-nil (seen_of g shard p)); others = λ j differs. refl };
@@ -74,7 +74,7 @@ module _ {C : Type 0} (g : Config) (device : ℕ) (p q : Place (Known C)) where
   })
 
   -- one act was done
-  pub acts-one : (act : Act) (es : List Event) → actor_of act ≡ p.number → DidAct g device act es p q → DidActs g device (shard_of g.shards (act_key act)) (act ∷ []) es p q
+  pub acts-one : (act : Act) (es : List Event) → actor_of act ≡ p.number → DidAct g act es p q → DidActs g (shard_of g.shards (act_key act)) (act ∷ []) es p q
   acts-one act es his did = record {
     number = did.own.number;
     told = λ before noted told. told-own g before (act ∷ []) noted p q (his, tt) (told-more g before act did.made p q his told.acts did.own did.act_is) did.same told;
@@ -88,21 +88,21 @@ module _ {C : Type 0} (g : Config) (device : ℕ) (p q : Place (Known C)) where
     shard = shard_of g.shards ptr.key
 
     -- a read that was kept, and one that was refused
-    pub hold-did : (from : Served) → DidAnswer g device t ptr from p q → DidActs g device shard (Keeps p.number t ptr from ∷ []) (events_of_answered p.number t ptr from (access_now g ptr p)) p q
+    pub hold-did : (from : Served) → DidAnswer g t ptr from p q → DidActs g shard (Keeps p.number t ptr from ∷ []) (events_of_answered p.number t ptr from (access_now g ptr p)) p q
     hold-did from did = acts-one (Keeps p.number t ptr from) _ refl did.act
 
-    pub hold-refused : (why : ReadFault) (refusal : Refusal) → IsRefused why refusal → DidRead g device t ptr p q (Err why)
-        → DidActs g device shard (acts_of_hold p.number t ptr (effect_of (Refused refusal))) (events_of_hold p.number t (now_of g shard p) ptr (effect_of (Refused refusal))) p q
-    hold-refused (fault.PoolFault) refusal is did = subst (λ (r : Refusal). DidActs g device shard (acts_of_hold p.number t ptr (effect_of (Refused r))) (events_of_hold p.number t (now_of g shard p) ptr (effect_of (Refused r))) p q) (sym is) (acts-one (Fails p.number t ptr) _ refl did.act)
-    hold-refused (fault.Mismatch found) refusal is did = subst (λ (r : Refusal). DidActs g device shard (acts_of_hold p.number t ptr (effect_of (Refused r))) (events_of_hold p.number t (now_of g shard p) ptr (effect_of (Refused r))) p q) (sym is) (acts-one (Fails p.number t ptr) _ refl did.act)
-    hold-refused (fault.Key why) refusal is did = subst (λ (r : Refusal). DidActs g device shard (acts_of_hold p.number t ptr (effect_of (Refused r))) (events_of_hold p.number t (now_of g shard p) ptr (effect_of (Refused r))) p q) (sym is) (acts-none shard did)
+    pub hold-refused : (why : ReadFault) (refusal : Refusal) → IsRefused why refusal → DidRead g t ptr p q (Err why)
+        → DidActs g shard (acts_of_hold p.number t ptr (effect_of (Refused refusal))) (events_of_hold p.number t (now_of g shard p) ptr (effect_of (Refused refusal))) p q
+    hold-refused (fault.PoolFault) refusal is did = subst (λ (r : Refusal). DidActs g shard (acts_of_hold p.number t ptr (effect_of (Refused r))) (events_of_hold p.number t (now_of g shard p) ptr (effect_of (Refused r))) p q) (sym is) (acts-one (Fails p.number t ptr) _ refl did.act)
+    hold-refused (fault.Mismatch found) refusal is did = subst (λ (r : Refusal). DidActs g shard (acts_of_hold p.number t ptr (effect_of (Refused r))) (events_of_hold p.number t (now_of g shard p) ptr (effect_of (Refused r))) p q) (sym is) (acts-one (Fails p.number t ptr) _ refl did.act)
+    hold-refused (fault.Key why) refusal is did = subst (λ (r : Refusal). DidActs g shard (acts_of_hold p.number t ptr (effect_of (Refused r))) (events_of_hold p.number t (now_of g shard p) ptr (effect_of (Refused r))) p q) (sym is) (acts-none shard did)
     hold-refused (fault.NoMemory) refusal is did = absurd is
 
-    pub read-refused : (why : ReadFault) (refusal : Refusal) → IsRefused why refusal → DidRead g device t ptr p q (Err why)
-        → DidActs g device shard (acts_of_read p.number t ptr (effect_of (Refused refusal))) (events_of_read p.number t (now_of g shard p) ptr (effect_of (Refused refusal))) p q
-    read-refused (fault.PoolFault) refusal is did = subst (λ (r : Refusal). DidActs g device shard (acts_of_read p.number t ptr (effect_of (Refused r))) (events_of_read p.number t (now_of g shard p) ptr (effect_of (Refused r))) p q) (sym is) (acts-one (Fails p.number t ptr) _ refl did.act)
-    read-refused (fault.Mismatch found) refusal is did = subst (λ (r : Refusal). DidActs g device shard (acts_of_read p.number t ptr (effect_of (Refused r))) (events_of_read p.number t (now_of g shard p) ptr (effect_of (Refused r))) p q) (sym is) (acts-one (Fails p.number t ptr) _ refl did.act)
-    read-refused (fault.Key why) refusal is did = subst (λ (r : Refusal). DidActs g device shard (acts_of_read p.number t ptr (effect_of (Refused r))) (events_of_read p.number t (now_of g shard p) ptr (effect_of (Refused r))) p q) (sym is) (acts-none shard did)
+    pub read-refused : (why : ReadFault) (refusal : Refusal) → IsRefused why refusal → DidRead g t ptr p q (Err why)
+        → DidActs g shard (acts_of_read p.number t ptr (effect_of (Refused refusal))) (events_of_read p.number t (now_of g shard p) ptr (effect_of (Refused refusal))) p q
+    read-refused (fault.PoolFault) refusal is did = subst (λ (r : Refusal). DidActs g shard (acts_of_read p.number t ptr (effect_of (Refused r))) (events_of_read p.number t (now_of g shard p) ptr (effect_of (Refused r))) p q) (sym is) (acts-one (Fails p.number t ptr) _ refl did.act)
+    read-refused (fault.Mismatch found) refusal is did = subst (λ (r : Refusal). DidActs g shard (acts_of_read p.number t ptr (effect_of (Refused r))) (events_of_read p.number t (now_of g shard p) ptr (effect_of (Refused r))) p q) (sym is) (acts-one (Fails p.number t ptr) _ refl did.act)
+    read-refused (fault.Key why) refusal is did = subst (λ (r : Refusal). DidActs g shard (acts_of_read p.number t ptr (effect_of (Refused r))) (events_of_read p.number t (now_of g shard p) ptr (effect_of (Refused r))) p q) (sym is) (acts-none shard did)
     read-refused (fault.NoMemory) refusal is did = absurd is
 
 -- ---- a read whose hold is given back at once
@@ -123,7 +123,7 @@ loose-past ptr served.Pool none = cc
 loose-past ptr served.L2 none = cc
 loose-past ptr served.Past none = refl
 
-module _ {C : Type 0} (m : Meanings C) (g : Config) (valid : IsConfig g) (device t : ℕ) (ptr : Ptr) (p r q : Place (Known C)) (config : r.own.about.config ≡ g) (seen : HasSeenItsEvents g r) where
+module _ {C : Type 0} (m : Meanings C) (g : Config) (valid : IsConfig g) (t : ℕ) (ptr : Ptr) (p r q : Place (Known C)) (config : r.own.about.config ≡ g) (seen : HasSeenItsEvents g r) where
   abbrev here : ℕ
   here = shard_of g.shards ptr.key
 
@@ -131,7 +131,7 @@ module _ {C : Type 0} (m : Meanings C) (g : Config) (valid : IsConfig g) (device
   events from = events_of_answered p.number t ptr from (access_now g ptr p) ++ events_of_drop p.number (access_key ptr (access_now g ptr p))
 
   -- a block that nothing holds is let go: it was read past the cache
-  past-act : DidAnswer g device t ptr served.Past p r → DidAct g device (Reads p.number t ptr served.Past) (events served.Past) p r
+  past-act : DidAnswer g t ptr served.Past p r → DidAct g (Reads p.number t ptr served.Past) (events served.Past) p r
   past-act did = record {
     made = did.act.made;
     own = did.act.own;
@@ -145,12 +145,12 @@ module _ {C : Type 0} (m : Meanings C) (g : Config) (valid : IsConfig g) (device
     same = did.act.same;
   }
 
-  read-loose : (from : Served) → None ≡ key_held_by ptr from → DidAnswer g device t ptr from p r → q ≡ r → DidAct g device (Reads p.number t ptr from) (events from) p q
+  read-loose : (from : Served) → None ≡ key_held_by ptr from → DidAnswer g t ptr from p r → q ≡ r → DidAct g (Reads p.number t ptr from) (events from) p q
   read-loose from none did is =
       let past : from ≡ served.Past = loose-past ptr from none in
-      subst (λ (x : Served). DidAct g device (Reads p.number t ptr x) (events x) p q) (sym past)
-      (subst (λ (x : Place (Known C)). DidAct g device (Reads p.number t ptr served.Past) (events served.Past) p x) (sym is)
-      (past-act (subst (λ (x : Served). DidAnswer g device t ptr x p r) past did)))
+      subst (λ (x : Served). DidAct g (Reads p.number t ptr x) (events x) p q) (sym past)
+      (subst (λ (x : Place (Known C)). DidAct g (Reads p.number t ptr served.Past) (events served.Past) p x) (sym is)
+      (past-act (subst (λ (x : Served). DidAnswer g t ptr x p r) past did)))
 
   -- an access that was served, and then its drop
   served-drop : (from : Served) → Some ptr.key ≡ key_held_by ptr from → (ms : List Moment) (s : PlainShard) → IsServed p.number t ptr from [] (map (λ (x : Moment). x.event) ms)
@@ -160,7 +160,7 @@ module _ {C : Type 0} (m : Meanings C) (g : Config) (valid : IsConfig g) (device
   served-drop served.L2 is ms s h = map-append (λ (x : Moment). x.event) ms _ ∙ ap (λ (l : List Event). l ++ Drop p.number ptr.key ∷ []) h
   served-drop served.Past is ms s h = cc
 
-  read-held : (from : Served) → Some ptr.key ≡ key_held_by ptr from → DidAnswer g device t ptr from p r → Does m g ptr.key (Drop p.number ptr.key ∷ []) r q → DidAct g device (Reads p.number t ptr from) (events from) p q
+  read-held : (from : Served) → Some ptr.key ≡ key_held_by ptr from → DidAnswer g t ptr from p r → Does m g ptr.key (Drop p.number ptr.key ∷ []) r q → DidAct g (Reads p.number t ptr from) (events from) p q
   read-held from key did d =
       let number : r.number ≡ p.number = did.act.own.number in
       let drop : Moves g here (moment d.before.now (Drop p.number ptr.key) ∷ []) (Drop p.number ptr.key ∷ []) r q = one-moves m g valid ptr.key r q config seen (Drop p.number ptr.key) (sym number) refl d in
@@ -181,13 +181,13 @@ module _ {C : Type 0} (m : Meanings C) (g : Config) (valid : IsConfig g) (device
       }
 
   -- what is kept of it is given back
-  pub read-given : (from : Served) (kept : Kept) → IsOwnedBy r.number kept → held_key kept ≡ key_held_by ptr from → DidAnswer g device t ptr from p r → GivesBack m g kept r q
-      → DidActs g device here (Reads p.number t ptr from ∷ []) (events from) p q
-  read-given from (Loose key block) owned is did gives = acts-one g device p q (Reads p.number t ptr from) (events from) refl (read-loose from is did gives)
+  pub read-given : (from : Served) (kept : Kept) → IsOwnedBy r.number kept → held_key kept ≡ key_held_by ptr from → DidAnswer g t ptr from p r → GivesKeptBack m g kept r q
+      → DidActs g here (Reads p.number t ptr from ∷ []) (events from) p q
+  read-given from (Loose key block) owned is did gives = acts-one g p q (Reads p.number t ptr from) (events from) refl (read-loose from is did gives)
   read-given from (Held hold) owned is did gives =
       let key : hold.key ≡ ptr.key = held-same ptr hold.key from is in
       let owner : hold.owner ≡ p.number = owned ∙ did.act.own.number in
-      acts-one g device p q (Reads p.number t ptr from) (events from) refl
+      acts-one g p q (Reads p.number t ptr from) (events from) refl
       (read-held from (sym (ap (λ (k : Key). Some k) key) ∙ is) did (subst (λ (x : ℕ × Key). Does m g x.1 (Drop x.0 x.1 ∷ []) r q) (λ i. (owner i, key i)) gives))
     where
       held-same : (ptr : Ptr) (k : Key) (from : Served) → Some k ≡ key_held_by ptr from → k ≡ ptr.key
@@ -242,14 +242,14 @@ oldest-named blocks x (read ∷ reads) k all is = elim (cases_true (is_of_block 
 
 -- ---- what a line on a block did, shard by shard
 
-module _ {C : Type 0} (g : Config) (device : ℕ) (blocks : List Ptr) (kept : List KeptRead) (op : Op) (reply : Reply) (x : ℕ) (on : block_of op ≡ Some x) (p q : Place (Known C)) where
+module _ {C : Type 0} (g : Config) (blocks : List Ptr) (kept : List KeptRead) (op : Op) (reply : Reply) (x : ℕ) (on : block_of op ≡ Some x) (p q : Place (Known C)) where
   abbrev its : ℕ
   its = shard_of_block g.shards blocks x
 
   in-it : (shard : ℕ) → is_in_shard g.shards blocks shard op ≡ (its == shard)
   in-it shard = ap (λ (o : Option ℕ). option_map_or (λ (y : ℕ). shard_of_block g.shards blocks y == shard) o (nat_lt shard g.shards)) on
 
-  pub there-of : (acts : List Act) (es : List Event) → acts ≡ acts_of blocks kept op reply → es ≡ events_of blocks (now_of g its p) kept op reply → DidActs g device its acts es p q → DidThere g device blocks kept op reply p q
+  pub there-of : (acts : List Act) (es : List Event) → acts ≡ acts_of blocks kept op reply → es ≡ events_of blocks (now_of g its p) kept op reply → DidActs g its acts es p q → DidThere g blocks kept op reply p q
   there-of acts es same_acts same_events did = record {
     number = did.number;
     told = λ before noted told. subst (λ (l : List Act). HasToldAll g (before ++ l) noted q) same_acts (did.told before noted told);
@@ -274,19 +274,19 @@ told-here : (told : Option (List ℕ)) (F : List ℕ → Ptr → Type 0) (there 
 told-here None F there at had = tt
 told-here (Some image) F there at had = rw at had
 
-module _ {C P : Type 0} (g : Config) (pools : Ghosts P) (device : ℕ) (blocks : List Ptr) (p q : Place (Known C)) (a b : P) where
+module _ {C P : Type 0} (g : Config) (pools : Ghosts P) (blocks : List Ptr) (p q : Place (Known C)) (a b : P) where
   pub read-line : (n t x : ℕ) (window : Window) (ptr : Ptr) (kept : List KeptRead) (result : Result Reply NoMemory) → n ≡ p.number → slice_get blocks x ≡ Some ptr
       → IfOk result (AnswersRead (pools.size a) (pools.told a) ptr window)
-      → IfOk result (λ reply. DidActs g device (shard_of g.shards ptr.key) (acts_of_read p.number t ptr (effect_of reply)) (events_of_read p.number t (now_of g (shard_of g.shards ptr.key) p) ptr (effect_of reply)) p q)
+      → IfOk result (λ reply. DidActs g (shard_of g.shards ptr.key) (acts_of_read p.number t ptr (effect_of reply)) (events_of_read p.number t (now_of g (shard_of g.shards ptr.key) p) ptr (effect_of reply)) p q)
       → IfOk result (λ reply. HasAll p → NamesSource (access_now g ptr p) (effect_of reply)) → IfOk result (λ reply. CameFromPool (effect_of reply) → IfSome (pools.told a) (λ image. ReadsImage image ptr window reply))
       → IfOk result (λ reply. MakesCalls pools (calls_of (effect_of reply)) a b) → KeepsPool pools a b
-      → IfOk result (λ reply. DidLine g pools device blocks (ops.Read n t x window) reply (at p kept a) (at q kept b))
+      → IfOk result (λ reply. DidLine g pools blocks (ops.Read n t x window) reply (at p kept a) (at q kept b))
   read-line n t x window ptr kept (Err e) his there answer did found range calls keeps = tt
   read-line n t x window ptr kept (Ok reply) his there answer did found range calls keeps =
-      subst (λ (m : ℕ). DidLine g pools device blocks (ops.Read m t x window) reply (at p kept a) (at q kept b)) (sym his) (record {
+      subst (λ (m : ℕ). DidLine g pools blocks (ops.Read m t x window) reply (at p kept a) (at q kept b)) (sym his) (record {
         answer = (ptr, there, answer);
         kept = refl;
-        did = there-of g device blocks kept (ops.Read p.number t x window) reply x refl p q (acts_of_read p.number t ptr (effect_of reply))
+        did = there-of g blocks kept (ops.Read p.number t x window) reply x refl p q (acts_of_read p.number t ptr (effect_of reply))
             (events_of_read p.number t (now_of g (shard_of_block g.shards blocks x) p) ptr (effect_of reply)) (rw there refl) (rw there refl) (rw there did);
         found = λ alone. rw there (found alone);
         range = λ came. told-here (pools.told a) (λ image ptr. ReadsImage image ptr window reply) (slice_get blocks x) there (range came);
@@ -296,16 +296,16 @@ module _ {C P : Type 0} (g : Config) (pools : Ghosts P) (device : ℕ) (blocks :
 
   pub hold-line : (n t x : ℕ) (ptr : Ptr) (kept now : List KeptRead) (result : Result Reply NoMemory) → n ≡ p.number → slice_get blocks x ≡ Some ptr
       → IfOk result (AnswersHold (pools.size a) (pools.told a) ptr) → IfOk result (λ reply. now ≡ kept_after_hold x ptr (effect_of reply) kept)
-      → IfOk result (λ reply. DidActs g device (shard_of g.shards ptr.key) (acts_of_hold p.number t ptr (effect_of reply)) (events_of_hold p.number t (now_of g (shard_of g.shards ptr.key) p) ptr (effect_of reply)) p q)
+      → IfOk result (λ reply. DidActs g (shard_of g.shards ptr.key) (acts_of_hold p.number t ptr (effect_of reply)) (events_of_hold p.number t (now_of g (shard_of g.shards ptr.key) p) ptr (effect_of reply)) p q)
       → IfOk result (λ reply. HasAll p → NamesSource (access_now g ptr p) (effect_of reply)) → IfOk result (λ reply. CameFromPool (effect_of reply) → IfSome (pools.told a) (λ image. KeepsImage image ptr reply))
       → IfOk result (λ reply. MakesCalls pools (calls_of (effect_of reply)) a b) → KeepsPool pools a b
-      → IfOk result (λ reply. DidLine g pools device blocks (ops.Hold n t x) reply (at p kept a) (at q now b))
+      → IfOk result (λ reply. DidLine g pools blocks (ops.Hold n t x) reply (at p kept a) (at q now b))
   hold-line n t x ptr kept now (Err e) his there answer is did found range calls keeps = tt
   hold-line n t x ptr kept now (Ok reply) his there answer is did found range calls keeps =
-      subst (λ (m : ℕ). DidLine g pools device blocks (ops.Hold m t x) reply (at p kept a) (at q now b)) (sym his) (record {
+      subst (λ (m : ℕ). DidLine g pools blocks (ops.Hold m t x) reply (at p kept a) (at q now b)) (sym his) (record {
         answer = (ptr, there, answer);
         kept = rw there is;
-        did = there-of g device blocks kept (ops.Hold p.number t x) reply x refl p q (acts_of_hold p.number t ptr (effect_of reply))
+        did = there-of g blocks kept (ops.Hold p.number t x) reply x refl p q (acts_of_hold p.number t ptr (effect_of reply))
             (events_of_hold p.number t (now_of g (shard_of_block g.shards blocks x) p) ptr (effect_of reply)) (rw there refl) (rw there refl) (rw there did);
         found = λ alone. rw there (found alone);
         range = λ came. told-here (pools.told a) (λ image ptr. KeepsImage image ptr reply) (slice_get blocks x) there (range came);
@@ -315,30 +315,30 @@ module _ {C P : Type 0} (g : Config) (pools : Ghosts P) (device : ℕ) (blocks :
 
   -- what is dropped is in the shard of the line's block
   drop-did : (n x : ℕ) (kept : List KeptRead) (o : Option Key) → oldest_key x kept ≡ o → AreNamed blocks kept → Drops g o p q
-      → DidActs g device (shard_of_block g.shards blocks x) (acts_of_drop p.number o) (events_of_drop p.number o) p q
-  drop-did n x kept None is named drops = acts-none g device p q (shard_of_block g.shards blocks x) drops
+      → DidActs g (shard_of_block g.shards blocks x) (acts_of_drop p.number o) (events_of_drop p.number o) p q
+  drop-did n x kept None is named drops = acts-none g p q (shard_of_block g.shards blocks x) drops
   drop-did n x kept (Some k) is named drops =
       let own = oldest-named blocks x kept k named is in
       let here : shard_of g.shards k ≡ shard_of_block g.shards blocks x =
       ap (shard_of g.shards) own.2 ∙ ap (λ (o : Option Ptr). option_map_or (λ (ptr : Ptr). shard_of g.shards ptr.key) o 0) (sym own.1) in
-      subst (λ (shard : ℕ). DidActs g device shard (acts_of_drop p.number (Some k)) (events_of_drop p.number (Some k)) p q) here
+      subst (λ (shard : ℕ). DidActs g shard (acts_of_drop p.number (Some k)) (events_of_drop p.number (Some k)) p q) here
       (record { number = drops.number; told = drops.told; alone = λ alone. drops.alone alone; all = drops.all; joined = drops.joined })
 
   drop-acts : (n x had gave : ℕ) (kept : List KeptRead) (reply : Reply) → AreNamed blocks kept → AnswersDrop had gave x reply → Drops g (oldest_key x kept) p q → (reply ≢ Dropped → oldest_key x kept ≡ None)
-      → DidActs g device (shard_of_block g.shards blocks x) (acts_of_dropping p.number x kept (effect_of reply)) (events_of_dropping p.number x kept (effect_of reply)) p q
+      → DidActs g (shard_of_block g.shards blocks x) (acts_of_dropping p.number x kept (effect_of reply)) (events_of_dropping p.number x kept (effect_of reply)) p q
   drop-acts n x had gave kept Dropped named answer drops none = drop-did n x kept (oldest_key x kept) refl named drops
   drop-acts n x had gave kept (Refused (refusals.NoHold block)) named answer drops none =
-      acts-none g device p q (shard_of_block g.shards blocks x) (subst (λ (o : Option Key). Drops g o p q) (none (λ is. cc)) drops)
+      acts-none g p q (shard_of_block g.shards blocks x) (subst (λ (o : Option Key). Drops g o p q) (none (λ is. cc)) drops)
   drop-acts n x had gave kept (Refused other) named answer drops none = absurd answer
   drop-acts n x had gave kept other named answer drops none = absurd answer
 
   pub drop-line : (n x : ℕ) (kept now : List KeptRead) (reply : Reply) → n ≡ p.number → AreNamed blocks kept → AnswersDrop (kept_of_block x kept) 0 x reply → now ≡ kept_after_drop x (effect_of reply) kept
-      → Drops g (oldest_key x kept) p q → (reply ≢ Dropped → oldest_key x kept ≡ None) → calls_of (effect_of reply) ≡ [] → DidLine g pools device blocks (ops.Drop n x) reply (at p kept a) (at q now a)
+      → Drops g (oldest_key x kept) p q → (reply ≢ Dropped → oldest_key x kept ≡ None) → calls_of (effect_of reply) ≡ [] → DidLine g pools blocks (ops.Drop n x) reply (at p kept a) (at q now a)
   drop-line n x kept now reply his named answer is drops none calls =
-      subst (λ (m : ℕ). DidLine g pools device blocks (ops.Drop m x) reply (at p kept a) (at q now a)) (sym his) (record {
+      subst (λ (m : ℕ). DidLine g pools blocks (ops.Drop m x) reply (at p kept a) (at q now a)) (sym his) (record {
         answer = answer;
         kept = is;
-        did = there-of g device blocks kept (ops.Drop p.number x) reply x refl p q _ _ refl refl (drop-acts p.number x (kept_of_block x kept) 0 kept reply named answer drops none);
+        did = there-of g blocks kept (ops.Drop p.number x) reply x refl p q _ _ refl refl (drop-acts p.number x (kept_of_block x kept) 0 kept reply named answer drops none);
         found = λ alone. tt;
         range = λ came. told-all (pools.told a) (λ image. Unit {0}) (λ image. tt);
         calls = subst (λ (cs : List Call). MakesCalls pools cs a a) (sym calls) refl;

@@ -52,26 +52,26 @@ get-after : (done os : List Op) (o : Op) → slice_get (done ++ o ∷ os) (lengt
 get-after [] os o = refl
 get-after (x ∷ xs) os o = get-after xs os o
 
-module _ {C P : Type 0} (g : Config) (pools : Ghosts P) (device : ℕ) (blocks : List Ptr) where
+module _ {C P : Type 0} (g : Config) (pools : Ghosts P) (blocks : List Ptr) where
   -- lines, and then others
-  pub lines-then : (os qs : List Op) (rs ss : List Reply) (a b c : At C P) → DidLines g pools device blocks os rs a b → DidLines g pools device blocks qs ss b c → DidLines g pools device blocks (os ++ qs) (rs ++ ss) a c
-  lines-then [] qs [] ss a b c first second = subst (λ (x : At C P). DidLines g pools device blocks qs ss x c) first second
+  pub lines-then : (os qs : List Op) (rs ss : List Reply) (a b c : At C P) → DidLines g pools blocks os rs a b → DidLines g pools blocks qs ss b c → DidLines g pools blocks (os ++ qs) (rs ++ ss) a c
+  lines-then [] qs [] ss a b c first second = subst (λ (x : At C P). DidLines g pools blocks qs ss x c) first second
   lines-then [] qs (r ∷ rs) ss a b c first second = absurd first
   lines-then (o ∷ os) qs [] ss a b c first second = absurd first
   lines-then (o ∷ os) qs (r ∷ rs) ss a b c first second = (first.0, first.1, lines-then os qs rs ss first.0 b c first.2 second)
 
   -- one line more
-  pub lines-more : (os : List Op) (rs : List Reply) (o : Op) (r : Reply) (a b c : At C P) → DidLines g pools device blocks os rs a b → DidLine g pools device blocks o r b c → DidLines g pools device blocks (os ++ o ∷ []) (rs ++ r ∷ []) a c
+  pub lines-more : (os : List Op) (rs : List Reply) (o : Op) (r : Reply) (a b c : At C P) → DidLines g pools blocks os rs a b → DidLine g pools blocks o r b c → DidLines g pools blocks (os ++ o ∷ []) (rs ++ r ∷ []) a c
   lines-more os rs o r a b c did one = lines-then os (o ∷ []) rs (r ∷ []) a b c did (c, one, refl)
 
-  pub lines-length : (os : List Op) (rs : List Reply) (a b : At C P) → DidLines g pools device blocks os rs a b → length rs ≡ length os
+  pub lines-length : (os : List Op) (rs : List Reply) (a b : At C P) → DidLines g pools blocks os rs a b → length rs ≡ length os
   lines-length [] [] a b did = refl
   lines-length [] (r ∷ rs) a b did = absurd did
   lines-length (o ∷ os) [] a b did = absurd did
   lines-length (o ∷ os) (r ∷ rs) a b did = ap suc (lines-length os rs did.0 b did.2)
 
   -- the acts of all lines are told
-  pub lines-told : (os : List Op) (rs : List Reply) (a b : At C P) → DidLines g pools device blocks os rs a b → (before : List Act) (noted : List Noted) → HasToldAll g before noted a.party → HasToldAll g (before ++ acts_of_all blocks a.kept os rs) noted b.party
+  pub lines-told : (os : List Op) (rs : List Reply) (a b : At C P) → DidLines g pools blocks os rs a b → (before : List Act) (noted : List Noted) → HasToldAll g before noted a.party → HasToldAll g (before ++ acts_of_all blocks a.kept os rs) noted b.party
   lines-told [] [] a b did before noted told = subst (λ (x : List Act × Place (Known C)). HasToldAll g x.0 noted x.1) (λ h. (sym (append-nil before) h, (sym did h).party)) told
   lines-told [] (r ∷ rs) a b did before noted told = absurd did
   lines-told (o ∷ os) [] a b did before noted told = absurd did
@@ -83,24 +83,24 @@ module _ {C P : Type 0} (g : Config) (pools : Ghosts P) (device : ℕ) (blocks :
       rest
 
   -- the reads that are kept then
-  pub lines-kept : (os : List Op) (rs : List Reply) (a b : At C P) → DidLines g pools device blocks os rs a b → b.kept ≡ kept_after_all blocks a.kept os rs
+  pub lines-kept : (os : List Op) (rs : List Reply) (a b : At C P) → DidLines g pools blocks os rs a b → b.kept ≡ kept_after_all blocks a.kept os rs
   lines-kept [] [] a b did = ap (λ (x : At C P). x.kept) did
   lines-kept [] (r ∷ rs) a b did = absurd did
   lines-kept (o ∷ os) [] a b did = absurd did
   lines-kept (o ∷ os) (r ∷ rs) a b did = lines-kept os rs did.0 b did.2 ∙ ap (λ (ks : List KeptRead). kept_after_all blocks ks os rs) did.1.kept
 
   -- each still holds the entry of its own block
-  pub line-named : (o : Op) (r : Reply) (a b : At C P) → AreNamed blocks a.kept → DidLine g pools device blocks o r a b → AreNamed blocks b.kept
+  pub line-named : (o : Op) (r : Reply) (a b : At C P) → AreNamed blocks a.kept → DidLine g pools blocks o r a b → AreNamed blocks b.kept
   line-named o r a b named did = subst (AreNamed blocks) (sym did.kept) (named-after blocks o r a.kept named)
 
-  pub lines-named : (os : List Op) (rs : List Reply) (a b : At C P) → AreNamed blocks a.kept → DidLines g pools device blocks os rs a b → AreNamed blocks b.kept
+  pub lines-named : (os : List Op) (rs : List Reply) (a b : At C P) → AreNamed blocks a.kept → DidLines g pools blocks os rs a b → AreNamed blocks b.kept
   lines-named [] [] a b named did = subst (λ (x : At C P). AreNamed blocks x.kept) (sym did) named
   lines-named [] (r ∷ rs) a b named did = absurd did
   lines-named (o ∷ os) [] a b named did = absurd did
   lines-named (o ∷ os) (r ∷ rs) a b named did = lines-named os rs did.0 b (line-named o r a did.0 named did.1) did.2
 
   -- the pool was read once for each reply that says so, in their order
-  pub lines-calls : (os : List Op) (rs : List Reply) (a b : At C P) → DidLines g pools device blocks os rs a b → MakesCalls pools (calls_of_all rs) a.pool b.pool
+  pub lines-calls : (os : List Op) (rs : List Reply) (a b : At C P) → DidLines g pools blocks os rs a b → MakesCalls pools (calls_of_all rs) a.pool b.pool
   lines-calls [] [] a b did = ap (λ (x : At C P). x.pool) did
   lines-calls [] (r ∷ rs) a b did = absurd did
   lines-calls (o ∷ os) [] a b did = absurd did
@@ -108,21 +108,21 @@ module _ {C P : Type 0} (g : Config) (pools : Ghosts P) (device : ℕ) (blocks :
 
   -- ---- a caller that is alone
 
-  pub lines-all : (os : List Op) (rs : List Reply) (a b : At C P) → DidLines g pools device blocks os rs a b → HasAll a.party → HasAll b.party
+  pub lines-all : (os : List Op) (rs : List Reply) (a b : At C P) → DidLines g pools blocks os rs a b → HasAll a.party → HasAll b.party
   lines-all [] [] a b did alone = subst (λ (x : At C P). HasAll x.party) (sym did) alone
   lines-all [] (r ∷ rs) a b did alone = absurd did
   lines-all (o ∷ os) [] a b did alone = absurd did
   lines-all (o ∷ os) (r ∷ rs) a b did alone = lines-all os rs did.0 b did.2 (did.1.did.all alone)
 
   -- what it finds after one line
-  pub line-now : (o : Op) (r : Reply) (a b : At C P) → DidLine g pools device blocks o r a b → HasAll a.party → (shard : ℕ)
+  pub line-now : (o : Op) (r : Reply) (a b : At C P) → DidLine g pools blocks o r a b → HasAll a.party → (shard : ℕ)
       → now_of g shard b.party ≡ shards_after g.shards blocks (λ i. now_of g i a.party) a.kept o r shard
   line-now o r a b did alone shard =
       let es : List Event = events_there g.shards blocks shard (now_of g shard a.party) a.kept o r in
       ap (replay (opening_of g)) (did.did.alone alone shard) ∙ replay-append (opening_of g) (seen_of g shard a.party) es
 
   -- it has seen the events of its lines more, in each shard
-  pub lines-seen : (os : List Op) (rs : List Reply) (a b : At C P) → DidLines g pools device blocks os rs a b → HasAll a.party → (shard : ℕ)
+  pub lines-seen : (os : List Op) (rs : List Reply) (a b : At C P) → DidLines g pools blocks os rs a b → HasAll a.party → (shard : ℕ)
       → seen_of g shard b.party ≡ seen_of g shard a.party ++ events_over g.shards blocks (λ i. now_of g i a.party) a.kept shard os rs
   lines-seen [] [] a b did alone shard = ap (λ (x : At C P). seen_of g shard x.party) did ∙ sym (append-nil (seen_of g shard a.party))
   lines-seen [] (r ∷ rs) a b did alone shard = absurd did
@@ -140,7 +140,7 @@ module _ {C P : Type 0} (g : Config) (pools : Ghosts P) (device : ℕ) (blocks :
       ∙ append_assoc (seen_of g shard a.party) more (events_over g.shards blocks (shards_after g.shards blocks now a.kept o r) (kept_after blocks o r a.kept) shard os rs)))
 
   -- each answered read names where its access found the bytes
-  pub lines-found : (os : List Op) (rs : List Reply) (a b : At C P) → DidLines g pools device blocks os rs a b → HasAll a.party
+  pub lines-found : (os : List Op) (rs : List Reply) (a b : At C P) → DidLines g pools blocks os rs a b → HasAll a.party
       → AllLinesOver (λ s kept op reply. IsFoundAs blocks s op reply) g.shards blocks (λ i. now_of g i a.party) a.kept os rs
   lines-found [] [] a b did alone = tt
   lines-found [] (r ∷ rs) a b did alone = absurd did
@@ -157,7 +157,7 @@ module _ {C P : Type 0} (g : Config) (pools : Ghosts P) (device : ℕ) (blocks :
   -- the answers so far, and those to what is left
   lines-each : (pool_len : ℕ) (image : Option (List ℕ)) (caller : ℕ) (all : List Op) → ((k : ℕ) (op : Op) → slice_get all k ≡ Some op → IfSome (caller_of op) (λ n. n ≡ caller))
       → (done os : List Op) (replied rs : List Reply) (a b : At C P) → all ≡ done ++ os → length replied ≡ length done → pools.size a.pool ≡ pool_len → pools.told a.pool ≡ image
-      → IsTally caller (take (length replied) all) replied a.kept → EachAnswers pool_len image blocks all replied → DidLines g pools device blocks os rs a b → EachAnswers pool_len image blocks all (replied ++ rs)
+      → IsTally caller (take (length replied) all) replied a.kept → EachAnswers pool_len image blocks all replied → DidLines g pools blocks os rs a b → EachAnswers pool_len image blocks all (replied ++ rs)
   lines-each pool_len image caller all own done [] replied [] a b is count size told tally each did = subst (EachAnswers pool_len image blocks all) (sym (append-nil replied)) each
   lines-each pool_len image caller all own done [] replied (r ∷ rs) a b is count size told tally each did = absurd did
   lines-each pool_len image caller all own done (o ∷ os) replied [] a b is count size told tally each did = absurd did
@@ -177,7 +177,7 @@ module _ {C P : Type 0} (g : Config) (pools : Ghosts P) (device : ℕ) (blocks :
 
   -- all lines of a caller that kept nothing
   pub lines-answered : (caller : ℕ) (os : List Op) (rs : List Reply) (a b : At C P) → ((k : ℕ) (op : Op) → slice_get os k ≡ Some op → IfSome (caller_of op) (λ n. n ≡ caller)) → a.kept ≡ []
-      → DidLines g pools device blocks os rs a b → AnswersAll (pools.size a.pool) (pools.told a.pool) blocks os rs
+      → DidLines g pools blocks os rs a b → AnswersAll (pools.size a.pool) (pools.told a.pool) blocks os rs
   lines-answered caller os rs a b own none did = record {
     all = lines-length os rs a b did;
     each = lines-each (pools.size a.pool) (pools.told a.pool) caller os own [] os [] rs a b refl refl refl refl

@@ -39,12 +39,19 @@ acts_of_dropping n block kept GivenBack = acts_of_drop n (oldest_key block kept)
 acts_of_dropping n block kept (PoolRefused call) = []
 acts_of_dropping n block kept NoEffect = []
 
--- an operation with its reply, where its caller keeps these reads
+-- An operation with its reply, where its caller keeps these reads. Of one on an object nothing is said yet, since none is done.
 abbrev pub acts_of : List Ptr → List KeptRead → Op → Reply → List Act
 acts_of blocks kept (ops.Read n t x window) reply = option_map_or (λ ptr. acts_of_read n t ptr (effect_of reply)) (slice_get blocks x) []
 acts_of blocks kept (ops.Hold n t x) reply = option_map_or (λ ptr. acts_of_hold n t ptr (effect_of reply)) (slice_get blocks x) []
 acts_of blocks kept (ops.Drop n x) reply = acts_of_dropping n x kept (effect_of reply)
-acts_of blocks kept other reply = []
+acts_of blocks kept (ops.Get n t at window) reply = []
+acts_of blocks kept (ops.Put n t at size fill) reply = []
+acts_of blocks kept (ops.Patch n t at from bytes) reply = []
+acts_of blocks kept (ops.Pin n t at) reply = []
+acts_of blocks kept (ops.Unpin n at) reply = []
+acts_of blocks kept ops.Feed reply = []
+acts_of blocks kept (ops.Txg t) reply = []
+acts_of blocks kept (ops.Cap c) reply = []
 
 -- all operations of one caller with their replies, one after another
 abbrev pub acts_of_all : List Ptr → List KeptRead → List Op → List Reply → List Act
@@ -66,10 +73,20 @@ acts_of_drops n (read ∷ reads) = acts_of_drop n read.held ++ acts_of_drops n r
 abbrev pub acts_of_caller : List Ptr → (n : ℕ) → List Op → List Reply → List Act
 acts_of_caller blocks n ops replies = acts_of_all blocks [] ops replies ++ acts_of_drops n (kept_after_all blocks [] ops replies)
 
--- the events that the number n makes in each shard for a line that is no caller's: a capacity is given to every shard
+-- The events that the number n makes in each shard for a line: a capacity is given to every shard. A sync inserts under the cells' numbers, and a feed
+-- is not done yet.
 abbrev pub events_of_feeder : (n : ℕ) → Op → List Event
 events_of_feeder n (ops.Cap c) = Resize n c ∷ []
-events_of_feeder n other = []
+events_of_feeder n (ops.Txg t) = []
+events_of_feeder n ops.Feed = []
+events_of_feeder n (ops.Read m t x window) = []
+events_of_feeder n (ops.Hold m t x) = []
+events_of_feeder n (ops.Drop m x) = []
+events_of_feeder n (ops.Get m t at window) = []
+events_of_feeder n (ops.Put m t at size fill) = []
+events_of_feeder n (ops.Patch m t at from bytes) = []
+events_of_feeder n (ops.Pin m t at) = []
+events_of_feeder n (ops.Unpin m at) = []
 
 -- and for all lines that were answered, in their order
 abbrev pub events_of_feeds : (n : ℕ) → List Op → List Reply → List Event

@@ -1,5 +1,5 @@
 -- What becomes of the cache device that is handed in.
-use Rattle.std.specs.Prelude.{◌≡◌, ◌<◌, ◌≤◌, nat_lt, if◌then◌else◌, List, [], Option, None, Some, IfSome, min}
+use Rattle.std.specs.Prelude.{◌≡◌, ◌<◌, ◌≤◌, ℕ, nat_lt, if◌then◌else◌, List, [], Option, None, Some, IfSome, min}
 use Rattle.vdev_io.specs.Calls.{DeviceCall, MakesDeviceCalls}
 use Rattle.vdev_io.specs.Device.{LeavesSame, LeavesNothingNew}
 use Rattle.vdev_io.specs.Faults.{Rose, last_count}
@@ -67,11 +67,12 @@ module _ {D : Type 0} (devices : Ghosts D) where
   WasLent (device.Ready before) (device.Ready after) = (after.cursor ≡ before.cursor) × (after.alloc ≡ before.alloc) × WasOnlyRead before.dev after.dev
   WasLent _ _ = ⊥
 
-  -- What the start of a device found on it, and how the start left it: a device that is too short is told so and not looked at; else the list and the
-  -- stop are those of the bytes that it tells, and it was asked for just the reads that lead there, each once. The stop says that it failed only
-  -- where it did. No key stands twice in the list.
+  -- What the start of a device found on it, and how the start left it: exactly a device that is too short is told so, and it is not looked at. Of any other
+  -- one the list and the stop are those of the bytes that it tells, and it was asked for just the reads that lead there, each once. The stop says that it
+  -- failed only where it did. No key stands twice in the list.
   pub record IsFoundOn (before after : D) (rebuilt : Rebuilt) : Type 0 where
     pub short : devices.size before < least_ring_end → (rebuilt.list ≡ []) × (rebuilt.stop ≡ stops.Short (devices.size before)) × (after ≡ before)
+    pub long : (len : ℕ) → rebuilt.stop ≡ stops.Short len → (devices.size before < least_ring_end) × (len ≡ devices.size before)
     pub image : least_ring_end ≤ devices.size before → IfSome (devices.told before) (λ image. IsRebuilt (ring_end_of (devices.size before)) image rebuilt.list rebuilt.stop)
     pub reads : least_ring_end ≤ devices.size before → (calls : List DeviceCall) × MakesDeviceCalls devices calls before after
         × IfSome (devices.told before) (λ image. (cursor : CursorState) × IsStarted (ring_end_of (devices.size before)) image calls cursor rebuilt.list rebuilt.stop)

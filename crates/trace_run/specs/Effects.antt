@@ -21,14 +21,25 @@ pub data Effect : Type 0 where
 abbrev pub effect_of_refusal : Refusal → Effect
 effect_of_refusal refusals.PoolFault = PoolRefused Failed
 effect_of_refusal (refusals.Mismatch found) = PoolRefused Gave
-effect_of_refusal other = NoEffect
+effect_of_refusal (refusals.Key fault) = NoEffect
+effect_of_refusal refusals.NoMemory = NoEffect
+effect_of_refusal (refusals.Range end size) = NoEffect
+effect_of_refusal (refusals.NoBlock at) = NoEffect
+effect_of_refusal (refusals.NoHold block) = NoEffect
+effect_of_refusal (refusals.NoPin at) = NoEffect
 
+-- whether an operation on an object has read its block, its reply does not tell
 abbrev pub effect_of : Reply → Effect
 effect_of (replies.Read served digest shown) = Answered served
 effect_of (replies.Kept served) = Answered served
 effect_of replies.Dropped = GivenBack
+effect_of (replies.Got size shown) = NoEffect
+effect_of replies.Done = NoEffect
+effect_of (replies.Fed did) = NoEffect
+effect_of replies.FedNone = NoEffect
+effect_of (replies.Synced group blocks bytes) = NoEffect
+effect_of (replies.Capped c) = NoEffect
 effect_of (replies.Refused refusal) = effect_of_refusal refusal
-effect_of other = NoEffect
 
 -- the reads of the pool for bytes that came from here
 abbrev pub calls_from : Served → List Call

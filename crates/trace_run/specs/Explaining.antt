@@ -26,7 +26,7 @@ use Rattle.trace_run.specs.one_caller.Lent.{AsksLent, told_lent}
 use Rattle.trace_run.specs.one_caller.OneCaller.{AreFoundAs, events_of_drops, kept_after_all, one_caller_histories}
 use Rattle.trace_run.specs.one_caller.PlainReport.{IsPlainReport}
 use Rattle.trace_run.specs.one_caller.PlainRun.{images, report_of}
-use Rattle.trace_run.specs.Restores.{events_by_feeder, restored_of, restored_shard, restores_in}
+use Rattle.trace_run.specs.Restores.{events_by_feeder, found_keys, restored_shard, restores_in}
 use Rattle.vdev_io.specs.Calls.{MakesCalls, Call}
 
 -- the drops at the end of a run in the shard of this number: what each caller still keeps there, by rising caller, the oldest first
@@ -66,9 +66,9 @@ pub record Explain (trace : Trace) (restored : List Restored) (replies : List Re
 -- that device, the bytes of both and which reads of either failed, as far as no two contents share a digest.
 pub record RunsAlone {P D : Type 0} (pool : Ghosts P) (device : DeviceGhosts D) (before after : P) (lent back : Option D) (trace : Trace) (report : Report) : Type 0 where
   -- the histories hold the restores, the caller's events and no others
-  pub histories : report.histories ≡ one_caller_histories trace.config.shards trace.blocks 0 (opening_of trace.config) (restores_in trace.config (restored_of report.rebuilt)) trace.ops report.replies
+  pub histories : report.histories ≡ one_caller_histories trace.config.shards trace.blocks 0 (opening_of trace.config) (restores_in trace.config (found_keys report.rebuilt)) trace.ops report.replies
   -- each answered read names a place from which its access may have the bytes, and only one that had to ask the pool was refused by it
-  pub found : AllByRecursion (λ shard. AreFoundAs trace.blocks (restored_shard trace.config (restored_of report.rebuilt) shard) []
+  pub found : AllByRecursion (λ shard. AreFoundAs trace.blocks (restored_shard trace.config (found_keys report.rebuilt) shard) []
       (filter (is_in_shard trace.config.shards trace.blocks shard) trace.ops)
       (replies_where (is_in_shard trace.config.shards trace.blocks shard) trace.ops report.replies)) (range_with_len 0 trace.config.shards)
   -- the pool was read once for each event that stands for a read of it, in their order, and nothing else was done with it; exactly the
@@ -80,7 +80,7 @@ pub record RunsAlone {P D : Type 0} (pool : Ghosts P) (device : DeviceGhosts D) 
   -- The device was asked once for each miss whose key has a place on it, in the order of the lines, and nothing else was done with it. What it served is
   -- answered so.
   pub device_calls : List Call
-  pub asked : AsksLent device trace (restored_of report.rebuilt) report.replies device_calls lent back
+  pub asked : AsksLent device trace (found_keys report.rebuilt) report.replies device_calls lent back
   -- over a pool and a device that tell their bytes the report is that of the plain run, but that a block which did not come from the pool may be another
   -- content of its digest
   pub plain : IfSome (pool.told before) (λ image. IfSome (told_lent device lent) (λ bytes. IsPlainReport trace (report_of trace report.rebuilt (images image bytes) calls device_calls) report))

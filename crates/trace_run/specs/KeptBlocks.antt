@@ -107,9 +107,9 @@ module _ {C : Type 0} where
 
 module _ {C : Type 0} (m : Meanings C) where
   -- what is kept of a block is given back: a hold by one event, and a loose block by none
-  abbrev pub GivesBack : Config → Kept → Place (Known C) → Place (Known C) → Type 0
-  GivesBack g (Held hold) p q = Does m g hold.key (Drop hold.owner hold.key ∷ []) p q
-  GivesBack g (Loose key block) p q = q ≡ p
+  abbrev pub GivesKeptBack : Config → Kept → Place (Known C) → Place (Known C) → Type 0
+  GivesKeptBack g (Held hold) p q = Does m g hold.key (Drop hold.owner hold.key ∷ []) p q
+  GivesKeptBack g (Loose key block) p q = q ≡ p
 
 -- ---- what a line adds to what its party has seen
 
@@ -137,7 +137,7 @@ module _ {C : Type 0} (m : Meanings C) where
   -- what is kept is given back, one read after another
   abbrev pub GivesAll : Config → List KeptBlock → Place (Known C) → Place (Known C) → Type 0
   GivesAll g [] p q = q ≡ p
-  GivesAll g (b ∷ bs) p q = (r : Place (Known C)) × GivesBack m g b.kept p r × GivesAll g bs r q
+  GivesAll g (b ∷ bs) p q = (r : Place (Known C)) × GivesKeptBack m g b.kept p r × GivesAll g bs r q
 
 module _ {C : Type 0} where
   -- A party that has every number has seen just the drops of these reads more, each in the shard of its entry.

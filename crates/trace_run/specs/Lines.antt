@@ -10,12 +10,19 @@ use Rattle.trace_text.specs.declared.reply.Reply.{Reply}
 use Rattle.trace_text.specs.declared.trace.Trace.{Trace}
 use Rattle.trace_text.specs.Grammar.{block_of}
 
--- the caller of an operation, where it is a caller's and done
+-- the caller of an operation, where it is a caller's
 abbrev pub caller_of : Op → Option ℕ
 caller_of (ops.Read n t x window) = Some n
 caller_of (ops.Hold n t x) = Some n
 caller_of (ops.Drop n x) = Some n
-caller_of other = None
+caller_of (ops.Get n t at window) = Some n
+caller_of (ops.Put n t at size fill) = Some n
+caller_of (ops.Patch n t at from bytes) = Some n
+caller_of (ops.Pin n t at) = Some n
+caller_of (ops.Unpin n at) = Some n
+caller_of ops.Feed = None
+caller_of (ops.Txg t) = None
+caller_of (ops.Cap c) = None
 
 -- the operation is none that the program does yet, for so many callers
 abbrev pub is_undone : (callers : ℕ) → Op → Bool
@@ -24,7 +31,12 @@ is_undone callers (ops.Hold n t x) = false
 is_undone callers (ops.Drop n x) = false
 is_undone callers (ops.Cap c) = false
 is_undone callers (ops.Txg t) = callers == 1
-is_undone callers other = true
+is_undone callers (ops.Get n t at window) = true
+is_undone callers (ops.Put n t at size fill) = true
+is_undone callers (ops.Patch n t at from bytes) = true
+is_undone callers (ops.Pin n t at) = true
+is_undone callers (ops.Unpin n at) = true
+is_undone callers ops.Feed = true
 
 -- an operation of the trace is none that the program does yet
 abbrev pub has_undone : Trace → Bool

@@ -10,7 +10,7 @@ use Rattle.trace_text.specs.ReportText.{report_text}
 use Rattle.arc_paper.specs.Text.{pages_text as paper_text_of}
 use Rattle.arc_check.specs.Judging.{IsVerdict}
 use Rattle.arc_check.specs.LogText.{IsLogText}
-use Rattle.arc_check.specs.LogText.{IsFirstFault as IsFirstLogFault}
+use Rattle.arc_check.specs.LogText.{IsFirstLogFault}
 use Rattle.arc_check.specs.declared.log.Log.{Log}
 use Rattle.arc_check.specs.declared.verdict.Verdict.{Verdict}
 use Rattle.arc_check.specs.declared.verdict.Verdict.TheVariants as verdicts
@@ -38,7 +38,7 @@ use Rattle.trace_run.specs.Devices.{Finds, MayLose, usable}
 use Rattle.trace_run.specs.Explaining.{Explain, RunsAlone}
 use Rattle.trace_run.specs.Lines.{has_undone}
 use Rattle.trace_run.specs.one_caller.PlainRun.{images, report_of}
-use Rattle.trace_run.specs.Restores.{restored_of}
+use Rattle.trace_run.specs.Restores.{found_keys}
 use Rattle.trace_run.specs.States.{Handed}
 use Rattle.vdev_io.specs.Streams.{NoneFailed, OneFailed, StreamState}
 use Rattle.vdev_io.specs.Streams.{Gives, AppendsFront, TakesAtMost}
@@ -84,7 +84,7 @@ pub record IsBadTrace (before after : StreamState) (line : ℕ) (kind : Kind) : 
 -- caller the report is a plain function; with several, each reads the pool through forks of its own, one for each group.
 pub record IsRun {P D : Type 0} (pool : Ghosts P) (device : Devices D) (before after : P) (lent back : Option D) (trace : Trace) (fork_failed : Bool) (closed : Ended OnHeap) (report : Report) : Type 0 where
   pub answers : AnswersAll (pool.size before) (pool.told before) trace.blocks (answered_ops trace fork_failed report.replies) report.replies
-  pub explained : Explain trace (restored_of report.rebuilt) report.replies report.ends report.histories
+  pub explained : Explain trace (found_keys report.rebuilt) report.replies report.ends report.histories
   pub tells : TellsClosed closed report
   -- the shared cache was made with the trace's numbers
   pub config : closed.config ≡ trace.config
@@ -358,11 +358,11 @@ pub record DoesCheck {C P D : Type 0} (before after : Handed P D) (status : Stat
   pub cache : after.cache ≡ before.cache
   pub none : (report ≡ None) × (closed ≡ None)
 
-abbrev pub Does : {P D : Type 0} → Ghosts P → Devices D → (before after : Handed P D) → Status → Option Report → Option (Ended OnHeap) → Command → Type 0
-Does pool device before after status report closed (Run events) = DoesRun pool device events before after status report closed
-Does pool device before after status report closed (Gen seed blocks ops) = DoesGen seed blocks ops before after status report closed
-Does pool device before after status report closed (Paper c) = DoesPaper c before after status report closed
-Does pool device before after status report closed Check = DoesCheck before after status report closed
+abbrev pub DoesCommand : {P D : Type 0} → Ghosts P → Devices D → (before after : Handed P D) → Status → Option Report → Option (Ended OnHeap) → Command → Type 0
+DoesCommand pool device before after status report closed (Run events) = DoesRun pool device events before after status report closed
+DoesCommand pool device before after status report closed (Gen seed blocks ops) = DoesGen seed blocks ops before after status report closed
+DoesCommand pool device before after status report closed (Paper c) = DoesPaper c before after status report closed
+DoesCommand pool device before after status report closed Check = DoesCheck before after status report closed
 
 -- a fact where the words are refused
 abbrev pub IfUsage : Status → Type 0 → Type 0

@@ -40,7 +40,7 @@ module _ {C : Type 0} where
   access_now g ptr p = access_of (now_of g (shard_of g.shards ptr.key) p) ptr
 
   -- The party did this act, once, with its own number. A party that is alone has seen just these events more.
-  pub record DidAct (g : Config) (device : ℕ) (act : Act) (es : List Event) (p q : Place (Known C)) : Type 0 where
+  pub record DidAct (g : Config) (act : Act) (es : List Event) (p q : Place (Known C)) : Type 0 where
     pub made : List Moment
     pub own : AddsOwn g (shard_of g.shards (act_key act)) made p q
     pub act_is : StandsFor act made
@@ -50,16 +50,16 @@ module _ {C : Type 0} where
     pub joined : q.joined ≡ p.joined
 
   -- the read was answered, and its bytes came from here; or the pool was asked for them, and failed or gave others
-  pub record DidAnswer (g : Config) (device t : ℕ) (ptr : Ptr) (from : Served) (p q : Place (Known C)) : Type 0 where
-    pub act : DidAct g device (Keeps p.number t ptr from) (events_of_answered p.number t ptr from (access_now g ptr p)) p q
+  pub record DidAnswer (g : Config) (t : ℕ) (ptr : Ptr) (from : Served) (p q : Place (Known C)) : Type 0 where
+    pub act : DidAct g (Keeps p.number t ptr from) (events_of_answered p.number t ptr from (access_now g ptr p)) p q
     pub source : HasAll p → MayComeFrom (access_now g ptr p) from
 
-  pub record DidFail (g : Config) (device t : ℕ) (ptr : Ptr) (p q : Place (Known C)) : Type 0 where
-    pub act : DidAct g device (Fails p.number t ptr) (events_of_refused p.number t ptr (access_now g ptr p)) p q
+  pub record DidFail (g : Config) (t : ℕ) (ptr : Ptr) (p q : Place (Known C)) : Type 0 where
+    pub act : DidAct g (Fails p.number t ptr) (events_of_refused p.number t ptr (access_now g ptr p)) p q
     pub asked : HasAll p → AsksPool (access_now g ptr p)
 
   -- In one shard the party's own number has these acts more. A party that is alone has seen just these events more, and in no other shard any.
-  pub record DidActs (g : Config) (device shard : ℕ) (acts : List Act) (es : List Event) (p q : Place (Known C)) : Type 0 where
+  pub record DidActs (g : Config) (shard : ℕ) (acts : List Act) (es : List Event) (p q : Place (Known C)) : Type 0 where
     pub number : q.number ≡ p.number
     pub told : (before : List Act) (noted : List Noted) → HasToldAll g before noted p → HasToldAll g (before ++ acts) noted q
     pub alone : HasAll p → AddsAll g shard es p q
@@ -67,12 +67,12 @@ module _ {C : Type 0} where
     pub joined : q.joined ≡ p.joined
 
   -- What a read at this tick that came to this did. Of want of memory nothing is said.
-  abbrev pub DidRead : Config → (device t : ℕ) → Ptr → (p q : Place (Known C)) → Result Got ReadFault → Type 0
-  DidRead g device t ptr p q (Ok got) = DidAnswer g device t ptr got.served p q
-  DidRead g device t ptr p q (Err (fault.PoolFault)) = DidFail g device t ptr p q
-  DidRead g device t ptr p q (Err (fault.Mismatch found)) = DidFail g device t ptr p q
-  DidRead g device t ptr p q (Err (fault.Key why)) = q ≡ p
-  DidRead g device t ptr p q (Err (fault.NoMemory)) = Unit {0}
+  abbrev pub DidRead : Config → (t : ℕ) → Ptr → (p q : Place (Known C)) → Result Got ReadFault → Type 0
+  DidRead g t ptr p q (Ok got) = DidAnswer g t ptr got.served p q
+  DidRead g t ptr p q (Err (fault.PoolFault)) = DidFail g t ptr p q
+  DidRead g t ptr p q (Err (fault.Mismatch found)) = DidFail g t ptr p q
+  DidRead g t ptr p q (Err (fault.Key why)) = q ≡ p
+  DidRead g t ptr p q (Err (fault.NoMemory)) = Unit {0}
 
 -- what a caller keeps once a read is kept that came to this
 abbrev pub kept_then : List KeptBlock → Result Got ReadFault → List KeptBlock

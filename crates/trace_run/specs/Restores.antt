@@ -14,9 +14,9 @@ use Rattle.trace_text.specs.declared.reply.Reply.{Reply}
 use Rattle.trace_run.specs.Acts.{events_of_feeds}
 
 -- the keys that were found, where a device was handed in
-abbrev pub restored_of : Option Rebuilt → List Restored
-restored_of None = []
-restored_of (Some rebuilt) = rebuilt.list
+abbrev pub found_keys : Option Rebuilt → List Restored
+found_keys None = []
+found_keys (Some rebuilt) = rebuilt.list
 
 -- the feeder's restores of those of these keys that belong to the shard of this number, in their order
 abbrev pub restores_in : Config → List Restored → (shard : ℕ) → List Event

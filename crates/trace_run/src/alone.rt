@@ -180,7 +180,7 @@ fn lines_alone<P: Pool, D: CacheDev, G: Gate>(
     requires named { AreNamed trace.now.blocks (map read_of kept.old) }
     requires joined { HasFeeder arcs.now (openings_of trace.now) party }
     ensures stands { IfOk result (λ r. Stands arcs.now r.0 kept.new) }
-    ensures did { IfOk result (λ r. DidLines arcs.now.config P.Pool 0 trace.now.blocks trace.now.ops r.1.items
+    ensures did { IfOk result (λ r. DidLines arcs.now.config P.Pool trace.now.blocks trace.now.ops r.1.items
         (at party (map read_of kept.old) pool.old) (at r.0 (map read_of kept.new) pool.new)) }
     ensures asks { HasAll party → IfOk result (λ r. (calls : List Call) × AsksLines D.CacheDev arcs.now.config.shards trace.now.blocks (λ shard. now_of arcs.now.config shard party)
         (map read_of kept.old) trace.now.ops r.1.items calls device.old device.new) }

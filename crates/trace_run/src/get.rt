@@ -41,7 +41,7 @@ pub(crate) fn get<C: Keeps, P: Pool, D: CacheDev>(
 ) -> Result<Got, ReadFault>
     requires { (kept : List KeptBlock) × Stands arcs.now party.old kept }
     ensures stands { (kept : List KeptBlock) → Stands arcs.now party.old kept → Stands arcs.now party.new (kept_then kept result) }
-    ensures did { DidRead arcs.now.config (D.size device.old) t ptr.now party.old party.new result }
+    ensures did { DidRead arcs.now.config t ptr.now party.old party.new result }
     ensures asks { HasAll party.old → AsksGot D.CacheDev (now_of arcs.now.config (shard_of arcs.now.config.shards ptr.now.key) party.old) ptr.now result device.old device.new }
     ensures keeps { KeepsDevice D.CacheDev device.old device.new }
     ensures got { IfOk result (IsGot (P.told pool.old) block ptr.now) }

@@ -161,7 +161,7 @@ fn lines_over<P: Pool, D: CacheDev, G: Gate>(
     requires named { AreNamed blocks.now (map read_of kept.old) }
     requires few { first + length ops.now < 2 ^ 32 }
     ensures stands { IfOk result (λ replies. Stands arcs.now party.new kept.new) }
-    ensures did { IfOk result (λ replies. (size : ℕ) × DidLines arcs.now.config P.Pool size blocks.now (filter (is_of_caller party.old.number) ops.now) replies.items
+    ensures did { IfOk result (λ replies. DidLines arcs.now.config P.Pool blocks.now (filter (is_of_caller party.old.number) ops.now) replies.items
         (at party.old (map read_of kept.old) pool.old) (at party.new (map read_of kept.new) pool.new)) }
     ensures asked { IfOk result (λ replies. AsksGiven D.CacheDev blocks.now (filter (is_of_caller party.old.number) ops.now) replies.items device.old device.new) }
 {

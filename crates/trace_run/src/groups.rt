@@ -16,7 +16,7 @@ ghost use Rattle.trace_run.specs.callers.Groups.{AreBetween, AreOfCallers, DidEn
 ghost use Rattle.trace_run.specs.Making.{AreNoEntries};
 ghost use Rattle.trace_run.specs.Meeting.{MayGoOn};
 ghost use Rattle.trace_run.specs.Tally.{AreDeclared};
-ghost use Rattle.trace_run.specs.callers.Together.{BeginsGroup, IsFirstPlace, Stand, ends_group, stand};
+ghost use Rattle.trace_run.specs.callers.Together.{BeginsGroup, IsFirstPlace, BetweenGroups, ends_group, between_groups};
 
 use crate::device::Device;
 use crate::group::{Worked, forks, run_group};
@@ -95,7 +95,10 @@ fn ends_group(op: &Op) -> bool
 {
     match *op {
         Op::Read { .. } | Op::Hold { .. } | Op::Drop { .. } => false,
-        _ => true,
+        Op::Get { .. } | Op::Put { .. } | Op::Patch { .. } | Op::Pin { .. } | Op::Unpin { .. } => {
+            false
+        }
+        Op::Feed | Op::Txg { .. } | Op::Cap { .. } => true,
     }
 }
 
@@ -209,8 +212,8 @@ fn end_line<P: Pool>(
     requires feeder { crew.feeder.number ≡ arcs.now.config.callers }
     requires unwritten { AllByRecursion (λ o. AreNoEntries arcs.now.config o.own.mine) (crew.feeder ∷ crew.parties.items) }
     requires possible { IsOperation arcs.now.config.callers arcs.now.config.shards op.now }
-    requires sync { (lines : ℕ) × (lines < 2 ^ 32) × MaySync P.Pool lines (stand pool.old syncs.group syncs.next) }
-    ensures did { IfOk result (λ done. DidEndLine arcs.now P.Pool op.now (stand pool.old syncs.group syncs.next) (stand pool.new done.1.group done.1.next) crew done.0 done.2) }
+    requires sync { (lines : ℕ) × (lines < 2 ^ 32) × MaySync P.Pool lines (between_groups pool.old syncs.group syncs.next) }
+    ensures did { IfOk result (λ done. DidEndLine arcs.now P.Pool op.now (between_groups pool.old syncs.group syncs.next) (between_groups pool.new done.1.group done.1.next) crew done.0 done.2) }
     ensures pool { LeavesPool P.Pool pool.old pool.new }
 {
     let Crew {
@@ -287,10 +290,10 @@ fn next_group<R: Threads + Wait + Sync, P: Pool, D: CacheDev, G: Gate>(
     requires formed { IsFormed trace.now }
     requires config { arcs.now.config ≡ trace.now.config }
     requires rows { arcs.now.row.parties ≡ parties_of arcs.now.config }
-    requires between { (start : Stand P) × (restored : List Restored) × AreBetween arcs.now restored P.Pool trace.now start (stand pool.old syncs.group syncs.next) replies.old.items crew }
+    requires between { (start : BetweenGroups P) × (restored : List Restored) × AreBetween arcs.now restored P.Pool trace.now start (between_groups pool.old syncs.group syncs.next) replies.old.items crew }
     requires more { vec_len replies.old < length trace.now.ops }
-    ensures steps { (start : Stand P) (restored : List Restored) → AreBetween arcs.now restored P.Pool trace.now start (stand pool.old syncs.group syncs.next) replies.old.items crew
-        → IfOk result (λ done. StepsOn arcs.now restored P.Pool trace.now start (stand pool.old syncs.group syncs.next) (stand pool.new done.1.group done.1.next) replies.old.items replies.new.items done.2 crew done.0) }
+    ensures steps { (start : BetweenGroups P) (restored : List Restored) → AreBetween arcs.now restored P.Pool trace.now start (between_groups pool.old syncs.group syncs.next) replies.old.items crew
+        → IfOk result (λ done. StepsOn arcs.now restored P.Pool trace.now start (between_groups pool.old syncs.group syncs.next) (between_groups pool.new done.1.group done.1.next) replies.old.items replies.new.items done.2 crew done.0) }
     ensures read { (start : Option D) → HaveReadSoFar D.CacheDev trace.now replies.old.items start (lent_in device.old)
         → IfOk result (λ done. HaveReadSoFar D.CacheDev trace.now replies.new.items start (lent_in device.new)) }
     ensures pool { LeavesPool P.Pool pool.old pool.new }
@@ -342,9 +345,9 @@ pub(crate) fn all_groups<R: Threads + Wait + Sync, P: Pool, D: CacheDev, G: Gate
     requires formed { IsFormed trace.now }
     requires config { arcs.now.config ≡ trace.now.config }
     requires rows { arcs.now.row.parties ≡ parties_of arcs.now.config }
-    requires between { (restored : List Restored) × AreBetween arcs.now restored P.Pool trace.now (stand pool.old syncs.group syncs.next) (stand pool.old syncs.group syncs.next) [] crew }
-    ensures stopped { (restored : List Restored) → AreBetween arcs.now restored P.Pool trace.now (stand pool.old syncs.group syncs.next) (stand pool.old syncs.group syncs.next) [] crew
-        → IfOk result (λ came. AreDone arcs.now restored P.Pool trace.now (stand pool.old syncs.group syncs.next) pool.new came.fork_failed came.replies.items came.crew) }
+    requires between { (restored : List Restored) × AreBetween arcs.now restored P.Pool trace.now (between_groups pool.old syncs.group syncs.next) (between_groups pool.old syncs.group syncs.next) [] crew }
+    ensures stopped { (restored : List Restored) → AreBetween arcs.now restored P.Pool trace.now (between_groups pool.old syncs.group syncs.next) (between_groups pool.old syncs.group syncs.next) [] crew
+        → IfOk result (λ came. AreDone arcs.now restored P.Pool trace.now (between_groups pool.old syncs.group syncs.next) pool.new came.fork_failed came.replies.items came.crew) }
     ensures read { IfOk result (λ came. HaveReadSoFar D.CacheDev trace.now came.replies.items (lent_in device.old) (lent_in device.new)) }
     ensures pool { LeavesPool P.Pool pool.old pool.new }
     ensures device { WasLent D.CacheDev device.old device.new }

@@ -70,7 +70,7 @@ fn hold_line<C: Keeps, P: Pool, D: CacheDev>(
     ensures answer { IfOk result (AnswersHold (P.size pool.old) (P.told pool.old) ptr.now) }
     ensures stands { IfOk result (λ reply. Stands arcs.now party.new kept.new) }
     ensures kept { IfOk result (λ reply. map read_of kept.new ≡ kept_after_hold block ptr.now (effect_of reply) (map read_of kept.old)) }
-    ensures did { IfOk result (λ reply. DidActs arcs.now.config (D.size device.old) (shard_of arcs.now.config.shards ptr.now.key)
+    ensures did { IfOk result (λ reply. DidActs arcs.now.config (shard_of arcs.now.config.shards ptr.now.key)
         (acts_of_hold party.old.number t ptr.now (effect_of reply))
         (events_of_hold party.old.number t (now_of arcs.now.config (shard_of arcs.now.config.shards ptr.now.key) party.old) ptr.now (effect_of reply))
         party.old party.new) }
@@ -108,7 +108,7 @@ fn read_line<C: Keeps, P: Pool, D: CacheDev>(
     requires { (kept : List KeptBlock) × Stands arcs.now party.old kept }
     ensures answer { IfOk result (AnswersRead (P.size pool.old) (P.told pool.old) ptr.now window) }
     ensures stands { (kept : List KeptBlock) → Stands arcs.now party.old kept → IfOk result (λ reply. Stands arcs.now party.new kept) }
-    ensures did { IfOk result (λ reply. DidActs arcs.now.config (D.size device.old) (shard_of arcs.now.config.shards ptr.now.key)
+    ensures did { IfOk result (λ reply. DidActs arcs.now.config (shard_of arcs.now.config.shards ptr.now.key)
         (acts_of_read party.old.number t ptr.now (effect_of reply))
         (events_of_read party.old.number t (now_of arcs.now.config (shard_of arcs.now.config.shards ptr.now.key) party.old) ptr.now (effect_of reply))
         party.old party.new) }
@@ -184,7 +184,7 @@ pub(crate) fn line<P: Pool, D: CacheDev>(
     ensures asks { IfOk result (λ reply. HasAll party.old → (calls : List Call)
         × AsksLine D.CacheDev blocks.now (now_of arcs.now.config (shard_of_line arcs.now.config.shards blocks.now op.now) party.old) op.now reply calls device.old device.new) }
     ensures keeps { KeepsDevice D.CacheDev device.old device.new }
-    ensures did { IfOk result (λ reply. DidLine arcs.now.config P.Pool (D.size device.old) blocks.now op.now reply
+    ensures did { IfOk result (λ reply. DidLine arcs.now.config P.Pool blocks.now op.now reply
         (at party.old (map read_of kept.old) pool.old) (at party.new (map read_of kept.new) pool.new)) }
     ensures pool { KeepsPool P.Pool pool.old pool.new }
     ensures device { D.size device.new ≡ D.size device.old }
@@ -219,7 +219,12 @@ pub(crate) fn caller_of(op: &Op) -> Option<u32>
 {
     match *op {
         Op::Read { n, .. } | Op::Hold { n, .. } | Op::Drop { n, .. } => Some(n),
-        _ => None,
+        Op::Get { n, .. }
+        | Op::Put { n, .. }
+        | Op::Patch { n, .. }
+        | Op::Pin { n, .. }
+        | Op::Unpin { n, .. } => Some(n),
+        Op::Feed | Op::Txg { .. } | Op::Cap { .. } => None,
     }
 }
 
@@ -229,7 +234,12 @@ pub(crate) fn is_of_caller(op: &Op, caller: u32) -> bool
 {
     match *op {
         Op::Read { n, .. } | Op::Hold { n, .. } | Op::Drop { n, .. } => n == caller,
-        _ => false,
+        Op::Get { n, .. }
+        | Op::Put { n, .. }
+        | Op::Patch { n, .. }
+        | Op::Pin { n, .. }
+        | Op::Unpin { n, .. } => n == caller,
+        Op::Feed | Op::Txg { .. } | Op::Cap { .. } => false,
     }
 }
 
@@ -253,7 +263,7 @@ pub(crate) fn all_lines<P: Pool, D: CacheDev, G: Gate>(
     requires named { AreNamed blocks.now (map read_of kept.old) }
     requires few { first + length ops.now < 2 ^ 32 }
     ensures stands { IfOk result (λ replies. Stands arcs.now party.new kept.new) }
-    ensures did { IfOk result (λ replies. DidLines arcs.now.config P.Pool (D.size device.old) blocks.now (filter (is_of_caller party.old.number) ops.now) replies.items
+    ensures did { IfOk result (λ replies. DidLines arcs.now.config P.Pool blocks.now (filter (is_of_caller party.old.number) ops.now) replies.items
         (at party.old (map read_of kept.old) pool.old) (at party.new (map read_of kept.new) pool.new)) }
     ensures pool { KeepsPool P.Pool pool.old pool.new }
     ensures device { D.size device.new ≡ D.size device.old }

@@ -8,7 +8,7 @@ ghost use Rattle.trace_run.specs.Devices.{WasLent, lent_in};
 ghost use Rattle.trace_run.specs.callers.DeviceForks.{ReadInGroups};
 ghost use Rattle.trace_run.specs.callers.Group.{LeavesPool};
 ghost use Rattle.trace_run.specs.Devices.{WasLent, lent_in};
-ghost use Rattle.trace_run.specs.Restores.{restored_of};
+ghost use Rattle.trace_run.specs.Restores.{found_keys};
 ghost use Rattle.trace_run.specs.callers.Together.{groups_of, report_status};
 ghost use Rattle.trace_run.specs.Words.{IsInRange};
 ghost use Rattle.trace_run.specs.declared.words.Command.TheVariants as command;
@@ -27,8 +27,8 @@ use trace_text::{Rebuilt, Trace, gen_trace};
 use vdev_io::{CacheDev, Gate, NoCache, Pool};
 
 /// The keys that were found on the cache device.
-fn restored_of(rebuilt: &Option<Rebuilt>) -> &[Restored]
-    ensures { result.now ≡ restored_of rebuilt.now }
+fn found_keys(rebuilt: &Option<Rebuilt>) -> &[Restored]
+    ensures { result.now ≡ found_keys rebuilt.now }
 {
     match rebuilt {
         Some(rebuilt) => rebuilt.list.as_slice(),
@@ -48,7 +48,7 @@ pub(crate) fn run_trace<R: Threads + Wait + Sync, P: Pool, D: CacheDev, G: Gate>
     gate: &G,
 ) -> Result<Reported, NoMemory>
     requires formed { IsFormed trace.now }
-    requires keys { HaveKeys (restored_of rebuilt) }
+    requires keys { HaveKeys (found_keys rebuilt) }
     ensures run { IfOk result (λ told. (fork_failed : Bool) × IsRun P.Pool D.CacheDev pool.old pool.new (lent_in device.old) (lent_in device.new) trace.now fork_failed told.closed told.report
         × (told.report.status ≡ report_status fork_failed told.report.replies)) }
     ensures cells { IfOk result (λ told. AreCellsOf trace.now told.closed) }
@@ -60,9 +60,9 @@ pub(crate) fn run_trace<R: Threads + Wait + Sync, P: Pool, D: CacheDev, G: Gate>
     ensures device { WasLent D.CacheDev device.old device.new }
 {
     let ran = if trace.config.callers == 1 {
-        run_alone(alloc, rt, trace, restored_of(&rebuilt), pool, device, gate)?
+        run_alone(alloc, rt, trace, found_keys(&rebuilt), pool, device, gate)?
     } else {
-        run_together(alloc, rt, trace, restored_of(&rebuilt), pool, device, gate)?
+        run_together(alloc, rt, trace, found_keys(&rebuilt), pool, device, gate)?
     };
     let reported = ran.report(alloc, rebuilt)?;
     Ok(reported)

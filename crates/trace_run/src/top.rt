@@ -3,7 +3,7 @@ ghost use Rattle.std.specs.Prelude.{◌≡◌, ◌<◌, ◌^◌, IfOk, IfErr, No
 ghost use Rattle.trace_text.specs.Grammar.{IsFormed, longest_text};
 ghost use Rattle.trace_run.specs.Lines.{has_undone};
 ghost use Rattle.vdev_io.specs.Streams.{TakesAtMost};
-ghost use Rattle.trace_run.specs.Outcome.{AnswersWords, AnswersSource, AnswersSink, Does, DoesRun, IfReported, IfUsage, IsDelivered, IsGenReport, IsGenStatus, IsReadStatus, IsReportStatus, WasRead, has_report};
+ghost use Rattle.trace_run.specs.Outcome.{AnswersWords, AnswersSource, AnswersSink, DoesCommand, DoesRun, IfReported, IfUsage, IsDelivered, IsGenReport, IsGenStatus, IsReadStatus, IsReportStatus, WasRead, has_report};
 ghost use Rattle.trace_run.specs.callers.Group.{LeavesPool};
 ghost use Rattle.trace_run.specs.States.{handed};
 ghost use Rattle.vdev_io.specs.Streams.{sink_state, source_state};
@@ -46,7 +46,7 @@ pub fn run<R: Threads + Wait + Sync, S: Source, K: Sink, P: Pool, D: CacheDev, G
 ) -> Outcome
     // Usage comes exactly where the words are no command, with the first word that is wrong. Else the command did what it is to do:
     // a bad trace and a fault of the source come only with their causes, the report explains what was run, and its text is written.
-    ensures answers { AnswersWords (texts words.now) (Does P.Pool D.CacheDev
+    ensures answers { AnswersWords (texts words.now) (DoesCommand P.Pool D.CacheDev
         (handed S.Source K.Sink source.old sink.old pool.old cache.old) (handed S.Source K.Sink source.new sink.new pool.new cache.new) result.status result.report result.closed) result.status }
 
     // Where the words are refused nothing is touched, and where nothing is run the pool and the device aren't.

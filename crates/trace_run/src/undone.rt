@@ -32,7 +32,10 @@ fn is_undone(callers: u32, op: &Op) -> bool
     match op {
         Op::Read { .. } | Op::Hold { .. } | Op::Drop { .. } | Op::Cap { .. } => false,
         Op::Txg { .. } => callers == 1,
-        _ => true,
+        Op::Get { .. } | Op::Put { .. } | Op::Patch { .. } | Op::Pin { .. } | Op::Unpin { .. } => {
+            true
+        }
+        Op::Feed => true,
     }
 }
 

@@ -68,6 +68,25 @@ module _ {P : Type 0} (pools : Ghosts P) where
   pub absorbed-faults : (forks : List P) (old new : P) → AbsorbsAll pools forks old new → pools.faults old + sum_by pools.faults forks ≤ last_count → pools.faults new ≡ pools.faults old + sum_by pools.faults forks
   absorbed-faults = absorbed-count pools.faults (λ fork old new one. one.faults)
 
+  -- where there is a fork, it is that sum as far as a count goes
+  absorbed-sum : (count : P → ℕ) → ((fork old new : P) → Absorbs pools fork old new → count new ≡ sum_of_counts (count old) (count fork)) → (forks : List P) (old new : P) → AbsorbsAll pools forks old new → 0 < length forks
+      → count new ≡ sum_of_counts (count old) (sum_by count forks)
+  absorbed-sum count sums [] old new is some = absurd (omega (arith, some))
+  absorbed-sum count sums (fork ∷ []) old new did some =
+      let same : count new ≡ count did.0 = ap count did.2 in
+      let sum : sum_by count (fork ∷ []) ≡ count fork + sum_by count [] = sum_by-cons count fork [] in
+      let none : sum_by count [] ≡ 0 = refl in
+      omega (arith, same, sum, none, sums fork old did.0 did.1)
+  absorbed-sum count sums (fork ∷ (next ∷ forks)) old new did some =
+      let sum : sum_by count (fork ∷ (next ∷ forks)) ≡ count fork + sum_by count (next ∷ forks) = sum_by-cons count fork (next ∷ forks) in
+      omega (arith, sum, sums fork old did.0 did.1, absorbed-sum count sums (next ∷ forks) did.0 new did.2 (omega arith))
+
+  pub sum-of-reads : (forks : List P) (old new : P) → AbsorbsAll pools forks old new → 0 < length forks → pools.reads new ≡ sum_of_counts (pools.reads old) (sum_by pools.reads forks)
+  sum-of-reads = absorbed-sum pools.reads (λ fork old new one. one.reads)
+
+  pub sum-of-faults : (forks : List P) (old new : P) → AbsorbsAll pools forks old new → 0 < length forks → pools.faults new ≡ sum_of_counts (pools.faults old) (sum_by pools.faults forks)
+  sum-of-faults = absorbed-sum pools.faults (λ fork old new one. one.faults)
+
   -- forks that counted nothing
   pub fresh-reads : (pool : P) (forks : List P) → AllByRecursion (IsFork pools pool) forks → sum_by pools.reads forks ≡ 0
   fresh-reads pool [] all = refl

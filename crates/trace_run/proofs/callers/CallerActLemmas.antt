@@ -23,6 +23,11 @@ pub caller-is : (n : ℕ) (op : Op) → is_of_caller n op ≡ true → caller_of
 caller-is n (ops.Read m t x window) his = ap (λ (k : ℕ). Some k) (eqb-true m n his)
 caller-is n (ops.Hold m t x) his = ap (λ (k : ℕ). Some k) (eqb-true m n his)
 caller-is n (ops.Drop m x) his = ap (λ (k : ℕ). Some k) (eqb-true m n his)
+caller-is n (ops.Get m t at window) his = ap (λ (k : ℕ). Some k) (eqb-true m n his)
+caller-is n (ops.Put m t at size fill) his = ap (λ (k : ℕ). Some k) (eqb-true m n his)
+caller-is n (ops.Patch m t at from bytes) his = ap (λ (k : ℕ). Some k) (eqb-true m n his)
+caller-is n (ops.Pin m t at) his = ap (λ (k : ℕ). Some k) (eqb-true m n his)
+caller-is n (ops.Unpin m at) his = ap (λ (k : ℕ). Some k) (eqb-true m n his)
 caller-is n other his = absurd (false≢true his)
 
 pub own-lines : (n : ℕ) (os : List Op) → AllByRecursion (λ op. caller_of op ≡ Some n) (filter (is_of_caller n) os)
@@ -39,17 +44,27 @@ his-is n m op of same = ap (λ (o : Option ℕ). option_map_or (λ (k : ℕ). k 
 pub other-is : (n m : ℕ) (op : Op) → caller_of op ≡ Some m → m ≢ n → is_of_caller n op ≡ false
 other-is n m op of differs = ap (λ (o : Option ℕ). option_map_or (λ (k : ℕ). k == n) o false) of ∙ ne_eqb m n differs
 
--- an operation is a caller's, or gives a capacity
+-- an operation is a caller's, or no caller's
 pub line-kind : (op : Op) → ((n : ℕ) × (caller_of op ≡ Some n)) ⊎ (caller_of op ≡ None)
 line-kind (ops.Read n t x window) = inl (n, refl)
 line-kind (ops.Hold n t x) = inl (n, refl)
 line-kind (ops.Drop n x) = inl (n, refl)
+line-kind (ops.Get n t at window) = inl (n, refl)
+line-kind (ops.Put n t at size fill) = inl (n, refl)
+line-kind (ops.Patch n t at from bytes) = inl (n, refl)
+line-kind (ops.Pin n t at) = inl (n, refl)
+line-kind (ops.Unpin n at) = inl (n, refl)
 line-kind other = inr refl
 
 pub same-caller : (n : ℕ) (op : Op) → is_of_caller n op ≡ true → IfSome (caller_of op) (λ m. m ≡ n)
 same-caller n (ops.Read m t x window) his = eqb-true m n his
 same-caller n (ops.Hold m t x) his = eqb-true m n his
 same-caller n (ops.Drop m x) his = eqb-true m n his
+same-caller n (ops.Get m t at window) his = eqb-true m n his
+same-caller n (ops.Put m t at size fill) his = eqb-true m n his
+same-caller n (ops.Patch m t at from bytes) his = eqb-true m n his
+same-caller n (ops.Pin m t at) his = eqb-true m n his
+same-caller n (ops.Unpin m at) his = eqb-true m n his
 same-caller n other his = tt
 
 module _ (f : Key → ℕ) (shard : ℕ) where

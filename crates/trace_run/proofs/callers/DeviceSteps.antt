@@ -19,7 +19,7 @@ use Rattle.trace_run.specs.Lines.{is_of_caller}
 use Rattle.trace_run.specs.callers.DeviceForks.{AllAsk, AllAskIn, HaveRead, HaveReadSoFar, ReadAtOnce, ReadInGroups, these}
 use Rattle.trace_run.specs.callers.Groups.{AreOfCallers}
 use Rattle.trace_run.specs.callers.InOrder.{AreInOrder}
-use Rattle.trace_run.specs.callers.Together.{BeginsGroup, EndLine, Lines, ends_group, groups_of, replies_of_caller}
+use Rattle.trace_run.specs.callers.Together.{BeginsGroup, EndLine, GroupLines, ends_group, groups_of, replies_of_caller}
 use Rattle.trace_run.proofs.DeviceLemmas.{lent-back, short-same, usable-kept, usable-lent}
 use Rattle.trace_run.proofs.callers.GroupsLemmas.{group-ended, group-last, groups-append, groups-prefix, whole-of}
 use Rattle.trace_run.proofs.callers.StepLemmas.{range-here, range-length}
@@ -64,7 +64,7 @@ module _ {D : Type 0} (devices : Ghosts D) (blocks : List Ptr) where
 
   -- ---- groups, one after another
 
-  groups-more : (callers : ℕ) (gs : List Lines) (last : Lines) (a b c : Option D) → ReadInGroups devices blocks callers gs a b → ReadAtOnce devices blocks callers last b c → ReadInGroups devices blocks callers (gs ++ last ∷ []) a c
+  groups-more : (callers : ℕ) (gs : List GroupLines) (last : GroupLines) (a b c : Option D) → ReadInGroups devices blocks callers gs a b → ReadAtOnce devices blocks callers last b c → ReadInGroups devices blocks callers (gs ++ last ∷ []) a c
   groups-more callers [] last a b c done once = (c, subst (λ (x : Option D). ReadAtOnce devices blocks callers last x c) done once, refl)
   groups-more callers (g ∷ gs) last a b c done once = (done.0, done.1, groups-more callers gs last done.0 b c done.2 once)
 
@@ -88,7 +88,7 @@ module _ (trace : Trace) (callers : ℕ) (rs ss : List Reply) (qs : List Op) (fe
   last-groups some_of =
       ap (λ (l : List Op). groups_of l (rs ++ ss)) taken
       ∙ (groups-append os qs rs ss long (whole-of trace.ops (length rs) few begins)
-      ∙ ap (λ (gs : List Lines). groups_of os rs ++ gs) (group-last callers qs ss same own some_of))
+      ∙ ap (λ (gs : List GroupLines). groups_of os rs ++ gs) (group-last callers qs ss same own some_of))
 
   -- a line ends them
   pub ended-groups : (op : Op) (reply : Reply) → slice_get trace.ops (length rs + length qs) ≡ Some op → ends_group op ≡ true
@@ -103,7 +103,7 @@ module _ (trace : Trace) (callers : ℕ) (rs ss : List Reply) (qs : List Op) (fe
       ap (λ (l : List Op). groups_of l ((rs ++ ss) ++ reply ∷ [])) all-taken
       ∙ ((λ i. groups_of (append_assoc os qs (op ∷ []) i) (append_assoc rs ss (reply ∷ []) i))
       ∙ (groups-append os (qs ++ op ∷ []) rs (ss ++ reply ∷ []) long (whole-of trace.ops (length rs) few begins)
-      ∙ ap (λ (gs : List Lines). groups_of os rs ++ gs) (group-ended callers qs ss op reply same own ends)))
+      ∙ ap (λ (gs : List GroupLines). groups_of os rs ++ gs) (group-ended callers qs ss op reply same own ends)))
 
 -- What the next group came to, whose lines are these of the trace, as a step of all groups.
 module _ {D : Type 0} (devices : Ghosts D) (trace : Trace) (rs ss : List Reply) (first end : ℕ) (bs : List Ptr) (os : List Op) (callers : ℕ) (is_bs : bs ≡ trace.blocks) (is_os : os ≡ trace.ops) (is_callers : callers ≡ trace.config.callers) (is_first : first ≡ length rs) (le : first ≤ end) (within : end ≤ length os)
@@ -144,19 +144,19 @@ module _ {D : Type 0} (devices : Ghosts D) (trace : Trace) (rs ss : List Reply) 
   read-last last more all is =
       let longer : length os ≡ length trace.ops = ap length is_os in
       subst (λ (l : List Reply). HaveReadSoFar devices trace l start to) (sym is)
-      (subst (λ (gs : List Lines). ReadInGroups devices trace.blocks trace.config.callers gs start to) (sym (last-groups trace callers rs ss qs few begins same-these own-these here (omega (arith, ends-at, last, more, longer)))) (grown None))
+      (subst (λ (gs : List GroupLines). ReadInGroups devices trace.blocks trace.config.callers gs start to) (sym (last-groups trace callers rs ss qs few begins same-these own-these here (omega (arith, ends-at, last, more, longer)))) (grown None))
 
   pub read-ended : (op : Op) → slice_get os end ≡ Some op → ends_group op ≡ true → (reply : Reply) → (mid all : List Reply) → mid ≡ rs ++ ss → all ≡ mid ++ reply ∷ [] → HaveReadSoFar devices trace all start to
   read-ended op at ends reply mid all is_mid is =
       let there : slice_get trace.ops (length rs + length qs) ≡ Some op = ap (slice_get trace.ops) ends-at ∙ (ap (λ (l : List Op). slice_get l end) (sym is_os) ∙ at) in
       subst (λ (l : List Reply). HaveReadSoFar devices trace l start to) (sym (is ∙ ap (λ (l : List Reply). l ++ reply ∷ []) is_mid))
-      (subst (λ (gs : List Lines). ReadInGroups devices trace.blocks trace.config.callers gs start to) (sym (ended-groups trace callers rs ss qs few begins same-these own-these here op reply there ends)) (grown (Some (record { op = op; reply = reply }))))
+      (subst (λ (gs : List GroupLines). ReadInGroups devices trace.blocks trace.config.callers gs start to) (sym (ended-groups trace callers rs ss qs few begins same-these own-these here op reply there ends)) (grown (Some (record { op = op; reply = reply }))))
 
 -- what all lines that were answered did, in the groups of the trace
 pub read-whole : {D : Type 0} (devices : Ghosts D) (trace : Trace) (rs : List Reply) → length rs ≤ length trace.ops → (start now : Option D) → HaveReadSoFar devices trace rs start now
     → ReadInGroups devices trace.blocks trace.config.callers (groups_of trace.ops rs) start now
 read-whole devices trace rs few start now so_far =
-    subst (λ (gs : List Lines). ReadInGroups devices trace.blocks trace.config.callers gs start now)
+    subst (λ (gs : List GroupLines). ReadInGroups devices trace.blocks trace.config.callers gs start now)
     (sym (groups-prefix (take (length rs) trace.ops) (drop (length rs) trace.ops) rs (sym (length-take-le (length rs) trace.ops few))) ∙ ap (λ (l : List Op). groups_of l rs) (take-append-drop (length rs) trace.ops))
     so_far
 

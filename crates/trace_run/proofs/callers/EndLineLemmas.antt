@@ -17,7 +17,7 @@ use Rattle.txg_sync.specs.Items.{SyncItem, due_in, dues_from, items_from, need_o
 use Rattle.txg_sync.specs.Syncing.{AnswersWith}
 use Rattle.txg_sync.specs.Turns.{synced_in}
 use Rattle.txg_sync.specs.declared.due.Due.{Due}
-use Rattle.txg_sync.specs.declared.syncing.Synced.{Synced as Syncing}
+use Rattle.txg_sync.specs.declared.syncing.Synced.{Synced as SyncAnswer}
 use Rattle.trace_text.specs.declared.op.Op.{Op}
 use Rattle.trace_text.specs.declared.op.Op.TheVariants as ops
 use Rattle.trace_text.specs.declared.reply.Reply.{Reply}
@@ -25,7 +25,7 @@ use Rattle.trace_text.specs.declared.reply.Reply.TheVariants.{Capped, Synced}
 use Rattle.vdev_io.specs.declared.pool.Pool.{Ghosts}
 use Rattle.trace_run.specs.declared.groups.Crew.{Crew}
 use Rattle.trace_run.specs.callers.Groups.{DidCap, DidEndLine, DidSync, StoodFresh}
-use Rattle.trace_run.specs.callers.Together.{EndsGroup, Stand, replies_of_caller, stand}
+use Rattle.trace_run.specs.callers.Together.{EndsGroup, BetweenGroups, replies_of_caller, between_groups}
 use Rattle.trace_run.specs.Lines.{caller_of, is_of_caller}
 use Rattle.trace_run.specs.Making.{AreNoEntries}
 use Rattle.trace_run.specs.Meeting.{MadeJoined, resizes_in}
@@ -57,7 +57,7 @@ none-from : (i : ℕ) (cs : List OnHeap) → ((k : ℕ) (c : OnHeap) → slice_g
 none-from i [] none = refl
 none-from i (c ∷ cs) none = (λ z. map (due_in i) (none 0 c refl z) ++ none-from (suc i) cs (λ k x at. none (suc k) x at) z)
 
-module _ {P : Type 0} (pools : Ghosts P) (cache : Cache) (openings : List (List ℕ)) (group t next : ℕ) (from to : P) (p : PartyPlace) (olds : List PartyPlace) (q : PartyPlace) (news : List PartyPlace) (done : Syncing) (knows : Knows openings p)
+module _ {P : Type 0} (pools : Ghosts P) (cache : Cache) (openings : List (List ℕ)) (group t next : ℕ) (from to : P) (p : PartyPlace) (olds : List PartyPlace) (q : PartyPlace) (news : List PartyPlace) (done : SyncAnswer) (knows : Knows openings p)
     (unwritten : AllByRecursion (λ o. AreNoEntries cache.config o.own.mine) (p ∷ olds)) (s : SyncedJoined pools cache group t next from to p olds q news done) where
   abbrev xs : List SyncItem
   xs = items_from group next s.cells s.dues
@@ -114,7 +114,7 @@ module _ {P : Type 0} (pools : Ghosts P) (cache : Cache) (openings : List (List 
 -- ---- the line
 
 -- What a line that ends a group comes to: what the feeder made for it, and what stands before the next group.
-pub record Turned {P : Type 0} (cache : Cache) (pools : Ghosts P) (openings : List (List ℕ)) (op : Op) (reply : Reply) (from to : Stand P) (old new : Crew OnHeap) : Type 0 where
+pub record Turned {P : Type 0} (cache : Cache) (pools : Ghosts P) (openings : List (List ℕ)) (op : Op) (reply : Reply) (from to : BetweenGroups P) (old new : Crew OnHeap) : Type 0 where
   pub more : (shard : ℕ) → List Event
   pub so : EndsSo cache op reply more old new
   pub unused : IsUnused pools from.pool to.pool
@@ -122,14 +122,14 @@ pub record Turned {P : Type 0} (cache : Cache) (pools : Ghosts P) (openings : Li
   pub next : to.next ≡ from.next
   pub ends : EndsGroup pools cache.config (StoodFresh openings cache.config.cells) (Some (record { op = op; reply = reply })) from to
 
-module _ {P : Type 0} (cache : Cache) (pools : Ghosts P) (openings : List (List ℕ)) (from to : Stand P) (old new : Crew OnHeap) (kept : new.kept.items ≡ old.kept.items) where
+module _ {P : Type 0} (cache : Cache) (pools : Ghosts P) (openings : List (List ℕ)) (from to : BetweenGroups P) (old new : Crew OnHeap) (kept : new.kept.items ≡ old.kept.items) where
   cap-turned : (c : ℕ) (reply : Reply) → DidCap cache c from to old new reply → Turned cache pools openings (ops.Cap c) reply from to old new
   cap-turned c reply d = subst (λ (r : Reply). Turned cache pools openings (ops.Cap c) r from to old new) (sym d.answer) record {
     more = resizes_in cache.config.shards cache.config.callers c;
     so = cap-ends cache c old new d.resized kept;
-    unused = subst (λ (s : Stand P). IsUnused pools from.pool s.pool) (sym d.stays) (record { size = refl; told = refl; reads = refl; faults = refl });
-    group = ap (λ (s : Stand P). s.group) d.stays;
-    next = ap (λ (s : Stand P). s.next) d.stays;
+    unused = subst (λ (s : BetweenGroups P). IsUnused pools from.pool s.pool) (sym d.stays) (record { size = refl; told = refl; reads = refl; faults = refl });
+    group = ap (λ (s : BetweenGroups P). s.group) d.stays;
+    next = ap (λ (s : BetweenGroups P). s.next) d.stays;
     ends = d.stays;
   }
 
@@ -151,7 +151,7 @@ module _ {P : Type 0} (cache : Cache) (pools : Ghosts P) (openings : List (List 
         };
       }
 
-pub end-turned : {P : Type 0} (cache : Cache) (pools : Ghosts P) (openings : List (List ℕ)) (op : Op) (from to : Stand P) (old new : Crew OnHeap) (reply : Reply) → Knows openings old.feeder
+pub end-turned : {P : Type 0} (cache : Cache) (pools : Ghosts P) (openings : List (List ℕ)) (op : Op) (from to : BetweenGroups P) (old new : Crew OnHeap) (reply : Reply) → Knows openings old.feeder
     → AllByRecursion (λ o. AreNoEntries cache.config o.own.mine) (old.feeder ∷ old.parties.items) → DidEndLine cache pools op from to old new reply → Turned cache pools openings op reply from to old new
 end-turned {P} cache pools openings op from to old new reply knows unwritten ended = go ended.did
   where

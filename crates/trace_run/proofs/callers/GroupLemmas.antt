@@ -10,6 +10,7 @@ use Rattle.blk_ptr.specs.declared.memory.NoMemory.{NoMemory}
 use Rattle.blk_ptr.specs.declared.ptr.Ptr.{Ptr}
 use Rattle.vdev_io.specs.declared.device.CacheDev.{Ghosts as DeviceGhosts}
 use Rattle.vdev_io.specs.declared.pool.Pool.{Ghosts}
+use Rattle.vdev_io.specs.Faults.{sum_of_counts}
 use Rattle.arc_core.specs.declared.config.Config.{Config}
 use Rattle.turn_table.specs.Places.{Place}
 use Rattle.arc_table.specs.Cache.{Cache}
@@ -30,7 +31,7 @@ use Rattle.trace_run.specs.one_caller.OneCaller.{kept_after}
 use Rattle.trace_run.specs.one_caller.OverShards.{AreNamed}
 use Rattle.trace_run.specs.Tally.{AreAnswered}
 use Rattle.trace_run.specs.callers.Together.{over_callers}
-use Rattle.trace_run.proofs.callers.AbsorbLemmas.{absorbed-leaves, absorbed-faults, absorbed-reads, over-sum}
+use Rattle.trace_run.proofs.callers.AbsorbLemmas.{absorbed-leaves, over-sum, sum-of-faults, sum-of-reads}
 use Rattle.trace_run.proofs.callers.CallerActLemmas.{own-lines}
 use Rattle.trace_run.proofs.LinesLemmas.{lines-calls, lines-kept, lines-told}
 
@@ -51,28 +52,28 @@ map-at f (y ∷ ys) (suc n) x at = map-at f ys n x at
 -- ---- one caller
 
 -- lines that were done have their answers
-pub lines-answers : {C P : Type 0} (g : Config) (pools : Ghosts P) (device : ℕ) (blocks : List Ptr) (os : List Op) (rs : List Reply) (a b : At C P) → DidLines g pools device blocks os rs a b
+pub lines-answers : {C P : Type 0} (g : Config) (pools : Ghosts P) (blocks : List Ptr) (os : List Op) (rs : List Reply) (a b : At C P) → DidLines g pools blocks os rs a b
     → AreAnswered (pools.size a.pool) (pools.told a.pool) blocks a.kept os rs
-lines-answers g pools device blocks [] [] a b did = tt
-lines-answers g pools device blocks [] (r ∷ rs) a b did = absurd did
-lines-answers g pools device blocks (o ∷ os) [] a b did = absurd did
-lines-answers g pools device blocks (o ∷ os) (r ∷ rs) a b did =
+lines-answers g pools blocks [] [] a b did = tt
+lines-answers g pools blocks [] (r ∷ rs) a b did = absurd did
+lines-answers g pools blocks (o ∷ os) [] a b did = absurd did
+lines-answers g pools blocks (o ∷ os) (r ∷ rs) a b did =
     let one = did.1 in
-    (one.answer, subst (λ (x : ℕ × Option (List ℕ) × List KeptRead). AreAnswered x.0 x.1 blocks x.2 os rs) (λ h. (one.keeps.size h, one.keeps.told h, one.kept h)) (lines-answers g pools device blocks os rs did.0 b did.2))
+    (one.answer, subst (λ (x : ℕ × Option (List ℕ) × List KeptRead). AreAnswered x.0 x.1 blocks x.2 os rs) (λ h. (one.keeps.size h, one.keeps.told h, one.kept h)) (lines-answers g pools blocks os rs did.0 b did.2))
 
-pub lines-number : {C P : Type 0} (g : Config) (pools : Ghosts P) (device : ℕ) (blocks : List Ptr) (os : List Op) (rs : List Reply) (a b : At C P) → DidLines g pools device blocks os rs a b → b.party.number ≡ a.party.number
-lines-number {C} {P} g pools device blocks [] [] a b did = ap (λ (x : At C P). x.party.number) did
-lines-number g pools device blocks [] (r ∷ rs) a b did = absurd did
-lines-number g pools device blocks (o ∷ os) [] a b did = absurd did
-lines-number g pools device blocks (o ∷ os) (r ∷ rs) a b did = lines-number g pools device blocks os rs did.0 b did.2 ∙ did.1.did.number
+pub lines-number : {C P : Type 0} (g : Config) (pools : Ghosts P) (blocks : List Ptr) (os : List Op) (rs : List Reply) (a b : At C P) → DidLines g pools blocks os rs a b → b.party.number ≡ a.party.number
+lines-number {C} {P} g pools blocks [] [] a b did = ap (λ (x : At C P). x.party.number) did
+lines-number g pools blocks [] (r ∷ rs) a b did = absurd did
+lines-number g pools blocks (o ∷ os) [] a b did = absurd did
+lines-number g pools blocks (o ∷ os) (r ∷ rs) a b did = lines-number g pools blocks os rs did.0 b did.2 ∙ did.1.did.number
 
 -- lines of a caller leave the parties that joined
-pub lines-joined : {C P : Type 0} (g : Config) (pools : Ghosts P) (device : ℕ) (blocks : List Ptr) (n : ℕ) (os : List Op) (rs : List Reply) (a b : At C P) → AllByRecursion (λ op. caller_of op ≡ Some n) os → DidLines g pools device blocks os rs a b
+pub lines-joined : {C P : Type 0} (g : Config) (pools : Ghosts P) (blocks : List Ptr) (n : ℕ) (os : List Op) (rs : List Reply) (a b : At C P) → AllByRecursion (λ op. caller_of op ≡ Some n) os → DidLines g pools blocks os rs a b
     → b.party.joined ≡ a.party.joined
-lines-joined {C} {P} g pools device blocks n [] [] a b own did = ap (λ (x : At C P). x.party.joined) did
-lines-joined g pools device blocks n [] (r ∷ rs) a b own did = absurd did
-lines-joined g pools device blocks n (o ∷ os) [] a b own did = absurd did
-lines-joined g pools device blocks n (o ∷ os) (r ∷ rs) a b own did = lines-joined g pools device blocks n os rs did.0 b own.1 did.2 ∙ did.1.did.joined (subst IsSome (sym own.0) refl)
+lines-joined {C} {P} g pools blocks n [] [] a b own did = ap (λ (x : At C P). x.party.joined) did
+lines-joined g pools blocks n [] (r ∷ rs) a b own did = absurd did
+lines-joined g pools blocks n (o ∷ os) [] a b own did = absurd did
+lines-joined g pools blocks n (o ∷ os) (r ∷ rs) a b own did = lines-joined g pools blocks n os rs did.0 b own.1 did.2 ∙ did.1.did.joined (subst IsSome (sym own.0) refl)
 
 answers-length : (len : ℕ) (image : Option (List ℕ)) (blocks : List Ptr) (kept : List KeptRead) (os : List Op) (rs : List Reply) → AreAnswered len image blocks kept os rs → length rs ≡ length os
 answers-length len image blocks kept [] [] answers = refl
@@ -82,34 +83,34 @@ answers-length len image blocks kept (o ∷ os) (r ∷ rs) answers = ap suc (ans
 
 module _ {C P D : Type 0} (cache : Cache) (pools : Ghosts P) (blocks : List Ptr) (ops : List Op) where
   -- what the lines come to
-  pub lines-done : (n device : ℕ) (old new : Caller C P D) (rs : List Reply) → IsReady cache blocks old → old.party.number ≡ n → Stands cache new.party new.kept
-      → DidLines cache.config pools device blocks (filter (is_of_caller n) ops) rs (at old.party (map read_of old.kept) old.pool) (at new.party (map read_of new.kept) new.pool)
+  pub lines-done : (n : ℕ) (old new : Caller C P D) (rs : List Reply) → IsReady cache blocks old → old.party.number ≡ n → Stands cache new.party new.kept
+      → DidLines cache.config pools blocks (filter (is_of_caller n) ops) rs (at old.party (map read_of old.kept) old.pool) (at new.party (map read_of new.kept) new.pool)
       → HasDone cache pools blocks ops n old new rs
-  lines-done n device old new rs ready his stands did =
+  lines-done n old new rs ready his stands did =
       let g : Config = cache.config in
       let os : List Op = filter (is_of_caller n) ops in
       let a : At C P = at old.party (map read_of old.kept) old.pool in
       let b : At C P = at new.party (map read_of new.kept) new.pool in
       record {
-        number = lines-number g pools device blocks os rs a b did ∙ his;
-        alone = lines-joined g pools device blocks n os rs a b (own-lines n ops) did ∙ ready.alone;
+        number = lines-number g pools blocks os rs a b did ∙ his;
+        alone = lines-joined g pools blocks n os rs a b (own-lines n ops) did ∙ ready.alone;
         stands = stands;
-        kept = lines-kept g pools device blocks os rs a b did;
-        told = λ before told. lines-told g pools device blocks os rs a b did before told;
-        answers = lines-answers g pools device blocks os rs a b did;
-        calls = lines-calls g pools device blocks os rs a b did;
+        kept = lines-kept g pools blocks os rs a b did;
+        told = λ before told. lines-told g pools blocks os rs a b did before told;
+        answers = lines-answers g pools blocks os rs a b did;
+        calls = lines-calls g pools blocks os rs a b did;
       }
 
-  -- and of one whose lines are tried, where memory may be short, over a device of some length
+  -- and of one whose lines are tried, where memory may be short
   pub lines-tried : (old new : Caller C P D) → IsReady cache blocks old → IfOk new.replies (λ replies. Stands cache new.party new.kept)
-      → IfOk new.replies (λ replies. (size : ℕ) × DidLines cache.config pools size blocks (filter (is_of_caller old.party.number) ops) replies.items (at old.party (map read_of old.kept) old.pool) (at new.party (map read_of new.kept) new.pool))
+      → IfOk new.replies (λ replies. DidLines cache.config pools blocks (filter (is_of_caller old.party.number) ops) replies.items (at old.party (map read_of old.kept) old.pool) (at new.party (map read_of new.kept) new.pool))
       → HasTried cache pools blocks ops old new
   lines-tried old new ready stands did = record { done = both new.replies stands did }
     where
       both : (r : Result (Vec Reply Global) NoMemory) → IfOk r (λ replies. Stands cache new.party new.kept)
-          → IfOk r (λ replies. (size : ℕ) × DidLines cache.config pools size blocks (filter (is_of_caller old.party.number) ops) replies.items (at old.party (map read_of old.kept) old.pool) (at new.party (map read_of new.kept) new.pool))
+          → IfOk r (λ replies. DidLines cache.config pools blocks (filter (is_of_caller old.party.number) ops) replies.items (at old.party (map read_of old.kept) old.pool) (at new.party (map read_of new.kept) new.pool))
           → IfOk r (λ replies. HasDone cache pools blocks ops old.party.number old new replies.items)
-      both (Ok v) stood done = lines-done old.party.number done.0 old new v.items ready refl stood done.1
+      both (Ok v) stood done = lines-done old.party.number old new v.items ready refl stood done
       both (Err e) stood done = tt
 
   -- a caller that tried, and was answered so, has worked
@@ -286,8 +287,8 @@ module _ {C P D : Type 0} (cache : Cache) (pools : Ghosts P) (blocks : List Ptr)
               };
               worked = h.worked;
             };
-        reads = λ room. omega (arith, all_reads, absorbed-reads pools dones old new absorbs (omega (arith, all_reads, room)));
-        faults = λ room. omega (arith, all_faults, absorbed-faults pools dones old new absorbs (omega (arith, all_faults, room)));
+        reads = λ some. sum-of-reads pools dones old new absorbs (omega (arith, some, long)) ∙ ap (sum_of_counts (pools.reads old)) (sym all_reads);
+        faults = λ some. sum-of-faults pools dones old new absorbs (omega (arith, some, long)) ∙ ap (sum_of_counts (pools.faults old)) (sym all_faults);
         keeps = absorbed-leaves pools dones old new absorbs;
       }
 

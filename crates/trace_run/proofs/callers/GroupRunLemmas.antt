@@ -62,7 +62,7 @@ use Rattle.trace_run.specs.one_caller.OneCaller.{events_of_drops, kept_after, ke
 use Rattle.trace_run.specs.one_caller.OverShards.{AreNamed}
 use Rattle.trace_run.specs.Restores.{events_by_feeder, restores_in}
 use Rattle.trace_run.specs.Tally.{AreDeclared}
-use Rattle.trace_run.specs.callers.Together.{AreCut, IsFirstPlace, Lines, StoodThen, WorkInGroups, answered_ops, faults_told, groups_of, over_callers, reads_of_caller, replies_of_caller, stand}
+use Rattle.trace_run.specs.callers.Together.{AreCut, IsFirstPlace, GroupLines, StoodThen, WorkInGroups, answered_ops, faults_told, groups_of, over_callers, reads_of_caller, replies_of_caller, between_groups}
 use Rattle.trace_run.proofs.callers.AbsorbLemmas.{over-few}
 use Rattle.trace_run.proofs.callers.AfterEnds.{AreAfter, crew-after, crew-long}
 use Rattle.trace_run.proofs.callers.CallerActLemmas.{line-kind, own-lines}
@@ -91,6 +91,11 @@ module _ (trace : Trace) (formed : IsFormed trace) where
   caller-below (ops.Read m t x w) possible n of = subst (λ (k : ℕ). k < trace.config.callers) (some-number m n of) possible.0.0
   caller-below (ops.Hold m t x) possible n of = subst (λ (k : ℕ). k < trace.config.callers) (some-number m n of) possible.0.0
   caller-below (ops.Drop m x) possible n of = subst (λ (k : ℕ). k < trace.config.callers) (some-number m n of) possible.0.0
+  caller-below (ops.Get m t at window) possible n of = subst (λ (k : ℕ). k < trace.config.callers) (some-number m n of) possible.0.0
+  caller-below (ops.Put m t at size fill) possible n of = subst (λ (k : ℕ). k < trace.config.callers) (some-number m n of) possible.0.0
+  caller-below (ops.Patch m t at from bytes) possible n of = subst (λ (k : ℕ). k < trace.config.callers) (some-number m n of) possible.0.0
+  caller-below (ops.Pin m t at) possible n of = subst (λ (k : ℕ). k < trace.config.callers) (some-number m n of) possible.0.0
+  caller-below (ops.Unpin m at) possible n of = subst (λ (k : ℕ). k < trace.config.callers) (some-number m n of) possible.0.0
   caller-below other possible n of = cc
 
   pub all-callers : (k : ℕ) (op : Op) → slice_get trace.ops k ≡ Some op → (n : ℕ) → caller_of op ≡ Some n → n < trace.config.callers
@@ -559,7 +564,7 @@ end-no-fault o r (inr sync) = ap is_pool_fault sync.5
 -- ---- what the run came to
 
 module _ {P : Type 0} (m : Meanings OnHeap) (cache : Cache) (pools : Ghosts P) (before after : P) (place : ℕ) (trace : Trace) (formed : IsFormed trace) (config : cache.config ≡ trace.config) (valid : IsConfig cache.config)
-    (fork_failed : Bool) (restored : List Restored) (rs : List Reply) (crew : Crew OnHeap) (d : AreDone cache restored pools trace (stand before 1 place) after fork_failed rs crew) (closed : Ended OnHeap) (h : HaveClosed m cache crew closed) where
+    (fork_failed : Bool) (restored : List Restored) (rs : List Reply) (crew : Crew OnHeap) (d : AreDone cache restored pools trace (between_groups before 1 place) after fork_failed rs crew) (closed : Ended OnHeap) (h : HaveClosed m cache crew closed) where
   abbrev callers : ℕ
   callers = cache.config.callers
 
@@ -672,8 +677,8 @@ module _ {P : Type 0} (m : Meanings OnHeap) (cache : Cache) (pools : Ghosts P) (
       place = place;
       first = first;
       reached = d.reached;
-      groups = in-groups-as pools trace.config (StoodFresh (openings_of trace) trace.config.cells) (StoodThen trace closed.cells) (fresh-then trace closed cells) (groups_of trace.ops rs) (stand before 1 place) d.reached
-          (subst (λ (x : Config × List Lines). WorkInGroups pools x.0 (StoodFresh (openings_of trace) x.0.cells) x.1 (stand before 1 place) d.reached)
+      groups = in-groups-as pools trace.config (StoodFresh (openings_of trace) trace.config.cells) (StoodThen trace closed.cells) (fresh-then trace closed cells) (groups_of trace.ops rs) (between_groups before 1 place) d.reached
+          (subst (λ (x : Config × List GroupLines). WorkInGroups pools x.0 (StoodFresh (openings_of trace) x.0.cells) x.1 (between_groups before 1 place) d.reached)
           (λ i. (config i, (sym (groups-prefix os more rs come.long) ∙ ap (λ (l : List Op). groups_of l rs) whole-ops) i)) d.between.groups);
       whole = λ is. (d.whole is).1;
       counted = λ n below.

@@ -46,7 +46,7 @@ use Rattle.trace_run.specs.one_caller.OneCaller.{kept_after, kept_after_all}
 use Rattle.trace_run.specs.Restores.{events_by_feeder, restores_in}
 use Rattle.trace_run.specs.Opened.{AreOpened, IsOpened}
 use Rattle.trace_run.specs.Tally.{AreAnswered}
-use Rattle.trace_run.specs.callers.Together.{AreCut, BeginsGroup, IsCut, Lines, ends_group, groups_of, replies_of_caller, with_first}
+use Rattle.trace_run.specs.callers.Together.{AreCut, BeginsGroup, IsCut, GroupLines, ends_group, groups_of, replies_of_caller, with_first}
 use Rattle.trace_run.proofs.FeederLemmas.{own-restores}
 use Rattle.trace_run.proofs.callers.MeetLemmas.{parted-waits, same-own-events, starts-then}
 use Rattle.trace_run.proofs.OpenLemmas.{new-seen}
@@ -118,6 +118,18 @@ none-fed n callers (o ∷ os) (r ∷ rs) own = go o (own 0 o refl).0 (own 0 o re
     go (ops.Cap c) m of rest = cc
     go other m of rest = rest
 
+-- a line that ends a group is no caller's
+ends-nobody : (op : Op) → ends_group op ≡ true → caller_of op ≡ None
+ends-nobody (ops.Read n t x window) is = cc
+ends-nobody (ops.Hold n t x) is = cc
+ends-nobody (ops.Drop n x) is = cc
+ends-nobody (ops.Get n t at window) is = cc
+ends-nobody (ops.Put n t at size fill) is = cc
+ends-nobody (ops.Patch n t at from bytes) is = cc
+ends-nobody (ops.Pin n t at) is = cc
+ends-nobody (ops.Unpin n at) is = cc
+ends-nobody other is = refl
+
 -- the lines of a group are all some caller's
 pub no-other : (callers : ℕ) (os : List Op) → AreOfCallers callers os → (k : ℕ) (op : Op) → slice_get os k ≡ Some op → caller_of op ≡ None → ⊥
 no-other callers os own k op at none = let of = (own k op at).1 in some-none (sym of ∙ none)
@@ -129,30 +141,32 @@ no-other callers os own k op at none = let of = (own k op at).1 in some-none (sy
 
 module _ (config : Config) (restored : List Restored) (blocks : List Ptr) (shard : ℕ) where
   -- behind what the feeder had seen
-  pub cut-more : (os : List Op) (rs : List Reply) (c : ℕ) (h g : List Event) → StartsWith g h → IsCut config restored blocks shard os rs c h → IsCut config restored blocks shard os rs c g
-  cut-more os rs c h g starts cut = record {
+  pub cut-more : (os : List Op) (rs : List Reply) (here h g : List Event) → StartsWith g h → IsCut config restored blocks shard os rs here h → IsCut config restored blocks shard os rs here g
+  cut-more os rs here h g starts cut = record {
     front = cut.front;
     rest = cut.rest ++ starts.0;
-    whole = starts.1 ∙ (ap (λ (l : List Event). l ++ starts.0) cut.whole ∙ append_assoc cut.front (Resize config.callers c ∷ cut.rest) starts.0);
+    whole = starts.1
+        ∙ (ap (λ (l : List Event). l ++ starts.0) cut.whole ∙ (append_assoc cut.front (here ++ cut.rest) starts.0 ∙ ap (λ (l : List Event). cut.front ++ l) (append_assoc here cut.rest starts.0)));
     callers = cut.callers;
     feeder = cut.feeder;
   }
 
   pub are-cut-more : (os : List Op) (rs : List Reply) (h g : List Event) → StartsWith g h → AreCut config restored blocks shard os rs h → AreCut config restored blocks shard os rs g
-  are-cut-more os rs h g starts cut k c at below = cut-more (take k os) (take k rs) c h g starts (cut k c at below)
+  are-cut-more os rs h g starts cut k op at ends below = cut-more (take k os) (take k rs) (events_of_feeder config.callers op) h g starts (cut k op at ends below)
 
   -- by lines that stand before others
   pub cut-before : (os qs : List Op) (rs ss : List Reply) (h : List Event) → length rs ≡ length os → AreCut config restored blocks shard os rs h
-      → (k c : ℕ) → slice_get (os ++ qs) k ≡ Some (ops.Cap c) → k < length os → IsCut config restored blocks shard (take k (os ++ qs)) (take k (rs ++ ss)) c h
-  cut-before os qs rs ss h same cut k c at below =
-      subst (λ (x : List Op × List Reply). IsCut config restored blocks shard x.0 x.1 c h) (λ i. (sym (take-append-le k os qs (omega (arith, below))) i, sym (take-append-le k rs ss (omega (arith, below, same))) i))
-      (cut k c (sym (get-left os qs k below) ∙ at) (omega (arith, below, same)))
+      → (k : ℕ) (op : Op) → slice_get (os ++ qs) k ≡ Some op → ends_group op ≡ true → k < length os
+      → IsCut config restored blocks shard (take k (os ++ qs)) (take k (rs ++ ss)) (events_of_feeder config.callers op) h
+  cut-before os qs rs ss h same cut k op at ends below =
+      subst (λ (x : List Op × List Reply). IsCut config restored blocks shard x.0 x.1 (events_of_feeder config.callers op) h) (λ i. (sym (take-append-le k os qs (omega (arith, below))) i, sym (take-append-le k rs ss (omega (arith, below, same))) i))
+      (cut k op (sym (get-left os qs k below) ∙ at) ends (omega (arith, below, same)))
 
 -- behind the lines that are answered nothing is cut
 pub cut-prefix : (config : Config) (restored : List Restored) (blocks : List Ptr) (shard : ℕ) (os more : List Op) (rs : List Reply) (h : List Event) → length rs ≡ length os → AreCut config restored blocks shard os rs h → AreCut config restored blocks shard (os ++ more) rs h
-cut-prefix config restored blocks shard os more rs h same cut k c at below =
-    subst (λ (x : List Op × List Reply). IsCut config restored blocks shard x.0 x.1 c h) (λ i. (take k (os ++ more), ap (take k) (append-nil rs) i))
-    (cut-before config restored blocks shard os more rs [] h same cut k c at (omega (arith, below, same)))
+cut-prefix config restored blocks shard os more rs h same cut k op at ends below =
+    subst (λ (x : List Op × List Reply). IsCut config restored blocks shard x.0 x.1 (events_of_feeder config.callers op) h) (λ i. (take k (os ++ more), ap (take k) (append-nil rs) i))
+    (cut-before config restored blocks shard os more rs [] h same cut k op at ends (omega (arith, below, same)))
 
 -- ---- groups
 
@@ -162,13 +176,13 @@ EndsWhole [] = Unit {0}
 EndsWhole (o ∷ []) = ends_group o ≡ true
 EndsWhole (o ∷ (x ∷ xs)) = EndsWhole (x ∷ xs)
 
-some-group : (o : Op) (os : List Op) (r : Reply) (rs : List Reply) → (first : Lines) × (rest : List Lines) × (groups_of (o ∷ os) (r ∷ rs) ≡ first ∷ rest)
+some-group : (o : Op) (os : List Op) (r : Reply) (rs : List Reply) → (first : GroupLines) × (rest : List GroupLines) × (groups_of (o ∷ os) (r ∷ rs) ≡ first ∷ rest)
 some-group o os r rs = elim (cases_true (ends_group o)) [
   | inl ends ↦ (record { ops = []; replies = []; end = Some (record { op = o; reply = r }) }, groups_of os rs, rw ends refl)
   | inr inside ↦ go (groups_of os rs) (rw inside refl)
 ]
   where
-    go : (gs : List Lines) → groups_of (o ∷ os) (r ∷ rs) ≡ with_first o r gs → (first : Lines) × (rest : List Lines) × (groups_of (o ∷ os) (r ∷ rs) ≡ first ∷ rest)
+    go : (gs : List GroupLines) → groups_of (o ∷ os) (r ∷ rs) ≡ with_first o r gs → (first : GroupLines) × (rest : List GroupLines) × (groups_of (o ∷ os) (r ∷ rs) ≡ first ∷ rest)
     go [] is = (record { ops = o ∷ []; replies = r ∷ []; end = None }, [], is)
     go (g ∷ gs) is = (record { ops = o ∷ g.ops; replies = r ∷ g.replies; end = g.end }, gs, is)
 
@@ -182,10 +196,10 @@ groups-append (o ∷ (x ∷ xs)) qs (r ∷ []) ss same whole = absurd (omega (ar
 groups-append (o ∷ (x ∷ xs)) qs (r ∷ (s ∷ rs)) ss same whole =
     let rest = groups-append (x ∷ xs) qs (s ∷ rs) ss (omega (arith, same)) whole in
     elim (cases_true (ends_group o)) [
-      | inl ends ↦ rw ends (ap (λ (l : List Lines). record { ops = []; replies = []; end = Some (record { op = o; reply = r }) } ∷ l) rest)
+      | inl ends ↦ rw ends (ap (λ (l : List GroupLines). record { ops = []; replies = []; end = Some (record { op = o; reply = r }) } ∷ l) rest)
       | inr inside ↦
           let some_of = some-group x xs s rs in
-          rw inside (ap (with_first o r) rest ∙ (ap (λ (l : List Lines). with_first o r (l ++ groups_of qs ss)) some_of.2 ∙ ap (λ (l : List Lines). with_first o r l ++ groups_of qs ss) (sym some_of.2)))
+          rw inside (ap (with_first o r) rest ∙ (ap (λ (l : List GroupLines). with_first o r (l ++ groups_of qs ss)) some_of.2 ∙ ap (λ (l : List GroupLines). with_first o r l ++ groups_of qs ss) (sym some_of.2)))
     ]
 
 -- lines of callers are one group, which the next line ends
@@ -221,7 +235,7 @@ groups-prefix (o ∷ os) more [] same = absurd (omega arith)
 groups-prefix (o ∷ os) more (r ∷ rs) same =
     let rest = groups-prefix os more rs (omega (arith, same)) in
     elim (cases_true (ends_group o)) [
-      | inl ends ↦ rw ends (ap (λ (l : List Lines). record { ops = []; replies = []; end = Some (record { op = o; reply = r }) } ∷ l) rest)
+      | inl ends ↦ rw ends (ap (λ (l : List GroupLines). record { ops = []; replies = []; end = Some (record { op = o; reply = r }) } ∷ l) rest)
       | inr inside ↦ rw inside (ap (with_first o r) rest)
     ]
 
@@ -460,7 +474,7 @@ module _ {C P : Type 0} (cache : Cache) (restored : List Restored) (pools : Ghos
         (subst (λ (fed : ℕ → List Event). IsFed cache old.feeder.own.about.openings fed (λ shard. seen_of cache.config shard old.feeder) old.feeder) (sym feeds-are) before.feeder);
     begun = λ shard below. subst (λ (p : Place (Known C)). StartsWith (seen_of cache.config shard p) (restores_in cache.config restored shard)) (sym did.feeder) (before.begun shard below);
     cut = λ shard below. subst (λ (p : Place (Known C)). AreCut cache.config restored blocks shard (os ++ qs) (rs ++ ss) (seen_of cache.config shard p)) (sym did.feeder)
-        (λ k c at inside. cut-before cache.config restored blocks shard os qs rs ss (seen_of cache.config shard old.feeder) before.long (before.cut shard below) k c at (in-front k (ops.Cap c) at refl));
+        (λ k op at ends inside. cut-before cache.config restored blocks shard os qs rs ss (seen_of cache.config shard old.feeder) before.long (before.cut shard below) k op at ends (in-front k op at (ends-nobody op ends)));
   }
 
 -- ---- a line that ends a group
@@ -477,7 +491,7 @@ pub record EndsSo {C : Type 0} (cache : Cache) (op : Op) (reply : Reply) (more :
   pub end : IsEndLine op reply
   pub nobody : caller_of op ≡ None
   pub feeds : (shard : ℕ) → shard < cache.config.shards → own_events cache.config.callers (more shard) ≡ events_of_feeder cache.config.callers op
-  pub caps : (shard c : ℕ) → shard < cache.config.shards → op ≡ ops.Cap c → more shard ≡ Resize cache.config.callers c ∷ []
+  pub here : (shard : ℕ) → shard < cache.config.shards → more shard ≡ events_of_feeder cache.config.callers op
 
 module _ {C : Type 0} (cache : Cache) (restored : List Restored) (len : ℕ) (image : Option (List ℕ)) (blocks : List Ptr) (os : List Op) (rs : List Reply) (op : Op) (reply : Reply) (more : (shard : ℕ) → List Event) (old new : Crew C)
     (before : HaveCome cache restored len image blocks os rs old) (so : EndsSo cache op reply more old new) where
@@ -538,12 +552,12 @@ module _ {C : Type 0} (cache : Cache) (restored : List Restored) (len : ℕ) (im
   grown : (shard : ℕ) → StartsWith (seen_of g shard new.feeder) (seen_of g shard old.feeder)
   grown shard = starts-then (seen_of g shard new.feeder) (so.made.front shard) (seen_of g shard old.feeder) (more shard, so.made.seen shard) (so.made.since shard)
 
-  -- what stands before a capacity
-  cut-here : (shard c : ℕ) → shard < g.shards → op ≡ ops.Cap c → IsCut g restored blocks shard os rs c (seen_of g shard new.feeder)
-  cut-here shard c below is = record {
+  -- what stands before it
+  cut-here : (shard : ℕ) → shard < g.shards → IsCut g restored blocks shard os rs asked (seen_of g shard new.feeder)
+  cut-here shard below = record {
     front = so.made.front shard;
     rest = [];
-    whole = so.made.seen shard ∙ ap (λ (es : List Event). so.made.front shard ++ es) (so.caps shard c below is);
+    whole = so.made.seen shard ∙ ap (λ (es : List Event). so.made.front shard ++ es) (so.here shard below ∙ sym (append-nil asked));
     callers = λ n lt.
         let b = before.each n lt in
         let same = all-at _ old.parties.items n b.party (so.made.others shard) b.at.party_at in
@@ -553,19 +567,20 @@ module _ {C : Type 0} (cache : Cache) (restored : List Restored) (len : ℕ) (im
   }
 
   all-cut : (shard : ℕ) → shard < g.shards → AreCut g restored blocks shard (os ++ op ∷ []) (rs ++ reply ∷ []) (seen_of g shard new.feeder)
-  all-cut shard below k d at inside = elim (cases_lt k (length os)) [
+  all-cut shard below k line at ends inside = elim (cases_lt k (length os)) [
     | inl early ↦
-        cut-more g restored blocks shard (take k (os ++ op ∷ [])) (take k (rs ++ reply ∷ [])) d (seen_of g shard old.feeder) (seen_of g shard new.feeder) (grown shard)
-        (cut-before g restored blocks shard os (op ∷ []) rs (reply ∷ []) (seen_of g shard old.feeder) before.long (before.cut shard below) k d at early)
+        cut-more g restored blocks shard (take k (os ++ op ∷ [])) (take k (rs ++ reply ∷ [])) (events_of_feeder g.callers line) (seen_of g shard old.feeder) (seen_of g shard new.feeder) (grown shard)
+        (cut-before g restored blocks shard os (op ∷ []) rs (reply ∷ []) (seen_of g shard old.feeder) before.long (before.cut shard below) k line at ends early)
     | inr late ↦
         let last : k ≡ length os = omega (arith, late, inside, before.long, length-append rs (reply ∷ [])) in
-        let is : ops.Cap d ≡ op = some-same (ops.Cap d) op (sym at ∙ (ap (slice_get (os ++ op ∷ [])) (last ∙ omega arith) ∙ get-right os (op ∷ []) 0)) in
-        subst (λ (x : List Op × List Reply). IsCut g restored blocks shard x.0 x.1 d (seen_of g shard new.feeder))
+        let is : line ≡ op = some-same line op (sym at ∙ (ap (slice_get (os ++ op ∷ [])) (last ∙ omega arith) ∙ get-right os (op ∷ []) 0)) in
+        subst (λ (x : List Op × List Reply × Op). IsCut g restored blocks shard x.0 x.1 (events_of_feeder g.callers x.2) (seen_of g shard new.feeder))
         (λ i. (
           sym (ap (λ (m : ℕ). take m (os ++ op ∷ [])) last ∙ take-append_seam os (op ∷ [])) i,
           sym (ap (λ (m : ℕ). take m (rs ++ reply ∷ [])) (last ∙ sym before.long) ∙ take-append_seam rs (reply ∷ [])) i,
+          sym is i,
         ))
-        (cut-here shard d below (sym is))
+        (cut-here shard below)
   ]
 
   all-ended : AreEndLines (os ++ op ∷ []) (rs ++ reply ∷ [])
@@ -614,7 +629,7 @@ cap-ends cache c old new resized kept = record {
   end = inl (c, refl, refl);
   nobody = refl;
   feeds = λ shard below. ap (own_events cache.config.callers) (here shard c below) ∙ own-resize cache.config.callers;
-  caps = λ shard d below is. here shard c below ∙ ap (λ (x : ℕ). Resize cache.config.callers x ∷ []) (cap-same c d is);
+  here = λ shard below. here shard c below;
 }
   where
     here : (shard c : ℕ) → shard < cache.config.shards → resizes_in cache.config.shards cache.config.callers c shard ≡ Resize cache.config.callers c ∷ []
@@ -625,9 +640,6 @@ cap-ends cache c old new resized kept = record {
     own-resize : (n : ℕ) → own_events n (Resize n c ∷ []) ≡ Resize n c ∷ []
     own-resize n = rw (eq-eqb n n refl) refl
 
-    cap-same : (a b : ℕ) → ops.Cap a ≡ ops.Cap b → a ≡ b
-    cap-same a b is = cc
-
 pub sync-ends : {C : Type 0} (cache : Cache) (t group blocks bytes : ℕ) (old new : Crew C) → MadeJoined cache (λ shard. []) old.feeder old.parties.items new.feeder new.parties.items → new.kept.items ≡ old.kept.items
     → EndsSo cache (ops.Txg t) (Synced group blocks bytes) (λ shard. []) old new
 sync-ends cache t group blocks bytes old new made kept = record {
@@ -636,8 +648,5 @@ sync-ends cache t group blocks bytes old new made kept = record {
   end = inr (t, group, blocks, bytes, refl, refl);
   nobody = refl;
   feeds = λ shard below. refl;
-  caps = λ shard d below is. other d is;
+  here = λ shard below. refl;
 }
-  where
-    other : (d : ℕ) → ops.Txg t ≡ ops.Cap d → [] ≡ Resize cache.config.callers d ∷ []
-    other d is = cc

@@ -28,7 +28,7 @@ use Rattle.trace_text.specs.declared.reply.Reply.TheVariants.{Capped}
 use Rattle.trace_text.specs.declared.trace.Trace.{Trace}
 use Rattle.trace_text.specs.Grammar.{IsFormed}
 use Rattle.vdev_io.specs.Calls.{MakesCalls}
-use Rattle.vdev_io.specs.Faults.{last_count}
+use Rattle.vdev_io.specs.Faults.{last_count, sum_of_counts}
 use Rattle.vdev_io.specs.declared.pool.Pool.{Ghosts}
 use Rattle.trace_run.specs.declared.groups.Crew.{Crew}
 use Rattle.trace_run.specs.declared.kept_blocks.KeptBlock.{KeptBlock}
@@ -40,7 +40,7 @@ use Rattle.trace_run.specs.callers.InOrder.{AreInOrder}
 use Rattle.trace_run.specs.Lines.{caller_of, is_of_caller}
 use Rattle.trace_run.specs.Openings.{Knows, openings_of}
 use Rattle.trace_run.specs.Tally.{AreDeclared}
-use Rattle.trace_run.specs.callers.Together.{BeginsGroup, EndLine, EndsGroup, Lines, OfCells, Stand, WorkAtOnce, WorkInGroups, ends_group, groups_of, over_callers, replies_of_caller, stand}
+use Rattle.trace_run.specs.callers.Together.{BeginsGroup, EndLine, EndsGroup, GroupLines, OfCells, BetweenGroups, WorkAtOnce, WorkInGroups, ends_group, groups_of, over_callers, replies_of_caller, between_groups}
 use Rattle.trace_run.proofs.callers.AbsorbLemmas.{over-few}
 use Rattle.trace_run.proofs.callers.CallerActLemmas.{line-kind}
 use Rattle.trace_run.proofs.callers.GroupCounts.{over-add, over-same, over-zero}
@@ -94,7 +94,7 @@ leaves-same pools a = record { size = refl; told = refl; faults = omega arith }
 
 -- What callers who worked at once did to the pool. It was the same before their forks were made.
 module _ {C P : Type 0} (cache : Cache) (pools : Ghosts P) (blocks : List Ptr) (qs : List Op) (callers : ℕ) (was from to : P) (own : List (List Reply)) (had : List (List KeptBlock)) (ps : List (Place (Known C))) (kept : List (List KeptBlock)) (xs : List (Place (Known C))) (ss : List Reply)
-    (unused : IsUnused pools was from) (w : HaveWorked cache pools blocks qs callers from to own had ps kept xs) (ordered : AreInOrder qs own ss) where
+    (unused : IsUnused pools was from) (w : HaveWorked cache pools blocks qs callers from to own had ps kept xs) (ordered : AreInOrder qs own ss) (some : 0 < callers) where
   calls-are : (n : ℕ) → n < callers → MakesCalls pools (calls_of_all (replies_of_caller n qs ss)) (w.forks n) (w.done n)
   calls-are n below =
       let h = w.each n below in
@@ -108,8 +108,8 @@ module _ {C P : Type 0} (cache : Cache) (pools : Ghosts P) (blocks : List Ptr) (
     told = λ n below. (w.fresh n below).told ∙ unused.told;
     fresh = λ n below. ((w.fresh n below).reads, (w.fresh n below).faults);
     works = λ n below. record { made = calls-are n below };
-    reads = λ room. let same = unused.reads in omega (arith, same, w.reads (omega (arith, same, room)));
-    faults = λ room. let same = unused.faults in omega (arith, same, w.faults (omega (arith, same, room)));
+    reads = w.reads some ∙ ap (λ (k : ℕ). sum_of_counts k (over_callers callers (λ n. pools.reads (w.done n)))) unused.reads;
+    faults = w.faults some ∙ ap (λ (k : ℕ). sum_of_counts k (over_callers callers (λ n. pools.faults (w.done n)))) unused.faults;
     keeps = (w.keeps.size ∙ unused.size, w.keeps.told ∙ unused.told);
   }
 
@@ -139,10 +139,10 @@ module _ {C P : Type 0} (cache : Cache) (pools : Ghosts P) (blocks : List Ptr) (
     few-failed = omega (arith, over-few callers (failed qs ss) 1000000 (λ n below. failed-few qs ss n 1000000 few), some_callers)
 
     pub group-reads : pools.reads was + 16000000 ≤ last_count → pools.reads to ≡ pools.reads was + over_callers callers (asked qs ss)
-    group-reads room = let same = unused.reads in omega (arith, same, all-asked, w.reads (omega (arith, same, all-asked, few-asked, room)))
+    group-reads room = let same = unused.reads in omega (arith, same, all-asked, few-asked, room, w.reads some)
 
     pub group-faults : pools.faults was + 16000000 ≤ last_count → pools.faults to ≡ pools.faults was + over_callers callers (failed qs ss)
-    group-faults room = let same = unused.faults in omega (arith, same, all-failed, w.faults (omega (arith, same, all-failed, few-failed, room)))
+    group-faults room = let same = unused.faults in omega (arith, same, all-failed, few-failed, room, w.faults some)
 
 module _ {P : Type 0} (pools : Ghosts P) (callers : ℕ) (os qs : List Op) (rs ss : List Reply) (long : length rs ≡ length os) (before was to : P) (few : length rs ≤ 1000000) (some_callers : callers ≤ 16) (so_far : HaveCounted pools callers os rs before was) where
   most-asked : over_callers callers (asked os rs) ≤ 16000000
@@ -168,15 +168,15 @@ module _ {P : Type 0} (pools : Ghosts P) (callers : ℕ) (os qs : List Op) (rs s
 
 -- ---- groups that were done
 
-in-groups-more : {P : Type 0} (pools : Ghosts P) (config : Config) (Cells : OfCells) (gs : List Lines) (last : Lines) (a b c : Stand P) (worked : P) → WorkInGroups pools config Cells gs a b → WorkAtOnce pools config.callers last b.pool worked
-    → EndsGroup pools config Cells last.end (stand worked b.group b.next) c → WorkInGroups pools config Cells (gs ++ last ∷ []) a c
+in-groups-more : {P : Type 0} (pools : Ghosts P) (config : Config) (Cells : OfCells) (gs : List GroupLines) (last : GroupLines) (a b c : BetweenGroups P) (worked : P) → WorkInGroups pools config Cells gs a b → WorkAtOnce pools config.callers last b.pool worked
+    → EndsGroup pools config Cells last.end (between_groups worked b.group b.next) c → WorkInGroups pools config Cells (gs ++ last ∷ []) a c
 in-groups-more pools config Cells [] last a b c worked done once ends =
-    (worked, c, subst (λ x. WorkAtOnce pools config.callers last x.pool worked) done once, subst (λ x. EndsGroup pools config Cells last.end (stand worked x.group x.next) c) done ends, refl)
+    (worked, c, subst (λ x. WorkAtOnce pools config.callers last x.pool worked) done once, subst (λ x. EndsGroup pools config Cells last.end (between_groups worked x.group x.next) c) done ends, refl)
 in-groups-more pools config Cells (g ∷ gs) last a b c worked done once ends = (done.0, done.1, done.2, done.3, in-groups-more pools config Cells gs last done.1 b c worked done.4 once ends)
 
 -- ---- between two groups
 
-pub between-none : {C P : Type 0} (cache : Cache) (restored : List Restored) (pools : Ghosts P) (trace : Trace) (start : Stand P) (crew : Crew C) → HaveCome cache restored (pools.size start.pool) (pools.told start.pool) trace.blocks [] [] crew
+pub between-none : {C P : Type 0} (cache : Cache) (restored : List Restored) (pools : Ghosts P) (trace : Trace) (start : BetweenGroups P) (crew : Crew C) → HaveCome cache restored (pools.size start.pool) (pools.told start.pool) trace.blocks [] [] crew
     → Knows (openings_of trace) crew.feeder → MaySync pools 0 start → AreBetween cache restored pools trace start start [] crew
 between-none cache restored pools trace start crew come knows may = record {
   few = omega arith;
@@ -193,11 +193,11 @@ between-none cache restored pools trace start crew come knows may = record {
 }
 
 -- the first sync may be done
-pub first-may : {P : Type 0} (pools : Ghosts P) (pool : P) (place len : ℕ) → place % sector ≡ 0 → place ≤ len → len ≡ pools.size pool → MaySync pools 0 (stand pool 1 place)
+pub first-may : {P : Type 0} (pools : Ghosts P) (pool : P) (place len : ℕ) → place % sector ≡ 0 → place ≤ len → len ≡ pools.size pool → MaySync pools 0 (between_groups pool 1 place)
 first-may pools pool place len aligned inside is = record { born = omega arith; few = omega arith; aligned = aligned; inside = subst (λ (n : ℕ). place ≤ n) is inside }
 
 -- before the first one, behind the restores
-pub between-begun : {C P : Type 0} (cache : Cache) (restored : List Restored) (pools : Ghosts P) (trace : Trace) (start : Stand P) (whole : List (Place (Known C))) (old new : Crew C) → AreOpened cache whole
+pub between-begun : {C P : Type 0} (cache : Cache) (restored : List Restored) (pools : Ghosts P) (trace : Trace) (start : BetweenGroups P) (whole : List (Place (Known C))) (old new : Crew C) → AreOpened cache whole
     → whole ≡ old.parties.items ++ old.feeder ∷ [] → KeepNothing old.kept.items → length old.kept.items ≡ length old.parties.items
     → MadeJoined cache (restores_in cache.config restored) old.feeder old.parties.items new.feeder new.parties.items → new.kept.items ≡ old.kept.items → Knows (openings_of trace) old.feeder → MaySync pools 0 start
     → AreBetween cache restored pools trace start start [] new
@@ -206,7 +206,7 @@ between-begun cache restored pools trace start whole old new opened is none many
     (have-restored cache restored (pools.size start.pool) (pools.told start.pool) trace.blocks old new whole opened is (have-started cache whole old opened is none many (pools.size start.pool) (pools.told start.pool) trace.blocks) made kept)
     (ap (λ (a : About). a.openings) made.about ∙ knows) may
 
-module _ {P : Type 0} (cache : Cache) (restored : List Restored) (pools : Ghosts P) (trace : Trace) (start was : Stand P) (from to : P) (rs ss : List Reply) (qs : List Op) (old new : Crew OnHeap) (few : length trace.ops ≤ 1000000) (some_callers : cache.config.callers ≤ 16)
+module _ {P : Type 0} (cache : Cache) (restored : List Restored) (pools : Ghosts P) (trace : Trace) (start was : BetweenGroups P) (from to : P) (rs ss : List Reply) (qs : List Op) (old new : Crew OnHeap) (few : length trace.ops ≤ 1000000) (some_callers : (0 < cache.config.callers) × (cache.config.callers ≤ 16))
     (between : AreBetween cache restored pools trace start was rs old) (more : length rs < length trace.ops) (unused : IsUnused pools was.pool from) (did : DidLinesAtOnce cache pools trace.blocks qs from to old new ss) (leaves : LeavesPool pools from to)
     (own : AreOfCallers cache.config.callers qs) (inside : length rs + length qs ≤ length trace.ops) (here : take (length qs) (drop (length rs) trace.ops) ≡ qs) where
   abbrev callers : ℕ
@@ -240,32 +240,32 @@ module _ {P : Type 0} (cache : Cache) (restored : List Restored) (pools : Ghosts
   few-here = omega (arith, same-length, inside, few)
 
   once : (end : Option EndLine) → WorkAtOnce pools callers (record { ops = qs; replies = ss; end = end }) was.pool to
-  once = at-once cache pools trace.blocks qs callers was.pool from to did.own old.kept.items old.parties.items new.kept.items new.parties.items ss unused worked did.ordered
+  once = at-once cache pools trace.blocks qs callers was.pool from to did.own old.kept.items old.parties.items new.kept.items new.parties.items ss unused worked did.ordered some_callers.0
 
   now-leaves : LeavesPool pools was.pool to
   now-leaves = unused-leaves pools was.pool from to unused leaves
 
   counted-lines : HaveCounted pools callers (os ++ qs) (rs ++ ss) start.pool to
-  counted-lines = counted-more pools callers os qs rs ss long start.pool was.pool to few-so-far some_callers between.counted now-leaves
-      (group-reads cache pools trace.blocks qs callers was.pool from to did.own old.kept.items old.parties.items new.kept.items new.parties.items ss unused worked did.ordered few-here some_callers)
-      (group-faults cache pools trace.blocks qs callers was.pool from to did.own old.kept.items old.parties.items new.kept.items new.parties.items ss unused worked did.ordered few-here some_callers)
+  counted-lines = counted-more pools callers os qs rs ss long start.pool was.pool to few-so-far some_callers.1 between.counted now-leaves
+      (group-reads cache pools trace.blocks qs callers was.pool from to did.own old.kept.items old.parties.items new.kept.items new.parties.items ss unused worked did.ordered some_callers.0 few-here some_callers.1)
+      (group-faults cache pools trace.blocks qs callers was.pool from to did.own old.kept.items old.parties.items new.kept.items new.parties.items ss unused worked did.ordered some_callers.0 few-here some_callers.1)
 
   come-lines : HaveCome cache restored (pools.size start.pool) (pools.told start.pool) trace.blocks (os ++ qs) (rs ++ ss) new
   come-lines = have-come-more cache restored pools (pools.size start.pool) (pools.told start.pool) trace.blocks os qs rs ss from to old new between.come did own (unused.size ∙ between.counted.keeps.size) (unused.told ∙ between.counted.keeps.told)
 
   -- the trace ends with these lines
-  pub between-last : length rs + length qs ≡ length trace.ops → AreBetween cache restored pools trace start (stand to was.group was.next) (rs ++ ss) new
+  pub between-last : length rs + length qs ≡ length trace.ops → AreBetween cache restored pools trace start (between_groups to was.group was.next) (rs ++ ss) new
   between-last all = record {
     few = omega (arith, both-long, all);
     begins = λ less. absurd (omega (arith, both-long, all, less));
     come = subst (λ (l : List Op). HaveCome cache restored (pools.size start.pool) (pools.told start.pool) trace.blocks l (rs ++ ss) new) (sym taken) come-lines;
     knows = ap (λ (p : PartyPlace). p.own.about.openings) did.feeder ∙ between.knows;
     counted = subst (λ (l : List Op). HaveCounted pools callers l (rs ++ ss) start.pool to) (sym taken) counted-lines;
-    groups = subst (λ (gs : List Lines). WorkInGroups pools cache.config Cells gs start (stand to was.group was.next))
+    groups = subst (λ (gs : List GroupLines). WorkInGroups pools cache.config Cells gs start (between_groups to was.group was.next))
         (sym (ap (λ (l : List Op). groups_of l (rs ++ ss)) taken
         ∙ (groups-append os qs rs ss long (whole-of trace.ops (length rs) between.few (between.begins more))
-        ∙ ap (λ (gs : List Lines). groups_of os rs ++ gs) (group-last callers qs ss same-length own (omega (arith, more, all))))))
-        (in-groups-more pools cache.config Cells (groups_of os rs) (record { ops = qs; replies = ss; end = None }) start was (stand to was.group was.next) to between.groups (once None) refl);
+        ∙ ap (λ (gs : List GroupLines). groups_of os rs ++ gs) (group-last callers qs ss same-length own (omega (arith, more, all))))))
+        (in-groups-more pools cache.config Cells (groups_of os rs) (record { ops = qs; replies = ss; end = None }) start was (between_groups to was.group was.next) to between.groups (once None) refl);
     may_sync = record {
       born = between.may_sync.born;
       few = omega (arith, between.may_sync.few, both-long);
@@ -275,8 +275,8 @@ module _ {P : Type 0} (cache : Cache) (restored : List Restored) (pools : Ghosts
   }
 
   -- a line ends them
-  module _ (op : Op) (reply : Reply) (last : Crew OnHeap) (fin : Stand P) (at : slice_get trace.ops (length rs + length qs) ≡ Some op) (ends : ends_group op ≡ true)
-      (ended : DidEndLine cache pools op (stand to was.group was.next) fin new last reply) where
+  module _ (op : Op) (reply : Reply) (last : Crew OnHeap) (fin : BetweenGroups P) (at : slice_get trace.ops (length rs + length qs) ≡ Some op) (ends : ends_group op ≡ true)
+      (ended : DidEndLine cache pools op (between_groups to was.group was.next) fin new last reply) where
     abbrev all-replies : List Reply
     all-replies = (rs ++ ss) ++ reply ∷ []
 
@@ -295,8 +295,8 @@ module _ {P : Type 0} (cache : Cache) (restored : List Restored) (pools : Ghosts
     knows-new : Knows (openings_of trace) new.feeder
     knows-new = ap (λ (p : PartyPlace). p.own.about.openings) did.feeder ∙ between.knows
 
-    turn : Turned cache pools (openings_of trace) op reply (stand to was.group was.next) fin new last
-    turn = end-turned cache pools (openings_of trace) op (stand to was.group was.next) fin new last reply knows-new (come-unwritten cache restored (pools.size start.pool) (pools.told start.pool) trace.blocks (os ++ qs) (rs ++ ss) new come-lines) ended
+    turn : Turned cache pools (openings_of trace) op reply (between_groups to was.group was.next) fin new last
+    turn = end-turned cache pools (openings_of trace) op (between_groups to was.group was.next) fin new last reply knows-new (come-unwritten cache restored (pools.size start.pool) (pools.told start.pool) trace.blocks (os ++ qs) (rs ++ ss) new come-lines) ended
 
     come-ended-lines : HaveCome cache restored (pools.size start.pool) (pools.told start.pool) trace.blocks ((os ++ qs) ++ op ∷ []) all-replies last
     come-ended-lines = have-come-ended cache restored (pools.size start.pool) (pools.told start.pool) trace.blocks (os ++ qs) (rs ++ ss) op reply turn.more new last come-lines turn.so
@@ -306,7 +306,7 @@ module _ {P : Type 0} (cache : Cache) (restored : List Restored) (pools : Ghosts
 
     counted-end : HaveCounted pools callers ((os ++ qs) ++ op ∷ []) all-replies start.pool fin.pool
     counted-end =
-        counted-more pools callers (os ++ qs) (op ∷ []) (rs ++ ss) (reply ∷ []) come-lines.long start.pool to fin.pool (omega (arith, both-long, room, few)) some_callers counted-lines (unused-leaves pools to fin.pool fin.pool turn.unused (leaves-same pools fin.pool))
+        counted-more pools callers (os ++ qs) (op ∷ []) (rs ++ ss) (reply ∷ []) come-lines.long start.pool to fin.pool (omega (arith, both-long, room, few)) some_callers.1 counted-lines (unused-leaves pools to fin.pool fin.pool turn.unused (leaves-same pools fin.pool))
         (λ full. let none = over-zero callers (asked (op ∷ []) (reply ∷ [])) (λ n below. ap (λ (l : List Reply). length (calls_of_all l)) (none-where n)) in let same = turn.unused.reads in omega (arith, none, same))
         (λ full. let none = over-zero callers (failed (op ∷ []) (reply ∷ [])) (λ n below. ap (count_by is_pool_fault) (none-where n)) in let same = turn.unused.faults in omega (arith, none, same))
 
@@ -317,11 +317,11 @@ module _ {P : Type 0} (cache : Cache) (restored : List Restored) (pools : Ghosts
       come = subst (λ (l : List Op). HaveCome cache restored (pools.size start.pool) (pools.told start.pool) trace.blocks l all-replies last) (sym all-taken) come-ended-lines;
       knows = ap (λ (a : About). a.openings) turn.so.made.about ∙ knows-new;
       counted = subst (λ (l : List Op). HaveCounted pools callers l all-replies start.pool fin.pool) (sym all-taken) counted-end;
-      groups = subst (λ (gs : List Lines). WorkInGroups pools cache.config Cells gs start fin)
+      groups = subst (λ (gs : List GroupLines). WorkInGroups pools cache.config Cells gs start fin)
           (sym (ap (λ (l : List Op). groups_of l all-replies) all-taken
           ∙ ((λ i. groups_of (append_assoc os qs (op ∷ []) i) (append_assoc rs ss (reply ∷ []) i))
           ∙ (groups-append os (qs ++ op ∷ []) rs (ss ++ reply ∷ []) long (whole-of trace.ops (length rs) between.few (between.begins more))
-          ∙ ap (λ (gs : List Lines). groups_of os rs ++ gs) (group-ended callers qs ss op reply same-length own ends)))))
+          ∙ ap (λ (gs : List GroupLines). groups_of os rs ++ gs) (group-ended callers qs ss op reply same-length own ends)))))
           (in-groups-more pools cache.config Cells (groups_of os rs) (record { ops = qs; replies = ss; end = Some (record { op = op; reply = reply }) }) start was fin to between.groups (once (Some (record { op = op; reply = reply }))) turn.ends);
       may_sync = record {
         born = omega (arith, turn.group);
@@ -338,6 +338,11 @@ none-ends : (op : Op) → caller_of op ≡ None → ends_group op ≡ true
 none-ends (ops.Read n t x window) none = cc
 none-ends (ops.Hold n t x) none = cc
 none-ends (ops.Drop n x) none = cc
+none-ends (ops.Get n t at window) none = cc
+none-ends (ops.Put n t at size fill) none = cc
+none-ends (ops.Patch n t at from bytes) none = cc
+none-ends (ops.Pin n t at) none = cc
+none-ends (ops.Unpin n at) none = cc
 none-ends other none = refl
 
 module _ {X : Type 0} where
@@ -383,7 +388,7 @@ module _ (trace : Trace) (formed : IsFormed trace) (a b : ℕ) where
 -- ---- one step of all groups
 
 -- What the next group came to, whose lines are these of the trace: they are done at once, and then the line that ends them, where there is one.
-module _ {P : Type 0} (cache : Cache) (restored : List Restored) (pools : Ghosts P) (trace : Trace) (formed : IsFormed trace) (config : cache.config ≡ trace.config) (start was : Stand P) (from to : P) (rs ss : List Reply) (old new : Crew OnHeap)
+module _ {P : Type 0} (cache : Cache) (restored : List Restored) (pools : Ghosts P) (trace : Trace) (formed : IsFormed trace) (config : cache.config ≡ trace.config) (start was : BetweenGroups P) (from to : P) (rs ss : List Reply) (old new : Crew OnHeap)
     (first end : ℕ) (bs : List Ptr) (os : List Op) (is_bs : bs ≡ trace.blocks) (is_os : os ≡ trace.ops) (is_first : first ≡ length rs) (le : first ≤ end) (few : end ≤ length os)
     (inside : (k : ℕ) (op : Op) → first ≤ k → k < end → slice_get os k ≡ Some op → ends_group op ≡ false) (between : AreBetween cache restored pools trace start was rs old) (more : length rs < length trace.ops)
     (unused : IsUnused pools was.pool from) (did : DidLinesAtOnce cache pools bs (slice_range os first end) from to old new ss) (leaves : LeavesPool pools from to) where
@@ -393,8 +398,8 @@ module _ {P : Type 0} (cache : Cache) (restored : List Restored) (pools : Ghosts
   did-these : DidLinesAtOnce cache pools trace.blocks qs from to old new ss
   did-these = subst (λ (x : List Ptr × List Op × ℕ). DidLinesAtOnce cache pools x.0 (slice_range x.1 x.2 end) from to old new ss) (λ i. (is_bs i, is_os i, is_first i)) did
 
-  few-callers : cache.config.callers ≤ 16
-  few-callers = subst (λ (g : Config). g.callers ≤ 16) (sym config) formed.config.counts.callers.1
+  few-callers : (0 < cache.config.callers) × (cache.config.callers ≤ 16)
+  few-callers = subst (λ (g : Config). (0 < g.callers) × (g.callers ≤ 16)) (sym config) (omega (arith, formed.config.counts.callers.0), formed.config.counts.callers.1)
 
   own : AreOfCallers cache.config.callers qs
   own = subst (λ (g : Config). AreOfCallers g.callers qs) (sym config)
@@ -412,12 +417,12 @@ module _ {P : Type 0} (cache : Cache) (restored : List Restored) (pools : Ghosts
   here : take (length qs) (drop (length rs) trace.ops) ≡ qs
   here = range-here trace.ops (length rs) end low few-lines
 
-  pub next-last : length os ≤ end → (all : List Reply) → all ≡ rs ++ ss → AreBetween cache restored pools trace start (stand to was.group was.next) all new × (length rs < length all)
+  pub next-last : length os ≤ end → (all : List Reply) → all ≡ rs ++ ss → AreBetween cache restored pools trace start (between_groups to was.group was.next) all new × (length rs < length all)
   next-last last all is =
       let long : length os ≡ length trace.ops = ap length is_os in
       let whole : length rs + length qs ≡ length trace.ops = omega (arith, ends-at, few-lines, last, long) in
       let size = ap length is in (
-        subst (λ (l : List Reply). AreBetween cache restored pools trace start (stand to was.group was.next) l new) (sym is)
+        subst (λ (l : List Reply). AreBetween cache restored pools trace start (between_groups to was.group was.next) l new) (sym is)
             (between-last cache restored pools trace start was from to rs ss qs old new formed.few_ops few-callers between more unused did-these leaves own (omega (arith, ends-at, few-lines)) here whole),
         omega (arith, size, length-append rs ss, did-these.ordered.all, whole, more),
       )
@@ -435,7 +440,7 @@ module _ {P : Type 0} (cache : Cache) (restored : List Restored) (pools : Ghosts
       (come-lines cache restored pools trace start was from to rs ss qs old new formed.few_ops few-callers between more unused did-these leaves own (omega (arith, ends-at, few-lines)) here)
 
   -- the sync that ends it may be done
-  pub next-sync : (lines : ℕ) × (lines < 2 ^ 32) × MaySync pools lines (stand to was.group was.next)
+  pub next-sync : (lines : ℕ) × (lines < 2 ^ 32) × MaySync pools lines (between_groups to was.group was.next)
   next-sync = (
     length rs,
     omega (arith, more, formed.few_ops),
@@ -447,7 +452,7 @@ module _ {P : Type 0} (cache : Cache) (restored : List Restored) (pools : Ghosts
     },
   )
 
-  pub next-ended : (op : Op) → slice_get os end ≡ Some op → ends_group op ≡ true → (last : Crew OnHeap) (fin : Stand P) (reply : Reply) → DidEndLine cache pools op (stand to was.group was.next) fin new last reply → (so_far all : List Reply) → so_far ≡ rs ++ ss → all ≡ so_far ++ reply ∷ []
+  pub next-ended : (op : Op) → slice_get os end ≡ Some op → ends_group op ≡ true → (last : Crew OnHeap) (fin : BetweenGroups P) (reply : Reply) → DidEndLine cache pools op (between_groups to was.group was.next) fin new last reply → (so_far all : List Reply) → so_far ≡ rs ++ ss → all ≡ so_far ++ reply ∷ []
       → AreBetween cache restored pools trace start fin all last × (length rs < length all)
   next-ended op at ends last fin reply ended so_far all is_far is =
       let there : slice_get trace.ops (length rs + length qs) ≡ Some op = ap (slice_get trace.ops) ends-at ∙ (ap (λ (l : List Op). slice_get l end) (sym is_os) ∙ at) in
@@ -459,11 +464,11 @@ module _ {P : Type 0} (cache : Cache) (restored : List Restored) (pools : Ghosts
       )
 
 -- what a step says, by whether the group was done
-pub stepped : {C P : Type 0} (cache : Cache) (restored : List Restored) (pools : Ghosts P) (trace : Trace) (start before after : Stand P) (replied replies : List Reply) (done : Bool) (old new : Crew C) → done ≡ true
+pub stepped : {C P : Type 0} (cache : Cache) (restored : List Restored) (pools : Ghosts P) (trace : Trace) (start before after : BetweenGroups P) (replied replies : List Reply) (done : Bool) (old new : Crew C) → done ≡ true
     → StepsOn cache restored pools trace start before after replied replies done old new → AreBetween cache restored pools trace start after replies new × (length replied < length replies)
 stepped cache restored pools trace start before after replied replies done old new is step = subst (λ (b : Bool). StepsOn cache restored pools trace start before after replied replies b old new) is step
 
-pub not-stepped : {C P : Type 0} (cache : Cache) (restored : List Restored) (pools : Ghosts P) (trace : Trace) (start before after : Stand P) (replied replies : List Reply) (done : Bool) (old new : Crew C) → done ≡ false
+pub not-stepped : {C P : Type 0} (cache : Cache) (restored : List Restored) (pools : Ghosts P) (trace : Trace) (start before after : BetweenGroups P) (replied replies : List Reply) (done : Bool) (old new : Crew C) → done ≡ false
     → StepsOn cache restored pools trace start before after replied replies done old new → AreBetween cache restored pools trace start before replied old → length replied < length trace.ops → AreDone cache restored pools trace start after.pool true replies new
 not-stepped {C} cache restored pools trace start before after replied replies done old new is step between more =
     let same = subst (λ (b : Bool). StepsOn cache restored pools trace start before after replied replies b old new) is step in
@@ -474,7 +479,7 @@ not-stepped {C} cache restored pools trace start before after replied replies do
       failed = λ yes. (omega (arith, ap length same.0, more), same.2);
     }
 
-pub all-stepped : {C P : Type 0} (cache : Cache) (restored : List Restored) (pools : Ghosts P) (trace : Trace) (start after : Stand P) (replies : List Reply) (crew : Crew C) → AreBetween cache restored pools trace start after replies crew → length trace.ops ≤ length replies
+pub all-stepped : {C P : Type 0} (cache : Cache) (restored : List Restored) (pools : Ghosts P) (trace : Trace) (start after : BetweenGroups P) (replies : List Reply) (crew : Crew C) → AreBetween cache restored pools trace start after replies crew → length trace.ops ≤ length replies
     → AreDone cache restored pools trace start after.pool false replies crew
 all-stepped cache restored pools trace start after replies crew between all = record {
   reached = after;

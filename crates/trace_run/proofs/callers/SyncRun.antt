@@ -17,14 +17,14 @@ use Rattle.trace_text.specs.declared.trace.Trace.{Trace}
 use Rattle.vdev_io.specs.declared.pool.Pool.{Ghosts}
 use Rattle.trace_run.specs.CellEnds.{AreCellsOf, IsCellOf}
 use Rattle.trace_run.specs.callers.Groups.{StoodFresh}
-use Rattle.trace_run.specs.callers.Together.{EndLine, EndsBy, EndsGroup, HadThen, Lines, OfCells, Stand, StoodThen, SyncsGroup, WorkInGroups}
+use Rattle.trace_run.specs.callers.Together.{EndLine, EndsBy, EndsGroup, HadThen, GroupLines, OfCells, BetweenGroups, StoodThen, SyncsGroup, WorkInGroups}
 use Rattle.trace_run.specs.Openings.{opening_map, openings_of}
 use Rattle.trace_run.proofs.CellLemmas.{opening-at, opening-same}
 
 -- ---- what is said of the cells at each sync may be said otherwise
 
 module _ {P : Type 0} (pools : Ghosts P) (config : Config) (Said So : OfCells) (turned : (tick : ℕ) (cells : List OnHeap) (xs : List SyncItem) → Said tick cells xs → So tick cells xs) where
-  sync-as : (t : ℕ) (reply : Reply) (from to : Stand P) → SyncsGroup pools config Said t reply from to → SyncsGroup pools config So t reply from to
+  sync-as : (t : ℕ) (reply : Reply) (from to : BetweenGroups P) → SyncsGroup pools config Said t reply from to → SyncsGroup pools config So t reply from to
   sync-as t reply from to s = record {
     done = s.done;
     answer = record {
@@ -44,16 +44,16 @@ module _ {P : Type 0} (pools : Ghosts P) (config : Config) (Said So : OfCells) (
     next = s.next;
   }
 
-  ends-by-as : (op : Op) (reply : Reply) (from to : Stand P) → EndsBy pools config Said op reply from to → EndsBy pools config So op reply from to
+  ends-by-as : (op : Op) (reply : Reply) (from to : BetweenGroups P) → EndsBy pools config Said op reply from to → EndsBy pools config So op reply from to
   ends-by-as (ops.Txg t) reply from to s = sync-as t reply from to s
   ends-by-as (ops.Cap c) reply from to is = is
   ends-by-as other reply from to never = absurd never
 
-  ends-group-as : (end : Option EndLine) (from to : Stand P) → EndsGroup pools config Said end from to → EndsGroup pools config So end from to
+  ends-group-as : (end : Option EndLine) (from to : BetweenGroups P) → EndsGroup pools config Said end from to → EndsGroup pools config So end from to
   ends-group-as None from to is = is
   ends-group-as (Some line) from to s = ends-by-as line.op line.reply from to s
 
-  pub in-groups-as : (gs : List Lines) (from to : Stand P) → WorkInGroups pools config Said gs from to → WorkInGroups pools config So gs from to
+  pub in-groups-as : (gs : List GroupLines) (from to : BetweenGroups P) → WorkInGroups pools config Said gs from to → WorkInGroups pools config So gs from to
   in-groups-as [] from to is = is
   in-groups-as (g ∷ gs) from to w = (w.0, w.1, w.2, ends-group-as g.end _ w.1 w.3, in-groups-as gs w.1 to w.4)
 

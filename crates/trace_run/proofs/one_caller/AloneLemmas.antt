@@ -32,13 +32,14 @@ use Rattle.trace_text.specs.declared.op.Op.TheVariants as ops
 use Rattle.trace_text.specs.declared.reply.Reply.{Reply}
 use Rattle.trace_text.specs.declared.trace.Trace.{Trace}
 use Rattle.trace_text.specs.Grammar.{IsFormed}
+use Rattle.arc_check.specs.Judging.{end_of}
 use Rattle.trace_run.specs.KeptReads.{KeptRead}
 use Rattle.trace_run.specs.declared.kept_blocks.KeptBlock.{KeptBlock}
 use Rattle.trace_run.specs.Acts.{acts_of_all, acts_of_caller, acts_of_callers, acts_of_drops, events_of_feeds}
 use Rattle.trace_run.specs.one_caller.Alone.{RanAlone, ends_in, histories_of}
 use Rattle.trace_run.specs.callers.CallerLines.{At, DidLines, HasFed, at}
 use Rattle.trace_run.specs.Effects.{calls_of_all}
-use Rattle.trace_run.specs.Ends.{end_of, ends_of}
+use Rattle.trace_run.specs.Ends.{ends_of}
 use Rattle.arc_table.specs.Telling.{opening_of}
 use Rattle.trace_run.specs.Explaining.{BeginsWith, EndsWith, Explain, drops_at_end}
 use Rattle.trace_run.specs.KeptBlocks.{DroppedAlone, GivesAll, Stands, holds_in, read_of}
@@ -199,7 +200,7 @@ module _ {C P : Type 0} (m : Meanings C) (cache : Cache) (pools : Ghosts P) (blo
     (p q r : Place (Known C)) (kept : List KeptBlock)
     (one : cache.config.callers ≡ 1) (own : (k : ℕ) (op : Op) → slice_get os k ≡ Some op → IfSome (caller_of op) (λ n. n ≡ 0))
     (restored : List Restored) (new : Place (Known C)) (first : HasJoined cache (parties_of cache.config) new) (fed : HasFed cache.config (restores_in cache.config restored) new p)
-    (did : DidLines cache.config pools 0 blocks os replies (at p [] before) (at q (map read_of kept) after))
+    (did : DidLines cache.config pools blocks os replies (at p [] before) (at q (map read_of kept) after))
     (between : Stands cache q kept) (gives : GivesAll m cache.config kept q r) (last : Stands cache r []) where
   abbrev g : Config
   g = cache.config
@@ -223,16 +224,16 @@ module _ {C P : Type 0} (m : Meanings C) (cache : Cache) (pools : Ghosts P) (blo
   to-him = replies_where (is_of_caller 0) os replies
 
   same-count : length replies ≡ length os
-  same-count = lines-length g pools 0 blocks os replies a b did
+  same-count = lines-length g pools blocks os replies a b did
 
   alone : HasAll p
   alone = fed.all (joined-all cache new first)
 
   all-q : HasAll q
-  all-q = lines-all g pools 0 blocks os replies a b did alone
+  all-q = lines-all g pools blocks os replies a b did alone
 
   number-q : q.number ≡ 0
-  number-q = lines-number g pools 0 blocks os replies a b did ∙ (fed.number ∙ first.number)
+  number-q = lines-number g pools blocks os replies a b did ∙ (fed.number ∙ first.number)
 
   number-r : r.number ≡ 0
   number-r = all-number m cache kept q r between gives ∙ number-q
@@ -241,10 +242,10 @@ module _ {C P : Type 0} (m : Meanings C) (cache : Cache) (pools : Ghosts P) (blo
   dropped = all-alone m cache kept q r between gives all-q
 
   kept-is : map read_of kept ≡ kept_after_all blocks [] os replies
-  kept-is = lines-kept g pools 0 blocks os replies a b did
+  kept-is = lines-kept g pools blocks os replies a b did
 
   named : AreNamed blocks (map read_of kept)
-  named = lines-named g pools 0 blocks os replies a b tt did
+  named = lines-named g pools blocks os replies a b tt did
 
   parties-r : r.parties ≡ parties_of cache.config
   parties-r = last.of.row.1 ∙ (sym first.new.stands.of.row.1 ∙ first.new.parties)
@@ -269,7 +270,7 @@ module _ {C P : Type 0} (m : Meanings C) (cache : Cache) (pools : Ghosts P) (blo
 
   all-seen : (shard : ℕ) → seen_of g shard r ≡ history_of shard
   all-seen shard =
-      let lines = lines-seen g pools 0 blocks os replies a b did alone shard in
+      let lines = lines-seen g pools blocks os replies a b did alone shard in
       let over : List Event = events_over g.shards blocks start [] shard os replies in
       let from : seen_of g shard q ≡ begun shard ++ over =
       lines ∙ (λ h. seen-first shard h ++ events_over g.shards blocks (λ i. opens i h) [] shard os replies) in
@@ -281,7 +282,7 @@ module _ {C P : Type 0} (m : Meanings C) (cache : Cache) (pools : Ghosts P) (blo
 
   -- what it did is told
   told-r : HasToldAll g (acts_of_all blocks [] os replies ++ acts_of_drops q.number (map read_of kept)) [] r
-  told-r = all-told m cache kept q r between gives (acts_of_all blocks [] os replies) [] (lines-told g pools 0 blocks os replies a b did [] [] (fed.told [] [] first.new.told))
+  told-r = all-told m cache kept q r between gives (acts_of_all blocks [] os replies) [] (lines-told g pools blocks os replies a b did [] [] (fed.told [] [] first.new.told))
 
   told-his : HasToldAll g (acts_of_caller blocks 0 his to-him) [] r
   told-his = subst (λ (l : List Act). HasToldAll g l [] r) (λ h. sole-acts blocks [] os replies same-count all-his h ++ acts_of_drops (number-q h) ((kept-is ∙ sole-kept blocks [] os replies same-count all-his) h)) told-r
@@ -383,7 +384,7 @@ module _ {C P : Type 0} (m : Meanings C) (cache : Cache) (pools : Ghosts P) (blo
     -- ---- the reads of the pool
 
     his-answers : AreAnswered (pools.size before) (pools.told before) blocks [] his to-him × (calls_of_all replies ≡ calls_of_all to-him)
-    his-answers = sole-answers blocks (pools.size before) (pools.told before) [] os replies all-his (lines-answers g pools 0 blocks os replies a b did)
+    his-answers = sole-answers blocks (pools.size before) (pools.told before) [] os replies all-his (lines-answers g pools blocks os replies a b did)
 
     counted-all : length (calls_of_all replies) ≡ sum_by pool_reads (histories_of closed)
     counted-all =
@@ -432,8 +433,8 @@ module _ {C P : Type 0} (m : Meanings C) (cache : Cache) (pools : Ghosts P) (blo
 
     pub ran : RanAlone pools before after trace restored replies closed
     ran = record {
-      answers = lines-answered g pools 0 blocks 0 os replies a b own refl did;
-      made = lines-calls g pools 0 blocks os replies a b did;
+      answers = lines-answered g pools blocks 0 os replies a b own refl did;
+      made = lines-calls g pools blocks os replies a b did;
       histories = counted-off (λ (log : ShardLog). log.history) history_of closed.shards 0 (λ i l at_l. the-history i l at_l ∙ ap history_of (omega arith))
           ∙ ap (λ (n : ℕ). map history_of (range_with_len 0 n)) ends.shards;
       found = all-counted _ (λ shard. found-over g.shards blocks shard start [] os replies found-all) 0 g.shards;
@@ -445,13 +446,13 @@ module _ {C P : Type 0} (m : Meanings C) (cache : Cache) (pools : Ghosts P) (blo
       where
         found-all : AllLinesOver (λ s kept op reply. IsFoundAs blocks s op reply) g.shards blocks start [] os replies
         found-all = subst (λ (s : ℕ → PlainShard). AllLinesOver (λ s kept op reply. IsFoundAs blocks s op reply) g.shards blocks s [] os replies) (λ h i. opens i h)
-            (lines-found g pools 0 blocks os replies a b did alone)
+            (lines-found g pools blocks os replies a b did alone)
 
 -- what is asked of the run, by the trace
 module _ {C P : Type 0} (m : Meanings C) (cache : Cache) (pools : Ghosts P) (trace : Trace) (replies : List Reply) (before after : P) (p q r : Place (Known C)) (kept : List KeptBlock)
     (config : cache.config ≡ trace.config) (formed : IsFormed trace) (one : trace.config.callers ≡ 1)
     (restored : List Restored) (new : Place (Known C)) (first : HasJoined cache (parties_of cache.config) new) (fed : HasFed cache.config (restores_in cache.config restored) new p)
-    (did : DidLines cache.config pools 0 trace.blocks trace.ops replies (at p [] before) (at q (map read_of kept) after))
+    (did : DidLines cache.config pools trace.blocks trace.ops replies (at p [] before) (at q (map read_of kept) after))
     (between : Stands cache q kept) (gives : GivesAll m cache.config kept q r) (last : Stands cache r []) where
   callers : cache.config.callers ≡ 1
   callers = ap (λ (g : Config). g.callers) config ∙ one

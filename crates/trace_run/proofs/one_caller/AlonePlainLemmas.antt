@@ -158,8 +158,8 @@ AllServed from shards blocks s kept (o ∷ os) (r ∷ rs) calls =
     × IsPlainlyServed from blocks (s (shard_of_line shards blocks o)) kept o r (next_call calls)
     × AllServed from shards blocks (shards_after shards blocks s kept o r) (kept_after blocks o r kept) os rs rest
 
-module _ {C P D : Type 0} (g : Config) (pools : Ghosts P) (device : ℕ) (devices : DeviceGhosts D) (blocks : List Ptr) (from : Images) where
-  line-served : (o : Op) (r : Reply) (a b : At C P) (own rest calls : List Call) (x y : D) → calls ≡ own ++ rest → DidLine g pools device blocks o r a b → pools.size a.pool ≡ length from.pool → pools.told a.pool ≡ Some from.pool
+module _ {C P D : Type 0} (g : Config) (pools : Ghosts P) (devices : DeviceGhosts D) (blocks : List Ptr) (from : Images) where
+  line-served : (o : Op) (r : Reply) (a b : At C P) (own rest calls : List Call) (x y : D) → calls ≡ own ++ rest → DidLine g pools blocks o r a b → pools.size a.pool ≡ length from.pool → pools.told a.pool ≡ Some from.pool
       → IsTold devices from blocks x → AsksLine devices blocks (now_of g (shard_of_line g.shards blocks o) a.party) o r own x y
       → (length own ≡ length (asked_by (length from.device) blocks (now_of g (shard_of_line g.shards blocks o) a.party) o r)) × IsPlainlyServed from blocks (now_of g (shard_of_line g.shards blocks o) a.party) a.kept o r (next_call calls)
   line-served o r a b own rest calls x y is did size told there asks =
@@ -173,7 +173,7 @@ module _ {C P D : Type 0} (g : Config) (pools : Ghosts P) (device : ℕ) (device
         },
       )
 
-  lines-served : (os : List Op) (rs : List Reply) (a b : At C P) (calls : List Call) (x y : D) → DidLines g pools device blocks os rs a b → HasAll a.party → pools.size a.pool ≡ length from.pool → pools.told a.pool ≡ Some from.pool
+  lines-served : (os : List Op) (rs : List Reply) (a b : At C P) (calls : List Call) (x y : D) → DidLines g pools blocks os rs a b → HasAll a.party → pools.size a.pool ≡ length from.pool → pools.told a.pool ≡ Some from.pool
       → IsTold devices from blocks x → AsksLines devices g.shards blocks (λ i. now_of g i a.party) a.kept os rs calls x y
       → AllServed from g.shards blocks (λ i. now_of g i a.party) a.kept os rs calls
   lines-served [] [] a b calls x y did alone size told there asks = tt
@@ -185,7 +185,7 @@ module _ {C P D : Type 0} (g : Config) (pools : Ghosts P) (device : ℕ) (device
       let own = asks.0 in
       let rest = asks.1 in
       let here = line-served o r a next own rest calls x asks.2 asks.3 one size told there asks.4 in
-      let same : (λ (i : ℕ). now_of g i next.party) ≡ shards_after g.shards blocks (λ i. now_of g i a.party) a.kept o r = λ h i. line-now g pools device blocks o r a next one alone i h in
+      let same : (λ (i : ℕ). now_of g i next.party) ≡ shards_after g.shards blocks (λ i. now_of g i a.party) a.kept o r = λ h i. line-now g pools blocks o r a next one alone i h in
       let goes = lines-served os rs next b rest asks.2 y did.2 (one.did.all alone) (one.keeps.size ∙ size) (one.keeps.told ∙ told)
       (line-told devices from blocks (now_of g (shard_of_line g.shards blocks o) a.party) o r own x asks.2 there asks.4)
       (subst (λ (z : (ℕ → PlainShard) × List KeptRead). AsksLines devices g.shards blocks z.0 z.1 os rs rest asks.2 y) (λ h. (sym same h, sym one.kept h)) asks.5) in
@@ -310,8 +310,8 @@ module _ {D : Type 0} (devices : DeviceGhosts D) where
       (none.1, still s ptr (effect_of r) own x y none.1 short one, rw at none.0, rw at (names-pool s ptr (effect_of r) own x y (length pool) [] ok short one (rw at at found)))
   line-unlent blocks pool s kept other r own x y short answer found asks = (asks.0, ap devices.size asks.1 ∙ short, refl, tt)
 
-module _ {C P D : Type 0} (g : Config) (pools : Ghosts P) (device : ℕ) (devices : DeviceGhosts D) (blocks : List Ptr) (pool : List ℕ) where
-  lines-unlent : (os : List Op) (rs : List Reply) (a b : At C P) (calls : List Call) (x y : D) → DidLines g pools device blocks os rs a b → HasAll a.party → pools.size a.pool ≡ length pool → pools.told a.pool ≡ Some pool
+module _ {C P D : Type 0} (g : Config) (pools : Ghosts P) (devices : DeviceGhosts D) (blocks : List Ptr) (pool : List ℕ) where
+  lines-unlent : (os : List Op) (rs : List Reply) (a b : At C P) (calls : List Call) (x y : D) → DidLines g pools blocks os rs a b → HasAll a.party → pools.size a.pool ≡ length pool → pools.told a.pool ≡ Some pool
       → devices.size x ≡ 0 → AsksLines devices g.shards blocks (λ i. now_of g i a.party) a.kept os rs calls x y
       → AllServed (images pool []) g.shards blocks (λ i. now_of g i a.party) a.kept os rs []
   lines-unlent [] [] a b calls x y did alone size told short asks = tt
@@ -323,7 +323,7 @@ module _ {C P D : Type 0} (g : Config) (pools : Ghosts P) (device : ℕ) (device
       let s = now_of g (shard_of_line g.shards blocks o) a.party in
       let answer : AnswersNow (length pool) (Some pool) blocks a.kept o r = subst (λ (x : ℕ × Option (List ℕ)). AnswersNow x.0 x.1 blocks a.kept o r) (λ h. (size h, told h)) one.answer in
       let here = line-unlent devices blocks pool s a.kept o r asks.0 x asks.2 short answer (one.found alone) asks.4 in
-      let same : (λ (i : ℕ). now_of g i next.party) ≡ shards_after g.shards blocks (λ i. now_of g i a.party) a.kept o r = λ h i. line-now g pools device blocks o r a next one alone i h in
+      let same : (λ (i : ℕ). now_of g i next.party) ≡ shards_after g.shards blocks (λ i. now_of g i a.party) a.kept o r = λ h i. line-now g pools blocks o r a next one alone i h in
       let goes = lines-unlent os rs next b asks.1 asks.2 y did.2 (one.did.all alone) (one.keeps.size ∙ size) (one.keeps.told ∙ told) here.1
       (subst (λ (z : (ℕ → PlainShard) × List KeptRead). AsksLines devices g.shards blocks z.0 z.1 os rs asks.1 asks.2 y) (λ h. (sym same h, sym one.kept h)) asks.5) in (
         [],
@@ -409,8 +409,8 @@ module _ (from : Images) (shards : ℕ) (blocks : List Ptr) where
 
 -- ---- the run
 
-module _ {C P D : Type 0} (pools : Ghosts P) (device : ℕ) (devices : DeviceGhosts D) (trace : Trace) (restored : List Restored) (replies : List Reply) (a b : At C P) (device_calls : List Call) (x y : D)
-    (did : DidLines trace.config pools device trace.blocks trace.ops replies a b) (alone : HasAll a.party) (none : a.kept ≡ []) (opens : (i : ℕ) → now_of trace.config i a.party ≡ restored_shard trace.config restored i)
+module _ {C P D : Type 0} (pools : Ghosts P) (devices : DeviceGhosts D) (trace : Trace) (restored : List Restored) (replies : List Reply) (a b : At C P) (device_calls : List Call) (x y : D)
+    (did : DidLines trace.config pools trace.blocks trace.ops replies a b) (alone : HasAll a.party) (none : a.kept ≡ []) (opens : (i : ℕ) → now_of trace.config i a.party ≡ restored_shard trace.config restored i)
     (asks : AsksLines devices trace.config.shards trace.blocks (restored_shard trace.config restored) [] trace.ops replies device_calls x y) (pool : List ℕ) (told : pools.told a.pool ≡ Some pool) (sized : length pool ≡ pools.size a.pool) where
   abbrev start : ℕ → PlainShard
   start = restored_shard trace.config restored
@@ -436,8 +436,8 @@ module _ {C P D : Type 0} (pools : Ghosts P) (device : ℕ) (devices : DeviceGho
   pub plain-alone : (bytes : List ℕ) → devices.told x ≡ Some bytes → length bytes ≡ devices.size x
       → ArePlainReplies trace.blocks trace.ops (replies_to (images pool bytes) trace.config.shards trace.blocks start [] no_contents trace.ops (calls_of_all replies) device_calls) replies
   plain-alone bytes device_told device_sized =
-      served-plain (images pool bytes) device_calls (lines-served trace.config pools device devices trace.blocks (images pool bytes) trace.ops replies a b device_calls x y did alone (sym sized) told (sym device_sized, device_told) there)
+      served-plain (images pool bytes) device_calls (lines-served trace.config pools devices trace.blocks (images pool bytes) trace.ops replies a b device_calls x y did alone (sym sized) told (sym device_sized, device_told) there)
 
   -- the same over no device, which was not asked
   pub plain-unlent : devices.size x ≡ 0 → ArePlainReplies trace.blocks trace.ops (replies_to (images pool []) trace.config.shards trace.blocks start [] no_contents trace.ops (calls_of_all replies) []) replies
-  plain-unlent short = served-plain (images pool []) [] (lines-unlent trace.config pools device devices trace.blocks pool trace.ops replies a b device_calls x y did alone (sym sized) told short there)
+  plain-unlent short = served-plain (images pool []) [] (lines-unlent trace.config pools devices trace.blocks pool trace.ops replies a b device_calls x y did alone (sym sized) told short there)

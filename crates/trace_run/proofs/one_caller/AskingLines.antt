@@ -83,16 +83,16 @@ module _ {D : Type 0} (devices : DeviceGhosts D) (shards : ℕ) (blocks : List P
       )
 
 -- a party that is alone finds those shards behind its lines
-pub lines-now : {C P : Type 0} (g : Config) (pools : PoolGhosts P) (device : ℕ) (blocks : List Ptr) (os : List Op) (rs : List Reply) (a b : At C P) → DidLines g pools device blocks os rs a b → HasAll a.party
+pub lines-now : {C P : Type 0} (g : Config) (pools : PoolGhosts P) (blocks : List Ptr) (os : List Op) (rs : List Reply) (a b : At C P) → DidLines g pools blocks os rs a b → HasAll a.party
     → (λ (i : ℕ). now_of g i b.party) ≡ shards_after_all g.shards blocks (λ i. now_of g i a.party) a.kept os rs
-lines-now g pools device blocks [] [] a b did all = λ h i. now_of g i (did h).party
-lines-now g pools device blocks [] (r ∷ rs) a b did all = absurd did
-lines-now g pools device blocks (o ∷ os) [] a b did all = absurd did
-lines-now g pools device blocks (o ∷ os) (r ∷ rs) a b did all =
+lines-now g pools blocks [] [] a b did all = λ h i. now_of g i (did h).party
+lines-now g pools blocks [] (r ∷ rs) a b did all = absurd did
+lines-now g pools blocks (o ∷ os) [] a b did all = absurd did
+lines-now g pools blocks (o ∷ os) (r ∷ rs) a b did all =
     let next = did.0 in
     let one = did.1 in
-    let same : (λ (i : ℕ). now_of g i next.party) ≡ shards_after g.shards blocks (λ i. now_of g i a.party) a.kept o r = λ h i. line-now g pools device blocks o r a next one all i h in
-    lines-now g pools device blocks os rs next b did.2 (one.did.all all) ∙ (λ h. shards_after_all g.shards blocks (same h) (one.kept h) os rs)
+    let same : (λ (i : ℕ). now_of g i next.party) ≡ shards_after g.shards blocks (λ i. now_of g i a.party) a.kept o r = λ h i. line-now g pools blocks o r a next one all i h in
+    lines-now g pools blocks os rs next b did.2 (one.did.all all) ∙ (λ h. shards_after_all g.shards blocks (same h) (one.kept h) os rs)
 
 -- a line that is no caller's asks nothing
 pub capped-asks : {C D : Type 0} {g : Config} {p q : Place (Known C)} (devices : DeviceGhosts D) (blocks : List Ptr) (s : PlainShard) (op : Op) (reply : Reply) → (c : ℕ) × (op ≡ ops.Cap c) × (reply ≡ Capped c) × HasResized g c p q → (x : D)
@@ -100,12 +100,12 @@ pub capped-asks : {C D : Type 0} {g : Config} {p q : Place (Known C)} (devices :
 capped-asks devices blocks s op reply did x = subst (λ (o : Op). AsksLine devices blocks s o reply [] x x) (sym did.1) (refl, refl)
 
 -- and so with all lines so far
-pub asks-line : {C P D : Type 0} (devices : DeviceGhosts D) (g : Config) (pools : PoolGhosts P) (device : ℕ) (blocks : List Ptr) (os : List Op) (rs : List Reply) (o : Op) (r : Reply) (rs_then : List Reply) → rs_then ≡ rs ++ r ∷ []
-    → (a b : At C P) {os_then : List Op} → os ++ o ∷ [] ≡ os_then → DidLines g pools device blocks os rs a b → HasAll a.party → (calls own : List Call) (x y z : D)
+pub asks-line : {C P D : Type 0} (devices : DeviceGhosts D) (g : Config) (pools : PoolGhosts P) (blocks : List Ptr) (os : List Op) (rs : List Reply) (o : Op) (r : Reply) (rs_then : List Reply) → rs_then ≡ rs ++ r ∷ []
+    → (a b : At C P) {os_then : List Op} → os ++ o ∷ [] ≡ os_then → DidLines g pools blocks os rs a b → HasAll a.party → (calls own : List Call) (x y z : D)
     → AsksLines devices g.shards blocks (λ i. now_of g i a.party) a.kept os rs calls x y → AsksLine devices blocks (now_of g (shard_of_line g.shards blocks o) b.party) o r own y z
     → (calls : List Call) × AsksLines devices g.shards blocks (λ i. now_of g i a.party) a.kept os_then rs_then calls x z
-asks-line devices g pools device blocks os rs o r rs_then rs_is a b os_is did all calls own x y z asks one =
-    let now = lines-now g pools device blocks os rs a b did all in
+asks-line devices g pools blocks os rs o r rs_then rs_is a b os_is did all calls own x y z asks one =
+    let now = lines-now g pools blocks os rs a b did all in
     let here : AsksLine devices blocks (shards_after_all g.shards blocks (λ i. now_of g i a.party) a.kept os rs (shard_of_line g.shards blocks o)) o r own y z =
     subst (λ (s : ℕ → PlainShard). AsksLine devices blocks (s (shard_of_line g.shards blocks o)) o r own y z) now one in (
       calls ++ own,
@@ -125,15 +125,3 @@ pub begun-alone : {C : Type 0} (cache : Cache) (restored : List Restored) (new p
     → HasAll p × ((shard : ℕ) → now_of cache.config shard p ≡ restored_shard cache.config restored shard)
 begun-alone cache restored new p first fed =
     (fed.all (joined-all cache new first), λ shard. ap (replay (opening_of cache.config)) (fed.seen shard ∙ ap (λ (es : List Event). es ++ restores_in cache.config restored shard) (new-seen cache new first.new shard)))
-
--- the length of a device says nothing of a line
-pub line-any : {C P : Type 0} (g : Config) (pools : PoolGhosts P) (m n : ℕ) (blocks : List Ptr) (o : Op) (r : Reply) (a b : At C P) → DidLine g pools m blocks o r a b → DidLine g pools n blocks o r a b
-line-any g pools m n blocks o r a b d = record {
-  answer = d.answer;
-  kept = d.kept;
-  did = record { number = d.did.number; told = d.did.told; alone = d.did.alone; all = d.did.all; joined = d.did.joined };
-  found = d.found;
-  range = d.range;
-  calls = d.calls;
-  keeps = d.keeps;
-}

@@ -32,7 +32,7 @@ module _ {C P D E : Type 0} (pools : Ghosts P) (devices : DeviceGhosts D) (other
     calls = calls;
     asks = asks;
     plain = if-told (pools.told before) _ (λ image told. if-told (devices.told x) _ (λ bytes device_told.
-        plain-alone pools 0 devices trace restored replies lines.first lines.last calls x y lines.lines lines.alone lines.none lines.opens asks image (told-first image told) (pool_law lines.first.pool image (told-first image told))
+        plain-alone pools devices trace restored replies lines.first lines.last calls x y lines.lines lines.alone lines.none lines.opens asks image (told-first image told) (pool_law lines.first.pool image (told-first image told))
         bytes device_told (law x bytes device_told)));
   }
 
@@ -42,7 +42,7 @@ module _ {C P D E : Type 0} (pools : Ghosts P) (devices : DeviceGhosts D) (other
     calls = [];
     asks = refl;
     plain = if-told (pools.told before) _ (λ image told.
-        plain-unlent pools 0 others trace restored replies lines.first lines.last calls x y lines.lines lines.alone lines.none lines.opens asks image (told-first image told) (pool_law lines.first.pool image (told-first image told)) short);
+        plain-unlent pools others trace restored replies lines.first lines.last calls x y lines.lines lines.alone lines.none lines.opens asks image (told-first image told) (pool_law lines.first.pool image (told-first image told)) short);
   }
 
 -- what a run over a device comes to, whatever else is of it

@@ -28,7 +28,7 @@ use Rattle.vdev_io.specs.Calls.{Call, Failed, Gave}
 use Rattle.dbuf_state.specs.Dbufs.{window_of}
 use Rattle.trace_run.specs.one_caller.Access as access
 use Rattle.trace_run.specs.KeptReads.{KeptRead}
-use Rattle.trace_run.specs.one_caller.Access.{Access, access_of, events_of_answered, events_of_drop, events_of_refused, held_key}
+use Rattle.trace_run.specs.one_caller.Access.{Access, access_of, events_of_answered, events_of_drop, events_of_refused, held_by_access}
 use Rattle.trace_run.specs.one_caller.Asking.{NamesServed, place_asked, place_in, place_on, place_to_ask, serves, source_of}
 use Rattle.trace_run.specs.Answering.{IsReadOfImage, KeepsImage, ReadsImage}
 use Rattle.trace_run.specs.Answers.{AnswersHold, AnswersRead}
@@ -136,11 +136,11 @@ module _ (from : Images) (contents : Contents) (s : PlainShard) (ptr : Ptr) wher
 
   brings-read : (n t : ℕ) (f : Served) (call : Call) → f ≡ source_in from s ptr call → (IsFromPool f → IsOf (range_of from.pool ptr.key) ptr)
       → AllByRecursion (Brings (contents_with from contents s ptr (Answered f))) (events_of_answered n t ptr f (access_of s ptr))
-      × AllByRecursion (Brings (contents_with from contents s ptr (Answered f))) (events_of_answered n t ptr f (access_of s ptr) ++ events_of_drop n (held_key ptr (access_of s ptr)))
+      × AllByRecursion (Brings (contents_with from contents s ptr (Answered f))) (events_of_answered n t ptr f (access_of s ptr) ++ events_of_drop n (held_by_access ptr (access_of s ptr)))
   brings-read n t f call named came = go (access_of s ptr) refl
     where
       go : (a : Access) → access_of s ptr ≡ a → AllByRecursion (Brings (contents_with from contents s ptr (Answered f))) (events_of_answered n t ptr f a)
-          × AllByRecursion (Brings (contents_with from contents s ptr (Answered f))) (events_of_answered n t ptr f a ++ events_of_drop n (held_key ptr a))
+          × AllByRecursion (Brings (contents_with from contents s ptr (Answered f))) (events_of_answered n t ptr f a ++ events_of_drop n (held_by_access ptr a))
       go access.Hit is = ((tt, tt), (tt, (tt, tt)))
       go (access.Past other) is = ((tt, tt), (tt, tt))
       go access.Miss is =

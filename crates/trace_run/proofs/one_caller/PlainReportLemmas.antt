@@ -21,7 +21,7 @@ use Rattle.trace_run.specs.Lines.{is_in_shard, replies_where}
 use Rattle.trace_run.specs.one_caller.OneCaller.{events_of, events_of_all, events_of_drops, events_of_dropping, events_of_hold, events_of_read, kept_after, kept_after_all, kept_after_drop, kept_after_hold, one_caller_histories, one_caller_history}
 use Rattle.trace_run.specs.one_caller.PlainReport.{ArePlainReplies, IsPlainReply, IsPlainReport}
 use Rattle.trace_run.specs.one_caller.PlainRun.{report_with}
-use Rattle.trace_run.specs.Restores.{restored_of, restores_in}
+use Rattle.trace_run.specs.Restores.{found_keys, restores_in}
 
 -- ---- replies that do the same
 
@@ -119,7 +119,7 @@ pub plain-but : (trace : Trace) (ps : List Reply) (report : Report) → report �
 plain-but trace ps report is are =
     let rs = report.replies in
     let alike = all-alike trace.blocks trace.ops ps rs are in
-    let histories = alike-histories trace.config.shards trace.blocks (opening_of trace.config) (restores_in trace.config (restored_of report.rebuilt)) trace.ops ps rs alike in
+    let histories = alike-histories trace.config.shards trace.blocks (opening_of trace.config) (restores_in trace.config (found_keys report.rebuilt)) trace.ops ps rs alike in
     let any = alike-any ps rs alike in
     let same : record (report_with trace report.rebuilt ps) { replies = rs } ≡ report_with trace report.rebuilt rs =
     λ i. record { replies = rs; histories = histories i; ends = ends_of trace.config (histories i); io = None; rebuilt = report.rebuilt; status = if any i then 1 else 0; short = false } in

@@ -28,6 +28,11 @@ his-or : (op : Op) → IsAloneOp op → (is_of_caller 0 op ≡ true) ⊎ (caller
 his-or (ops.Read n t x window) own = inl (his-is 0 n (ops.Read n t x window) refl own)
 his-or (ops.Hold n t x) own = inl (his-is 0 n (ops.Hold n t x) refl own)
 his-or (ops.Drop n x) own = inl (his-is 0 n (ops.Drop n x) refl own)
+his-or (ops.Get n t at window) own = inl (his-is 0 n (ops.Get n t at window) refl own)
+his-or (ops.Put n t at size fill) own = inl (his-is 0 n (ops.Put n t at size fill) refl own)
+his-or (ops.Patch n t at from bytes) own = inl (his-is 0 n (ops.Patch n t at from bytes) refl own)
+his-or (ops.Pin n t at) own = inl (his-is 0 n (ops.Pin n t at) refl own)
+his-or (ops.Unpin n at) own = inl (his-is 0 n (ops.Unpin n at) refl own)
 his-or other own = inr refl
 
 abbrev his : List Op → List Op
@@ -53,6 +58,11 @@ module _ (blocks : List Ptr) where
       go (ops.Read n t x window) none rest = cc
       go (ops.Hold n t x) none rest = cc
       go (ops.Drop n x) none rest = cc
+      go (ops.Get n t at window) none rest = cc
+      go (ops.Put n t at size fill) none rest = cc
+      go (ops.Patch n t at from bytes) none rest = cc
+      go (ops.Pin n t at) none rest = cc
+      go (ops.Unpin n at) none rest = cc
       go other none rest = rest
 
   pub sole-kept : (kept : List KeptRead) (os : List Op) (rs : List Reply) → length rs ≡ length os → AllByRecursion IsAloneOp os → kept_after_all blocks kept os rs ≡ kept_after_all blocks kept (his os) (to-him os rs)
@@ -71,6 +81,11 @@ module _ (blocks : List Ptr) where
       go (ops.Read n t x window) none rest = cc
       go (ops.Hold n t x) none rest = cc
       go (ops.Drop n x) none rest = cc
+      go (ops.Get n t at window) none rest = cc
+      go (ops.Put n t at size fill) none rest = cc
+      go (ops.Patch n t at from bytes) none rest = cc
+      go (ops.Pin n t at) none rest = cc
+      go (ops.Unpin n at) none rest = cc
       go other none rest = rest
 
   module _ (len : ℕ) (image : Option (List ℕ)) where

@@ -21,7 +21,7 @@ use Rattle.trace_text.specs.declared.op.Op.TheVariants as ops
 use Rattle.trace_text.specs.declared.reply.Reply.{Reply}
 use Rattle.trace_run.specs.one_caller.Access as access
 use Rattle.trace_run.specs.KeptReads.{KeptRead}
-use Rattle.trace_run.specs.one_caller.Access.{Access, access_of, events_of_answered, events_of_drop, events_of_refused, held_key}
+use Rattle.trace_run.specs.one_caller.Access.{Access, access_of, events_of_answered, events_of_drop, events_of_refused, held_by_access}
 use Rattle.trace_run.specs.Acts.{acts_of, acts_of_all, acts_of_caller, acts_of_drop, acts_of_dropping, acts_of_drops, acts_of_hold, acts_of_read}
 use Rattle.trace_run.specs.one_caller.OneCaller.{events_of, events_of_all, events_of_dropping, events_of_drops, events_of_hold, events_of_read, kept_after, kept_after_all, oldest_key, one_caller_history, only_feeder}
 use Rattle.trace_run.specs.Effects.{Effect, Answered, GivenBack, PoolRefused, NoEffect, effect_of}
@@ -77,7 +77,7 @@ mine-refused n t ptr (access.Past kept) = ((refl, refl, refl), tt)
 mine-refused n t ptr access.Miss = ((refl, refl, refl), ((refl, refl, refl), tt))
 
 mine-read : (n t : ℕ) (s : PlainShard) (ptr : Ptr) (e : Effect) → AllByRecursion (IsMine n) (events_of_read n t s ptr e)
-mine-read n t s ptr (Answered from) = all-append (IsMine n) (events_of_answered n t ptr from (access_of s ptr)) _ (mine-answered n t ptr from (access_of s ptr)) (mine-drop n (held_key ptr (access_of s ptr)))
+mine-read n t s ptr (Answered from) = all-append (IsMine n) (events_of_answered n t ptr from (access_of s ptr)) _ (mine-answered n t ptr from (access_of s ptr)) (mine-drop n (held_by_access ptr (access_of s ptr)))
 mine-read n t s ptr GivenBack = tt
 mine-read n t s ptr (PoolRefused call) = mine-refused n t ptr (access_of s ptr)
 mine-read n t s ptr NoEffect = tt
@@ -106,7 +106,8 @@ mine-of blocks s kept (ops.Hold n t x) reply m his = subst (λ (k : ℕ). AllByR
     go None = tt
     go (Some ptr) = mine-hold n t s ptr (effect_of reply)
 mine-of blocks s kept (ops.Drop n x) reply m his = subst (λ (k : ℕ). AllByRecursion (IsMine k) (events_of blocks s kept (ops.Drop n x) reply)) (some-number n m his) (mine-dropping n x kept (effect_of reply))
-mine-of blocks s kept other reply m his = cc
+mine-of blocks s kept (ops.Cap c) reply m his = cc
+mine-of blocks s kept other reply m his = tt
 
 -- a new capacity, or a key that is restored
 abbrev pub is_given : Event → Bool

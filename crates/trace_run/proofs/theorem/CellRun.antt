@@ -31,7 +31,7 @@ use Rattle.trace_run.specs.CellEnds.{AreCellsOf, HasSeenEnds, IsCellOf, end_entr
 use Rattle.trace_run.specs.Deeds.{events_there}
 use Rattle.trace_run.specs.callers.GroupRun.{HaveClosed, HaveStopped}
 use Rattle.trace_run.specs.callers.Groups.{AreDone}
-use Rattle.trace_run.specs.callers.Together.{stand}
+use Rattle.trace_run.specs.callers.Together.{between_groups}
 use Rattle.trace_run.specs.KeptBlocks.{Stands}
 use Rattle.trace_run.specs.Making.{AreNoEntries}
 use Rattle.trace_run.specs.Meeting.{HaveGivenBack}
@@ -122,7 +122,7 @@ module _ (cache : Cache) (fin : List PartyPlace) (all : List PartyPlace) (e : En
           )
 
 module _ {P : Type 0} (cache : Cache) (pools : Ghosts P) (before after : P) (place : ℕ) (trace : Trace) (formed : IsFormed trace) (config : cache.config ≡ trace.config) (valid : IsConfig cache.config)
-    (fork_failed : Bool) (restored : List Restored) (rs : List Reply) (crew : Crew OnHeap) (d : AreDone cache restored pools trace (stand before 1 place) after fork_failed rs crew) (closed : Ended OnHeap) (h : HaveClosed dbuf_meanings cache crew closed) where
+    (fork_failed : Bool) (restored : List Restored) (rs : List Reply) (crew : Crew OnHeap) (d : AreDone cache restored pools trace (between_groups before 1 place) after fork_failed rs crew) (closed : Ended OnHeap) (h : HaveClosed dbuf_meanings cache crew closed) where
   given : HaveStopped cache h.parties
   given = stopped dbuf_meanings cache pools before after place trace formed config valid fork_failed restored rs crew d closed h
 

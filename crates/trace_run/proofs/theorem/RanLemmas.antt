@@ -19,8 +19,8 @@ use Rattle.trace_run.specs.callers.GroupRun.{RanTogether}
 use Rattle.trace_run.specs.Outcome.{IsRun}
 use Rattle.trace_run.specs.one_caller.Lent.{ReadsAlone, told_lent}
 use Rattle.trace_run.specs.one_caller.PlainRun.{images, no_contents, replies_to, report_with}
-use Rattle.trace_run.specs.Restores.{restored_of, restored_shard}
-use Rattle.trace_run.specs.callers.Together.{RunsTogether, Stand, StoodThen, WorkInGroups, groups_of, report_of_closed, stand}
+use Rattle.trace_run.specs.Restores.{found_keys, restored_shard}
+use Rattle.trace_run.specs.callers.Together.{RunsTogether, BetweenGroups, StoodThen, WorkInGroups, groups_of, report_of_closed, between_groups}
 use Rattle.trace_run.proofs.one_caller.PlainReportLemmas.{plain-but}
 use Rattle.trace_run.proofs.theorem.ReportLemmas.{report-is}
 use Rattle.trace_run.proofs.RunLemmas.{calls-faults, calls-few, calls-reads, failed-all}
@@ -38,8 +38,8 @@ both-told (Some x) (Some y) each is = each x y is
 
 module _ {P D : Type 0} (pools : Ghosts P) (devices : DeviceGhosts D) (before after : P) (lent back : Option D) (trace : Trace) (rebuilt : Option Rebuilt) (replies : List Reply) (closed : Ended OnHeap) where
   -- one caller's run
-  pub alone-run : IsFormed trace → trace.config.callers ≡ 1 → RanAlone pools before after trace (restored_of rebuilt) replies closed
-      → ReadsAlone pools devices before trace (restored_of rebuilt) replies lent back → IsRun pools devices before after lent back trace false closed (report_of_closed false rebuilt replies closed)
+  pub alone-run : IsFormed trace → trace.config.callers ≡ 1 → RanAlone pools before after trace (found_keys rebuilt) replies closed
+      → ReadsAlone pools devices before trace (found_keys rebuilt) replies lent back → IsRun pools devices before after lent back trace false closed (report_of_closed false rebuilt replies closed)
   alone-run formed one ran read =
       let report : Report = report_of_closed false rebuilt replies closed in
       let few : length (calls_of_all replies) < 2 ^ 32 = omega (arith, calls-few replies, ran.answers.all, formed.few_ops) in
@@ -65,7 +65,7 @@ module _ {P D : Type 0} (pools : Ghosts P) (devices : DeviceGhosts D) (before af
             device_calls = read.calls;
             asked = read.asks;
             plain = both-told (pools.told before) (told_lent devices lent) (λ image bytes are.
-                plain-but trace (replies_to (images image bytes) trace.config.shards trace.blocks (restored_shard trace.config (restored_of rebuilt)) [] no_contents trace.ops (calls_of_all replies) read.calls) report plain are) read.plain;
+                plain-but trace (replies_to (images image bytes) trace.config.shards trace.blocks (restored_shard trace.config (found_keys rebuilt)) [] no_contents trace.ops (calls_of_all replies) read.calls) report plain are) read.plain;
           },
         );
         together = λ two. absurd (omega (arith, two, one));
@@ -73,13 +73,13 @@ module _ {P D : Type 0} (pools : Ghosts P) (devices : DeviceGhosts D) (before af
         failed = λ is. cc;
       }
 
-  pub alone-told : (fork_failed : Bool) → fork_failed ≡ false → IsFormed trace → trace.config.callers ≡ 1 → RanAlone pools before after trace (restored_of rebuilt) replies closed
-      → ReadsAlone pools devices before trace (restored_of rebuilt) replies lent back → IsRun pools devices before after lent back trace fork_failed closed (report_of_closed fork_failed rebuilt replies closed)
+  pub alone-told : (fork_failed : Bool) → fork_failed ≡ false → IsFormed trace → trace.config.callers ≡ 1 → RanAlone pools before after trace (found_keys rebuilt) replies closed
+      → ReadsAlone pools devices before trace (found_keys rebuilt) replies lent back → IsRun pools devices before after lent back trace fork_failed closed (report_of_closed fork_failed rebuilt replies closed)
   alone-told fork_failed whole formed one ran read =
       subst (λ (b : Bool). IsRun pools devices before after lent back trace b closed (report_of_closed b rebuilt replies closed)) (sym whole) (alone-run formed one ran read)
 
   -- several callers' run
-  pub together-run : (fork_failed : Bool) → 2 ≤ trace.config.callers → RanTogether pools before after trace fork_failed (restored_of rebuilt) replies closed
+  pub together-run : (fork_failed : Bool) → 2 ≤ trace.config.callers → RanTogether pools before after trace fork_failed (found_keys rebuilt) replies closed
       → IsRun pools devices before after lent back trace fork_failed closed (report_of_closed fork_failed rebuilt replies closed)
   together-run fork_failed two ran = record {
     answers = ran.answers;
@@ -93,7 +93,7 @@ module _ {P D : Type 0} (pools : Ghosts P) (devices : DeviceGhosts D) (before af
     together = λ _. told;
     idle = λ none. let whole = no-fork none fork_failed refl in (
       whole,
-      told.whole whole ∙ ap (λ (s : Stand P). s.pool) (subst (λ (os : List Op). WorkInGroups pools trace.config (StoodThen trace closed.cells) (groups_of os replies) (stand before 1 told.place) told.reached) none told.groups),
+      told.whole whole ∙ ap (λ (s : BetweenGroups P). s.pool) (subst (λ (os : List Op). WorkInGroups pools trace.config (StoodThen trace closed.cells) (groups_of os replies) (between_groups before 1 told.place) told.reached) none told.groups),
     );
     failed = ran.failed;
   }

@@ -19,7 +19,7 @@ use Rattle.arc_table.specs.Telling.{opening_of}
 use Rattle.trace_run.specs.Lines.{caller_of}
 use Rattle.trace_run.specs.one_caller.OneCaller.{one_caller_histories}
 use Rattle.trace_run.specs.one_caller.PlainRun.{report_with, status_of}
-use Rattle.trace_run.specs.Restores.{restored_of, restores_in}
+use Rattle.trace_run.specs.Restores.{found_keys, restores_in}
 
 -- ---- the operations are those of the one caller
 
@@ -27,6 +27,11 @@ pub one-caller : (sizes : Config) (blocks : List Ptr) (op : Op) → sizes.caller
 one-caller sizes blocks (ops.Read n t x w) one possible = omega (arith, possible.0.0)
 one-caller sizes blocks (ops.Hold n t x) one possible = omega (arith, possible.0.0)
 one-caller sizes blocks (ops.Drop n x) one possible = omega (arith, possible.0.0)
+one-caller sizes blocks (ops.Get n t at window) one possible = omega (arith, possible.0.0)
+one-caller sizes blocks (ops.Put n t at size fill) one possible = omega (arith, possible.0.0)
+one-caller sizes blocks (ops.Patch n t at from bytes) one possible = omega (arith, possible.0.0)
+one-caller sizes blocks (ops.Pin n t at) one possible = omega (arith, possible.0.0)
+one-caller sizes blocks (ops.Unpin n at) one possible = omega (arith, possible.0.0)
 one-caller sizes blocks other one possible = tt
 
 pub possible-at : (sizes : Config) (blocks : List Ptr) (os : List Op) (k : ℕ) (op : Op) → All (IsPossible sizes blocks) os → slice_get os k ≡ Some op → IsPossible sizes blocks op
@@ -38,12 +43,12 @@ all-own P [] own = tt
 all-own P (op ∷ os) own = (own 0 op refl, all-own P os (λ k o at. own (suc k) o at))
 
 -- a report by its parts
-pub report-is : (trace : Trace) (report : Report) → report.histories ≡ one_caller_histories trace.config.shards trace.blocks 0 (opening_of trace.config) (restores_in trace.config (restored_of report.rebuilt)) trace.ops report.replies
-    → report.ends ≡ ends_of trace.config (one_caller_histories trace.config.shards trace.blocks 0 (opening_of trace.config) (restores_in trace.config (restored_of report.rebuilt)) trace.ops report.replies)
+pub report-is : (trace : Trace) (report : Report) → report.histories ≡ one_caller_histories trace.config.shards trace.blocks 0 (opening_of trace.config) (restores_in trace.config (found_keys report.rebuilt)) trace.ops report.replies
+    → report.ends ≡ ends_of trace.config (one_caller_histories trace.config.shards trace.blocks 0 (opening_of trace.config) (restores_in trace.config (found_keys report.rebuilt)) trace.ops report.replies)
     → report.status ≡ status_of report.replies → report.short ≡ false
     → report.io ≡ None → report ≡ report_with trace report.rebuilt report.replies
 report-is trace report histories ends status short io =
-    let hs = one_caller_histories trace.config.shards trace.blocks 0 (opening_of trace.config) (restores_in trace.config (restored_of report.rebuilt)) trace.ops report.replies in
+    let hs = one_caller_histories trace.config.shards trace.blocks 0 (opening_of trace.config) (restores_in trace.config (found_keys report.rebuilt)) trace.ops report.replies in
     let first : Report = record report { histories = hs } in
     let second : Report = record first { ends = ends_of trace.config hs } in
     let third : Report = record second { status = status_of report.replies } in

@@ -33,7 +33,7 @@ at party kept pool = record { party = party; kept = kept; pool = pool }
 
 -- The party did what a line asks, which was answered so: its own number has the line's acts more. A party that is alone has seen in each
 -- shard just the events that the line makes there more.
-pub record DidThere {C : Type 0} (g : Config) (device : ℕ) (blocks : List Ptr) (kept : List KeptRead) (op : Op) (reply : Reply) (p q : Place (Known C)) : Type 0 where
+pub record DidThere {C : Type 0} (g : Config) (blocks : List Ptr) (kept : List KeptRead) (op : Op) (reply : Reply) (p q : Place (Known C)) : Type 0 where
   pub number : q.number ≡ p.number
   pub told : (before : List Act) (noted : List Noted) → HasToldAll g before noted p → HasToldAll g (before ++ acts_of blocks kept op reply) noted q
   pub alone : HasAll p → (shard : ℕ) → seen_of g shard q ≡ seen_of g shard p ++ events_there g.shards blocks shard (now_of g shard p) kept op reply
@@ -54,19 +54,19 @@ HasResized g c p q = HasFed g (resizes_in g.shards only_feeder c) p q
 
 -- The line was answered so. Its acts are told, and a caller that is alone has seen just its events more; its pool was read as the reply says.
 -- Bytes that came from the pool in this call are those that it tells, where it does.
-pub record DidLine {C P : Type 0} (g : Config) (pools : Ghosts P) (device : ℕ) (blocks : List Ptr) (op : Op) (reply : Reply) (old new : At C P) : Type 0 where
+pub record DidLine {C P : Type 0} (g : Config) (pools : Ghosts P) (blocks : List Ptr) (op : Op) (reply : Reply) (old new : At C P) : Type 0 where
   pub answer : AnswersNow (pools.size old.pool) (pools.told old.pool) blocks old.kept op reply
   pub kept : new.kept ≡ kept_after blocks op reply old.kept
-  pub did : DidThere g device blocks old.kept op reply old.party new.party
+  pub did : DidThere g blocks old.kept op reply old.party new.party
   pub found : HasAll old.party → IsFoundAs blocks (now_of g (shard_of_line g.shards blocks op) old.party) op reply
   pub range : CameFromPool (effect_of reply) → IfSome (pools.told old.pool) (λ image. IsReadOfImage image blocks op reply)
   pub calls : MakesCalls pools (calls_of (effect_of reply)) old.pool new.pool
   pub keeps : KeepsPool pools old.pool new.pool
 
 -- the lines were answered, one after another
-abbrev pub DidLines : {C P : Type 0} → Config → Ghosts P → (device : ℕ) → List Ptr → List Op → List Reply → (old new : At C P) → Type 0
-DidLines g pools device blocks [] [] old new = new ≡ old
-DidLines g pools device blocks [] (reply ∷ replies) old new = ⊥
-DidLines g pools device blocks (op ∷ ops) [] old new = ⊥
-DidLines {C} {P} g pools device blocks (op ∷ ops) (reply ∷ replies) old new =
-    (next : At C P) × DidLine g pools device blocks op reply old next × DidLines g pools device blocks ops replies next new
+abbrev pub DidLines : {C P : Type 0} → Config → Ghosts P → List Ptr → List Op → List Reply → (old new : At C P) → Type 0
+DidLines g pools blocks [] [] old new = new ≡ old
+DidLines g pools blocks [] (reply ∷ replies) old new = ⊥
+DidLines g pools blocks (op ∷ ops) [] old new = ⊥
+DidLines {C} {P} g pools blocks (op ∷ ops) (reply ∷ replies) old new =
+    (next : At C P) × DidLine g pools blocks op reply old next × DidLines g pools blocks ops replies next new

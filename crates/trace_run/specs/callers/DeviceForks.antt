@@ -11,7 +11,7 @@ use Rattle.trace_run.specs.declared.group.Caller.{Caller}
 use Rattle.trace_run.specs.DeviceReads.{AsksGiven}
 use Rattle.trace_run.specs.Devices.{WasOnlyRead}
 use Rattle.trace_run.specs.Lines.{is_of_caller}
-use Rattle.trace_run.specs.callers.Together.{Lines, groups_of, replies_of_caller}
+use Rattle.trace_run.specs.callers.Together.{GroupLines, groups_of, replies_of_caller}
 
 -- the fork that was made, where it was
 abbrev pub fork_of : {D : Type 0} → Result D IoFault → Option D
@@ -82,14 +82,14 @@ module _ {D : Type 0} (devices : Ghosts D) where
     pub back : TakesForksBack done lent new
 
   -- the same of all callers from this one on, by the replies to all lines of a group in their order
-  abbrev pub AllAskIn : List Ptr → Lines → (n : ℕ) → (given left : List (Option D)) → Type 0
+  abbrev pub AllAskIn : List Ptr → GroupLines → (n : ℕ) → (given left : List (Option D)) → Type 0
   AllAskIn blocks group n [] [] = Unit {0}
   AllAskIn blocks group n (fork ∷ forks) (done ∷ dones) = AsksGiven devices blocks (filter (is_of_caller n) group.ops) (replies_of_caller n group.ops group.replies) fork done × AllAskIn blocks group (suc n) forks dones
   AllAskIn blocks group n _ _ = ⊥
 
   -- Callers did their lines of a group at once. Each was given a fork of the device as it was then, or none where it was refused or there is no device:
   -- that is asked for once. Its lines asked the fork for just their reads, and the device took each fork back, by rising caller. Nothing else was done with it.
-  pub record ReadAtOnce (blocks : List Ptr) (callers : ℕ) (group : Lines) (old new : Option D) : Type 0 where
+  pub record ReadAtOnce (blocks : List Ptr) (callers : ℕ) (group : GroupLines) (old new : Option D) : Type 0 where
     pub forks : List (Option D)
     pub count : length forks ≡ callers
     pub lent : Option D
@@ -99,7 +99,7 @@ module _ {D : Type 0} (devices : Ghosts D) where
     pub back : TakesForksBack done lent new
 
   -- so they did these groups, one after another
-  abbrev pub ReadInGroups : List Ptr → (callers : ℕ) → List Lines → (old new : Option D) → Type 0
+  abbrev pub ReadInGroups : List Ptr → (callers : ℕ) → List GroupLines → (old new : Option D) → Type 0
   ReadInGroups blocks callers [] old new = new ≡ old
   ReadInGroups blocks callers (group ∷ groups) old new = (next : Option D) × ReadAtOnce blocks callers group old next × ReadInGroups blocks callers groups next new
 
@@ -108,7 +108,7 @@ module _ {D : Type 0} (devices : Ghosts D) where
   HaveReadSoFar trace replies old new = ReadInGroups trace.blocks trace.config.callers (groups_of (take (length replies) trace.ops) replies) old new
 
 -- lines with their replies, as a group has them
-abbrev pub these : List Op → List Reply → Lines
+abbrev pub these : List Op → List Reply → GroupLines
 these ops replies = record { ops = ops; replies = replies; end = None }
 
 module _ {C P D : Type 0} (devices : Ghosts D) where

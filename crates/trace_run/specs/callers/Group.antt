@@ -11,7 +11,7 @@ use Rattle.turn_table.specs.Places.{Place}
 use Rattle.trace_text.specs.declared.op.Op.{Op}
 use Rattle.trace_text.specs.declared.reply.Reply.{Reply}
 use Rattle.vdev_io.specs.declared.pool.Pool.{Ghosts}
-use Rattle.vdev_io.specs.Faults.{last_count}
+use Rattle.vdev_io.specs.Faults.{last_count, sum_of_counts}
 use Rattle.trace_run.specs.Acts.{acts_of_all}
 use Rattle.trace_run.specs.Effects.{calls_of_all}
 use Rattle.trace_run.specs.KeptBlocks.{read_of}
@@ -61,7 +61,8 @@ pub record WorkedAt {C P : Type 0} (cache : Cache) (pools : Ghosts P) (blocks : 
   pub after : IsAt n kept qs new to
   pub worked : HasWorked cache pools blocks ops n fork done own old from new to
 
--- So many callers have done their work, each on its own fork, and the pool has counted what the forks did, as far as there was room.
+-- So many callers have done their work, each on its own fork, and the pool has counted what the forks did; a sum past the last value of a count is that
+-- value.
 pub record HaveWorked {C P : Type 0} (cache : Cache) (pools : Ghosts P) (blocks : List Ptr) (ops : List Op) (callers : ℕ) (before after : P) (replies : List (List Reply)) (had : List (List KeptBlock)) (ps : List (Place (Known C))) (kept : List (List KeptBlock)) (qs : List (Place (Known C))) : Type 0 where
   pub replied : length replies ≡ callers
   pub kepts : length kept ≡ callers
@@ -70,6 +71,6 @@ pub record HaveWorked {C P : Type 0} (cache : Cache) (pools : Ghosts P) (blocks 
   pub done : ℕ → P
   pub fresh : (n : ℕ) → n < callers → IsFork pools before (forks n)
   pub each : (n : ℕ) → n < callers → WorkedAt cache pools blocks ops n (forks n) (done n) replies had ps kept qs
-  pub reads : pools.reads before + over_callers callers (λ n. pools.reads (done n)) ≤ last_count → pools.reads after ≡ pools.reads before + over_callers callers (λ n. pools.reads (done n))
-  pub faults : pools.faults before + over_callers callers (λ n. pools.faults (done n)) ≤ last_count → pools.faults after ≡ pools.faults before + over_callers callers (λ n. pools.faults (done n))
+  pub reads : 0 < callers → pools.reads after ≡ sum_of_counts (pools.reads before) (over_callers callers (λ n. pools.reads (done n)))
+  pub faults : 0 < callers → pools.faults after ≡ sum_of_counts (pools.faults before) (over_callers callers (λ n. pools.faults (done n)))
   pub keeps : LeavesPool pools before after

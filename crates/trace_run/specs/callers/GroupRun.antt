@@ -24,7 +24,7 @@ use Rattle.trace_run.specs.Explaining.{Explain}
 use Rattle.trace_run.specs.CellEnds.{EndedCrew}
 use Rattle.trace_run.specs.KeptBlocks.{Stands}
 use Rattle.trace_run.specs.Meeting.{AreWaiting, HaveGivenBack, IsFed}
-use Rattle.trace_run.specs.Restores.{restored_of}
+use Rattle.trace_run.specs.Restores.{found_keys}
 use Rattle.trace_run.specs.callers.Together.{RunsTogether, StopsAtGroup, answered_ops, faults_told, report_of_closed}
 
 -- all parties of a cache, by their numbers, none of which keeps anything
@@ -49,5 +49,5 @@ pub record RanTogether {P : Type 0} (pools : Ghosts P) (before after : P) (trace
   pub explained : Explain trace restored replies (ends_in closed) (histories_of closed)
   pub reads : pools.reads before < 2 ^ 63 → pools.reads after ≡ pools.reads before + sum_by pool_reads (histories_of closed)
   pub faults : pools.faults before < 2 ^ 63 → pools.faults after ≡ pools.faults before + faults_told fork_failed replies
-  pub together : (rebuilt : Option Rebuilt) → restored_of rebuilt ≡ restored → RunsTogether pools before after trace fork_failed closed.cells (report_of_closed fork_failed rebuilt replies closed)
+  pub together : (rebuilt : Option Rebuilt) → found_keys rebuilt ≡ restored → RunsTogether pools before after trace fork_failed closed.cells (report_of_closed fork_failed rebuilt replies closed)
   pub failed : fork_failed ≡ true → Rose (pools.faults before) (pools.faults after) × StopsAtGroup trace replies

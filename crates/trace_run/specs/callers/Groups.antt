@@ -13,7 +13,7 @@ use Rattle.dbuf_cells.specs.Turns.{OnHeap}
 use Rattle.dbuf_state.specs.Numbers.{opening_numbers}
 use Rattle.dbuf_state.specs.Soundness.{IsSound}
 use Rattle.txg_sync.specs.Items.{SyncItem}
-use Rattle.txg_sync.specs.declared.syncing.Synced.{Synced as Syncing}
+use Rattle.txg_sync.specs.declared.syncing.Synced.{Synced as SyncAnswer}
 use Rattle.trace_text.specs.declared.op.Op.{Op}
 use Rattle.trace_text.specs.declared.op.Op.TheVariants.{Cap, Txg}
 use Rattle.trace_text.specs.declared.reply.Reply.{Reply}
@@ -37,7 +37,7 @@ use Rattle.trace_run.specs.one_caller.OverShards.{AreNamed}
 use Rattle.trace_run.specs.Restores.{events_by_feeder, restores_in}
 use Rattle.trace_run.specs.Syncing.{SyncedJoined}
 use Rattle.trace_run.specs.Tally.{AreAnswered}
-use Rattle.trace_run.specs.callers.Together.{AreCut, BeginsGroup, Stand, WorkInGroups, groups_of, over_callers, replies_of_caller, stand}
+use Rattle.trace_run.specs.callers.Together.{AreCut, BeginsGroup, BetweenGroups, WorkInGroups, groups_of, over_callers, replies_of_caller, between_groups}
 
 -- the line gave a capacity, and is answered so; or it is a sync that is answered
 abbrev pub IsEndLine : Op → Reply → Type 0
@@ -98,14 +98,14 @@ pub record StoodFresh (openings : List (List ℕ)) (count tick : ℕ) (cells : L
   pub nothing : xs ≡ []
 
 -- The next group has a number, and its sync a place: they are such that it may be done.
-pub record MaySync {P : Type 0} (pools : Ghosts P) (lines : ℕ) (now : Stand P) : Type 0 where
+pub record MaySync {P : Type 0} (pools : Ghosts P) (lines : ℕ) (now : BetweenGroups P) : Type 0 where
   pub born : 0 < now.group
   pub few : now.group ≤ suc lines
   pub aligned : now.next % sector ≡ 0
   pub inside : now.next ≤ pools.size now.pool
 
 -- The callers stand between two groups of a trace, of which so many lines are answered.
-pub record AreBetween {C P : Type 0} (cache : Cache) (restored : List Restored) (pools : Ghosts P) (trace : Trace) (before now : Stand P) (replies : List Reply) (crew : Crew C) : Type 0 where
+pub record AreBetween {C P : Type 0} (cache : Cache) (restored : List Restored) (pools : Ghosts P) (trace : Trace) (before now : BetweenGroups P) (replies : List Reply) (crew : Crew C) : Type 0 where
   pub few : length replies ≤ length trace.ops
   pub begins : length replies < length trace.ops → BeginsGroup trace.ops (length replies)
   pub come : HaveCome cache restored (pools.size before.pool) (pools.told before.pool) trace.blocks (take (length replies) trace.ops) replies crew
@@ -123,21 +123,21 @@ pub record DidLinesAtOnce {C P : Type 0} (cache : Cache) (pools : Ghosts P) (blo
   pub feeder : new.feeder ≡ old.feeder
 
 -- every shard was given a capacity
-pub record DidCap {C P : Type 0} (cache : Cache) (c : ℕ) (from to : Stand P) (old new : Crew C) (reply : Reply) : Type 0 where
+pub record DidCap {C P : Type 0} (cache : Cache) (c : ℕ) (from to : BetweenGroups P) (old new : Crew C) (reply : Reply) : Type 0 where
   pub answer : reply ≡ Capped c
   pub resized : Resized cache c old.feeder old.parties.items new.feeder new.parties.items
-  pub stays : to ≡ stand from.pool (suc from.group) from.next
+  pub stays : to ≡ between_groups from.pool (suc from.group) from.next
 
 -- all dirty blocks were written at this tick
-pub record DidSync {P : Type 0} (cache : Cache) (pools : Ghosts P) (t : ℕ) (from to : Stand P) (old new : Crew OnHeap) (reply : Reply) : Type 0 where
-  pub done : Syncing
+pub record DidSync {P : Type 0} (cache : Cache) (pools : Ghosts P) (t : ℕ) (from to : BetweenGroups P) (old new : Crew OnHeap) (reply : Reply) : Type 0 where
+  pub done : SyncAnswer
   pub answer : reply ≡ Synced from.group done.blocks done.bytes
   pub synced : SyncedJoined pools cache from.group t from.next from.pool to.pool old.feeder old.parties.items new.feeder new.parties.items done
   pub group : to.group ≡ suc from.group
   pub next : to.next ≡ done.next
 
 -- a line that ends a group was done, and this is the reply
-pub record DidEndLine {P : Type 0} (cache : Cache) (pools : Ghosts P) (op : Op) (from to : Stand P) (old new : Crew OnHeap) (reply : Reply) : Type 0 where
+pub record DidEndLine {P : Type 0} (cache : Cache) (pools : Ghosts P) (op : Op) (from to : BetweenGroups P) (old new : Crew OnHeap) (reply : Reply) : Type 0 where
   pub did : ((c : ℕ) × (op ≡ Cap c) × DidCap cache c from to old new reply) ⊎ ((t : ℕ) × (op ≡ Txg t) × DidSync cache pools t from to old new reply)
   pub kept : new.kept.items ≡ old.kept.items
 
@@ -149,8 +149,8 @@ pub record ForkFailed {P : Type 0} (pools : Ghosts P) (before after : P) : Type 
   pub rose : Rose (pools.faults before) (pools.faults after)
 
 -- All lines of the trace were done; or a fork of the pool failed before the group of the first line that isn't answered.
-pub record AreDone {C P : Type 0} (cache : Cache) (restored : List Restored) (pools : Ghosts P) (trace : Trace) (before : Stand P) (after : P) (fork_failed : Bool) (replies : List Reply) (crew : Crew C) : Type 0 where
-  pub reached : Stand P
+pub record AreDone {C P : Type 0} (cache : Cache) (restored : List Restored) (pools : Ghosts P) (trace : Trace) (before : BetweenGroups P) (after : P) (fork_failed : Bool) (replies : List Reply) (crew : Crew C) : Type 0 where
+  pub reached : BetweenGroups P
   pub between : AreBetween cache restored pools trace before reached replies crew
   pub whole : fork_failed ≡ false → (length replies ≡ length trace.ops) × (after ≡ reached.pool)
   pub failed : fork_failed ≡ true → (length replies < length trace.ops) × ForkFailed pools reached.pool after
@@ -160,7 +160,7 @@ abbrev pub AreOfCallers : (callers : ℕ) → List Op → Type 0
 AreOfCallers callers ops = (k : ℕ) (op : Op) → slice_get ops k ≡ Some op → (n : ℕ) × (caller_of op ≡ Some n) × (n < callers)
 
 -- the next group was done, or none of it was begun, since a fork of the pool failed
-abbrev pub StepsOn : {C P : Type 0} → Cache → List Restored → Ghosts P → Trace → (start before after : Stand P) → (replied replies : List Reply) → (done : Bool) → (old new : Crew C) → Type 0
+abbrev pub StepsOn : {C P : Type 0} → Cache → List Restored → Ghosts P → Trace → (start before after : BetweenGroups P) → (replied replies : List Reply) → (done : Bool) → (old new : Crew C) → Type 0
 StepsOn cache restored pools trace start before after replied replies true old new =
     AreBetween cache restored pools trace start after replies new × (length replied < length replies)
 StepsOn cache restored pools trace start before after replied replies false old new = (replies ≡ replied) × (new ≡ old) × ForkFailed pools before.pool after.pool

@@ -6,7 +6,6 @@ use Rattle.blk_ptr.specs.Hash.{shard_of}
 use Rattle.blk_ptr.specs.Key.{IsValid, key_end}
 use Rattle.arc_core.specs.declared.config.Config.{Config}
 use Rattle.arc_core.specs.declared.event.Event.{Event}
-use Rattle.arc_core.specs.declared.event.Event.TheVariants.{Resize}
 use Rattle.arc_core.specs.declared.served.Restored.{Restored}
 use Rattle.arc_core.specs.Operations.{Tell, acts_in, is_pool_read, moments, number_of, own_events, own_moments}
 use Rattle.arc_table.specs.Telling.{opening_of}
@@ -17,23 +16,23 @@ use Rattle.dbuf_state.specs.declared.event.CellEvent.{CellEvent}
 use Rattle.txg_sync.specs.Items.{SyncItem}
 use Rattle.txg_sync.specs.Syncing.{AnswersWith}
 use Rattle.txg_sync.specs.Turns.{synced_in}
-use Rattle.txg_sync.specs.declared.syncing.Synced.{Synced as Syncing}
+use Rattle.txg_sync.specs.declared.syncing.Synced.{Synced as SyncAnswer}
 use Rattle.trace_text.specs.declared.op.Op.{Op}
-use Rattle.trace_text.specs.declared.op.Op.TheVariants.{Read, Hold, Drop, Cap, Txg}
+use Rattle.trace_text.specs.declared.op.Op.TheVariants.{Read, Hold, Drop, Get, Put, Patch, Pin, Unpin, Feed, Cap, Txg}
 use Rattle.trace_text.specs.declared.reply.Reply.{Reply}
 use Rattle.trace_text.specs.declared.reply.Reply.TheVariants.{Synced}
 use Rattle.trace_text.specs.declared.rebuilt.Rebuilt.{Rebuilt}
 use Rattle.trace_text.specs.declared.report.Report.{Report}
 use Rattle.trace_text.specs.declared.trace.Trace.{Trace}
 use Rattle.vdev_io.specs.declared.pool.Pool.{Ghosts}
-use Rattle.vdev_io.specs.Faults.{last_count}
-use Rattle.trace_run.specs.Acts.{acts_of_lines}
+use Rattle.vdev_io.specs.Faults.{sum_of_counts}
+use Rattle.arc_check.specs.Judging.{end_of}
+use Rattle.trace_run.specs.Acts.{acts_of_lines, events_of_feeder}
 use Rattle.trace_run.specs.Answers.{is_pool_fault}
 use Rattle.trace_run.specs.Effects.{calls_of_all}
-use Rattle.trace_run.specs.Ends.{end_of}
 use Rattle.trace_run.specs.Lines.{is_of_caller, replies_where}
 use Rattle.trace_run.specs.one_caller.PlainRun.{status_of}
-use Rattle.trace_run.specs.Restores.{events_by_feeder, restored_of}
+use Rattle.trace_run.specs.Restores.{events_by_feeder, found_keys}
 use Rattle.vdev_io.specs.Calls.{MakesCalls}
 
 -- The report tells what the closed cache had: the history of each shard, and what the shard ends with.
@@ -88,12 +87,19 @@ reads_of_caller n histories = sum_by (λ history. count_by (λ e. is_pool_read e
 
 -- ---- groups
 
--- the line ends its group, and is done once all callers have come back
+-- The line ends its group, and is done once all callers have come back. A feed will not, but none is done yet.
 abbrev pub ends_group : Op → Bool
 ends_group (Read n t x window) = false
 ends_group (Hold n t x) = false
 ends_group (Drop n x) = false
-ends_group other = true
+ends_group (Get n t at window) = false
+ends_group (Put n t at size fill) = false
+ends_group (Patch n t at from bytes) = false
+ends_group (Pin n t at) = false
+ends_group (Unpin n at) = false
+ends_group Feed = true
+ends_group (Txg t) = true
+ends_group (Cap c) = true
 
 -- a group begins with the line of this number: it is the first line, or the one before it ends a group
 abbrev pub BeginsGroup : List Op → ℕ → Type 0
@@ -111,46 +117,46 @@ pub record EndLine : Type 0 where
   pub reply : Reply
 
 -- the lines of a group with their replies, and the line that ends it; the last group may have none
-pub record Lines : Type 0 where
+pub record GroupLines : Type 0 where
   pub ops : List Op
   pub replies : List Reply
   pub end : Option EndLine
 
 -- one line more, before these groups
-abbrev pub with_first : Op → Reply → List Lines → List Lines
+abbrev pub with_first : Op → Reply → List GroupLines → List GroupLines
 with_first op reply [] = record { ops = op ∷ []; replies = reply ∷ []; end = None } ∷ []
 with_first op reply (group ∷ groups) = record { ops = op ∷ group.ops; replies = reply ∷ group.replies; end = group.end } ∷ groups
 
 -- The groups of lines that were answered. Behind the last line that ends one there is a group only where lines are.
-abbrev pub groups_of : List Op → List Reply → List Lines
+abbrev pub groups_of : List Op → List Reply → List GroupLines
 groups_of [] replies = []
 groups_of (op ∷ ops) [] = []
 groups_of (op ∷ ops) (reply ∷ replies) =
     if ends_group op then (record { ops = []; replies = []; end = Some (record { op = op; reply = reply }) } ∷ groups_of ops replies) else with_first op reply (groups_of ops replies)
 
--- Callers did their lines of a group at once, each on a fork of the pool as it was then. The pool's counts rose by what the forks counted, as far
--- as there was room.
-pub record WorkAtOnce {P : Type 0} (pool : Ghosts P) (callers : ℕ) (group : Lines) (before after : P) : Type 0 where
+-- Callers did their lines of a group at once, each on a fork of the pool as it was then. The pool's counts rose by what the forks counted; a sum past the
+-- last value of a count is that value.
+pub record WorkAtOnce {P : Type 0} (pool : Ghosts P) (callers : ℕ) (group : GroupLines) (before after : P) : Type 0 where
   pub forks : ℕ → P
   pub done : ℕ → P
   pub size : (n : ℕ) → n < callers → pool.size (forks n) ≡ pool.size before
   pub told : (n : ℕ) → n < callers → pool.told (forks n) ≡ pool.told before
   pub fresh : (n : ℕ) → n < callers → (pool.reads (forks n) ≡ 0) × (pool.faults (forks n) ≡ 0)
   pub works : (n : ℕ) → n < callers → Works pool n group.ops group.replies (forks n) (done n)
-  pub reads : pool.reads before + over_callers callers (λ n. pool.reads (done n)) ≤ last_count → pool.reads after ≡ pool.reads before + over_callers callers (λ n. pool.reads (done n))
-  pub faults : pool.faults before + over_callers callers (λ n. pool.faults (done n)) ≤ last_count → pool.faults after ≡ pool.faults before + over_callers callers (λ n. pool.faults (done n))
+  pub reads : pool.reads after ≡ sum_of_counts (pool.reads before) (over_callers callers (λ n. pool.reads (done n)))
+  pub faults : pool.faults after ≡ sum_of_counts (pool.faults before) (over_callers callers (λ n. pool.faults (done n)))
   pub keeps : (pool.size after ≡ pool.size before) × (pool.told after ≡ pool.told before)
 
 -- ---- between groups
 
 -- what stands between two groups: the pool, the number of the next group, and the place from which its sync writes
-pub record Stand (P : Type 0) : Type 0 where
+pub record BetweenGroups (P : Type 0) : Type 0 where
   pub pool : P
   pub group : ℕ
   pub next : ℕ
 
-abbrev pub stand : {P : Type 0} → P → (group next : ℕ) → Stand P
-stand pool group next = record { pool = pool; group = group; next = next }
+abbrev pub between_groups : {P : Type 0} → P → (group next : ℕ) → BetweenGroups P
+between_groups pool group next = record { pool = pool; group = group; next = next }
 
 -- The first sync writes from this place on: the greatest end of the declared blocks whose keys name a block of a pool of this length; or 0, where
 -- there are none.
@@ -164,43 +170,45 @@ OfCells = (tick : ℕ) → List OnHeap → List SyncItem → Type 0
 
 module _ {P : Type 0} (pool : Ghosts P) (config : Config) (Cells : OfCells) where
   -- All dirty blocks were written, from the place at which the sync before stopped, and the group's number is their birth; the reply tells how many.
-  pub record SyncsGroup (tick : ℕ) (reply : Reply) (from to : Stand P) : Type 0 where
-    pub done : Syncing
+  pub record SyncsGroup (tick : ℕ) (reply : Reply) (from to : BetweenGroups P) : Type 0 where
+    pub done : SyncAnswer
     pub answer : AnswersWith pool from.group from.next from.pool to.pool config (λ cells xs Besides. Cells tick cells xs) (Ok done)
     pub replied : reply ≡ Synced from.group done.blocks done.bytes
     pub group : to.group ≡ suc from.group
     pub next : to.next ≡ done.next
 
   -- a line that ends a group was done
-  abbrev pub EndsBy : Op → Reply → (from to : Stand P) → Type 0
+  abbrev pub EndsBy : Op → Reply → (from to : BetweenGroups P) → Type 0
   EndsBy (Txg t) reply from to = SyncsGroup t reply from to
-  EndsBy (Cap c) reply from to = to ≡ stand from.pool (suc from.group) from.next
+  EndsBy (Cap c) reply from to = to ≡ between_groups from.pool (suc from.group) from.next
   EndsBy other reply from to = ⊥
 
-  abbrev pub EndsGroup : Option EndLine → (from to : Stand P) → Type 0
+  abbrev pub EndsGroup : Option EndLine → (from to : BetweenGroups P) → Type 0
   EndsGroup None from to = to ≡ from
   EndsGroup (Some line) from to = EndsBy line.op line.reply from to
 
   -- The callers did these groups, one after another: each at once, on forks of the pool as it was then, and then the line that ends it.
-  abbrev pub WorkInGroups : List Lines → (from to : Stand P) → Type 0
+  abbrev pub WorkInGroups : List GroupLines → (from to : BetweenGroups P) → Type 0
   WorkInGroups [] from to = to ≡ from
   WorkInGroups (group ∷ groups) from to =
-      (worked : P) × (next : Stand P) × WorkAtOnce pool config.callers group from.pool worked × EndsGroup group.end (stand worked from.group from.next) next × WorkInGroups groups next to
+      (worked : P) × (next : BetweenGroups P) × WorkAtOnce pool config.callers group from.pool worked × EndsGroup group.end (between_groups worked from.group from.next) next × WorkInGroups groups next to
 
--- In the history of a shard stands a Resize to this capacity. Before it stands all that these lines did there, and nothing else that a caller
+-- At one place in the history of a shard stand these events. Before it stands all that these lines did there, and nothing else that a caller
 -- or the feeder did.
-pub record IsCut (config : Config) (restored : List Restored) (blocks : List Ptr) (shard : ℕ) (ops : List Op) (replies : List Reply) (c : ℕ) (history : List Event) : Type 0 where
+pub record IsCut (config : Config) (restored : List Restored) (blocks : List Ptr) (shard : ℕ) (ops : List Op) (replies : List Reply) (here : List Event) (history : List Event) : Type 0 where
   pub front : List Event
   pub rest : List Event
-  pub whole : history ≡ front ++ Resize config.callers c ∷ rest
+  pub whole : history ≡ front ++ (here ++ rest)
   pub callers : (n : ℕ) → n < config.callers
       → Tell (acts_in (shard_of config.shards) shard n (acts_of_lines blocks ops n (replies_of_caller n ops replies))) (own_moments n (moments (opening_of config) front))
   pub feeder : own_events config.callers front ≡ events_by_feeder config restored ops replies shard
 
--- each line of these that gives a capacity cuts the history of a shard behind the lines before it
+-- Each line of these that ends a group cuts the history of a shard behind the lines before it. There stands what the line asks of the feeder: the new
+-- capacity; and nothing for a sync, since no line makes a block dirty yet.
 abbrev pub AreCut : Config → List Restored → List Ptr → (shard : ℕ) → List Op → List Reply → (history : List Event) → Type 0
 AreCut config restored blocks shard lines replies history =
-    (k c : ℕ) → slice_get lines k ≡ Some (Cap c) → k < length replies → IsCut config restored blocks shard (take k lines) (take k replies) c history
+    (k : ℕ) (op : Op) → slice_get lines k ≡ Some op → ends_group op ≡ true → k < length replies
+    → IsCut config restored blocks shard (take k lines) (take k replies) (events_of_feeder config.callers op) history
 
 -- ---- the cells at a sync
 
@@ -224,10 +232,10 @@ pub record RunsTogether {P : Type 0} (pool : Ghosts P) (before after : P) (trace
   -- the place of the first sync
   pub place : ℕ
   pub first : IsFirstPlace (pool.size before) trace.blocks place
-  pub reached : Stand P
-  pub groups : WorkInGroups pool trace.config (StoodThen trace closed) (groups_of trace.ops report.replies) (stand before 1 place) reached
+  pub reached : BetweenGroups P
+  pub groups : WorkInGroups pool trace.config (StoodThen trace closed) (groups_of trace.ops report.replies) (between_groups before 1 place) reached
   pub whole : fork_failed ≡ false → after ≡ reached.pool
   -- each caller's reads of its forks are those that its events stand for
   pub counted : (n : ℕ) → n < trace.config.callers → length (calls_of_all (replies_of_caller n trace.ops report.replies)) ≡ reads_of_caller n report.histories
-  -- a capacity is given to each shard once all lines before it are done, and before any line behind it is begun
-  pub cut : (shard : ℕ) → shard < length report.histories → AreCut trace.config (restored_of report.rebuilt) trace.blocks shard trace.ops report.replies (slice_index_or report.histories shard [])
+  -- a capacity is given to each shard, and a sync done, once all lines before it are done, and before any line behind it is begun
+  pub cut : (shard : ℕ) → shard < length report.histories → AreCut trace.config (found_keys report.rebuilt) trace.blocks shard trace.ops report.replies (slice_index_or report.histories shard [])

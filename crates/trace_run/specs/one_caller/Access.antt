@@ -51,10 +51,10 @@ origin_of served.Hit = origin.Pool
 origin_of served.Past = origin.Pool
 
 -- the key of the entry that an answered read holds: one past the cache holds none
-abbrev pub held_key : Ptr → Access → Option Key
-held_key ptr (Past kept) = None
-held_key ptr Hit = Some ptr.key
-held_key ptr Miss = Some ptr.key
+abbrev pub held_by_access : Ptr → Access → Option Key
+held_by_access ptr (Past kept) = None
+held_by_access ptr Hit = Some ptr.key
+held_by_access ptr Miss = Some ptr.key
 
 -- the events of a read that is answered from here, as long as it is kept
 abbrev pub events_of_answered : (n t : ℕ) → Ptr → Served → Access → List Event

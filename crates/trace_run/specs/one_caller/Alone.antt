@@ -11,10 +11,10 @@ use Rattle.trace_text.specs.declared.ends.ShardEnd.{ShardEnd}
 use Rattle.trace_text.specs.declared.reply.Reply.{Reply}
 use Rattle.trace_text.specs.declared.trace.Trace.{Trace}
 use Rattle.vdev_io.specs.declared.pool.Pool.{Ghosts}
+use Rattle.arc_check.specs.Judging.{end_of}
 use Rattle.trace_run.specs.Answers.{AnswersAll}
 use Rattle.trace_run.specs.callers.CallerLines.{At, DidLines}
 use Rattle.trace_run.specs.Effects.{calls_of_all}
-use Rattle.trace_run.specs.Ends.{end_of}
 use Rattle.arc_table.specs.Telling.{opening_of}
 use Rattle.trace_run.specs.Explaining.{Explain}
 use Rattle.trace_run.specs.Lines.{is_in_shard, replies_where}
@@ -38,7 +38,7 @@ pub record LinesAlone (C : Type 0) {P : Type 0} (pools : Ghosts P) (before after
   pub opens : (shard : ℕ) → now_of trace.config shard first.party ≡ restored_shard trace.config restored shard
   pub from : first.pool ≡ before
   pub to : last.pool ≡ after
-  pub lines : DidLines trace.config pools 0 trace.blocks trace.ops replies first last
+  pub lines : DidLines trace.config pools trace.blocks trace.ops replies first last
 
 -- Each operation of the one caller was answered, the pool was read just as the replies say, and the closed cache has the restores, the caller's events and no
 -- others. They explain the replies.

@@ -62,7 +62,15 @@ asked_by_read size s ptr NoEffect = []
 abbrev pub asked_by : (size : ℕ) → List Ptr → PlainShard → Op → Reply → List Asked
 asked_by size blocks s (ops.Read n t x window) reply = option_map_or (λ ptr. asked_by_read size s ptr (effect_of reply)) (slice_get blocks x) []
 asked_by size blocks s (ops.Hold n t x) reply = option_map_or (λ ptr. asked_by_read size s ptr (effect_of reply)) (slice_get blocks x) []
-asked_by size blocks s other reply = []
+asked_by size blocks s (ops.Drop n x) reply = []
+asked_by size blocks s (ops.Get n t at window) reply = []
+asked_by size blocks s (ops.Put n t at size fill) reply = []
+asked_by size blocks s (ops.Patch n t at from bytes) reply = []
+asked_by size blocks s (ops.Pin n t at) reply = []
+asked_by size blocks s (ops.Unpin n at) reply = []
+asked_by size blocks s ops.Feed reply = []
+asked_by size blocks s (ops.Txg t) reply = []
+asked_by size blocks s (ops.Cap c) reply = []
 
 -- ---- what it serves
 
@@ -142,7 +150,15 @@ module _ {D : Type 0} (devices : DeviceGhosts D) where
   abbrev pub AsksLine : List Ptr → PlainShard → Op → Reply → List Call → (old new : D) → Type 0
   AsksLine blocks s (ops.Read n t x window) reply calls old new = AsksBlock s (slice_get blocks x) (effect_of reply) calls old new
   AsksLine blocks s (ops.Hold n t x) reply calls old new = AsksBlock s (slice_get blocks x) (effect_of reply) calls old new
-  AsksLine blocks s other reply calls old new = (calls ≡ []) × (new ≡ old)
+  AsksLine blocks s (ops.Drop n x) reply calls old new = (calls ≡ []) × (new ≡ old)
+  AsksLine blocks s (ops.Get n t at window) reply calls old new = (calls ≡ []) × (new ≡ old)
+  AsksLine blocks s (ops.Put n t at size fill) reply calls old new = (calls ≡ []) × (new ≡ old)
+  AsksLine blocks s (ops.Patch n t at from bytes) reply calls old new = (calls ≡ []) × (new ≡ old)
+  AsksLine blocks s (ops.Pin n t at) reply calls old new = (calls ≡ []) × (new ≡ old)
+  AsksLine blocks s (ops.Unpin n at) reply calls old new = (calls ≡ []) × (new ≡ old)
+  AsksLine blocks s ops.Feed reply calls old new = (calls ≡ []) × (new ≡ old)
+  AsksLine blocks s (ops.Txg t) reply calls old new = (calls ≡ []) × (new ≡ old)
+  AsksLine blocks s (ops.Cap c) reply calls old new = (calls ≡ []) × (new ≡ old)
 
   -- The device was asked by all operations with their replies, one after another, over so many shards that were these at first, and answered so;
   -- nothing else was done with it.

@@ -14,7 +14,7 @@ use Rattle.arc_core.specs.Replay.{replay}
 use Rattle.trace_text.specs.declared.op.Op.{Op}
 use Rattle.trace_text.specs.declared.op.Op.TheVariants as ops
 use Rattle.trace_text.specs.declared.reply.Reply.{Reply}
-use Rattle.trace_run.specs.one_caller.Access.{Access, AsksPool, MayComeFrom, access_of, events_of_answered, events_of_drop, events_of_refused, held_key}
+use Rattle.trace_run.specs.one_caller.Access.{Access, AsksPool, MayComeFrom, access_of, events_of_answered, events_of_drop, events_of_refused, held_by_access}
 use Rattle.trace_run.specs.Effects.{Effect, Answered, GivenBack, PoolRefused, NoEffect, effect_of}
 use Rattle.trace_run.specs.Lines.{is_in_shard, replies_where}
 use Rattle.trace_run.specs.KeptReads.{KeptRead, kept_read}
@@ -61,13 +61,21 @@ kept_after_drop block NoEffect kept = kept
 abbrev pub kept_after : List Ptr → Op → Reply → List KeptRead → List KeptRead
 kept_after blocks (ops.Hold n t x) reply kept = option_map_or (λ ptr. kept_after_hold x ptr (effect_of reply) kept) (slice_get blocks x) kept
 kept_after blocks (ops.Drop n x) reply kept = kept_after_drop x (effect_of reply) kept
-kept_after blocks other reply kept = kept
+kept_after blocks (ops.Read n t x window) reply kept = kept
+kept_after blocks (ops.Get n t at window) reply kept = kept
+kept_after blocks (ops.Put n t at size fill) reply kept = kept
+kept_after blocks (ops.Patch n t at from bytes) reply kept = kept
+kept_after blocks (ops.Pin n t at) reply kept = kept
+kept_after blocks (ops.Unpin n at) reply kept = kept
+kept_after blocks ops.Feed reply kept = kept
+kept_after blocks (ops.Txg t) reply kept = kept
+kept_after blocks (ops.Cap c) reply kept = kept
 
 -- ---- the events of an operation
 
 -- what a read of a pointer makes in this shard: an answered one gives its hold back at once
 abbrev pub events_of_read : (n t : ℕ) → PlainShard → Ptr → Effect → List Event
-events_of_read n t s ptr (Answered from) = events_of_answered n t ptr from (access_of s ptr) ++ events_of_drop n (held_key ptr (access_of s ptr))
+events_of_read n t s ptr (Answered from) = events_of_answered n t ptr from (access_of s ptr) ++ events_of_drop n (held_by_access ptr (access_of s ptr))
 events_of_read n t s ptr GivenBack = []
 events_of_read n t s ptr (PoolRefused call) = events_of_refused n t ptr (access_of s ptr)
 events_of_read n t s ptr NoEffect = []
@@ -90,13 +98,20 @@ events_of_dropping n block kept NoEffect = []
 abbrev pub only_feeder : ℕ
 only_feeder = 1
 
--- the events of an operation with this reply, where these reads are kept
+-- The events of an operation with this reply, where these reads are kept. Of one on an object, a feed and a sync nothing is said yet, since none is done
+-- for one caller.
 abbrev pub events_of : List Ptr → PlainShard → List KeptRead → Op → Reply → List Event
 events_of blocks s kept (ops.Read n t x window) reply = option_map_or (λ ptr. events_of_read n t s ptr (effect_of reply)) (slice_get blocks x) []
 events_of blocks s kept (ops.Hold n t x) reply = option_map_or (λ ptr. events_of_hold n t s ptr (effect_of reply)) (slice_get blocks x) []
 events_of blocks s kept (ops.Drop n x) reply = events_of_dropping n x kept (effect_of reply)
 events_of blocks s kept (ops.Cap c) reply = event.Resize only_feeder c ∷ []
-events_of blocks s kept other reply = []
+events_of blocks s kept (ops.Get n t at window) reply = []
+events_of blocks s kept (ops.Put n t at size fill) reply = []
+events_of blocks s kept (ops.Patch n t at from bytes) reply = []
+events_of blocks s kept (ops.Pin n t at) reply = []
+events_of blocks s kept (ops.Unpin n at) reply = []
+events_of blocks s kept ops.Feed reply = []
+events_of blocks s kept (ops.Txg t) reply = []
 
 -- those that it makes in the shard of this number
 abbrev pub events_there : (shards : ℕ) → List Ptr → (shard : ℕ) → PlainShard → List KeptRead → Op → Reply → List Event
@@ -112,7 +127,15 @@ NamesSource access NoEffect = Unit {0}
 abbrev pub IsFoundAs : List Ptr → PlainShard → Op → Reply → Type 0
 IsFoundAs blocks s (ops.Read n t x window) reply = IfSome (slice_get blocks x) (λ ptr. NamesSource (access_of s ptr) (effect_of reply))
 IsFoundAs blocks s (ops.Hold n t x) reply = IfSome (slice_get blocks x) (λ ptr. NamesSource (access_of s ptr) (effect_of reply))
-IsFoundAs blocks s other reply = Unit {0}
+IsFoundAs blocks s (ops.Drop n x) reply = Unit {0}
+IsFoundAs blocks s (ops.Get n t at window) reply = Unit {0}
+IsFoundAs blocks s (ops.Put n t at size fill) reply = Unit {0}
+IsFoundAs blocks s (ops.Patch n t at from bytes) reply = Unit {0}
+IsFoundAs blocks s (ops.Pin n t at) reply = Unit {0}
+IsFoundAs blocks s (ops.Unpin n at) reply = Unit {0}
+IsFoundAs blocks s ops.Feed reply = Unit {0}
+IsFoundAs blocks s (ops.Txg t) reply = Unit {0}
+IsFoundAs blocks s (ops.Cap c) reply = Unit {0}
 
 -- ---- all operations
 

@@ -31,7 +31,16 @@ pub record ShowsCollision (ptr : Ptr) (window : Window) (plain reply : Reply) : 
 abbrev pub IsPlainReply : List Ptr → Op → (plain reply : Reply) → Type 0
 IsPlainReply blocks (ops.Read n t x window) plain reply =
     (reply ≡ plain) ⊎ ((ptr : Ptr) × (slice_get blocks x ≡ Some ptr) × ShowsCollision ptr window plain reply)
-IsPlainReply blocks other plain reply = reply ≡ plain
+IsPlainReply blocks (ops.Hold n t x) plain reply = reply ≡ plain
+IsPlainReply blocks (ops.Drop n x) plain reply = reply ≡ plain
+IsPlainReply blocks (ops.Get n t at window) plain reply = reply ≡ plain
+IsPlainReply blocks (ops.Put n t at size fill) plain reply = reply ≡ plain
+IsPlainReply blocks (ops.Patch n t at from bytes) plain reply = reply ≡ plain
+IsPlainReply blocks (ops.Pin n t at) plain reply = reply ≡ plain
+IsPlainReply blocks (ops.Unpin n at) plain reply = reply ≡ plain
+IsPlainReply blocks ops.Feed plain reply = reply ≡ plain
+IsPlainReply blocks (ops.Txg t) plain reply = reply ≡ plain
+IsPlainReply blocks (ops.Cap c) plain reply = reply ≡ plain
 
 -- each reply is, in their order
 abbrev pub ArePlainReplies : List Ptr → List Op → (plain replies : List Reply) → Type 0

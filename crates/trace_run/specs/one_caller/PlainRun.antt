@@ -18,7 +18,7 @@ use Rattle.arc_table.specs.Fetching.{bytes_from}
 use Rattle.trace_text.specs.declared.op.Op.{Op}
 use Rattle.trace_text.specs.declared.op.Op.TheVariants as ops
 use Rattle.trace_text.specs.declared.reply.Refusal.{Refusal}
-use Rattle.trace_text.specs.declared.reply.Refusal.TheVariants.{PoolFault, Mismatch, Key as RefusedKey, Range, NoHold}
+use Rattle.trace_text.specs.declared.reply.Refusal.TheVariants.{PoolFault, Mismatch, Key as RefusedKey, NoMemory, Range, NoHold}
 use Rattle.trace_text.specs.declared.reply.Reply.{Reply}
 use Rattle.trace_text.specs.declared.reply.Reply.TheVariants.{Read, Kept, Dropped, Capped, Refused}
 use Rattle.trace_text.specs.declared.rebuilt.Rebuilt.{Rebuilt}
@@ -35,7 +35,7 @@ use Rattle.trace_run.specs.Ends.{ends_of}
 use Rattle.arc_table.specs.Telling.{opening_of}
 use Rattle.trace_run.specs.Lines.{shard_of_line}
 use Rattle.trace_run.specs.one_caller.OneCaller.{kept_after, oldest_kept, one_caller_histories}
-use Rattle.trace_run.specs.Restores.{restored_of, restored_shard, restores_in}
+use Rattle.trace_run.specs.Restores.{found_keys, restored_shard, restores_in}
 use Rattle.vdev_io.specs.Calls.{Call, Gave, Failed}
 
 -- the bytes that the pool tells, and those of the cache device: where there is none, it has none
@@ -116,15 +116,25 @@ reply_to_hold image ptr from call = reply_unless (refused_read image ptr from ca
 abbrev pub reply_to_drop : (block : ℕ) → List KeptRead → Reply
 reply_to_drop block kept = if is_some (oldest_kept block kept) then Dropped else Refused (NoHold block)
 
--- the reply to an operation, where the pool answers so if it is read, and the device so; each block of a trace is declared, and no other operation is
--- done yet
+-- no answer: want of memory ends a run, so no report has it as a reply
+abbrev pub no_answer : Reply
+no_answer = Refused NoMemory
+
+-- The reply to an operation, where the pool answers so if it is read, and the device so. Each block of a trace is declared. An operation that is not done
+-- yet has none.
 abbrev pub reply_to : Images → List Ptr → PlainShard → List KeptRead → Contents → Op → (call device_call : Call) → Reply
 reply_to images blocks s kept contents (ops.Read n t x window) call device_call =
-    option_map_or (λ ptr. let from = source_in images s ptr device_call in reply_to_read images.pool ptr window from (bytes_in images contents s ptr from) call) (slice_get blocks x) Dropped
-reply_to images blocks s kept contents (ops.Hold n t x) call device_call = option_map_or (λ ptr. reply_to_hold images.pool ptr (source_in images s ptr device_call) call) (slice_get blocks x) Dropped
+    option_map_or (λ ptr. let from = source_in images s ptr device_call in reply_to_read images.pool ptr window from (bytes_in images contents s ptr from) call) (slice_get blocks x) no_answer
+reply_to images blocks s kept contents (ops.Hold n t x) call device_call = option_map_or (λ ptr. reply_to_hold images.pool ptr (source_in images s ptr device_call) call) (slice_get blocks x) no_answer
 reply_to images blocks s kept contents (ops.Drop n x) call device_call = reply_to_drop x kept
 reply_to images blocks s kept contents (ops.Cap c) call device_call = Capped c
-reply_to images blocks s kept contents other call device_call = Dropped
+reply_to images blocks s kept contents (ops.Get n t at window) call device_call = no_answer
+reply_to images blocks s kept contents (ops.Put n t at size fill) call device_call = no_answer
+reply_to images blocks s kept contents (ops.Patch n t at from bytes) call device_call = no_answer
+reply_to images blocks s kept contents (ops.Pin n t at) call device_call = no_answer
+reply_to images blocks s kept contents (ops.Unpin n at) call device_call = no_answer
+reply_to images blocks s kept contents ops.Feed call device_call = no_answer
+reply_to images blocks s kept contents (ops.Txg t) call device_call = no_answer
 
 -- ---- the replies to all operations
 
@@ -146,7 +156,15 @@ contents_with images contents s ptr NoEffect = contents
 abbrev pub contents_after : Images → List Ptr → PlainShard → Op → Reply → Contents → Contents
 contents_after images blocks s (ops.Read n t x window) reply contents = option_map_or (λ ptr. contents_with images contents s ptr (effect_of reply)) (slice_get blocks x) contents
 contents_after images blocks s (ops.Hold n t x) reply contents = option_map_or (λ ptr. contents_with images contents s ptr (effect_of reply)) (slice_get blocks x) contents
-contents_after images blocks s other reply contents = contents
+contents_after images blocks s (ops.Drop n x) reply contents = contents
+contents_after images blocks s (ops.Get n t at window) reply contents = contents
+contents_after images blocks s (ops.Put n t at size fill) reply contents = contents
+contents_after images blocks s (ops.Patch n t at from bytes) reply contents = contents
+contents_after images blocks s (ops.Pin n t at) reply contents = contents
+contents_after images blocks s (ops.Unpin n at) reply contents = contents
+contents_after images blocks s ops.Feed reply contents = contents
+contents_after images blocks s (ops.Txg t) reply contents = contents
+contents_after images blocks s (ops.Cap c) reply contents = contents
 
 abbrev pub replies_to : Images → (shards : ℕ) → List Ptr → (ℕ → PlainShard) → List KeptRead → Contents → List Op → (calls device_calls : List Call) → List Reply
 replies_to images shards blocks s kept contents [] calls device_calls = []
@@ -167,8 +185,8 @@ status_of replies = if list_any is_refusal replies then 1 else 0
 abbrev pub report_with : Trace → Option Rebuilt → List Reply → Report
 report_with trace rebuilt replies = record {
   replies = replies;
-  histories = one_caller_histories trace.config.shards trace.blocks 0 (opening_of trace.config) (restores_in trace.config (restored_of rebuilt)) trace.ops replies;
-  ends = ends_of trace.config (one_caller_histories trace.config.shards trace.blocks 0 (opening_of trace.config) (restores_in trace.config (restored_of rebuilt)) trace.ops replies);
+  histories = one_caller_histories trace.config.shards trace.blocks 0 (opening_of trace.config) (restores_in trace.config (found_keys rebuilt)) trace.ops replies;
+  ends = ends_of trace.config (one_caller_histories trace.config.shards trace.blocks 0 (opening_of trace.config) (restores_in trace.config (found_keys rebuilt)) trace.ops replies);
   io = None;
   rebuilt = rebuilt;
   status = status_of replies;
@@ -182,4 +200,4 @@ no_contents ptr = []
 -- the report of one caller's run over these bytes, where this was found on the cache device, and the pool and the device answered their reads so
 abbrev pub report_of : Trace → Option Rebuilt → Images → (calls device_calls : List Call) → Report
 report_of trace rebuilt images calls device_calls =
-    report_with trace rebuilt (replies_to images trace.config.shards trace.blocks (restored_shard trace.config (restored_of rebuilt)) [] no_contents trace.ops calls device_calls)
+    report_with trace rebuilt (replies_to images trace.config.shards trace.blocks (restored_shard trace.config (found_keys rebuilt)) [] no_contents trace.ops calls device_calls)

@@ -15,7 +15,7 @@ use Rattle.trace_run.specs.Lines.{shard_of_line}
 use Rattle.trace_run.specs.Reads.{now_of}
 use Rattle.trace_run.specs.one_caller.Asking.{AsksLine, AsksLines}
 use Rattle.trace_run.proofs.one_caller.AskingLemmas.{device-same, device-then}
-use Rattle.trace_run.proofs.one_caller.AskingLines.{asks-line, capped-asks, line-any}
+use Rattle.trace_run.proofs.one_caller.AskingLines.{asks-line, capped-asks}
 use Rattle.trace_run.proofs.RunLemmas.{keeps-then}
 use Rattle.trace_run.proofs.alone.lines_alone.Goals as goal
 
@@ -29,7 +29,7 @@ loop-number-init g c =
       named = c.requires.named;
       number = c.requires.number;
       joined = c.requires.joined;
-      did = subst (λ (rs : List Reply). DidLines config g.P.Pool 0 c.args.trace.now.blocks [] rs start start) (sym c.new-replies.ensures.items) refl;
+      did = subst (λ (rs : List Reply). DidLines config g.P.Pool c.args.trace.now.blocks [] rs start start) (sym c.new-replies.ensures.items) refl;
       asks = λ all. (
         [],
         subst (λ (rs : List Reply). AsksLines g.D.CacheDev config.shards c.args.trace.now.blocks (λ shard. now_of config shard c.args.party) (map read_of c.args.kept.now) [] rs [] c.args.device.now c.args.device.now)
@@ -55,17 +55,17 @@ loop-number-preserved-then-not-is_of_caller g c =
     let start = at c.args.party (map read_of c.args.kept.now) c.args.pool.now in
     let before = at c.loop-number.party kept c.loop-number.pool in
     let after = at c.in_ok-after.after kept c.loop-number.pool in
-    let one : DidLine config g.P.Pool 0 blocks op reply before after = capped-line config g.P.Pool 0 blocks c.loop-number.party c.in_ok-after.after kept c.loop-number.pool op reply c.in_ok-after.ensures.did in
+    let one : DidLine config g.P.Pool blocks op reply before after = capped-line config g.P.Pool blocks c.loop-number.party c.in_ok-after.after kept c.loop-number.pool op reply c.in_ok-after.ensures.did in
     record {
       stands = c.in_ok-after.ensures.stands c.loop-number.kept was.stands;
       named = was.named;
       number = one.did.number ∙ was.number;
       joined = c.in_ok-after.ensures.joined (openings_of c.args.trace.now) was.joined;
-      did = subst (λ (x : List Op × List Reply). DidLines config g.P.Pool 0 blocks x.0 x.1 start after) (λ i. (sym (take_one ops c.loop-number.number op here) i, sym c.in_ok-push.ensures.items i))
-          (lines-more config g.P.Pool 0 blocks (take c.loop-number.number ops) replies op reply start before after was.did one);
+      did = subst (λ (x : List Op × List Reply). DidLines config g.P.Pool blocks x.0 x.1 start after) (λ i. (sym (take_one ops c.loop-number.number op here) i, sym c.in_ok-push.ensures.items i))
+          (lines-more config g.P.Pool blocks (take c.loop-number.number ops) replies op reply start before after was.did one);
       asks = λ all.
           let so_far = was.asks all in
-          asks-line g.D.CacheDev config g.P.Pool 0 blocks (take c.loop-number.number ops) replies op reply _ c.in_ok-push.ensures.items start before (sym (take_one ops c.loop-number.number op here)) was.did all so_far.0 [] c.args.device.now c.loop-number.device c.loop-number.device so_far.1
+          asks-line g.D.CacheDev config g.P.Pool blocks (take c.loop-number.number ops) replies op reply _ c.in_ok-push.ensures.items start before (sym (take_one ops c.loop-number.number op here)) was.did all so_far.0 [] c.args.device.now c.loop-number.device c.loop-number.device so_far.1
           (capped-asks g.D.CacheDev blocks _ op reply c.in_ok-after.ensures.did c.loop-number.device);
       keeps = was.keeps;
       left = was.left;
@@ -87,18 +87,18 @@ loop-number-preserved g c =
     let start = at c.args.party (map read_of c.args.kept.now) c.args.pool.now in
     let before = at c.loop-number.party (map read_of c.loop-number.kept) c.loop-number.pool in
     let after = at c.line.new.party (map read_of c.line.new.kept) c.line.new.pool in
-    let one : DidLine config g.P.Pool 0 blocks op reply before after = subst (λ (bs : List Ptr). DidLine config g.P.Pool 0 bs op reply before after) c.as_slice-blocks.ensures (line-any config g.P.Pool (g.D.CacheDev.size c.loop-number.device) 0 _ op reply before after c.in_ok-reply.ensures.did) in
+    let one : DidLine config g.P.Pool blocks op reply before after = subst (λ (bs : List Ptr). DidLine config g.P.Pool bs op reply before after) c.as_slice-blocks.ensures c.in_ok-reply.ensures.did in
     record {
       stands = c.in_ok-reply.ensures.stands;
-      named = line-named config g.P.Pool 0 blocks op reply before after was.named one;
+      named = line-named config g.P.Pool blocks op reply before after was.named one;
       number = one.did.number ∙ was.number;
-      joined = feeder-after c.args.arcs.now (openings_of c.args.trace.now) g.P.Pool 0 0 blocks op reply before after his one was.joined;
-      did = subst (λ (x : List Op × List Reply). DidLines config g.P.Pool 0 blocks x.0 x.1 start after) (λ i. (sym (take_one ops c.loop-number.number op here) i, sym c.in_ok-push-2.ensures.items i))
-          (lines-more config g.P.Pool 0 blocks (take c.loop-number.number ops) replies op reply start before after was.did one);
+      joined = feeder-after c.args.arcs.now (openings_of c.args.trace.now) g.P.Pool 0 blocks op reply before after his one was.joined;
+      did = subst (λ (x : List Op × List Reply). DidLines config g.P.Pool blocks x.0 x.1 start after) (λ i. (sym (take_one ops c.loop-number.number op here) i, sym c.in_ok-push-2.ensures.items i))
+          (lines-more config g.P.Pool blocks (take c.loop-number.number ops) replies op reply start before after was.did one);
       asks = λ all.
           let so_far = was.asks all in
-          let mine = c.in_ok-reply.ensures.asks (lines-all config g.P.Pool 0 blocks (take c.loop-number.number ops) replies start before was.did all) in
-          asks-line g.D.CacheDev config g.P.Pool 0 blocks (take c.loop-number.number ops) replies op reply _ c.in_ok-push-2.ensures.items start before (sym (take_one ops c.loop-number.number op here)) was.did all so_far.0 mine.0 c.args.device.now c.loop-number.device c.line.new.device so_far.1
+          let mine = c.in_ok-reply.ensures.asks (lines-all config g.P.Pool blocks (take c.loop-number.number ops) replies start before was.did all) in
+          asks-line g.D.CacheDev config g.P.Pool blocks (take c.loop-number.number ops) replies op reply _ c.in_ok-push-2.ensures.items start before (sym (take_one ops c.loop-number.number op here)) was.did all so_far.0 mine.0 c.args.device.now c.loop-number.device c.line.new.device so_far.1
           (subst (λ (bs : List Ptr). AsksLine g.D.CacheDev bs (now_of config (shard_of_line config.shards bs op) c.loop-number.party) op reply mine.0 c.loop-number.device c.line.new.device) c.as_slice-blocks.ensures mine.1);
       left = device-then g.D.CacheDev c.args.device.now c.loop-number.device c.line.new.device was.left c.in_ok-reply.ensures.keeps;
       keeps = keeps-then g.P.Pool c.args.pool.now c.loop-number.pool c.line.new.pool was.keeps c.in_ok-reply.ensures.pool;

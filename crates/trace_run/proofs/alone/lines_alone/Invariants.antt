@@ -19,7 +19,7 @@ invariant-loop-number g l =
       named : AreNamed l.trace.blocks (map read_of l.kept);
       number : l.party.number ≡ 0;
       joined : HasFeeder l.arcs (openings_of l.trace) l.party;
-      did : DidLines l.arcs.config pool 0 l.trace.blocks (take l.number l.trace.ops) l.replies.items (at l.fn.party (map read_of l.fn.kept) l.fn.pool) (at l.party (map read_of l.kept) l.pool);
+      did : DidLines l.arcs.config pool l.trace.blocks (take l.number l.trace.ops) l.replies.items (at l.fn.party (map read_of l.fn.kept) l.fn.pool) (at l.party (map read_of l.kept) l.pool);
       asks : HasAll l.fn.party → (calls : List Call) × AsksLines g.D.CacheDev l.arcs.config.shards l.trace.blocks (λ shard. now_of l.arcs.config shard l.fn.party) (map read_of l.fn.kept) (take l.number l.trace.ops) l.replies.items calls l.fn.device l.device;
       keeps : KeepsPool pool l.fn.pool l.pool;
       left : KeepsDevice g.D.CacheDev l.fn.device l.device;

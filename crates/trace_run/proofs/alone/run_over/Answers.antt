@@ -46,7 +46,7 @@ end_alone-requires-clause-number g c =
     let q = c.in_ok-party-2.party in
     let r = c.give_back_all.new.party in
     let kept : List KeptBlock = c.lines_alone.new.kept in
-    let did = subst (λ (l : List KeptBlock). DidLines cache.config g.P.Pool 0 c.args.trace.now.blocks c.args.trace.now.ops c.in_ok-party-2.replies.items (at p (map read_of l) c.args.pool.now) (at q (map read_of kept) c.lines_alone.new.pool))
+    let did = subst (λ (l : List KeptBlock). DidLines cache.config g.P.Pool c.args.trace.now.blocks c.args.trace.now.ops c.in_ok-party-2.replies.items (at p (map read_of l) c.args.pool.now) (at q (map read_of kept) c.lines_alone.new.pool))
     c.new-kept.ensures c.in_ok-party-2.ensures.did in
     still-0 _ cache g.P.Pool c.args.trace.now c.in_ok-party-2.replies.items c.args.pool.now c.lines_alone.new.pool p q r kept c.in_ok-arcs.ensures.config c.requires.formed c.requires.one
     c.args.restored.now new c.only_party-party.ensures.joined c.in_ok-party.ensures.fed did c.in_ok-party-2.ensures.stands c.give_back_all.ensures.gives c.give_back_all.ensures.stands
@@ -59,7 +59,7 @@ end_alone-requires-clause-joined g c =
     let q = c.in_ok-party-2.party in
     let r = c.give_back_all.new.party in
     let kept : List KeptBlock = c.lines_alone.new.kept in
-    let did = subst (λ (l : List KeptBlock). DidLines cache.config g.P.Pool 0 c.args.trace.now.blocks c.args.trace.now.ops c.in_ok-party-2.replies.items (at p (map read_of l) c.args.pool.now) (at q (map read_of kept) c.lines_alone.new.pool))
+    let did = subst (λ (l : List KeptBlock). DidLines cache.config g.P.Pool c.args.trace.now.blocks c.args.trace.now.ops c.in_ok-party-2.replies.items (at p (map read_of l) c.args.pool.now) (at q (map read_of kept) c.lines_alone.new.pool))
     c.new-kept.ensures c.in_ok-party-2.ensures.did in (
       openings_of c.args.trace.now,
       feeder-still cache (openings_of c.args.trace.now) q r (still-joined _ cache g.P.Pool c.args.trace.now c.in_ok-party-2.replies.items c.args.pool.now c.lines_alone.new.pool p q r kept c.in_ok-arcs.ensures.config c.requires.formed c.requires.one
@@ -74,7 +74,7 @@ end_alone-requires-clause-rows g c =
     let q = c.in_ok-party-2.party in
     let r = c.give_back_all.new.party in
     let kept : List KeptBlock = c.lines_alone.new.kept in
-    let did = subst (λ (l : List KeptBlock). DidLines cache.config g.P.Pool 0 c.args.trace.now.blocks c.args.trace.now.ops c.in_ok-party-2.replies.items (at p (map read_of l) c.args.pool.now) (at q (map read_of kept) c.lines_alone.new.pool))
+    let did = subst (λ (l : List KeptBlock). DidLines cache.config g.P.Pool c.args.trace.now.blocks c.args.trace.now.ops c.in_ok-party-2.replies.items (at p (map read_of l) c.args.pool.now) (at q (map read_of kept) c.lines_alone.new.pool))
     c.new-kept.ensures c.in_ok-party-2.ensures.did in
     still-rows _ cache g.P.Pool c.args.trace.now c.in_ok-party-2.replies.items c.args.pool.now c.lines_alone.new.pool p q r kept c.in_ok-arcs.ensures.config c.requires.formed c.requires.one
     c.args.restored.now new c.only_party-party.ensures.joined c.in_ok-party.ensures.fed did c.in_ok-party-2.ensures.stands c.give_back_all.ensures.gives c.give_back_all.ensures.stands
@@ -87,7 +87,7 @@ close-requires-clause-rest g c =
     let q = c.in_ok-party-2.party in
     let r = c.give_back_all.new.party in
     let kept : List KeptBlock = c.lines_alone.new.kept in
-    let did = subst (λ (l : List KeptBlock). DidLines cache.config g.P.Pool 0 c.args.trace.now.blocks c.args.trace.now.ops c.in_ok-party-2.replies.items (at p (map read_of l) c.args.pool.now) (at q (map read_of kept) c.lines_alone.new.pool))
+    let did = subst (λ (l : List KeptBlock). DidLines cache.config g.P.Pool c.args.trace.now.blocks c.args.trace.now.ops c.in_ok-party-2.replies.items (at p (map read_of l) c.args.pool.now) (at q (map read_of kept) c.lines_alone.new.pool))
     c.new-kept.ensures c.in_ok-party-2.ensures.did in
     let joined = feeder-still cache (openings_of c.args.trace.now) q r (still-joined _ cache g.P.Pool c.args.trace.now c.in_ok-party-2.replies.items c.args.pool.now c.lines_alone.new.pool p q r kept c.in_ok-arcs.ensures.config c.requires.formed c.requires.one
     c.args.restored.now new c.only_party-party.ensures.joined c.in_ok-party.ensures.fed did c.in_ok-party-2.ensures.stands c.give_back_all.ensures.gives c.give_back_all.ensures.stands) c.in_ok-party-2.ensures.joined in
@@ -102,7 +102,7 @@ close-requires-clause-all g c =
     let q = c.in_ok-party-2.party in
     let r = c.give_back_all.new.party in
     let kept : List KeptBlock = c.lines_alone.new.kept in
-    let did = subst (λ (l : List KeptBlock). DidLines cache.config g.P.Pool 0 c.args.trace.now.blocks c.args.trace.now.ops c.in_ok-party-2.replies.items (at p (map read_of l) c.args.pool.now) (at q (map read_of kept) c.lines_alone.new.pool))
+    let did = subst (λ (l : List KeptBlock). DidLines cache.config g.P.Pool c.args.trace.now.blocks c.args.trace.now.ops c.in_ok-party-2.replies.items (at p (map read_of l) c.args.pool.now) (at q (map read_of kept) c.lines_alone.new.pool))
     c.new-kept.ensures c.in_ok-party-2.ensures.did in
     let joined = feeder-still cache (openings_of c.args.trace.now) q r (still-joined _ cache g.P.Pool c.args.trace.now c.in_ok-party-2.replies.items c.args.pool.now c.lines_alone.new.pool p q r kept c.in_ok-arcs.ensures.config c.requires.formed c.requires.one
     c.args.restored.now new c.only_party-party.ensures.joined c.in_ok-party.ensures.fed did c.in_ok-party-2.ensures.stands c.give_back_all.ensures.gives c.give_back_all.ensures.stands) c.in_ok-party-2.ensures.joined in
@@ -121,7 +121,7 @@ returns-clause-ran g c =
     let q = c.in_ok-party-2.party in
     let r = c.give_back_all.new.party in
     let kept : List KeptBlock = c.lines_alone.new.kept in
-    let did = subst (λ (l : List KeptBlock). DidLines cache.config g.P.Pool 0 c.args.trace.now.blocks c.args.trace.now.ops c.in_ok-party-2.replies.items (at p (map read_of l) c.args.pool.now) (at q (map read_of kept) c.lines_alone.new.pool))
+    let did = subst (λ (l : List KeptBlock). DidLines cache.config g.P.Pool c.args.trace.now.blocks c.args.trace.now.ops c.in_ok-party-2.replies.items (at p (map read_of l) c.args.pool.now) (at q (map read_of kept) c.lines_alone.new.pool))
     c.new-kept.ensures c.in_ok-party-2.ensures.did in
     let joined = feeder-still cache (openings_of c.args.trace.now) q r (still-joined _ cache g.P.Pool c.args.trace.now c.in_ok-party-2.replies.items c.args.pool.now c.lines_alone.new.pool p q r kept c.in_ok-arcs.ensures.config c.requires.formed c.requires.one
     c.args.restored.now new c.only_party-party.ensures.joined c.in_ok-party.ensures.fed did c.in_ok-party-2.ensures.stands c.give_back_all.ensures.gives c.give_back_all.ensures.stands) c.in_ok-party-2.ensures.joined in
@@ -140,7 +140,7 @@ returns-clause-cells g c =
     let q = c.in_ok-party-2.party in
     let r = c.give_back_all.new.party in
     let kept : List KeptBlock = c.lines_alone.new.kept in
-    let did = subst (λ (l : List KeptBlock). DidLines cache.config g.P.Pool 0 c.args.trace.now.blocks c.args.trace.now.ops c.in_ok-party-2.replies.items (at p (map read_of l) c.args.pool.now) (at q (map read_of kept) c.lines_alone.new.pool))
+    let did = subst (λ (l : List KeptBlock). DidLines cache.config g.P.Pool c.args.trace.now.blocks c.args.trace.now.ops c.in_ok-party-2.replies.items (at p (map read_of l) c.args.pool.now) (at q (map read_of kept) c.lines_alone.new.pool))
     c.new-kept.ensures c.in_ok-party-2.ensures.did in
     let joined = feeder-still cache (openings_of c.args.trace.now) q r (still-joined _ cache g.P.Pool c.args.trace.now c.in_ok-party-2.replies.items c.args.pool.now c.lines_alone.new.pool p q r kept c.in_ok-arcs.ensures.config c.requires.formed c.requires.one
     c.args.restored.now new c.only_party-party.ensures.joined c.in_ok-party.ensures.fed did c.in_ok-party-2.ensures.stands c.give_back_all.ensures.gives c.give_back_all.ensures.stands) c.in_ok-party-2.ensures.joined in

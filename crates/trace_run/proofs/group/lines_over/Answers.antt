@@ -1,16 +1,9 @@
 use Rattle.std.proofs.Common.{refl, sym, subst, Option}
 use Rattle.std.specs.Prelude.{IfOk, filter}
-use Rattle.std.proofs.lemmas.Result.{IfOk-weaker}
 use Rattle.trace_run.specs.DeviceReads.{AsksGiven}
 use Rattle.trace_run.specs.Lines.{is_of_caller}
 use Rattle.trace_run.proofs.DeviceReadLemmas.{over-none}
 use Rattle.trace_run.proofs.group.lines_over.Goals as goal
-
-pub returns-in-Some-clause-did : goal.returns-in-Some-clause-did
-returns-in-Some-clause-did g c = IfOk-weaker c.all_lines.result _ _ (λ replies did. (_, did)) c.all_lines.ensures.did
-
-pub returns-in-None-clause-did : goal.returns-in-None-clause-did
-returns-in-None-clause-did g c = IfOk-weaker c.all_lines-in-None.result _ _ (λ replies did. (_, did)) c.all_lines-in-None.ensures.did
 
 -- with no device
 pub returns-in-None-clause-asked : goal.returns-in-None-clause-asked

@@ -8,7 +8,7 @@ use Rattle.trace_run.specs.callers.Callers.{AreAtStart}
 use Rattle.trace_run.specs.callers.Groups.{AreOfCallers}
 use Rattle.trace_run.specs.Tally.{AreDeclared}
 use Rattle.trace_run.proofs.callers.GroupRunLemmas.{come-named, may-start}
-use Rattle.trace_run.specs.callers.Together.{stand}
+use Rattle.trace_run.specs.callers.Together.{between_groups}
 use Rattle.trace_run.specs.Devices.{lent_in}
 use Rattle.trace_run.proofs.callers.DeviceSteps.{read-ended, read-last}
 use Rattle.trace_run.proofs.callers.EndLineLemmas.{IsUnused}
@@ -38,7 +38,7 @@ pub returns-in_default-clause-steps : goal.returns-in_default-clause-steps
 returns-in_default-clause-steps g c = λ start restored between.
     let first : c.len-first.result ≡ length c.args.replies.now.items = let is = c.len-first.ensures in let long = c.args.replies.now.ok.0 in omega (arith, is, long) in
     let unused : IsUnused g.P.Pool c.args.pool.now c.forks.new.pool = record { size = c.in-Ok.ensures.keeps.size; told = c.in-Ok.ensures.keeps.told; reads = c.in-Ok.ensures.unread; faults = c.in-Ok.ensures.unfailed } in
-    next-last c.args.arcs.now restored g.P.Pool c.args.trace.now c.requires.formed c.requires.config start (stand c.args.pool.now c.args.syncs.group c.args.syncs.next) c.forks.new.pool c.lines_at_once.new.pool c.args.replies.now.items c.in_ok-crew.answered.items c.args.crew c.in_ok-crew.crew
+    next-last c.args.arcs.now restored g.P.Pool c.args.trace.now c.requires.formed c.requires.config start (between_groups c.args.pool.now c.args.syncs.group c.args.syncs.next) c.forks.new.pool c.lines_at_once.new.pool c.args.replies.now.items c.in_ok-crew.answered.items c.args.crew c.in_ok-crew.crew
     c.len-first.result c.group_end-to.result c.as_slice-blocks.result.now c.as_slice-ops.result.now c.as_slice-blocks.ensures c.as_slice-ops.ensures first c.group_end-to.ensures.range.0 c.group_end-to.ensures.range.1 c.group_end-to.ensures.inside
     between (let more = c.requires.more in let long = c.args.replies.now.ok.0 in omega (arith, more, long)) unused c.in_ok-crew.ensures.did c.lines_at_once.ensures.pool c.in_default.ensures.lookup.3 c.append.new.replies.items c.in_ok-append.ensures
 
@@ -46,7 +46,7 @@ pub end_line-requires-clause-may : goal.end_line-requires-clause-may
 end_line-requires-clause-may g c κs within =
     let first : c.len-first.result ≡ length c.args.replies.now.items = let is = c.len-first.ensures in let long = c.args.replies.now.ok.0 in omega (arith, is, long) in
     let unused : IsUnused g.P.Pool c.args.pool.now c.forks.new.pool = record { size = c.in-Ok.ensures.keeps.size; told = c.in-Ok.ensures.keeps.told; reads = c.in-Ok.ensures.unread; faults = c.in-Ok.ensures.unfailed } in
-    next-may c.args.arcs.now c.requires.between.1 g.P.Pool c.args.trace.now c.requires.formed c.requires.config c.requires.between.0 (stand c.args.pool.now c.args.syncs.group c.args.syncs.next) c.forks.new.pool c.lines_at_once.new.pool c.args.replies.now.items c.in_ok-crew.answered.items c.args.crew c.in_ok-crew.crew
+    next-may c.args.arcs.now c.requires.between.1 g.P.Pool c.args.trace.now c.requires.formed c.requires.config c.requires.between.0 (between_groups c.args.pool.now c.args.syncs.group c.args.syncs.next) c.forks.new.pool c.lines_at_once.new.pool c.args.replies.now.items c.in_ok-crew.answered.items c.args.crew c.in_ok-crew.crew
     c.len-first.result c.group_end-to.result c.as_slice-blocks.result.now c.as_slice-ops.result.now c.as_slice-blocks.ensures c.as_slice-ops.ensures first c.group_end-to.ensures.range.0 c.group_end-to.ensures.range.1 c.group_end-to.ensures.inside
     c.requires.between.2 (let more = c.requires.more in let long = c.args.replies.now.ok.0 in omega (arith, more, long)) unused c.in_ok-crew.ensures.did c.lines_at_once.ensures.pool c.requires.rows
 
@@ -54,7 +54,7 @@ pub end_line-requires-clause-unwritten : goal.end_line-requires-clause-unwritten
 end_line-requires-clause-unwritten g c κs within =
     let first : c.len-first.result ≡ length c.args.replies.now.items = let is = c.len-first.ensures in let long = c.args.replies.now.ok.0 in omega (arith, is, long) in
     let unused : IsUnused g.P.Pool c.args.pool.now c.forks.new.pool = record { size = c.in-Ok.ensures.keeps.size; told = c.in-Ok.ensures.keeps.told; reads = c.in-Ok.ensures.unread; faults = c.in-Ok.ensures.unfailed } in
-    next-unwritten c.args.arcs.now c.requires.between.1 g.P.Pool c.args.trace.now c.requires.formed c.requires.config c.requires.between.0 (stand c.args.pool.now c.args.syncs.group c.args.syncs.next) c.forks.new.pool c.lines_at_once.new.pool c.args.replies.now.items c.in_ok-crew.answered.items c.args.crew c.in_ok-crew.crew
+    next-unwritten c.args.arcs.now c.requires.between.1 g.P.Pool c.args.trace.now c.requires.formed c.requires.config c.requires.between.0 (between_groups c.args.pool.now c.args.syncs.group c.args.syncs.next) c.forks.new.pool c.lines_at_once.new.pool c.args.replies.now.items c.in_ok-crew.answered.items c.args.crew c.in_ok-crew.crew
     c.len-first.result c.group_end-to.result c.as_slice-blocks.result.now c.as_slice-ops.result.now c.as_slice-blocks.ensures c.as_slice-ops.ensures first c.group_end-to.ensures.range.0 c.group_end-to.ensures.range.1 c.group_end-to.ensures.inside
     c.requires.between.2 (let more = c.requires.more in let long = c.args.replies.now.ok.0 in omega (arith, more, long)) unused c.in_ok-crew.ensures.did c.lines_at_once.ensures.pool
 
@@ -62,7 +62,7 @@ pub end_line-requires-clause-sync : goal.end_line-requires-clause-sync
 end_line-requires-clause-sync g c κs within =
     let first : c.len-first.result ≡ length c.args.replies.now.items = let is = c.len-first.ensures in let long = c.args.replies.now.ok.0 in omega (arith, is, long) in
     let unused : IsUnused g.P.Pool c.args.pool.now c.forks.new.pool = record { size = c.in-Ok.ensures.keeps.size; told = c.in-Ok.ensures.keeps.told; reads = c.in-Ok.ensures.unread; faults = c.in-Ok.ensures.unfailed } in
-    next-sync c.args.arcs.now c.requires.between.1 g.P.Pool c.args.trace.now c.requires.formed c.requires.config c.requires.between.0 (stand c.args.pool.now c.args.syncs.group c.args.syncs.next) c.forks.new.pool c.lines_at_once.new.pool c.args.replies.now.items c.in_ok-crew.answered.items c.args.crew c.in_ok-crew.crew
+    next-sync c.args.arcs.now c.requires.between.1 g.P.Pool c.args.trace.now c.requires.formed c.requires.config c.requires.between.0 (between_groups c.args.pool.now c.args.syncs.group c.args.syncs.next) c.forks.new.pool c.lines_at_once.new.pool c.args.replies.now.items c.in_ok-crew.answered.items c.args.crew c.in_ok-crew.crew
     c.len-first.result c.group_end-to.result c.as_slice-blocks.result.now c.as_slice-ops.result.now c.as_slice-blocks.ensures c.as_slice-ops.ensures first c.group_end-to.ensures.range.0 c.group_end-to.ensures.range.1 c.group_end-to.ensures.inside
     c.requires.between.2 (let more = c.requires.more in let long = c.args.replies.now.ok.0 in omega (arith, more, long)) unused c.in_ok-crew.ensures.did c.lines_at_once.ensures.pool
 
@@ -71,10 +71,10 @@ returns-clause-steps g c = λ start restored between.
     let first : c.len-first.result ≡ length c.args.replies.now.items = let is = c.len-first.ensures in let long = c.args.replies.now.ok.0 in omega (arith, is, long) in
     let unused : IsUnused g.P.Pool c.args.pool.now c.forks.new.pool = record { size = c.in-Ok.ensures.keeps.size; told = c.in-Ok.ensures.keeps.told; reads = c.in-Ok.ensures.unread; faults = c.in-Ok.ensures.unfailed } in
     let here : slice_get c.as_slice-ops.result.now c.group_end-to.result ≡ Some c.in-Some.op.now = slice_get_read c.as_slice-ops.result.now _ c.group_end-to.result c.in-Some.op.now refl c.in-Some.ensures.lookup.3.0 c.in-Some.ensures.lookup.1 in
-    next-ended c.args.arcs.now restored g.P.Pool c.args.trace.now c.requires.formed c.requires.config start (stand c.args.pool.now c.args.syncs.group c.args.syncs.next) c.forks.new.pool c.lines_at_once.new.pool c.args.replies.now.items c.in_ok-crew.answered.items c.args.crew c.in_ok-crew.crew
+    next-ended c.args.arcs.now restored g.P.Pool c.args.trace.now c.requires.formed c.requires.config start (between_groups c.args.pool.now c.args.syncs.group c.args.syncs.next) c.forks.new.pool c.lines_at_once.new.pool c.args.replies.now.items c.in_ok-crew.answered.items c.args.crew c.in_ok-crew.crew
     c.len-first.result c.group_end-to.result c.as_slice-blocks.result.now c.as_slice-ops.result.now c.as_slice-blocks.ensures c.as_slice-ops.ensures first c.group_end-to.ensures.range.0 c.group_end-to.ensures.range.1 c.group_end-to.ensures.inside
     between (let more = c.requires.more in let long = c.args.replies.now.ok.0 in omega (arith, more, long)) unused c.in_ok-crew.ensures.did c.lines_at_once.ensures.pool
-    c.in-Some.op.now here (c.group_end-to.ensures.end c.in-Some.op.now here) c.in_ok-crew-2.crew (stand c.end_line.new.pool c.in_ok-crew-2.syncs.group c.in_ok-crew-2.syncs.next) c.in_ok-crew-2.reply c.in_ok-crew-2.ensures.did c.append.new.replies.items c.push.new.self.items c.in_ok-append.ensures c.in_ok-push.ensures.items
+    c.in-Some.op.now here (c.group_end-to.ensures.end c.in-Some.op.now here) c.in_ok-crew-2.crew (between_groups c.end_line.new.pool c.in_ok-crew-2.syncs.group c.in_ok-crew-2.syncs.next) c.in_ok-crew-2.reply c.in_ok-crew-2.ensures.did c.append.new.replies.items c.push.new.self.items c.in_ok-append.ensures c.in_ok-push.ensures.items
 
 -- ---- what was asked of the device
 

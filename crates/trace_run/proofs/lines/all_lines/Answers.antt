@@ -20,7 +20,6 @@ line-requires-clause-declared g c = λ _ _.
 -- a line of another caller
 pub loop-number-preserved-then-not-is_of_caller : goal.loop-number-preserved-then-not-is_of_caller
 loop-number-preserved-then-not-is_of_caller g c =
-    let size : ℕ = g.D.CacheDev.size c.args.device.now in
     let was = c.loop-number.invariant in
     let ops = c.args.ops.now in
     let n = c.args.party.now.number in
@@ -31,7 +30,7 @@ loop-number-preserved-then-not-is_of_caller g c =
       stands = was.stands;
       named = was.named;
       number = was.number;
-      did = subst (λ (os : List Op). DidLines c.args.arcs.now.config g.P.Pool size c.args.blocks.now os c.loop-number.replies.items
+      did = subst (λ (os : List Op). DidLines c.args.arcs.now.config g.P.Pool c.args.blocks.now os c.loop-number.replies.items
           (at c.args.party.now (map read_of c.args.kept.now) c.args.pool.now) (at c.loop-number.party (map read_of c.loop-number.kept) c.loop-number.pool))
           (sym (others-more n ops c.loop-number.number op here other)) was.did;
       keeps = was.keeps;
@@ -43,7 +42,6 @@ loop-number-preserved-then-not-is_of_caller g c =
 pub loop-number-preserved : goal.loop-number-preserved
 loop-number-preserved g c =
     let pool = g.P.Pool in
-    let size : ℕ = g.D.CacheDev.size c.args.device.now in
     let config = c.args.arcs.now.config in
     let was = c.loop-number.invariant in
     let blocks = c.args.blocks.now in
@@ -57,13 +55,13 @@ loop-number-preserved g c =
     let start = at c.args.party.now (map read_of c.args.kept.now) c.args.pool.now in
     let before = at c.loop-number.party (map read_of c.loop-number.kept) c.loop-number.pool in
     let after = at c.line.new.party (map read_of c.line.new.kept) c.line.new.pool in
-    let one : DidLine config pool size blocks op reply before after = subst (λ (d : ℕ). DidLine config pool d blocks op reply before after) was.device c.in_ok-reply.ensures.did in
+    let one : DidLine config pool blocks op reply before after = c.in_ok-reply.ensures.did in
     record {
       stands = c.in_ok-reply.ensures.stands;
-      named = line-named config pool size blocks op reply before after was.named one;
+      named = line-named config pool blocks op reply before after was.named one;
       number = one.did.number ∙ was.number;
-      did = subst (λ (x : List Op × List Reply). DidLines config pool size blocks x.0 x.1 start after) (λ i. (sym (his-more n ops c.loop-number.number op here his) i, sym c.in_ok-push.ensures.items i))
-          (lines-more config pool size blocks (filter (is_of_caller n) (take c.loop-number.number ops)) replies op reply start before after was.did one);
+      did = subst (λ (x : List Op × List Reply). DidLines config pool blocks x.0 x.1 start after) (λ i. (sym (his-more n ops c.loop-number.number op here his) i, sym c.in_ok-push.ensures.items i))
+          (lines-more config pool blocks (filter (is_of_caller n) (take c.loop-number.number ops)) replies op reply start before after was.did one);
       keeps = keeps-then pool c.args.pool.now c.loop-number.pool c.line.new.pool was.keeps c.in_ok-reply.ensures.pool;
       device = c.in_ok-reply.ensures.device ∙ was.device;
       asked = subst (λ (x : List Op × List Reply). LinesAsk g.D.CacheDev blocks x.0 x.1 c.args.device.now c.line.new.device) (λ i. (sym (his-more n ops c.loop-number.number op here his) i, sym c.in_ok-push.ensures.items i))
@@ -73,7 +71,7 @@ loop-number-preserved g c =
 pub returns-clause-did : goal.returns-clause-did
 returns-clause-did g c =
     let long : length c.args.ops.now ≤ c.loop-number.number = omega arith in
-    subst (λ (os : List Op). DidLines c.args.arcs.now.config g.P.Pool (g.D.CacheDev.size c.args.device.now) c.args.blocks.now (filter (is_of_caller c.args.party.now.number) os) c.loop-number.replies.items
+    subst (λ (os : List Op). DidLines c.args.arcs.now.config g.P.Pool c.args.blocks.now (filter (is_of_caller c.args.party.now.number) os) c.loop-number.replies.items
     (at c.args.party.now (map read_of c.args.kept.now) c.args.pool.now) (at c.loop-number.party (map read_of c.loop-number.kept) c.loop-number.pool))
     (take_all c.loop-number.number c.args.ops.now long) c.loop-number.invariant.did
 

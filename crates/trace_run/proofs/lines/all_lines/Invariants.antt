@@ -16,7 +16,7 @@ invariant-loop-number g l =
       stands : Stands l.arcs l.party l.kept;
       named : AreNamed l.blocks (map read_of l.kept);
       number : l.party.number ≡ l.fn.party.number;
-      did : DidLines l.arcs.config pool (size l.fn.device) l.blocks (filter (is_of_caller l.fn.party.number) (take l.number l.ops)) l.replies.items
+      did : DidLines l.arcs.config pool l.blocks (filter (is_of_caller l.fn.party.number) (take l.number l.ops)) l.replies.items
           (at l.fn.party (map read_of l.fn.kept) l.fn.pool) (at l.party (map read_of l.kept) l.pool);
       keeps : KeepsPool pool l.fn.pool l.pool;
       device : size l.device ≡ size l.fn.device;

@@ -7,11 +7,11 @@ use Rattle.trace_run.proofs.lines.hold_line.Goals as goal
 
 pub returns-in_ok-push-in-Ok-clause-did : goal.returns-in_ok-push-in-Ok-clause-did
 returns-in_ok-push-in-Ok-clause-did g c =
-    hold-did c.args.arcs.now.config (g.D.CacheDev.size c.args.device.now) c.args.party.now c.get.new.party c.args.t c.args.ptr.now c.in-Ok.field-0.served c.in-Ok.ensures.did
+    hold-did c.args.arcs.now.config c.args.party.now c.get.new.party c.args.t c.args.ptr.now c.in-Ok.field-0.served c.in-Ok.ensures.did
 
 pub returns-in_ok-refusal_of-in-Err-clause-did : goal.returns-in_ok-refusal_of-in-Err-clause-did
 returns-in_ok-refusal_of-in-Err-clause-did g c =
-    hold-refused c.args.arcs.now.config (g.D.CacheDev.size c.args.device.now) c.args.party.now c.get.new.party c.args.t c.args.ptr.now c.in-Err.fault c.in_ok-refusal_of-in-Err.field-0
+    hold-refused c.args.arcs.now.config c.args.party.now c.get.new.party c.args.t c.args.ptr.now c.in-Err.fault c.in_ok-refusal_of-in-Err.field-0
     c.in_ok-refusal_of-in-Err.ensures.ok c.in-Err.ensures.did
 
 pub returns-in_ok-refusal_of-in-Err-clause-asks : goal.returns-in_ok-refusal_of-in-Err-clause-asks

@@ -18,8 +18,8 @@ returns-in-Read-clause-did g c =
     let kept = map read_of c.args.kept.now in
     let q = c.read_line.new.party in
     let b = c.read_line.new.pool in
-    subst (λ (op : Op). IfOk c.read_line.result (λ reply. DidLine c.args.arcs.now.config g.P.Pool (g.D.CacheDev.size c.args.device.now) c.args.blocks.now op reply (at c.args.party.now kept c.args.pool.now) (at q kept b))) (sym c.in-Read.is)
-    (read-line c.args.arcs.now.config g.P.Pool (g.D.CacheDev.size c.args.device.now) c.args.blocks.now c.args.party.now q c.args.pool.now b c.in-Read.n c.in-Read.t c.in-Read.x c.in-Read.w _ kept c.read_line.result
+    subst (λ (op : Op). IfOk c.read_line.result (λ reply. DidLine c.args.arcs.now.config g.P.Pool c.args.blocks.now op reply (at c.args.party.now kept c.args.pool.now) (at q kept b))) (sym c.in-Read.is)
+    (read-line c.args.arcs.now.config g.P.Pool c.args.blocks.now c.args.party.now q c.args.pool.now b c.in-Read.n c.in-Read.t c.in-Read.x c.in-Read.w _ kept c.read_line.result
     (rw c.in-Read.is at (same-caller c.args.party.now.number c.args.op.now c.requires.own)) (got c.args.blocks.now c.in-Read.x _ (rw c.in-Read.is at c.requires.declared))
     c.read_line.ensures.answer c.read_line.ensures.did c.read_line.ensures.found c.read_line.ensures.range c.read_line.ensures.calls c.read_line.ensures.pool)
 
@@ -29,8 +29,8 @@ returns-in-Hold-clause-did g c =
     let now = map read_of c.hold_line.new.kept in
     let q = c.hold_line.new.party in
     let b = c.hold_line.new.pool in
-    subst (λ (op : Op). IfOk c.hold_line.result (λ reply. DidLine c.args.arcs.now.config g.P.Pool (g.D.CacheDev.size c.args.device.now) c.args.blocks.now op reply (at c.args.party.now kept c.args.pool.now) (at q now b))) (sym c.in-Hold.is)
-    (hold-line c.args.arcs.now.config g.P.Pool (g.D.CacheDev.size c.args.device.now) c.args.blocks.now c.args.party.now q c.args.pool.now b c.in-Hold.n c.in-Hold.t c.in-Hold.x _ kept now c.hold_line.result
+    subst (λ (op : Op). IfOk c.hold_line.result (λ reply. DidLine c.args.arcs.now.config g.P.Pool c.args.blocks.now op reply (at c.args.party.now kept c.args.pool.now) (at q now b))) (sym c.in-Hold.is)
+    (hold-line c.args.arcs.now.config g.P.Pool c.args.blocks.now c.args.party.now q c.args.pool.now b c.in-Hold.n c.in-Hold.t c.in-Hold.x _ kept now c.hold_line.result
     (rw c.in-Hold.is at (same-caller c.args.party.now.number c.args.op.now c.requires.own)) (got c.args.blocks.now c.in-Hold.x _ (rw c.in-Hold.is at c.requires.declared))
     c.hold_line.ensures.answer c.hold_line.ensures.kept c.hold_line.ensures.did c.hold_line.ensures.found c.hold_line.ensures.range c.hold_line.ensures.calls c.hold_line.ensures.pool)
 
@@ -39,8 +39,8 @@ returns-in-Drop-clause-did g c =
     let kept = map read_of c.args.kept.now in
     let now = map read_of c.drop_line.new.kept in
     let q = c.drop_line.new.party in
-    subst (λ (op : Op). DidLine c.args.arcs.now.config g.P.Pool (g.D.CacheDev.size c.args.device.now) c.args.blocks.now op c.drop_line.result (at c.args.party.now kept c.args.pool.now) (at q now c.args.pool.now)) (sym c.in-Drop.is)
-    (drop-line c.args.arcs.now.config g.P.Pool (g.D.CacheDev.size c.args.device.now) c.args.blocks.now c.args.party.now q c.args.pool.now c.args.pool.now c.in-Drop.n c.in-Drop.x kept now c.drop_line.result
+    subst (λ (op : Op). DidLine c.args.arcs.now.config g.P.Pool c.args.blocks.now op c.drop_line.result (at c.args.party.now kept c.args.pool.now) (at q now c.args.pool.now)) (sym c.in-Drop.is)
+    (drop-line c.args.arcs.now.config g.P.Pool c.args.blocks.now c.args.party.now q c.args.pool.now c.args.pool.now c.in-Drop.n c.in-Drop.x kept now c.drop_line.result
     (rw c.in-Drop.is at (same-caller c.args.party.now.number c.args.op.now c.requires.own)) c.requires.named
     c.drop_line.ensures.answer c.drop_line.ensures.kept c.drop_line.ensures.drops c.drop_line.ensures.none c.drop_line.ensures.calls)
 

@@ -10,7 +10,7 @@ use Rattle.trace_run.specs.Explaining.{Explain}
 use Rattle.trace_run.specs.Outcome.{generated, zeros_of}
 use Rattle.trace_run.specs.one_caller.PlainReport.{IsPlainReport}
 use Rattle.trace_run.specs.one_caller.PlainRun.{Images, images, report_of}
-use Rattle.trace_run.specs.Restores.{restored_of}
+use Rattle.trace_run.specs.Restores.{found_keys}
 use Rattle.vdev_io.specs.contracts.device.NoCacheCacheDev.TheImpl as no_cache
 use Rattle.trace_run.proofs.one_caller.LentLemmas.{unlent-calls}
 use Rattle.trace_run.proofs.theorem.GenLemmas.{made-plain, made-report, made-trace, never-failed, none-refused}
@@ -33,7 +33,7 @@ returns g c =
     let fair : count_by is_pool_fault report.replies ≡ 0 = let h = rw one.0 at run.faults (omega arith) in omega (arith, h) in
     let fine = none-refused c.args.seed c.args.blocks c.args.ops trace report.replies drawn answers fair in
     let nothing : report.rebuilt ≡ None = c.in_ok-reported.ensures.rebuilt in
-    let none : alone.device_calls ≡ [] = unlent-calls no_cache.ghosts trace (restored_of report.rebuilt) report.replies alone.device_calls _ alone.asked in
+    let none : alone.device_calls ≡ [] = unlent-calls no_cache.ghosts trace (found_keys report.rebuilt) report.replies alone.device_calls _ alone.asked in
     let zeros : Images = images (zeros_of c.args.blocks) [] in
     let plain : report ≡ report_of trace None zeros alone.calls [] =
     made-plain c.args.seed c.args.blocks c.args.ops trace (report_of trace None zeros alone.calls []) report drawn
@@ -43,7 +43,7 @@ returns g c =
     record {
       plain = ap (λ (r : Report). record r { short = true }) whole;
       answers = subst (λ (t : Trace). AnswersAll (c.args.blocks * 512) (Some (zeros_of c.args.blocks)) t.blocks t.ops report.replies) is answers;
-      explained = subst (λ (x : Trace × Option Rebuilt). Explain x.0 (restored_of x.1) report.replies report.ends report.histories) (λ i. (is i, nothing i)) run.explained;
+      explained = subst (λ (x : Trace × Option Rebuilt). Explain x.0 (found_keys x.1) report.replies report.ends report.histories) (λ i. (is i, nothing i)) run.explained;
       tells = record { histories = run.tells.histories; ends = run.tells.ends };
       config = run.config ∙ ap (λ (t : Trace). t.config) is;
       cells = subst (λ (t : Trace). AreCellsOf t reported.closed) is c.in_ok-reported.ensures.cells;

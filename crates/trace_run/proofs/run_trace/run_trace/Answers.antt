@@ -21,13 +21,13 @@ returns-clause-run g c =
           let did = w.in_ok-ran.ran in
           rw (w.ran-is, w.pool-is, w.device-is) (alone-told g.P.Pool g.D.CacheDev c.args.pool.now w.run_alone.new.pool (lent_in c.args.device.now) (lent_in w.run_alone.new.device) trace c.args.rebuilt did.replies.items did.closed did.fork_failed
           w.in_ok-ran.ensures.fork c.requires.formed (omega (arith, w.if-trace-eq1.true))
-          (subst (λ (l : List Restored). RanAlone g.P.Pool c.args.pool.now w.run_alone.new.pool trace l did.replies.items did.closed) w.restored_of.ensures w.in_ok-ran.ensures.ran)
-          (subst (λ (l : List Restored). ReadsAlone g.P.Pool g.D.CacheDev c.args.pool.now trace l did.replies.items (lent_in c.args.device.now) (lent_in w.run_alone.new.device)) w.restored_of.ensures w.in_ok-ran.ensures.read))
+          (subst (λ (l : List Restored). RanAlone g.P.Pool c.args.pool.now w.run_alone.new.pool trace l did.replies.items did.closed) w.found_keys.ensures w.in_ok-ran.ensures.ran)
+          (subst (λ (l : List Restored). ReadsAlone g.P.Pool g.D.CacheDev c.args.pool.now trace l did.replies.items (lent_in c.args.device.now) (lent_in w.run_alone.new.device)) w.found_keys.ensures w.in_ok-ran.ensures.read))
       | else-trace-eq1+in_ok-ran-2 w ↦
           let did = w.in_ok-ran-2.ran in
           rw (w.ran-is, w.pool-is, w.device-is) (together-run g.P.Pool g.D.CacheDev c.args.pool.now w.run_together.new.pool (lent_in c.args.device.now) (lent_in w.run_together.new.device) trace c.args.rebuilt did.replies.items did.closed did.fork_failed
           (omega (arith, c.requires.formed.config.counts.callers.0, w.if-trace-eq1.false))
-          (subst (λ (l : List Restored). RanTogether g.P.Pool c.args.pool.now w.run_together.new.pool trace did.fork_failed l did.replies.items did.closed) w.restored_of-else-trace-eq1.ensures w.in_ok-ran-2.ensures.ran))
+          (subst (λ (l : List Restored). RanTogether g.P.Pool c.args.pool.now w.run_together.new.pool trace did.fork_failed l did.replies.items did.closed) w.found_keys-else-trace-eq1.ensures w.in_ok-ran-2.ensures.ran))
     ] in
     (ran.fork_failed, rw (told.report, told.closed) run, rw told.report refl)
 

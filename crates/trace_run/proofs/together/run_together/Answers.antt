@@ -9,7 +9,7 @@ use Rattle.trace_run.specs.Devices.{lent_in}
 use Rattle.trace_run.proofs.callers.DeviceSteps.{read-whole}
 use Rattle.trace_run.proofs.OpenLemmas.{last-knows}
 use Rattle.trace_run.proofs.callers.StepLemmas.{between-begun, first-may}
-use Rattle.trace_run.specs.callers.Together.{IsFirstPlace, stand}
+use Rattle.trace_run.specs.callers.Together.{IsFirstPlace, between_groups}
 use Rattle.blk_ptr.specs.declared.ptr.Ptr.{Ptr}
 use Rattle.trace_run.proofs.together.run_together.Goals as goal
 
@@ -37,7 +37,7 @@ pub all_groups-requires-clause-between : goal.all_groups-requires-clause-between
 all_groups-requires-clause-between g c κs within =
     let many : length c.in_ok-crew.crew.kept.items ≡ length c.in_ok-crew.crew.parties.items = let a = c.in_ok-crew.crew.kept.ok.0 in let b = c.in_ok-crew.crew.parties.ok.0 in let e = c.in_ok-crew.ensures.count in omega (arith, a, b, e) in (
       c.args.restored.now,
-      between-begun c.in_ok-arcs.arcs c.args.restored.now g.P.Pool c.args.trace.now (stand c.args.pool.now 1 c.first_place.result) c.in_ok-arcs.parties.items c.in_ok-crew.crew c.in_ok-crew-2.crew
+      between-begun c.in_ok-arcs.arcs c.args.restored.now g.P.Pool c.args.trace.now (between_groups c.args.pool.now 1 c.first_place.result) c.in_ok-arcs.parties.items c.in_ok-crew.crew c.in_ok-crew-2.crew
           c.in_ok-arcs.ensures.parties c.in_ok-crew.ensures.parties c.in_ok-crew.ensures.none many c.in_ok-crew-2.ensures.made c.in_ok-crew-2.ensures.kept
           (last-knows (openings_of c.args.trace.now) c.in_ok-crew.crew.parties.items c.in_ok-crew.crew.feeder (subst (AllKnow (openings_of c.args.trace.now)) c.in_ok-crew.ensures.parties c.in_ok-arcs.ensures.known))
           (first-may g.P.Pool c.args.pool.now c.first_place.result c.len.result c.first_place.ensures.aligned c.first_place.ensures.inside c.len.ensures),
@@ -46,7 +46,7 @@ all_groups-requires-clause-between g c κs within =
 pub close_crew-requires-clause-callers : goal.close_crew-requires-clause-callers
 close_crew-requires-clause-callers g c =
     let many : length c.in_ok-crew.crew.kept.items ≡ length c.in_ok-crew.crew.parties.items = let a = c.in_ok-crew.crew.kept.ok.0 in let b = c.in_ok-crew.crew.parties.ok.0 in let e = c.in_ok-crew.ensures.count in omega (arith, a, b, e) in
-    let begun = between-begun c.in_ok-arcs.arcs c.args.restored.now g.P.Pool c.args.trace.now (stand c.args.pool.now 1 c.first_place.result) c.in_ok-arcs.parties.items c.in_ok-crew.crew c.in_ok-crew-2.crew
+    let begun = between-begun c.in_ok-arcs.arcs c.args.restored.now g.P.Pool c.args.trace.now (between_groups c.args.pool.now 1 c.first_place.result) c.in_ok-arcs.parties.items c.in_ok-crew.crew c.in_ok-crew-2.crew
     c.in_ok-arcs.ensures.parties c.in_ok-crew.ensures.parties c.in_ok-crew.ensures.none many c.in_ok-crew-2.ensures.made c.in_ok-crew-2.ensures.kept
     (last-knows (openings_of c.args.trace.now) c.in_ok-crew.crew.parties.items c.in_ok-crew.crew.feeder (subst (AllKnow (openings_of c.args.trace.now)) c.in_ok-crew.ensures.parties c.in_ok-arcs.ensures.known))
     (first-may g.P.Pool c.args.pool.now c.first_place.result c.len.result c.first_place.ensures.aligned c.first_place.ensures.inside c.len.ensures) in
@@ -56,7 +56,7 @@ close_crew-requires-clause-callers g c =
 pub close_crew-requires-clause-feeder : goal.close_crew-requires-clause-feeder
 close_crew-requires-clause-feeder g c =
     let many : length c.in_ok-crew.crew.kept.items ≡ length c.in_ok-crew.crew.parties.items = let a = c.in_ok-crew.crew.kept.ok.0 in let b = c.in_ok-crew.crew.parties.ok.0 in let e = c.in_ok-crew.ensures.count in omega (arith, a, b, e) in
-    let begun = between-begun c.in_ok-arcs.arcs c.args.restored.now g.P.Pool c.args.trace.now (stand c.args.pool.now 1 c.first_place.result) c.in_ok-arcs.parties.items c.in_ok-crew.crew c.in_ok-crew-2.crew
+    let begun = between-begun c.in_ok-arcs.arcs c.args.restored.now g.P.Pool c.args.trace.now (between_groups c.args.pool.now 1 c.first_place.result) c.in_ok-arcs.parties.items c.in_ok-crew.crew c.in_ok-crew-2.crew
     c.in_ok-arcs.ensures.parties c.in_ok-crew.ensures.parties c.in_ok-crew.ensures.none many c.in_ok-crew-2.ensures.made c.in_ok-crew-2.ensures.kept
     (last-knows (openings_of c.args.trace.now) c.in_ok-crew.crew.parties.items c.in_ok-crew.crew.feeder (subst (AllKnow (openings_of c.args.trace.now)) c.in_ok-crew.ensures.parties c.in_ok-arcs.ensures.known))
     (first-may g.P.Pool c.args.pool.now c.first_place.result c.len.result c.first_place.ensures.aligned c.first_place.ensures.inside c.len.ensures) in
@@ -66,7 +66,7 @@ close_crew-requires-clause-feeder g c =
 pub close_crew-requires-clause-count : goal.close_crew-requires-clause-count
 close_crew-requires-clause-count g c =
     let many : length c.in_ok-crew.crew.kept.items ≡ length c.in_ok-crew.crew.parties.items = let a = c.in_ok-crew.crew.kept.ok.0 in let b = c.in_ok-crew.crew.parties.ok.0 in let e = c.in_ok-crew.ensures.count in omega (arith, a, b, e) in
-    let begun = between-begun c.in_ok-arcs.arcs c.args.restored.now g.P.Pool c.args.trace.now (stand c.args.pool.now 1 c.first_place.result) c.in_ok-arcs.parties.items c.in_ok-crew.crew c.in_ok-crew-2.crew
+    let begun = between-begun c.in_ok-arcs.arcs c.args.restored.now g.P.Pool c.args.trace.now (between_groups c.args.pool.now 1 c.first_place.result) c.in_ok-arcs.parties.items c.in_ok-crew.crew c.in_ok-crew-2.crew
     c.in_ok-arcs.ensures.parties c.in_ok-crew.ensures.parties c.in_ok-crew.ensures.none many c.in_ok-crew-2.ensures.made c.in_ok-crew-2.ensures.kept
     (last-knows (openings_of c.args.trace.now) c.in_ok-crew.crew.parties.items c.in_ok-crew.crew.feeder (subst (AllKnow (openings_of c.args.trace.now)) c.in_ok-crew.ensures.parties c.in_ok-arcs.ensures.known))
     (first-may g.P.Pool c.args.pool.now c.first_place.result c.len.result c.first_place.ensures.aligned c.first_place.ensures.inside c.len.ensures) in
@@ -77,7 +77,7 @@ close_crew-requires-clause-count g c =
 pub returns-clause-ran : goal.returns-clause-ran
 returns-clause-ran g c =
     let many : length c.in_ok-crew.crew.kept.items ≡ length c.in_ok-crew.crew.parties.items = let a = c.in_ok-crew.crew.kept.ok.0 in let b = c.in_ok-crew.crew.parties.ok.0 in let e = c.in_ok-crew.ensures.count in omega (arith, a, b, e) in
-    let begun = between-begun c.in_ok-arcs.arcs c.args.restored.now g.P.Pool c.args.trace.now (stand c.args.pool.now 1 c.first_place.result) c.in_ok-arcs.parties.items c.in_ok-crew.crew c.in_ok-crew-2.crew
+    let begun = between-begun c.in_ok-arcs.arcs c.args.restored.now g.P.Pool c.args.trace.now (between_groups c.args.pool.now 1 c.first_place.result) c.in_ok-arcs.parties.items c.in_ok-crew.crew c.in_ok-crew-2.crew
     c.in_ok-arcs.ensures.parties c.in_ok-crew.ensures.parties c.in_ok-crew.ensures.none many c.in_ok-crew-2.ensures.made c.in_ok-crew-2.ensures.kept
     (last-knows (openings_of c.args.trace.now) c.in_ok-crew.crew.parties.items c.in_ok-crew.crew.feeder (subst (AllKnow (openings_of c.args.trace.now)) c.in_ok-crew.ensures.parties c.in_ok-arcs.ensures.known))
     (first-may g.P.Pool c.args.pool.now c.first_place.result c.len.result c.first_place.ensures.aligned c.first_place.ensures.inside c.len.ensures) in
@@ -93,7 +93,7 @@ returns-clause-ran g c =
 pub returns-clause-cells : goal.returns-clause-cells
 returns-clause-cells g c =
     let many : length c.in_ok-crew.crew.kept.items ≡ length c.in_ok-crew.crew.parties.items = let a = c.in_ok-crew.crew.kept.ok.0 in let b = c.in_ok-crew.crew.parties.ok.0 in let e = c.in_ok-crew.ensures.count in omega (arith, a, b, e) in
-    let begun = between-begun c.in_ok-arcs.arcs c.args.restored.now g.P.Pool c.args.trace.now (stand c.args.pool.now 1 c.first_place.result) c.in_ok-arcs.parties.items c.in_ok-crew.crew c.in_ok-crew-2.crew
+    let begun = between-begun c.in_ok-arcs.arcs c.args.restored.now g.P.Pool c.args.trace.now (between_groups c.args.pool.now 1 c.first_place.result) c.in_ok-arcs.parties.items c.in_ok-crew.crew c.in_ok-crew-2.crew
     c.in_ok-arcs.ensures.parties c.in_ok-crew.ensures.parties c.in_ok-crew.ensures.none many c.in_ok-crew-2.ensures.made c.in_ok-crew-2.ensures.kept
     (last-knows (openings_of c.args.trace.now) c.in_ok-crew.crew.parties.items c.in_ok-crew.crew.feeder (subst (AllKnow (openings_of c.args.trace.now)) c.in_ok-crew.ensures.parties c.in_ok-arcs.ensures.known))
     (first-may g.P.Pool c.args.pool.now c.first_place.result c.len.result c.first_place.ensures.aligned c.first_place.ensures.inside c.len.ensures) in
@@ -103,7 +103,7 @@ returns-clause-cells g c =
 pub returns-clause-read : goal.returns-clause-read
 returns-clause-read g c =
     let many : length c.in_ok-crew.crew.kept.items ≡ length c.in_ok-crew.crew.parties.items = let a = c.in_ok-crew.crew.kept.ok.0 in let b = c.in_ok-crew.crew.parties.ok.0 in let e = c.in_ok-crew.ensures.count in omega (arith, a, b, e) in
-    let begun = between-begun c.in_ok-arcs.arcs c.args.restored.now g.P.Pool c.args.trace.now (stand c.args.pool.now 1 c.first_place.result) c.in_ok-arcs.parties.items c.in_ok-crew.crew c.in_ok-crew-2.crew
+    let begun = between-begun c.in_ok-arcs.arcs c.args.restored.now g.P.Pool c.args.trace.now (between_groups c.args.pool.now 1 c.first_place.result) c.in_ok-arcs.parties.items c.in_ok-crew.crew c.in_ok-crew-2.crew
     c.in_ok-arcs.ensures.parties c.in_ok-crew.ensures.parties c.in_ok-crew.ensures.none many c.in_ok-crew-2.ensures.made c.in_ok-crew-2.ensures.kept
     (last-knows (openings_of c.args.trace.now) c.in_ok-crew.crew.parties.items c.in_ok-crew.crew.feeder (subst (AllKnow (openings_of c.args.trace.now)) c.in_ok-crew.ensures.parties c.in_ok-arcs.ensures.known))
     (first-may g.P.Pool c.args.pool.now c.first_place.result c.len.result c.first_place.ensures.aligned c.first_place.ensures.inside c.len.ensures) in
