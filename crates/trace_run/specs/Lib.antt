@@ -10,6 +10,7 @@ pub mod Devices
 pub mod Effects
 pub mod Ends
 pub mod Explaining
+pub mod Feeds
 pub mod KeptBlocks
 pub mod KeptQueue
 pub mod KeptReads

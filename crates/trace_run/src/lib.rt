@@ -8,6 +8,7 @@ mod check;
 mod device;
 mod device_forks;
 mod ending;
+mod feeder;
 mod get;
 mod group;
 mod groups;

@@ -1,0 +1,70 @@
+//! The lines `feed` of a group, which the feeder does while the callers do theirs.
+ghost use Rattle.std.specs.Prelude.{◌≡◌, ◌×◌, [], ◌∷◌, IfOk, List, filter};
+ghost use Rattle.arc_table.specs.Items.{meanings};
+ghost use Rattle.trace_text.specs.declared.op.Op.TheVariants as ops;
+ghost use Rattle.trace_run.specs.Devices.{lent_in};
+ghost use Rattle.trace_run.specs.Feeds.{AreFedReplies, FeedDone, IsIdleFeeder, MadeFeedsOf, MayBeFed, is_feed};
+
+use crate::device::Device;
+use arc_core::Keeps;
+use arc_table::{Arcs, Party};
+use blk_ptr::NoMemory;
+use l2_feed::feed;
+use std::alloc::Global;
+use std::sync::Wait;
+use trace_text::{Op, Reply};
+use vdev_io::CacheDev;
+
+/// Whether the line asks for a feed.
+fn is_feed(op: &Op) -> bool
+    ensures { result ≡ is_feed op.now }
+{
+    matches!(op, Op::Feed)
+}
+
+/// Does one line `feed`. Where no device was started there is nothing to feed.
+fn feed_line<C: Keeps, D: CacheDev>(
+    alloc: Global,
+    rt: &impl Wait,
+    arcs: &Arcs<C>,
+    party: &mut Party<C>,
+    device: &mut Device<D>,
+) -> Reply
+    requires feeder { IsIdleFeeder arcs.now party.old }
+    requires device { MayBeFed D.CacheDev arcs.now.config device.old }
+    ensures feeder { IsIdleFeeder arcs.now party.new }
+    ensures device { MayBeFed D.CacheDev arcs.now.config device.new }
+    ensures fed { (feeds : List FeedDone) × AreFedReplies (lent_in device.old) (ops.Feed ∷ []) feeds (result ∷ []) × MadeFeedsOf (meanings C.holds C.entries C.opening C.claims C.sound) D.CacheDev arcs.now feeds device.old device.new party.old party.new }
+{
+    match device {
+        Device::Ready(l2) => Reply::Fed(feed(alloc, rt, arcs, party, l2)),
+        Device::None | Device::Short(_) => Reply::FedNone,
+    }
+}
+
+/// Does the lines `feed` among these, in their order. A feed that fails, or is short of memory, is told in its reply, and the next one is made all
+/// the same.
+pub(crate) fn feed_lines<C: Keeps, D: CacheDev>(
+    alloc: Global,
+    rt: &impl Wait,
+    arcs: &Arcs<C>,
+    party: &mut Party<C>,
+    device: &mut Device<D>,
+    ops: &[Op],
+) -> Result<Vec<Reply>, NoMemory>
+    requires feeder { IsIdleFeeder arcs.now party.old }
+    requires device { MayBeFed D.CacheDev arcs.now.config device.old }
+    ensures feeder { IsIdleFeeder arcs.now party.new }
+    ensures device { MayBeFed D.CacheDev arcs.now.config device.new }
+    ensures made { (feeds : List FeedDone) × MadeFeedsOf (meanings C.holds C.entries C.opening C.claims C.sound) D.CacheDev arcs.now feeds device.old device.new party.old party.new }
+    ensures fed { IfOk result (λ replies. (feeds : List FeedDone) × AreFedReplies (lent_in device.old) (filter is_feed ops.now) feeds replies.items × MadeFeedsOf (meanings C.holds C.entries C.opening C.claims C.sound) D.CacheDev arcs.now feeds device.old device.new party.old party.new) }
+{
+    let mut replies = Vec::new(alloc);
+    for op in ops {
+        if is_feed(op) {
+            let reply = feed_line(alloc, rt, arcs, party, device);
+            replies.push(reply)?;
+        }
+    }
+    Ok(replies)
+}
