@@ -8,7 +8,7 @@ use Rattle.arc_core.specs.Operations.{Act}
 use Rattle.turn_table.specs.Places.{Place}
 use Rattle.arc_table.specs.declared.view.Known.{Known}
 use Rattle.arc_table.specs.Cache.{Cache}
-use Rattle.arc_table.specs.Told.{IsTold}
+use Rattle.trace_run.specs.Making.{HasTold}
 use Rattle.trace_text.specs.declared.op.Op.{Op}
 use Rattle.trace_text.specs.declared.op.Op.TheVariants as ops
 use Rattle.trace_text.specs.declared.reply.Reply.{Reply}
@@ -23,7 +23,7 @@ module _ {C P : Type 0} (g : Config) (pools : Ghosts P) (device : ℕ) (blocks :
   cap-there : (c : ℕ) → HasResized g c p q → DidThere g device blocks kept (ops.Cap c) (Capped c) p q
   cap-there c r = record {
     number = r.number;
-    told = λ before told. subst (λ (l : List Act). IsTold g l q) (sym (append-nil before)) (r.told before told);
+    told = λ before told. subst (λ (l : List Act). HasTold g l q) (sym (append-nil before)) (r.told before told);
     alone = λ alone shard. r.seen shard;
     all = r.all;
     joined = λ his. absurd (false≢true his);
@@ -53,8 +53,8 @@ his-some n other his = absurd (false≢true his)
 pub feeder-after : {C P : Type 0} (cache : Cache) (openings : List (List ℕ)) (pools : Ghosts P) (device n : ℕ) (blocks : List Ptr) (op : Op) (reply : Reply) (b c : At C P) → is_of_caller n op ≡ true
     → DidLine cache.config pools device blocks op reply b c → HasFeeder cache openings b.party → HasFeeder cache openings c.party
 feeder-after cache openings pools device n blocks op reply b c his did feeder =
-    (feeder.0, record { number = feeder.1.number; stands = feeder.1.stands; knows = feeder.1.knows; alone = feeder.1.alone; joined = did.did.joined (his-some n op his) ∙ feeder.1.joined })
+    (feeder.0, record { number = feeder.1.number; stands = feeder.1.stands; knows = feeder.1.knows; alone = feeder.1.alone; joined = did.did.joined (his-some n op his) ∙ feeder.1.joined; only = feeder.1.only })
 
 -- and where a party's joins are as they were
 pub feeder-still : {C : Type 0} (cache : Cache) (openings : List (List ℕ)) (q r : Place (Known C)) → r.joined ≡ q.joined → HasFeeder cache openings q → HasFeeder cache openings r
-feeder-still cache openings q r same feeder = (feeder.0, record { number = feeder.1.number; stands = feeder.1.stands; knows = feeder.1.knows; alone = feeder.1.alone; joined = same ∙ feeder.1.joined })
+feeder-still cache openings q r same feeder = (feeder.0, record { number = feeder.1.number; stands = feeder.1.stands; knows = feeder.1.knows; alone = feeder.1.alone; joined = same ∙ feeder.1.joined; only = feeder.1.only })

@@ -26,13 +26,14 @@ use Rattle.arc_table.specs.declared.view.Line.TheVariants as line
 use Rattle.arc_table.specs.declared.view.Mine.{Mine}
 use Rattle.arc_table.specs.Both.{Does}
 use Rattle.arc_table.specs.scans.Ending.{DoesRoomy}
-use Rattle.arc_table.specs.Fronts.{front_of}
+use Rattle.arc_table.specs.Fronts.{StartsWith, front_of}
 use Rattle.arc_table.specs.Geometry.{IsCell, bucket_turn, shard_turn}
 use Rattle.arc_table.specs.Items.{Meanings}
 use Rattle.arc_table.specs.Reading.{Answers, AnswersRead, EndsAtPool, EndsMiss, GoesToPool, Outside, TurnsToPool, Waits, answered, cleared, from_device, from_none, from_pool, hit, missed, no_memory, past, read, refused, unread, unserved}
-use Rattle.arc_table.specs.Seen.{AllEntriesSeen, AreEntriesSeen, IsEntrySeen}
+use Rattle.arc_table.specs.Seen.{AllEntriesSeen, AreEntriesSeen, HasSeenItsEntries, IsEntrySeen}
 use Rattle.arc_table.specs.scans.Scanning.{AllPairs, after_scan, gave_all, won_all}
 use Rattle.arc_table.specs.ShardGiving.{after_shard, mines_of}
+use Rattle.arc_table.specs.TableLaws.{get_front, starts_whole}
 use Rattle.arc_table.proofs.TableLaws.{front_else}
 use Rattle.arc_table.specs.Views.{after_same, after_won}
 use Rattle.arc_table.proofs.reads.AfterRead.{stays_config}
@@ -43,7 +44,6 @@ use Rattle.arc_table.proofs.PassMines.{mines_of_are}
 use Rattle.arc_table.proofs.Reached.{reached}
 use Rattle.arc_table.proofs.scans.RoomyGives.{cell_far}
 use Rattle.arc_table.proofs.scans.RoomyAfter.{does_roomy_mine, does_roomy_stays}
-use Rattle.trace_run.specs.KeptBlocks.{HasSeenCells}
 
 -- ---- entries that are seen
 
@@ -54,6 +54,21 @@ entries-as g n mines s t same seen i j a in_range at is = subst (λ (l : List Li
 pub all-entries-as : {C : Type 0} (g : Config) (ks : List (Kept (Known C))) (s t : List (List Line)) → ((i : ℕ) → IsCell g i → front_of i t ≡ front_of i s) → AllEntriesSeen g ks s → AllEntriesSeen g ks t
 all-entries-as g [] s t same all = tt
 all-entries-as g (k ∷ ks) s t same all = (entries-as g k.number k.view.mine s t same all.0, all-entries-as g ks s t same all.1)
+
+-- of each cell, t has at least what s had
+abbrev pub CellsGrow : Config → (s t : List (List Line)) → Type 0
+CellsGrow g s t = (i : ℕ) → IsCell g i → StartsWith (front_of i t) (front_of i s)
+
+-- so they are in what has more of each cell
+pub entries-more : (g : Config) (n : ℕ) (mines : List Mine) (s t : List (List Line)) → CellsGrow g s t → AreEntriesSeen g n mines s → AreEntriesSeen g n mines t
+entries-more g n mines s t grows seen i j a in_range at is =
+    let h = seen i j a in_range at is in
+    let r = grows i in_range in
+    record { rest = h.rest; there = ap (λ (l : List Line). get_elem? l a.place) r.1 ∙ get_front (front_of i s) r.0 a.place (line.Entry (n ∷ h.rest)) h.there }
+
+pub all-entries-more : {C : Type 0} (g : Config) (ks : List (Kept (Known C))) (s t : List (List Line)) → CellsGrow g s t → AllEntriesSeen g ks s → AllEntriesSeen g ks t
+all-entries-more g [] s t grows all = tt
+all-entries-more g (k ∷ ks) s t grows all = (entries-more g k.number k.view.mine s t grows all.0, all-entries-more g ks s t grows all.1)
 
 -- ---- events behind a scan
 
@@ -106,15 +121,15 @@ module _ {C : Type 0} (g : Config) where
     mine = λ j x in_range at. a.mine j x in_range (b.mine j x in_range at);
   }
 
-  pub leaves-seen : (entries : ℕ → List Line) (p q : Place (Known C)) → LeavesCells p q → HasSeenCells g entries p → HasSeenCells g entries q
-  leaves-seen entries p q l seen = record {
-    fronts = λ i in_range. l.fronts i in_range ∙ seen.fronts i in_range;
-    made = record {
-      own = λ i j a in_range at is.
-          subst (λ (x : ℕ × List Line). IsEntrySeen x.0 x.1 a.place) (λ z. (sym l.stays.number z, sym (l.fronts i in_range) z))
-          (seen.made.own i j a in_range (l.mine j a (subst (IsCell g) (sym is) in_range) at) is);
-      joined = subst (λ (ks : List (Kept (Known C))). AllEntriesSeen g ks q.own.seen) (sym l.stays.joined) (all-entries-as g p.joined p.own.seen q.own.seen l.fronts seen.made.joined);
-    };
+  pub leaves-grow : (p q : Place (Known C)) → LeavesCells p q → CellsGrow g p.own.seen q.own.seen
+  leaves-grow p q l i in_range = subst (λ (x : List Line). StartsWith x (front_of i p.own.seen)) (sym (l.fronts i in_range)) (starts_whole (front_of i p.own.seen))
+
+  pub leaves-seen : (p q : Place (Known C)) → LeavesCells p q → HasSeenItsEntries g p → HasSeenItsEntries g q
+  leaves-seen p q l seen = record {
+    own = λ i j a in_range at is.
+        subst (λ (x : ℕ × List Line). IsEntrySeen x.0 x.1 a.place) (λ z. (sym l.stays.number z, sym (l.fronts i in_range) z))
+        (seen.own i j a in_range (l.mine j a (subst (IsCell g) (sym is) in_range) at) is);
+    joined = subst (λ (ks : List (Kept (Known C))). AllEntriesSeen g ks q.own.seen) (sym l.stays.joined) (all-entries-as g p.joined p.own.seen q.own.seen l.fronts seen.joined);
   }
 
 -- lines of a shard are no cell's

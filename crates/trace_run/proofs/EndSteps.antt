@@ -1,7 +1,8 @@
 -- The feeder ends all cells, while all other parties have joined it: what it and they are then.
-use Rattle.std.proofs.Common.{◌≡◌, ◌≢◌, ◌⊎◌, ℕ, ◌+◌, ◌<◌, nat_lt, Bool, true, false, if◌then◌else◌, List, [], ◌∷◌, map, refl, sym, ap, ◌∙◌, subst, inl, inr, arith}
+use Rattle.std.proofs.Common.{◌≡◌, ◌≢◌, ◌⊎◌, ℕ, ◌<◌, List, [], ◌∷◌, ◌++◌, map, refl, sym, ap, ◌∙◌, subst, inl, inr, arith}
 use Rattle.std.specs.List.{AllByRecursion}
-use Rattle.std.proofs.lemmas.Bool.Decides.{nat_tests}
+use mathlib.Core.Option.{some}
+use lib.ListN.{get_elem?}
 use Rattle.arc_core.specs.declared.config.Config.{Config}
 use Rattle.arc_core.specs.declared.event.Event.{Event}
 use Rattle.arc_core.specs.Operations.{moments, own_moments}
@@ -9,6 +10,7 @@ use Rattle.turn_table.specs.declared.standing.Kept.{Kept}
 use Rattle.turn_table.specs.Places.{IsIn, SomeHas}
 use Rattle.arc_table.specs.declared.view.Known.{Known}
 use Rattle.arc_table.specs.declared.view.Line.{Line}
+use Rattle.arc_table.specs.declared.view.Mine.{Mine}
 use Rattle.arc_table.specs.Cache.{Cache, IsPartyOf}
 use Rattle.arc_table.specs.Fronts.{front_of}
 use Rattle.arc_table.specs.Geometry.{parties_of}
@@ -16,11 +18,12 @@ use Rattle.arc_table.specs.Seen.{AreSeen, HasAll, events_in, seen_of, turn_of}
 use Rattle.arc_table.specs.Telling.{opening_of}
 use Rattle.dbuf_cells.specs.Ending.{EndsFrom}
 use Rattle.dbuf_cells.specs.Turns.{KeepsClaims, OnHeap, PartyPlace, dbuf_meanings}
-use Rattle.trace_run.specs.CellEnds.{EndedCells, end_entry}
-use Rattle.trace_run.specs.KeptBlocks.{HasSeenCells, Stands, StandsWith, times}
-use Rattle.trace_run.specs.Meeting.{AreLast, HasLearned, HavePartedWith, IsApart, JoinAll, Joins, MayPart, PartAll}
-use Rattle.trace_run.proofs.CellEnds.{IsQuiet, all-ended, ended_below}
-use Rattle.trace_run.proofs.callers.MeetLemmas.{HaveJoined, all-parted, are-last, joined-front, joined_of, left_alone, parted-then, parted_from}
+use Rattle.trace_run.specs.CellEnds.{EndedCells, EndedIdle, end_entry, events_there}
+use Rattle.trace_run.specs.KeptBlocks.{Stands, times}
+use Rattle.trace_run.specs.Making.{AreEventsSeen, AreNoEntries}
+use Rattle.trace_run.specs.Meeting.{AreLast, HasLearned, HaveParted, IsApart, JoinAll, Joins, MayPart, PartAll}
+use Rattle.trace_run.proofs.CellEnds.{HasEndedFrom, HasEndedSome, IsUntouched, NoneFrom, all-ended, cell-drops-there, drops-unmade}
+use Rattle.trace_run.proofs.callers.MeetLemmas.{HaveJoined, all-parted, are-last, joined-front, joined_of, left_alone, own-seen-more, parted-then, parted_from}
 use Rattle.trace_run.proofs.callers.TurnLemmas.{joined, joined-all, joined-stands}
 
 module _ (cache : Cache) (p : PartyPlace) (others : List PartyPlace) (stands : Stands cache p []) (alone : p.joined ≡ [])
@@ -53,7 +56,7 @@ module _ (cache : Cache) (p : PartyPlace) (others : List PartyPlace) (stands : S
       has (inr (inr never)) = absurd never
 
   -- where the one other has seen all, that is what both have seen
-  one-front : (o : PartyPlace) → others ≡ o ∷ [] → AreSeen g p.number p.own.mine o.own.seen → (shard : ℕ) → seen_of g shard q ≡ seen_of g shard o
+  one-front : (o : PartyPlace) → others ≡ o ∷ [] → AreEventsSeen g p.number p.own.mine o.own.seen → (shard : ℕ) → seen_of g shard q ≡ seen_of g shard o
   one-front o is seen shard =
       let j = subst (λ (os : List PartyPlace). JoinAll dbuf_meanings os p q) is joins in
       let of_o = (subst (AllByRecursion (IsApart cache)) is apart).0 in
@@ -61,58 +64,66 @@ module _ (cache : Cache) (p : PartyPlace) (others : List PartyPlace) (stands : S
       ap (λ (x : PartyPlace). seen_of g shard x) step.is
       ∙ ap events_in (joined-front dbuf_meanings g p o step.moment of_o.2 (two o is) stands.of.config of_o.1.seen.own seen shard)
 
-  -- no cell is ended at first
-  none-below : HasSeenCells g (ended_below p.number 0) q
-  none-below = record { fronts = λ i in_range. q-stands.cells.fronts i in_range ∙ ap (λ (b : Bool). if b then end_entry p.number i else []) (sym (not-below i)); made = q-stands.cells.made }
-    where
-      not-below : (i : ℕ) → nat_lt i 0 ≡ false
-      not-below i = grind (arith, nat_tests)
+  -- nobody had done anything to a cell, where none of them had
+  untouched-kept : (os : List PartyPlace) → AllByRecursion (λ o. AreNoEntries g o.own.mine) os → AllByRecursion (λ k. NoneFrom g 0 k.view.mine) (joined_of os)
+  untouched-kept [] none = tt
+  untouched-kept (o ∷ os) none = ((λ j a at range above. none.0 j a at range), untouched-kept os none.1)
+
+  pub untouched : AreNoEntries g p.own.mine → AllByRecursion (λ o. AreNoEntries g o.own.mine) others → IsUntouched g 0 q
+  untouched own rest = record {
+    own = λ j a at range above. own j a (subst (λ (l : List Mine). get_elem? l j ≡ some a) have.mine at) range;
+    joined = subst (AllByRecursion (λ k. NoneFrom g 0 k.view.mine)) (sym have.joined) (untouched-kept others rest);
+  }
 
   module _ (r : PartyPlace) (did : EndsFrom g 0 g.cells q r) (of : IsPartyOf cache r) (free : r.held ≡ []) (claims : KeepsClaims q r) where
-    ended : IsQuiet g q r × HasSeenCells g (ended_below p.number g.cells) r
-    ended =
-        let all = all-ended g stands.valid p.number 0 g.cells q r (omega arith) q-stands.of.config have.number q-stands.seen q-all none-below did in
-        (all.0, subst (λ (k : ℕ). HasSeenCells g (ended_below p.number k) r) (let e : 0 + g.cells ≡ g.cells = omega arith in e) all.1)
+    ended : HasEndedFrom g stands.valid 0 g.cells q r
+    ended = all-ended g stands.valid 0 g.cells q r (omega arith) q-stands.of.config q-stands.seen q-stands.cells q-all did
 
-    r-cells : HasSeenCells g (end_entry p.number) r
-    r-cells = record {
-      fronts = λ i in_range. ended.1.fronts i in_range ∙ ap (λ (b : Bool). if b then end_entry p.number i else []) (below i g.cells in_range);
-      made = ended.1.made;
-    }
-      where
-        below : (i n : ℕ) → i < n → nat_lt i n ≡ true
-        below i n less = grind (arith, nat_tests, less)
+    abbrev then : HasEndedSome g ended.drops q r
+    then = ended.some_ended
 
     number : r.number ≡ p.number
-    number = ended.0.number ∙ have.number
+    number = then.number ∙ have.number
 
     kept-joined : r.joined ≡ joined_of others
-    kept-joined = ended.0.joined ∙ have.joined
+    kept-joined = then.joined ∙ have.joined
 
     abbrev lines : ℕ → List Line
     lines shard = front_of (turn_of g shard) r.own.seen
 
-    unmade : (o : PartyPlace) → (shard : ℕ) → own_moments o.number (moments (opening_of g) (seen_of g shard r)) ≡ own_moments o.number (moments (opening_of g) (seen_of g shard q))
-    unmade o shard = ap (λ (es : List Event). own_moments o.number (moments (opening_of g) es)) (ended.0.shards shard)
+    unmade : (n : ℕ) → n < parties_of g → (shard : ℕ) → own_moments n (moments (opening_of g) (seen_of g shard r)) ≡ own_moments n (moments (opening_of g) (seen_of g shard q))
+    unmade n below shard = ap (λ (es : List Event). own_moments n (moments (opening_of g) es)) (then.shards shard)
+        ∙ drops-unmade g n (opening_of g) (seen_of g shard q) (events_there g shard ended.drops) below (cell-drops-there g shard ended.drops then.drops)
 
-    all-parted-from : (os : List PartyPlace) → AllByRecursion (λ o. HasLearned g o q) os → HavePartedWith (end_entry p.number) cache lines os (map (parted_from r) os)
-    all-parted-from [] learned = tt
-    all-parted-from (o ∷ os) learned = (parted-then (end_entry p.number) cache q r o learned.0 of r-cells.fronts ended.0.starts (unmade o), all-parted-from os learned.1)
+    all-parted-from : (os : List PartyPlace) → AllByRecursion (λ o. HasLearned g o q) os → AllByRecursion (λ o. o.number < parties_of g) os → HaveParted cache lines os (map (parted_from r) os)
+    all-parted-from [] learned below = tt
+    all-parted-from (o ∷ os) learned below = (parted-then cache q r o learned.0 of then.starts then.cells (unmade o.number below.0), all-parted-from os learned.1 below.1)
 
-    last-stands : StandsWith (end_entry p.number) cache (left_alone r) []
+    last-stands : Stands cache (left_alone r) []
     last-stands = record {
       valid = stands.valid;
       of = record { row = of.row; config = of.config };
       free = free;
-      cells = record { fronts = r-cells.fronts; made = record { own = r-cells.made.own; joined = tt } };
-      idle = ended.0.readings ∙ q-stands.idle;
+      cells = record { own = then.entries.own; joined = tt };
+      idle = then.readings ∙ q-stands.idle;
       unclaimed = λ i. claims i ∙ q-stands.unclaimed i;
-      seen = record { own = ended.0.sees.own; joined = tt };
+      seen = record { own = then.sees.own; joined = tt };
       apart = tt;
       joined = tt;
       owned = tt;
-      listed = λ x. ap (times x) ended.0.holds ∙ q-stands.listed x;
+      listed = λ x. ap (times x) then.holds ∙ q-stands.listed x;
     }
+
+    -- what it comes to where nobody had done anything to a cell
+    was-idle : AreNoEntries g p.own.mine → AllByRecursion (λ o. AreNoEntries g o.own.mine) others → EndedIdle cache ended.drops p (left_alone r)
+    was-idle own rest =
+        let idle = ended.idle (untouched own rest) in
+        record {
+          none = idle.none;
+          ends = λ i range. idle.ends i range (omega arith) (omega (arith, range)) ∙ ap (λ (n : ℕ). end_entry n i) have.number;
+          events = λ seen. idle.events (subst (λ (x : ℕ × List Mine). AreSeen g x.0 x.1 q.own.seen) (λ z. (sym have.number z, sym have.mine z))
+              (own-seen-more g p.number p.own.mine p.own.seen q.own.seen have.self.starts seen));
+        }
 
     pub may-part : MayPart cache r
     may-part = (of, free)
@@ -127,15 +138,17 @@ module _ (cache : Cache) (p : PartyPlace) (others : List PartyPlace) (stands : S
       left : EndedCells cache p others (left_alone r) (map (parted_from r) others)
       left = record {
         lines = lines;
-        parted = all-parted-from others have.all;
+        parted = all-parted-from others have.all have.below;
         level = λ shard. refl;
         number = number;
-        about = ended.0.about ∙ have.about;
+        about = then.about ∙ have.about;
         alone = refl;
         stands = last-stands;
-        own = λ shard. ap (λ (es : List Event). own_moments p.number (moments (opening_of g) es)) (ended.0.shards shard) ∙ have.self.own shard;
-        same = λ before own rest shard. ended.0.shards shard ∙ ap events_in (have.level before own rest shard);
-        one = λ o is seen shard. ended.0.shards shard ∙ one-front o is seen shard;
+        own = λ shard. subst (λ (n : ℕ). own_moments n (moments (opening_of g) (seen_of g shard r)) ≡ own_moments n (moments (opening_of g) (seen_of g shard q))) have.number (then.own shard) ∙ have.self.own shard;
+        drops = ended.drops;
+        same = λ before own rest shard. then.shards shard ∙ ap (λ (l : List Line). events_in l ++ events_there g shard ended.drops) (have.level before own rest shard);
+        one = λ o is seen shard. then.shards shard ∙ ap (λ (l : List Event). l ++ events_there g shard ended.drops) (one-front o is seen shard);
+        idle = was-idle;
       }
 
       pub ended-cells : EndedCells cache p others z xs

@@ -36,11 +36,12 @@ use Rattle.arc_table.specs.Reading.{Answers, AnswersRead, EndsAtPool, EndsMiss, 
 use Rattle.arc_table.proofs.Afterwards.{Stays, stays_party}
 use Rattle.trace_run.specs.declared.kept_blocks.KeptBlock.{KeptBlock}
 use Rattle.trace_run.specs.Effects.{calls_from}
-use Rattle.trace_run.specs.KeptBlocks.{AllQuiet, IsOwnedBy, Stands, held_key, listed_all, listed_for, no_entries, times}
+use Rattle.trace_run.specs.KeptBlocks.{AllQuiet, IsOwnedBy, Stands, held_key, listed_all, listed_for, times}
 use Rattle.trace_run.specs.KeptReads.{kept_read}
 use Rattle.trace_run.specs.Read.{IsMismatch}
 use Rattle.trace_run.specs.Reads.{CallsFor, DidAnswer, DidFail, DidRead, IsCauseOf, IsGot, now_of}
-use Rattle.arc_table.specs.Seen.{AddsAll, HasAll, HasSeenItsOwn}
+use Rattle.arc_table.specs.Seen.{AddsAll, HasAll}
+use Rattle.trace_run.specs.Making.{HasSeenItsEvents}
 use Rattle.trace_run.proofs.CellsLeft.{LeavesCells, leaves-seen, read-leaves}
 use Rattle.trace_run.proofs.KeptBlockLemmas.{times-append, times-middle}
 use Rattle.trace_run.proofs.ReadLemmas.{AddsFailed, AddsRead, AddsServed, read-adds, read-seen}
@@ -59,7 +60,7 @@ all-last P (y ∷ ys) x all last = (all.0, all-last P ys x all.1 last)
 pub hold-ptr : (ptr : Ptr) (n : ℕ) (hold : Hold) → IsHoldOf ptr n hold → ptr ≡ ptr_of hold
 hold-ptr ptr n hold h = λ i. record { key = sym h.key i; digest = sym h.block.digest i }
 
-module _ {C : Type 0} (cache : Cache) (p q : Place (Known C)) (kept : List KeptBlock) (stands : Stands cache p kept) (left : LeavesCells cache.config p q) (seen : HasSeenItsOwn cache.config q) where
+module _ {C : Type 0} (cache : Cache) (p q : Place (Known C)) (kept : List KeptBlock) (stands : Stands cache p kept) (left : LeavesCells cache.config p q) (seen : HasSeenItsEvents cache.config q) where
   abbrev stays : Stays p q
   stays = left.stays
 
@@ -68,7 +69,7 @@ module _ {C : Type 0} (cache : Cache) (p q : Place (Known C)) (kept : List KeptB
     valid = stands.valid;
     of = stays_party cache p q stays stands.of;
     free = stays.held ∙ stands.free;
-    cells = leaves-seen cache.config no_entries p q left stands.cells;
+    cells = leaves-seen cache.config p q left stands.cells;
     idle = lists.readings ∙ stands.idle;
     unclaimed = λ i. ap (list_at i) lists.claims ∙ stands.unclaimed i;
     seen = seen;
@@ -83,7 +84,7 @@ module _ {C : Type 0} (cache : Cache) (p q : Place (Known C)) (kept : List KeptB
     valid = stands.valid;
     of = stays_party cache p q stays stands.of;
     free = stays.held ∙ stands.free;
-    cells = leaves-seen cache.config no_entries p q left stands.cells;
+    cells = leaves-seen cache.config p q left stands.cells;
     idle = lists.readings ∙ stands.idle;
     unclaimed = λ i. ap (list_at i) lists.claims ∙ stands.unclaimed i;
     seen = seen;
@@ -112,6 +113,7 @@ module _ {C P D : Type 0} (m : Meanings C) (g : Config) (valid : IsConfig g) (po
       alone = λ x. subst (λ (es : List Event). AddsAll g _ es p q) (a.alone x).0 (a.moves.alone x);
       all = a.moves.all;
       joined = a.moves.joined;
+      only = a.moves.only;
     };
     source = λ x. (a.alone x).1;
   }
@@ -125,6 +127,7 @@ module _ {C P D : Type 0} (m : Meanings C) (g : Config) (valid : IsConfig g) (po
       alone = λ x. subst (λ (es : List Event). AddsAll g _ es p q) (a.alone x).0 (a.moves.alone x);
       all = a.moves.all;
       joined = a.moves.joined;
+      only = a.moves.only;
     };
     asked = λ x. (a.alone x).1;
   }
@@ -236,7 +239,7 @@ module _ {C P D : Type 0} (m : Meanings C) (cache : Cache) (pools : PoolGhosts P
   pub adds : AddsRead m cache.config stands.valid pools devices ptr t p q result
   adds = read-adds m cache.config stands.valid pools devices ptr t before now p q result stands.of.config stands.seen answer
 
-  seen : HasSeenItsOwn cache.config q
+  seen : HasSeenItsEvents cache.config q
   seen = read-seen m cache.config stands.valid pools devices ptr t p q result stands.seen adds
 
   pub lists : ListsAnswer ptr p q result

@@ -30,21 +30,21 @@ use Rattle.arc_table.specs.Booking.{without_hold}
 use Rattle.arc_table.specs.Both.{Does}
 use Rattle.arc_table.specs.Cache.{Cache}
 use Rattle.arc_table.specs.pact.Counted.{Rests}
-use Rattle.arc_table.specs.Geometry.{shard_turn}
+use Rattle.arc_table.specs.Geometry.{parties_of, shard_turn}
 use Rattle.arc_table.specs.Holding.{IsHeld, IsOneOf, own, ptr_of}
 use Rattle.arc_table.specs.Items.{Meanings}
 use Rattle.arc_table.specs.ShardGiving.{ledger_through}
 use Rattle.arc_table.proofs.Afterwards.{does_ledger, does_stays, stays_party}
 use Rattle.arc_table.proofs.Reached.{reached, rests}
 use Rattle.trace_run.specs.declared.kept_blocks.KeptBlock.{KeptBlock}
-use Rattle.trace_run.specs.KeptBlocks.{no_entries, Adds, AllQuiet, Drops, GivesBack, IsOwnedBy, Stands, held_key, is_ptr, listed_all, listed_for, times}
+use Rattle.trace_run.specs.KeptBlocks.{Adds, AllQuiet, Drops, GivesBack, IsOwnedBy, Stands, held_key, is_ptr, listed_all, listed_for, times}
 use Rattle.arc_table.specs.Fronts.{StartsWith, front_of, list_at}
-use Rattle.arc_table.specs.Seen.{AddsAll, AddsOwn, Made, turn_of}
+use Rattle.arc_table.specs.Seen.{AddsAll, AddsOwn, AreOwn, IsNumberOrCell, MadeBy, turn_of}
 use Rattle.arc_table.specs.TableLaws.{starts_whole}
 use Rattle.trace_run.specs.one_caller.Access.{events_of_drop}
 use Rattle.trace_run.specs.Acts.{acts_of_drop}
 use Rattle.trace_run.proofs.CacheLemmas.{digest_eq-is}
-use Rattle.arc_table.proofs.MadeLemmas.{does-made}
+use Rattle.trace_run.proofs.MoveLemmas.{does-made-own, made-only, only-then}
 use Rattle.arc_table.proofs.OwnLemmas.{grows, made-all, made-alone, made-own, made-sees}
 use Rattle.arc_table.proofs.reads.ReadMoments.{own-single}
 use Rattle.trace_run.proofs.one_caller.TellLemmas.{digest_eq-same}
@@ -168,8 +168,11 @@ module _ {C : Type 0} (m : Meanings C) (cache : Cache) (p q : Place (Known C)) (
     owner : hold.owner ≡ p.number
     owner = subst (λ (k : Kept). IsOwnedBy p.number k) is (owned-one cache p front rest read stands)
 
-    made : Made g (shard_of g.shards hold.key) d.before (Drop hold.owner hold.key ∷ []) p q
-    made = does-made m g valid hold.key (Drop hold.owner hold.key ∷ []) p q config stands.seen (own-single p.number (Drop hold.owner hold.key) owner refl) d
+    mine : AreOwn (parties_of g) p.number (Drop hold.owner hold.key ∷ [])
+    mine = own-single p.number (Drop hold.owner hold.key) owner refl
+
+    made : MadeBy (IsNumberOrCell g) g (shard_of g.shards hold.key) d.before (Drop hold.owner hold.key ∷ []) p q
+    made = does-made-own m g valid hold.key p q config stands.seen (Drop hold.owner hold.key ∷ []) mine d
 
     listed-one : (x : Ptr) → times x p.own.ledger.holds ≡ times x (ptr_of hold ∷ []) + times x (listed_all (front ++ rest))
     listed-one x = stands.listed x ∙ (times-middle x front rest read ∙ ap (λ (k : Kept). times x (listed_for k) + times x (listed_all (front ++ rest))) is)
@@ -216,7 +219,7 @@ module _ {C : Type 0} (m : Meanings C) (cache : Cache) (p q : Place (Known C)) (
           valid = stands.valid;
           of = stays_party cache p q stays stands.of;
           free = stays.held ∙ stands.free;
-          cells = leaves-seen g no_entries p q (does-leaves m g valid hold.key (Drop hold.owner hold.key ∷ []) p q config d) stands.cells;
+          cells = leaves-seen g p q (does-leaves m g valid hold.key (Drop hold.owner hold.key ∷ []) p q config d) stands.cells;
           idle = ap (λ (l : Ledger). l.readings) ledger-is ∙ stands.idle;
           unclaimed = λ i. ap (λ (l : Ledger). list_at i l.claims) ledger-is ∙ stands.unclaimed i;
           seen = made-sees g (shard_of g.shards hold.key) d.before (Drop hold.owner hold.key ∷ []) p q made stands.seen;
@@ -237,9 +240,13 @@ module _ {C : Type 0} (m : Meanings C) (cache : Cache) (p q : Place (Known C)) (
     pub held-adds : Adds g (shard_of g.shards hold.key) (acts_of_drop p.number (Some hold.key)) (events_of_drop p.number (Some hold.key)) p q
     held-adds = record {
       number = made.same.number;
-      told = λ before told. told-more g before (GivenBack p.number hold.key) (record { before = d.before.now; event = Drop p.number hold.key } ∷ []) p q refl told
-          (subst (λ (ms : List Moment). AddsOwn g (shard_of g.shards hold.key) ms p q) moments-are (made-own g (shard_of g.shards hold.key) d.before (Drop hold.owner hold.key ∷ []) p q made))
-          (record { events = refl; digests = (tt, tt) });
+      told = λ before told. record {
+        acts = told-more g before (GivenBack p.number hold.key) (record { before = d.before.now; event = Drop p.number hold.key } ∷ []) p q refl told.acts
+            (subst (λ (ms : List Moment). AddsOwn g (shard_of g.shards hold.key) ms p q) moments-are (made-own g (shard_of g.shards hold.key) d.before (Drop hold.owner hold.key ∷ []) p q made))
+            (record { events = refl; digests = (tt, tt) });
+        only = only-then g p q (does-leaves m g valid hold.key (Drop hold.owner hold.key ∷ []) p q config d)
+            (made-only g (shard_of g.shards hold.key) d.before (Drop hold.owner hold.key ∷ []) p q made mine) told.only;
+      };
       alone = λ all. subst (λ (n : ℕ). AddsAll g (shard_of g.shards hold.key) (Drop n hold.key ∷ []) p q) owner (made-alone g (shard_of g.shards hold.key) d.before (Drop hold.owner hold.key ∷ []) p q made all);
       all = λ all. made-all g (shard_of g.shards hold.key) d.before (Drop hold.owner hold.key ∷ []) p q made all;
       joined = made.same.joined;

@@ -17,6 +17,7 @@ pub mod KeptQueueLemmas
 pub mod LineLemmas
 pub mod LinesLemmas
 pub mod MappedLemmas
+pub mod MoveLemmas
 pub mod OpenLemmas
 pub mod ReadLemmas
 pub mod ReadStands
@@ -24,9 +25,12 @@ pub mod ResizeLemmas
 pub mod RestoreLemmas
 pub mod RunLemmas
 pub mod ServeLemmas
+pub mod SyncInserts
 pub mod SyncJoined
 pub mod SyncSteps
+pub mod SyncWrites
 pub mod TakenLemmas
-pub mod one_caller
 pub mod callers
+pub mod deeds
+pub mod one_caller
 pub mod theorem

@@ -50,11 +50,11 @@ use Rattle.trace_run.specs.Lines.{is_in_shard, shard_of_block}
 use Rattle.trace_run.specs.one_caller.OneCaller.{NamesSource, events_of, events_of_dropping, events_of_hold, events_of_read, events_there, is_of_block, kept_after, kept_after_drop, kept_after_hold, key_held_by, oldest_key, without_oldest}
 use Rattle.trace_run.specs.one_caller.OverShards.{AreNamed, IsNamed}
 use Rattle.trace_run.specs.Reads.{CameFromPool, DidAct, DidActs, DidAnswer, DidRead, IsRefused, access_now, now_of}
-use Rattle.arc_table.specs.Seen.{AddsAll, HasAll, HasSeenItsOwn, seen_of}
+use Rattle.arc_table.specs.Seen.{AddsAll, HasAll, seen_of}
 use Rattle.trace_run.specs.Tally.{kept_of_block}
-use Rattle.arc_table.specs.Told.{IsTold}
+use Rattle.trace_run.specs.Making.{HasSeenItsEvents, HasTold}
 use Rattle.trace_run.proofs.GetLemmas.{all-last}
-use Rattle.arc_table.proofs.MoveLemmas.{Moves, one-moves}
+use Rattle.trace_run.proofs.MoveLemmas.{Moves, one-moves}
 use Rattle.arc_table.proofs.reads.ReadMoments.{moment}
 use Rattle.trace_run.proofs.RunLemmas.{told-all}
 use Rattle.arc_table.proofs.ToldLemmas.{adds-all-then, adds-own-then, told-more}
@@ -64,7 +64,7 @@ module _ {C : Type 0} (g : Config) (device : ℕ) (p q : Place (Known C)) where
   pub acts-none : (shard : ℕ) → q ≡ p → DidActs g device shard [] [] p q
   acts-none shard is = subst (DidActs g device shard [] [] p) (sym is) (record {
     number = refl;
-    told = λ before told. subst (λ (l : List Act). IsTold g l p) (sym (append-nil before)) told;
+    told = λ before told. subst (λ (l : List Act). HasTold g l p) (sym (append-nil before)) told;
     alone = λ a. record { number = refl; here = sym (append-nil (seen_of g shard p)); others = λ j differs. refl };
     all = λ all. all;
     joined = refl;
@@ -74,7 +74,7 @@ module _ {C : Type 0} (g : Config) (device : ℕ) (p q : Place (Known C)) where
   pub acts-one : (act : Act) (es : List Event) → actor_of act ≡ p.number → DidAct g device act es p q → DidActs g device (shard_of g.shards (act_key act)) (act ∷ []) es p q
   acts-one act es his did = record {
     number = did.own.number;
-    told = λ before told. told-more g before act did.made p q his told did.own did.act_is;
+    told = λ before told. record { acts = told-more g before act did.made p q his told.acts did.own did.act_is; only = did.only told.only };
     alone = did.alone;
     all = did.all;
     joined = did.joined;
@@ -113,19 +113,23 @@ source-key ptr access.Miss from is = elim is [
   | inr l2 ↦ ap (key_held_by ptr) l2
 ]
 
-module _ {C : Type 0} (m : Meanings C) (g : Config) (valid : IsConfig g) (device t : ℕ) (ptr : Ptr) (p r q : Place (Known C)) (config : r.own.about.config ≡ g) (seen : HasSeenItsOwn g r) where
+-- what holds no entry was read past the cache
+loose-past : (ptr : Ptr) (from : Served) → None ≡ key_held_by ptr from → from ≡ served.Past
+loose-past ptr served.Hit none = cc
+loose-past ptr served.Pool none = cc
+loose-past ptr served.L2 none = cc
+loose-past ptr served.Past none = refl
+
+module _ {C : Type 0} (m : Meanings C) (g : Config) (valid : IsConfig g) (device t : ℕ) (ptr : Ptr) (p r q : Place (Known C)) (config : r.own.about.config ≡ g) (seen : HasSeenItsEvents g r) where
   abbrev here : ℕ
   here = shard_of g.shards ptr.key
 
   abbrev events : Served → List Event
   events from = events_of_answered p.number t ptr from (access_now g ptr p) ++ events_of_drop p.number (access_key ptr (access_now g ptr p))
 
-  -- a block that nothing holds is let go
-  read-loose : (from : Served) → None ≡ key_held_by ptr from → DidAnswer g device t ptr from p r → q ≡ r → DidAct g device (Reads p.number t ptr from) (events from) p q
-  read-loose served.Hit none did is = cc
-  read-loose served.Pool none did is = cc
-  read-loose served.L2 none did is = cc
-  read-loose served.Past none did is = subst (DidAct g device (Reads p.number t ptr served.Past) (events served.Past) p) (sym is) (record {
+  -- a block that nothing holds is let go: it was read past the cache
+  past-act : DidAnswer g device t ptr served.Past p r → DidAct g device (Reads p.number t ptr served.Past) (events served.Past) p r
+  past-act did = record {
     made = did.act.made;
     own = did.act.own;
     act_is = record { events = did.act.act_is.events; digests = did.act.act_is.digests };
@@ -135,7 +139,15 @@ module _ {C : Type 0} (m : Meanings C) (g : Config) (valid : IsConfig g) (device
         (did.act.alone a);
     all = did.act.all;
     joined = did.act.joined;
-  })
+    only = did.act.only;
+  }
+
+  read-loose : (from : Served) → None ≡ key_held_by ptr from → DidAnswer g device t ptr from p r → q ≡ r → DidAct g device (Reads p.number t ptr from) (events from) p q
+  read-loose from none did is =
+      let past : from ≡ served.Past = loose-past ptr from none in
+      subst (λ (x : Served). DidAct g device (Reads p.number t ptr x) (events x) p q) (sym past)
+      (subst (λ (x : Place (Known C)). DidAct g device (Reads p.number t ptr served.Past) (events served.Past) p x) (sym is)
+      (past-act (subst (λ (x : Served). DidAnswer g device t ptr x p r) past did)))
 
   -- an access that was served, and then its drop
   served-drop : (from : Served) → Some ptr.key ≡ key_held_by ptr from → (ms : List Moment) (s : PlainShard) → IsServed p.number t ptr from [] (map (λ (x : Moment). x.event) ms)
@@ -162,6 +174,7 @@ module _ {C : Type 0} (m : Meanings C) (g : Config) (valid : IsConfig g) (device
             (adds-all-then g here (events_of_answered p.number t ptr from (access_now g ptr p)) (Drop p.number ptr.key ∷ []) p r q (did.act.alone a) (drop.alone (did.act.all a)));
         all = λ all. drop.all (did.act.all all);
         joined = drop.joined ∙ did.act.joined;
+        only = λ only. drop.only (did.act.only only);
       }
 
   -- what is kept of it is given back
@@ -236,7 +249,7 @@ module _ {C : Type 0} (g : Config) (device : ℕ) (blocks : List Ptr) (kept : Li
   pub there-of : (acts : List Act) (es : List Event) → acts ≡ acts_of blocks kept op reply → es ≡ events_of blocks (now_of g its p) kept op reply → DidActs g device its acts es p q → DidThere g device blocks kept op reply p q
   there-of acts es same_acts same_events did = record {
     number = did.number;
-    told = λ before told. subst (λ (l : List Act). IsTold g (before ++ l) q) same_acts (did.told before told);
+    told = λ before told. subst (λ (l : List Act). HasTold g (before ++ l) q) same_acts (did.told before told);
     alone = λ alone shard.
         let adds = did.alone alone in
         let there : Bool → List Event = λ b. if b then events_of blocks (now_of g shard p) kept op reply else [] in

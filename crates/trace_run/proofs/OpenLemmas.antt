@@ -28,13 +28,13 @@ use Rattle.trace_run.specs.KeptBlocks.{AllQuiet, Stands}
 use Rattle.trace_run.proofs.CellsLeft.{all-entries-as, entries-as}
 use Rattle.trace_run.specs.Opened.{AreOpened, HasJoined, IsNew, IsOpened}
 use Rattle.trace_run.specs.Openings.{AllKnow, Knows}
-use Rattle.arc_table.specs.Seen.{AllEntriesSeen, AllSeen, AreEntriesSeen, AreSeen, HasAll, HasSeenItsOwn, events_in, seen_of, turn_of}
-use Rattle.arc_table.specs.Told.{IsTold}
+use Rattle.arc_table.specs.Seen.{AllEntriesSeen, AreEntriesSeen, AreSeen, AreSeenBy, HasAll, IsNumberOf, IsNumberOrCell, events_in, seen_of, turn_of}
+use Rattle.trace_run.specs.Making.{AllEventsSeen, AreEventsSeen, HasSeenItsEvents, HasTold}
 
 -- ---- a party at the start
 
-no-mine : (g : Config) (n : ℕ) (seen : List (List Line)) → AreSeen g n [] seen
-no-mine g n seen i j a at is = absurd (some-ne-none a (sym at))
+no-mine : (May : (n number : ℕ) → Type 0) (g : Config) (n : ℕ) (seen : List (List Line)) → AreSeenBy May g n [] seen
+no-mine May g n seen i j a at is = absurd (some-ne-none a (sym at))
 
 no-entries : (g : Config) (n : ℕ) (seen : List (List Line)) → AreEntriesSeen g n [] seen
 no-entries g n seen i j a in_range at is = absurd (some-ne-none a (sym at))
@@ -48,18 +48,21 @@ module _ (C : Type 0) (cache : Cache) (about : About) (is : about.config ≡ cac
     valid = valid;
     of = record { row = (refl, sym row); config = is };
     free = refl;
-    cells = record { fronts = λ i in_range. refl; made = record { own = no-entries cache.config n []; joined = tt } };
+    cells = record { own = no-entries cache.config n []; joined = tt };
     idle = refl;
     unclaimed = λ i. refl;
-    seen = record { own = no-mine cache.config n []; joined = tt };
+    seen = record { own = no-mine (IsNumberOrCell cache.config) cache.config n []; joined = tt };
     apart = tt;
     joined = tt;
     owned = tt;
     listed = λ x. refl;
   }
 
-  pub newcomer-told : (n : ℕ) → IsTold cache.config [] (one n)
-  newcomer-told n shard = refl
+  pub newcomer-told : (n : ℕ) → HasTold cache.config [] (one n)
+  newcomer-told n = record {
+    acts = λ shard. refl;
+    only = record { events = no-mine IsNumberOf cache.config n []; entries = λ j a at in_range. absurd (some-ne-none a (sym at)) };
+  }
 
   pub newcomer-new : (n : ℕ) → IsOpened cache n (one n)
   newcomer-new n = record {
@@ -175,17 +178,23 @@ module _ {C : Type 0} (cache : Cache) where
     same-seen : q.own.seen ≡ then.own.seen
     same-seen = next.new.seen ∙ sym seen-none
 
-    own-seen : HasSeenItsOwn cache.config then
+    own-seen : HasSeenItsEvents cache.config then
     own-seen = record {
-      own = subst (AreSeen cache.config p.number p.own.mine) (first.new.seen ∙ sym seen-none) first.new.stands.seen.own;
-      joined = subst (λ (ks : List (Joined (Known C))). AllSeen cache.config ks then.own.seen) (sym joined-is) (
-        subst (AreSeen cache.config q.number q.own.mine) same-seen next.new.stands.seen.own,
-        subst (AllSeen cache.config p.joined) (first.new.seen ∙ sym seen-none) first.new.stands.seen.joined,
+      own = subst (AreEventsSeen cache.config p.number p.own.mine) (first.new.seen ∙ sym seen-none) first.new.stands.seen.own;
+      joined = subst (λ (ks : List (Joined (Known C))). AllEventsSeen cache.config ks then.own.seen) (sym joined-is) (
+        subst (AreEventsSeen cache.config q.number q.own.mine) same-seen next.new.stands.seen.own,
+        subst (AllEventsSeen cache.config p.joined) (first.new.seen ∙ sym seen-none) first.new.stands.seen.joined,
       );
     }
 
-    told-then : IsTold cache.config [] then
-    told-then shard = ap (λ (s : List (List Line)). own_moments p.number (moments (opening_of cache.config) (events_in (front_of (turn_of cache.config shard) s)))) seen-none
+    told-then : HasTold cache.config [] then
+    told-then = record {
+      acts = λ shard. ap (λ (s : List (List Line)). own_moments p.number (moments (opening_of cache.config) (events_in (front_of (turn_of cache.config shard) s)))) seen-none;
+      only = record {
+        events = subst (AreSeen cache.config p.number p.own.mine) (first.new.seen ∙ sym seen-none) first.new.told.only.events;
+        entries = first.new.told.only.entries;
+      };
+    }
 
     same-first : (i : ℕ) → IsCell cache.config i → front_of i then.own.seen ≡ front_of i p.own.seen
     same-first i in_range = ap (front_of i) (seen-none ∙ sym first.new.seen)
@@ -196,14 +205,11 @@ module _ {C : Type 0} (cache : Cache) where
       of = record { row = first.new.stands.of.row; config = first.new.stands.of.config };
       free = first.new.stands.free;
       cells = record {
-        fronts = λ i in_range. ap (front_of i) seen-none;
-        made = record {
-          own = entries-as cache.config p.number p.own.mine p.own.seen then.own.seen same-first first.new.stands.cells.made.own;
-          joined = subst (λ (ks : List (Joined (Known C))). AllEntriesSeen cache.config ks then.own.seen) (sym joined-is) (
-            entries-as cache.config q.number q.own.mine q.own.seen then.own.seen (λ i in_range. ap (front_of i) (sym same-seen)) next.new.stands.cells.made.own,
-            all-entries-as cache.config p.joined p.own.seen then.own.seen same-first first.new.stands.cells.made.joined,
-          );
-        };
+        own = entries-as cache.config p.number p.own.mine p.own.seen then.own.seen same-first first.new.stands.cells.own;
+        joined = subst (λ (ks : List (Joined (Known C))). AllEntriesSeen cache.config ks then.own.seen) (sym joined-is) (
+          entries-as cache.config q.number q.own.mine q.own.seen then.own.seen (λ i in_range. ap (front_of i) (sym same-seen)) next.new.stands.cells.own,
+          all-entries-as cache.config p.joined p.own.seen then.own.seen same-first first.new.stands.cells.joined,
+        );
       };
       idle = first.new.stands.idle;
       unclaimed = first.new.stands.unclaimed;

@@ -40,9 +40,10 @@ use Rattle.trace_run.specs.one_caller.Access as access
 use Rattle.trace_run.specs.one_caller.Access.{Access, AsksPool, MayComeFrom, access_of, events_of_answered, events_of_refused}
 use Rattle.arc_table.specs.Telling.{opening_of}
 use Rattle.trace_run.specs.Reads.{access_now, now_of}
-use Rattle.arc_table.specs.Seen.{HasAll, HasSeenItsOwn, seen_of}
+use Rattle.arc_table.specs.Seen.{HasAll, seen_of}
+use Rattle.trace_run.specs.Making.{HasSeenItsEvents}
 use Rattle.trace_run.proofs.one_caller.AccessLemmas.{access-cached, access-missed, access-other}
-use Rattle.arc_table.proofs.MoveLemmas.{Moves, does-moves, does-now, moves-none, moves-then, one-moves, roomy-moves, roomy-now}
+use Rattle.trace_run.proofs.MoveLemmas.{Moves, does-moves, does-now, moves-none, moves-then, one-moves, roomy-moves, roomy-now}
 use Rattle.arc_table.proofs.scans.ScanAlone.{scan-alone}
 use Rattle.arc_table.proofs.reads.ReadMoments.{moment, own-behind, own-none, own-one, own-single}
 
@@ -60,18 +61,18 @@ module _ {C P D : Type 0} (m : Meanings C) (g : Config) (valid : IsConfig g) (po
 
   -- ---- the parts
 
-  pub waits-move : (times : ℕ) (p q : Place (Known C)) → p.own.about.config ≡ g → HasSeenItsOwn g p → Waits m g ptr.key times p q → Moves g shard [] [] p q
+  pub waits-move : (times : ℕ) (p q : Place (Known C)) → p.own.about.config ≡ g → HasSeenItsEvents g p → Waits m g ptr.key times p q → Moves g shard [] [] p q
   waits-move zero p q config seen is = subst (Moves g shard [] [] p) (sym is) (moves-none g shard p config seen)
   waits-move (suc times) p q config seen w =
       let a = waits-move times p w.0 config seen w.1 in
       let b = does-moves m g valid ptr.key w.0 q a.config a.seen [] (own-none w.0.number) w.2.does in
       moves-then g shard [] [] [] [] p w.0 q a b
 
-  one-move : (e : Event) (p q : Place (Known C)) → p.own.about.config ≡ g → HasSeenItsOwn g p → number_of e ≡ p.number → is_pass e ≡ false → (d : Does m g ptr.key (e ∷ []) p q)
+  one-move : (e : Event) (p q : Place (Known C)) → p.own.about.config ≡ g → HasSeenItsEvents g p → number_of e ≡ p.number → is_pass e ≡ false → (d : Does m g ptr.key (e ∷ []) p q)
       → Moves g shard (moment d.before.now e ∷ []) (e ∷ []) p q
   one-move e p q config seen his none d = one-moves m g valid ptr.key p q config seen e his none d
 
-  miss-move : (p q : Place (Known C)) → p.own.about.config ≡ g → HasSeenItsOwn g p → (d : DoesRoomy m g ptr.key (Miss p.number ptr.key t) p q)
+  miss-move : (p q : Place (Known C)) → p.own.about.config ≡ g → HasSeenItsEvents g p → (d : DoesRoomy m g ptr.key (Miss p.number ptr.key t) p q)
       → Moves g shard (moment (replay d.before.now d.makes.passes) (Miss p.number ptr.key t) ∷ []) (d.makes.passes ++ Miss p.number ptr.key t ∷ []) p q
   miss-move p q config seen d =
       let e : Event = Miss p.number ptr.key t in
@@ -81,7 +82,7 @@ module _ {C P D : Type 0} (m : Meanings C) (g : Config) (valid : IsConfig g) (po
       (own-behind g p.number (shard_turn g ptr.key) d.before.now d.makes.passes e own ∙ own-one p.number (replay d.before.now d.makes.passes) e refl refl)
       (roomy-moves m g valid ptr.key p q config seen e (refl, refl, eq-eqb p.number p.number refl) d)
 
-  turn-move : (found : Option EntryView) (old new : D) (p q : Place (Known C)) → p.own.about.config ≡ g → HasSeenItsOwn g p → TurnsToPool m devices g ptr found old new p q → Moves g shard [] [] p q
+  turn-move : (found : Option EntryView) (old new : D) (p q : Place (Known C)) → p.own.about.config ≡ g → HasSeenItsEvents g p → TurnsToPool m devices g ptr found old new p q → Moves g shard [] [] p q
   turn-move found old new p q config seen (unserved why is) = subst (Moves g shard [] [] p) (sym is) (moves-none g shard p config seen)
   turn-move found old new p q config seen (cleared bytes came f) = does-moves m g valid ptr.key p q config seen [] (own-none p.number) f.does
 
@@ -116,7 +117,7 @@ module _ {C P D : Type 0} (m : Meanings C) (g : Config) (valid : IsConfig g) (po
   AddsAnswer p q (Err (fault.PoolFault)) = AddsFailed p q
   AddsAnswer p q (Err (fault.Mismatch found)) = AddsFailed p q
   AddsAnswer p q (Err (fault.Key why)) = ⊥
-  AddsAnswer p q (Err (fault.NoMemory)) = HasSeenItsOwn g q
+  AddsAnswer p q (Err (fault.NoMemory)) = HasSeenItsEvents g q
 
   -- a miss has begun with these events
   record Begun (s : PlainShard) (es : List Event) (p r : Place (Known C)) : Type 0 where
@@ -166,7 +167,7 @@ module _ {C P D : Type 0} (m : Meanings C) (g : Config) (valid : IsConfig g) (po
   pool-adds old new s es p back q (Err (fault.Key why)) begun h = absurd h
   pool-adds old new s es p back q (Err (fault.NoMemory)) begun h = (ended s es p back q begun (Fail back.number ptr.key failed.Pool) refl refl h.0).seen
 
-  past-failed : (kept : Digest) (p q : Place (Known C)) → p.own.about.config ≡ g → HasSeenItsOwn g p → kept ≢ ptr.digest
+  past-failed : (kept : Digest) (p q : Place (Known C)) → p.own.about.config ≡ g → HasSeenItsEvents g p → kept ≢ ptr.digest
       → (d : Does m g ptr.key (Past p.number ptr.key kept ∷ []) p q) → (HasAll p → access_now g ptr p ≡ access.Past kept) → AddsFailed p q
   past-failed kept p q config seen other d alone = record {
     ms = _;
@@ -177,7 +178,7 @@ module _ {C P D : Type 0} (m : Meanings C) (g : Config) (valid : IsConfig g) (po
     alone = λ a. (ap (events_of_refused p.number t ptr) (sym (alone a)), subst AsksPool (sym (alone a)) tt);
   }
 
-  past-adds : (old new : P) (kept : Digest) (p q : Place (Known C)) (result : Result Read ReadFault) → p.own.about.config ≡ g → HasSeenItsOwn g p → kept ≢ ptr.digest
+  past-adds : (old new : P) (kept : Digest) (p q : Place (Known C)) (result : Result Read ReadFault) → p.own.about.config ≡ g → HasSeenItsEvents g p → kept ≢ ptr.digest
       → (d : Does m g ptr.key (Past p.number ptr.key kept ∷ []) p q) → (HasAll p → access_now g ptr p ≡ access.Past kept) → EndsPast pools ptr kept old new result → AddsAnswer p q result
   past-adds old new kept p q (Ok (gave.Past block digest)) config seen other d alone h = record {
     ms = _;
@@ -193,7 +194,7 @@ module _ {C P D : Type 0} (m : Meanings C) (g : Config) (valid : IsConfig g) (po
   past-adds old new kept p q (Err (fault.Key why)) config seen other d alone h = absurd h
   past-adds old new kept p q (Err (fault.NoMemory)) config seen other d alone h = (one-move (Past p.number ptr.key kept) p q config seen refl refl d).seen
 
-  unread-seen : (e : Event) (p q : Place (Known C)) → p.own.about.config ≡ g → HasSeenItsOwn g p → number_of e ≡ p.number → is_pass e ≡ false → Does m g ptr.key (e ∷ []) p q → HasSeenItsOwn g q
+  unread-seen : (e : Event) (p q : Place (Known C)) → p.own.about.config ≡ g → HasSeenItsEvents g p → number_of e ≡ p.number → is_pass e ≡ false → Does m g ptr.key (e ∷ []) p q → HasSeenItsEvents g q
   unread-seen e p q config seen his none d = (one-move e p q config seen his none d).seen
 
   goes-adds : (old new : P) (s : PlainShard) (es : List Event) (p back q : Place (Known C)) (result : Result Read ReadFault) → Begun s es p back
@@ -222,7 +223,7 @@ module _ {C P D : Type 0} (m : Meanings C) (g : Config) (valid : IsConfig g) (po
       goes-adds before.pool now.pool s (es ++ []) p back q result (turned s es p r back begun (turn-move found before.device now.device r back begun.moves.config begun.moves.seen turns)) goes
   miss-adds before now s es found p r q result begun (from_none asked f) = subst (AddsAnswer p q) (sym f.answer) (unread-seen _ r q begun.moves.config begun.moves.seen refl refl f.does)
 
-  answer-adds : (before now : Outside P D) (p q : Place (Known C)) (result : Result Read ReadFault) → p.own.about.config ≡ g → HasSeenItsOwn g p
+  answer-adds : (before now : Outside P D) (p q : Place (Known C)) (result : Result Read ReadFault) → p.own.about.config ≡ g → HasSeenItsEvents g p
       → Answers m pools devices g ptr t before now p q result → AddsAnswer p q result
   answer-adds before now p q result config seen (hit hold is d cached held same) = subst (AddsAnswer p q) (sym is) (record {
     ms = _;
@@ -289,7 +290,7 @@ module _ {C P D : Type 0} (m : Meanings C) (g : Config) (valid : IsConfig g) (po
   AddsRead p q (Err (fault.PoolFault)) = AddsFailed p q
   AddsRead p q (Err (fault.Mismatch found)) = AddsFailed p q
   AddsRead p q (Err (fault.Key why)) = q ≡ p
-  AddsRead p q (Err (fault.NoMemory)) = HasSeenItsOwn g q
+  AddsRead p q (Err (fault.NoMemory)) = HasSeenItsEvents g q
 
   after-wait : (p r q : Place (Known C)) (result : Result Read ReadFault) → Moves g shard [] [] p r → AddsAnswer r q result → AddsRead p q result
   after-wait p r q (Ok (gave.Held hold from)) w a = after-served from p r q w a
@@ -299,7 +300,7 @@ module _ {C P D : Type 0} (m : Meanings C) (g : Config) (valid : IsConfig g) (po
   after-wait p r q (Err (fault.Key why)) w a = absurd a
   after-wait p r q (Err (fault.NoMemory)) w a = a
 
-  pub read-adds : (before now : Outside P D) (p q : Place (Known C)) (result : Result Read ReadFault) → p.own.about.config ≡ g → HasSeenItsOwn g p
+  pub read-adds : (before now : Outside P D) (p q : Place (Known C)) (result : Result Read ReadFault) → p.own.about.config ≡ g → HasSeenItsEvents g p
       → AnswersRead m pools devices g ptr t before now p q result → AddsRead p q result
   read-adds before now p q result config seen (refused why is first same none) = subst (AddsRead p q) (sym is) same
   read-adds before now p q result config seen (answered ok times r waits answer) =
@@ -307,10 +308,10 @@ module _ {C P D : Type 0} (m : Meanings C) (g : Config) (valid : IsConfig g) (po
       after-wait p r q result w (answer-adds before now r q result w.config w.seen answer)
 
   -- a party has seen its own after a read
-  pub read-seen : (p q : Place (Known C)) (result : Result Read ReadFault) → HasSeenItsOwn g p → AddsRead p q result → HasSeenItsOwn g q
+  pub read-seen : (p q : Place (Known C)) (result : Result Read ReadFault) → HasSeenItsEvents g p → AddsRead p q result → HasSeenItsEvents g q
   read-seen p q (Ok (gave.Held hold from)) seen a = a.moves.seen
   read-seen p q (Ok (gave.Past block kept)) seen a = a.moves.seen
   read-seen p q (Err (fault.PoolFault)) seen a = a.moves.seen
   read-seen p q (Err (fault.Mismatch found)) seen a = a.moves.seen
-  read-seen p q (Err (fault.Key why)) seen a = subst (HasSeenItsOwn g) (sym a) seen
+  read-seen p q (Err (fault.Key why)) seen a = subst (HasSeenItsEvents g) (sym a) seen
   read-seen p q (Err (fault.NoMemory)) seen a = a

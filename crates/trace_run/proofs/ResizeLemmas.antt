@@ -16,24 +16,25 @@ use Rattle.turn_table.specs.Places.{Apart, IsIn, Place, SomeHas}
 use Rattle.arc_table.specs.declared.view.Known.{Known}
 use Rattle.arc_table.specs.declared.view.Ledger.{Ledger}
 use Rattle.arc_table.specs.declared.view.Line.{Line}
+use Rattle.arc_table.specs.declared.view.Mine.{Mine}
 use Rattle.arc_table.specs.Cache.{Cache}
 use Rattle.arc_table.specs.Fronts.{StartsWith, front_of, list_at}
 use Rattle.arc_table.specs.Geometry.{parties_of}
 use Rattle.arc_table.specs.Items.{Meanings}
 use Rattle.arc_table.specs.Resizing.{Resizes, ResizesOne, key_in}
-use Rattle.arc_table.specs.Seen.{AddsAll, AreSeen, HasAll, events_in, seen_of, turn_of}
+use Rattle.arc_table.specs.Seen.{AddsAll, HasAll, events_in, seen_of, turn_of}
 use Rattle.arc_table.specs.ShardGiving.{holds_through, readings_through}
 use Rattle.arc_table.specs.TableLaws.{starts_whole}
 use Rattle.arc_table.specs.Telling.{opening_of}
 use Rattle.arc_table.proofs.Afterwards.{Stays, stays_party, stays_then}
-use Rattle.arc_table.proofs.MoveLemmas.{Moves, roomy-moves}
 use Rattle.arc_table.proofs.OwnLemmas.{grows, no-own-moments, own-append}
 use Rattle.arc_table.proofs.scans.RoomyAfter.{does_roomy_ledger, does_roomy_stays}
-use Rattle.arc_table.proofs.scans.RoomyLemmas.{roomy-made}
 use Rattle.arc_table.proofs.scans.ScanAlone.{scan-alone}
-use Rattle.trace_run.specs.KeptBlocks.{AllQuiet, ClaimsNothing, Stands, no_entries, times}
+use Rattle.trace_run.specs.KeptBlocks.{AllQuiet, ClaimsNothing, Stands, times}
 use Rattle.trace_run.specs.Meeting.{AreLast, HasLearned, HaveParted, IsApart, JoinAll, Joins, MadeJoined, PartAll, resizes_in}
-use Rattle.trace_run.proofs.CellsLeft.{leaves-seen, roomy-leaves}
+use Rattle.trace_run.proofs.CellsLeft.{LeavesCells, leaves-grow, leaves-same, leaves-seen, leaves-then, roomy-leaves}
+use Rattle.trace_run.proofs.MoveLemmas.{Moves, roomy-made-own, roomy-moves}
+use Rattle.trace_run.specs.Making.{AreEventsSeen, MadeItsOwn}
 use Rattle.trace_run.proofs.callers.MeetLemmas.{HaveJoined, all-parted, are-last, joined-front, joined_of, left_alone, parted-then, parted_from, starts-events, starts-then}
 use Rattle.trace_run.proofs.callers.TurnLemmas.{joined, joined-all, joined-stands}
 
@@ -49,6 +50,8 @@ module _ {C : Type 0} (m : Meanings C) (cache : Cache) (c : ℕ) where
     pub below : (s : ℕ) → s < done → seen_of gc s q ≡ seen_of gc s p ++ Resize p.number c ∷ []
     pub beyond : (s : ℕ) → done ≤ s → seen_of gc s q ≡ seen_of gc s p
     pub starts : (i : ℕ) → StartsWith (front_of (turn_of gc i) q.own.seen) (front_of (turn_of gc i) p.own.seen)
+    pub left : LeavesCells gc p q
+    pub only : MadeItsOwn gc p → MadeItsOwn gc q
 
   -- ---- one shard
 
@@ -92,7 +95,7 @@ module _ {C : Type 0} (m : Meanings C) (cache : Cache) (c : ℕ) where
       valid = stands.valid;
       of = stays_party cache p q one-stays stands.of;
       free = one-stays.held ∙ stands.free;
-      cells = leaves-seen gc no_entries p q (roomy-leaves m gc stands.valid (key_in s) e p q stands.of.config one.does) stands.cells;
+      cells = leaves-seen gc p q (roomy-leaves m gc stands.valid (key_in s) e p q stands.of.config one.does) stands.cells;
       idle = one-readings ∙ stands.idle;
       unclaimed = one-unclaimed;
       seen = moves.seen;
@@ -103,7 +106,7 @@ module _ {C : Type 0} (m : Meanings C) (cache : Cache) (c : ℕ) where
     }
 
     one-starts : (i : ℕ) → StartsWith (front_of (turn_of gc i) q.own.seen) (front_of (turn_of gc i) p.own.seen)
-    one-starts = grows gc (shard_of gc.shards (key_in s)) one.does.before (one.does.makes.passes ++ e ∷ []) p q (roomy-made m gc stands.valid (key_in s) e p q stands.of.config stands.seen refl fits one.does)
+    one-starts = grows gc (shard_of gc.shards (key_in s)) one.does.before (one.does.makes.passes ++ e ∷ []) p q (roomy-made-own m gc stands.valid (key_in s) p q stands.of.config stands.seen e fits one.does)
 
   -- ---- all shards
 
@@ -115,6 +118,8 @@ module _ {C : Type 0} (m : Meanings C) (cache : Cache) (c : ℕ) where
     below = λ s lt. absurd (omega (arith, lt));
     beyond = λ s le. refl;
     starts = λ i. starts_whole (front_of (turn_of gc i) p.own.seen);
+    left = leaves-same gc p p refl;
+    only = λ only. only;
   }
 
   pub given-to : (done : ℕ) (p q : Place (Known C)) → Stands cache p [] → HasAll p → Resizes m gc p.number c done p q → HasGiven done p q
@@ -139,6 +144,8 @@ module _ {C : Type 0} (m : Meanings C) (cache : Cache) (c : ℕ) where
         ];
         beyond = λ t le. more.others t (λ is. omega (arith, le, is)) ∙ first.beyond t (omega (arith, le));
         starts = λ i. starts-then (front_of (turn_of gc i) q.own.seen) (front_of (turn_of gc i) r.own.seen) (front_of (turn_of gc i) p.own.seen) (later i) (first.starts i);
+        left = leaves-then gc p r q first.left (roomy-leaves m gc first.stands.valid (key_in s) (Resize r.number c) r q first.stands.of.config one.does);
+        only = λ only. (moves s r q first.stands first.all one).only (first.only only);
       }
 
 -- ---- events of one number are no other's
@@ -161,6 +168,8 @@ pub record HasMade {C : Type 0} (cache : Cache) (more : (shard : ℕ) → List E
   pub all : HasAll q
   pub seen : (s : ℕ) → seen_of cache.config s q ≡ seen_of cache.config s p ++ more s
   pub starts : (i : ℕ) → StartsWith (front_of (turn_of cache.config i) q.own.seen) (front_of (turn_of cache.config i) p.own.seen)
+  pub left : LeavesCells cache.config p q
+  pub only : MadeItsOwn cache.config p → MadeItsOwn cache.config q
 
 -- all shards have this capacity
 resizes-made : {C : Type 0} (m : Meanings C) (cache : Cache) (n c : ℕ) (p q : Place (Known C)) → p.number ≡ n → HasGiven m cache c cache.config.shards p q → HasMade cache (resizes_in cache.config.shards n c) p q
@@ -177,6 +186,8 @@ resizes-made m cache n c p q number given = record {
         given.beyond s beyond ∙ (sym (append-nil (seen_of cache.config s p)) ∙ (λ i. seen_of cache.config s p ++ (if sym out i then Resize n c ∷ [] else [])))
   ];
   starts = given.starts;
+  left = given.left;
+  only = given.only;
 }
 
 resizes-mine : (shards n c : ℕ) (s : ℕ) → AllByRecursion (λ e. number_of e ≡ n) (resizes_in shards n c s)
@@ -218,7 +229,7 @@ module _ {C : Type 0} (m : Meanings C) (cache : Cache) (p : Place (Known C)) (ot
       has (inr (inr never)) = absurd never
 
   -- where the one other has seen all, that is what both have seen
-  one-front : (o : Place (Known C)) → others ≡ o ∷ [] → AreSeen g p.number p.own.mine o.own.seen → (shard : ℕ) → seen_of g shard q ≡ seen_of g shard o
+  one-front : (o : Place (Known C)) → others ≡ o ∷ [] → AreEventsSeen g p.number p.own.mine o.own.seen → (shard : ℕ) → seen_of g shard q ≡ seen_of g shard o
   one-front o is seen shard =
       let j = subst (λ (os : List (Place (Known C))). JoinAll m os p q) is joins in
       let of_o = (subst (AllByRecursion (IsApart cache)) is apart).0 in
@@ -247,7 +258,7 @@ module _ {C : Type 0} (m : Meanings C) (cache : Cache) (p : Place (Known C)) (ot
 
     all-parted-from : (os : List (Place (Known C))) → AllByRecursion (λ o. HasLearned g o q) os → AllByRecursion (λ o. o.number ≢ p.number) os → HaveParted cache lines os (map (parted_from r) os)
     all-parted-from [] learned others_differ = tt
-    all-parted-from (o ∷ os) learned others_differ = (parted-then no_entries cache q r o learned.0 given.stands.of given.stands.cells.fronts given.starts (unmade o others_differ.0), all-parted-from os learned.1 others_differ.1)
+    all-parted-from (o ∷ os) learned others_differ = (parted-then cache q r o learned.0 given.stands.of given.starts (leaves-grow g q r given.left) (unmade o others_differ.0), all-parted-from os learned.1 others_differ.1)
 
     all-own : (shard : ℕ) (os : List (Place (Known C))) → AllByRecursion (λ o. HasLearned g o q) os
         → AllByRecursion (λ o. own_moments o.number (moments (opening_of g) (seen_of g shard q)) ≡ own_moments o.number (moments (opening_of g) (seen_of g shard o))) os
@@ -259,7 +270,7 @@ module _ {C : Type 0} (m : Meanings C) (cache : Cache) (p : Place (Known C)) (ot
       valid = given.stands.valid;
       of = record { row = given.stands.of.row; config = given.stands.of.config };
       free = given.stands.free;
-      cells = record { fronts = given.stands.cells.fronts; made = record { own = given.stands.cells.made.own; joined = tt } };
+      cells = record { own = given.stands.cells.own; joined = tt };
       idle = given.stands.idle;
       unclaimed = given.stands.unclaimed;
       seen = record { own = given.stands.seen.own; joined = tt };
@@ -273,7 +284,7 @@ module _ {C : Type 0} (m : Meanings C) (cache : Cache) (p : Place (Known C)) (ot
     last-of numbers is = subst (λ (x : List ℕ × List (Kept (Known C))). AreLast x.0 x.1) (λ i. (sym is i, sym kept-joined i)) (are-last others)
 
     module _ (numbers : List ℕ) (numbers_are : numbers ≡ map (λ o. o.number) others) (xs : List (Place (Known C))) (z : Place (Known C)) (parts : PartAll numbers r xs z) where
-      parted : (xs ≡ map (parted_from r) others) × (z ≡ left_alone r)
+      pub parted : (xs ≡ map (parted_from r) others) × (z ≡ left_alone r)
       parted = all-parted others numbers r xs z kept-joined (subst (λ (l : List ℕ). AreLast l (joined_of others)) (sym numbers_are) (are-last others)) parts
 
       left : MadeJoined cache more p others (left_alone r) (map (parted_from r) others)
@@ -290,6 +301,10 @@ module _ {C : Type 0} (m : Meanings C) (cache : Cache) (p : Place (Known C)) (ot
         own = have.self.own;
         others = λ shard. all-own shard others have.all;
         since = λ shard. starts-events (front_of (turn_of g shard) q.own.seen) (front_of (turn_of g shard) p.own.seen) (have.self.starts shard);
+        only = λ only.
+            let did = given.only (have.only only) in
+            record { events = did.events; entries = did.entries };
+        entries = λ none j a at range. none j a (subst (λ (l : List Mine). get_elem? l j ≡ some a) have.mine (given.left.mine j a range at)) range;
         one = one-front;
         same = λ before own rest shard. ap events_in (have.level before own rest shard);
       }

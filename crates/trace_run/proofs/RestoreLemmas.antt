@@ -26,14 +26,13 @@ use Rattle.arc_table.specs.Items.{Meanings}
 use Rattle.arc_table.specs.Seen.{AddsAll, HasAll, seen_of, turn_of}
 use Rattle.arc_table.specs.TableLaws.{starts_whole}
 use Rattle.arc_table.proofs.Afterwards.{Stays, does_ledger, does_stays, stays_party, stays_then}
-use Rattle.arc_table.proofs.MadeLemmas.{does-made}
-use Rattle.arc_table.proofs.MoveLemmas.{Moves, one-moves}
 use Rattle.arc_table.proofs.OwnLemmas.{grows}
 use Rattle.arc_table.proofs.reads.ReadMoments.{moment, own-single}
 use Rattle.l2_dev.specs.Rebuilding.{HaveKeys}
-use Rattle.trace_run.specs.KeptBlocks.{AllQuiet, ClaimsNothing, Stands, no_entries, times}
+use Rattle.trace_run.specs.KeptBlocks.{AllQuiet, ClaimsNothing, Stands, times}
 use Rattle.trace_run.specs.Restores.{restores_in}
-use Rattle.trace_run.proofs.CellsLeft.{does-leaves, leaves-seen}
+use Rattle.trace_run.proofs.CellsLeft.{does-leaves, leaves-same, leaves-seen, leaves-then}
+use Rattle.trace_run.proofs.MoveLemmas.{Moves, does-made-own, one-moves}
 use Rattle.trace_run.proofs.callers.MeetLemmas.{starts-then}
 use Rattle.trace_run.proofs.ResizeLemmas.{HasMade}
 
@@ -79,7 +78,7 @@ module _ {C : Type 0} (m : Meanings C) (cache : Cache) where
       valid = stands.valid;
       of = stays_party cache p q one-stays stands.of;
       free = one-stays.held ∙ stands.free;
-      cells = leaves-seen cache.config no_entries p q (does-leaves m cache.config stands.valid r.key (e ∷ []) p q stands.of.config does) stands.cells;
+      cells = leaves-seen cache.config p q (does-leaves m cache.config stands.valid r.key (e ∷ []) p q stands.of.config does) stands.cells;
       idle = one-readings ∙ stands.idle;
       unclaimed = one-unclaimed;
       seen = moves.seen;
@@ -90,7 +89,7 @@ module _ {C : Type 0} (m : Meanings C) (cache : Cache) where
     }
 
     one-starts : (i : ℕ) → StartsWith (front_of (turn_of cache.config i) q.own.seen) (front_of (turn_of cache.config i) p.own.seen)
-    one-starts = grows cache.config here does.before (e ∷ []) p q (does-made m cache.config stands.valid r.key (e ∷ []) p q stands.of.config stands.seen (own-single p.number e (sym feeder) refl) does)
+    one-starts = grows cache.config here does.before (e ∷ []) p q (does-made-own m cache.config stands.valid r.key p q stands.of.config stands.seen (e ∷ []) (own-single p.number e (sym feeder) refl) does)
 
   -- ---- all of them
 
@@ -101,6 +100,8 @@ module _ {C : Type 0} (m : Meanings C) (cache : Cache) where
     all = all;
     seen = λ s. sym (append-nil (seen_of g s p));
     starts = λ i. starts_whole (front_of (turn_of g i) p.own.seen);
+    left = leaves-same g p p refl;
+    only = λ only. only;
   })
   restored-to (r ∷ rs) p q feeder stands all did =
       let b = did.0 in
@@ -115,6 +116,8 @@ module _ {C : Type 0} (m : Meanings C) (cache : Cache) where
         all = rest.all;
         seen = λ s. rest.seen s ∙ more r rs s p b adds;
         starts = λ i. starts-then (front_of (turn_of g i) q.own.seen) (front_of (turn_of g i) b.own.seen) (front_of (turn_of g i) p.own.seen) (rest.starts i) (one-starts r p b feeder stands all did.1 i);
+        left = leaves-then g p b q (does-leaves m cache.config stands.valid r.key (Restore cache.config.callers r.key r.place r.digest ∷ []) p b stands.of.config did.1) rest.left;
+        only = λ only. rest.only (move.only only);
       }
     where
       more : (r : Restored) (rs : List Restored) (s : ℕ) (p b : Place (Known C)) → AddsAll g (shard_of g.shards r.key) (Restore g.callers r.key r.place r.digest ∷ []) p b

@@ -3,21 +3,21 @@ use Rattle.std.proofs.Common.{◌≡◌, ◌≢◌, ◌⊎◌, ℕ, zero, suc, �
 use Rattle.std.specs.Prelude.{IsPermutation, slice_get, slice_index_or}
 use Rattle.std.specs.List.{AllByRecursion}
 use Rattle.std.proofs.lemmas.Option.{slice_get_within}
+use mathlib.Core.Option.{some}
+use lib.ListN.{get_elem?}
 use Rattle.arc_core.specs.declared.config.Config.{Config}
 use Rattle.turn_table.specs.declared.standing.Kept.{Kept}
 use Rattle.turn_table.specs.Places.{Apart, SomeHas}
 use Rattle.arc_table.specs.declared.view.Known.{Known}
-use Rattle.arc_table.specs.declared.view.Line.{Line}
-use Rattle.arc_table.specs.declared.view.Line.TheVariants as line
+use Rattle.arc_table.specs.declared.view.Mine.{Mine}
 use Rattle.arc_table.specs.Cache.{Cache, IsPartyOf}
 use Rattle.arc_table.specs.Fronts.{front_of}
 use Rattle.arc_table.specs.Geometry.{IsCell, parties_of}
-use Rattle.arc_table.specs.Seen.{HasAll, seen_of}
+use Rattle.arc_table.specs.Seen.{AreSeen, HasAll, seen_of}
 use Rattle.dbuf_cells.specs.Turns.{KeepsClaims, OnHeap, PartyPlace, dbuf_meanings}
 use Rattle.dbuf_cells.specs.declared.kept.Kept.{Kept as Block}
 use Rattle.dbuf_state.specs.Dbufs.{dirty_oids, is_clean, plain_block, plain_dbuf}
 use Rattle.dbuf_state.specs.History.{Leads}
-use Rattle.dbuf_state.specs.Numbers.{event_numbers}
 use Rattle.dbuf_state.specs.Objects.{PlainCell, PlainDbuf, opened, opening_cell}
 use Rattle.dbuf_state.specs.Objects.{Uncached}
 use Rattle.dbuf_state.specs.Oids.{oid_eq}
@@ -30,7 +30,7 @@ use Rattle.dbuf_state.specs.declared.oid.Oid.{Oid}
 use Rattle.dbuf_state.specs.declared.state.DbState.{DbState}
 use Rattle.dbuf_state.specs.declared.state.Mapping.{Mapping}
 use Rattle.txg_sync.specs.Items.{SyncItem, due_in, dues_from, items_from, need_of, tells_written}
-use Rattle.txg_sync.specs.Syncing.{AnswersSync, AreAllDirty, IsUnharmed, IsUntouched, RefusedAt, RefusedFirst, Same, StopsAt, WritesAll}
+use Rattle.txg_sync.specs.Syncing.{AnswersSync, AreAllDirty, IsUnharmed, RefusedAt, RefusedFirst, Same, StopsAt, WritesAll}
 use Rattle.txg_sync.specs.declared.syncing.SyncFault.{SyncFault}
 use Rattle.txg_sync.specs.declared.syncing.SyncFault.TheVariants as fault
 use Rattle.txg_sync.specs.declared.syncing.Synced.{Synced}
@@ -39,12 +39,15 @@ use Rattle.trace_run.specs.callers.Group.{LeavesPool}
 use Rattle.txg_sync.specs.Turns.{GivesFrom, SyncsCells}
 use Rattle.txg_sync.specs.declared.due.Due.{Due}
 use Rattle.trace_run.specs.KeptBlocks.{AllQuiet, Stands, times}
+use Rattle.trace_run.specs.Making.{AreNoEntries, MadeItsOwn}
 use Rattle.trace_run.specs.Meeting.{AreLast, IsApart, JoinAll, MadeJoined, PartAll}
 use Rattle.trace_run.specs.Syncing.{SyncedJoined, SyncsJoined, inserts_in, lines_of}
-use Rattle.trace_run.proofs.CellEnds.{IsQuiet, no-front, no-list, nothing-from, quiet-then}
-use Rattle.trace_run.proofs.EndSteps.{have, q-stands}
-use Rattle.trace_run.proofs.ResizeLemmas.{HasMade, last-of, made-joined, q-all}
-use Rattle.trace_run.proofs.SyncSteps.{AreFound, AreInHand, HasGivenCells, HasTaken, IsFound, all-given, all-taken}
+use Rattle.trace_run.proofs.CellEnds.{IsUntouched, nothing-from}
+use Rattle.trace_run.proofs.CellsLeft.{LeavesCells}
+use Rattle.trace_run.proofs.EndSteps.{have, q-stands, untouched as untouched-by}
+use Rattle.trace_run.proofs.ResizeLemmas.{HasMade, last-of, made-joined, parted, q-all}
+use Rattle.trace_run.proofs.SyncSteps.{AreFound, AreInHand, HasGivenCells, HasTaken, HaveSameHistories, IsFound, IsQuiet, all-given, all-taken, quiet-then}
+use Rattle.trace_run.proofs.callers.MeetLemmas.{own-seen-more}
 
 -- ---- cells to which nothing was done have no dirty block
 
@@ -77,7 +80,8 @@ none-among cells dues none dirty = nothing-from (dues_from 0 cells) dues none di
 
 module _ (cache : Cache) (p : PartyPlace) (others : List PartyPlace) (stands : Stands cache p []) (alone : p.joined ≡ [])
     (apart : AllByRecursion (IsApart cache) others) (everyone : (n : ℕ) → n < parties_of cache.config → SomeHas n (p ∷ others)) (count : p.parties ≡ parties_of cache.config)
-    (differ : AllByRecursion (λ o. o.number ≢ p.number) others) (q : PartyPlace) (joins : JoinAll dbuf_meanings others p q) where
+    (differ : AllByRecursion (λ o. o.number ≢ p.number) others) (q : PartyPlace) (joins : JoinAll dbuf_meanings others p q)
+    (unwritten : AllByRecursion (λ o. AreNoEntries cache.config o.own.mine) (p ∷ others)) where
   abbrev g : Config
   g = cache.config
 
@@ -87,19 +91,16 @@ module _ (cache : Cache) (p : PartyPlace) (others : List PartyPlace) (stands : S
   has-all : HasAll q
   has-all = q-all dbuf_meanings cache p others stands alone apart everyone count differ q joins
 
+  -- nothing was done to a cell before
+  unused : IsUntouched g 0 q
+  unused = untouched-by cache p others stands alone apart everyone count differ q joins unwritten.0 unwritten.1
+
   module _ (tick : ℕ) (cells : List OnHeap) (xs : List SyncItem) (Besides : PartyPlace → PartyPlace → Type 0) (r : PartyPlace) (s : SyncsCells g tick cells xs Besides q r) where
     taken : HasTaken g stands.valid 0 cells q s.taken
-    taken = all-taken g stands.valid 0 cells q s.taken (let e = s.all in omega arith) stood.of.config stood.seen has-all stood.cells.made s.takes
-
-    no-histories : (i : ℕ) (cs : List OnHeap) (x : PartyPlace) → i + length cs ≤ g.cells → ((j : ℕ) → IsCell g j → front_of j x.own.seen ≡ []) → AreInHand i cs x → AllByRecursion (λ c. c.value.history ≡ []) cs
-    no-histories i [] x inside none hand = tt
-    no-histories i (c ∷ cs) x inside none hand = (
-      no-list event_numbers c.value.history (no-front (map event_numbers c.value.history) (sym hand.0.seen ∙ none i (omega (arith, inside)))),
-      no-histories (suc i) cs x (omega (arith, inside)) none hand.1,
-    )
+    taken = all-taken g stands.valid 0 cells q s.taken (let e = s.all in omega arith) stood.of.config stood.seen has-all stood.cells s.takes
 
     no-history : AllByRecursion (λ c. c.value.history ≡ []) cells
-    no-history = no-histories 0 cells s.taken (let e = s.all in omega arith) (λ j in_range. taken.fronts j ∙ stood.cells.fronts j in_range) taken.hand
+    no-history = taken.fresh unused
 
     -- no block is dirty
     pub nothing-due : dues_from 0 cells ≡ []
@@ -140,33 +141,57 @@ module _ (cache : Cache) (p : PartyPlace) (others : List PartyPlace) (stands : S
     inside : 0 + length s.afters ≤ g.cells
     inside = let e = s.all in let f = s.count in omega arith
 
-    given : HasGivenCells g stands.valid 0 s.afters s.taken r
+    given : HasGivenCells g stands.valid 0 cells s.afters s.taken r
     given = all-given g stands.valid 0 cells s.afters s.taken r many inside t.quiet.sees t.quiet.all t.made t.hand (subst (λ (x : PartyPlace). GivesFrom 0 s.afters x r) worked-is s.gives)
+
+    quiet : IsQuiet g q r
+    quiet = quiet-then g q s.taken r t.quiet given.quiet
 
     some-cell : (cs : List OnHeap) (i : ℕ) → i < length cs → OnHeap
     some-cell [] i below = absurd (omega (arith, below))
     some-cell (c ∷ cs) i below = c
 
-    index-none : (cs : List OnHeap) (i : ℕ) (d : OnHeap) → i < length cs → AllByRecursion (λ c. c.value.history ≡ []) cs → (slice_index_or cs i d).value.history ≡ []
-    index-none [] i d below none = absurd (omega (arith, below))
-    index-none (c ∷ cs) zero d below none = none.0
-    index-none (c ∷ cs) (suc i) d below none = index-none cs i d (omega (arith, below)) none.1
+    same-history : (i : ℕ) (d : OnHeap) → i < length cells → (slice_index_or s.afters i d).value.history ≡ (slice_index_or cells i d).value.history
+    same-history i d below = (s.synced i d below).history ∙ append-nil (slice_index_or cells i d).value.history
 
-    fronts-none : (i : ℕ) → IsCell g i → front_of i r.own.seen ≡ []
-    fronts-none i in_range =
+    same-from : (bs afters : List OnHeap) → length bs ≡ length afters → ((i : ℕ) (d : OnHeap) → i < length bs → (slice_index_or afters i d).value.history ≡ (slice_index_or bs i d).value.history)
+        → HaveSameHistories g stands.valid bs afters
+    same-from [] [] long each = tt
+    same-from [] (a ∷ afters) long each = absurd (omega (arith, long))
+    same-from (b ∷ bs) [] long each = absurd (omega (arith, long))
+    same-from (b ∷ bs) (a ∷ afters) long each = (each 0 b (omega arith), same-from bs afters (omega (arith, long)) (λ i d below. each (suc i) d (omega (arith, below))))
+
+    -- the party made nothing
+    mine : r.own.mine ≡ q.own.mine
+    mine = given.mine (same-from cells s.afters many same-history) ∙ t.mine
+
+    hand-at : (i k : ℕ) (cs : List OnHeap) (d : OnHeap) (x : PartyPlace) → AreInHand i cs x → k < length cs → front_of (i + k) x.own.seen ≡ lines_of (slice_index_or cs k d).value.history
+    hand-at i k [] d x hand below = absurd (omega (arith, below))
+    hand-at i zero (c ∷ cs) d x hand below = let z : i + zero ≡ i = omega arith in ap (λ (n : ℕ). front_of n x.own.seen) z ∙ hand.0.seen
+    hand-at i (suc k) (c ∷ cs) d x hand below = let z : i + suc k ≡ suc i + k = omega arith in ap (λ (n : ℕ). front_of n x.own.seen) z ∙ hand-at (suc i) k cs d x hand.1 (omega (arith, below))
+
+    taken-front : (i : ℕ) (d : OnHeap) → i < length cells → front_of i s.taken.own.seen ≡ lines_of (slice_index_or cells i d).value.history
+    taken-front i d below =
+        let z : 0 + i ≡ i = omega arith in
+        subst (λ (n : ℕ). front_of n s.taken.own.seen ≡ lines_of (slice_index_or cells i d).value.history) z (hand-at 0 i cells d s.taken t.hand below)
+
+    after-front : (i : ℕ) (d : OnHeap) → i < length cells → front_of i r.own.seen ≡ lines_of (slice_index_or cells i d).value.history
+    after-front i d below =
+        let z : 0 + i ≡ i = omega arith in
+        subst (λ (n : ℕ). front_of n r.own.seen ≡ lines_of (slice_index_or s.afters i d).value.history) z (given.each i d (let f = s.count in omega (arith, below))) ∙ ap lines_of (same-history i d below)
+
+    same-fronts : (i : ℕ) → IsCell g i → front_of i r.own.seen ≡ front_of i q.own.seen
+    same-fronts i in_range =
         let below : i < length cells = let e = s.all in omega (arith, in_range) in
         let d : OnHeap = some-cell cells i below in
-        let one = s.synced i d below in
-        let after : (slice_index_or s.afters i d).value.history ≡ [] = one.history ∙ (append-nil (slice_index_or cells i d).value.history ∙ index-none cells i d below (no-history tick cells [] Same r s)) in
-        let z : 0 + i ≡ i = omega arith in
-        subst (λ (n : ℕ). front_of n r.own.seen ≡ []) z (given.each i d (let f = s.count in omega (arith, below)) ∙ ap lines_of after)
+        after-front i d below ∙ (sym (taken-front i d below) ∙ t.fronts i)
 
     r-stands : Stands cache r []
     r-stands = record {
       valid = stands.valid;
       of = of;
       free = free;
-      cells = record { fronts = fronts-none; made = given.made };
+      cells = given.made;
       idle = given.quiet.readings ∙ (t.quiet.readings ∙ stood.idle);
       unclaimed = λ i. claims i ∙ stood.unclaimed i;
       seen = given.quiet.sees;
@@ -175,21 +200,27 @@ module _ (cache : Cache) (p : PartyPlace) (others : List PartyPlace) (stands : S
       owned = tt;
       listed = λ x. ap (times x) quiet.holds ∙ stood.listed x;
     }
-      where
-        quiet : IsQuiet g q r
-        quiet = quiet-then g q s.taken r t.quiet given.quiet
+
+    r-left : LeavesCells g q r
+    r-left = record {
+      stays = record { table = quiet.table; parties = quiet.parties; number = quiet.number; joined = quiet.joined; held = free ∙ sym stood.free; about = quiet.about };
+      fronts = same-fronts;
+      mine = λ j a in_range at. subst (λ (l : List Mine). get_elem? l j ≡ some a) mine at;
+    }
 
     made : HasMade cache (inserts_in g tick []) q r
     made = record {
-      stays = record { table = quiet.table; parties = quiet.parties; number = quiet.number; joined = quiet.joined; held = free ∙ sym stood.free; about = quiet.about };
+      stays = r-left.stays;
       stands = r-stands;
       all = quiet.all;
       seen = λ shard. quiet.shards shard ∙ sym (append-nil (seen_of g shard q));
       starts = quiet.starts;
+      left = r-left;
+      only = λ only. record {
+        events = subst (λ (x : ℕ × List Mine). AreSeen g x.0 x.1 r.own.seen) (λ i. (sym quiet.number i, sym mine i)) (own-seen-more g q.number q.own.mine q.own.seen r.own.seen quiet.starts only.events);
+        entries = subst (AreNoEntries g) (sym mine) only.entries;
+      };
     }
-      where
-        quiet : IsQuiet g q r
-        quiet = quiet-then g q s.taken r t.quiet given.quiet
 
     pub synced-last : (numbers : List ℕ) → numbers ≡ map (λ o. o.number) others → AreLast numbers r.joined
     synced-last = last-of dbuf_meanings cache p others stands alone apart everyone count differ q joins (inserts_in g tick []) r made (λ shard. tt)
@@ -211,12 +242,15 @@ module _ (cache : Cache) (p : PartyPlace) (others : List PartyPlace) (stands : S
             let w : 0 + i ≡ i = omega arith in
             f.began ∙ (λ k. slice_index_or (about-is k).openings (w k) []);
         noted = λ i c at.
-            let none = none-at tick cells [] Same r s i cells c (no-history tick cells [] Same r s) at in
-            whole.stands.cells.fronts i (in-range i c at) ∙ sym (ap (λ (h : List CellEvent). lines_of h ++ []) none);
+            ap (λ (x : PartyPlace). front_of i x.own.seen) (parted dbuf_meanings cache p others stands alone apart everyone count differ q joins (inserts_in g tick []) r made (λ shard. tt) numbers numbers_are news z parts).1
+            ∙ (after-front i c (slice_get_within cells i c at) ∙ (ap (λ (x : OnHeap). lines_of x.value.history) (index-at i cells c at) ∙ sym (append-nil (lines_of c.value.history))));
+        fresh = λ own rest i c at. none-at tick cells [] Same r s i cells c (no-history tick cells [] Same r s) at;
       }
         where
-          in-range : (i : ℕ) (c : OnHeap) → slice_get cells i ≡ Some c → IsCell g i
-          in-range i c at = let w = slice_get_within cells i c at in let e = s.all in omega (arith, w)
+          index-at : (k : ℕ) (cs : List OnHeap) (c : OnHeap) → slice_get cs k ≡ Some c → slice_index_or cs k c ≡ c
+          index-at k [] c at = refl
+          index-at zero (x ∷ cs) c at = cc
+          index-at (suc k) (x ∷ cs) c at = index-at k cs c at
 
   -- ---- the answers
 

@@ -1,11 +1,14 @@
--- A party that has every number takes all cells and gives them back: what it has seen then, and what it found.
+-- A party that has every number takes all cells and gives them back: what it has seen then, and what it found and made.
 use Rattle.std.proofs.Common.{◌≡◌, ◌≢◌, ◌⊎◌, ℕ, zero, suc, ◌+◌, ◌<◌, ◌≤◌, List, [], ◌∷◌, ◌++◌, length, map, Option, Some, refl, sym, ap, ◌∙◌, subst, inl, inr, arith, append-nil}
-use Rattle.std.specs.Prelude.{slice_index_or}
+use Rattle.std.specs.Prelude.{◌-◌, slice_index_or}
+use Rattle.std.specs.List.{AllByRecursion}
+use Rattle.std.specs.Option.{option_map_or}
 use mathlib.Core.Logic.{dite}
 use native.Mathlib.Decide.{ℕ_discrete}
 use Rattle.arc_core.specs.Config.{IsConfig}
 use Rattle.arc_core.specs.declared.config.Config.{Config}
-use Rattle.turn_table.specs.Places.{IsIn, gave_back}
+use Rattle.turn_table.specs.Places.{IsIn, gave_back, saw}
+use Rattle.turn_table.specs.Board.{IsAmong}
 use Rattle.turn_table.specs.declared.standing.Kept.{Kept}
 use Rattle.arc_table.specs.declared.about.About.{About}
 use Rattle.arc_table.specs.declared.item.Item.{Item}
@@ -19,19 +22,71 @@ use Rattle.arc_table.specs.Cells.{IsTakenCell, SeesAll}
 use Rattle.arc_table.specs.Fronts.{StartsWith, front_of, item_at}
 use Rattle.arc_table.specs.Geometry.{IsCell}
 use Rattle.arc_table.specs.Giving.{IsGivenCell}
-use Rattle.arc_table.specs.Seen.{FindsEntries, HasAll, HasSeenItsEntries, HasSeenItsOwn, events_in, seen_of, turn_of}
+use Rattle.arc_table.specs.Items.{lines_in}
+use Rattle.arc_table.specs.Seen.{FindsEntries, HasAll, HasSeenItsEntries, events_in, seen_of, turn_of}
 use Rattle.arc_table.specs.TableLaws.{item_else, starts_whole}
 use Rattle.arc_table.proofs.TableLaws.{front_else, front_here, without_else}
-use Rattle.arc_table.specs.Views.{after_cell}
+use Rattle.arc_table.specs.Views.{after_cell, mines_from, recorded}
 use Rattle.arc_table.proofs.cell_lemmas.CellsInHand.{taken-cell}
-use Rattle.arc_table.proofs.cell_lemmas.EntriesSeen.{given-entries, given-sees, seen-at-take, took-sees}
-use Rattle.arc_table.proofs.Reached.{Took, took_is}
+use Rattle.arc_table.proofs.cell_lemmas.EntriesSeen.{given-entries, given-sees, seen-at-take}
+use Rattle.arc_table.proofs.Reached.{Took, loses_same, took_is}
 use Rattle.dbuf_cells.specs.Turns.{OnHeap, PartyPlace, dbuf_meanings}
 use Rattle.dbuf_state.specs.Numbers.{event_numbers}
 use Rattle.dbuf_state.specs.Soundness.{IsSound}
 use Rattle.txg_sync.specs.Turns.{GivesFrom, TakesFrom}
+use Rattle.trace_run.specs.Making.{HasSeenItsEvents}
 use Rattle.trace_run.specs.Syncing.{lines_of}
-use Rattle.trace_run.proofs.CellEnds.{IsQuiet, quiet-same, quiet-then, weaker}
+use Rattle.trace_run.proofs.CellEnds.{IsUntouched, NoneFrom, all-later, none-later, untouched-history}
+use Rattle.trace_run.proofs.callers.MeetLemmas.{starts-then}
+
+-- ---- what a party with every number has seen, while it makes no event of a shard
+
+-- It has seen of shards what it had, and lists what it did.
+pub record IsQuiet (g : Config) (p q : PartyPlace) : Type 0 where
+  pub table : q.table ≡ p.table
+  pub parties : q.parties ≡ p.parties
+  pub number : q.number ≡ p.number
+  pub joined : q.joined ≡ p.joined
+  pub about : q.own.about ≡ p.own.about
+  pub holds : q.own.ledger.holds ≡ p.own.ledger.holds
+  pub readings : q.own.ledger.readings ≡ p.own.ledger.readings
+  pub sees : HasSeenItsEvents g q
+  pub all : HasAll q
+  pub shards : (shard : ℕ) → seen_of g shard q ≡ seen_of g shard p
+  pub starts : (i : ℕ) → StartsWith (front_of (turn_of g i) q.own.seen) (front_of (turn_of g i) p.own.seen)
+
+module _ (g : Config) where
+  quiet-same : (p q : PartyPlace) → HasSeenItsEvents g p → HasAll p → q ≡ p → IsQuiet g p q
+  quiet-same p q sees all e = subst (IsQuiet g p) (sym e) record {
+    table = refl;
+    parties = refl;
+    number = refl;
+    joined = refl;
+    about = refl;
+    holds = refl;
+    readings = refl;
+    sees = sees;
+    all = all;
+    shards = λ shard. refl;
+    starts = λ i. starts_whole (front_of (turn_of g i) p.own.seen);
+  }
+
+  pub quiet-then : (p q r : PartyPlace) → IsQuiet g p q → IsQuiet g q r → IsQuiet g p r
+  quiet-then p q r a b = record {
+    table = b.table ∙ a.table;
+    parties = b.parties ∙ a.parties;
+    number = b.number ∙ a.number;
+    joined = b.joined ∙ a.joined;
+    about = b.about ∙ a.about;
+    holds = b.holds ∙ a.holds;
+    readings = b.readings ∙ a.readings;
+    sees = b.sees;
+    all = b.all;
+    shards = λ shard. b.shards shard ∙ a.shards shard;
+    starts = λ i. starts-then (front_of (turn_of g i) r.own.seen) (front_of (turn_of g i) q.own.seen) (front_of (turn_of g i) p.own.seen) (b.starts i) (a.starts i);
+  }
+
+-- ---- cells in hand
 
 -- what a cell is to a party that has it in hand: it is recorded, and the party has seen all that was done to it
 pub record IsInHand (i : ℕ) (c : OnHeap) (p : PartyPlace) : Type 0 where
@@ -52,7 +107,7 @@ abbrev pub AreFound : (i : ℕ) → PartyPlace → List OnHeap → Type 0
 AreFound i p [] = Unit {0}
 AreFound i p (c ∷ cs) = IsFound i p c × AreFound (suc i) p cs
 
-in-hand-as : (i : ℕ) (cs : List OnHeap) (p q : PartyPlace) → ((j : ℕ) → i ≤ j → j < i + length cs → (item_at j q.own.records ≡ item_at j p.own.records) × (front_of j q.own.seen ≡ front_of j p.own.seen)) → AreInHand i cs p → AreInHand i cs q
+pub in-hand-as : (i : ℕ) (cs : List OnHeap) (p q : PartyPlace) → ((j : ℕ) → i ≤ j → j < i + length cs → (item_at j q.own.records ≡ item_at j p.own.records) × (front_of j q.own.seen ≡ front_of j p.own.seen)) → AreInHand i cs p → AreInHand i cs q
 in-hand-as i [] p q same hand = tt
 in-hand-as i (c ∷ cs) p q same hand =
     let here = same i (omega arith) (omega arith) in (
@@ -63,13 +118,13 @@ in-hand-as i (c ∷ cs) p q same hand =
 module _ (g : Config) (valid : IsConfig g) where
   -- ---- taking
 
-  module _ (i : ℕ) (in_range : IsCell g i) (c : OnHeap) (p r : PartyPlace) (config : p.own.about.config ≡ g) (sees : HasSeenItsOwn g p) (all : HasAll p) (made : HasSeenItsEntries g p)
+  module _ (i : ℕ) (in_range : IsCell g i) (c : OnHeap) (p r : PartyPlace) (config : p.own.about.config ≡ g) (sees : HasSeenItsEvents g p) (all : HasAll p) (made : HasSeenItsEntries g p)
       (t : Takes dbuf_meanings i (item.Cell c) p r) where
     took : Took dbuf_meanings i (item.Cell c) p r
     took = took_is dbuf_meanings i (item.Cell c) p r t
 
     at-take : SeesAll g r × FindsEntries i p (map event_numbers c.value.history)
-    at-take = let h = seen-at-take dbuf_meanings g i c t.owners t.knew p config in_range t.lost t.free (weaker g p sees, made) in (subst (SeesAll g) (sym t.took) h.0, h.1)
+    at-take = let h = seen-at-take dbuf_meanings g i c t.owners t.knew p config in_range t.lost t.free (sees, made) in (subst (SeesAll g) (sym t.took) h.0, h.1)
 
     known : IsTakenCell dbuf_meanings g i c p r
     known = subst (IsTakenCell dbuf_meanings g i c p) (sym t.took) (taken-cell dbuf_meanings g i c t.owners t.knew p valid config in_range t.lost t.free)
@@ -92,11 +147,17 @@ module _ (g : Config) (valid : IsConfig g) where
       about = took.about;
       holds = ap (λ (l : Ledger). l.holds) took.ledger;
       readings = ap (λ (l : Ledger). l.readings) took.ledger;
-      sees = took-sees dbuf_meanings g i c p r in_range took sees;
+      sees = at-take.0.0;
       all = λ k below. subst (λ (x : ℕ × List (Kept (Known OnHeap))). (x.0 ≡ k) ⊎ IsIn k x.1) (λ z. (sym took.number z, sym took.joined z)) (all k (subst (λ (x : ℕ). k < x) took.parties below));
       shards = λ shard. ap events_in (take-fronts (turn_of g shard));
       starts = λ k. subst (λ (l : List Line). StartsWith l (front_of (turn_of g k) p.own.seen)) (sym (take-fronts (turn_of g k))) (starts_whole (front_of (turn_of g k) p.own.seen));
     }
+
+    pub take-held : r.held ≡ i ∷ p.held
+    take-held = took.held
+
+    pub take-mine : r.own.mine ≡ p.own.mine
+    take-mine = took.mine
 
     pub take-made : HasSeenItsEntries g r
     take-made = at-take.0.1
@@ -107,6 +168,19 @@ module _ (g : Config) (valid : IsConfig g) where
     pub take-found : IsFound i p c
     take-found = record { sound = known.sound; began = known.opening ∙ ap (λ (a : About). slice_index_or a.openings i []) took.about }
 
+    -- nothing was done to it, where nobody had done anything to a cell from it on
+    pub take-fresh : IsUntouched g i p → c.value.history ≡ []
+    take-fresh none = untouched-history g i in_range c (saw p t.knew) all t.free record {
+      own = subst (NoneFrom g i) (sym (loses_same dbuf_meanings i t.owners p (saw p t.knew) t.lost).mine) none.own;
+      joined = none.joined;
+    }
+
+    pub take-untouched : IsUntouched g i p → IsUntouched g (suc i) r
+    take-untouched none = record {
+      own = none-later g i r.own.mine (subst (NoneFrom g i) (sym took.mine) none.own);
+      joined = all-later g i r.joined (subst (AllByRecursion (λ k. NoneFrom g i k.view.mine)) (sym took.joined) none.joined);
+    }
+
     pub take-else : (j : ℕ) → j ≢ i → item_at j r.own.records ≡ item_at j p.own.records
     take-else j differs = ap (item_at j) took.records ∙ item_else i j (item.Cell c) p.own.records differs
 
@@ -114,23 +188,32 @@ module _ (g : Config) (valid : IsConfig g) where
   pub record HasTaken (i : ℕ) (cs : List OnHeap) (p q : PartyPlace) : Type 0 where
     pub quiet : IsQuiet g p q
     pub made : HasSeenItsEntries g q
+    pub mine : q.own.mine ≡ p.own.mine
+    pub held : (j : ℕ) → (i ≤ j) × (j < i + length cs) ⊎ IsAmong j p.held → IsAmong j q.held
     pub fronts : (j : ℕ) → front_of j q.own.seen ≡ front_of j p.own.seen
     pub below : (j : ℕ) → j < i → item_at j q.own.records ≡ item_at j p.own.records
     pub hand : AreInHand i cs q
     pub found : AreFound i p cs
+    pub fresh : IsUntouched g i p → AllByRecursion (λ c. c.value.history ≡ []) cs
 
   found-as : (i : ℕ) (cs : List OnHeap) (p r : PartyPlace) → r.own.about ≡ p.own.about → AreFound i r cs → AreFound i p cs
   found-as i [] p r same found = tt
   found-as i (c ∷ cs) p r same found = (record { sound = found.0.sound; began = found.0.began ∙ ap (λ (a : About). slice_index_or a.openings i []) same }, found-as (suc i) cs p r same found.1)
 
-  pub all-taken : (i : ℕ) (cs : List OnHeap) (p q : PartyPlace) → i + length cs ≤ g.cells → p.own.about.config ≡ g → HasSeenItsOwn g p → HasAll p → HasSeenItsEntries g p → TakesFrom i cs p q → HasTaken i cs p q
+  pub all-taken : (i : ℕ) (cs : List OnHeap) (p q : PartyPlace) → i + length cs ≤ g.cells → p.own.about.config ≡ g → HasSeenItsEvents g p → HasAll p → HasSeenItsEntries g p → TakesFrom i cs p q → HasTaken i cs p q
   all-taken i [] p q inside config sees all made is = subst (HasTaken i [] p) (sym is) record {
     quiet = quiet-same g p p sees all refl;
     made = made;
+    mine = refl;
+    held = λ j which. elim which [
+      | inl new ↦ absurd (omega (arith, new.0, new.1))
+      | inr old ↦ old
+    ];
     fronts = λ j. refl;
     below = λ j lt. refl;
     hand = tt;
     found = tt;
+    fresh = λ none. tt;
   }
   all-taken i (c ∷ cs) p q inside config sees all made t =
       let r = t.0 in
@@ -141,15 +224,23 @@ module _ (g : Config) (valid : IsConfig g) where
       record {
         quiet = quiet-then g p r q quiet rest.quiet;
         made = rest.made;
+        mine = rest.mine ∙ take-mine i in_range c p r config sees all made t.1;
+        held = λ j which. rest.held j (elim which [
+          | inl new ↦ dite (ℕ_discrete j i)
+              (λ is. inr (subst (IsAmong j) (sym (take-held i in_range c p r config sees all made t.1)) (inl (sym is))))
+              (λ differs. inl (omega (arith, new.0, differs), omega (arith, new.1)))
+          | inr old ↦ inr (subst (IsAmong j) (sym (take-held i in_range c p r config sees all made t.1)) (inr old))
+        ]);
         fronts = λ j. rest.fronts j ∙ take-fronts i in_range c p r config sees all made t.1 j;
         below = λ j lt. rest.below j (omega (arith, lt)) ∙ take-else i in_range c p r config sees all made t.1 j (λ is. omega (arith, lt, is));
         hand = (record { recorded = rest.below i (omega arith) ∙ first.recorded; seen = rest.fronts i ∙ first.seen }, rest.hand);
         found = (take-found i in_range c p r config sees all made t.1, found-as (suc i) cs p r quiet.about rest.found);
+        fresh = λ none. (take-fresh i in_range c p r config sees all made t.1 none, rest.fresh (take-untouched i in_range c p r config sees all made t.1 none));
       }
 
   -- ---- giving back
 
-  module _ (i : ℕ) (in_range : IsCell g i) (b a : OnHeap) (w q : PartyPlace) (sees : HasSeenItsOwn g w) (all : HasAll w) (made : HasSeenItsEntries g w) (hand : IsInHand i b w)
+  module _ (i : ℕ) (in_range : IsCell g i) (b a : OnHeap) (w q : PartyPlace) (sees : HasSeenItsEvents g w) (all : HasAll w) (made : HasSeenItsEntries g w) (hand : IsInHand i b w)
       (given : IsGivenCell dbuf_meanings w.number i a w.own) (gave : q ≡ gave_back w i (after_cell dbuf_meanings i (item.Cell a) w.own)) where
     abbrev back : PartyPlace
     back = gave_back w i (after_cell dbuf_meanings i (item.Cell a) w.own)
@@ -190,6 +281,16 @@ module _ (g : Config) (valid : IsConfig g) where
     pub give-quiet : IsQuiet g w q
     give-quiet = subst (IsQuiet g w) (sym gave) back-quiet
 
+    -- where it is given back as it was taken, the party made nothing
+    pub give-mine : a.value.history ≡ b.value.history → q.own.mine ≡ w.own.mine
+    give-mine same = ap (λ (x : PartyPlace). x.own.mine) gave ∙ (ap (λ (n : ℕ). w.own.mine ++ mines_from i (length (recorded dbuf_meanings i w.own)) n) none ∙ append-nil w.own.mine)
+      where
+        had : recorded dbuf_meanings i w.own ≡ lines_of b.value.history
+        had = ap (λ (o : Option (Item OnHeap)). option_map_or (lines_in dbuf_meanings) o []) hand.recorded
+
+        none : length (lines_of a.value.history) - length (recorded dbuf_meanings i w.own) ≡ 0
+        none = let long : length (recorded dbuf_meanings i w.own) ≡ length (lines_of a.value.history) = ap length (had ∙ ap lines_of (sym same)) in omega (arith, long)
+
     pub give-made : HasSeenItsEntries g q
     give-made = subst (HasSeenItsEntries g) (sym gave) (given-entries dbuf_meanings g i a w in_range given front made)
 
@@ -202,19 +303,27 @@ module _ (g : Config) (valid : IsConfig g) where
     pub give-records : (j : ℕ) → j ≢ i → item_at j q.own.records ≡ item_at j w.own.records
     give-records j differs = ap (λ (x : PartyPlace). item_at j x.own.records) gave ∙ without_else i j w.own.records differs
 
-  -- all cells of the numbers from this one on were given back, and are so now
-  pub record HasGivenCells (i : ℕ) (afters : List OnHeap) (p q : PartyPlace) : Type 0 where
+  -- these cells have the histories of those
+  abbrev pub HaveSameHistories : (bs afters : List OnHeap) → Type 0
+  HaveSameHistories [] [] = Unit {0}
+  HaveSameHistories (b ∷ bs) (a ∷ afters) = (a.value.history ≡ b.value.history) × HaveSameHistories bs afters
+  HaveSameHistories _ _ = ⊥
+
+  -- all cells of the numbers from this one on were given back, which had been so, and are so now
+  pub record HasGivenCells (i : ℕ) (bs afters : List OnHeap) (p q : PartyPlace) : Type 0 where
     pub quiet : IsQuiet g p q
     pub made : HasSeenItsEntries g q
+    pub mine : HaveSameHistories bs afters → q.own.mine ≡ p.own.mine
     pub below : (j : ℕ) → j < i → (item_at j q.own.records ≡ item_at j p.own.records) × (front_of j q.own.seen ≡ front_of j p.own.seen)
     pub each : (k : ℕ) (d : OnHeap) → k < length afters → front_of (i + k) q.own.seen ≡ lines_of (slice_index_or afters k d).value.history
 
   -- one more of them was, and is so now
-  more-given : (i : ℕ) (in_range : IsCell g i) (b a : OnHeap) (afters : List OnHeap) (p r q : PartyPlace) (rest : HasGivenCells (suc i) afters p r) (hand : IsInHand i b r) (given : IsGivenCell dbuf_meanings r.number i a r.own)
-      (gave : q ≡ gave_back r i (after_cell dbuf_meanings i (item.Cell a) r.own)) → HasGivenCells i (a ∷ afters) p q
-  more-given i in_range b a afters p r q rest hand given gave = record {
+  more-given : (i : ℕ) (in_range : IsCell g i) (b a : OnHeap) (bs afters : List OnHeap) (p r q : PartyPlace) (rest : HasGivenCells (suc i) bs afters p r) (hand : IsInHand i b r) (given : IsGivenCell dbuf_meanings r.number i a r.own)
+      (gave : q ≡ gave_back r i (after_cell dbuf_meanings i (item.Cell a) r.own)) → HasGivenCells i (b ∷ bs) (a ∷ afters) p q
+  more-given i in_range b a bs afters p r q rest hand given gave = record {
     quiet = quiet-then g p r q rest.quiet (give-quiet i in_range b a r q rest.quiet.sees rest.quiet.all rest.made hand given gave);
     made = give-made i in_range b a r q rest.quiet.sees rest.quiet.all rest.made hand given gave;
+    mine = λ same. give-mine i in_range b a r q rest.quiet.sees rest.quiet.all rest.made hand given gave same.0 ∙ rest.mine same.1;
     below = λ j lt. (
       give-records i in_range b a r q rest.quiet.sees rest.quiet.all rest.made hand given gave j (λ is. omega (arith, lt, is)) ∙ (rest.below j (omega (arith, lt))).0,
       give-else i in_range b a r q rest.quiet.sees rest.quiet.all rest.made hand given gave j (λ is. omega (arith, lt, is)) ∙ (rest.below j (omega (arith, lt))).1,
@@ -231,11 +340,12 @@ module _ (g : Config) (valid : IsConfig g) where
           ap (λ (n : ℕ). front_of n q.own.seen) z
           ∙ (give-else i in_range b a r q rest.quiet.sees rest.quiet.all rest.made hand given gave (suc i + k) (λ is. omega (arith, is)) ∙ rest.each k d (omega (arith, lt)))
 
-  pub all-given : (i : ℕ) (bs afters : List OnHeap) (p q : PartyPlace) → length bs ≡ length afters → i + length afters ≤ g.cells → HasSeenItsOwn g p → HasAll p → HasSeenItsEntries g p → AreInHand i bs p → GivesFrom i afters p q
-      → HasGivenCells i afters p q
-  all-given i [] [] p q same inside sees all made hand is = subst (HasGivenCells i [] p) (sym is) record {
+  pub all-given : (i : ℕ) (bs afters : List OnHeap) (p q : PartyPlace) → length bs ≡ length afters → i + length afters ≤ g.cells → HasSeenItsEvents g p → HasAll p → HasSeenItsEntries g p → AreInHand i bs p → GivesFrom i afters p q
+      → HasGivenCells i bs afters p q
+  all-given i [] [] p q same inside sees all made hand is = subst (HasGivenCells i [] [] p) (sym is) record {
     quiet = quiet-same g p p sees all refl;
     made = made;
+    mine = λ same. refl;
     below = λ j lt. (refl, refl);
     each = λ k d lt. absurd (omega (arith, lt));
   }
@@ -245,4 +355,4 @@ module _ (g : Config) (valid : IsConfig g) where
       let r = gives.0 in
       let rest = all-given (suc i) bs afters p r (omega (arith, same)) (omega (arith, inside)) sees all made hand.1 gives.1 in
       let still = rest.below i (omega arith) in
-      more-given i (omega (arith, inside)) b a afters p r q rest (record { recorded = still.0 ∙ hand.0.recorded; seen = still.1 ∙ hand.0.seen }) gives.2 gives.3
+      more-given i (omega (arith, inside)) b a bs afters p r q rest (record { recorded = still.0 ∙ hand.0.recorded; seen = still.1 ∙ hand.0.seen }) gives.2 gives.3

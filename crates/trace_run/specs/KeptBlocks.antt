@@ -17,20 +17,18 @@ use Rattle.turn_table.specs.declared.standing.Kept.{Kept as Joined}
 use Rattle.turn_table.specs.Places.{Apart, Place}
 use Rattle.arc_table.specs.declared.view.Known.{Known}
 use Rattle.arc_table.specs.declared.view.Ledger.{Ledger}
-use Rattle.arc_table.specs.declared.view.Line.{Line}
 use Rattle.arc_table.specs.Both.{Does}
 use Rattle.arc_table.specs.Cache.{Cache, IsPartyOf}
-use Rattle.arc_table.specs.Fronts.{front_of, list_at}
-use Rattle.arc_table.specs.Geometry.{IsCell}
+use Rattle.arc_table.specs.Fronts.{list_at}
 use Rattle.arc_table.specs.Holding.{ptr_of}
 use Rattle.arc_table.specs.Items.{Meanings}
 use Rattle.trace_run.specs.declared.kept_blocks.KeptBlock.{KeptBlock}
 use Rattle.trace_run.specs.KeptReads.{KeptRead, kept_read}
 use Rattle.trace_run.specs.one_caller.OneCaller.{events_of_drops}
-use Rattle.arc_table.specs.Seen.{AddsAll, HasAll, HasSeenItsEntries, HasSeenItsOwn, seen_of}
+use Rattle.arc_table.specs.Seen.{AddsAll, HasAll, HasSeenItsEntries, seen_of}
 use Rattle.trace_run.specs.one_caller.Access.{events_of_drop}
 use Rattle.trace_run.specs.Acts.{acts_of_drop}
-use Rattle.arc_table.specs.Told.{IsTold}
+use Rattle.trace_run.specs.Making.{HasSeenItsEvents, HasTold}
 
 -- the key of the entry that is held for a kept block: a loose one holds none
 abbrev pub held_key : Kept → Option Key
@@ -84,40 +82,27 @@ pub record IsIdle (l : Ledger) : Type 0 where
 abbrev pub ClaimsNothing : Ledger → Type 0
 ClaimsNothing l = (i : ℕ) → list_at i l.claims ≡ []
 
--- nothing was done to a cell yet
-abbrev pub no_entries : ℕ → List Line
-no_entries i = []
-
 module _ {C : Type 0} where
   -- the parties that another keeps by a join read nothing and claim nothing
   abbrev pub AllQuiet : List (Joined (Known C)) → Type 0
   AllQuiet [] = Unit {0}
   AllQuiet (k ∷ ks) = (k.view.ledger.readings ≡ []) × ClaimsNothing k.view.ledger × AllQuiet ks
 
-  -- What a party has seen of the history of each cell is this, by the cell's number; and it has seen all entries that it made there, and those of the
-  -- parties that it keeps by a join.
-  pub record HasSeenCells (g : Config) (entries : ℕ → List Line) (p : Place (Known C)) : Type 0 where
-    pub fronts : (i : ℕ) → IsCell g i → front_of i p.own.seen ≡ entries i
-    pub made : HasSeenItsEntries g p
-
-  -- The party is one of the cache, has no turn in hand, reads nothing just now and claims nothing, has seen all that it made, and these entries of
-  -- cells, and holds what is kept, each as often as it is kept. Those that it keeps by a join have other numbers, read nothing and claim nothing;
-  -- they may hold something.
-  pub record StandsWith (entries : ℕ → List Line) (cache : Cache) (p : Place (Known C)) (kept : List KeptBlock) : Type 0 where
+  -- The party is one of the cache, has no turn in hand, reads nothing just now and claims nothing, has seen all that it made of shards and of cells, and
+  -- holds what is kept, each as often as it is kept. Those that it keeps by a join have other numbers, read nothing and claim nothing; they may hold
+  -- something.
+  pub record Stands (cache : Cache) (p : Place (Known C)) (kept : List KeptBlock) : Type 0 where
     pub valid : IsConfig cache.config
     pub of : IsPartyOf cache p
     pub free : p.held ≡ []
-    pub cells : HasSeenCells cache.config entries p
+    pub cells : HasSeenItsEntries cache.config p
     pub idle : p.own.ledger.readings ≡ []
     pub unclaimed : ClaimsNothing p.own.ledger
-    pub seen : HasSeenItsOwn cache.config p
+    pub seen : HasSeenItsEvents cache.config p
     pub apart : Apart p.number p.joined
     pub joined : AllQuiet p.joined
     pub owned : AllByRecursion (λ b. IsOwnedBy p.number b.kept) kept
     pub listed : (x : Ptr) → times x p.own.ledger.holds ≡ times x (listed_all kept)
-
-  abbrev pub Stands : Cache → Place (Known C) → List KeptBlock → Type 0
-  Stands = StandsWith no_entries
 
 module _ {C : Type 0} (m : Meanings C) where
   -- what is kept of a block is given back: a hold by one event, and a loose block by none
@@ -131,7 +116,7 @@ module _ {C : Type 0} where
   -- In one shard the party's own number has these acts more. A party that has every number has seen just these events more, and in no other shard any.
   pub record Adds (g : Config) (shard : ℕ) (acts : List Act) (es : List Event) (p q : Place (Known C)) : Type 0 where
     pub number : q.number ≡ p.number
-    pub told : (before : List Act) → IsTold g before p → IsTold g (before ++ acts) q
+    pub told : (before : List Act) → HasTold g before p → HasTold g (before ++ acts) q
     pub alone : HasAll p → AddsAll g shard es p q
     pub all : HasAll p → HasAll q
     pub joined : q.joined ≡ p.joined

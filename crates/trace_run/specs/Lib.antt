@@ -4,6 +4,8 @@ pub mod Answers
 pub mod Bounded
 pub mod CellEnds
 pub mod CheckText
+pub mod DbufTurns
+pub mod Deeds
 pub mod DeviceReads
 pub mod DeviceUse
 pub mod Devices
@@ -15,7 +17,11 @@ pub mod KeptBlocks
 pub mod KeptQueue
 pub mod KeptReads
 pub mod Lines
+pub mod MadeLines
+pub mod Making
 pub mod Meeting
+pub mod ObjectLines
+pub mod Objects
 pub mod Opened
 pub mod Openings
 pub mod Outcome
@@ -27,5 +33,5 @@ pub mod Status
 pub mod Syncing
 pub mod Tally
 pub mod Words
-pub mod one_caller
 pub mod callers
+pub mod one_caller

@@ -12,16 +12,16 @@ use Rattle.arc_table.specs.declared.view.Known.{Known}
 use Rattle.arc_table.specs.declared.view.Line.{Line}
 use Rattle.arc_table.specs.Cache.{Cache, IsPartyOf}
 use Rattle.arc_table.specs.Fronts.{StartsWith, front_of}
-use Rattle.arc_table.specs.Geometry.{parties_of}
+use Rattle.arc_table.specs.Geometry.{IsCell, parties_of}
 use Rattle.arc_table.specs.Items.{Meanings}
 use Rattle.arc_table.specs.pact.Rule.{Pact}
-use Rattle.arc_table.specs.Seen.{AreSeen, HasSeenItsOwn, events_in, seen_of, turn_of}
+use Rattle.arc_table.specs.Seen.{events_in, seen_of, turn_of}
 use Rattle.arc_table.specs.Telling.{opening_of}
-use Rattle.arc_table.specs.Told.{IsTold}
+use Rattle.trace_run.specs.Making.{AreEventsSeen, AreNoEntries, HasSeenItsEvents, HasTold, MadeItsOwn}
 use Rattle.arc_table.specs.Views.{after_learned}
 use Rattle.trace_run.specs.declared.kept_blocks.KeptBlock.{KeptBlock}
 use Rattle.trace_run.specs.Acts.{acts_of_drops}
-use Rattle.trace_run.specs.KeptBlocks.{Stands, StandsWith, holds_in, no_entries, read_of}
+use Rattle.trace_run.specs.KeptBlocks.{Stands, holds_in, read_of}
 use Rattle.trace_run.specs.one_caller.OneCaller.{events_of_drops}
 use Rattle.trace_run.specs.Openings.{Knows}
 
@@ -38,14 +38,11 @@ module _ {C : Type 0} where
     pub of : IsPartyOf cache p
     pub free : p.held ≡ []
     pub alone : p.joined ≡ []
-    pub seen : HasSeenItsOwn cache.config p
+    pub seen : HasSeenItsEvents cache.config p
 
-  -- a party that no other has joined, that keeps something or nothing, and has seen these entries of cells
-  abbrev pub IsApartWith : (entries : ℕ → List Line) → Cache → Place (Known C) → Type 0
-  IsApartWith entries cache p = (kept : List KeptBlock) × StandsWith entries cache p kept × (p.joined ≡ [])
-
+  -- a party that no other has joined, that keeps something or nothing
   abbrev pub IsApart : Cache → Place (Known C) → Type 0
-  IsApart = IsApartWith no_entries
+  IsApart cache p = (kept : List KeptBlock) × Stands cache p kept × (p.joined ≡ [])
 
   -- a party from which others may part
   abbrev pub MayPart : Cache → Place (Known C) → Type 0
@@ -86,7 +83,7 @@ module _ {C : Type 0} where
     pub number : p.number ≡ n
     pub alone : p.joined ≡ []
     pub stands : Stands cache p kept
-    pub told : IsTold cache.config acts p
+    pub told : HasTold cache.config acts p
 
   -- The feeder's party stands by itself and keeps nothing, and knows that the cells began so. These are the events of each shard that it made, and what
   -- it has seen begins with these.
@@ -97,10 +94,12 @@ module _ {C : Type 0} where
     pub knows : Knows openings p
     pub fed : (shard : ℕ) → shard < cache.config.shards → own_events p.number (seen_of cache.config shard p) ≡ feeds shard
     pub since : (shard : ℕ) → StartsWith (seen_of cache.config shard p) (begun shard)
+    pub only : MadeItsOwn cache.config p
 
   -- q has seen all that o had, and behind it no event of o's own
   pub record HasLearned (g : Config) (o q : Place (Known C)) : Type 0 where
     pub starts : (i : ℕ) → StartsWith (front_of (turn_of g i) q.own.seen) (front_of (turn_of g i) o.own.seen)
+    pub cells : (i : ℕ) → IsCell g i → StartsWith (front_of i q.own.seen) (front_of i o.own.seen)
     pub own : HasSameOwn g o.number o.own.seen q.own.seen
 
   -- The feeder's party, which is this one, has joined p and no other has. It keeps nothing, and knows that the cells began so.
@@ -110,31 +109,27 @@ module _ {C : Type 0} where
     pub knows : Knows openings o
     pub alone : o.joined ≡ []
     pub joined : p.joined ≡ as_kept o.number o.own 0 ∷ []
+    pub only : AreNoEntries cache.config o.own.mine
 
   abbrev pub HasFeeder : Cache → (openings : List (List ℕ)) → Place (Known C) → Type 0
   HasFeeder cache openings p = (o : Place (Known C)) × IsJoinedBy cache openings o p
 
-  -- What another party is once it has parted: it has its number, what it keeps and what it did, and has seen what all have, these entries of cells
-  -- among it.
-  pub record HasPartedWith (entries : ℕ → List Line) (cache : Cache) (lines : ℕ → List Line) (old new : Place (Known C)) : Type 0 where
+  -- What another party is once it has parted: it has its number, what it keeps and what it did, and has seen what all have.
+  pub record HasParted (cache : Cache) (lines : ℕ → List Line) (old new : Place (Known C)) : Type 0 where
     pub level : IsLevel cache.config lines new
     pub number : new.number ≡ old.number
     pub about : new.own.about ≡ old.own.about
     pub alone : new.joined ≡ []
-    pub stands : (kept : List KeptBlock) → Stands cache old kept → StandsWith entries cache new kept
+    pub stands : (kept : List KeptBlock) → Stands cache old kept → Stands cache new kept
     pub own : HasSameOwn cache.config old.number old.own.seen new.own.seen
     pub starts : (shard : ℕ) → StartsWith (seen_of cache.config shard new) (seen_of cache.config shard old)
-
-  abbrev pub HavePartedWith : (entries : ℕ → List Line) → Cache → (ℕ → List Line) → (olds news : List (Place (Known C))) → Type 0
-  HavePartedWith entries cache lines [] [] = Unit {0}
-  HavePartedWith entries cache lines (o ∷ os) (x ∷ xs) = HasPartedWith entries cache lines o x × HavePartedWith entries cache lines os xs
-  HavePartedWith entries cache lines _ _ = ⊥
-
-  abbrev pub HasParted : Cache → (ℕ → List Line) → (old new : Place (Known C)) → Type 0
-  HasParted = HasPartedWith no_entries
+    pub mine : new.own.mine ≡ old.own.mine
+    pub only : MadeItsOwn cache.config old → MadeItsOwn cache.config new
 
   abbrev pub HaveParted : Cache → (ℕ → List Line) → (olds news : List (Place (Known C))) → Type 0
-  HaveParted = HavePartedWith no_entries
+  HaveParted cache lines [] [] = Unit {0}
+  HaveParted cache lines (o ∷ os) (x ∷ xs) = HasParted cache lines o x × HaveParted cache lines os xs
+  HaveParted cache lines _ _ = ⊥
 
   -- While all others had joined it, the party gave back what it kept. Then all have seen the same: where they had before, just its drops more.
   -- The others stand in their order, and then the party.
@@ -226,8 +221,10 @@ module _ {C : Type 0} where
     pub others : (shard : ℕ)
         → AllByRecursion (λ o. own_moments o.number (moments (opening_of cache.config) (front shard)) ≡ own_moments o.number (moments (opening_of cache.config) (seen_of cache.config shard o))) olds
     pub since : (shard : ℕ) → StartsWith (front shard) (seen_of cache.config shard p)
+    pub only : MadeItsOwn cache.config p → MadeItsOwn cache.config q
+    pub entries : AreNoEntries cache.config p.own.mine → AreNoEntries cache.config q.own.mine
     -- where one other party has seen all that both made, it is what that one had seen
-    pub one : (o : Place (Known C)) → olds ≡ o ∷ [] → AreSeen cache.config p.number p.own.mine o.own.seen → (shard : ℕ) → front shard ≡ seen_of cache.config shard o
+    pub one : (o : Place (Known C)) → olds ≡ o ∷ [] → AreEventsSeen cache.config p.number p.own.mine o.own.seen → (shard : ℕ) → front shard ≡ seen_of cache.config shard o
     -- where all had seen the same, it is that
     pub same : (before : ℕ → List Line) → IsLevel cache.config before p → AllByRecursion (IsLevel cache.config before) olds → (shard : ℕ) → front shard ≡ events_in (before shard)
 

@@ -15,7 +15,7 @@ use Rattle.dbuf_state.specs.declared.dbuf.Content.TheVariants.{Clean}
 use Rattle.dbuf_state.specs.declared.state.DbState.TheVariants as state
 use Rattle.dbuf_state.specs.declared.state.Mapping.{Mapping}
 use Rattle.trace_run.specs.KeptBlocks.{Stands}
-use Rattle.arc_table.specs.Told.{IsTold}
+use Rattle.trace_run.specs.Making.{HasTold}
 
 -- what a cell of this type means to the cache
 abbrev pub meanings_of : {C : Type 0} → Ghosts C → Meanings C
@@ -35,7 +35,7 @@ module _ {C : Type 0} where
     pub begun : p.own.ledger ≡ no_ledger
     pub seen : p.own.seen ≡ []
     pub stands : Stands cache p []
-    pub told : IsTold cache.config [] p
+    pub told : HasTold cache.config [] p
 
   -- it is alone under its number
   pub record IsOpened (cache : Cache) (n : ℕ) (p : Place (Known C)) : Type 0 where

@@ -7,7 +7,7 @@ use Rattle.vdev_io.specs.Faults.{Rose}
 use Rattle.trace_text.specs.Grammar.{IsTraceText, IsFirstFault, longest_text}
 use Rattle.trace_text.specs.Pages.{IsFirstPageFault, IsPageText}
 use Rattle.trace_text.specs.ReportText.{report_text}
-use Rattle.arc_paper.specs.Text.{report_text as paper_text_of}
+use Rattle.arc_paper.specs.Text.{pages_text as paper_text_of}
 use Rattle.arc_check.specs.Judging.{IsVerdict}
 use Rattle.arc_check.specs.LogText.{IsLogText}
 use Rattle.arc_check.specs.LogText.{IsFirstFault as IsFirstLogFault}

@@ -1,5 +1,6 @@
 -- The sync of a transaction group, which the feeder does while all callers have joined it.
 use Rattle.std.specs.Prelude.{◌≡◌, ◌==◌, ℕ, if◌then◌else◌, List, [], ◌∷◌, ◌++◌, Some, Ok, length, map, slice_get, slice_index_or}
+use Rattle.std.specs.List.{AllByRecursion}
 use Rattle.blk_ptr.specs.Hash.{shard_of}
 use Rattle.arc_core.specs.declared.config.Config.{Config}
 use Rattle.arc_core.specs.declared.event.Event.{Event}
@@ -18,6 +19,7 @@ use Rattle.txg_sync.specs.Syncing.{AnswersWith}
 use Rattle.txg_sync.specs.Turns.{synced_in}
 use Rattle.txg_sync.specs.declared.syncing.Synced.{Synced}
 use Rattle.vdev_io.specs.declared.pool.Pool.{Ghosts}
+use Rattle.trace_run.specs.Making.{AreNoEntries}
 use Rattle.trace_run.specs.Meeting.{MadeJoined}
 
 -- the Inserts of these blocks in a shard, each under its cell's number, in the order of writing
@@ -38,6 +40,8 @@ pub record SyncsJoined (cache : Cache) (tick : ℕ) (p : PartyPlace) (olds : Lis
   pub sound : (i : ℕ) (c : OnHeap) → slice_get cells i ≡ Some c → IsSound c.value
   pub began : (i : ℕ) (c : OnHeap) → slice_get cells i ≡ Some c → opening_numbers c.value.limit c.value.opening ≡ slice_index_or p.own.about.openings i []
   pub noted : (i : ℕ) (c : OnHeap) → slice_get cells i ≡ Some c → front_of i q.own.seen ≡ lines_of c.value.history ++ lines_of (synced_in p.number i xs)
+  -- where no party had made an entry of a cell, nothing was done to one before
+  pub fresh : AreNoEntries cache.config p.own.mine → AllByRecursion (λ o. AreNoEntries cache.config o.own.mine) olds → (i : ℕ) (c : OnHeap) → slice_get cells i ≡ Some c → c.value.history ≡ []
 
 -- a sync of a group from a place on, which was done
 abbrev pub SyncedJoined : {P : Type 0} → Ghosts P → Cache → (group tick next : ℕ) → (before now : P) → PartyPlace → List PartyPlace → PartyPlace → List PartyPlace → Synced → Type 0

@@ -13,6 +13,7 @@ ghost use Rattle.trace_run.specs.callers.Callers.{AreAtStart};
 ghost use Rattle.trace_run.specs.callers.DeviceForks.{HaveReadSoFar, ReadAtOnce, these};
 ghost use Rattle.trace_run.specs.callers.Group.{IsFork, LeavesPool};
 ghost use Rattle.trace_run.specs.callers.Groups.{AreBetween, AreOfCallers, DidEndLine, DidLinesAtOnce, AreDone, KeepNothing, MaySync, StepsOn};
+ghost use Rattle.trace_run.specs.Making.{AreNoEntries};
 ghost use Rattle.trace_run.specs.Meeting.{MayGoOn};
 ghost use Rattle.trace_run.specs.Tally.{AreDeclared};
 ghost use Rattle.trace_run.specs.callers.Together.{BeginsGroup, IsFirstPlace, Stand, ends_group, stand};
@@ -206,6 +207,7 @@ fn end_line<P: Pool>(
 ) -> Result<(Crew<HeapCell>, Syncs, Reply), NoMemory>
     requires may { MayGoOn arcs.now [] crew.feeder crew.parties.items }
     requires feeder { crew.feeder.number ≡ arcs.now.config.callers }
+    requires unwritten { AllByRecursion (λ o. AreNoEntries arcs.now.config o.own.mine) (crew.feeder ∷ crew.parties.items) }
     requires possible { IsOperation arcs.now.config.callers arcs.now.config.shards op.now }
     requires sync { (lines : ℕ) × (lines < 2 ^ 32) × MaySync P.Pool lines (stand pool.old syncs.group syncs.next) }
     ensures did { IfOk result (λ done. DidEndLine arcs.now P.Pool op.now (stand pool.old syncs.group syncs.next) (stand pool.new done.1.group done.1.next) crew done.0 done.2) }

@@ -7,7 +7,7 @@ ghost use Rattle.trace_run.specs.Acts.{acts_of_drops};
 ghost use Rattle.trace_run.specs.KeptBlocks.{AreOfOthers, DroppedAlone, Drops, GivesAll, GivesBack, IsTakenOut, Stands, read_of};
 ghost use Rattle.trace_run.specs.one_caller.OneCaller.{oldest_key, oldest_kept, without_oldest};
 ghost use Rattle.arc_table.specs.Seen.{HasAll};
-ghost use Rattle.arc_table.specs.Told.{IsTold};
+ghost use Rattle.trace_run.specs.Making.{HasTold};
 ghost use Rattle.trace_run.specs.declared.kept_blocks.KeptBlock.{KeptBlock};
 
 use arc_core::Keeps;
@@ -133,8 +133,8 @@ pub(crate) fn give_back_all<C: Keeps>(
     requires { Stands arcs.now party.old kept }
     ensures stands { Stands arcs.now party.new [] }
     ensures gives { GivesAll (meanings C.holds C.entries C.opening C.claims C.sound) arcs.now.config kept party.old party.new }
-    ensures told { (before : List Act) → IsTold arcs.now.config before party.old
-        → IsTold arcs.now.config (before ++ acts_of_drops party.old.number (map read_of kept)) party.new }
+    ensures told { (before : List Act) → HasTold arcs.now.config before party.old
+        → HasTold arcs.now.config (before ++ acts_of_drops party.old.number (map read_of kept)) party.new }
     ensures alone { HasAll party.old → DroppedAlone arcs.now.config (map read_of kept) party.old party.new }
 {
     while let Some(read) = kept.pop_oldest() {

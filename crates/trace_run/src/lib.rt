@@ -15,6 +15,7 @@ mod groups;
 mod in_order;
 mod kept_blocks;
 mod lines;
+mod objects;
 mod opening;
 mod paper;
 mod ran;

@@ -1,7 +1,9 @@
 //! The sync at the end of a group, done by the feeder while all callers have joined it.
-ghost use Rattle.std.specs.Prelude.{◌≡◌, ◌<◌, ◌≤◌, ◌%◌, [], IfOk};
+ghost use Rattle.std.specs.Prelude.{◌≡◌, ◌<◌, ◌≤◌, ◌%◌, ◌∷◌, [], IfOk};
+ghost use Rattle.std.specs.List.{AllByRecursion};
 ghost use Rattle.blk_ptr.specs.Size.{sector};
 ghost use Rattle.trace_run.specs.callers.Group.{LeavesPool};
+ghost use Rattle.trace_run.specs.Making.{AreNoEntries};
 ghost use Rattle.trace_run.specs.Meeting.{MayGoOn};
 ghost use Rattle.trace_run.specs.Syncing.{SyncedJoined};
 
@@ -25,7 +27,7 @@ pub(crate) struct AfterSync {
 }
 
 /// All dirty blocks are written to the pool, one behind the other from the place `next` on. The callers join the feeder before, so that all that
-/// they did stands before it, and part from it behind.
+/// they did stands before it, and part from it behind. No party has changed a cell: so no block is dirty.
 pub(crate) fn sync_joined<P: Pool>(
     alloc: Global,
     rt: &impl Wait,
@@ -39,6 +41,7 @@ pub(crate) fn sync_joined<P: Pool>(
 ) -> Result<AfterSync, NoMemory>
     requires may { MayGoOn arcs.now [] feeder callers.items }
     requires feeder { feeder.number ≡ arcs.now.config.callers }
+    requires unwritten { AllByRecursion (λ o. AreNoEntries arcs.now.config o.own.mine) (feeder ∷ callers.items) }
     requires group { 0 < group }
     requires aligned { next % sector ≡ 0 }
     requires inside { next ≤ P.size pool.old }

@@ -36,7 +36,7 @@ use vdev_io::{CacheDev, Gate, Pool};
 
 /// Closes the cache of a run, once each party has given all back.
 fn close_run(arcs: Cells, parties: Vec<Party<HeapCell>>) -> Result<Closed<HeapCell>, NoMemory>
-    requires { (entries : ℕ → List Line) × HaveStopped entries arcs parties.items }
+    requires { HaveStopped arcs parties.items }
     ensures { IfOk result (λ closed. Ends (meanings_of ⟦<HeapCell as Keeps>⟧) arcs parties.items closed) }
 {
     arcs.close(parties)

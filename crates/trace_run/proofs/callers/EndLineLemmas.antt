@@ -1,6 +1,7 @@
 -- A line that ends a group of several callers: what it leaves of the pool, and of what stands between two groups.
 use Rattle.std.proofs.Common.{◌≡◌, ◌⊎◌, ◌==◌, ℕ, suc, ◌+◌, ◌<◌, Bool, true, false, if◌then◌else◌, List, [], ◌∷◌, ◌++◌, map, Option, Some, None, Ok, refl, sym, ap, ◌∙◌, subst, inl, inr, arith}
 use Rattle.std.specs.Prelude.{slice_get, slice_index_or}
+use Rattle.std.specs.List.{AllByRecursion}
 use Rattle.std.specs.Option.{option_map_or}
 use Rattle.std.proofs.lemmas.Option.{slice_get_within}
 use Rattle.arc_core.specs.declared.event.Event.{Event}
@@ -26,10 +27,10 @@ use Rattle.trace_run.specs.declared.groups.Crew.{Crew}
 use Rattle.trace_run.specs.callers.Groups.{DidCap, DidEndLine, DidSync, StoodFresh}
 use Rattle.trace_run.specs.callers.Together.{EndsGroup, Stand, replies_of_caller, stand}
 use Rattle.trace_run.specs.Lines.{caller_of, is_of_caller}
+use Rattle.trace_run.specs.Making.{AreNoEntries}
 use Rattle.trace_run.specs.Meeting.{MadeJoined, resizes_in}
 use Rattle.trace_run.specs.Openings.{Knows}
 use Rattle.trace_run.specs.Syncing.{SyncedJoined, SyncsJoined, inserts_in, lines_of}
-use Rattle.trace_run.proofs.CellEnds.{no-front, no-list}
 use Rattle.trace_run.proofs.SyncJoined.{none-among, none-dirty-in}
 use Rattle.trace_run.proofs.callers.GroupsLemmas.{EndsSo, cap-ends, sync-ends}
 
@@ -52,16 +53,12 @@ written-none : (told : Option (List ℕ)) → tells_written [] told ≡ told
 written-none None = refl
 written-none (Some image) = refl
 
-nothing-first : {A : Type 0} (xs ys : List A) → xs ++ ys ≡ [] → xs ≡ []
-nothing-first [] ys is = refl
-nothing-first (x ∷ xs) ys is = cc
-
 none-from : (i : ℕ) (cs : List OnHeap) → ((k : ℕ) (c : OnHeap) → slice_get cs k ≡ Some c → dirty_oids c.value.dbufs ≡ []) → dues_from i cs ≡ []
 none-from i [] none = refl
 none-from i (c ∷ cs) none = (λ z. map (due_in i) (none 0 c refl z) ++ none-from (suc i) cs (λ k x at. none (suc k) x at) z)
 
 module _ {P : Type 0} (pools : Ghosts P) (cache : Cache) (openings : List (List ℕ)) (group t next : ℕ) (from to : P) (p : PartyPlace) (olds : List PartyPlace) (q : PartyPlace) (news : List PartyPlace) (done : Syncing) (knows : Knows openings p)
-    (s : SyncedJoined pools cache group t next from to p olds q news done) where
+    (unwritten : AllByRecursion (λ o. AreNoEntries cache.config o.own.mine) (p ∷ olds)) (s : SyncedJoined pools cache group t next from to p olds q news done) where
   abbrev xs : List SyncItem
   xs = items_from group next s.cells s.dues
 
@@ -69,11 +66,7 @@ module _ {P : Type 0} (pools : Ghosts P) (cache : Cache) (openings : List (List 
   j = s.turns
 
   unused-cell : (i : ℕ) (c : OnHeap) → slice_get s.cells i ≡ Some c → c.value.history ≡ []
-  unused-cell i c at =
-      let w = slice_get_within s.cells i c at in
-      let inside : i < cache.config.cells = let m = j.count in omega (arith, w, m) in
-      no-list event_numbers c.value.history (no-front (map event_numbers c.value.history)
-      (nothing-first (lines_of c.value.history) (lines_of (synced_in p.number i xs)) (sym (j.noted i c at) ∙ j.made.stands.cells.fronts i inside)))
+  unused-cell = j.fresh unwritten.0 unwritten.1
 
   none : s.dues ≡ []
   none = none-among s.cells s.dues (none-from 0 s.cells (λ k c at. none-dirty-in c (j.sound k c at) (unused-cell k c at))) s.dirty
@@ -140,28 +133,28 @@ module _ {P : Type 0} (cache : Cache) (pools : Ghosts P) (openings : List (List 
     ends = d.stays;
   }
 
-  sync-turned : (t : ℕ) (reply : Reply) → Knows openings old.feeder → DidSync cache pools t from to old new reply → Turned cache pools openings (ops.Txg t) reply from to old new
-  sync-turned t reply knows d =
-      let made = sync-made pools cache openings from.group t from.next from.pool to.pool old.feeder old.parties.items new.feeder new.parties.items d.done knows d.synced in
+  sync-turned : (t : ℕ) (reply : Reply) → Knows openings old.feeder → AllByRecursion (λ o. AreNoEntries cache.config o.own.mine) (old.feeder ∷ old.parties.items) → DidSync cache pools t from to old new reply → Turned cache pools openings (ops.Txg t) reply from to old new
+  sync-turned t reply knows unwritten d =
+      let made = sync-made pools cache openings from.group t from.next from.pool to.pool old.feeder old.parties.items new.feeder new.parties.items d.done knows unwritten d.synced in
       subst (λ (r : Reply). Turned cache pools openings (ops.Txg t) r from to old new) (sym d.answer) record {
         more = λ shard. [];
         so = sync-ends cache t from.group d.done.blocks d.done.bytes old new made kept;
-        unused = sync-unused pools cache openings from.group t from.next from.pool to.pool old.feeder old.parties.items new.feeder new.parties.items d.done knows d.synced;
+        unused = sync-unused pools cache openings from.group t from.next from.pool to.pool old.feeder old.parties.items new.feeder new.parties.items d.done knows unwritten d.synced;
         group = d.group;
-        next = d.next ∙ sync-next pools cache openings from.group t from.next from.pool to.pool old.feeder old.parties.items new.feeder new.parties.items d.done knows d.synced;
+        next = d.next ∙ sync-next pools cache openings from.group t from.next from.pool to.pool old.feeder old.parties.items new.feeder new.parties.items d.done knows unwritten d.synced;
         ends = record {
           done = d.done;
-          answer = sync-answer pools cache openings from.group t from.next from.pool to.pool old.feeder old.parties.items new.feeder new.parties.items d.done knows d.synced;
+          answer = sync-answer pools cache openings from.group t from.next from.pool to.pool old.feeder old.parties.items new.feeder new.parties.items d.done knows unwritten d.synced;
           replied = refl;
           group = d.group;
           next = d.next;
         };
       }
 
-pub end-turned : {P : Type 0} (cache : Cache) (pools : Ghosts P) (openings : List (List ℕ)) (op : Op) (from to : Stand P) (old new : Crew OnHeap) (reply : Reply) → Knows openings old.feeder → DidEndLine cache pools op from to old new reply
-    → Turned cache pools openings op reply from to old new
-end-turned {P} cache pools openings op from to old new reply knows ended = go ended.did
+pub end-turned : {P : Type 0} (cache : Cache) (pools : Ghosts P) (openings : List (List ℕ)) (op : Op) (from to : Stand P) (old new : Crew OnHeap) (reply : Reply) → Knows openings old.feeder
+    → AllByRecursion (λ o. AreNoEntries cache.config o.own.mine) (old.feeder ∷ old.parties.items) → DidEndLine cache pools op from to old new reply → Turned cache pools openings op reply from to old new
+end-turned {P} cache pools openings op from to old new reply knows unwritten ended = go ended.did
   where
     go : ((c : ℕ) × (op ≡ ops.Cap c) × DidCap cache c from to old new reply) ⊎ ((t : ℕ) × (op ≡ ops.Txg t) × DidSync cache pools t from to old new reply) → Turned cache pools openings op reply from to old new
     go (inl cap) = subst (λ (o : Op). Turned cache pools openings o reply from to old new) (sym cap.1) (cap-turned cache pools openings from to old new ended.kept cap.0 reply cap.2)
-    go (inr sync) = subst (λ (o : Op). Turned cache pools openings o reply from to old new) (sym sync.1) (sync-turned cache pools openings from to old new ended.kept sync.0 reply knows sync.2)
+    go (inr sync) = subst (λ (o : Op). Turned cache pools openings o reply from to old new) (sym sync.1) (sync-turned cache pools openings from to old new ended.kept sync.0 reply knows unwritten sync.2)

@@ -23,7 +23,6 @@ use Rattle.vdev_io.specs.Faults.{Rose, last_count}
 use Rattle.vdev_io.specs.declared.pool.Pool.{Ghosts}
 use Rattle.turn_table.specs.Places.{Place, SomeHas}
 use Rattle.arc_table.specs.declared.view.Known.{Known}
-use Rattle.arc_table.specs.declared.view.Line.{Line}
 use Rattle.arc_table.specs.Cache.{Cache}
 use Rattle.arc_table.specs.Ended.{AreAtRest, Ended, Ends}
 use Rattle.arc_table.specs.Fronts.{StartsWith}
@@ -46,15 +45,16 @@ use Rattle.trace_run.specs.Acts.{acts_of_all, acts_of_caller, acts_of_callers, a
 use Rattle.trace_run.specs.one_caller.Alone.{ends_in, histories_of}
 use Rattle.trace_run.specs.Answers.{AnswersAll, is_pool_fault}
 use Rattle.trace_run.specs.callers.Callers.{AreAtStart}
-use Rattle.dbuf_cells.specs.Turns.{OnHeap}
+use Rattle.dbuf_cells.specs.Turns.{OnHeap, PartyPlace}
 use Rattle.trace_run.specs.Openings.{openings_of}
 use Rattle.trace_run.proofs.callers.SyncRun.{fresh-then, in-groups-as}
-use Rattle.trace_run.specs.CellEnds.{AreCellsOf, end_entry}
+use Rattle.trace_run.specs.CellEnds.{AreCellsOf}
 use Rattle.trace_run.specs.Effects.{calls_of_all}
 use Rattle.trace_run.specs.Explaining.{EndsWith, Explain, drops_at_end}
 use Rattle.trace_run.specs.callers.GroupRun.{HaveClosed, HaveStopped, RanTogether}
 use Rattle.trace_run.specs.callers.Groups.{AreDone, AreEndLines, AreNamedAll, HaveCome, IsEndLine, StoodFresh}
-use Rattle.trace_run.specs.KeptBlocks.{Stands, StandsWith, holds_in, no_entries, read_of}
+use Rattle.trace_run.specs.KeptBlocks.{Stands, holds_in, read_of}
+use Rattle.trace_run.specs.Making.{AreNoEntries, MadeItsOwn}
 use Rattle.trace_run.specs.KeptReads.{KeptRead}
 use Rattle.trace_run.specs.Lines.{caller_of, is_of_caller, replies_where}
 use Rattle.trace_run.specs.Meeting.{AllGave, AreWaiting, HaveGivenBack, IsApart, IsLevel, MayGoOn, Waits, drops_from}
@@ -99,7 +99,7 @@ module _ (trace : Trace) (formed : IsFormed trace) where
 
 module _ {C : Type 0} (cache : Cache) where
   -- a cache may be closed once its parties have stopped
-  rest-of : {entries : ℕ → List Line} (ps : List (Place (Known C))) → ((n : ℕ) (p : Place (Known C)) → get_elem? ps n ≡ some p → StandsWith entries cache p []) → AreAtRest cache ps
+  rest-of : (ps : List (Place (Known C))) → ((n : ℕ) (p : Place (Known C)) → get_elem? ps n ≡ some p → Stands cache p []) → AreAtRest cache ps
   rest-of [] each = tt
   rest-of (p ∷ ps) each = let h = each 0 p refl in (h.of, h.free, rest-of ps (λ n q at. each (suc n) q at))
 
@@ -108,10 +108,10 @@ module _ {C : Type 0} (cache : Cache) where
   has-at n (x ∷ xs) zero p at is = inl (inl (ap (λ (y : Place (Known C)). y.number) (some-injective x p at) ∙ is))
   has-at n (x ∷ xs) (suc k) p at is = inr (has-at n xs k p at is)
 
-  pub stopped-rest : {entries : ℕ → List Line} (ps : List (Place (Known C))) → HaveStopped entries cache ps → AreAtRest cache ps
+  pub stopped-rest : (ps : List (Place (Known C))) → HaveStopped cache ps → AreAtRest cache ps
   stopped-rest ps stopped = rest-of ps (λ n p at. (stopped.each n p at).1)
 
-  pub stopped-all : {entries : ℕ → List Line} (ps : List (Place (Known C))) → HaveStopped entries cache ps → (n : ℕ) → n < parties_of cache.config → SomeHas n ps
+  pub stopped-all : (ps : List (Place (Known C))) → HaveStopped cache ps → (n : ℕ) → n < parties_of cache.config → SomeHas n ps
   stopped-all ps stopped n below =
       let p = there ps n (subst (λ (x : ℕ). n < x) (sym stopped.count) below) in
       has-at n ps n p.0 p.1 (stopped.each n p.0 p.1).0
@@ -160,7 +160,7 @@ module _ {C : Type 0} (cache : Cache) (acts : ℕ → List Act) (openings : List
   pub gone-some : 0 < length all
   gone-some = omega (arith, ap length gone.are, length-append gone.callers (gone.feeder ∷ []))
 
-  pub gone-stopped : HaveStopped no_entries cache all
+  pub gone-stopped : HaveStopped cache all
   gone-stopped = record {
     count = ap length gone.are ∙ (length-append gone.callers (gone.feeder ∷ []) ∙ ap (λ (x : ℕ). x + 1) gone-long);
     each = λ n p at. elim (get_more gone.callers gone.feeder p n (ap (λ (l : List (Place (Known C))). get_elem? l n) (sym gone.are) ∙ at)) [
@@ -229,6 +229,20 @@ module _ {C : Type 0} (cache : Cache) (restored : List Restored) (len : ℕ) (im
     differ = differ-from 0 crew.feeder.number crew.parties.items (omega (arith, come.parties, come.feeder.number)) caller-stands;
   }
 
+  -- no party has made an entry of a cell
+  pub come-unwritten : AllByRecursion (λ o. AreNoEntries cache.config o.own.mine) (crew.feeder ∷ crew.parties.items)
+  come-unwritten = (
+    come.feeder.only.entries,
+    all-from crew.parties.items (λ k p at.
+        let b = come.each k (subst (λ (c : ℕ). k < c) come.parties (within crew.parties.items k p at)) in
+        let same : b.party ≡ p = some-injective b.party p (sym b.at.party_at ∙ at) in
+        subst (λ (q : Place (Known C)). AreNoEntries cache.config q.own.mine) same b.come.waits.told.only.entries),
+  )
+    where
+      all-from : (ps : List (Place (Known C))) → ((k : ℕ) (p : Place (Known C)) → get_elem? ps k ≡ some p → AreNoEntries cache.config p.own.mine) → AllByRecursion (λ o. AreNoEntries cache.config o.own.mine) ps
+      all-from [] each = tt
+      all-from (p ∷ ps) each = (each 0 p refl, all-from ps (λ k q at. each (suc k) q at))
+
   -- the callers may begin a group
   pub may-start : AreNamedAll blocks crew.kept.items → AreAtStart cache blocks 0 crew.kept.items crew.parties.items
   may-start named = start-from 0 crew.kept.items crew.parties.items (come.parties ∙ sym come.kepts) named (λ k below.
@@ -295,7 +309,7 @@ module _ {C : Type 0} (cache : Cache) (restored : List Restored) (len : ℕ) (im
     all-count : length all ≡ parties_of cache.config
     all-count = ap length gone.are ∙ (length-append gone.callers (gone.feeder ∷ []) ∙ ap (λ (x : ℕ). x + 1) callers-long)
 
-    pub come-stopped : HaveStopped no_entries cache all
+    pub come-stopped : HaveStopped cache all
     come-stopped = record {
       count = all-count;
       each = each-party (λ n p. (p.number ≡ n) × Stands cache p []) (λ n p at. let w = (caller-at n p at).1 in (w.number, w.stands)) (gone.fed.number, gone.fed.stands);
@@ -312,7 +326,7 @@ module _ {C : Type 0} (cache : Cache) (restored : List Restored) (len : ℕ) (im
     come-ended : (n : ℕ) (p : Place (Known C)) → get_elem? all n ≡ some p → HasEnded cache.config (acts_of_callers blocks cache.config.callers os rs) (events_by_feeder cache.config restored os rs) n p
     come-ended = each-party (λ n p. HasEnded cache.config (acts_of_callers blocks cache.config.callers os rs) (events_by_feeder cache.config restored os rs) n p)
         (λ n p at. let w = caller-at n p at in caller-ended cache restored blocks os rs n p w.1.number w.1.stands (replies_of_caller n os rs) w.0 refl w.1.told)
-        (feeder-ended cache restored blocks os rs cache.config.callers gone.feeder gone.fed.number gone.fed.stands refl gone.fed.fed)
+        (feeder-ended cache restored blocks os rs cache.config.callers gone.feeder gone.fed.number gone.fed.stands refl gone.fed.fed gone.fed.only.events)
 
     -- what each caller still kept
     kept-at : (k : ℕ) (x : List KeptBlock) → get_elem? crew.kept.items k ≡ some x → map read_of x ≡ kept_after_all blocks [] (filter (is_of_caller (0 + k)) os) (replies_where (is_of_caller (0 + k)) os rs)
@@ -329,7 +343,7 @@ module _ {C : Type 0} (cache : Cache) (restored : List Restored) (len : ℕ) (im
 
     -- ---- the parties that close the cache are as these, as far as shards go
 
-    module _ (entries : ℕ → List Line) (fin : List (Place (Known C))) (fin-long : length fin ≡ length all) (after : AreAfter cache entries all fin) where
+    module _ (last : Place (Known C)) (fin : List (Place (Known C))) (fin-long : length fin ≡ length all) (after : AreAfter cache last all fin) where
       fin-count : length fin ≡ parties_of cache.config
       fin-count = fin-long ∙ all-count
 
@@ -340,7 +354,7 @@ module _ {C : Type 0} (cache : Cache) (restored : List Restored) (len : ℕ) (im
           record {
             number = a.2.number ∙ h.number;
             config = a.2.stands.of.config;
-            seen = a.2.stands.seen;
+            seen = a.2.events;
             idle = stands-idle cache p a.2.stands;
             told = λ below shard.
                 subst (λ (x : ℕ × List Event). Tell (acts_in (shard_of cache.config.shards) shard x.0 (acts_of_callers blocks cache.config.callers os rs)) (own_moments x.0 (moments (opening_of cache.config) x.1)))
@@ -555,21 +569,23 @@ module _ {P : Type 0} (m : Meanings OnHeap) (cache : Cache) (pools : Ghosts P) (
   abbrev closing : List (Place (Known OnHeap))
   closing = h.closing
 
-  abbrev entries : ℕ → List Line
-  entries = end_entry h.ended.feeder.number
-
   pub gave : HaveGivenBack cache (lines-acts cache restored (pools.size before) (pools.told before) trace.blocks os rs crew come) crew.feeder.own.about.openings (events_by_feeder cache.config restored os rs) (λ shard. seen_of cache.config shard crew.feeder) crew.kept.items all-given
   gave = h.gave (lines-acts cache restored (pools.size before) (pools.told before) trace.blocks os rs crew come) (come-wait cache restored (pools.size before) (pools.told before) trace.blocks os rs crew come)
       crew.feeder.own.about.openings (events_by_feeder cache.config restored os rs) (λ shard. seen_of cache.config shard crew.feeder) come.feeder
 
-  pub stopped : HaveStopped no_entries cache all-given
+  pub stopped : HaveStopped cache all-given
   stopped = come-stopped cache restored (pools.size before) (pools.told before) trace.blocks os rs crew come all-given gave
 
   pub closing-long : length closing ≡ length all-given
   closing-long = crew-long cache h.parties h.closing h.ended
 
-  pub after-ends : AreAfter cache entries all-given closing
-  after-ends = crew-after cache h.parties h.closing h.ended gave.lines gave.level (λ n p at. (stopped.each n p at).1)
+  -- what they made are events of shards, with their own numbers
+  pub only-given : (n : ℕ) (p : PartyPlace) → get_elem? all-given n ≡ some p → MadeItsOwn cache.config p
+  only-given = each-party cache restored (pools.size before) (pools.told before) trace.blocks os rs crew come all-given gave (λ n p. MadeItsOwn cache.config p)
+      (λ n p at. (caller-at cache restored (pools.size before) (pools.told before) trace.blocks os rs crew come all-given gave n p at).1.told.only) gave.fed.only
+
+  pub after-ends : AreAfter cache h.ended.last all-given closing
+  after-ends = crew-after cache h.parties h.closing h.ended gave.lines gave.level (λ n p at. ((stopped.each n p at).1, only-given n p at))
 
   long-each : (n : ℕ) → n < callers → length (replies_of_caller n os rs) ≡ length (filter (is_of_caller n) os)
   long-each n below = answered-length (pools.size before) (pools.told before) trace.blocks [] (filter (is_of_caller n) os) (replies_of_caller n os rs) (come.each n below).come.answers
@@ -583,7 +599,7 @@ module _ {P : Type 0} (m : Meanings OnHeap) (cache : Cache) (pools : Ghosts P) (
 
   explained : Explain trace restored rs (ends_in closed) (histories_of closed)
   explained =
-      let e = come-explains cache restored (pools.size before) (pools.told before) trace.blocks os rs crew come all-given gave entries closing closing-long after-ends m valid closed h.ends in
+      let e = come-explains cache restored (pools.size before) (pools.told before) trace.blocks os rs crew come all-given gave h.ended.last closing closing-long after-ends m valid closed h.ends in
       explain-mapped trace restored rs (ends_in closed) (histories_of closed)
       (subst (λ (x : Config × List Op). Explain (record { config = x.0; blocks = trace.blocks; objects = []; ops = x.1 }) restored rs (ends_in closed) (histories_of closed)) (λ i. (config i, whole-ops i))
       (explained-more cache.config restored trace.blocks os more rs (ends_in closed) (histories_of closed) come.long long-each e))
@@ -591,8 +607,8 @@ module _ {P : Type 0} (m : Meanings OnHeap) (cache : Cache) (pools : Ghosts P) (
   all-reads-are : over_callers callers (λ n. length (calls_of_all (replies_of_caller n os rs))) ≡ sum_by pool_reads (histories_of closed)
   all-reads-are =
       over-same callers (λ n. length (calls_of_all (replies_of_caller n os rs))) (λ n. reads_of_caller n (histories_of closed))
-      (come-counted cache restored (pools.size before) (pools.told before) trace.blocks os rs crew come all-given gave entries closing closing-long after-ends m valid closed h.ends)
-      ∙ come-others cache restored (pools.size before) (pools.told before) trace.blocks os rs crew come all-given gave entries closing closing-long after-ends m valid closed h.ends
+      (come-counted cache restored (pools.size before) (pools.told before) trace.blocks os rs crew come all-given gave h.ended.last closing closing-long after-ends m valid closed h.ends)
+      ∙ come-others cache restored (pools.size before) (pools.told before) trace.blocks os rs crew come all-given gave h.ended.last closing closing-long after-ends m valid closed h.ends
 
   all-faults-are : over_callers callers (λ n. count_by is_pool_fault (replies_of_caller n os rs)) ≡ count_by is_pool_fault rs
   all-faults-are = over-replies is_pool_fault callers end-no-fault os rs come.long below-all come.ended
@@ -648,13 +664,13 @@ module _ {P : Type 0} (m : Meanings OnHeap) (cache : Cache) (pools : Ghosts P) (
       counted = λ n below.
           ap (λ (l : List Op). length (calls_of_all (replies_of_caller n l rs))) (sym whole-ops)
           ∙ (ap (λ (l : List Reply). length (calls_of_all l)) (replies-prefix trace.blocks os more rs come.long n)
-          ∙ come-counted cache restored (pools.size before) (pools.told before) trace.blocks os rs crew come all-given gave entries closing closing-long after-ends m valid closed h.ends n (subst (λ (g : Config). n < g.callers) (sym config) below));
+          ∙ come-counted cache restored (pools.size before) (pools.told before) trace.blocks os rs crew come all-given gave h.ended.last closing closing-long after-ends m valid closed h.ends n (subst (λ (g : Config). n < g.callers) (sym config) below));
       cut = λ shard below.
           let l = there closed.shards shard (subst (λ (n : ℕ). shard < n) (length-map closed.shards (λ (log : ShardLog). log.history)) below) in
           let here : slice_index_or (histories_of closed) shard [] ≡ l.0.history = index-history closed.shards shard l.0 l.1 in
           subst (λ (x : Config × List Op × List Event × List Restored). AreCut x.0 x.3 trace.blocks shard x.1 rs x.2) (λ i. (config i, whole-ops i, sym here i, sym is i))
           (cut-prefix cache.config restored trace.blocks shard os more rs l.0.history come.long
-          (come-cut cache restored (pools.size before) (pools.told before) trace.blocks os rs crew come all-given gave entries closing closing-long after-ends m valid closed h.ends shard l.0 l.1));
+          (come-cut cache restored (pools.size before) (pools.told before) trace.blocks os rs crew come all-given gave h.ended.last closing closing-long after-ends m valid closed h.ends shard l.0 l.1));
     };
     failed = λ is.
         let f = d.failed is in (

@@ -289,6 +289,7 @@ module _ {C : Type 0} (cache : Cache) (whole : List (Place (Known C))) (crew : C
       knows = refl;
       fed = λ shard below. none-own shard;
       since = λ shard. starts_whole (seen_of cache.config shard crew.feeder);
+      only = feeder-new.new.told.only;
     };
     begun = λ shard below. (seen_of cache.config shard crew.feeder, refl);
     cut = λ shard below k c at some_k. absurd (omega (arith, some_k));
@@ -365,6 +366,7 @@ module _ {C : Type 0} (cache : Cache) (restored : List Restored) (len : ℕ) (im
           ap (own_events new.feeder.number) (restores-seen shard)
           ∙ (own-restores cache.config new.feeder.number (sym (made.number ∙ before.feeder.number)) restored shard ∙ sym (append-nil (restores_in cache.config restored shard)));
       since = λ shard. starts_whole (seen_of cache.config shard new.feeder);
+      only = made.only before.feeder.only;
     };
     begun = λ shard below. subst (λ (es : List Event). StartsWith es (restores_in cache.config restored shard)) (sym (restores-seen shard)) (starts_whole (restores_in cache.config restored shard));
     cut = λ shard below k c at some_k. absurd (omega (arith, some_k));
@@ -546,7 +548,7 @@ module _ {C : Type 0} (cache : Cache) (restored : List Restored) (len : ℕ) (im
         let b = before.each n lt in
         let same = all-at _ old.parties.items n b.party (so.made.others shard) b.at.party_at in
         subst (λ (k : ℕ). Tell (acts_in (shard_of g.shards) shard k (acts_of_lines blocks os n (replies_of_caller n os rs))) (own_moments k (moments (opening_of g) (so.made.front shard)))) b.come.waits.number
-        (subst (Tell (acts_in (shard_of g.shards) shard b.party.number (acts_of_lines blocks os n (replies_of_caller n os rs)))) (sym same) (b.come.waits.told shard));
+        (subst (Tell (acts_in (shard_of g.shards) shard b.party.number (acts_of_lines blocks os n (replies_of_caller n os rs)))) (sym same) (b.come.waits.told.acts shard));
     feeder = front-own shard below;
   }
 
@@ -596,6 +598,7 @@ module _ {C : Type 0} (cache : Cache) (restored : List Restored) (len : ℕ) (im
           ∙ (own-two g.callers (so.made.front shard) (more shard)
           ∙ ((λ i. front-own shard below i ++ so.feeds shard below i) ∙ sym (feeds-more shard))));
       since = λ shard. starts_whole (seen_of g shard new.feeder);
+      only = so.made.only before.feeder.only;
     };
     begun = λ shard below. starts-then (seen_of g shard new.feeder) (seen_of g shard old.feeder) (restores_in g restored shard) (grown shard) (before.begun shard below);
     cut = all-cut;

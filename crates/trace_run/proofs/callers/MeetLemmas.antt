@@ -26,7 +26,8 @@ use Rattle.arc_table.specs.Items.{Meanings, lines_in}
 use Rattle.arc_table.specs.pact.Logged.{HasPlace}
 use Rattle.arc_table.specs.pact.Rule.{Pact}
 use Rattle.arc_table.specs.pact.Scene.{Scene}
-use Rattle.arc_table.specs.Seen.{AllEntriesSeen, AllSeen, AreSeen, HasSeenItsOwn, IsSeen, events_in, seen_of, turn_of}
+use Rattle.arc_table.specs.Seen.{AllEntriesSeen, AreSeen, HasSeenItsEntries, IsNumberOf, IsNumberOrCell, IsSeenBy, events_in, seen_of, turn_of}
+use Rattle.trace_run.specs.Making.{AllEventsSeen, AreEventsSeen, HasSeenItsEvents, MadeItsOwn}
 use Rattle.arc_table.specs.TableLaws.{get_front, starts_whole, within}
 use Rattle.arc_table.specs.Telling.{opening_of}
 use Rattle.arc_table.specs.Views.{after_learned}
@@ -34,9 +35,8 @@ use Rattle.arc_table.proofs.OwnLemmas.{no-own-moments, own-append, seen-more}
 use Rattle.arc_table.proofs.SeenLemmas.{events-append, get-behind}
 use Rattle.arc_table.specs.declared.about.About.{About}
 use Rattle.trace_run.specs.declared.kept_blocks.KeptBlock.{KeptBlock}
-use Rattle.trace_run.specs.KeptBlocks.{HasSeenCells, no_entries}
-use Rattle.trace_run.specs.Meeting.{AreLast, HasLearned, HasParted, HasPartedWith, HasSameOwn, IsFed, IsLevel, JoinAll, Joins, MayJoin, PartAll, Waits}
-use Rattle.trace_run.proofs.CellsLeft.{all-entries-as, entries-as}
+use Rattle.trace_run.specs.Meeting.{AreLast, HasLearned, HasParted, HasSameOwn, IsFed, IsLevel, JoinAll, Joins, MayJoin, PartAll, Waits}
+use Rattle.trace_run.proofs.CellsLeft.{CellsGrow, all-entries-more, entries-more}
 
 -- ---- lists that begin alike
 
@@ -91,7 +91,7 @@ module _ {C : Type 0} (m : Meanings C) (g : Config) (x : Place (Known C)) (w : W
     pub begins : (t : ℕ) → StartsWith (lines t) (front_of t v.seen)
     begins t = subst (λ (s : List (List Line)). StartsWith (lines t) (front_of t s)) (sym view.seen) (w.held.logged.seen n t)
 
-    module _ (seen : List (List Line)) (own : AreSeen g n v.mine seen) (i : ℕ) (front : List Line) (in_now : StartsWith (lines (turn_of g i)) front) (more : StartsWith front (front_of (turn_of g i) seen)) where
+    module _ (seen : List (List Line)) (own : AreEventsSeen g n v.mine seen) (i : ℕ) (front : List Line) (in_now : StartsWith (lines (turn_of g i)) front) (more : StartsWith front (front_of (turn_of g i) seen)) where
       abbrev known : List Line
       known = front_of (turn_of g i) seen
 
@@ -157,19 +157,19 @@ module _ {C : Type 0} (m : Meanings C) (g : Config) (r o : Place (Known C)) (w :
   grows-o t = shorter (front_of t o.own.seen) (front_of t both) (lines m g before w t) (begins-o t).0 (in-now t).0 (begins-o t).1 (in-now t).1 (both_least t r.own.seen o.own.seen).1
 
   -- and behind it nothing of its own, nor of those that joined it
-  pub same-r : AreSeen g r.number r.own.mine r.own.seen → HasSameOwn g r.number r.own.seen both
+  pub same-r : AreEventsSeen g r.number r.own.mine r.own.seen → HasSameOwn g r.number r.own.seen both
   same-r own i = same-moments m g before w r.number r.own w.stands.shows.0 r.own.seen own i (front_of (turn_of g i) both) (in-now (turn_of g i)) (grows-r (turn_of g i))
 
-  pub same-o : AreSeen g o.number o.own.mine o.own.seen → HasSameOwn g o.number o.own.seen both
+  pub same-o : AreEventsSeen g o.number o.own.mine o.own.seen → HasSameOwn g o.number o.own.seen both
   same-o own i = same-moments m g before w o.number o.own w.stands.shows.1.0 o.own.seen own i (front_of (turn_of g i) both) (in-now (turn_of g i)) (grows-o (turn_of g i))
 
-  pub same-joined : (k : Kept (Known C)) → get_elem? w.board.views k.number ≡ some k.view → AreSeen g k.number k.view.mine r.own.seen → HasSameOwn g k.number r.own.seen both
+  pub same-joined : (k : Kept (Known C)) → get_elem? w.board.views k.number ≡ some k.view → AreEventsSeen g k.number k.view.mine r.own.seen → HasSameOwn g k.number r.own.seen both
   same-joined k shown own i = same-moments m g before w k.number k.view shown r.own.seen own i (front_of (turn_of g i) both) (in-now (turn_of g i)) (grows-r (turn_of g i))
 
 -- where the party that joined has seen all lines that both made, and no other number is, nothing stands behind what it had seen
 module _ {C : Type 0} (m : Meanings C) (g : Config) (r o : Place (Known C)) (w : WasSo (Pact m) (met r o r.own)) (alone : o.joined ≡ [])
     (all : (n : ℕ) → n < parties_of g → (n ≡ r.number) ⊎ (n ≡ o.number)) (config : r.own.about.config ≡ g)
-    (own : AreSeen g o.number o.own.mine o.own.seen) (other : AreSeen g r.number r.own.mine o.own.seen) where
+    (own : AreEventsSeen g o.number o.own.mine o.own.seen) (other : AreEventsSeen g r.number r.own.mine o.own.seen) where
   abbrev at-join : Place (Known C)
   at-join = met r o r.own
 
@@ -202,7 +202,7 @@ module _ {C : Type 0} (m : Meanings C) (g : Config) (r o : Place (Known C)) (w :
             placed i x h.line h.place (own i h.index h.line mine h.turn)
       ]
     where
-      placed : {n : ℕ} (i x : ℕ) (a : Mine) → a.place ≡ x → IsSeen (parties_of g) n (known-o i) a.place → x < length (known-o i)
+      placed : {n : ℕ} (i x : ℕ) (a : Mine) → a.place ≡ x → IsSeenBy (IsNumberOrCell g) (parties_of g) n (known-o i) a.place → x < length (known-o i)
       placed i x a is seen = subst (λ (k : ℕ). k < length (known-o i)) is (within (known-o i) a.place (line.Event seen.event) seen.there)
 
   no-more : (i : ℕ) → length (then-lines (turn_of g i)) ≤ length (known-o i)
@@ -226,10 +226,13 @@ abbrev pub joined_of : {C : Type 0} → List (Place (Known C)) → List (Kept (K
 joined_of [] = []
 joined_of (o ∷ os) = kept o.number o.own 0 ∷ joined_of os
 
-pub are-seen-more : (g : Config) (n : ℕ) (mines : List Mine) (s t : List (List Line)) → ((i : ℕ) → StartsWith (front_of (turn_of g i) t) (front_of (turn_of g i) s)) → AreSeen g n mines s → AreSeen g n mines t
+pub are-seen-more : (g : Config) (n : ℕ) (mines : List Mine) (s t : List (List Line)) → ((i : ℕ) → StartsWith (front_of (turn_of g i) t) (front_of (turn_of g i) s)) → AreEventsSeen g n mines s → AreEventsSeen g n mines t
 are-seen-more g n mines s t more seen i j a at is = seen-more (parties_of g) n (front_of (turn_of g i) t) (front_of (turn_of g i) s) a.place (more i) (seen i j a at is)
 
-all-seen-more : {C : Type 0} (g : Config) (ks : List (Kept (Known C))) (s t : List (List Line)) → ((i : ℕ) → StartsWith (front_of (turn_of g i) t) (front_of (turn_of g i) s)) → AllSeen g ks s → AllSeen g ks t
+pub own-seen-more : (g : Config) (n : ℕ) (mines : List Mine) (s t : List (List Line)) → ((i : ℕ) → StartsWith (front_of (turn_of g i) t) (front_of (turn_of g i) s)) → AreSeen g n mines s → AreSeen g n mines t
+own-seen-more g n mines s t more seen i j a at is = seen-more {May = IsNumberOf} (parties_of g) n (front_of (turn_of g i) t) (front_of (turn_of g i) s) a.place (more i) (seen i j a at is)
+
+all-seen-more : {C : Type 0} (g : Config) (ks : List (Kept (Known C))) (s t : List (List Line)) → ((i : ℕ) → StartsWith (front_of (turn_of g i) t) (front_of (turn_of g i) s)) → AllEventsSeen g ks s → AllEventsSeen g ks t
 all-seen-more g [] s t more all = tt
 all-seen-more g (k ∷ ks) s t more all = (are-seen-more g k.number k.view.mine s t more all.0, all-seen-more g ks s t more all.1)
 
@@ -246,11 +249,15 @@ module _ {C : Type 0} (m : Meanings C) (cache : Cache) (p : Place (Known C)) whe
     pub about : q.own.about ≡ p.own.about
     pub ledger : q.own.ledger ≡ p.own.ledger
     pub joined : q.joined ≡ joined_of others
-    pub seen : HasSeenItsOwn gc q
+    pub seen : HasSeenItsEvents gc q
     pub self : HasLearned gc p q
     pub all : AllByRecursion (λ o. HasLearned gc o q) others
     pub level : (lines : ℕ → List Line) → IsLevel gc lines p → AllByRecursion (IsLevel gc lines) others → IsLevel gc lines q
-    pub cells : (entries : ℕ → List Line) → HasSeenCells gc entries p → AllByRecursion (HasSeenCells gc entries) others → HasSeenCells gc entries q
+    pub cells : HasSeenItsEntries gc p → AllByRecursion (HasSeenItsEntries gc) others → HasSeenItsEntries gc q
+    pub mine : q.own.mine ≡ p.own.mine
+    -- they are parties of the cache
+    pub below : AllByRecursion (λ o. o.number < parties_of gc) others
+    pub only : MadeItsOwn gc p → MadeItsOwn gc q
 
   none-joined : MayJoin cache p → HaveJoined [] p
   none-joined may = record {
@@ -262,10 +269,17 @@ module _ {C : Type 0} (m : Meanings C) (cache : Cache) (p : Place (Known C)) whe
     ledger = refl;
     joined = may.alone;
     seen = may.seen;
-    self = record { starts = λ i. starts_whole (front_of (turn_of gc i) p.own.seen); own = λ shard. refl };
+    self = record {
+      starts = λ i. starts_whole (front_of (turn_of gc i) p.own.seen);
+      cells = λ i in_range. starts_whole (front_of i p.own.seen);
+      own = λ shard. refl;
+    };
     all = tt;
     level = λ lines own rest. own;
-    cells = λ entries own rest. own;
+    cells = λ own rest. own;
+    mine = refl;
+    below = tt;
+    only = λ only. only;
   }
 
   -- one more
@@ -279,43 +293,42 @@ module _ {C : Type 0} (m : Meanings C) (cache : Cache) (p : Place (Known C)) whe
     joined-is : q.joined ≡ joined_of (o ∷ os)
     joined-is = ap (λ (ks : List (Kept (Known C))). (kept o.number o.own (length ks) ∷ ks) ++ r.joined) may.alone ∙ ap (λ (ks : List (Kept (Known C))). kept o.number o.own 0 ∷ ks) have.joined
 
-    others-seen : AllSeen gc (joined_of os) r.own.seen
-    others-seen = subst (λ (ks : List (Kept (Known C))). AllSeen gc ks r.own.seen) have.joined have.seen.joined
+    others-seen : AllEventsSeen gc (joined_of os) r.own.seen
+    others-seen = subst (λ (ks : List (Kept (Known C))). AllEventsSeen gc ks r.own.seen) have.joined have.seen.joined
 
     others-shown : AllShow w.board.views (joined_of os)
     others-shown = subst (AllShow w.board.views) (ap (λ (ks : List (Kept (Known C))). ks ++ r.joined) may.alone ∙ have.joined) w.stands.shows.1.1
 
-    each-then : (ks : List (Place (Known C))) → AllShow w.board.views (joined_of ks) → AllSeen gc (joined_of ks) r.own.seen → AllByRecursion (λ k. HasLearned gc k r) ks → AllByRecursion (λ k. HasLearned gc k q) ks
+    each-then : (ks : List (Place (Known C))) → AllShow w.board.views (joined_of ks) → AllEventsSeen gc (joined_of ks) r.own.seen → AllByRecursion (λ k. HasLearned gc k r) ks → AllByRecursion (λ k. HasLearned gc k q) ks
     each-then [] shown seen all = tt
     each-then (k ∷ ks) shown seen all = (
       record {
         starts = λ i. starts-then (front_of (turn_of gc i) q.own.seen) (front_of (turn_of gc i) r.own.seen) (front_of (turn_of gc i) k.own.seen) (grows i) (all.0.starts i);
+        cells = λ i in_range. starts-then (front_of i q.own.seen) (front_of i r.own.seen) (front_of i k.own.seen) (grows-r m gc r o w i) (all.0.cells i in_range);
         own = λ shard. same-joined m gc r o w (kept k.number k.own 0) shown.0 seen.0 shard ∙ all.0.own shard;
       },
       each-then ks shown.1 seen.1 all.1,
     )
 
-    -- where both have seen the same entries of cells
-    cells-more : (entries : ℕ → List Line) → HasSeenCells gc entries r → HasSeenCells gc entries o → HasSeenCells gc entries q
-    cells-more entries has_r has_o = record {
-      fronts = λ i in_range. same_r i in_range ∙ has_r.fronts i in_range;
-      made = record {
-        own = entries-as gc r.number r.own.mine r.own.seen q.own.seen same_r has_r.made.own;
-        joined = subst (λ (ks : List (Kept (Known C))). AllEntriesSeen gc ks q.own.seen) (sym joined-is) (
-          entries-as gc o.number o.own.mine o.own.seen q.own.seen same_o has_o.made.own,
-          all-entries-as gc (joined_of os) r.own.seen q.own.seen same_r (subst (λ (ks : List (Kept (Known C))). AllEntriesSeen gc ks r.own.seen) have.joined has_r.made.joined),
-        );
-      };
+    -- the other is one of the cache's parties
+    other-party : o.number < parties_of gc
+    other-party =
+        let view = w.held.attached.views r.number r.own w.stands.shows.0 in
+        let settled : w.held.scene.about.config ≡ gc = ap (λ (a : About). a.config) (sym view.about) ∙ have.of.config in
+        subst (λ (c : Config). o.number < parties_of c) settled (subst (λ (n : ℕ). o.number < n) w.held.attached.parties (within w.board.views o.number o.own w.stands.shows.1.0))
+
+    -- it has seen all entries that both made
+    cells-more : HasSeenItsEntries gc r → HasSeenItsEntries gc o → HasSeenItsEntries gc q
+    cells-more has_r has_o = record {
+      own = entries-more gc r.number r.own.mine r.own.seen q.own.seen grown_r has_r.own;
+      joined = subst (λ (ks : List (Kept (Known C))). AllEntriesSeen gc ks q.own.seen) (sym joined-is) (
+        entries-more gc o.number o.own.mine o.own.seen q.own.seen (λ i in_range. grows-o m gc r o w i) has_o.own,
+        all-entries-more gc (joined_of os) r.own.seen q.own.seen grown_r (subst (λ (ks : List (Kept (Known C))). AllEntriesSeen gc ks r.own.seen) have.joined has_r.joined),
+      );
     }
       where
-        same_r : (i : ℕ) → IsCell gc i → front_of i q.own.seen ≡ front_of i r.own.seen
-        same_r i in_range = elim (front_both i r.own.seen o.own.seen) [
-          | inl is ↦ is
-          | inr is ↦ is ∙ (has_o.fronts i in_range ∙ sym (has_r.fronts i in_range))
-        ]
-
-        same_o : (i : ℕ) → IsCell gc i → front_of i q.own.seen ≡ front_of i o.own.seen
-        same_o i in_range = same_r i in_range ∙ (has_r.fronts i in_range ∙ sym (has_o.fronts i in_range))
+        grown_r : CellsGrow gc r.own.seen q.own.seen
+        grown_r i in_range = grows-r m gc r o w i
 
     one-more : HaveJoined (o ∷ os) q
     one-more = record {
@@ -328,21 +341,27 @@ module _ {C : Type 0} (m : Meanings C) (cache : Cache) (p : Place (Known C)) whe
       joined = joined-is;
       seen = record {
         own = are-seen-more gc r.number r.own.mine r.own.seen q.own.seen grows have.seen.own;
-        joined = subst (λ (ks : List (Kept (Known C))). AllSeen gc ks q.own.seen) (sym joined-is) (
+        joined = subst (λ (ks : List (Kept (Known C))). AllEventsSeen gc ks q.own.seen) (sym joined-is) (
           are-seen-more gc o.number o.own.mine o.own.seen q.own.seen (λ i. grows-o m gc r o w (turn_of gc i)) may.seen.own,
           all-seen-more gc (joined_of os) r.own.seen q.own.seen grows others-seen,
         );
       };
       self = record {
         starts = λ i. starts-then (front_of (turn_of gc i) q.own.seen) (front_of (turn_of gc i) r.own.seen) (front_of (turn_of gc i) p.own.seen) (grows i) (have.self.starts i);
+        cells = λ i in_range. starts-then (front_of i q.own.seen) (front_of i r.own.seen) (front_of i p.own.seen) (grows-r m gc r o w i) (have.self.cells i in_range);
         own = λ shard. subst (λ (n : ℕ). HasSameOwn gc n r.own.seen q.own.seen) have.number (same-r m gc r o w have.seen.own) shard ∙ have.self.own shard;
       };
-      all = (record { starts = λ i. grows-o m gc r o w (turn_of gc i); own = same-o m gc r o w may.seen.own }, each-then os others-shown others-seen have.all);
+      all = (record { starts = λ i. grows-o m gc r o w (turn_of gc i); cells = λ i in_range. grows-o m gc r o w i; own = same-o m gc r o w may.seen.own }, each-then os others-shown others-seen have.all);
       level = λ lines own rest shard. elim (front_both (turn_of gc shard) r.own.seen o.own.seen) [
         | inl is ↦ is ∙ have.level lines own rest.1 shard
         | inr is ↦ is ∙ rest.0 shard
       ];
-      cells = λ entries own rest. cells-more entries (have.cells entries own rest.1) rest.0;
+      cells = λ own rest. cells-more (have.cells own rest.1) rest.0;
+      mine = have.mine;
+      below = (other-party, have.below);
+      only = λ only.
+          let then = have.only only in
+          record { events = own-seen-more gc r.number r.own.mine r.own.seen q.own.seen grows then.events; entries = then.entries };
     }
 
   pub have-joined : MayJoin cache p → (others : List (Place (Known C))) (q : Place (Known C)) → AllByRecursion (MayJoin cache) others → JoinAll m others p q → HaveJoined others q
@@ -395,9 +414,9 @@ starts-events h f starts = (events_in starts.0, ap events_in starts.1 ∙ events
 
 -- ---- another party parts from r, which has made since nothing of its number
 
-module _ {C : Type 0} (entries : ℕ → List Line) (cache : Cache) (q r o : Place (Known C)) (learned : HasLearned cache.config o q) (of : IsPartyOf cache r)
-    (of_cells : (i : ℕ) → IsCell cache.config i → front_of i r.own.seen ≡ entries i)
+module _ {C : Type 0} (cache : Cache) (q r o : Place (Known C)) (learned : HasLearned cache.config o q) (of : IsPartyOf cache r)
     (more : (i : ℕ) → StartsWith (front_of (turn_of cache.config i) r.own.seen) (front_of (turn_of cache.config i) q.own.seen))
+    (of_cells : CellsGrow cache.config q.own.seen r.own.seen)
     (unmade : (shard : ℕ) → own_moments o.number (moments (opening_of cache.config) (seen_of cache.config shard r)) ≡ own_moments o.number (moments (opening_of cache.config) (seen_of cache.config shard q))) where
   abbrev parting : Place (Known C)
   parting = parted_from r o
@@ -417,12 +436,13 @@ module _ {C : Type 0} (entries : ℕ → List Line) (cache : Cache) (q r o : Pla
   x-own : HasSameOwn cache.config o.number o.own.seen parting.own.seen
   x-own shard = ap (λ (l : List Line). own_moments o.number (moments (opening_of cache.config) (events_in l))) (x-front shard) ∙ (unmade shard ∙ learned.own shard)
 
-  -- where o has seen no entry of a cell
-  cells-then : HasSeenCells cache.config no_entries o → (i : ℕ) → IsCell cache.config i → front_of i parting.own.seen ≡ entries i
-  cells-then has i in_range =
-      parted-front i o.own.seen r.own.seen (front_of i r.own.seen, ap (λ (l : List Line). l ++ front_of i r.own.seen) (sym (has.fronts i in_range))) ∙ of_cells i in_range
+  cell-starts : (i : ℕ) → IsCell cache.config i → StartsWith (front_of i r.own.seen) (front_of i o.own.seen)
+  cell-starts i in_range = starts-then (front_of i r.own.seen) (front_of i q.own.seen) (front_of i o.own.seen) (of_cells i in_range) (learned.cells i in_range)
 
-  pub parted-then : HasPartedWith entries cache r-front o parting
+  x-cells : CellsGrow cache.config o.own.seen parting.own.seen
+  x-cells i in_range = subst (λ (l : List Line). StartsWith l (front_of i o.own.seen)) (sym (parted-front i o.own.seen r.own.seen (cell-starts i in_range))) (cell-starts i in_range)
+
+  pub parted-then : HasParted cache r-front o parting
   parted-then = record {
     level = x-front;
     number = refl;
@@ -432,15 +452,7 @@ module _ {C : Type 0} (entries : ℕ → List Line) (cache : Cache) (q r o : Pla
       valid = stands.valid;
       of = record { row = of.row; config = stands.of.config };
       free = refl;
-      cells = record {
-        fronts = cells-then stands.cells;
-        made = record {
-          own = λ i j a in_range at is.
-              let h = stands.cells.made.own i j a in_range at is in
-              absurd (some-ne-none (line.Entry (o.number ∷ h.rest)) (sym (ap (λ (l : List Line). get_elem? l a.place) (sym (stands.cells.fronts i in_range)) ∙ h.there)));
-          joined = tt;
-        };
-      };
+      cells = record { own = entries-more cache.config o.number o.own.mine o.own.seen parting.own.seen x-cells stands.cells.own; joined = tt };
       idle = stands.idle;
       unclaimed = stands.unclaimed;
       seen = record { own = are-seen-more cache.config o.number o.own.mine o.own.seen parting.own.seen x-starts stands.seen.own; joined = tt };
@@ -451,6 +463,8 @@ module _ {C : Type 0} (entries : ℕ → List Line) (cache : Cache) (q r o : Pla
     };
     own = x-own;
     starts = λ shard. starts-events (front_of (turn_of cache.config shard) parting.own.seen) (front_of (turn_of cache.config shard) o.own.seen) (x-starts shard);
+    mine = refl;
+    only = λ only. record { events = own-seen-more cache.config o.number o.own.mine o.own.seen parting.own.seen x-starts only.events; entries = only.entries };
   }
 
 -- a party that waits still does once it has parted
@@ -459,8 +473,11 @@ parted-waits cache lines old new parted n acts kept waits = record {
   number = parted.number ∙ waits.number;
   alone = parted.alone;
   stands = parted.stands kept waits.stands;
-  told = λ shard. subst (λ (k : ℕ). Tell (acts_in (shard_of cache.config.shards) shard k acts) (own_moments k (moments (opening_of cache.config) (seen_of cache.config shard new)))) (sym parted.number)
-      (subst (Tell (acts_in (shard_of cache.config.shards) shard old.number acts)) (sym (parted.own shard)) (waits.told shard));
+  told = record {
+    acts = λ shard. subst (λ (k : ℕ). Tell (acts_in (shard_of cache.config.shards) shard k acts) (own_moments k (moments (opening_of cache.config) (seen_of cache.config shard new)))) (sym parted.number)
+        (subst (Tell (acts_in (shard_of cache.config.shards) shard old.number acts)) (sym (parted.own shard)) (waits.told.acts shard));
+    only = parted.only waits.told.only;
+  };
 }
 
 -- and the feeder's has made what it had
@@ -474,6 +491,7 @@ parted-fed cache lines old new parted openings fed since is = record {
       ap (λ (k : ℕ). own_events k (seen_of cache.config shard new)) parted.number
       ∙ (same-own-events cache.config old.number (seen_of cache.config shard old) (seen_of cache.config shard new) (parted.own shard) ∙ is.fed shard below);
   since = λ shard. starts-then (seen_of cache.config shard new) (seen_of cache.config shard old) (since shard) (parted.starts shard) (is.since shard);
+  only = parted.only is.only;
 }
 
 -- ---- lists by their ends

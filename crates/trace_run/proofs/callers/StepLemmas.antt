@@ -1,6 +1,7 @@
 -- One group more of several callers: what their pool counts then, which groups were done, and what stands before the next one.
 use Rattle.std.proofs.Common.{◌≡◌, ℕ, zero, suc, ◌+◌, ◌%◌, ◌^◌, ◌<◌, ◌≤◌, Bool, true, false, Option, List, [], ◌∷◌, ◌++◌, Some, None, length, take, drop, refl, sym, ap, ◌∙◌, subst, arith, append_assoc, length-append, ◌-◌, inl, inr}
 use Rattle.std.specs.Prelude.{count_by, slice_get, slice_range}
+use Rattle.std.specs.List.{AllByRecursion}
 use Rattle.std.proofs.lemmas.Bool.{false≢true}
 use Rattle.std.proofs.lemmas.List.{length-drop, length-take-le}
 use Rattle.std.proofs.lemmas.List.Sums.{count_by-le-length, sum_by-append}
@@ -16,6 +17,7 @@ use Rattle.arc_table.specs.Cache.{Cache}
 use Rattle.arc_table.specs.Geometry.{parties_of}
 use Rattle.dbuf_cells.specs.Turns.{OnHeap, PartyPlace}
 use Rattle.arc_core.specs.declared.config.Config.{Config}
+use Rattle.trace_run.specs.Making.{AreNoEntries}
 use Rattle.trace_run.specs.Meeting.{MadeJoined, MayGoOn}
 use Rattle.trace_run.specs.Opened.{AreOpened}
 use Rattle.trace_run.specs.Restores.{restores_in}
@@ -42,7 +44,7 @@ use Rattle.trace_run.specs.callers.Together.{BeginsGroup, EndLine, EndsGroup, Li
 use Rattle.trace_run.proofs.callers.AbsorbLemmas.{over-few}
 use Rattle.trace_run.proofs.callers.CallerActLemmas.{line-kind}
 use Rattle.trace_run.proofs.callers.GroupCounts.{over-add, over-same, over-zero}
-use Rattle.trace_run.proofs.callers.GroupRunLemmas.{all-callers, all-declared, may-resize, where-few}
+use Rattle.trace_run.proofs.callers.GroupRunLemmas.{all-callers, all-declared, come-unwritten, may-resize, where-few}
 use Rattle.trace_run.proofs.callers.EndLineLemmas.{IsUnused, Turned, end-turned, not-replied}
 use Rattle.trace_run.proofs.callers.GroupsLemmas.{group-ended, group-last, groups-append, have-come-ended, have-come-more, have-restored, have-started, where-append, whole-of}
 use Rattle.trace_run.proofs.RunLemmas.{calls-faults, calls-few, calls-reads, failed-all}
@@ -294,7 +296,7 @@ module _ {P : Type 0} (cache : Cache) (restored : List Restored) (pools : Ghosts
     knows-new = ap (λ (p : PartyPlace). p.own.about.openings) did.feeder ∙ between.knows
 
     turn : Turned cache pools (openings_of trace) op reply (stand to was.group was.next) fin new last
-    turn = end-turned cache pools (openings_of trace) op (stand to was.group was.next) fin new last reply knows-new ended
+    turn = end-turned cache pools (openings_of trace) op (stand to was.group was.next) fin new last reply knows-new (come-unwritten cache restored (pools.size start.pool) (pools.told start.pool) trace.blocks (os ++ qs) (rs ++ ss) new come-lines) ended
 
     come-ended-lines : HaveCome cache restored (pools.size start.pool) (pools.told start.pool) trace.blocks ((os ++ qs) ++ op ∷ []) all-replies last
     come-ended-lines = have-come-ended cache restored (pools.size start.pool) (pools.told start.pool) trace.blocks (os ++ qs) (rs ++ ss) op reply turn.more new last come-lines turn.so
@@ -425,6 +427,12 @@ module _ {P : Type 0} (cache : Cache) (restored : List Restored) (pools : Ghosts
   next-may rows =
       may-resize cache restored (pools.size start.pool) (pools.told start.pool) trace.blocks (take (length rs) trace.ops ++ qs) (rs ++ ss) new
       (come-lines cache restored pools trace start was from to rs ss qs old new formed.few_ops few-callers between more unused did-these leaves own (omega (arith, ends-at, few-lines)) here) rows
+
+  -- none of them has changed a cell
+  pub next-unwritten : AllByRecursion (λ o. AreNoEntries cache.config o.own.mine) (new.feeder ∷ new.parties.items)
+  next-unwritten =
+      come-unwritten cache restored (pools.size start.pool) (pools.told start.pool) trace.blocks (take (length rs) trace.ops ++ qs) (rs ++ ss) new
+      (come-lines cache restored pools trace start was from to rs ss qs old new formed.few_ops few-callers between more unused did-these leaves own (omega (arith, ends-at, few-lines)) here)
 
   -- the sync that ends it may be done
   pub next-sync : (lines : ℕ) × (lines < 2 ^ 32) × MaySync pools lines (stand to was.group was.next)

@@ -18,47 +18,48 @@ use Rattle.arc_table.specs.Cache.{Cache}
 use Rattle.arc_table.specs.Fronts.{StartsWith, front_of, list_at}
 use Rattle.arc_table.specs.Geometry.{parties_of}
 use Rattle.arc_table.specs.Items.{Meanings}
-use Rattle.arc_table.specs.Seen.{HasAll, events_in, seen_of, turn_of}
+use Rattle.arc_table.specs.Seen.{HasAll, HasSeenItsEntries, events_in, seen_of, turn_of}
 use Rattle.arc_table.specs.Telling.{opening_of}
-use Rattle.arc_table.specs.Told.{IsTold}
+use Rattle.trace_run.specs.Making.{HasTold, MadeItsOwn}
 use Rattle.arc_table.proofs.OwnLemmas.{no-own-moments, own-append}
 use Rattle.trace_run.specs.declared.kept_blocks.KeptBlock.{KeptBlock}
 use Rattle.trace_run.specs.Acts.{acts_of_drops}
-use Rattle.trace_run.specs.KeptBlocks.{AllQuiet, GivesAll, HasSeenCells, IsOwnedBy, Stands, StandsWith, holds_in, no_entries, read_of, times}
+use Rattle.trace_run.specs.KeptBlocks.{AllQuiet, GivesAll, IsOwnedBy, Stands, holds_in, read_of, times}
 use Rattle.trace_run.specs.KeptReads.{KeptRead}
-use Rattle.trace_run.specs.Meeting.{AreLast, GaveBackJoined, HasLearned, HaveParted, IsApart, IsApartWith, IsFed, IsLevel, JoinAll, MayJoin, PartAll, Waits}
+use Rattle.trace_run.specs.Meeting.{AreLast, GaveBackJoined, HasLearned, HaveParted, IsApart, IsFed, IsLevel, JoinAll, MayJoin, PartAll, Waits}
 use Rattle.trace_run.specs.one_caller.OneCaller.{events_of_drops}
 use Rattle.trace_run.proofs.GiveLemmas.{all-alone, all-keep, all-leave, all-number, all-stand, all-told}
+use Rattle.trace_run.proofs.CellsLeft.{LeavesCells, leaves-grow}
 use Rattle.trace_run.proofs.callers.MeetLemmas.{HaveJoined, all-parted, are-last, have-joined, joined_of, left_alone, parted-then, parted_from, same-own-events, starts-events, starts-then}
 use Rattle.trace_run.proofs.one_caller.TellLemmas.{IsMine, mine-drops}
 
 -- ---- numbers
 
 -- a number that one of these parties has, each by itself, is among those that are kept of them
-pub number-kept : {C : Type 0} (entries : ℕ → List Line) (cache : Cache) (n : ℕ) (os : List (Place (Known C))) → AllByRecursion (IsApartWith entries cache) os → SomeHas n os → IsIn n (joined_of os)
-number-kept entries cache n [] apart has = has
-number-kept entries cache n (o ∷ os) apart (inl (inl is)) = inl is
-number-kept entries cache n (o ∷ os) apart (inl (inr among)) = absurd (subst (IsIn n) apart.0.2 among)
-number-kept entries cache n (o ∷ os) apart (inr rest) = inr (number-kept entries cache n os apart.1 rest)
+pub number-kept : {C : Type 0} (cache : Cache) (n : ℕ) (os : List (Place (Known C))) → AllByRecursion (IsApart cache) os → SomeHas n os → IsIn n (joined_of os)
+number-kept cache n [] apart has = has
+number-kept cache n (o ∷ os) apart (inl (inl is)) = inl is
+number-kept cache n (o ∷ os) apart (inl (inr among)) = absurd (subst (IsIn n) apart.0.2 among)
+number-kept cache n (o ∷ os) apart (inr rest) = inr (number-kept cache n os apart.1 rest)
 
 pub apart-kept : {C : Type 0} (n : ℕ) (os : List (Place (Known C))) → AllByRecursion (λ o. o.number ≢ n) os → Apart n (joined_of os)
 apart-kept n [] differ = tt
 apart-kept n (o ∷ os) differ = (differ.0, apart-kept n os differ.1)
 
-pub quiet-kept : {C : Type 0} (entries : ℕ → List Line) (cache : Cache) (os : List (Place (Known C))) → AllByRecursion (IsApartWith entries cache) os → AllQuiet (joined_of os)
-quiet-kept entries cache [] apart = tt
-quiet-kept entries cache (o ∷ os) apart = (apart.0.1.idle, apart.0.1.unclaimed, quiet-kept entries cache os apart.1)
+pub quiet-kept : {C : Type 0} (cache : Cache) (os : List (Place (Known C))) → AllByRecursion (IsApart cache) os → AllQuiet (joined_of os)
+quiet-kept cache [] apart = tt
+quiet-kept cache (o ∷ os) apart = (apart.0.1.idle, apart.0.1.unclaimed, quiet-kept cache os apart.1)
 
-pub may-join : {C : Type 0} {entries : ℕ → List Line} (cache : Cache) (kept : List KeptBlock) (p : Place (Known C)) → StandsWith entries cache p kept → p.joined ≡ [] → MayJoin cache p
+pub may-join : {C : Type 0} (cache : Cache) (kept : List KeptBlock) (p : Place (Known C)) → Stands cache p kept → p.joined ≡ [] → MayJoin cache p
 may-join cache kept p stands alone = record { of = stands.of; free = stands.free; alone = alone; seen = stands.seen }
 
-pub all-may : {C : Type 0} (entries : ℕ → List Line) (cache : Cache) (os : List (Place (Known C))) → AllByRecursion (IsApartWith entries cache) os → AllByRecursion (MayJoin cache) os
-all-may entries cache [] apart = tt
-all-may entries cache (o ∷ os) apart = (may-join cache apart.0.0 o apart.0.1 apart.0.2, all-may entries cache os apart.1)
+pub all-may : {C : Type 0} (cache : Cache) (os : List (Place (Known C))) → AllByRecursion (IsApart cache) os → AllByRecursion (MayJoin cache) os
+all-may cache [] apart = tt
+all-may cache (o ∷ os) apart = (may-join cache apart.0.0 o apart.0.1 apart.0.2, all-may cache os apart.1)
 
-all-cells : {C : Type 0} (entries : ℕ → List Line) (cache : Cache) (os : List (Place (Known C))) → AllByRecursion (IsApartWith entries cache) os → AllByRecursion (HasSeenCells cache.config entries) os
-all-cells entries cache [] apart = tt
-all-cells entries cache (o ∷ os) apart = (apart.0.1.cells, all-cells entries cache os apart.1)
+all-cells : {C : Type 0} (cache : Cache) (os : List (Place (Known C))) → AllByRecursion (IsApart cache) os → AllByRecursion (HasSeenItsEntries cache.config) os
+all-cells cache [] apart = tt
+all-cells cache (o ∷ os) apart = (apart.0.1.cells, all-cells cache os apart.1)
 
 -- ---- the drops of one number are no other's
 
@@ -75,26 +76,26 @@ other-drops n k s front reads differs =
 
 -- ---- the step
 
-module _ {C : Type 0} {entries : ℕ → List Line} (m : Meanings C) (cache : Cache) (p : Place (Known C)) (kept : List KeptBlock) (others : List (Place (Known C))) (stands : StandsWith entries cache p kept) (alone : p.joined ≡ [])
-    (apart : AllByRecursion (IsApartWith entries cache) others) (everyone : (n : ℕ) → n < parties_of cache.config → SomeHas n (p ∷ others)) (count : p.parties ≡ parties_of cache.config)
+module _ {C : Type 0} (m : Meanings C) (cache : Cache) (p : Place (Known C)) (kept : List KeptBlock) (others : List (Place (Known C))) (stands : Stands cache p kept) (alone : p.joined ≡ [])
+    (apart : AllByRecursion (IsApart cache) others) (everyone : (n : ℕ) → n < parties_of cache.config → SomeHas n (p ∷ others)) (count : p.parties ≡ parties_of cache.config)
     (differ : AllByRecursion (λ o. o.number ≢ p.number) others) (q : Place (Known C)) (joins : JoinAll m others p q) where
   abbrev g : Config
   g = cache.config
 
   pub joined : HaveJoined m cache p others q
-  joined = have-joined m cache p (may-join cache kept p stands alone) others q (all-may entries cache others apart) joins
+  joined = have-joined m cache p (may-join cache kept p stands alone) others q (all-may cache others apart) joins
 
-  pub joined-stands : StandsWith entries cache q kept
+  pub joined-stands : Stands cache q kept
   joined-stands = record {
     valid = stands.valid;
     of = joined.of;
     free = joined.held;
-    cells = joined.cells entries stands.cells (all-cells entries cache others apart);
+    cells = joined.cells stands.cells (all-cells cache others apart);
     idle = ap (λ (l : Ledger). l.readings) joined.ledger ∙ stands.idle;
     unclaimed = λ i. ap (λ (l : Ledger). list_at i l.claims) joined.ledger ∙ stands.unclaimed i;
     seen = joined.seen;
     apart = subst (λ (x : ℕ × List (Kept (Known C))). Apart x.0 x.1) (λ i. (sym joined.number i, sym joined.joined i)) (apart-kept p.number others differ);
-    joined = subst AllQuiet (sym joined.joined) (quiet-kept entries cache others apart);
+    joined = subst AllQuiet (sym joined.joined) (quiet-kept cache others apart);
     owned = subst (λ (n : ℕ). AllByRecursion (λ b. IsOwnedBy n b.kept) kept) (sym joined.number) stands.owned;
     listed = λ x. ap (λ (l : Ledger). times x l.holds) joined.ledger ∙ stands.listed x;
   }
@@ -105,7 +106,7 @@ module _ {C : Type 0} {entries : ℕ → List Line} (m : Meanings C) (cache : Ca
       has : SomeHas n (p ∷ others) → HasNumber n q
       has (inl (inl is)) = inl (joined.number ∙ is)
       has (inl (inr among)) = absurd (subst (IsIn n) alone among)
-      has (inr rest) = inr (subst (IsIn n) (sym joined.joined) (number-kept entries cache n others apart rest))
+      has (inr rest) = inr (subst (IsIn n) (sym joined.joined) (number-kept cache n others apart rest))
 
 module _ {C : Type 0} (m : Meanings C) (cache : Cache) (p : Place (Known C)) (kept : List KeptBlock) (others : List (Place (Known C))) (stands : Stands cache p kept) (alone : p.joined ≡ [])
     (apart : AllByRecursion (IsApart cache) others) (everyone : (n : ℕ) → n < parties_of cache.config → SomeHas n (p ∷ others)) (count : p.parties ≡ parties_of cache.config)
@@ -138,6 +139,9 @@ module _ {C : Type 0} (m : Meanings C) (cache : Cache) (p : Place (Known C)) (ke
     more : (i : ℕ) → StartsWith (front_of (turn_of gk i) r.own.seen) (front_of (turn_of gk i) q.own.seen)
     more = (all-keep m cache kept q r q-stands gives).1
 
+    left : LeavesCells gk q r
+    left = all-leave m cache kept q r q-stands gives
+
     abbrev reads : List KeptRead
     reads = map read_of kept
 
@@ -156,7 +160,7 @@ module _ {C : Type 0} (m : Meanings C) (cache : Cache) (p : Place (Known C)) (ke
 
     all-parted-from : (os : List (Place (Known C))) → AllByRecursion (λ o. HasLearned gk o q) os → AllByRecursion (λ o. o.number ≢ p.number) os → HaveParted cache lines os (map (parted_from r) os)
     all-parted-from [] learned others_differ = tt
-    all-parted-from (o ∷ os) learned others_differ = (parted-then no_entries cache q r o learned.0 after.of after.cells.fronts more (unmade o others_differ.0), all-parted-from os learned.1 others_differ.1)
+    all-parted-from (o ∷ os) learned others_differ = (parted-then cache q r o learned.0 after.of more (leaves-grow gk q r left) (unmade o others_differ.0), all-parted-from os learned.1 others_differ.1)
 
     -- the party itself
     abbrev last : Place (Known C)
@@ -167,7 +171,7 @@ module _ {C : Type 0} (m : Meanings C) (cache : Cache) (p : Place (Known C)) (ke
       valid = after.valid;
       of = record { row = after.of.row; config = after.of.config };
       free = after.free;
-      cells = record { fronts = after.cells.fronts; made = record { own = after.cells.made.own; joined = tt } };
+      cells = record { own = after.cells.own; joined = tt };
       idle = after.idle;
       unclaimed = after.unclaimed;
       seen = record { own = after.seen.own; joined = tt };
@@ -192,6 +196,16 @@ module _ {C : Type 0} (m : Meanings C) (cache : Cache) (p : Place (Known C)) (ke
           starts-then (seen_of gk shard r) (seen_of gk shard p) (since shard)
           (starts-events (lines shard) (front_of (turn_of gk shard) p.own.seen) (starts-then (lines shard) (front_of (turn_of gk shard) q.own.seen) (front_of (turn_of gk shard) p.own.seen) (more shard) (have.self.starts shard)))
           (is.since shard);
+      only =
+          let then : MadeItsOwn gk r = subst (MadeItsOwn gk) (sym (subst (λ (l : List KeptBlock). GivesAll m gk l q r) none gives)) (have.only is.only) in
+          record { events = then.events; entries = then.entries };
+    }
+
+    joined-told : {n : ℕ} {acts : List Act} → Waits cache n acts kept p → HasTold gk acts q
+    joined-told {n} {acts} waits = record {
+      acts = λ s. subst (λ (k : ℕ). Tell (acts_in (shard_of gk.shards) s k acts) (own_moments k (moments (opening_of gk) (seen_of gk s q)))) (sym have.number)
+          (subst (Tell (acts_in (shard_of gk.shards) s p.number acts)) (sym (have.self.own s)) (waits.told.acts s));
+      only = have.only waits.told.only;
     }
 
     last-waits : (n : ℕ) (acts : List Act) → Waits cache n acts kept p → Waits cache n (acts ++ acts_of_drops n reads) [] last
@@ -199,10 +213,9 @@ module _ {C : Type 0} (m : Meanings C) (cache : Cache) (p : Place (Known C)) (ke
       number = number ∙ waits.number;
       alone = refl;
       stands = last-stands;
-      told = λ shard. subst (λ (k : ℕ). IsTold gk (acts ++ acts_of_drops k reads) r) (have.number ∙ waits.number)
-          (all-told m cache kept q r q-stands gives acts
-          (λ s. subst (λ (k : ℕ). Tell (acts_in (shard_of gk.shards) s k acts) (own_moments k (moments (opening_of gk) (seen_of gk s q)))) (sym have.number)
-          (subst (Tell (acts_in (shard_of gk.shards) s p.number acts)) (sym (have.self.own s)) (waits.told s)))) shard;
+      told =
+          let then : HasTold gk (acts ++ acts_of_drops n reads) r = subst (λ (k : ℕ). HasTold gk (acts ++ acts_of_drops k reads) r) (have.number ∙ waits.number) (all-told m cache kept q r q-stands gives acts (joined-told waits)) in
+          record { acts = then.acts; only = record { events = then.only.events; entries = then.only.entries } };
     }
 
     module _ (numbers : List ℕ) (numbers_are : numbers ≡ map (λ o. o.number) others) (xs : List (Place (Known C))) (z : Place (Known C)) (parts : PartAll numbers r xs z) where

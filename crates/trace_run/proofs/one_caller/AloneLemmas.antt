@@ -22,7 +22,6 @@ use Rattle.arc_core.specs.Replay.{is_legal_history, replay}
 use Rattle.arc_core.specs.ShardLog.{ShardLog}
 use Rattle.turn_table.specs.Places.{Place, SomeHas}
 use Rattle.arc_table.specs.declared.view.Known.{Known}
-use Rattle.arc_table.specs.declared.view.Line.{Line}
 use Rattle.arc_table.specs.Cache.{Cache}
 use Rattle.arc_table.specs.Ended.{Ended, Ends}
 use Rattle.arc_table.specs.Geometry.{parties_of}
@@ -42,7 +41,7 @@ use Rattle.trace_run.specs.Effects.{calls_of_all}
 use Rattle.trace_run.specs.Ends.{end_of, ends_of}
 use Rattle.arc_table.specs.Telling.{opening_of}
 use Rattle.trace_run.specs.Explaining.{BeginsWith, EndsWith, Explain, drops_at_end}
-use Rattle.trace_run.specs.KeptBlocks.{DroppedAlone, GivesAll, Stands, StandsWith, holds_in, read_of}
+use Rattle.trace_run.specs.KeptBlocks.{DroppedAlone, GivesAll, Stands, holds_in, read_of}
 use Rattle.trace_run.specs.Lines.{caller_of, is_in_shard, is_of_caller, replies_where, shard_of_block, shard_of_line}
 use Rattle.trace_run.specs.one_caller.OneCaller.{AreFoundAs, IsFoundAs, events_of_drops, kept_after, kept_after_all, one_caller_history, only_feeder}
 use Rattle.trace_run.specs.Opened.{HasJoined}
@@ -52,6 +51,7 @@ use Rattle.trace_run.specs.Restores.{events_by_feeder, restored_shard, restores_
 use Rattle.arc_table.specs.Seen.{HasAll, seen_of}
 use Rattle.trace_run.specs.Tally.{AreAnswered, IsOfCaller}
 use Rattle.arc_table.specs.Told.{IsTold}
+use Rattle.trace_run.specs.Making.{AreNoEntries, HasTold}
 use Rattle.trace_run.proofs.MappedLemmas.{ran-mapped}
 use Rattle.trace_run.proofs.callers.CallerActLemmas.{callers-none}
 use Rattle.trace_run.proofs.FeederLemmas.{given-unread, own-restores, restores-given}
@@ -277,8 +277,12 @@ module _ {C P : Type 0} (m : Meanings C) (cache : Cache) (pools : Ghosts P) (blo
       ∙ (named-drops g blocks 0 shard (map read_of kept) named ∙ ap (λ (l : List KeptRead). events_of_drops 0 (kept_in_shard g.shards blocks shard l)) kept-is) in
       dropped.seen shard ∙ ((λ h. from h ++ drops h) ∙ (append_assoc (begun shard) over end ∙ ap (λ (es : List Event). begun shard ++ es) (history-over g.shards blocks 0 shard start os replies)))
 
+  -- what it did is told
+  pub told-r : HasTold g (acts_of_all blocks [] os replies ++ acts_of_drops q.number (map read_of kept)) r
+  told-r = all-told m cache kept q r between gives (acts_of_all blocks [] os replies) (lines-told g pools 0 blocks os replies a b did [] (fed.told [] first.new.told))
+
   -- the party that closes the cache is as it was, as far as shards go
-  module _ (entries : ℕ → List Line) (z : Place (Known C)) (same-number : z.number ≡ r.number) (same-parties : z.parties ≡ r.parties) (stands-z : StandsWith entries cache z []) (all-z : HasAll z)
+  module _ (z : Place (Known C)) (same-number : z.number ≡ r.number) (same-parties : z.parties ≡ r.parties) (stands-z : Stands cache z []) (all-z : HasAll z)
       (seen-z : (shard : ℕ) → seen_of g shard z ≡ seen_of g shard r) (closed : Ended C) (ends : Ends m cache (z ∷ []) closed) where
     number-z : z.number ≡ 0
     number-z = same-number ∙ number-r
@@ -331,8 +335,7 @@ module _ {C P : Type 0} (m : Meanings C) (cache : Cache) (pools : Ghosts P) (blo
 
     told-all : IsTold g (acts_of_caller blocks 0 his to-him) r
     told-all =
-        let lines = lines-told g pools 0 blocks os replies a b did [] (fed.told [] first.new.told) in
-        let then = all-told m cache kept q r between gives (acts_of_all blocks [] os replies) lines in
+        let then = told-r.acts in
         subst (λ (l : List Act). IsTold g l r) (λ h. sole-acts blocks [] os replies same-count all-his h ++ acts_of_drops (number-q h) ((kept-is ∙ sole-kept blocks [] os replies same-count all-his) h)) then
 
     told-z : IsTold g (acts_of_caller blocks 0 his to-him) z
@@ -460,11 +463,15 @@ module _ {C P : Type 0} (m : Meanings C) (cache : Cache) (pools : Ghosts P) (tra
   pub still-rows : cache.row.parties ≡ parties_of cache.config
   still-rows = sym last.of.row.1 ∙ parties-r m cache pools trace.blocks trace.ops replies before after p q r kept callers own restored new first fed did between gives last
 
+  -- it made nothing of a cell
+  pub still-only : AreNoEntries cache.config r.own.mine
+  still-only = (told-r m cache pools trace.blocks trace.ops replies before after p q r kept callers own restored new first fed did between gives last).only.entries
+
   -- the feeder's party has still joined it
   pub still-joined : r.joined ≡ q.joined
   still-joined = (all-keep m cache kept q r between gives).0
 
-  module _ (entries : ℕ → List Line) (z : Place (Known C)) (same-number : z.number ≡ r.number) (same-parties : z.parties ≡ r.parties) (stands-z : StandsWith entries cache z []) (all-z : HasAll z)
+  module _ (z : Place (Known C)) (same-number : z.number ≡ r.number) (same-parties : z.parties ≡ r.parties) (stands-z : Stands cache z []) (all-z : HasAll z)
       (seen-z : (shard : ℕ) → seen_of cache.config shard z ≡ seen_of cache.config shard r) where
     pub end-there : (n : ℕ) → n < parties_of cache.config → SomeHas n (z ∷ [])
     end-there = all-there cache z (same-parties ∙ parties-r m cache pools trace.blocks trace.ops replies before after p q r kept callers own restored new first fed did between gives last) all-z
@@ -473,5 +480,5 @@ module _ {C P : Type 0} (m : Meanings C) (cache : Cache) (pools : Ghosts P) (tra
     ran-alone given ps closed same listed ends =
         ran-mapped pools before after trace restored replies closed
         (subst (λ (g : Config). RanAlone pools before after (record { config = g; blocks = trace.blocks; objects = []; ops = trace.ops }) restored replies closed) config
-        (ran m cache pools trace.blocks trace.ops replies before after p q r kept callers own restored new first fed did between gives last entries z same-number same-parties stands-z all-z seen-z closed
+        (ran m cache pools trace.blocks trace.ops replies before after p q r kept callers own restored new first fed did between gives last z same-number same-parties stands-z all-z seen-z closed
         (subst (λ (x : Cache × List (Place (Known C))). Ends m x.0 x.1 closed) (λ i. (same i, listed i)) ends)))

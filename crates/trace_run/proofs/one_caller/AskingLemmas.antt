@@ -42,9 +42,10 @@ use Rattle.arc_table.specs.scans.Ending.{DoesRoomy}
 use Rattle.arc_table.specs.Fetching.{CameFromCache, IsAsked, IsNotToAsk, IsToAsk, Unserved, bytes_from, faulty, other_bytes, unasked}
 use Rattle.arc_table.specs.Items.{Meanings}
 use Rattle.arc_table.specs.Reading.{Answers, AnswersRead, EndsAtPool, EndsMiss, EndsPast, GoesToPool, KeepsDevice, Outside, answered, cleared, from_device, from_none, from_pool, hit, known_at, missed, no_memory, past, read, refused, unread, unserved}
-use Rattle.arc_table.specs.Seen.{HasAll, HasSeenItsOwn, seen_of}
+use Rattle.arc_table.specs.Seen.{HasAll, seen_of}
+use Rattle.trace_run.specs.Making.{HasSeenItsEvents}
 use Rattle.arc_table.specs.Telling.{opening_of}
-use Rattle.arc_table.proofs.MoveLemmas.{does-now, roomy-moves, roomy-now}
+use Rattle.trace_run.proofs.MoveLemmas.{does-now, roomy-moves, roomy-now}
 use Rattle.arc_table.proofs.reads.ReadMoments.{own-none, own-single}
 use Rattle.arc_table.proofs.Reached.{sound_log}
 use Rattle.arc_table.proofs.scans.ScanAlone.{scan-alone}
@@ -279,7 +280,7 @@ module _ {C P D : Type 0} (m : Meanings C) (g : Config) (valid : IsConfig g) (po
   AsksFor s (Err (fault.NoMemory)) old new = Unit {0}
 
   -- a party that is alone finds the place still that it found before its miss
-  place-still : (p r q : Place (Known C)) → p.own.about.config ≡ g → HasSeenItsOwn g p → HasAll p → (d : DoesRoomy m g ptr.key (Miss p.number ptr.key t) p r) → FindsCleared m g ptr.key r q
+  place-still : (p r q : Place (Known C)) → p.own.about.config ≡ g → HasSeenItsEvents g p → HasAll p → (d : DoesRoomy m g ptr.key (Miss p.number ptr.key t) p r) → FindsCleared m g ptr.key r q
       → place_of ptr.key d.before.now ≡ None
   place-still p r q config seen all d f =
       let e : Event = Miss p.number ptr.key t in
@@ -321,7 +322,7 @@ module _ {C P D : Type 0} (m : Meanings C) (g : Config) (valid : IsConfig g) (po
   past-asks s kept a b old new (Err (fault.Key why)) is same h = absurd h
   past-asks s kept a b old new (Err (fault.NoMemory)) is same h = tt
 
-  miss-asks : (before now : Outside P D) (p r q : Place (Known C)) (result : Result Read ReadFault) → p.own.about.config ≡ g → HasSeenItsOwn g p → HasAll p → (d : DoesRoomy m g ptr.key (Miss p.number ptr.key t) p r)
+  miss-asks : (before now : Outside P D) (p r q : Place (Known C)) (result : Result Read ReadFault) → p.own.about.config ≡ g → HasSeenItsEvents g p → HasAll p → (d : DoesRoomy m g ptr.key (Miss p.number ptr.key t) p r)
       → access_of d.before.now ptr ≡ access.Miss → EndsMiss m pools devices g ptr (known_at ptr.key d.before) before now r q result → AsksFor d.before.now result before.device now.device
   miss-asks before now p r q result config seen all d is_miss (from_device hold is a) =
       subst (λ (x : Result Read ReadFault). AsksFor d.before.now x before.device now.device) (sym is) (device-served devices law d.before.now ptr before.device now.device is_miss hold.block.value a.bytes)
@@ -332,7 +333,7 @@ module _ {C P D : Type 0} (m : Meanings C) (g : Config) (valid : IsConfig g) (po
       let never : None ≡ Some came.place = sym gone ∙ there in cc
   miss-asks before now p r q result config seen all d is_miss (from_none asked f) = subst (λ (x : Result Read ReadFault). AsksFor d.before.now x before.device now.device) (sym f.answer) tt
 
-  answer-asks : (before now : Outside P D) (p q : Place (Known C)) (result : Result Read ReadFault) → p.own.about.config ≡ g → HasSeenItsOwn g p → HasAll p → Answers m pools devices g ptr t before now p q result
+  answer-asks : (before now : Outside P D) (p q : Place (Known C)) (result : Result Read ReadFault) → p.own.about.config ≡ g → HasSeenItsEvents g p → HasAll p → Answers m pools devices g ptr t before now p q result
       → AsksFor (now_of g shard p) result before.device now.device
   answer-asks before now p q result config seen all (hit hold is d cached held same) =
       let here : d.before.now ≡ now_of g shard p = does-now m g valid ptr.key p q config seen (Hit p.number ptr.key t ∷ []) (own-single p.number (Hit p.number ptr.key t) refl refl) d all in
@@ -349,7 +350,7 @@ module _ {C P D : Type 0} (m : Meanings C) (g : Config) (valid : IsConfig g) (po
       past-asks (now_of g shard p) kept before.pool now.pool before.device now.device result (subst (λ (x : PlainShard). access_of x ptr ≡ access.Past kept) here (access-other ptr kept d.before.now other cached)) device ends
   answer-asks before now p q result config seen all (no_memory is d same) = subst (λ (x : Result Read ReadFault). AsksFor (now_of g shard p) x before.device now.device) (sym is) tt
 
-  pub read-asks : (before now : Outside P D) (p q : Place (Known C)) (result : Result Read ReadFault) → p.own.about.config ≡ g → HasSeenItsOwn g p → HasAll p → AnswersRead m pools devices g ptr t before now p q result
+  pub read-asks : (before now : Outside P D) (p q : Place (Known C)) (result : Result Read ReadFault) → p.own.about.config ≡ g → HasSeenItsEvents g p → HasAll p → AnswersRead m pools devices g ptr t before now p q result
       → AsksFor (now_of g shard p) result before.device now.device
   read-asks before now p q result config seen all (refused why is first same none) =
       subst (λ (x : Result Read ReadFault). AsksFor (now_of g shard p) x before.device now.device) (sym is)

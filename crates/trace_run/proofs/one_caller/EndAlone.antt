@@ -12,17 +12,18 @@ use Rattle.arc_table.specs.Seen.{events_in, seen_of}
 use Rattle.arc_table.specs.Views.{after_learned}
 use Rattle.dbuf_cells.specs.Turns.{PartyPlace, dbuf_meanings}
 use Rattle.trace_run.specs.CellEnds.{EndedCells, HasSeenEnds, end_entry}
-use Rattle.trace_run.specs.KeptBlocks.{Stands, StandsWith}
-use Rattle.trace_run.specs.Meeting.{HasFeeder, HasPartedWith, HavePartedWith, IsApartWith, IsLevel, JoinAll, Joins, MayGoOn}
+use Rattle.trace_run.specs.KeptBlocks.{Stands}
+use Rattle.trace_run.specs.Making.{AreNoEntries}
+use Rattle.trace_run.specs.Meeting.{HasFeeder, HasParted, HaveParted, IsApart, IsLevel, JoinAll, Joins, MayGoOn}
 use Rattle.trace_run.proofs.callers.MeetLemmas.{HaveJoined}
 use Rattle.trace_run.proofs.one_caller.FedAlone.{both-have, by, f1, feeder-seen, may-feed-as, o, o-number, p1, p1-stands, part-last, parts-f, stays-p}
 use Rattle.trace_run.proofs.callers.TurnLemmas.{joined, joined-all, joined-stands}
 
-with-length : (entries : ℕ → List Line) (cache : Cache) (lines : ℕ → List Line) (os xs : List PartyPlace) → HavePartedWith entries cache lines os xs → length xs ≡ length os
-with-length entries cache lines [] [] parted = refl
-with-length entries cache lines [] (x ∷ xs) parted = absurd parted
-with-length entries cache lines (o ∷ os) [] parted = absurd parted
-with-length entries cache lines (o ∷ os) (x ∷ xs) parted = ap suc (with-length entries cache lines os xs parted.1)
+with-length : (cache : Cache) (lines : ℕ → List Line) (os xs : List PartyPlace) → HaveParted cache lines os xs → length xs ≡ length os
+with-length cache lines [] [] parted = refl
+with-length cache lines [] (x ∷ xs) parted = absurd parted
+with-length cache lines (o ∷ os) [] parted = absurd parted
+with-length cache lines (o ∷ os) (x ∷ xs) parted = ap suc (with-length cache lines os xs parted.1)
 
 module _ (cache : Cache) (p : PartyPlace) (one : cache.config.callers ≡ 1) (number : p.number ≡ 0) (rows : cache.row.parties ≡ parties_of cache.config) (openings : List (List ℕ)) (feeder : HasFeeder cache openings p)
     (stands : Stands cache p []) where
@@ -48,18 +49,15 @@ module _ (cache : Cache) (p : PartyPlace) (one : cache.config.callers ≡ 1) (nu
       let here : EndedCells cache a (b ∷ []) f2 l2 =
       subst (λ (y : PartyPlace × List PartyPlace). EndedCells cache y.0 y.1 f2 l2)
       (λ i. (parts-f cache (λ shard. []) p one number rows openings feeder f is_f i, (is_l ∙ ap (λ (z : PartyPlace). z ∷ []) (stays-p cache (λ shard. []) p one number rows openings feeder x is_x)) i)) r in
-      let long : length l2 ≡ 1 = with-length _ cache here.lines (b ∷ []) l2 here.parted in
+      let long : length l2 ≡ 1 = with-length cache here.lines (b ∷ []) l2 here.parted in
       let none : rest ≡ [] = nil_from_length rest (omega (arith, long, ap length is, length-append rest (p2 ∷ []))) in
       subst (EndedCells cache a (b ∷ []) f2) (is ∙ ap (λ (k : List PartyPlace). k ++ p2 ∷ []) none) here
 
   module _ (f2 p2 : PartyPlace) (r : EndedCells cache a (b ∷ []) f2 (p2 ∷ [])) where
-    abbrev entries : ℕ → List Line
-    entries = end_entry a.number
-
-    p2-parted : HasPartedWith entries cache r.lines b p2
+    p2-parted : HasParted cache r.lines b p2
     p2-parted = r.parted.0
 
-    p2-stands : StandsWith entries cache p2 []
+    p2-stands : Stands cache p2 []
     p2-stands = p2-parted.stands [] (p1-stands cache (λ shard. []) p one number rows openings feeder [] stands)
 
     pub again-row : IsPartyOf cache p2 × IsPartyOf cache f2
@@ -75,7 +73,7 @@ module _ (cache : Cache) (p : PartyPlace) (one : cache.config.callers ≡ 1) (nu
       f2-number : f2.number ≡ 1
       f2-number = r.number ∙ o-number cache (λ shard. []) p one number rows openings feeder
 
-      apart2 : AllByRecursion (IsApartWith entries cache) (f2 ∷ [])
+      apart2 : AllByRecursion (IsApart cache) (f2 ∷ [])
       apart2 = (([], r.stands, r.alone), tt)
 
       differ2 : AllByRecursion (λ x. x.number ≢ p2.number) (f2 ∷ [])
@@ -106,12 +104,19 @@ module _ (cache : Cache) (p : PartyPlace) (one : cache.config.callers ≡ 1) (nu
       seen-ends = record {
         number = have2.number ∙ p2-parted.number;
         parties = have2.parties ∙ (count2 ∙ sym (stands.of.row.1 ∙ rows));
-        stands = subst (λ (n : ℕ). StandsWith (end_entry n) cache q []) entries-are
-            (joined-stands dbuf_meanings cache p2 [] (f2 ∷ []) p2-stands p2-parted.alone apart2 everyone count2 differ2 q all-joins);
+        stands = joined-stands dbuf_meanings cache p2 [] (f2 ∷ []) p2-stands p2-parted.alone apart2 everyone count2 differ2 q all-joins;
+        drops = r.drops;
         seen = λ shard. q-sees shard ∙ r.one b refl (feeder-seen cache (λ shard. []) p one number rows openings feeder [] stands) shard;
         all = joined-all dbuf_meanings cache p2 [] (f2 ∷ []) p2-stands p2-parted.alone apart2 everyone count2 differ2 q all-joins;
         feeder = f2;
         last = r.number ∙ entries-are;
         joined = have2.joined;
         knows = ap (λ (x : About). x.openings) r.about ∙ (by cache (λ shard. []) p one number rows openings feeder).knows;
+        feeder_stands = r.stands;
+        idle = λ none.
+            let idle = r.idle (by cache (λ shard. []) p one number rows openings feeder).only (none, tt) in (
+              idle.none,
+              subst (AreNoEntries g) (sym (have2.mine ∙ p2-parted.mine)) none,
+              λ i in_range. idle.ends i in_range ∙ ap (λ (n : ℕ). end_entry n i) entries-are,
+            );
       }

@@ -14,17 +14,16 @@ use Rattle.arc_table.specs.declared.about.About.{About}
 use Rattle.arc_table.specs.declared.view.Known.{Known}
 use Rattle.arc_table.specs.declared.view.Line.{Line}
 use Rattle.arc_table.specs.Cache.{Cache, IsPartyOf}
-use Rattle.arc_table.specs.Fronts.{front_of}
-use Rattle.arc_table.specs.Geometry.{IsCell, parties_of}
+use Rattle.arc_table.specs.Geometry.{parties_of}
 use Rattle.arc_table.specs.Items.{Meanings}
-use Rattle.arc_table.specs.Seen.{AllSeen, AreSeen, IsSeen, events_in, seen_of, turn_of}
+use Rattle.arc_table.specs.Seen.{AllEntriesSeen, AreEntriesSeen, IsEntrySeen, IsNumberOrCell, IsSeenBy, events_in, seen_of, turn_of}
+use Rattle.trace_run.specs.Making.{AllEventsSeen, AreEventsSeen}
 use Rattle.arc_table.specs.Telling.{opening_of}
 use Rattle.arc_table.specs.Views.{after_learned}
 use Rattle.trace_run.specs.declared.kept_blocks.KeptBlock.{KeptBlock}
 use Rattle.trace_run.specs.callers.CallerLines.{HasFed}
 use Rattle.trace_run.specs.KeptBlocks.{Stands}
 use Rattle.trace_run.specs.Meeting.{HasFeeder, HasParted, IsApart, IsJoinedBy, IsLevel, JoinAll, Joins, MadeJoined, MayGoOn}
-use Rattle.trace_run.proofs.CellsLeft.{entries-as}
 use Rattle.trace_run.proofs.callers.GroupsLemmas.{parted-length}
 use Rattle.trace_run.proofs.callers.MeetLemmas.{HaveJoined, left_alone, parted_from}
 use Rattle.trace_run.proofs.callers.TurnLemmas.{joined, joined-all, joined-stands}
@@ -59,20 +58,22 @@ module _ {C : Type 0} (cache : Cache) (more : (shard : ℕ) → List Event) (p :
   part-last = subst (IsLast 1) (sym by.joined) o-number
 
   module _ (had : List KeptBlock) (stands : Stands cache p had) where
-    pub feeder-seen : AreSeen g o.number o.own.mine p.own.seen
-    feeder-seen = (subst (λ (ks : List (Kept (Known C))). AllSeen g ks p.own.seen) by.joined stands.seen.joined).0
+    pub feeder-seen : AreEventsSeen g o.number o.own.mine p.own.seen
+    feeder-seen = (subst (λ (ks : List (Kept (Known C))). AllEventsSeen g ks p.own.seen) by.joined stands.seen.joined).0
 
-    f1-seen : AreSeen g o.number o.own.mine f1.own.seen
+    f1-seen : AreEventsSeen g o.number o.own.mine f1.own.seen
     f1-seen i j a at is = elim (front_both (turn_of g i) o.own.seen p.own.seen) [
-      | inl here ↦ subst (λ (l : List Line). IsSeen (parties_of g) o.number l a.place) (sym here) (by.stands.seen.own i j a at is)
-      | inr here ↦ subst (λ (l : List Line). IsSeen (parties_of g) o.number l a.place) (sym here) (feeder-seen i j a at is)
+      | inl here ↦ subst (λ (l : List Line). IsSeenBy (IsNumberOrCell g) (parties_of g) o.number l a.place) (sym here) (by.stands.seen.own i j a at is)
+      | inr here ↦ subst (λ (l : List Line). IsSeenBy (IsNumberOrCell g) (parties_of g) o.number l a.place) (sym here) (feeder-seen i j a at is)
     ]
 
-    -- nobody has seen an entry of a cell
-    f1-same : (i : ℕ) → IsCell g i → front_of i f1.own.seen ≡ front_of i o.own.seen
-    f1-same i in_range = elim (front_both i o.own.seen p.own.seen) [
-      | inl here ↦ here
-      | inr here ↦ here ∙ (stands.cells.fronts i in_range ∙ sym (by.stands.cells.fronts i in_range))
+    feeder-entries : AreEntriesSeen g o.number o.own.mine p.own.seen
+    feeder-entries = (subst (λ (ks : List (Kept (Known C))). AllEntriesSeen g ks p.own.seen) by.joined stands.cells.joined).0
+
+    f1-entries : AreEntriesSeen g o.number o.own.mine f1.own.seen
+    f1-entries i j a in_range at is = elim (front_both i o.own.seen p.own.seen) [
+      | inl here ↦ subst (λ (l : List Line). IsEntrySeen o.number l a.place) (sym here) (by.stands.cells.own i j a in_range at is)
+      | inr here ↦ subst (λ (l : List Line). IsEntrySeen o.number l a.place) (sym here) (feeder-entries i j a in_range at is)
     ]
 
     pub f1-stands : Stands cache f1 []
@@ -80,10 +81,7 @@ module _ {C : Type 0} (cache : Cache) (more : (shard : ℕ) → List Event) (p :
       valid = stands.valid;
       of = record { row = stands.of.row; config = by.stands.of.config };
       free = refl;
-      cells = record {
-        fronts = λ i in_range. f1-same i in_range ∙ by.stands.cells.fronts i in_range;
-        made = record { own = entries-as g o.number o.own.mine o.own.seen f1.own.seen f1-same by.stands.cells.made.own; joined = tt };
-      };
+      cells = record { own = f1-entries; joined = tt };
       idle = by.stands.idle;
       unclaimed = by.stands.unclaimed;
       seen = record { own = f1-seen; joined = tt };
@@ -98,7 +96,7 @@ module _ {C : Type 0} (cache : Cache) (more : (shard : ℕ) → List Event) (p :
       valid = stands.valid;
       of = record { row = stands.of.row; config = stands.of.config };
       free = stands.free;
-      cells = record { fronts = stands.cells.fronts; made = record { own = stands.cells.made.own; joined = tt } };
+      cells = record { own = stands.cells.own; joined = tt };
       idle = stands.idle;
       unclaimed = stands.unclaimed;
       seen = record { own = stands.seen.own; joined = tt };
@@ -186,7 +184,7 @@ module _ {C : Type 0} (cache : Cache) (more : (shard : ℕ) → List Event) (p :
       again-stands = joined-stands m cache p2 had (f2 ∷ []) p2-stands p2-parted.alone apart2 (both-have p2 f2 p2-number f2-number) count2 differ2 q all-joins
 
       pub again-feeder : HasFeeder cache openings q
-      again-feeder = (f2, record { number = r.number ∙ by.number; stands = r.stands; knows = ap (λ (a : About). a.openings) r.about ∙ by.knows; alone = r.alone; joined = have2.joined })
+      again-feeder = (f2, record { number = r.number ∙ by.number; stands = r.stands; knows = ap (λ (a : About). a.openings) r.about ∙ by.knows; alone = r.alone; joined = have2.joined; only = r.entries by.only })
 
       q-level : IsLevel g r.lines q
       q-level = have2.level r.lines p2-parted.level (r.level, tt)
@@ -206,9 +204,12 @@ module _ {C : Type 0} (cache : Cache) (more : (shard : ℕ) → List Event) (p :
       pub alone-fed : HasFed g more p q
       alone-fed = record {
         number = have2.number ∙ p2-parted.number;
-        told = λ before told shard.
-            subst (λ (n : ℕ). Tell (acts_in (shard_of g.shards) shard n before) (own_moments n (moments (opening_of g) (seen_of g shard q)))) (sym (have2.number ∙ p2-parted.number))
-            (subst (Tell (acts_in (shard_of g.shards) shard p.number before)) (sym (same-own shard)) (told shard));
+        told = λ before told. record {
+          acts = λ shard.
+              subst (λ (n : ℕ). Tell (acts_in (shard_of g.shards) shard n before) (own_moments n (moments (opening_of g) (seen_of g shard q)))) (sym (have2.number ∙ p2-parted.number))
+              (subst (Tell (acts_in (shard_of g.shards) shard p.number before)) (sym (same-own shard)) (told.acts shard));
+          only = have2.only (p2-parted.only record { events = told.only.events; entries = told.only.entries });
+        };
         seen = λ shard. q-sees shard ∙ (r.seen shard ∙ ap (λ (es : List Event). es ++ more shard) (front-is shard));
         all = λ all. joined-all m cache p2 had (f2 ∷ []) p2-stands p2-parted.alone apart2 (both-have p2 f2 p2-number f2-number) count2 differ2 q all-joins;
       }

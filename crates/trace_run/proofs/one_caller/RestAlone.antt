@@ -13,7 +13,6 @@ use Rattle.turn_table.specs.Moments.{WasFree}
 use Rattle.turn_table.specs.Places.{Place, SomeHas}
 use Rattle.arc_table.specs.declared.item.Item.TheVariants as item
 use Rattle.arc_table.specs.declared.view.Known.{Known}
-use Rattle.arc_table.specs.declared.view.Line.{Line}
 use Rattle.arc_table.specs.Cache.{Cache}
 use Rattle.arc_table.specs.Ended.{AreAtRest, Ended, Ends}
 use Rattle.arc_table.specs.Geometry.{parties_of}
@@ -22,7 +21,7 @@ use Rattle.arc_table.specs.pact.Logged.{IsSoundLog}
 use Rattle.arc_table.specs.pact.Rule.{Pact}
 use Rattle.arc_table.proofs.HandHeads.{config_then}
 use Rattle.arc_table.specs.Telling.{opening_of}
-use Rattle.trace_run.specs.KeptBlocks.{IsIdle, StandsWith, is_ptr, times}
+use Rattle.trace_run.specs.KeptBlocks.{IsIdle, Stands, is_ptr, times}
 use Rattle.arc_table.specs.Seen.{HasAll, seen_of, turn_of}
 use Rattle.arc_table.specs.Told.{IsTold}
 use Rattle.trace_run.proofs.theorem.CloseLemmas.{closed-alone, closed-legal, closed-now, closed-sound, closed-told, last}
@@ -40,14 +39,14 @@ none-listed (h ∷ hs) none =
     absurd (omega arith)
 
 -- the party may close the cache
-pub may-close : {C : Type 0} {entries : ℕ → List Line} (cache : Cache) (p : Place (Known C)) → StandsWith entries cache p [] → AreAtRest cache (p ∷ [])
+pub may-close : {C : Type 0} (cache : Cache) (p : Place (Known C)) → Stands cache p [] → AreAtRest cache (p ∷ [])
 may-close cache p stands = (stands.of, stands.free, tt)
 
 pub all-there : {C : Type 0} (cache : Cache) (p : Place (Known C)) → p.parties ≡ parties_of cache.config → HasAll p → (n : ℕ) → n < parties_of cache.config → SomeHas n (p ∷ [])
 all-there cache p parties all n below = inl (all n (subst (λ (k : ℕ). n < k) (sym parties) below))
 
-module _ {C : Type 0} {entries : ℕ → List Line} (m : Meanings C) (cache : Cache) (p : Place (Known C)) (closed : Ended C) (ends : Ends m cache (p ∷ []) closed)
-    (parties : p.parties ≡ parties_of cache.config) (stands : StandsWith entries cache p []) (all : HasAll p) where
+module _ {C : Type 0} (m : Meanings C) (cache : Cache) (p : Place (Known C)) (closed : Ended C) (ends : Ends m cache (p ∷ []) closed)
+    (parties : p.parties ≡ parties_of cache.config) (stands : Stands cache p []) (all : HasAll p) where
   abbrev g : Config
   g = cache.config
 

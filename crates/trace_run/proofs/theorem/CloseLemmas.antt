@@ -25,7 +25,7 @@ use Rattle.arc_table.specs.pact.Logged.{IsSoundItem, IsSoundLog}
 use Rattle.arc_table.specs.pact.Rule.{Pact}
 use Rattle.arc_table.proofs.HandHeads.{config_then, shard_then}
 use Rattle.arc_table.specs.Telling.{opening_of}
-use Rattle.arc_table.specs.Seen.{Finds, HasAll, HasSeenItsOwn, seen_of, turn_of}
+use Rattle.arc_table.specs.Seen.{Finds, HasAll, HasSeenBy, seen_of, turn_of}
 use Rattle.arc_table.specs.Told.{IsTold}
 use Rattle.arc_table.proofs.OwnLemmas.{no-own-moments, own-append}
 use Rattle.arc_table.proofs.SeenLemmas.{finds-then, get-behind}
@@ -67,7 +67,7 @@ module _ {C : Type 0} (m : Meanings C) (cache : Cache) (ps : List (Place (Known 
       turn = get-map free values (turn_of g i) (item.Shard l) value-at;
     }
 
-    module _ (config : p.own.about.config ≡ g) (seen : HasSeenItsOwn g p) where
+    module _ {May : (n number : ℕ) → Type 0} (config : p.own.about.config ≡ g) (seen : HasSeenBy May g p) where
       pub closed-finds : Finds g i p l.history
       closed-finds = finds-then m g p i l last seen config
 

@@ -24,7 +24,6 @@ use Rattle.arc_core.specs.ShardLog.{ShardLog}
 use Rattle.turn_table.specs.Places.{Place, ShowAll, SomeHas}
 use Rattle.arc_table.specs.declared.about.About.{About}
 use Rattle.arc_table.specs.declared.view.Known.{Known}
-use Rattle.arc_table.specs.declared.view.Line.{Line}
 use Rattle.arc_table.specs.Cache.{Cache}
 use Rattle.arc_table.specs.Ended.{Ended, Ends}
 use Rattle.arc_table.specs.Geometry.{parties_of}
@@ -41,14 +40,15 @@ use Rattle.trace_run.specs.Acts.{acts_of_caller, acts_of_callers, events_of_feed
 use Rattle.trace_run.specs.Ends.{end_of, ends_of}
 use Rattle.arc_table.specs.Telling.{opening_of}
 use Rattle.trace_run.specs.Explaining.{BeginsWith, EndsWith, Explain, drops_at_end}
-use Rattle.trace_run.specs.KeptBlocks.{IsIdle, Stands, StandsWith, is_ptr, times}
+use Rattle.trace_run.specs.KeptBlocks.{IsIdle, Stands, is_ptr, times}
 use Rattle.trace_run.specs.Lines.{is_of_caller, replies_where}
-use Rattle.arc_table.specs.Seen.{HasSeenItsOwn, seen_of}
+use Rattle.arc_table.specs.Seen.{AreSeen, HasSeenItsOwn, seen_of}
 use Rattle.arc_table.proofs.OwnLemmas.{no-own-moments}
 use Rattle.arc_table.proofs.SeenLemmas.{get-behind}
 use Rattle.trace_run.specs.Restores.{events_by_feeder, restores_in}
 use Rattle.trace_run.specs.callers.Together.{over_callers, reads_of_caller}
 use Rattle.arc_table.specs.Told.{IsTold}
+use Rattle.trace_run.specs.Making.{HasTold}
 use Rattle.trace_run.proofs.callers.CallerActLemmas.{callers-none, callers-own, own-lines}
 use Rattle.trace_run.proofs.theorem.CloseLemmas.{closed-finds, closed-legal, closed-now, closed-sound, closed-told}
 use Rattle.trace_run.proofs.theorem.EachLemmas.{AreLast, IsLast, closed-others, closed-placed, each-own}
@@ -64,7 +64,7 @@ use Rattle.trace_run.proofs.one_caller.TellLemmas.{IsActOf, IsReadAct, acts-call
 pub record HasEnded {C : Type 0} (g : Config) (acts : List Act) (feeds : (shard : ℕ) → List Event) (n : ℕ) (p : Place (Known C)) : Type 0 where
   pub number : p.number ≡ n
   pub config : p.own.about.config ≡ g
-  pub seen : HasSeenItsOwn g p
+  pub seen : AreSeen g p.number p.own.mine p.own.seen
   pub idle : IsIdle p.own.ledger
   pub told : n < g.callers → IsTold g acts p
   pub fed : n ≡ g.callers → (shard : ℕ) → shard < g.shards → own_events n (seen_of g shard p) ≡ feeds shard
@@ -93,14 +93,14 @@ module _ {C : Type 0} (g : Config) where
   has-bare n (x ∷ xs) zero p at is = inl (inl (ap (λ (y : Place (Known C)). y.number) (some-injective x p at) ∙ is))
   has-bare n (x ∷ xs) (suc k) p at is = inr (has-bare n xs k p at is)
 
-  seen-bare : (p : Place (Known C)) → HasSeenItsOwn g p → HasSeenItsOwn g (bare p)
-  seen-bare p seen = record { own = seen.own; joined = tt }
+  seen-bare : (p : Place (Known C)) → AreSeen g p.number p.own.mine p.own.seen → HasSeenItsOwn g (bare p)
+  seen-bare p seen = record { own = seen; joined = tt }
 
-  last-bare : (ps : List (Place (Known C))) → ((k : ℕ) (p : Place (Known C)) → get_elem? ps k ≡ some p → (p.own.about.config ≡ g) × HasSeenItsOwn g p) → AreLast g (bares ps)
+  last-bare : (ps : List (Place (Known C))) → ((k : ℕ) (p : Place (Known C)) → get_elem? ps k ≡ some p → (p.own.about.config ≡ g) × AreSeen g p.number p.own.mine p.own.seen) → AreLast g (bares ps)
   last-bare [] each = tt
   last-bare (p ∷ ps) each = (is-last p (each 0 p refl), last-bare ps (λ k q at. each (suc k) q at))
     where
-      is-last : (p : Place (Known C)) → (p.own.about.config ≡ g) × HasSeenItsOwn g p → IsLast g (bare p)
+      is-last : (p : Place (Known C)) → (p.own.about.config ≡ g) × AreSeen g p.number p.own.mine p.own.seen → IsLast g (bare p)
       is-last p is = record { parties = refl; held = refl; apart = tt; config = is.0; seen = seen-bare p is.1 }
 
   idle-bare : (ps : List (Place (Known C))) → ((k : ℕ) (p : Place (Known C)) → get_elem? ps k ≡ some p → IsIdle p.own.ledger) → AreIdle (bares ps)
@@ -411,7 +411,7 @@ none-listed (h ∷ hs) none =
     let one : cond {A = ℕ} (is_ptr h h) 1 0 ≡ 1 = ap (λ (b : Bool). cond {A = ℕ} b 1 0) (is_ptr-same h) in
     absurd (omega (arith, none h, times-cons h h hs, one))
 
-pub stands-idle : {C : Type 0} {entries : ℕ → List Line} (cache : Cache) (p : Place (Known C)) → StandsWith entries cache p [] → IsIdle p.own.ledger
+pub stands-idle : {C : Type 0} (cache : Cache) (p : Place (Known C)) → Stands cache p [] → IsIdle p.own.ledger
 stands-idle cache p stands = record { holds = none-listed p.own.ledger.holds stands.listed; readings = stands.idle }
 
 module _ {C : Type 0} (cache : Cache) (restored : List Restored) (blocks : List Ptr) (ops : List Op) (replies : List Reply) (n : ℕ) (p : Place (Known C)) (number : p.number ≡ n) (stands : Stands cache p []) where
@@ -423,11 +423,11 @@ module _ {C : Type 0} (cache : Cache) (restored : List Restored) (blocks : List 
 
   -- a caller, by what its own lines and the end of the run do
   pub caller-ended : (own : List Reply) → n < cache.config.callers → replies_where (is_of_caller n) ops replies ≡ own
-      → IsTold cache.config (acts_of_caller blocks n (filter (is_of_caller n) ops) own) p → HasEnded cache.config all-acts all-feeds n p
+      → HasTold cache.config (acts_of_caller blocks n (filter (is_of_caller n) ops) own) p → HasEnded cache.config all-acts all-feeds n p
   caller-ended own below is told = record {
     number = number;
     config = stands.of.config;
-    seen = stands.seen;
+    seen = told.only.events;
     idle = stands-idle cache p stands;
     told = λ _ shard.
         let f : Key → ℕ = shard_of cache.config.shards in
@@ -437,16 +437,16 @@ module _ {C : Type 0} (cache : Cache) (restored : List Restored) (blocks : List 
         ∙ (callers-own f shard blocks ops replies cache.config.callers n below
         ∙ (ap (λ (r : List Reply). acts_in f shard n (mine r)) is
         ∙ ap (λ (x : ℕ). acts_in f shard x (mine own)) (sym number))) in
-        subst (λ (acts : List Act). Tell acts (own_moments p.number (moments (opening_of cache.config) (seen_of cache.config shard p)))) (sym same) (told shard);
+        subst (λ (acts : List Act). Tell acts (own_moments p.number (moments (opening_of cache.config) (seen_of cache.config shard p)))) (sym same) (told.acts shard);
     fed = λ is_feeder. absurd (omega (arith, below, is_feeder));
   }
 
   -- the feeder, which made these events
-  pub feeder-ended : n ≡ cache.config.callers → ((shard : ℕ) → shard < cache.config.shards → own_events p.number (seen_of cache.config shard p) ≡ all-feeds shard) → HasEnded cache.config all-acts all-feeds n p
-  feeder-ended is fed = record {
+  pub feeder-ended : n ≡ cache.config.callers → ((shard : ℕ) → shard < cache.config.shards → own_events p.number (seen_of cache.config shard p) ≡ all-feeds shard) → AreSeen cache.config p.number p.own.mine p.own.seen → HasEnded cache.config all-acts all-feeds n p
+  feeder-ended is fed seen = record {
     number = number;
     config = stands.of.config;
-    seen = stands.seen;
+    seen = seen;
     idle = stands-idle cache p stands;
     told = λ below. absurd (omega (arith, below, is));
     fed = λ _ shard below. ap (λ (k : ℕ). own_events k (seen_of cache.config shard p)) (sym number) ∙ fed shard below;

@@ -7,7 +7,6 @@ use Rattle.arc_core.specs.declared.served.Restored.{Restored}
 use Rattle.arc_core.specs.Operations.{Act, pool_reads}
 use Rattle.turn_table.specs.Places.{Place}
 use Rattle.arc_table.specs.declared.view.Known.{Known}
-use Rattle.arc_table.specs.declared.view.Line.{Line}
 use Rattle.arc_table.specs.Cache.{Cache}
 use Rattle.arc_table.specs.Ended.{Ended, Ends}
 use Rattle.arc_table.specs.Geometry.{parties_of}
@@ -23,15 +22,15 @@ use Rattle.trace_run.specs.one_caller.Alone.{ends_in, histories_of}
 use Rattle.trace_run.specs.Answers.{AnswersAll}
 use Rattle.trace_run.specs.Explaining.{Explain}
 use Rattle.trace_run.specs.CellEnds.{EndedCrew}
-use Rattle.trace_run.specs.KeptBlocks.{StandsWith}
+use Rattle.trace_run.specs.KeptBlocks.{Stands}
 use Rattle.trace_run.specs.Meeting.{AreWaiting, HaveGivenBack, IsFed}
 use Rattle.trace_run.specs.Restores.{restored_of}
 use Rattle.trace_run.specs.callers.Together.{RunsTogether, StopsAtGroup, answered_ops, faults_told, report_of_closed}
 
--- all parties of a cache, by their numbers, none of which keeps anything, and which have seen these entries of cells
-pub record HaveStopped {C : Type 0} (entries : ℕ → List Line) (cache : Cache) (ps : List (Place (Known C))) : Type 0 where
+-- all parties of a cache, by their numbers, none of which keeps anything
+pub record HaveStopped {C : Type 0} (cache : Cache) (ps : List (Place (Known C))) : Type 0 where
   pub count : length ps ≡ parties_of cache.config
-  pub each : (n : ℕ) (p : Place (Known C)) → get_elem? ps n ≡ some p → (p.number ≡ n) × StandsWith entries cache p []
+  pub each : (n : ℕ) (p : Place (Known C)) → get_elem? ps n ≡ some p → (p.number ≡ n) × Stands cache p []
 
 -- The callers gave back what they kept, the feeder ended all cells, and the cache was closed with these parties.
 pub record HaveClosed {C : Type 0} (m : Meanings C) (cache : Cache) (crew : Crew C) (closed : Ended C) : Type 0 where

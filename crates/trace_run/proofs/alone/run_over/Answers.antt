@@ -10,9 +10,9 @@ use Rattle.trace_run.specs.callers.CallerLines.{DidLines, at}
 use Rattle.trace_run.specs.KeptBlocks.{Stands, read_of}
 use Rattle.trace_run.specs.Openings.{openings_of}
 use Rattle.trace_run.specs.one_caller.OverShards.{AreNamed}
-use Rattle.trace_run.proofs.one_caller.AloneLemmas.{end-there, ran-alone, still-0, still-joined, still-rows}
+use Rattle.trace_run.proofs.one_caller.AloneLemmas.{end-there, ran-alone, still-0, still-joined, still-only, still-rows}
 use Rattle.trace_run.proofs.CapLemmas.{feeder-still}
-use Rattle.trace_run.proofs.theorem.CellRun.{alone-cells}
+use Rattle.trace_run.proofs.theorem.CellRun.{alone-cells, ends-idle}
 use Rattle.trace_run.proofs.OpenLemmas.{HeapCell}
 use Rattle.trace_run.proofs.one_caller.AskingLines.{asks-from, begun-alone}
 use Rattle.trace_run.proofs.alone.run_over.Goals as goal
@@ -106,9 +106,11 @@ close-requires-clause-all g c =
     c.new-kept.ensures c.in_ok-party-2.ensures.did in
     let joined = feeder-still cache (openings_of c.args.trace.now) q r (still-joined _ cache g.P.Pool c.args.trace.now c.in_ok-party-2.replies.items c.args.pool.now c.lines_alone.new.pool p q r kept c.in_ok-arcs.ensures.config c.requires.formed c.requires.one
     c.args.restored.now new c.only_party-party.ensures.joined c.in_ok-party.ensures.fed did c.in_ok-party-2.ensures.stands c.give_back_all.ensures.gives c.give_back_all.ensures.stands) c.in_ok-party-2.ensures.joined in
+    let only = still-only _ cache g.P.Pool c.args.trace.now c.in_ok-party-2.replies.items c.args.pool.now c.lines_alone.new.pool p q r kept c.in_ok-arcs.ensures.config c.requires.formed c.requires.one
+    c.args.restored.now new c.only_party-party.ensures.joined c.in_ok-party.ensures.fed did c.in_ok-party-2.ensures.stands c.give_back_all.ensures.gives c.give_back_all.ensures.stands in
     let h = c.in_ok-party-3.ensures (openings_of c.args.trace.now) joined in
     let here = end-there _ cache g.P.Pool c.args.trace.now c.in_ok-party-2.replies.items c.args.pool.now c.lines_alone.new.pool p q r kept c.in_ok-arcs.ensures.config c.requires.formed c.requires.one
-    c.args.restored.now new c.only_party-party.ensures.joined c.in_ok-party.ensures.fed did c.in_ok-party-2.ensures.stands c.give_back_all.ensures.gives c.give_back_all.ensures.stands _ c.in_ok-party-3.party h.number h.parties h.stands h.all h.seen in
+    c.args.restored.now new c.only_party-party.ensures.joined c.in_ok-party.ensures.fed did c.in_ok-party-2.ensures.stands c.give_back_all.ensures.gives c.give_back_all.ensures.stands c.in_ok-party-3.party h.number h.parties h.stands h.all (ends-idle cache (openings_of c.args.trace.now) r c.in_ok-party-3.party h only) in
     λ n below. subst (λ (x : List (Place (Known HeapCell))). SomeHas n x) (sym c.in_ok-vec.ensures.items) (here n (subst (λ (x : Cache). n < parties_of x.config) c.arcs.view_is below))
 
 pub returns-clause-ran : goal.returns-clause-ran
@@ -123,9 +125,11 @@ returns-clause-ran g c =
     c.new-kept.ensures c.in_ok-party-2.ensures.did in
     let joined = feeder-still cache (openings_of c.args.trace.now) q r (still-joined _ cache g.P.Pool c.args.trace.now c.in_ok-party-2.replies.items c.args.pool.now c.lines_alone.new.pool p q r kept c.in_ok-arcs.ensures.config c.requires.formed c.requires.one
     c.args.restored.now new c.only_party-party.ensures.joined c.in_ok-party.ensures.fed did c.in_ok-party-2.ensures.stands c.give_back_all.ensures.gives c.give_back_all.ensures.stands) c.in_ok-party-2.ensures.joined in
+    let only = still-only _ cache g.P.Pool c.args.trace.now c.in_ok-party-2.replies.items c.args.pool.now c.lines_alone.new.pool p q r kept c.in_ok-arcs.ensures.config c.requires.formed c.requires.one
+    c.args.restored.now new c.only_party-party.ensures.joined c.in_ok-party.ensures.fed did c.in_ok-party-2.ensures.stands c.give_back_all.ensures.gives c.give_back_all.ensures.stands in
     let h = c.in_ok-party-3.ensures (openings_of c.args.trace.now) joined in
     ran-alone _ cache g.P.Pool c.args.trace.now c.in_ok-party-2.replies.items c.args.pool.now c.lines_alone.new.pool p q r kept c.in_ok-arcs.ensures.config c.requires.formed c.requires.one
-    c.args.restored.now new c.only_party-party.ensures.joined c.in_ok-party.ensures.fed did c.in_ok-party-2.ensures.stands c.give_back_all.ensures.gives c.give_back_all.ensures.stands _ c.in_ok-party-3.party h.number h.parties h.stands h.all h.seen
+    c.args.restored.now new c.only_party-party.ensures.joined c.in_ok-party.ensures.fed did c.in_ok-party-2.ensures.stands c.give_back_all.ensures.gives c.give_back_all.ensures.stands c.in_ok-party-3.party h.number h.parties h.stands h.all (ends-idle cache (openings_of c.args.trace.now) r c.in_ok-party-3.party h only)
     _ c.in_ok-vec.field-0.items c.in_ok-closed.closed c.arcs.view_is c.in_ok-vec.ensures.items c.in_ok-closed.ensures
 
 pub returns-clause-cells : goal.returns-clause-cells
@@ -140,10 +144,12 @@ returns-clause-cells g c =
     c.new-kept.ensures c.in_ok-party-2.ensures.did in
     let joined = feeder-still cache (openings_of c.args.trace.now) q r (still-joined _ cache g.P.Pool c.args.trace.now c.in_ok-party-2.replies.items c.args.pool.now c.lines_alone.new.pool p q r kept c.in_ok-arcs.ensures.config c.requires.formed c.requires.one
     c.args.restored.now new c.only_party-party.ensures.joined c.in_ok-party.ensures.fed did c.in_ok-party-2.ensures.stands c.give_back_all.ensures.gives c.give_back_all.ensures.stands) c.in_ok-party-2.ensures.joined in
+    let only = still-only _ cache g.P.Pool c.args.trace.now c.in_ok-party-2.replies.items c.args.pool.now c.lines_alone.new.pool p q r kept c.in_ok-arcs.ensures.config c.requires.formed c.requires.one
+    c.args.restored.now new c.only_party-party.ensures.joined c.in_ok-party.ensures.fed did c.in_ok-party-2.ensures.stands c.give_back_all.ensures.gives c.give_back_all.ensures.stands in
     let h = c.in_ok-party-3.ensures (openings_of c.args.trace.now) joined in
     alone-cells cache r c.in_ok-party-3.party _ c.in_ok-vec.field-0.items c.in_ok-closed.closed c.args.trace.now c.in_ok-arcs.ensures.config (ap (λ (x : Config). x.callers) c.in_ok-arcs.ensures.config ∙ c.requires.one)
     c.arcs.view_is c.in_ok-vec.ensures.items c.in_ok-closed.ensures (still-0 _ cache g.P.Pool c.args.trace.now c.in_ok-party-2.replies.items c.args.pool.now c.lines_alone.new.pool p q r kept c.in_ok-arcs.ensures.config c.requires.formed c.requires.one
-    c.args.restored.now new c.only_party-party.ensures.joined c.in_ok-party.ensures.fed did c.in_ok-party-2.ensures.stands c.give_back_all.ensures.gives c.give_back_all.ensures.stands) h
+    c.args.restored.now new c.only_party-party.ensures.joined c.in_ok-party.ensures.fed did c.in_ok-party-2.ensures.stands c.give_back_all.ensures.gives c.give_back_all.ensures.stands) h only
 
 pub returns-clause-asks : goal.returns-clause-asks
 returns-clause-asks g c =

@@ -1,6 +1,5 @@
 use Rattle.std.proofs.Common.{[], map, ap, ◌∙◌}
 use Rattle.dbuf_cells.specs.Turns.{PartyPlace}
-use Rattle.trace_run.specs.KeptBlocks.{no_entries}
 use Rattle.trace_run.proofs.EndSteps.{ended-cells, last-of, q-stands}
 use Rattle.trace_run.proofs.callers.TurnLemmas.{all-may, may-join}
 use Rattle.trace_run.proofs.cells.end_cells_joined.Goals as goal
@@ -9,7 +8,7 @@ pub join_all-requires-clause-party : goal.join_all-requires-clause-party
 join_all-requires-clause-party g c = may-join c.args.arcs.now [] c.args.feeder c.requires.stands c.requires.alone
 
 pub join_all-requires-clause-others : goal.join_all-requires-clause-others
-join_all-requires-clause-others g c = all-may no_entries c.args.arcs.now c.args.others.items c.requires.apart
+join_all-requires-clause-others g c = all-may c.args.arcs.now c.args.others.items c.requires.apart
 
 pub end_cells-requires-clause-party : goal.end_cells-requires-clause-party
 end_cells-requires-clause-party g c =

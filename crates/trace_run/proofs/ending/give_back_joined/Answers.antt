@@ -2,7 +2,6 @@ use Rattle.std.proofs.Common.{map, sym, ap, ◌∙◌, subst}
 use Rattle.turn_table.specs.Places.{Place}
 use Rattle.arc_table.specs.declared.view.Known.{Known}
 use Rattle.arc_table.specs.Items.{Meanings, meanings}
-use Rattle.trace_run.specs.KeptBlocks.{no_entries}
 use Rattle.trace_run.specs.Meeting.{GaveBackJoined}
 use Rattle.trace_run.proofs.callers.TurnLemmas.{all-may, gave-back, joined-stands, last-numbers, may-join}
 use Rattle.trace_run.proofs.ending.give_back_joined.Goals as goal
@@ -11,7 +10,7 @@ pub join_all-requires-clause-party : goal.join_all-requires-clause-party
 join_all-requires-clause-party g c = may-join c.args.arcs.now c.args.kept c.args.party c.requires.stands c.requires.alone
 
 pub join_all-requires-clause-others : goal.join_all-requires-clause-others
-join_all-requires-clause-others g c = all-may no_entries c.args.arcs.now c.args.others.items c.requires.apart
+join_all-requires-clause-others g c = all-may c.args.arcs.now c.args.others.items c.requires.apart
 
 pub give_back_all-requires : goal.give_back_all-requires
 give_back_all-requires g c =

@@ -12,7 +12,7 @@ use Rattle.trace_run.specs.callers.Together.{stand}
 use Rattle.trace_run.specs.Devices.{lent_in}
 use Rattle.trace_run.proofs.callers.DeviceSteps.{read-ended, read-last}
 use Rattle.trace_run.proofs.callers.EndLineLemmas.{IsUnused}
-use Rattle.trace_run.proofs.callers.StepLemmas.{next-ended, next-last, next-may, next-sync, range-callers, range-declared}
+use Rattle.trace_run.proofs.callers.StepLemmas.{next-ended, next-last, next-may, next-sync, next-unwritten, range-callers, range-declared}
 use Rattle.trace_run.proofs.groups.next_group.Goals as goal
 
 pub lines_at_once-requires-clause-start : goal.lines_at_once-requires-clause-start
@@ -49,6 +49,14 @@ end_line-requires-clause-may g c κs within =
     next-may c.args.arcs.now c.requires.between.1 g.P.Pool c.args.trace.now c.requires.formed c.requires.config c.requires.between.0 (stand c.args.pool.now c.args.syncs.group c.args.syncs.next) c.forks.new.pool c.lines_at_once.new.pool c.args.replies.now.items c.in_ok-crew.answered.items c.args.crew c.in_ok-crew.crew
     c.len-first.result c.group_end-to.result c.as_slice-blocks.result.now c.as_slice-ops.result.now c.as_slice-blocks.ensures c.as_slice-ops.ensures first c.group_end-to.ensures.range.0 c.group_end-to.ensures.range.1 c.group_end-to.ensures.inside
     c.requires.between.2 (let more = c.requires.more in let long = c.args.replies.now.ok.0 in omega (arith, more, long)) unused c.in_ok-crew.ensures.did c.lines_at_once.ensures.pool c.requires.rows
+
+pub end_line-requires-clause-unwritten : goal.end_line-requires-clause-unwritten
+end_line-requires-clause-unwritten g c κs within =
+    let first : c.len-first.result ≡ length c.args.replies.now.items = let is = c.len-first.ensures in let long = c.args.replies.now.ok.0 in omega (arith, is, long) in
+    let unused : IsUnused g.P.Pool c.args.pool.now c.forks.new.pool = record { size = c.in-Ok.ensures.keeps.size; told = c.in-Ok.ensures.keeps.told; reads = c.in-Ok.ensures.unread; faults = c.in-Ok.ensures.unfailed } in
+    next-unwritten c.args.arcs.now c.requires.between.1 g.P.Pool c.args.trace.now c.requires.formed c.requires.config c.requires.between.0 (stand c.args.pool.now c.args.syncs.group c.args.syncs.next) c.forks.new.pool c.lines_at_once.new.pool c.args.replies.now.items c.in_ok-crew.answered.items c.args.crew c.in_ok-crew.crew
+    c.len-first.result c.group_end-to.result c.as_slice-blocks.result.now c.as_slice-ops.result.now c.as_slice-blocks.ensures c.as_slice-ops.ensures first c.group_end-to.ensures.range.0 c.group_end-to.ensures.range.1 c.group_end-to.ensures.inside
+    c.requires.between.2 (let more = c.requires.more in let long = c.args.replies.now.ok.0 in omega (arith, more, long)) unused c.in_ok-crew.ensures.did c.lines_at_once.ensures.pool
 
 pub end_line-requires-clause-sync : goal.end_line-requires-clause-sync
 end_line-requires-clause-sync g c κs within =

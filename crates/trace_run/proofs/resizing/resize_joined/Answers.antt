@@ -7,7 +7,6 @@ use Rattle.arc_table.specs.declared.view.Known.{Known}
 use Rattle.arc_table.specs.Cache.{Cache}
 use Rattle.arc_table.specs.Items.{Meanings, meanings}
 use Rattle.arc_table.specs.Resizing.{AnswersResize, Resizes}
-use Rattle.trace_run.specs.KeptBlocks.{no_entries}
 use Rattle.trace_run.proofs.ResizeLemmas.{q-stands, resized, resized-last}
 use Rattle.trace_run.proofs.callers.TurnLemmas.{all-may, joined, may-join}
 use Rattle.trace_run.proofs.resizing.resize_joined.Goals as goal
@@ -22,7 +21,7 @@ pub join_all-requires-clause-party : goal.join_all-requires-clause-party
 join_all-requires-clause-party g c = may-join c.args.arcs.now [] c.args.feeder c.requires.may.stands c.requires.may.alone
 
 pub join_all-requires-clause-others : goal.join_all-requires-clause-others
-join_all-requires-clause-others g c = all-may no_entries c.args.arcs.now c.args.callers.items c.requires.may.apart
+join_all-requires-clause-others g c = all-may c.args.arcs.now c.args.callers.items c.requires.may.apart
 
 pub resize-requires-clause-party : goal.resize-requires-clause-party
 resize-requires-clause-party g c =

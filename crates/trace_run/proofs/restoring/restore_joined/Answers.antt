@@ -8,7 +8,6 @@ use Rattle.arc_table.specs.declared.restores.RestoreStop.{RestoreStop}
 use Rattle.arc_table.specs.declared.view.Known.{Known}
 use Rattle.arc_table.specs.feeder.Feeding.{AnswersRestore, Restores}
 use Rattle.arc_table.specs.Items.{Meanings, meanings}
-use Rattle.trace_run.specs.KeptBlocks.{no_entries}
 use Rattle.trace_run.proofs.ResizeLemmas.{last-of, made-joined, q-all, q-number, q-stands}
 use Rattle.trace_run.proofs.RestoreLemmas.{keys-formed, restored-to, restores-mine}
 use Rattle.trace_run.proofs.callers.TurnLemmas.{all-may, may-join}
@@ -24,7 +23,7 @@ pub join_all-requires-clause-party : goal.join_all-requires-clause-party
 join_all-requires-clause-party g c = may-join c.args.arcs.now [] c.args.feeder c.requires.may.stands c.requires.may.alone
 
 pub join_all-requires-clause-others : goal.join_all-requires-clause-others
-join_all-requires-clause-others g c = all-may no_entries c.args.arcs.now c.args.callers.items c.requires.may.apart
+join_all-requires-clause-others g c = all-may c.args.arcs.now c.args.callers.items c.requires.may.apart
 
 pub restore-requires-clause-party : goal.restore-requires-clause-party
 restore-requires-clause-party g c =

@@ -1,0 +1,12 @@
+pub mod CellsDone
+pub mod ClosedDeeds
+pub mod DeedLemmas
+pub mod GetsDone
+pub mod MadeCells
+pub mod MadeLemmas
+pub mod MakesLemmas
+pub mod OperatesDone
+pub mod OwnAlone
+pub mod ReadSame
+pub mod StandsDone
+pub mod TurnMakes
