@@ -9,6 +9,7 @@ pub mod DeviceLemmas
 pub mod DeviceReadLemmas
 pub mod DropLemmas
 pub mod EndSteps
+pub mod FeedLemmas
 pub mod FeedStands
 pub mod FeederLemmas
 pub mod GetLemmas

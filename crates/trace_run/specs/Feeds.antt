@@ -1,5 +1,5 @@
 -- The feeds of a run: what each did with the cache and with the cache device, and how the lines `feed` are answered.
-use Rattle.std.specs.Prelude.{◌≡◌, ℕ, Bool, true, false, List, [], ◌∷◌, Option, None, Some, length, map}
+use Rattle.std.specs.Prelude.{◌≡◌, ◌≤◌, ℕ, Bool, true, false, List, [], ◌∷◌, Option, None, Some, length, map}
 use Rattle.vdev_io.specs.declared.device.CacheDev.{Ghosts}
 use Rattle.vdev_io.specs.Calls.{DeviceCall, MakesDeviceCalls}
 use Rattle.arc_core.specs.declared.config.Config.{Config}
@@ -21,6 +21,7 @@ use Rattle.trace_text.specs.declared.reply.Reply.{Reply}
 use Rattle.trace_text.specs.declared.reply.Reply.TheVariants.{Fed, FedNone}
 use Rattle.trace_run.specs.declared.device.Device.{Device}
 use Rattle.trace_run.specs.declared.device.Device.TheVariants as device
+use Rattle.trace_run.specs.Devices.{lent_in}
 use Rattle.trace_run.specs.KeptBlocks.{Stands}
 use Rattle.trace_run.specs.Making.{MadeItsOwn}
 
@@ -94,3 +95,15 @@ module _ {C D : Type 0} (m : Meanings C) (devices : Ghosts D) (cache : Cache) wh
   MadeFeedsOf feeds (device.Short was) (device.Short now) p q = (feeds ≡ []) × (now ≡ was) × (q ≡ p)
   MadeFeedsOf feeds (device.Ready was) (device.Ready now) p q = (now.alloc ≡ was.alloc) × MadeFeeds feeds was.dev now.dev was.cursor now.cursor p q
   MadeFeedsOf feeds _ _ p q = ⊥
+
+  -- The feeder tried these lines `feed`, and made no more feeds than there are lines.
+  pub record TriesFeeds (lines : List Op) (old new : Device D) (p q : Place (Known C)) : Type 0 where
+    pub feeds : List FeedDone
+    pub few : length feeds ≤ length lines
+    pub made : MadeFeedsOf feeds old new p q
+
+  -- It did them, and they were answered so.
+  pub record DoesFeeds (lines : List Op) (replies : List Reply) (old new : Device D) (p q : Place (Known C)) : Type 0 where
+    pub feeds : List FeedDone
+    pub answered : AreFedReplies (lent_in old) lines feeds replies
+    pub made : MadeFeedsOf feeds old new p q

@@ -1,9 +1,9 @@
 //! The lines `feed` of a group, which the feeder does while the callers do theirs.
-ghost use Rattle.std.specs.Prelude.{◌≡◌, ◌×◌, [], ◌∷◌, IfOk, List, filter};
+ghost use Rattle.std.specs.Prelude.{◌≡◌, [], ◌∷◌, IfOk, filter};
+ghost use Rattle.std.specs.List.{list_any};
 ghost use Rattle.arc_table.specs.Items.{meanings};
 ghost use Rattle.trace_text.specs.declared.op.Op.TheVariants as ops;
-ghost use Rattle.trace_run.specs.Devices.{lent_in};
-ghost use Rattle.trace_run.specs.Feeds.{AreFedReplies, FeedDone, IsIdleFeeder, MadeFeedsOf, MayBeFed, is_feed};
+ghost use Rattle.trace_run.specs.Feeds.{DoesFeeds, IsIdleFeeder, MayBeFed, TriesFeeds, is_feed};
 
 use crate::device::Device;
 use arc_core::Keeps;
@@ -22,6 +22,13 @@ fn is_feed(op: &Op) -> bool
     matches!(op, Op::Feed)
 }
 
+/// Whether one of the lines does.
+pub(crate) fn has_feed(ops: &[Op]) -> bool
+    ensures { result ≡ list_any is_feed ops.now }
+{
+    ops.iter().any(is_feed)
+}
+
 /// Does one line `feed`. Where no device was started there is nothing to feed.
 fn feed_line<C: Keeps, D: CacheDev>(
     alloc: Global,
@@ -34,7 +41,7 @@ fn feed_line<C: Keeps, D: CacheDev>(
     requires device { MayBeFed D.CacheDev arcs.now.config device.old }
     ensures feeder { IsIdleFeeder arcs.now party.new }
     ensures device { MayBeFed D.CacheDev arcs.now.config device.new }
-    ensures fed { (feeds : List FeedDone) × AreFedReplies (lent_in device.old) (ops.Feed ∷ []) feeds (result ∷ []) × MadeFeedsOf (meanings C.holds C.entries C.opening C.claims C.sound) D.CacheDev arcs.now feeds device.old device.new party.old party.new }
+    ensures fed { DoesFeeds (meanings C.holds C.entries C.opening C.claims C.sound) D.CacheDev arcs.now (ops.Feed ∷ []) (result ∷ []) device.old device.new party.old party.new }
 {
     match device {
         Device::Ready(l2) => Reply::Fed(feed(alloc, rt, arcs, party, l2)),
@@ -56,8 +63,8 @@ pub(crate) fn feed_lines<C: Keeps, D: CacheDev>(
     requires device { MayBeFed D.CacheDev arcs.now.config device.old }
     ensures feeder { IsIdleFeeder arcs.now party.new }
     ensures device { MayBeFed D.CacheDev arcs.now.config device.new }
-    ensures made { (feeds : List FeedDone) × MadeFeedsOf (meanings C.holds C.entries C.opening C.claims C.sound) D.CacheDev arcs.now feeds device.old device.new party.old party.new }
-    ensures fed { IfOk result (λ replies. (feeds : List FeedDone) × AreFedReplies (lent_in device.old) (filter is_feed ops.now) feeds replies.items × MadeFeedsOf (meanings C.holds C.entries C.opening C.claims C.sound) D.CacheDev arcs.now feeds device.old device.new party.old party.new) }
+    ensures tried { TriesFeeds (meanings C.holds C.entries C.opening C.claims C.sound) D.CacheDev arcs.now (filter is_feed ops.now) device.old device.new party.old party.new }
+    ensures fed { IfOk result (λ replies. DoesFeeds (meanings C.holds C.entries C.opening C.claims C.sound) D.CacheDev arcs.now (filter is_feed ops.now) replies.items device.old device.new party.old party.new) }
 {
     let mut replies = Vec::new(alloc);
     for op in ops {

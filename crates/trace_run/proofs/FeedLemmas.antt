@@ -1,0 +1,155 @@
+-- The lines `feed`, one after another: what they are answered, and what was done for them.
+use Rattle.std.proofs.Common.{◌≡◌, ◌<◌, ◌≤◌, ◌+◌, ℕ, true, false, List, [], ◌∷◌, ◌++◌, Option, Some, None, length, map, take, refl, sym, ap, ◌∙◌, subst, arith, append-nil, append_assoc, length-append}
+use Rattle.std.specs.Prelude.{filter, slice_get}
+use Rattle.std.proofs.lemmas.Bool.{false≢true}
+use Rattle.std.proofs.lemmas.List.{map-append}
+use Rattle.std.proofs.lemmas.List.Elements.{filter-append}
+use Rattle.vdev_io.specs.declared.device.CacheDev.{Ghosts}
+use Rattle.vdev_io.specs.Calls.{MakesDeviceCalls}
+use Rattle.vdev_io.specs.Faults.{Rose}
+use Rattle.turn_table.specs.Places.{Place}
+use Rattle.arc_table.specs.declared.view.Known.{Known}
+use Rattle.arc_table.specs.Cache.{Cache}
+use Rattle.arc_table.specs.Items.{Meanings}
+use Rattle.l2_ring.specs.Ring.{last_lap}
+use Rattle.l2_dev.specs.declared.report.FeedReport.{FeedReport}
+use Rattle.l2_dev.specs.declared.report.FeedStop.TheVariants as stop
+use Rattle.l2_dev.specs.Cursor.{CursorState}
+use Rattle.l2_feed.specs.Crashes.{FeedKeeps}
+use Rattle.l2_feed.specs.Fed.{HasFed}
+use Rattle.l2_feed.specs.Ready.{IsFeederReady}
+use Rattle.trace_text.specs.declared.op.Op.{Op}
+use Rattle.trace_text.specs.declared.op.Op.TheVariants as ops
+use Rattle.trace_text.specs.declared.reply.Reply.{Reply}
+use Rattle.trace_text.specs.declared.reply.Reply.TheVariants.{Fed, FedNone}
+use Rattle.trace_run.specs.declared.device.Device.{Device}
+use Rattle.trace_run.specs.declared.device.Device.TheVariants as device
+use Rattle.trace_run.specs.Devices.{lent_in}
+use Rattle.trace_run.specs.Feeds.{AreFedReplies, DoesFeeds, FeedDone, IsIdleFeeder, MadeFeeds, MadeFeedsOf, TriesFeeds, is_feed}
+use Rattle.trace_run.proofs.AnswerLemmas.{take_one}
+use Rattle.trace_run.proofs.FeedStands.{acts-still, idle-ready}
+
+-- ---- the lines among others
+
+pub feed-is : (op : Op) → is_feed op ≡ true → op ≡ ops.Feed
+feed-is (ops.Read n t x window) is = absurd (false≢true is)
+feed-is (ops.Hold n t x) is = absurd (false≢true is)
+feed-is (ops.Drop n x) is = absurd (false≢true is)
+feed-is (ops.Get n t at window) is = absurd (false≢true is)
+feed-is (ops.Put n t at size fill) is = absurd (false≢true is)
+feed-is (ops.Patch n t at from bytes) is = absurd (false≢true is)
+feed-is (ops.Pin n t at) is = absurd (false≢true is)
+feed-is (ops.Unpin n at) is = absurd (false≢true is)
+feed-is ops.Feed is = refl
+feed-is (ops.Txg t) is = absurd (false≢true is)
+feed-is (ops.Cap c) is = absurd (false≢true is)
+
+module _ (os : List Op) (k : ℕ) (op : Op) (at : slice_get os k ≡ Some op) where
+  -- one line more
+  pub lines-more : is_feed op ≡ true → filter is_feed (take (k + 1) os) ≡ filter is_feed (take k os) ++ ops.Feed ∷ []
+  lines-more is = ap (filter is_feed) (take_one os k op at) ∙ (filter-append is_feed (take k os) (op ∷ []) ∙ ap (λ (l : List Op). filter is_feed (take k os) ++ l) (rw is (ap (λ (o : Op). o ∷ []) (feed-is op is))))
+
+  pub lines-same : is_feed op ≡ false → filter is_feed (take (k + 1) os) ≡ filter is_feed (take k os)
+  lines-same is = ap (filter is_feed) (take_one os k op at) ∙ (filter-append is_feed (take k os) (op ∷ []) ∙ rw is (append-nil (filter is_feed (take k os))))
+
+-- ---- what was done
+
+module _ {C D : Type 0} (m : Meanings C) (devices : Ghosts D) (cache : Cache) where
+  made-then : (fs gs : List FeedDone) (was mid now : D) (old between new : CursorState) (p q r : Place (Known C)) → MadeFeeds m devices cache fs was mid old between p q → MadeFeeds m devices cache gs mid now between new q r
+      → MadeFeeds m devices cache (fs ++ gs) was now old new p r
+  made-then [] gs was mid now old between new p q r first rest =
+      subst (λ (x : D × CursorState × Place (Known C)). MadeFeeds m devices cache gs x.0 now x.1 new x.2 r) (λ i. (first.0 i, first.1 i, first.2 i)) rest
+  made-then (f ∷ fs) gs was mid now old between new p q r first rest = (first.0, first.1, first.2, first.3, made-then fs gs first.0 mid now f.after between new first.1 q r first.4 rest)
+
+  pub made-of-then : (fs gs : List FeedDone) (a b c : Device D) (p q r : Place (Known C)) → MadeFeedsOf m devices cache fs a b p q → MadeFeedsOf m devices cache gs b c q r → MadeFeedsOf m devices cache (fs ++ gs) a c p r
+  made-of-then fs gs device.None device.None device.None p q r first rest = ((λ i. first.0 i ++ rest.0 i), rest.1 ∙ first.1)
+  made-of-then fs gs (device.Short a) (device.Short b) (device.Short c) p q r first rest = ((λ i. first.0 i ++ rest.0 i), rest.1 ∙ first.1, rest.2 ∙ first.2)
+  made-of-then fs gs (device.Ready a) (device.Ready b) (device.Ready c) p q r first rest = (rest.0 ∙ first.0, made-then fs gs a.dev b.dev c.dev a.cursor b.cursor c.cursor p q r first.1 rest.1)
+  made-of-then fs gs device.None (device.Short b) c p q r first rest = absurd first
+  made-of-then fs gs device.None (device.Ready b) c p q r first rest = absurd first
+  made-of-then fs gs (device.Short a) device.None c p q r first rest = absurd first
+  made-of-then fs gs (device.Short a) (device.Ready b) c p q r first rest = absurd first
+  made-of-then fs gs (device.Ready a) device.None c p q r first rest = absurd first
+  made-of-then fs gs (device.Ready a) (device.Short b) c p q r first rest = absurd first
+  made-of-then fs gs device.None device.None (device.Short c) p q r first rest = absurd rest
+  made-of-then fs gs device.None device.None (device.Ready c) p q r first rest = absurd rest
+  made-of-then fs gs (device.Short a) (device.Short b) device.None p q r first rest = absurd rest
+  made-of-then fs gs (device.Short a) (device.Short b) (device.Ready c) p q r first rest = absurd rest
+  made-of-then fs gs (device.Ready a) (device.Ready b) device.None p q r first rest = absurd rest
+  made-of-then fs gs (device.Ready a) (device.Ready b) (device.Short c) p q r first rest = absurd rest
+
+  -- no feed
+  pub made-none : (a : Device D) (p : Place (Known C)) → MadeFeedsOf m devices cache [] a a p p
+  made-none device.None p = (refl, refl)
+  made-none (device.Short a) p = (refl, refl, refl)
+  made-none (device.Ready a) p = (refl, refl, refl, refl)
+
+  -- a device stays one that was started, or none
+  pub still-lent : (fs : List FeedDone) (a b : Device D) (p q : Place (Known C)) → MadeFeedsOf m devices cache fs a b p q → (lines : List Op) (feeds : List FeedDone) (replies : List Reply) → AreFedReplies (lent_in b) lines feeds replies → AreFedReplies (lent_in a) lines feeds replies
+  still-lent fs device.None device.None p q made lines feeds replies so = so
+  still-lent fs (device.Short a) (device.Short b) p q made lines feeds replies so = so
+  still-lent fs (device.Ready a) (device.Ready b) p q made lines feeds replies so = so
+  still-lent fs device.None (device.Short b) p q made lines feeds replies so = absurd made
+  still-lent fs device.None (device.Ready b) p q made lines feeds replies so = absurd made
+  still-lent fs (device.Short a) device.None p q made lines feeds replies so = absurd made
+  still-lent fs (device.Short a) (device.Ready b) p q made lines feeds replies so = absurd made
+  still-lent fs (device.Ready a) device.None p q made lines feeds replies so = absurd made
+  still-lent fs (device.Ready a) (device.Short b) p q made lines feeds replies so = absurd made
+
+-- ---- what is answered
+
+pub none-answered : {D : Type 0} (o : Option D) → AreFedReplies o [] [] []
+none-answered None = (refl, refl)
+none-answered (Some d) = (refl, refl)
+
+pub answered-then : {D : Type 0} (o : Option D) (ls ms : List Op) (fs gs : List FeedDone) (rs ss : List Reply) → AreFedReplies o ls fs rs → AreFedReplies o ms gs ss → AreFedReplies o (ls ++ ms) (fs ++ gs) (rs ++ ss)
+answered-then None ls ms fs gs rs ss first rest = (
+  (λ i. first.0 i ++ rest.0 i),
+  (λ i. first.1 i ++ rest.1 i) ∙ sym (map-append (λ line. FedNone) ls ms),
+)
+answered-then (Some d) ls ms fs gs rs ss first rest = (
+  omega (arith, length-append fs gs, length-append ls ms, first.0, rest.0),
+  (λ i. first.1 i ++ rest.1 i) ∙ sym (map-append (λ (feed : FeedDone). Fed feed.report) fs gs),
+)
+
+-- ---- one line
+
+module _ {C D : Type 0} (m : Meanings C) (devices : Ghosts D) (cache : Cache) (was now : D) (old new : CursorState) (p q : Place (Known C)) (report : FeedReport) (idle : IsIdleFeeder cache p) (fed : HasFed m cache.config devices was now old new p q report) where
+  -- the feeder is idle again
+  pub idle-again : IsFeederReady cache q → IsIdleFeeder cache q
+  idle-again ready =
+      let still = acts-still m cache fed.acts p q idle.stands fed.did in
+      record {
+        number = still.left.stays.number ∙ idle.number;
+        alone = fed.joined ∙ idle.alone;
+        stands = still.stands;
+        only = still.only idle.only;
+        settled = ready.settled;
+      }
+
+  abbrev this-feed : FeedDone
+  this-feed = record { acts = fed.acts; calls = fed.calls; before = old; after = new; report = report }
+
+  pub one-made : (new.ring.lap < last_lap → FeedKeeps devices.told devices.has_sectors devices.may_leave was now old new report.end) → devices.faults was ≤ devices.faults now → (report.end ≡ stop.DevFault → Rose (devices.faults was) (devices.faults now))
+      → MadeFeeds m devices cache (this-feed ∷ []) was now old new p q
+  one-made crash faults cause = (now, q, refl, record { made = record { ready = idle-ready cache p idle; fed = fed; crash = crash; faults = faults; cause = cause }; acts = refl; calls = refl }, refl, refl, refl)
+
+-- ---- lines, one after another
+
+module _ {C D : Type 0} (m : Meanings C) (devices : Ghosts D) (cache : Cache) where
+  pub none-done : (a : Device D) (p : Place (Known C)) → DoesFeeds m devices cache [] [] a a p p
+  none-done a p = record { feeds = []; answered = none-answered (lent_in a); made = made-none m devices cache a p }
+
+  pub done-then : (ls ms : List Op) (rs ss : List Reply) (a b c : Device D) (p q r : Place (Known C)) → DoesFeeds m devices cache ls rs a b p q → DoesFeeds m devices cache ms ss b c q r → DoesFeeds m devices cache (ls ++ ms) (rs ++ ss) a c p r
+  done-then ls ms rs ss a b c p q r first rest = record {
+    feeds = first.feeds ++ rest.feeds;
+    answered = answered-then (lent_in a) ls ms first.feeds rest.feeds rs ss first.answered (still-lent m devices cache first.feeds a b p q first.made ms rest.feeds ss rest.answered);
+    made = made-of-then m devices cache first.feeds rest.feeds a b c p q r first.made rest.made;
+  }
+
+  few-fed : (o : Option D) (ls : List Op) (fs : List FeedDone) (rs : List Reply) → AreFedReplies o ls fs rs → length fs ≤ length ls
+  few-fed None ls fs rs so = omega (arith, ap length so.0)
+  few-fed (Some d) ls fs rs so = omega (arith, so.0)
+
+  pub done-tried : (ls ms : List Op) (rs : List Reply) (a b : Device D) (p q : Place (Known C)) → length ls ≤ length ms → DoesFeeds m devices cache ls rs a b p q → TriesFeeds m devices cache ms a b p q
+  done-tried ls ms rs a b p q fewer d = record { feeds = d.feeds; few = omega (arith, fewer, few-fed (lent_in a) ls d.feeds rs d.answered); made = d.made }
