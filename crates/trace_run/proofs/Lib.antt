@@ -21,6 +21,7 @@ pub mod LinesLemmas
 pub mod MappedLemmas
 pub mod MoveLemmas
 pub mod OpenLemmas
+pub mod PickedLemmas
 pub mod ReadLemmas
 pub mod ReadStands
 pub mod ResizeLemmas

@@ -11,6 +11,7 @@ use Rattle.arc_core.specs.declared.event.Event.{Event}
 use Rattle.arc_core.specs.declared.event.Event.TheVariants.{Resize}
 use Rattle.arc_core.specs.Operations.{Moment, goes_on, is_pass, moments, number_of, own_moments}
 use Rattle.arc_core.specs.PlainShard.{PlainShard}
+use Rattle.arc_core.specs.Replay.{replay}
 use Rattle.turn_table.specs.declared.standing.Kept.{Kept}
 use Rattle.turn_table.specs.Places.{Apart, IsIn, Place, SomeHas}
 use Rattle.arc_table.specs.declared.view.Known.{Known}
@@ -18,6 +19,7 @@ use Rattle.arc_table.specs.declared.view.Ledger.{Ledger}
 use Rattle.arc_table.specs.declared.view.Line.{Line}
 use Rattle.arc_table.specs.declared.view.Mine.{Mine}
 use Rattle.arc_table.specs.Cache.{Cache}
+use Rattle.arc_table.specs.feeder.Listing.{picks_of}
 use Rattle.arc_table.specs.Fronts.{StartsWith, front_of, list_at}
 use Rattle.arc_table.specs.Geometry.{parties_of}
 use Rattle.arc_table.specs.Items.{Meanings}
@@ -35,6 +37,7 @@ use Rattle.trace_run.specs.Meeting.{AreLast, HasLearned, HaveParted, IsApart, Jo
 use Rattle.trace_run.proofs.CellsLeft.{LeavesCells, leaves-grow, leaves-same, leaves-seen, leaves-then, roomy-leaves}
 use Rattle.trace_run.proofs.MoveLemmas.{Moves, roomy-made-own, roomy-moves}
 use Rattle.trace_run.specs.Making.{AreEventsSeen, MadeItsOwn}
+use Rattle.trace_run.proofs.PickedLemmas.{resize-picked, roomy-picks}
 use Rattle.trace_run.proofs.callers.MeetLemmas.{HaveJoined, all-parted, are-last, joined-front, joined_of, left_alone, parted-then, parted_from, starts-events, starts-then}
 use Rattle.trace_run.proofs.callers.TurnLemmas.{joined, joined-all, joined-stands}
 
@@ -52,6 +55,7 @@ module _ {C : Type 0} (m : Meanings C) (cache : Cache) (c : ℕ) where
     pub starts : (i : ℕ) → StartsWith (front_of (turn_of gc i) q.own.seen) (front_of (turn_of gc i) p.own.seen)
     pub left : LeavesCells gc p q
     pub only : MadeItsOwn gc p → MadeItsOwn gc q
+    pub picks : p.number ≡ gc.callers → (i : ℕ) → picks_of i q ≡ picks_of i p
 
   -- ---- one shard
 
@@ -108,6 +112,11 @@ module _ {C : Type 0} (m : Meanings C) (cache : Cache) (c : ℕ) where
     one-starts : (i : ℕ) → StartsWith (front_of (turn_of gc i) q.own.seen) (front_of (turn_of gc i) p.own.seen)
     one-starts = grows gc (shard_of gc.shards (key_in s)) one.does.before (one.does.makes.passes ++ e ∷ []) p q (roomy-made-own m gc stands.valid (key_in s) p q stands.of.config stands.seen e fits one.does)
 
+    one-picks : p.number ≡ gc.callers → (i : ℕ) → picks_of i q ≡ picks_of i p
+    one-picks feeder =
+        roomy-picks m gc (key_in s) e p q (stands.valid, stands.of.config, feeder) one.does
+        (ap (λ (es : List Event). (replay one.does.before.now (es ++ e ∷ [])).picked) none ∙ resize-picked one.does.before.now p.number c)
+
   -- ---- all shards
 
   none-given : (p : Place (Known C)) → Stands cache p [] → HasAll p → HasGiven 0 p p
@@ -120,6 +129,7 @@ module _ {C : Type 0} (m : Meanings C) (cache : Cache) (c : ℕ) where
     starts = λ i. starts_whole (front_of (turn_of gc i) p.own.seen);
     left = leaves-same gc p p refl;
     only = λ only. only;
+    picks = λ feeder i. refl;
   }
 
   pub given-to : (done : ℕ) (p q : Place (Known C)) → Stands cache p [] → HasAll p → Resizes m gc p.number c done p q → HasGiven done p q
@@ -146,6 +156,7 @@ module _ {C : Type 0} (m : Meanings C) (cache : Cache) (c : ℕ) where
         starts = λ i. starts-then (front_of (turn_of gc i) q.own.seen) (front_of (turn_of gc i) r.own.seen) (front_of (turn_of gc i) p.own.seen) (later i) (first.starts i);
         left = leaves-then gc p r q first.left (roomy-leaves m gc first.stands.valid (key_in s) (Resize r.number c) r q first.stands.of.config one.does);
         only = λ only. (moves s r q first.stands first.all one).only (first.only only);
+        picks = λ feeder i. one-picks s r q first.stands first.all one (number ∙ feeder) i ∙ first.picks feeder i;
       }
 
 -- ---- events of one number are no other's
@@ -170,6 +181,7 @@ pub record HasMade {C : Type 0} (cache : Cache) (more : (shard : ℕ) → List E
   pub starts : (i : ℕ) → StartsWith (front_of (turn_of cache.config i) q.own.seen) (front_of (turn_of cache.config i) p.own.seen)
   pub left : LeavesCells cache.config p q
   pub only : MadeItsOwn cache.config p → MadeItsOwn cache.config q
+  pub picks : p.number ≡ cache.config.callers → (i : ℕ) → picks_of i q ≡ picks_of i p
 
 -- all shards have this capacity
 resizes-made : {C : Type 0} (m : Meanings C) (cache : Cache) (n c : ℕ) (p q : Place (Known C)) → p.number ≡ n → HasGiven m cache c cache.config.shards p q → HasMade cache (resizes_in cache.config.shards n c) p q
@@ -188,6 +200,7 @@ resizes-made m cache n c p q number given = record {
   starts = given.starts;
   left = given.left;
   only = given.only;
+  picks = given.picks;
 }
 
 resizes-mine : (shards n c : ℕ) (s : ℕ) → AllByRecursion (λ e. number_of e ≡ n) (resizes_in shards n c s)
@@ -304,6 +317,7 @@ module _ {C : Type 0} (m : Meanings C) (cache : Cache) (p : Place (Known C)) (ot
         only = λ only.
             let did = given.only (have.only only) in
             record { events = did.events; entries = did.entries };
+        settled = λ feeder settled i. given.picks (have.number ∙ feeder) i ∙ (ap (λ (l : Ledger). list_at i l.picked) have.ledger ∙ settled i);
         entries = λ none j a at range. none j a (subst (λ (l : List Mine). get_elem? l j ≡ some a) have.mine (given.left.mine j a range at)) range;
         one = one-front;
         same = λ before own rest shard. ap events_in (have.level before own rest shard);

@@ -25,6 +25,7 @@ use Rattle.arc_table.specs.Fronts.{StartsWith, front_of, list_at}
 use Rattle.arc_table.specs.Items.{Meanings}
 use Rattle.arc_table.specs.Seen.{AddsAll, HasAll, seen_of, turn_of}
 use Rattle.arc_table.specs.TableLaws.{starts_whole}
+use Rattle.arc_table.proofs.feeder.PicksAfter.{restores_picks}
 use Rattle.arc_table.proofs.Afterwards.{Stays, does_ledger, does_stays, stays_party, stays_then}
 use Rattle.arc_table.proofs.OwnLemmas.{grows}
 use Rattle.arc_table.proofs.reads.ReadMoments.{moment, own-single}
@@ -102,6 +103,7 @@ module _ {C : Type 0} (m : Meanings C) (cache : Cache) where
     starts = λ i. starts_whole (front_of (turn_of g i) p.own.seen);
     left = leaves-same g p p refl;
     only = λ only. only;
+    picks = λ feeds i. refl;
   })
   restored-to (r ∷ rs) p q feeder stands all did =
       let b = did.0 in
@@ -118,6 +120,7 @@ module _ {C : Type 0} (m : Meanings C) (cache : Cache) where
         starts = λ i. starts-then (front_of (turn_of g i) q.own.seen) (front_of (turn_of g i) b.own.seen) (front_of (turn_of g i) p.own.seen) (rest.starts i) (one-starts r p b feeder stands all did.1 i);
         left = leaves-then g p b q (does-leaves m cache.config stands.valid r.key (Restore cache.config.callers r.key r.place r.digest ∷ []) p b stands.of.config did.1) rest.left;
         only = λ only. rest.only (move.only only);
+        picks = λ feeds i. restores_picks m g g.callers (r ∷ rs) p q (stands.valid, stands.of.config, feeds) did i;
       }
     where
       more : (r : Restored) (rs : List Restored) (s : ℕ) (p b : Place (Known C)) → AddsAll g (shard_of g.shards r.key) (Restore g.callers r.key r.place r.digest ∷ []) p b

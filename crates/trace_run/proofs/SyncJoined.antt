@@ -216,6 +216,7 @@ module _ (cache : Cache) (p : PartyPlace) (others : List PartyPlace) (stands : S
       seen = λ shard. quiet.shards shard ∙ sym (append-nil (seen_of g shard q));
       starts = quiet.starts;
       left = r-left;
+      picks = λ feeder i. ap (list_at i) quiet.picked;
       only = λ only. record {
         events = subst (λ (x : ℕ × List Mine). AreSeen g x.0 x.1 r.own.seen) (λ i. (sym quiet.number i, sym mine i)) (own-seen-more g q.number q.own.mine q.own.seen r.own.seen quiet.starts only.events);
         entries = subst (AreNoEntries g) (sym mine) only.entries;

@@ -50,6 +50,7 @@ pub record IsQuiet (g : Config) (p q : PartyPlace) : Type 0 where
   pub about : q.own.about ≡ p.own.about
   pub holds : q.own.ledger.holds ≡ p.own.ledger.holds
   pub readings : q.own.ledger.readings ≡ p.own.ledger.readings
+  pub picked : q.own.ledger.picked ≡ p.own.ledger.picked
   pub sees : HasSeenItsEvents g q
   pub all : HasAll q
   pub shards : (shard : ℕ) → seen_of g shard q ≡ seen_of g shard p
@@ -65,6 +66,7 @@ module _ (g : Config) where
     about = refl;
     holds = refl;
     readings = refl;
+    picked = refl;
     sees = sees;
     all = all;
     shards = λ shard. refl;
@@ -80,6 +82,7 @@ module _ (g : Config) where
     about = b.about ∙ a.about;
     holds = b.holds ∙ a.holds;
     readings = b.readings ∙ a.readings;
+    picked = b.picked ∙ a.picked;
     sees = b.sees;
     all = b.all;
     shards = λ shard. b.shards shard ∙ a.shards shard;
@@ -147,6 +150,7 @@ module _ (g : Config) (valid : IsConfig g) where
       about = took.about;
       holds = ap (λ (l : Ledger). l.holds) took.ledger;
       readings = ap (λ (l : Ledger). l.readings) took.ledger;
+      picked = ap (λ (l : Ledger). l.picked) took.ledger;
       sees = at-take.0.0;
       all = λ k below. subst (λ (x : ℕ × List (Kept (Known OnHeap))). (x.0 ≡ k) ⊎ IsIn k x.1) (λ z. (sym took.number z, sym took.joined z)) (all k (subst (λ (x : ℕ). k < x) took.parties below));
       shards = λ shard. ap events_in (take-fronts (turn_of g shard));
@@ -272,6 +276,7 @@ module _ (g : Config) (valid : IsConfig g) where
       about = refl;
       holds = refl;
       readings = refl;
+      picked = refl;
       sees = given-sees dbuf_meanings g i a w in_range given front sees;
       all = all;
       shards = λ shard. ap events_in (back-shard shard);

@@ -11,6 +11,7 @@ use Rattle.turn_table.specs.Places.{Place, SomeHas, kept as as_kept, met, parted
 use Rattle.arc_table.specs.declared.view.Known.{Known}
 use Rattle.arc_table.specs.declared.view.Line.{Line}
 use Rattle.arc_table.specs.Cache.{Cache, IsPartyOf}
+use Rattle.arc_table.specs.feeder.Listing.{picks_of}
 use Rattle.arc_table.specs.Fronts.{StartsWith, front_of}
 use Rattle.arc_table.specs.Geometry.{IsCell, parties_of}
 use Rattle.arc_table.specs.Items.{Meanings}
@@ -204,6 +205,10 @@ abbrev pub resizes_in : (shards n c : ℕ) → (shard : ℕ) → List Event
 resizes_in shards n c shard = if nat_lt shard shards then (Resize n c ∷ []) else []
 
 module _ {C : Type 0} where
+  -- the party lists no pick of any shard
+  abbrev pub HasSettled : Place (Known C) → Type 0
+  HasSettled p = (i : ℕ) → picks_of i p ≡ []
+
   -- While all others had joined it, the party made these events of each shard; then they parted. They stand behind all that anybody had done there,
   -- and all have seen them.
   pub record MadeJoined (cache : Cache) (more : (shard : ℕ) → List Event) (p : Place (Known C)) (olds : List (Place (Known C))) (q : Place (Known C)) (news : List (Place (Known C))) : Type 0 where
@@ -223,6 +228,8 @@ module _ {C : Type 0} where
     pub since : (shard : ℕ) → StartsWith (front shard) (seen_of cache.config shard p)
     pub only : MadeItsOwn cache.config p → MadeItsOwn cache.config q
     pub entries : AreNoEntries cache.config p.own.mine → AreNoEntries cache.config q.own.mine
+    -- the feeder has settled all that it picked, where it had before
+    pub settled : p.number ≡ cache.config.callers → HasSettled p → HasSettled q
     -- where one other party has seen all that both made, it is what that one had seen
     pub one : (o : Place (Known C)) → olds ≡ o ∷ [] → AreEventsSeen cache.config p.number p.own.mine o.own.seen → (shard : ℕ) → front shard ≡ seen_of cache.config shard o
     -- where all had seen the same, it is that

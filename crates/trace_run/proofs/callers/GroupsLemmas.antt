@@ -22,9 +22,10 @@ use Rattle.arc_core.specs.declared.event.Event.TheVariants.{Resize}
 use Rattle.arc_core.specs.Operations.{Act, Tell, acts_in, moments, own_events, own_moments}
 use Rattle.turn_table.specs.Places.{Place}
 use Rattle.arc_table.specs.declared.view.Known.{Known}
+use Rattle.arc_table.specs.declared.view.Ledger.{Ledger}
 use Rattle.arc_table.specs.declared.view.Line.{Line}
 use Rattle.arc_table.specs.Cache.{Cache}
-use Rattle.arc_table.specs.Fronts.{StartsWith, front_of}
+use Rattle.arc_table.specs.Fronts.{StartsWith, front_of, list_at}
 use Rattle.arc_table.specs.Seen.{seen_of, turn_of}
 use Rattle.arc_table.specs.TableLaws.{starts_whole}
 use Rattle.arc_table.proofs.TableLaws.{there}
@@ -41,7 +42,7 @@ use Rattle.trace_run.specs.callers.Groups.{AreEndLines, AreOfCallers, ComesAt, D
 use Rattle.trace_run.specs.KeptBlocks.{read_of}
 use Rattle.trace_run.specs.KeptReads.{KeptRead}
 use Rattle.trace_run.specs.Lines.{caller_of, is_of_caller, replies_where}
-use Rattle.trace_run.specs.Meeting.{HasParted, HaveParted, IsFed, IsLevel, MadeJoined, Resized, Waits, resizes_in}
+use Rattle.trace_run.specs.Meeting.{HasSettled, HasParted, HaveParted, IsFed, IsLevel, MadeJoined, Resized, Waits, resizes_in}
 use Rattle.trace_run.specs.one_caller.OneCaller.{kept_after, kept_after_all}
 use Rattle.trace_run.specs.Restores.{events_by_feeder, restores_in}
 use Rattle.trace_run.specs.Opened.{AreOpened, IsOpened}
@@ -282,6 +283,7 @@ module _ {C : Type 0} (cache : Cache) (whole : List (Place (Known C))) (crew : C
           come = record { waits = record { number = h.number; alone = h.joined; stands = h.new.stands; told = h.new.told }; keeps = refl; answers = tt };
         };
     ended = λ k op at none. let inside = slice_get_within {A = Op} [] k op at in absurd (omega (arith, inside));
+    settled = λ i. ap (λ (l : Ledger). list_at i l.picked) feeder-new.new.begun;
     feeder = record {
       number = feeder-new.number;
       alone = feeder-new.joined;
@@ -357,6 +359,7 @@ module _ {C : Type 0} (cache : Cache) (restored : List Restored) (len : ℕ) (im
     parties = parted-length cache made.lines old.parties.items new.parties.items made.parted ∙ before.parties;
     each = restored-come;
     ended = before.ended;
+    settled = made.settled before.feeder.number before.settled;
     feeder = record {
       number = made.number ∙ before.feeder.number;
       alone = made.alone;
@@ -456,6 +459,7 @@ module _ {C P : Type 0} (cache : Cache) (restored : List Restored) (pools : Ghos
         let below = in-front k op at none in
         let given = before.ended k op (sym (get-left os qs k below) ∙ at) none in
         (given.0, get-left rs ss k (omega (arith, below, before.long)) ∙ given.1, given.2);
+    settled = subst HasSettled (sym did.feeder) before.settled;
     feeder = subst (λ (p : Place (Known C)). IsFed cache p.own.about.openings (events_by_feeder cache.config restored (os ++ qs) (rs ++ ss)) (λ shard. seen_of cache.config shard p) p) (sym did.feeder)
         (subst (λ (fed : ℕ → List Event). IsFed cache old.feeder.own.about.openings fed (λ shard. seen_of cache.config shard old.feeder) old.feeder) (sym feeds-are) before.feeder);
     begun = λ shard below. subst (λ (p : Place (Known C)). StartsWith (seen_of cache.config shard p) (restores_in cache.config restored shard)) (sym did.feeder) (before.begun shard below);
@@ -587,6 +591,7 @@ module _ {C : Type 0} (cache : Cache) (restored : List Restored) (len : ℕ) (im
     parties = parted-length cache so.made.lines old.parties.items new.parties.items so.made.parted ∙ before.parties;
     each = end-come;
     ended = all-ended;
+    settled = so.made.settled feeder-number before.settled;
     feeder = record {
       number = so.made.number ∙ feeder-number;
       alone = so.made.alone;

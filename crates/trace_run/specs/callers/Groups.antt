@@ -30,7 +30,7 @@ use Rattle.trace_run.specs.callers.Group.{HaveWorked, IsAt, LeavesPool}
 use Rattle.trace_run.specs.callers.InOrder.{AreInOrder}
 use Rattle.trace_run.specs.KeptBlocks.{read_of}
 use Rattle.trace_run.specs.Lines.{caller_of, is_of_caller}
-use Rattle.trace_run.specs.Meeting.{IsFed, Resized, Waits}
+use Rattle.trace_run.specs.Meeting.{HasSettled, IsFed, Resized, Waits}
 use Rattle.trace_run.specs.one_caller.OneCaller.{kept_after_all}
 use Rattle.trace_run.specs.Openings.{Knows, openings_of}
 use Rattle.trace_run.specs.one_caller.OverShards.{AreNamed}
@@ -70,14 +70,15 @@ module _ {C : Type 0} where
     pub at : IsAt n crew.kept.items crew.parties.items reads party
     pub come : HasCome cache pool_len image blocks ops n replies reads party
 
-  -- All callers and the feeder have come to this by these lines, where these keys were restored. What the feeder has seen of each shard begins with
-  -- the restores, and is cut by the capacities among the lines.
+  -- All callers and the feeder have come to this by these lines, where these keys were restored. The feeder has settled all that it picked. What it has seen of
+  -- each shard begins with the restores, and is cut by the capacities among the lines.
   pub record HaveCome (cache : Cache) (restored : List Restored) (pool_len : ℕ) (image : Option (List ℕ)) (blocks : List Ptr) (ops : List Op) (replies : List Reply) (crew : Crew C) : Type 0 where
     pub long : length replies ≡ length ops
     pub kepts : length crew.kept.items ≡ cache.config.callers
     pub parties : length crew.parties.items ≡ cache.config.callers
     pub each : (n : ℕ) → n < cache.config.callers → ComesAt cache pool_len image blocks ops replies n crew
     pub ended : AreEndLines ops replies
+    pub settled : HasSettled crew.feeder
     pub feeder : IsFed cache crew.feeder.own.about.openings (events_by_feeder cache.config restored ops replies) (λ shard. seen_of cache.config shard crew.feeder) crew.feeder
     pub begun : (shard : ℕ) → shard < cache.config.shards → StartsWith (seen_of cache.config shard crew.feeder) (restores_in cache.config restored shard)
     pub cut : (shard : ℕ) → shard < cache.config.shards → AreCut cache.config restored blocks shard ops replies (seen_of cache.config shard crew.feeder)
