@@ -11,7 +11,7 @@ use Rattle.turn_table.specs.Places.{Apart, SomeHas}
 use Rattle.arc_table.specs.declared.view.Known.{Known}
 use Rattle.arc_table.specs.declared.view.Mine.{Mine}
 use Rattle.arc_table.specs.Cache.{Cache, IsPartyOf}
-use Rattle.arc_table.specs.Fronts.{front_of}
+use Rattle.arc_table.specs.Fronts.{list_at, front_of}
 use Rattle.arc_table.specs.Geometry.{IsCell, parties_of}
 use Rattle.arc_table.specs.Seen.{AreSeen, HasAll, seen_of}
 use Rattle.dbuf_cells.specs.Turns.{KeepsClaims, OnHeap, PartyPlace, dbuf_meanings}

@@ -10,9 +10,15 @@ ghost use Rattle.trace_text.specs.declared.op.Op.{Op};
 ghost use Rattle.trace_text.specs.declared.reply.Reply.{Reply};
 ghost use Rattle.trace_run.specs.Devices.{WasLent, lent_in};
 ghost use Rattle.trace_run.specs.callers.Callers.{AreAtStart};
-ghost use Rattle.trace_run.specs.callers.DeviceForks.{HaveReadSoFar, ReadAtOnce, these};
+ghost use Rattle.arc_table.specs.Items.{meanings};
+ghost use Rattle.arc_table.specs.declared.view.Known.{Known};
+ghost use Rattle.turn_table.specs.Places.{Place};
+ghost use Rattle.trace_run.specs.Feeds.{IsIdleFeeder, MayBeFed};
+ghost use Rattle.trace_run.specs.callers.Beside.{TriesBeside, WorksInOrder};
+ghost use Rattle.trace_run.specs.callers.DeviceForks.{HaveReadSoFar};
+ghost use Rattle.trace_run.specs.callers.InOrder.{AreInGroup};
 ghost use Rattle.trace_run.specs.callers.Group.{IsFork, LeavesPool};
-ghost use Rattle.trace_run.specs.callers.Groups.{AreBetween, AreOfCallers, DidEndLine, DidLinesAtOnce, AreDone, KeepNothing, MaySync, StepsOn};
+ghost use Rattle.trace_run.specs.callers.Groups.{AreBetween, DidEndLine, DidLinesAtOnce, AreDone, KeepNothing, MaySync, StepsOn};
 ghost use Rattle.trace_run.specs.Making.{AreNoEntries};
 ghost use Rattle.trace_run.specs.Meeting.{MayGoOn};
 ghost use Rattle.trace_run.specs.Tally.{AreDeclared};
@@ -114,8 +120,8 @@ fn group_end(ops: &[Op], from: usize) -> usize
     ops.len()
 }
 
-/// The callers do the lines of a group at once, each on its forks of the pool and of the cache device. The replies, in the order of the lines, come
-/// behind those so far.
+/// The callers do the lines of a group at once, each on its forks of the pool and of the cache device, and beside them the feeder the lines `feed`. The
+/// replies stand in the order of the lines.
 fn lines_at_once<R: Threads + Wait + Sync, C: Keeps + Send, P: Pool, D: CacheDev, G: Gate>(
     alloc: Global,
     rt: &R,
@@ -133,27 +139,43 @@ fn lines_at_once<R: Threads + Wait + Sync, C: Keeps + Send, P: Pool, D: CacheDev
     requires forks { AllByRecursion (IsFork P.Pool pool.old) forks.items }
     requires same { vec_len forks ≡ vec_len crew.parties }
     requires declared { AreDeclared (length blocks.now) ops.now }
-    requires callers { AreOfCallers (vec_len crew.parties) ops.now }
+    requires group { AreInGroup (vec_len crew.parties) ops.now }
+    requires feeder { IsIdleFeeder arcs.now crew.feeder }
+    requires device { MayBeFed D.CacheDev arcs.now.config device.old }
     requires few { first + length ops.now < 2 ^ 32 }
     ensures did { IfOk result (λ done. DidLinesAtOnce arcs.now P.Pool blocks.now ops.now pool.old pool.new crew done.0 done.1.items) }
-    ensures read { IfOk result (λ done. ReadAtOnce D.CacheDev blocks.now (vec_len crew.parties) (these ops.now done.1.items) (lent_in device.old) (lent_in device.new)) }
+    ensures beside { IfOk result (λ done. WorksInOrder (meanings C.holds C.entries C.opening C.claims C.sound) D.CacheDev arcs.now blocks.now ops.now (vec_len crew.parties) done.1.items device.old device.new crew.feeder done.0.feeder) }
+    ensures tried { (p : Place (Known C)) × TriesBeside (meanings C.holds C.entries C.opening C.claims C.sound) D.CacheDev arcs.now ops.now device.old device.new crew.feeder p }
+    ensures feeder { IfOk result (λ done. IsIdleFeeder arcs.now done.0.feeder) }
+    ensures device { MayBeFed D.CacheDev arcs.now.config device.new }
     ensures pool { LeavesPool P.Pool pool.old pool.new }
-    ensures device { WasLent D.CacheDev device.old device.new }
 {
     let Crew {
-        feeder,
+        mut feeder,
         parties,
         kept,
     } = crew;
-    let worked = run_group(
-        alloc, rt, arcs, parties, kept, forks, pool, device, blocks, ops, first, gate,
+    let (worked, fed) = run_group(
+        alloc,
+        rt,
+        arcs,
+        parties,
+        kept,
+        &mut feeder,
+        forks,
+        pool,
+        device,
+        blocks,
+        ops,
+        first,
+        gate,
     )?;
     let Worked {
         parties,
         kept,
         replies,
     } = worked;
-    let replies = in_order(alloc, ops, replies)?;
+    let replies = in_order(alloc, ops, replies, fed)?;
     let crew = Crew {
         feeder,
         parties,
@@ -287,6 +309,7 @@ fn next_group<R: Threads + Wait + Sync, P: Pool, D: CacheDev, G: Gate>(
     requires formed { IsFormed trace.now }
     requires config { arcs.now.config ≡ trace.now.config }
     requires rows { arcs.now.row.parties ≡ parties_of arcs.now.config }
+    requires device { MayBeFed D.CacheDev arcs.now.config device.old }
     requires between { (start : Stand P) × (restored : List Restored) × AreBetween arcs.now restored P.Pool trace.now start (stand pool.old syncs.group syncs.next) replies.old.items crew }
     requires more { vec_len replies.old < length trace.now.ops }
     ensures steps { (start : Stand P) (restored : List Restored) → AreBetween arcs.now restored P.Pool trace.now start (stand pool.old syncs.group syncs.next) replies.old.items crew
@@ -342,6 +365,7 @@ pub(crate) fn all_groups<R: Threads + Wait + Sync, P: Pool, D: CacheDev, G: Gate
     requires formed { IsFormed trace.now }
     requires config { arcs.now.config ≡ trace.now.config }
     requires rows { arcs.now.row.parties ≡ parties_of arcs.now.config }
+    requires device { MayBeFed D.CacheDev arcs.now.config device.old }
     requires between { (restored : List Restored) × AreBetween arcs.now restored P.Pool trace.now (stand pool.old syncs.group syncs.next) (stand pool.old syncs.group syncs.next) [] crew }
     ensures stopped { (restored : List Restored) → AreBetween arcs.now restored P.Pool trace.now (stand pool.old syncs.group syncs.next) (stand pool.old syncs.group syncs.next) [] crew
         → IfOk result (λ came. AreDone arcs.now restored P.Pool trace.now (stand pool.old syncs.group syncs.next) pool.new came.fork_failed came.replies.items came.crew) }
