@@ -2,7 +2,7 @@
 use Rattle.std.proofs.Common.{◌≡◌, ◌<◌, ◌≤◌, ◌+◌, ℕ, true, false, List, [], ◌∷◌, ◌++◌, Option, Some, None, length, map, take, refl, sym, ap, ◌∙◌, subst, arith, append-nil, append_assoc, length-append}
 use Rattle.std.specs.Prelude.{filter, slice_get}
 use Rattle.std.proofs.lemmas.Bool.{false≢true}
-use Rattle.std.proofs.lemmas.List.{map-append}
+use Rattle.std.proofs.lemmas.List.{length-map, map-append}
 use Rattle.std.proofs.lemmas.List.Elements.{filter-append}
 use Rattle.vdev_io.specs.declared.device.CacheDev.{Ghosts}
 use Rattle.vdev_io.specs.Calls.{MakesDeviceCalls}
@@ -112,6 +112,16 @@ answered-then (Some d) ls ms fs gs rs ss first rest = (
   (λ i. first.1 i ++ rest.1 i) ∙ sym (map-append (λ (feed : FeedDone). Fed feed.report) fs gs),
 )
 
+-- there are no more feeds than lines that ask for one
+pub few-fed : {D : Type 0} (o : Option D) (ls : List Op) (fs : List FeedDone) (rs : List Reply) → AreFedReplies o ls fs rs → length fs ≤ length ls
+few-fed None ls fs rs so = omega (arith, ap length so.0)
+few-fed (Some d) ls fs rs so = omega (arith, so.0)
+
+-- there is a reply to each line
+pub as-many : {D : Type 0} (o : Option D) (ls : List Op) (fs : List FeedDone) (rs : List Reply) → AreFedReplies o ls fs rs → length rs ≡ length ls
+as-many None ls fs rs so = ap length so.1 ∙ length-map ls (λ line. FedNone)
+as-many (Some d) ls fs rs so = ap length so.1 ∙ (length-map fs (λ (feed : FeedDone). Fed feed.report) ∙ so.0)
+
 -- ---- one line
 
 module _ {C D : Type 0} (m : Meanings C) (devices : Ghosts D) (cache : Cache) (was now : D) (old new : CursorState) (p q : Place (Known C)) (report : FeedReport) (idle : IsIdleFeeder cache p) (fed : HasFed m cache.config devices was now old new p q report) where
@@ -146,10 +156,6 @@ module _ {C D : Type 0} (m : Meanings C) (devices : Ghosts D) (cache : Cache) wh
     answered = answered-then (lent_in a) ls ms first.feeds rest.feeds rs ss first.answered (still-lent m devices cache first.feeds a b p q first.made ms rest.feeds ss rest.answered);
     made = made-of-then m devices cache first.feeds rest.feeds a b c p q r first.made rest.made;
   }
-
-  few-fed : (o : Option D) (ls : List Op) (fs : List FeedDone) (rs : List Reply) → AreFedReplies o ls fs rs → length fs ≤ length ls
-  few-fed None ls fs rs so = omega (arith, ap length so.0)
-  few-fed (Some d) ls fs rs so = omega (arith, so.0)
 
   pub done-tried : (ls ms : List Op) (rs : List Reply) (a b : Device D) (p q : Place (Known C)) → length ls ≤ length ms → DoesFeeds m devices cache ls rs a b p q → TriesFeeds m devices cache ms a b p q
   done-tried ls ms rs a b p q fewer d = record { feeds = d.feeds; few = omega (arith, fewer, few-fed (lent_in a) ls d.feeds rs d.answered); made = d.made }

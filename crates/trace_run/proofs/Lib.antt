@@ -28,6 +28,7 @@ pub mod ResizeLemmas
 pub mod RestoreLemmas
 pub mod RunLemmas
 pub mod ServeLemmas
+pub mod StartLemmas
 pub mod SyncInserts
 pub mod SyncJoined
 pub mod SyncSteps

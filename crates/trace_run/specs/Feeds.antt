@@ -3,6 +3,7 @@ use Rattle.std.specs.Prelude.{◌≡◌, ◌≤◌, ℕ, Bool, true, false, List
 use Rattle.vdev_io.specs.declared.device.CacheDev.{Ghosts}
 use Rattle.vdev_io.specs.Calls.{DeviceCall, MakesDeviceCalls}
 use Rattle.arc_core.specs.declared.config.Config.{Config}
+use Rattle.arc_core.specs.declared.served.Restored.{Restored}
 use Rattle.turn_table.specs.Places.{Place}
 use Rattle.arc_table.specs.declared.view.Known.{Known}
 use Rattle.arc_table.specs.Cache.{Cache}
@@ -10,6 +11,7 @@ use Rattle.arc_table.specs.Items.{Meanings}
 use Rattle.arc_table.specs.feeder.Listing.{picks_of}
 use Rattle.l2_dev.specs.declared.report.FeedReport.{FeedReport}
 use Rattle.l2_dev.specs.Cursor.{CursorState}
+use Rattle.l2_dev.specs.Rebuilding.{IsOpened, ring_end_of}
 use Rattle.l2_feed.specs.Acts.{Act}
 use Rattle.l2_feed.specs.Ready.{IsDeviceReady}
 use Rattle.l2_feed.specs.Series.{IsFeed}
@@ -63,6 +65,12 @@ module _ {D : Type 0} (devices : Ghosts D) where
   MayBeFed g device.None = Unit {0}
   MayBeFed g (device.Short dev) = Unit {0}
   MayBeFed g (device.Ready l2) = IsDeviceReady g (devices.size l2.dev) l2.cursor
+
+  -- a device of so many bytes that was started is written from where the start has found it, and these keys are live
+  abbrev pub IsOpenedAt : (size : ℕ) → Device D → List Restored → Type 0
+  IsOpenedAt size device.None restored = Unit {0}
+  IsOpenedAt size (device.Short dev) restored = Unit {0}
+  IsOpenedAt size (device.Ready l2) restored = IsOpened (ring_end_of size) l2.cursor restored × (devices.size l2.dev ≡ size)
 
   -- the device was asked for the calls of these feeds, one after another, and for nothing else
   abbrev pub AsksForFeeds : List FeedDone → (was now : D) → Type 0

@@ -3,6 +3,7 @@ ghost use Rattle.std.specs.Prelude.{◌≡◌, IfOk};
 ghost use Rattle.l2_dev.specs.Rebuilding.{HaveKeys};
 ghost use Rattle.trace_run.specs.Bounded.{device_len};
 ghost use Rattle.trace_run.specs.Devices.{Finds, IsRightKind, device_of};
+ghost use Rattle.trace_run.specs.Feeds.{IsOpenedAt};
 ghost use Rattle.trace_run.specs.Restores.{restored_of};
 
 use blk_ptr::NoMemory;
@@ -45,6 +46,7 @@ pub(crate) fn begin<D: CacheDev>(alloc: Global, cache: Option<D>) -> Result<Begu
     ensures found { IfOk result (λ begun. Finds D.CacheDev cache (device_of begun.device) begun.rebuilt) }
     ensures keys { IfOk result (λ begun. HaveKeys (restored_of begun.rebuilt)) }
     ensures kind { IfOk result (λ begun. IsRightKind D.CacheDev begun.device) }
+    ensures opened { IfOk result (λ begun. IsOpenedAt D.CacheDev (device_len D.size cache) begun.device (restored_of begun.rebuilt)) }
 {
     let Some(dev) = cache else {
         return Ok(Begun {

@@ -4,6 +4,8 @@ use Rattle.std.specs.Prelude.{filter, slice_get}
 use Rattle.blk_ptr.specs.declared.ptr.Ptr.{Ptr}
 use Rattle.vdev_io.specs.declared.device.CacheDev.{Ghosts}
 use Rattle.arc_core.specs.declared.config.Config.{Config}
+use Rattle.arc_core.specs.declared.event.Event.{Event}
+use Rattle.l2_dev.specs.Cursor.{CursorState}
 use Rattle.turn_table.specs.Places.{Place}
 use Rattle.arc_table.specs.declared.view.Known.{Known}
 use Rattle.arc_table.specs.Cache.{Cache}
@@ -21,6 +23,7 @@ use Rattle.trace_run.specs.callers.DeviceForks.{ReadAtOnce, these}
 use Rattle.trace_run.specs.callers.Groups.{AreOfCallers}
 use Rattle.trace_run.specs.callers.InOrder.{AreInGroup}
 use Rattle.trace_run.proofs.DeviceLemmas.{lent-then, only-same}
+use Rattle.trace_run.proofs.FeedLemmas.{few-fed}
 use Rattle.trace_run.proofs.callers.DeviceSteps.{read-in-order}
 use Rattle.trace_run.proofs.callers.InOrderLemmas.{caller-no-feed}
 
@@ -55,7 +58,7 @@ module _ {D : Type 0} (devices : Ghosts D) (g : Config) where
   lent-fed (device.Short a) (device.Ready b) lent may = absurd lent
   lent-fed (device.Ready a) device.None lent may = absurd lent
   lent-fed (device.Ready a) (device.Short b) lent may = absurd lent
-  lent-fed (device.Ready a) (device.Ready b) lent may = subst (λ (x : ℕ × _). IsDeviceReady g x.0 x.1) (λ i. (sym lent.2.size i, sym lent.0 i)) may
+  lent-fed (device.Ready a) (device.Ready b) lent may = subst (λ (x : ℕ × CursorState). IsDeviceReady g x.0 x.1) (λ i. (sym lent.2.size i, sym lent.0 i)) may
 
 module _ {C D : Type 0} (m : Meanings C) (devices : Ghosts D) (cache : Cache) where
   -- no feed was made
@@ -81,3 +84,23 @@ module _ {C D : Type 0} (m : Meanings C) (devices : Ghosts D) (cache : Cache) wh
   pub tried-lent : (callers : ℕ) (os : List Op) (a b : Device D) (p q : Place (Known C)) → AreOfCallers callers os → TriesBeside m devices cache os a b p q → WasLent devices a b
   tried-lent callers os a b p q own tried =
       (only-lent tried.feeds a b p q (none-of tried.feeds (let few = tried.few in let none = ap length (none-asked callers os own) in omega (arith, few, none))) tried.used).0
+
+  -- ---- where all lines are callers'
+
+  module _ (callers : ℕ) (blocks : List Ptr) (os : List Op) (merged : List Reply) (a b : Device D) (p q : Place (Known C)) (own : AreOfCallers callers os) (w : WorksInOrder m devices cache blocks os callers merged a b p q) where
+    none-fed : w.works.feeds ≡ []
+    none-fed = none-of w.works.feeds (let few = few-fed (lent_in a) (filter is_feed os) w.works.feeds w.fed w.works.answered in let none = ap length (none-asked callers os own) in omega (arith, few, none))
+
+    -- the feeder's party is as it was
+    pub feeder-same : q ≡ p
+    feeder-same = (only-lent w.works.feeds a b p q none-fed w.works.used).1
+
+    -- and the callers' forks are all that the device was asked for
+    pub read-only : ReadAtOnce devices blocks callers (these os merged) (lent_in a) (lent_in b)
+    read-only =
+        read-in-order devices blocks os merged w.fed w.replies callers (lent_in a) (lent_in w.works.used.lent) (lent_in w.works.used.later) (lent_in b)
+        (unfed w.works.feeds w.works.used.lent w.works.used.later p q none-fed w.works.used.made).1 w.works.read w.ordered
+
+-- the feeder between groups may do its lines
+pub fed-idle : {C : Type 0} (cache : Cache) (openings : List (List ℕ)) (feeds begun : (shard : ℕ) → List Event) (p : Place (Known C)) → HasSettled p → IsFed cache openings feeds begun p → IsIdleFeeder cache p
+fed-idle cache openings feeds begun p settled fed = record { number = fed.number; alone = fed.alone; stands = fed.stands; only = fed.only; settled = settled }

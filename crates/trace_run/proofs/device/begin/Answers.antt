@@ -18,3 +18,6 @@ returns-in-Ready-clause-found g c =
       keys = e.keys;
       only = only-of g.D.CacheDev _ _ e.read;
     })
+
+pub returns-in-Ready-clause-opened : goal.returns-in-Ready-clause-opened
+returns-in-Ready-clause-opened g c = let e = c.in-Ready.ensures in rw (c.in-Some.is, c.from_vec.ensures) (e.opened, e.read.size)
