@@ -1,7 +1,6 @@
 //! The lines `feed` of a group, which the feeder does while the callers do theirs.
 ghost use Rattle.std.specs.Prelude.{◌≡◌, [], ◌∷◌, IfOk, filter};
 ghost use Rattle.std.specs.List.{list_any};
-ghost use Rattle.arc_table.specs.Items.{meanings};
 ghost use Rattle.trace_text.specs.declared.op.Op.TheVariants as ops;
 ghost use Rattle.trace_run.specs.Feeds.{DoesFeeds, IsIdleFeeder, MayBeFed, TriesFeeds, is_feed};
 
@@ -41,7 +40,7 @@ fn feed_line<C: Keeps, D: CacheDev>(
     requires device { MayBeFed D.CacheDev arcs.now.config device.old }
     ensures feeder { IsIdleFeeder arcs.now party.new }
     ensures device { MayBeFed D.CacheDev arcs.now.config device.new }
-    ensures fed { DoesFeeds (meanings C.holds C.entries C.opening C.claims C.sound) D.CacheDev arcs.now (ops.Feed ∷ []) (result ∷ []) device.old device.new party.old party.new }
+    ensures fed { DoesFeeds C.Keeps D.CacheDev arcs.now (ops.Feed ∷ []) (result ∷ []) device.old device.new party.old party.new }
 {
     match device {
         Device::Ready(l2) => Reply::Fed(feed(alloc, rt, arcs, party, l2)),
@@ -63,8 +62,8 @@ pub(crate) fn feed_lines<C: Keeps, D: CacheDev>(
     requires device { MayBeFed D.CacheDev arcs.now.config device.old }
     ensures feeder { IsIdleFeeder arcs.now party.new }
     ensures device { MayBeFed D.CacheDev arcs.now.config device.new }
-    ensures tried { TriesFeeds (meanings C.holds C.entries C.opening C.claims C.sound) D.CacheDev arcs.now (filter is_feed ops.now) device.old device.new party.old party.new }
-    ensures fed { IfOk result (λ replies. DoesFeeds (meanings C.holds C.entries C.opening C.claims C.sound) D.CacheDev arcs.now (filter is_feed ops.now) replies.items device.old device.new party.old party.new) }
+    ensures tried { TriesFeeds C.Keeps D.CacheDev arcs.now (filter is_feed ops.now) device.old device.new party.old party.new }
+    ensures fed { IfOk result (λ replies. DoesFeeds C.Keeps D.CacheDev arcs.now (filter is_feed ops.now) replies.items device.old device.new party.old party.new) }
 {
     let mut replies = Vec::new(alloc);
     for op in ops {

@@ -2,7 +2,6 @@
 //! beside them.
 ghost use Rattle.std.specs.Prelude.{All, ◌≡◌, ℕ, ◌<◌, ◌≤◌, ◌+◌, ◌^◌, ◌++◌, ◌∷◌, [], IfOk, IsErrOf, List, OnErr, OnOk, filter, length, map, vec_len};
 ghost use Rattle.std.specs.List.{AllByRecursion, AllZip};
-ghost use Rattle.arc_table.specs.Items.{meanings};
 ghost use Rattle.vdev_io.specs.Calls.{KeepsPool};
 ghost use Rattle.trace_text.specs.declared.reply.Reply.{Reply};
 ghost use Rattle.vdev_io.specs.Faults.{CountsIoFault, Rose, last_count};
@@ -287,8 +286,8 @@ fn work_and_feed<R: Threads + Wait + Sync, C: Keeps + Send, P: Pool, D: CacheDev
     ensures asked { AllZip (HasAsked D.CacheDev blocks.now ops.now) callers.old.items callers.new.items }
     ensures feeder { IsIdleFeeder arcs.now feeder.new }
     ensures device { MayBeFed D.CacheDev arcs.now.config device.new }
-    ensures tries { TriesFeeds (meanings C.holds C.entries C.opening C.claims C.sound) D.CacheDev arcs.now (filter is_feed ops.now) device.old device.new feeder.old feeder.new }
-    ensures fed { IfOk result (λ replies. DoesFeeds (meanings C.holds C.entries C.opening C.claims C.sound) D.CacheDev arcs.now (filter is_feed ops.now) replies.items device.old device.new feeder.old feeder.new) }
+    ensures tries { TriesFeeds C.Keeps D.CacheDev arcs.now (filter is_feed ops.now) device.old device.new feeder.old feeder.new }
+    ensures fed { IfOk result (λ replies. DoesFeeds C.Keeps D.CacheDev arcs.now (filter is_feed ops.now) replies.items device.old device.new feeder.old feeder.new) }
 {
     if !has_feed(ops) {
         work_lines(alloc, rt, arcs, callers, blocks, ops, first, gate);
@@ -297,8 +296,8 @@ fn work_and_feed<R: Threads + Wait + Sync, C: Keeps + Send, P: Pool, D: CacheDev
     let mut feeds = ||
         requires { IsIdleFeeder arcs.now feeder.now × MayBeFed D.CacheDev arcs.now.config device.now }
         ensures idle { IsIdleFeeder arcs.entry.now feeder.exit.now × MayBeFed D.CacheDev arcs.entry.now.config device.exit.now }
-        ensures tries { TriesFeeds (meanings C.holds C.entries C.opening C.claims C.sound) D.CacheDev arcs.entry.now (filter is_feed ops.entry.now) device.entry.now device.exit.now feeder.entry.now feeder.exit.now }
-        ensures fed { IfOk result (λ replies. DoesFeeds (meanings C.holds C.entries C.opening C.claims C.sound) D.CacheDev arcs.entry.now (filter is_feed ops.entry.now) replies.items device.entry.now device.exit.now feeder.entry.now feeder.exit.now) }
+        ensures tries { TriesFeeds C.Keeps D.CacheDev arcs.entry.now (filter is_feed ops.entry.now) device.entry.now device.exit.now feeder.entry.now feeder.exit.now }
+        ensures fed { IfOk result (λ replies. DoesFeeds C.Keeps D.CacheDev arcs.entry.now (filter is_feed ops.entry.now) replies.items device.entry.now device.exit.now feeder.entry.now feeder.exit.now) }
     { feed_lines(alloc, rt, arcs, feeder, device, ops) };
     let mut lines = ||
         requires { AllByRecursion (IsReady arcs.now blocks.now) callers.now.items × AreDeclared (length blocks.now) ops.now × (first + length ops.now < 2 ^ 32) }
@@ -395,8 +394,8 @@ pub(crate) fn run_group<R: Threads + Wait + Sync, C: Keeps + Send, P: Pool, D: C
     requires few { first + length ops.now < 2 ^ 32 }
     ensures worked { IfOk result (λ done. HaveWorked arcs.now P.Pool blocks.now ops.now (vec_len parties) pool.old pool.new (map (λ v. v.items) done.0.replies.items)
         kept.items parties.items done.0.kept.items done.0.parties.items) }
-    ensures beside { IfOk result (λ done. WorksBeside (meanings C.holds C.entries C.opening C.claims C.sound) D.CacheDev arcs.now blocks.now ops.now (vec_len parties) (map (λ v. v.items) done.0.replies.items) done.1.items device.old device.new feeder.old feeder.new) }
-    ensures tried { TriesBeside (meanings C.holds C.entries C.opening C.claims C.sound) D.CacheDev arcs.now ops.now device.old device.new feeder.old feeder.new }
+    ensures beside { IfOk result (λ done. WorksBeside C.Keeps D.CacheDev arcs.now blocks.now ops.now (vec_len parties) (map (λ v. v.items) done.0.replies.items) done.1.items device.old device.new feeder.old feeder.new) }
+    ensures tried { TriesBeside C.Keeps D.CacheDev arcs.now ops.now device.old device.new feeder.old feeder.new }
     ensures feeder { IsIdleFeeder arcs.now feeder.new }
     ensures device { MayBeFed D.CacheDev arcs.now.config device.new }
     ensures pool { LeavesPool P.Pool pool.old pool.new }

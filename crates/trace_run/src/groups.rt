@@ -10,7 +10,6 @@ ghost use Rattle.trace_text.specs.declared.op.Op.{Op};
 ghost use Rattle.trace_text.specs.declared.reply.Reply.{Reply};
 ghost use Rattle.trace_run.specs.Devices.{WasLent, lent_in};
 ghost use Rattle.trace_run.specs.callers.Callers.{AreAtStart};
-ghost use Rattle.arc_table.specs.Items.{meanings};
 ghost use Rattle.arc_table.specs.declared.view.Known.{Known};
 ghost use Rattle.turn_table.specs.Places.{Place};
 ghost use Rattle.trace_run.specs.Feeds.{IsIdleFeeder, MayBeFed};
@@ -144,8 +143,8 @@ fn lines_at_once<R: Threads + Wait + Sync, C: Keeps + Send, P: Pool, D: CacheDev
     requires device { MayBeFed D.CacheDev arcs.now.config device.old }
     requires few { first + length ops.now < 2 ^ 32 }
     ensures did { IfOk result (λ done. DidLinesAtOnce arcs.now P.Pool blocks.now ops.now pool.old pool.new crew done.0 done.1.items) }
-    ensures beside { IfOk result (λ done. WorksInOrder (meanings C.holds C.entries C.opening C.claims C.sound) D.CacheDev arcs.now blocks.now ops.now (vec_len crew.parties) done.1.items device.old device.new crew.feeder done.0.feeder) }
-    ensures tried { (p : Place (Known C)) × TriesBeside (meanings C.holds C.entries C.opening C.claims C.sound) D.CacheDev arcs.now ops.now device.old device.new crew.feeder p }
+    ensures beside { IfOk result (λ done. WorksInOrder C.Keeps D.CacheDev arcs.now blocks.now ops.now (vec_len crew.parties) done.1.items device.old device.new crew.feeder done.0.feeder) }
+    ensures tried { (p : Place (Known C)) × TriesBeside C.Keeps D.CacheDev arcs.now ops.now device.old device.new crew.feeder p }
     ensures feeder { IfOk result (λ done. IsIdleFeeder arcs.now done.0.feeder) }
     ensures device { MayBeFed D.CacheDev arcs.now.config device.new }
     ensures pool { LeavesPool P.Pool pool.old pool.new }
