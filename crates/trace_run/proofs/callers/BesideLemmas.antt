@@ -16,14 +16,14 @@ use Rattle.trace_text.specs.declared.reply.Reply.{Reply}
 use Rattle.trace_run.specs.declared.device.Device.{Device}
 use Rattle.trace_run.specs.declared.device.Device.TheVariants as device
 use Rattle.trace_run.specs.Devices.{WasLent, WasOnlyRead, lent_in}
-use Rattle.trace_run.specs.Feeds.{FeedDone, IsIdleFeeder, MadeFeeds, MadeFeedsOf, MayBeFed, is_feed}
+use Rattle.trace_run.specs.Feeds.{AreFedReplies, DoesFeeds, FeedDone, IsIdleFeeder, MadeFeeds, MadeFeedsOf, MayBeFed, TriesFeeds, is_feed}
 use Rattle.trace_run.specs.Meeting.{HasSettled, IsFed}
-use Rattle.trace_run.specs.callers.Beside.{LendsAndFeeds, TriesBeside, WorksInOrder}
-use Rattle.trace_run.specs.callers.DeviceForks.{ReadAtOnce, these}
+use Rattle.trace_run.specs.callers.Beside.{LendsAndFeeds, TriesBeside, WorksBeside, WorksInOrder}
+use Rattle.trace_run.specs.callers.DeviceForks.{HaveRead, ReadAtOnce, these}
 use Rattle.trace_run.specs.callers.Groups.{AreOfCallers}
 use Rattle.trace_run.specs.callers.InOrder.{AreInGroup}
-use Rattle.trace_run.proofs.DeviceLemmas.{lent-then, only-same}
-use Rattle.trace_run.proofs.FeedLemmas.{few-fed}
+use Rattle.trace_run.proofs.DeviceLemmas.{lent-same, lent-then, only-same}
+use Rattle.trace_run.proofs.FeedLemmas.{few-fed, made-none}
 use Rattle.trace_run.proofs.callers.DeviceSteps.{read-in-order}
 use Rattle.trace_run.proofs.callers.InOrderLemmas.{caller-no-feed}
 
@@ -104,3 +104,37 @@ module _ {C D : Type 0} (m : Meanings C) (devices : Ghosts D) (cache : Cache) wh
 -- the feeder between groups may do its lines
 pub fed-idle : {C : Type 0} (cache : Cache) (openings : List (List ℕ)) (feeds begun : (shard : ℕ) → List Event) (p : Place (Known C)) → HasSettled p → IsFed cache openings feeds begun p → IsIdleFeeder cache p
 fed-idle cache openings feeds begun p settled fed = record { number = fed.number; alone = fed.alone; stands = fed.stands; only = fed.only; settled = settled }
+
+-- ---- callers and feeder at once
+
+module _ {C D : Type 0} (m : Meanings C) (devices : Ghosts D) (cache : Cache) where
+  -- no feed was tried
+  pub tries-none : (os : List Op) (a b : Device D) (p : Place (Known C)) → WasLent devices a b → TriesBeside m devices cache os a b p p
+  tries-none os a b p lent = record {
+    feeds = [];
+    few = omega arith;
+    used = record { lent = b; later = b; gave = lent; made = made-none m devices cache b p; took = lent-same devices b };
+  }
+
+  pub tries-beside : (os : List Op) (a b c d : Device D) (p q : Place (Known C)) → WasLent devices a b → TriesFeeds m devices cache (filter is_feed os) b c p q → WasLent devices c d → TriesBeside m devices cache os a d p q
+  tries-beside os a b c d p q gave tried took = record { feeds = tried.feeds; few = tried.few; used = record { lent = b; later = c; gave = gave; made = tried.made; took = took } }
+
+  answered-as : (a b : Device D) (ls : List Op) (fs : List FeedDone) (rs : List Reply) → WasLent devices a b → AreFedReplies (lent_in b) ls fs rs → AreFedReplies (lent_in a) ls fs rs
+  answered-as device.None device.None ls fs rs lent so = so
+  answered-as (device.Short a) (device.Short b) ls fs rs lent so = so
+  answered-as (device.Ready a) (device.Ready b) ls fs rs lent so = so
+  answered-as device.None (device.Short b) ls fs rs lent so = absurd lent
+  answered-as device.None (device.Ready b) ls fs rs lent so = absurd lent
+  answered-as (device.Short a) device.None ls fs rs lent so = absurd lent
+  answered-as (device.Short a) (device.Ready b) ls fs rs lent so = absurd lent
+  answered-as (device.Ready a) device.None ls fs rs lent so = absurd lent
+  answered-as (device.Ready a) (device.Short b) ls fs rs lent so = absurd lent
+
+  pub works-beside : (blocks : List Ptr) (os : List Op) (callers : ℕ) (replies : List (List Reply)) (fed : List Reply) (a b c d : Device D) (p q : Place (Known C)) → WasLent devices a b → DoesFeeds m devices cache (filter is_feed os) fed b c p q
+      → WasLent devices c d → HaveRead devices blocks os callers replies (lent_in a) (lent_in b) (lent_in c) (lent_in d) → WorksBeside m devices cache blocks os callers replies fed a d p q
+  works-beside blocks os callers replies fed a b c d p q gave done took read = record {
+    feeds = done.feeds;
+    used = record { lent = b; later = c; gave = gave; made = done.made; took = took };
+    answered = answered-as a b (filter is_feed os) done.feeds fed gave done.answered;
+    read = read;
+  }
