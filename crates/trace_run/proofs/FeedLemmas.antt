@@ -82,7 +82,7 @@ module _ {C D : Type 0} (m : Meanings C) (devices : Ghosts D) (cache : Cache) wh
   pub made-none : (a : Device D) (p : Place (Known C)) → MadeFeedsOf m devices cache [] a a p p
   made-none device.None p = (refl, refl)
   made-none (device.Short a) p = (refl, refl, refl)
-  made-none (device.Ready a) p = (refl, refl, refl, refl)
+  made-none (device.Ready a) p = (refl, (refl, refl, refl))
 
   -- a device stays one that was started, or none
   pub still-lent : (fs : List FeedDone) (a b : Device D) (p q : Place (Known C)) → MadeFeedsOf m devices cache fs a b p q → (lines : List Op) (feeds : List FeedDone) (replies : List Reply) → AreFedReplies (lent_in b) lines feeds replies → AreFedReplies (lent_in a) lines feeds replies
@@ -142,7 +142,7 @@ module _ {C D : Type 0} (m : Meanings C) (devices : Ghosts D) (cache : Cache) (w
 
   pub one-made : (new.ring.lap < last_lap → FeedKeeps devices.told devices.has_sectors devices.may_leave was now old new report.end) → devices.faults was ≤ devices.faults now → (report.end ≡ stop.DevFault → Rose (devices.faults was) (devices.faults now))
       → MadeFeeds m devices cache (this-feed ∷ []) was now old new p q
-  one-made crash faults cause = (now, q, refl, record { made = record { ready = idle-ready cache p idle; fed = fed; crash = crash; faults = faults; cause = cause }; acts = refl; calls = refl }, refl, refl, refl)
+  one-made crash faults cause = (now, q, refl, record { made = record { ready = idle-ready cache p idle; fed = fed; crash = crash; faults = faults; cause = cause }; acts = refl; calls = refl }, (refl, refl, refl))
 
 -- ---- lines, one after another
 

@@ -9,7 +9,8 @@ use Rattle.arc_core.specs.declared.event.Event.{Event}
 use Rattle.arc_core.specs.declared.event.Event.TheVariants.{Resize}
 use Rattle.arc_core.specs.PlainShard.{PlainShard}
 use Rattle.arc_core.specs.Replay.{replay}
-use Rattle.arc_core.specs.Step.{after, resized}
+use Rattle.arc_core.specs.Rules.{resized}
+use Rattle.arc_core.specs.Step.{after}
 use Rattle.arc_core.proofs.Victims.{kept-fitted}
 use Rattle.turn_table.specs.Places.{Place}
 use Rattle.arc_table.specs.declared.view.Known.{Known}

@@ -131,15 +131,9 @@ pub(crate) fn give_back_all<C: Keeps>(
 )
     requires { Stands arcs.now party.old kept }
     ensures stands { Stands arcs.now party.new [] }
-<<<<<<< HEAD
     ensures gives { GivesAll C.Keeps arcs.now.config kept party.old party.new }
     ensures told { (before : List Act) → HasTold arcs.now.config before party.old
         → HasTold arcs.now.config (before ++ acts_of_drops party.old.number (map read_of kept)) party.new }
-=======
-    ensures gives { GivesAll C.Keeps arcs.now.config kept party.old party.new }
-    ensures told { (before : List Act) → IsTold arcs.now.config before party.old
-        → IsTold arcs.now.config (before ++ acts_of_drops party.old.number (map read_of kept)) party.new }
->>>>>>> origin/landing-house
     ensures alone { HasAll party.old → DroppedAlone arcs.now.config (map read_of kept) party.old party.new }
 {
     while let Some(read) = kept.pop_oldest() {

@@ -1,12 +1,7 @@
 use Rattle.std.proofs.Common.{map, sym, ap, ◌∙◌, subst}
 use Rattle.turn_table.specs.Places.{Place}
 use Rattle.arc_table.specs.declared.view.Known.{Known}
-<<<<<<< HEAD
-use Rattle.arc_table.specs.Items.{Meanings, meanings}
-=======
 use Rattle.arc_table.specs.Items.{Meanings}
-use Rattle.trace_run.specs.KeptBlocks.{no_entries}
->>>>>>> origin/landing-house
 use Rattle.trace_run.specs.Meeting.{GaveBackJoined}
 use Rattle.trace_run.proofs.callers.TurnLemmas.{all-may, gave-back, joined-stands, last-numbers, may-join}
 use Rattle.trace_run.proofs.ending.give_back_joined.Goals as goal

@@ -7,12 +7,7 @@ use Rattle.turn_table.specs.Places.{Place}
 use Rattle.arc_table.specs.declared.restores.RestoreStop.{RestoreStop}
 use Rattle.arc_table.specs.declared.view.Known.{Known}
 use Rattle.arc_table.specs.feeder.Feeding.{AnswersRestore, Restores}
-<<<<<<< HEAD
-use Rattle.arc_table.specs.Items.{Meanings, meanings}
-=======
 use Rattle.arc_table.specs.Items.{Meanings}
-use Rattle.trace_run.specs.KeptBlocks.{no_entries}
->>>>>>> origin/landing-house
 use Rattle.trace_run.proofs.ResizeLemmas.{last-of, made-joined, q-all, q-number, q-stands}
 use Rattle.trace_run.proofs.RestoreLemmas.{keys-formed, restored-to, restores-mine}
 use Rattle.trace_run.proofs.callers.TurnLemmas.{all-may, may-join}
