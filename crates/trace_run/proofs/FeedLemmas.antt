@@ -1,8 +1,8 @@
 -- The lines `feed`, one after another: what they are answered, and what was done for them.
-use Rattle.std.proofs.Common.{◌≡◌, ◌<◌, ◌≤◌, ◌+◌, ℕ, true, false, List, [], ◌∷◌, ◌++◌, Option, Some, None, length, map, take, refl, sym, ap, ◌∙◌, subst, arith, append-nil, append_assoc, length-append}
+use Rattle.std.proofs.Common.{◌≡◌, ◌<◌, ◌≤◌, ◌+◌, ℕ, true, false, List, [], ◌∷◌, ◌++◌, Option, Some, None, length, map, take, drop, refl, sym, ap, ◌∙◌, subst, arith, append-nil, append_assoc, length-append}
 use Rattle.std.specs.Prelude.{filter, slice_get}
 use Rattle.std.proofs.lemmas.Bool.{false≢true}
-use Rattle.std.proofs.lemmas.List.{length-map, map-append}
+use Rattle.std.proofs.lemmas.List.{length-map, map-append, take-append-drop}
 use Rattle.std.proofs.lemmas.List.Elements.{filter-append}
 use Rattle.vdev_io.specs.declared.device.CacheDev.{Ghosts}
 use Rattle.vdev_io.specs.Calls.{MakesDeviceCalls}
@@ -15,6 +15,7 @@ use Rattle.l2_ring.specs.Ring.{last_lap}
 use Rattle.l2_dev.specs.declared.report.FeedReport.{FeedReport}
 use Rattle.l2_dev.specs.declared.report.FeedStop.TheVariants as stop
 use Rattle.l2_dev.specs.Cursor.{CursorState}
+use Rattle.l2_dev.specs.declared.device.L2Dev.{L2Dev}
 use Rattle.l2_feed.specs.Crashes.{FeedKeeps}
 use Rattle.l2_feed.specs.Fed.{HasFed}
 use Rattle.l2_feed.specs.Ready.{IsFeederReady}
@@ -49,10 +50,19 @@ module _ (os : List Op) (k : ℕ) (op : Op) (at : slice_get os k ≡ Some op) wh
   pub lines-more : is_feed op ≡ true → filter is_feed (take (k + 1) os) ≡ filter is_feed (take k os) ++ ops.Feed ∷ []
   lines-more is = ap (filter is_feed) (take_one os k op at) ∙ (filter-append is_feed (take k os) (op ∷ []) ∙ ap (λ (l : List Op). filter is_feed (take k os) ++ l) (rw is (ap (λ (o : Op). o ∷ []) (feed-is op is))))
 
+  pub few-lines : length (filter is_feed (take (k + 1) os)) ≤ length (filter is_feed os)
+  few-lines =
+      let whole = ap (λ (l : List Op). length (filter is_feed l)) (sym (take-append-drop (k + 1) os)) ∙ ap length (filter-append is_feed (take (k + 1) os) (drop (k + 1) os)) in
+      omega (arith, whole, length-append (filter is_feed (take (k + 1) os)) (filter is_feed (drop (k + 1) os)))
+
   pub lines-same : is_feed op ≡ false → filter is_feed (take (k + 1) os) ≡ filter is_feed (take k os)
   lines-same is = ap (filter is_feed) (take_one os k op at) ∙ (filter-append is_feed (take k os) (op ∷ []) ∙ rw is (append-nil (filter is_feed (take k os))))
 
 -- ---- what was done
+
+no-two : {X : Type 0} (xs ys : List X) → xs ++ ys ≡ [] → (xs ≡ []) × (ys ≡ [])
+no-two [] ys none = (refl, none)
+no-two (x ∷ xs) ys none = cc
 
 module _ {C D : Type 0} (m : Meanings C) (devices : Ghosts D) (cache : Cache) where
   made-then : (fs gs : List FeedDone) (was mid now : D) (old between new : CursorState) (p q r : Place (Known C)) → MadeFeeds m devices cache fs was mid old between p q → MadeFeeds m devices cache gs mid now between new q r
@@ -64,7 +74,7 @@ module _ {C D : Type 0} (m : Meanings C) (devices : Ghosts D) (cache : Cache) wh
   pub made-of-then : (fs gs : List FeedDone) (a b c : Device D) (p q r : Place (Known C)) → MadeFeedsOf m devices cache fs a b p q → MadeFeedsOf m devices cache gs b c q r → MadeFeedsOf m devices cache (fs ++ gs) a c p r
   made-of-then fs gs device.None device.None device.None p q r first rest = ((λ i. first.0 i ++ rest.0 i), rest.1 ∙ first.1)
   made-of-then fs gs (device.Short a) (device.Short b) (device.Short c) p q r first rest = ((λ i. first.0 i ++ rest.0 i), rest.1 ∙ first.1, rest.2 ∙ first.2)
-  made-of-then fs gs (device.Ready a) (device.Ready b) (device.Ready c) p q r first rest = (rest.0 ∙ first.0, made-then fs gs a.dev b.dev c.dev a.cursor b.cursor c.cursor p q r first.1 rest.1)
+  made-of-then fs gs (device.Ready a) (device.Ready b) (device.Ready c) p q r first rest = ((λ none. let both = no-two fs gs none in rest.0 both.1 ∙ first.0 both.0), made-then fs gs a.dev b.dev c.dev a.cursor b.cursor c.cursor p q r first.1 rest.1)
   made-of-then fs gs device.None (device.Short b) c p q r first rest = absurd first
   made-of-then fs gs device.None (device.Ready b) c p q r first rest = absurd first
   made-of-then fs gs (device.Short a) device.None c p q r first rest = absurd first
@@ -82,7 +92,7 @@ module _ {C D : Type 0} (m : Meanings C) (devices : Ghosts D) (cache : Cache) wh
   pub made-none : (a : Device D) (p : Place (Known C)) → MadeFeedsOf m devices cache [] a a p p
   made-none device.None p = (refl, refl)
   made-none (device.Short a) p = (refl, refl, refl)
-  made-none (device.Ready a) p = (refl, (refl, refl, refl))
+  made-none (device.Ready a) p = ((λ none. refl), (refl, refl, refl))
 
   -- a device stays one that was started, or none
   pub still-lent : (fs : List FeedDone) (a b : Device D) (p q : Place (Known C)) → MadeFeedsOf m devices cache fs a b p q → (lines : List Op) (feeds : List FeedDone) (replies : List Reply) → AreFedReplies (lent_in b) lines feeds replies → AreFedReplies (lent_in a) lines feeds replies
@@ -137,12 +147,21 @@ module _ {C D : Type 0} (m : Meanings C) (devices : Ghosts D) (cache : Cache) (w
         settled = ready.settled;
       }
 
-  abbrev this-feed : FeedDone
+  abbrev pub this-feed : FeedDone
   this-feed = record { acts = fed.acts; calls = fed.calls; before = old; after = new; report = report }
 
   pub one-made : (new.ring.lap < last_lap → FeedKeeps devices.told devices.has_sectors devices.may_leave was now old new report.end) → devices.faults was ≤ devices.faults now → (report.end ≡ stop.DevFault → Rose (devices.faults was) (devices.faults now))
       → MadeFeeds m devices cache (this-feed ∷ []) was now old new p q
   one-made crash faults cause = (now, q, refl, record { made = record { ready = idle-ready cache p idle; fed = fed; crash = crash; faults = faults; cause = cause }; acts = refl; calls = refl }, (refl, refl, refl))
+
+pub one-done : {C D : Type 0} (m : Meanings C) (devices : Ghosts D) (cache : Cache) (old new : L2Dev D) (p q : Place (Known C)) (report : FeedReport) → IsIdleFeeder cache p → HasFed m cache.config devices old.dev new.dev old.cursor new.cursor p q report
+    → (new.cursor.ring.lap < last_lap → FeedKeeps devices.told devices.has_sectors devices.may_leave old.dev new.dev old.cursor new.cursor report.end) → devices.faults old.dev ≤ devices.faults new.dev
+    → (report.end ≡ stop.DevFault → Rose (devices.faults old.dev) (devices.faults new.dev)) → DoesFeeds m devices cache (ops.Feed ∷ []) (Fed report ∷ []) (device.Ready old) (device.Ready new) p q
+one-done m devices cache old new p q report idle fed crash faults cause = record {
+  feeds = this-feed m devices cache old.dev new.dev old.cursor new.cursor p q report idle fed ∷ [];
+  answered = (refl, refl);
+  made = ((λ none. cc), one-made m devices cache old.dev new.dev old.cursor new.cursor p q report idle fed crash faults cause);
+}
 
 -- ---- lines, one after another
 
@@ -159,3 +178,13 @@ module _ {C D : Type 0} (m : Meanings C) (devices : Ghosts D) (cache : Cache) wh
 
   pub done-tried : (ls ms : List Op) (rs : List Reply) (a b : Device D) (p q : Place (Known C)) → length ls ≤ length ms → DoesFeeds m devices cache ls rs a b p q → TriesFeeds m devices cache ms a b p q
   done-tried ls ms rs a b p q fewer d = record { feeds = d.feeds; few = omega (arith, fewer, few-fed (lent_in a) ls d.feeds rs d.answered); made = d.made }
+
+  -- one line more
+  module _ (os : List Op) (k : ℕ) (op : Op) (at : slice_get os k ≡ Some op) (replies more : List Reply) (reply : Reply) (a b c : Device D) (p q r : Place (Known C)) (done : DoesFeeds m devices cache (filter is_feed (take k os)) replies a b p q) where
+    pub done-more : is_feed op ≡ true → DoesFeeds m devices cache (ops.Feed ∷ []) (reply ∷ []) b c q r → more ≡ replies ++ reply ∷ [] → DoesFeeds m devices cache (filter is_feed (take (k + 1) os)) more a c p r
+    done-more asks one pushed =
+        subst (λ (x : List Op × List Reply). DoesFeeds m devices cache x.0 x.1 a c p r) (λ i. (sym (lines-more os k op at asks) i, sym pushed i))
+        (done-then (filter is_feed (take k os)) (ops.Feed ∷ []) replies (reply ∷ []) a b c p q r done one)
+
+    pub done-same : is_feed op ≡ false → DoesFeeds m devices cache (filter is_feed (take (k + 1) os)) replies a b p q
+    done-same other = subst (λ (l : List Op). DoesFeeds m devices cache l replies a b p q) (sym (lines-same os k op at other)) done

@@ -101,7 +101,7 @@ module _ {C D : Type 0} (m : Meanings C) (devices : Ghosts D) (cache : Cache) wh
   abbrev pub MadeFeedsOf : List FeedDone → (old new : Device D) → (p q : Place (Known C)) → Type 0
   MadeFeedsOf feeds device.None device.None p q = (feeds ≡ []) × (q ≡ p)
   MadeFeedsOf feeds (device.Short was) (device.Short now) p q = (feeds ≡ []) × (now ≡ was) × (q ≡ p)
-  MadeFeedsOf feeds (device.Ready was) (device.Ready now) p q = (now.alloc ≡ was.alloc) × MadeFeeds feeds was.dev now.dev was.cursor now.cursor p q
+  MadeFeedsOf feeds (device.Ready was) (device.Ready now) p q = (feeds ≡ [] → now ≡ was) × MadeFeeds feeds was.dev now.dev was.cursor now.cursor p q
   MadeFeedsOf feeds _ _ p q = ⊥
 
   -- The feeder tried these lines `feed`, and made no more feeds than there are lines.

@@ -6,6 +6,7 @@ use Rattle.vdev_io.specs.declared.device.CacheDev.{Ghosts}
 use Rattle.arc_core.specs.declared.config.Config.{Config}
 use Rattle.arc_core.specs.declared.event.Event.{Event}
 use Rattle.l2_dev.specs.Cursor.{CursorState}
+use Rattle.l2_dev.specs.declared.device.L2Dev.{L2Dev}
 use Rattle.turn_table.specs.Places.{Place}
 use Rattle.arc_table.specs.declared.view.Known.{Known}
 use Rattle.arc_table.specs.Cache.{Cache}
@@ -67,7 +68,7 @@ module _ {C D : Type 0} (m : Meanings C) (devices : Ghosts D) (cache : Cache) wh
   unfed fs (device.Short a) (device.Short b) p q none made = (made.1, refl, made.2)
   unfed fs (device.Ready a) (device.Ready b) p q none made =
       let same = subst (λ (l : List FeedDone). MadeFeeds m devices cache l a.dev b.dev a.cursor b.cursor p q) none made.1 in
-      ((same.1, made.0, subst (WasOnlyRead devices a.dev) (sym same.0) (only-same devices a.dev)), ap (λ (d : D). Some d) same.0, same.2)
+      ((same.1, ap (λ (x : L2Dev D). x.alloc) (made.0 none), subst (WasOnlyRead devices a.dev) (sym same.0) (only-same devices a.dev)), ap (λ (d : D). Some d) same.0, same.2)
   unfed fs device.None (device.Short b) p q none made = absurd made
   unfed fs device.None (device.Ready b) p q none made = absurd made
   unfed fs (device.Short a) device.None p q none made = absurd made

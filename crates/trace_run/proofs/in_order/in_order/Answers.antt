@@ -28,7 +28,7 @@ module _ (ops : List Op) (first : List (List Reply)) (left : List (Vec Reply Glo
   inside : caller < length first
   inside = elim own [
     | inl his ↦ let same = some-number his.0 caller (sym his.1 ∙ of) in let below = his.2 in omega arith
-    | inr asks ↦ absurd (no-caller op caller of (feed-no-caller op asks))
+    | inr is ↦ absurd (no-caller op caller of (feed-no-caller op is))
   ]
 
   within : caller < length left
@@ -65,7 +65,7 @@ module _ (ops : List Op) (first left : List (List Reply)) (fed rest_fed : List R
   asks : is_feed op ≡ true
   asks = elim own [
     | inl his ↦ absurd (no-caller op his.0 his.1 none)
-    | inr asks ↦ asks
+    | inr is ↦ is
   ]
 
   then-are : ArePlaced ops first left fed rest_fed (lines - 1 + 1) placed
@@ -89,16 +89,30 @@ index_mut-requires c =
     let len = c.loop-number.replies.ok.0 in
     omega arith
 
-pub unreachable-requires-in_default-pop : goal.unreachable-requires-in_default-pop
-unreachable-requires-in_default-pop c =
+pub unreachable-requires-in_default-pop-2 : goal.unreachable-requires-in_default-pop-2
+unreachable-requires-in_default-pop-2 c =
     let here : slice_get c.args.ops.now (c.loop-number.number - 1) ≡ Some c.index-ops-number.result = at-op c.args.ops.now c.loop-number.number c.index-ops-number.result c.loop-number-test.true c.loop-number.auto.number c.index-ops-number.is in
-    its-one c.args.ops.now _ c.loop-number.replies.items _ _ c.loop-number.number _ _ c.loop-number-test.true here (c.requires.own _ _ here) c.loop-number.invariant c.in-Some.caller (sym c.caller_of.ensures ∙ c.in-Some.is) c.index_mut.result.now c.index_mut.ensures.value c.in_default-pop.ensures.cases.0
+    its-one c.args.ops.now _ c.loop-number.replies.items _ _ c.loop-number.number _ _ c.loop-number-test.true here (c.requires.own _ _ here) c.loop-number.invariant c.in-Some.caller (sym c.caller_of.ensures ∙ c.in-Some.is) c.index_mut.result.now c.index_mut.ensures.value c.in_default-pop-2.ensures.cases.0
 
 pub loop-number-preserved : goal.loop-number-preserved
 loop-number-preserved c =
     let here : slice_get c.args.ops.now (c.loop-number.number - 1) ≡ Some c.index-ops-number.result = at-op c.args.ops.now c.loop-number.number c.index-ops-number.result c.loop-number-test.true c.loop-number.auto.number c.index-ops-number.is in
     its-more c.args.ops.now _ c.loop-number.replies.items _ _ c.loop-number.number _ _ c.loop-number-test.true here (c.requires.own _ _ here) c.loop-number.invariant c.in-Some.caller (sym c.caller_of.ensures ∙ c.in-Some.is) c.index_mut.result.now
-    c.pop.new.self c.in-Some-pop.reply c.loop-number.merged.items c.push.new.self.items c.index_mut.ensures.value c.in-Some-pop.ensures.items refl c.in_ok-push.ensures.items
+    c.pop-in-loop-number.new.self c.in-Some-pop-2.reply c.loop-number.merged.items c.push-in-loop-number.new.self.items c.index_mut.ensures.value c.in-Some-pop-2.ensures.items refl c.in_ok-push-2.ensures.items
+
+-- a feed
+pub unreachable-requires : goal.unreachable-requires
+unreachable-requires c =
+    let here : slice_get c.args.ops.now (c.loop-number.number - 1) ≡ Some c.index-ops-number.result = at-op c.args.ops.now c.loop-number.number c.index-ops-number.result c.loop-number-test.true c.loop-number.auto.number c.index-ops-number.is in
+    let none = c.in_default-pop.ensures.cases.0 in
+    let long = c.loop-number.fed.ok.0 in
+    some-fed c.args.ops.now _ _ _ c.loop-number.fed.items c.loop-number.number _ _ c.loop-number-test.true here (c.requires.own _ _ here) c.loop-number.invariant (sym c.in_default.ensures) (omega (arith, none, long))
+
+pub loop-number-preserved-in_default : goal.loop-number-preserved-in_default
+loop-number-preserved-in_default c =
+    let here : slice_get c.args.ops.now (c.loop-number.number - 1) ≡ Some c.index-ops-number.result = at-op c.args.ops.now c.loop-number.number c.index-ops-number.result c.loop-number-test.true c.loop-number.auto.number c.index-ops-number.is in
+    fed-more-here c.args.ops.now _ _ _ c.loop-number.fed.items c.loop-number.number _ _ c.loop-number-test.true here (c.requires.own _ _ here) c.loop-number.invariant (sym c.in_default.ensures)
+    c.pop.new.self.items c.in-Some-pop.reply c.loop-number.merged.items c.push.new.self.items c.in-Some-pop.ensures.items refl c.in_ok-push.ensures.items
 
 pub returns : goal.returns
 returns c = rw c.reverse.ensures.items (placed-all c.args.ops.now _ _ _ _ _ (none-more c.args.ops.now _ _ _ _ c.loop-number.number _ c.loop-number-test.false c.loop-number.invariant))
