@@ -293,18 +293,20 @@ fn work_and_feed<R: Threads + Wait + Sync, C: Keeps + Send, P: Pool, D: CacheDev
         work_lines(alloc, rt, arcs, callers, blocks, ops, first, gate);
         return Ok(Vec::new(alloc));
     }
-    let mut feeds = ||
-        requires { IsIdleFeeder arcs.now feeder.now × MayBeFed D.CacheDev arcs.now.config device.now }
-        ensures idle { IsIdleFeeder arcs.entry.now feeder.exit.now × MayBeFed D.CacheDev arcs.entry.now.config device.exit.now }
-        ensures tries { TriesFeeds C.Keeps D.CacheDev arcs.entry.now (filter is_feed ops.entry.now) device.entry.now device.exit.now feeder.entry.now feeder.exit.now }
-        ensures fed { IfOk result (λ replies. DoesFeeds C.Keeps D.CacheDev arcs.entry.now (filter is_feed ops.entry.now) replies.items device.entry.now device.exit.now feeder.entry.now feeder.exit.now) }
-    { feed_lines(alloc, rt, arcs, feeder, device, ops) };
-    let mut lines = ||
-        requires { AllByRecursion (IsReady arcs.now blocks.now) callers.now.items × AreDeclared (length blocks.now) ops.now × (first + length ops.now < 2 ^ 32) }
-        ensures tried { AllZip (HasTried arcs.entry.now P.Pool blocks.entry.now ops.entry.now) callers.entry.now.items callers.exit.now.items }
-        ensures asked { AllZip (HasAsked D.CacheDev blocks.entry.now ops.entry.now) callers.entry.now.items callers.exit.now.items }
-    { work_lines(alloc, rt, arcs, callers, blocks, ops, first, gate) };
-    let (replies, ()) = thread::join_mut(rt, &mut feeds, &mut lines);
+    let (replies, ()) = thread::join_mut(
+        rt,
+        &mut ||
+            requires { IsIdleFeeder arcs.now feeder.now × MayBeFed D.CacheDev arcs.now.config device.now }
+            ensures idle { IsIdleFeeder arcs.entry.now feeder.exit.now × MayBeFed D.CacheDev arcs.entry.now.config device.exit.now }
+            ensures tries { TriesFeeds C.Keeps D.CacheDev arcs.entry.now (filter is_feed ops.entry.now) device.entry.now device.exit.now feeder.entry.now feeder.exit.now }
+            ensures fed { IfOk result (λ replies. DoesFeeds C.Keeps D.CacheDev arcs.entry.now (filter is_feed ops.entry.now) replies.items device.entry.now device.exit.now feeder.entry.now feeder.exit.now) }
+        { feed_lines(alloc, rt, arcs, feeder, device, ops) },
+        &mut ||
+            requires { AllByRecursion (IsReady arcs.now blocks.now) callers.now.items × AreDeclared (length blocks.now) ops.now × (first + length ops.now < 2 ^ 32) }
+            ensures tried { AllZip (HasTried arcs.entry.now P.Pool blocks.entry.now ops.entry.now) callers.entry.now.items callers.exit.now.items }
+            ensures asked { AllZip (HasAsked D.CacheDev blocks.entry.now ops.entry.now) callers.entry.now.items callers.exit.now.items }
+        { work_lines(alloc, rt, arcs, callers, blocks, ops, first, gate) },
+    );
     replies
 }
 
