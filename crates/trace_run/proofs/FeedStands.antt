@@ -30,7 +30,7 @@ use Rattle.arc_table.specs.pact.Rule.{Pact}
 use Rattle.arc_table.specs.Seen.{AreOwn, IsNumberOrCell, MadeBy, turn_of}
 use Rattle.arc_table.specs.ShardGiving.{holds_through, mines_of, passes_in, readings_through}
 use Rattle.arc_table.specs.TableLaws.{starts_whole}
-use Rattle.arc_table.proofs.Afterwards.{Stays, does_ledger, does_stays, stays_party, stays_then}
+use Rattle.arc_table.proofs.Afterwards.{does_ledger, stays_party}
 use Rattle.arc_table.proofs.feeder.FeedEnds.{feeds_stays}
 use Rattle.arc_table.proofs.feeder.FeedMade.{feeds_made, picks_made}
 use Rattle.arc_table.proofs.HandHeads.{config_then}

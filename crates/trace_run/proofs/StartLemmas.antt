@@ -1,7 +1,6 @@
 -- A device that was started may be fed, within the bound of the trace.
-use Rattle.std.proofs.Common.{◌≡◌, ◌<◌, ◌≤◌, ◌+◌, ◌*◌, ◌-◌, ◌/◌, ℕ, false, List, min, nat_lt, if◌then◌else◌, Bool, refl, sym, ap, ◌∙◌, subst, arith}
+use Rattle.std.proofs.Common.{◌≡◌, ◌≤◌, ◌*◌, ◌-◌, ◌/◌, ℕ, false, List, min, nat_lt, if◌then◌else◌, Bool, sym, ap, subst, arith}
 use Rattle.std.proofs.lemmas.Bool.Decides.{nat_tests}
-use Rattle.blk_ptr.specs.Size.{sector}
 use Rattle.vdev_io.specs.declared.device.CacheDev.{Ghosts}
 use Rattle.arc_core.specs.declared.served.Restored.{Restored}
 use Rattle.l2_log.specs.Rules.{least_ring_end, ring_start}
