@@ -184,7 +184,7 @@ line-adds z is shard e before known past low at room few =
     let fields : fields_of (line_text shard index e) ≡ log_spelling (line_of.Made made) =
     split-joined (codes "e") (decimal shard ∷ decimal index ∷ name_text (name_of e) ∷ event_fields e) clean-e (clean-line z is shard index e (omega (arith, low, is.counts.shards.1)) (omega (arith, few)) at.ranged) in
     let inside : IsMade z made = record { shard = low; index = omega (arith, few); event = at.ranged } in
-    let there : Rattle.arc_check.specs.LogText.IsInRange before.config (line_of.Made made) = subst (λ (o : Option Config). Rattle.arc_check.specs.LogText.IsInRange o (line_of.Made made)) (sym known) inside in
+    let there : Rattle.arc_check.specs.LogText.IsInLogRange before.config (line_of.Made made) = subst (λ (o : Option Config). Rattle.arc_check.specs.LogText.IsInLogRange o (line_of.Made made)) (sym known) inside in
     let key : IfSome (event_key e) (λ k. shard_of (shards_of before.config) k ≡ shard) =
     subst (λ (o : Option Config). IfSome (event_key e) (λ k. shard_of (shards_of o) k ≡ shard)) (sym known) at.key in
     record {

@@ -306,7 +306,7 @@ module _ {C : Type 0} (cache : Cache) (whole : List (Place (Known C))) (crew : C
       only = feeder-new.new.told.only;
     };
     begun = λ shard below. (seen_of cache.config shard crew.feeder, refl);
-    cut = λ shard below k c at some_k. absurd (omega (arith, some_k));
+    cut = λ shard below k op at ends some_k. absurd (omega (arith, some_k));
   }
     where
       none-own : (shard : ℕ) → own_events crew.feeder.number (seen_of cache.config shard crew.feeder) ≡ []
@@ -383,7 +383,7 @@ module _ {C : Type 0} (cache : Cache) (restored : List Restored) (len : ℕ) (im
       only = made.only before.feeder.only;
     };
     begun = λ shard below. subst (λ (es : List Event). StartsWith es (restores_in cache.config restored shard)) (sym (restores-seen shard)) (starts_whole (restores_in cache.config restored shard));
-    cut = λ shard below k c at some_k. absurd (omega (arith, some_k));
+    cut = λ shard below k op at ends some_k. absurd (omega (arith, some_k));
   }
 
 -- ---- the lines of a group
