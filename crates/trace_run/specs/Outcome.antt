@@ -116,7 +116,7 @@ TellsEnding (statuses.Illegal shard index) ending = Unit {0}
 
 -- The report is that of a run of the trace that the source gave, all of whose lines the program does. The trace's bound of one feed is at most half of
 -- the device's ring. What is reported of the device is what its start found; callers had forks of it, and it is handed back.
-pub record IsReport {P D : Type 0} (pool : Ghosts P) (device : Devices D) (before after : Handed P D) (status : Status) (closed : Ended OnHeap) (report : Report) : Type 0 where
+pub record IsReport {P D : Type 0} (pool : Ghosts P) (device : Devices D) (before after : Handed P D) (answer : Status) (closed : Ended OnHeap) (report : Report) : Type 0 where
   pub trace : Trace
   pub read : WasRead before.source after.source trace
   pub done : has_undone trace ≡ false
@@ -129,7 +129,7 @@ pub record IsReport {P D : Type 0} (pool : Ghosts P) (device : Devices D) (befor
   -- the cells began with the trace's lines, and were ended
   pub cells : AreCellsOf (with_bound trace (device_len device.size before.cache)) closed
   pub status : report.status ≡ report_status ending report.replies
-  pub told : TellsEnding status ending
+  pub told : TellsEnding answer ending
   pub whole : report.short ≡ false
 
 -- the made trace of this seed, with so many blocks and so many operations

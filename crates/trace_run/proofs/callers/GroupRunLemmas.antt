@@ -686,6 +686,9 @@ module _ {P : Type 0} (m : Meanings OnHeap) (cache : Cache) (pools : Ghosts P) (
     stopped = stops ending d.ended;
   }
     where
+      rose-then : (start reached later : ℕ) → min start last_count ≤ reached → Rose reached later → Rose start later
+      rose-then start reached later least rose = omega (arith, least, rose)
+
       ends : (e : Ending) → EndsLines pools trace rs e d.reached.pool after → EndsRun pools trace.config (StoodThen trace closed.cells) trace rs e d.reached after
       ends Whole is = is.1
       ends Fork is = (is.1.keeps.size, is.1.keeps.told)
@@ -711,9 +714,6 @@ module _ {P : Type 0} (m : Meanings OnHeap) (cache : Cache) (pools : Ghosts P) (
       index-history [] i l at = absurd (some-ne-none l (sym at))
       index-history (x ∷ xs) zero l at = ap (λ (log : ShardLog). log.history) (some-injective x l at)
       index-history (x ∷ xs) (suc i) l at = index-history xs i l at
-
-      rose-then : (start reached later : ℕ) → min start last_count ≤ reached → Rose reached later → Rose start later
-      rose-then start reached later least rose = omega (arith, least, rose)
 
 -- what follows of two facts of an answer
 pub ok-both : {T E : Type 0} (A B R : T → Type 0) (r : Result T E) → IfOk r A → IfOk r B → ((x : T) → A x → B x → R x) → IfOk r R
