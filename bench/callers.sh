@@ -20,9 +20,9 @@ trap 'rm -rf "$copy"' EXIT
 . "$here/callers/copy.sh"
 (cd "$copy/crates/callers_bench" && rt run -- hits 1 16 > "$copy/log" 2>&1) || { cat "$copy/log"; exit 1; }
 ln -s "$copy/crates/callers_bench/out/callers_bench" "$copy/ours"
-rustc --edition 2024 -O -A warnings -o "$copy/plain" "$here/../compare/shared_cache.rs"
-rustc --edition 2024 -O -A warnings -o "$copy/locks" "$here/../compare/two_locks.rs"
-rustc --edition 2024 -O -A warnings -o "$copy/moves" "$here/../compare/list_moves.rs"
+rustc --edition 2024 -O -A warnings -o "$copy/plain" "$here/plain/shared_cache.rs"
+rustc --edition 2024 -O -A warnings -o "$copy/locks" "$here/plain/two_locks.rs"
+rustc --edition 2024 -O -A warnings -o "$copy/moves" "$here/plain/list_moves.rs"
 # Notes a row's kind of reads, cache, callers and shards, and the rate that a program with these words prints for them.
 row() {
     local kind=$1 cache=$2 callers=$3 shards=$4

@@ -1,5 +1,5 @@
 #!/usr/bin/env bash
-# How fast a trace is read: runs arc_lint and a plain reader (../compare/read_text.rs) on the same traces, and prints the processor time and the
+# How fast a trace is read: runs arc_lint and a plain reader (plain/read_text.rs) on the same traces, and prints the processor time and the
 # peak memory of each, the least of five runs in turn, and their ratios. Both have to count the same blocks, mappings and operations.
 # Each trace has 100,000 blocks, 100,000 mappings and 1,000,000 operations: of every kind in turn, or of one kind. It needs rustc and
 # python3, and builds arc_lint if that was not done yet.
@@ -9,7 +9,7 @@ lint=$here/../crates/arc_lint/out/arc_lint
 [ -x "$lint" ] || (cd "$here/../crates/arc_lint" && rt run -- --version)
 work=$(mktemp -d)
 trap 'rm -rf "$work"' EXIT
-rustc --edition 2024 -O -o "$work/read_text" "$here/../compare/read_text.rs"
+rustc --edition 2024 -O -o "$work/read_text" "$here/plain/read_text.rs"
 python3 - "$lint" "$work/read_text" "$work" <<'PY'
 import hashlib, os, sys
 

@@ -6,12 +6,13 @@
 //! cache device and what a start finds on it. It was written from the rules alone and shares no code with the program, so it serves as a
 //! baseline of speed and as a second opinion on each report, on the pool and on the device. What several callers are answered is no
 //! function of the trace: then it ends with status 13, which says that it can't tell.
-//! With `--reads` as the first word a trace with other lines than `arc`, `block`, `read`, `hold` and `drop` is refused, and so is a cache
-//! device, as by a program that has no more yet.
+//! With `--undone=WORD,WORD..` in front of its words a trace with an operation of such a word is refused, as by a program that doesn't do it yet, and with
+//! `--undone-alone=..` so is one of a single caller.
 
 mod dbufs;
 mod device;
 mod key;
+#[allow(dead_code)]
 mod pool;
 mod sha256;
 #[allow(dead_code)]
@@ -20,7 +21,7 @@ mod shard;
 mod trace;
 
 use dbufs::{Cell, Kept};
-use device::Device;
+use device::{Device, RUN};
 use key::Key;
 use pool::Pool;
 use sha256::{Digest, Hex, sha256};
@@ -30,7 +31,7 @@ use std::fmt::{self, Display, Write as _};
 use std::io::{self, Read, Write};
 use std::process::ExitCode;
 use std::sync::Arc;
-use trace::{LONGEST_TRACE, Lines, MOST_OPS, Oid, Op, Pointer, Trace, What, number, parse};
+use trace::{LONGEST_TRACE, MOST_OPS, Oid, Op, Pointer, Trace, What, number, parse};
 
 /// The reads that a seed draws over blocks of zero bytes.
 fn draw(seed: u64, blocks: u64, ops: u64) -> Trace {
@@ -83,24 +84,12 @@ impl Display for Refusal {
 }
 
 /// Why a run ends before its last line.
+#[derive(Clone, Copy)]
 enum Stop {
+    /// a write of a sync failed
+    Fault,
+    /// the pool has no room for a sync
     Full,
-    Fault(io::Error),
-}
-
-impl Display for Stop {
-    fn fmt(&self, f: &mut fmt::Formatter<'_>) -> fmt::Result {
-        match self {
-            Stop::Full => f.write_str("the pool is full"),
-            Stop::Fault(fault) => fault.fmt(f),
-        }
-    }
-}
-
-impl From<io::Error> for Stop {
-    fn from(fault: io::Error) -> Stop {
-        Stop::Fault(fault)
-    }
 }
 
 /// A block that was read: where its bytes are from, and its place in its shard but where it went past that.
@@ -146,11 +135,11 @@ struct Sim<'a> {
     group: u64,
     replies: String,
     is_refused: bool,
-    is_full: bool,
+    stop: Option<Stop>,
 }
 
 impl Sim<'_> {
-    fn new(trace: &Trace, pool: Pool, device: Option<(std::fs::File, u64)>) -> Result<Sim<'_>, Stop> {
+    fn new(trace: &Trace, pool: Pool, device: Option<(std::fs::File, u64)>) -> Sim<'_> {
         let ends = trace.blocks.iter().filter(|it| pool.check(it.key).is_ok()).map(|it| it.key.offset + it.key.size);
         let mut sim = Sim {
             trace,
@@ -164,21 +153,21 @@ impl Sim<'_> {
             group: 1,
             replies: String::new(),
             is_refused: false,
-            is_full: false,
+            stop: None,
         };
         for (oid, block) in &trace.objects {
             let cell = sim.cell_of(*oid);
             sim.cells[cell].map(*oid, trace.blocks[*block]);
         }
         if let Some((file, len)) = device {
-            let found = Device::start(file, len)?;
+            let found = Device::start(file, len);
             for live in &found.restored {
                 sim.shards[live.key.shard_of(trace.shards)].restore(live.key, live.place, live.digest);
             }
             sim.device = found.device;
             sim.rebuilt = Some(Rebuilt { entries: found.restored.len(), stop: found.stop });
         }
-        Ok(sim)
+        sim
     }
 
     fn cell_of(&self, (object, i): Oid) -> usize {
@@ -291,7 +280,7 @@ impl Sim<'_> {
             let bytes: Arc<[u8]> = self.cells[c].bytes(*oid).into();
             let key = Key { offset: self.next, size: *size, birth: self.group };
             let pointer = Pointer { key, digest: sha256(&bytes) };
-            self.pool.write(key, &bytes)?;
+            self.pool.write(key, &bytes).map_err(|_| Stop::Fault)?;
             self.next += size;
             let shard = &mut self.shards[key.shard_of(self.trace.shards)];
             let place = shard.put_in(number_of(c), key, pointer.digest, tick, bytes.clone());
@@ -302,29 +291,43 @@ impl Sim<'_> {
 
     // ---- the feed
 
-    /// Feeds the device: how much was picked, how many bytes, and how many places were given and taken.
-    fn feed(&mut self) -> Result<String, Stop> {
-        let Some(device) = &mut self.device else { return Ok("feed none".into()) };
+    /// Feeds the device: how much was picked, how many bytes, how many places were given and taken, and whether it failed.
+    fn feed(&mut self) -> String {
+        let Some(device) = &mut self.device else { return "feed none".into() };
         let most = self.trace.write_max.min(device.half());
-        let (mut picked, mut bytes, mut cleared) = (0, 0, 0);
+        let (mut picked, mut bytes, mut written, mut cleared) = (0, 0, 0, 0);
+        let mut has_failed = false;
         for s in 0..self.shards.len() {
             let picks = self.shards[s].pick(most, self.trace.headroom);
             if picks.is_empty() {
                 continue;
             }
+            picked += picks.len();
             let blocks: Vec<_> = picks.iter().map(|place| self.shards[s].block(*place)).collect();
-            for dropped in device.begin(&blocks)? {
+            bytes += blocks.iter().map(|(key, ..)| key.size).sum::<u64>();
+            let (dropped, began) = device.begin(&blocks);
+            for dropped in dropped {
                 let shard = &mut self.shards[dropped.key.shard_of(self.trace.shards)];
                 cleared += u64::from(shard.clear(dropped.key, dropped.place));
             }
-            let places = device.write(&blocks)?;
-            for (place, on_device) in picks.iter().zip(places) {
-                self.shards[s].set(*place, on_device);
+            has_failed = began.is_err();
+            for (picks, run) in picks.chunks(RUN).zip(blocks.chunks(RUN)) {
+                // behind the first fault nothing is written
+                let places = if has_failed { None } else { device.write_run(run).ok() };
+                has_failed = places.is_none();
+                for (i, place) in picks.iter().enumerate() {
+                    match &places {
+                        Some(places) => self.shards[s].set(*place, places[i]),
+                        None => self.shards[s].leave(*place),
+                    }
+                }
+                written += places.map_or(0, |places| places.len());
             }
-            picked += picks.len();
-            bytes += blocks.iter().map(|(key, ..)| key.size).sum::<u64>();
+            if has_failed {
+                break;
+            }
         }
-        Ok(format!("feed picked {picked} bytes {bytes} written {picked} cleared {cleared} ok"))
+        format!("feed picked {picked} bytes {bytes} written {written} cleared {cleared} {}", if has_failed { "fault" } else { "ok" })
     }
 
     // ---- the lines
@@ -333,7 +336,7 @@ impl Sim<'_> {
     fn answer(&mut self, i: usize, op: &Op) -> Result<Result<(), Refusal>, Stop> {
         Ok(match &op.what {
             What::Feed => {
-                let reply = self.feed()?;
+                let reply = self.feed();
                 self.replies.push_str(&reply);
                 Ok(())
             }
@@ -424,7 +427,7 @@ impl Sim<'_> {
     }
 
     /// Does all lines, and gives back what is kept at their end.
-    fn run(&mut self, with_replies: bool) -> Result<(), Stop> {
+    fn run(&mut self, with_replies: bool) {
         for (i, op) in self.trace.ops.iter().enumerate() {
             let start = self.replies.len();
             let _ = write!(self.replies, "{i} ");
@@ -434,12 +437,11 @@ impl Sim<'_> {
                     let _ = write!(self.replies, "{refusal}");
                     self.is_refused = true;
                 }
-                Err(Stop::Full) => {
+                Err(stop) => {
                     self.replies.truncate(start);
-                    self.is_full = true;
+                    self.stop = Some(stop);
                     break;
                 }
-                Err(fault) => return Err(fault),
             }
             self.replies.push('\n');
             if !with_replies {
@@ -452,11 +454,14 @@ impl Sim<'_> {
         for c in 0..self.cells.len() {
             self.cells[c].end().iter().for_each(|kept| self.give_back(number_of(c), kept));
         }
-        Ok(())
     }
 
     fn status(&self) -> u8 {
-        if self.is_full { 8 } else { u8::from(self.is_refused) }
+        match self.stop {
+            Some(Stop::Fault) => 6,
+            Some(Stop::Full) => 8,
+            None => u8::from(self.is_refused),
+        }
     }
 }
 
@@ -479,6 +484,7 @@ impl Display for Event {
             Event::Pick(key) => write!(f, "pick {FEEDER} {key}"),
             Event::FeedEnd => write!(f, "feedend {FEEDER}"),
             Event::Set(key, place) => write!(f, "set {FEEDER} {key} {place}"),
+            Event::Leave(key) => write!(f, "leave {FEEDER} {key} device"),
             Event::Clear(key) => write!(f, "clear {FEEDER} {key}"),
             Event::Restore(of) => match &of.2 {
                 Some(digest) => write!(f, "restore {FEEDER} {} {} {}", of.0, of.1, Hex(digest)),
@@ -552,19 +558,27 @@ fn command(words: &[String]) -> Result<Command, usize> {
     if words.len() > end { Err(end) } else { Ok(command) }
 }
 
+/// Whether an operation is one that is named as undone.
+fn has_undone(trace: &Trace, undone: &[String]) -> bool {
+    let list = |word: &'_ String| {
+        let of_several = word.strip_prefix("--undone=");
+        let list = of_several.or_else(|| word.strip_prefix("--undone-alone=").filter(|_| trace.callers == 1));
+        list.unwrap_or("").split(',').map(str::to_string).collect::<Vec<_>>()
+    };
+    let named: Vec<String> = undone.iter().flat_map(list).collect();
+    trace.ops.iter().any(|op| named.iter().any(|word| word == op.word()))
+}
+
 /// Does what the words ask, and gives the exit status.
 fn perform() -> u8 {
     let words: Vec<String> = std::env::args().skip(1).collect();
-    let (words, lines) = match &words[..] {
-        [first, rest @ ..] if first == "--reads" => (rest, Lines::Reads),
-        all => (all, Lines::All),
-    };
+    let is_undone = |word: &&String| word.starts_with("--undone");
+    let (undone, words) = words.split_at(words.iter().take_while(is_undone).count());
     let [pool, cache, words @ ..] = words else { return 9 };
     let Some(pool) = Pool::open(pool) else { return 11 };
-    let device = match (cache.as_str(), lines) {
-        ("-", _) => None,
-        (_, Lines::Reads) => return 12,
-        (name, Lines::All) => match Device::open(name) {
+    let device = match cache.as_str() {
+        "-" => None,
+        name => match Device::open(name) {
             Some(device) => Some(device),
             None => return 12,
         },
@@ -582,21 +596,18 @@ fn perform() -> u8 {
             if text.len() > LONGEST_TRACE {
                 return 3;
             }
-            let Ok(trace) = parse(&text, 16, lines) else { return 3 };
+            let Ok(trace) = parse(&text, 16) else { return 3 };
+            if has_undone(&trace, undone) {
+                return 3;
+            }
             if trace.callers > 1 {
                 return 13;
             }
             (trace, pool, device, events, true)
         }
     };
-    let ran = Sim::new(&trace, pool, device).and_then(|mut sim| sim.run(with_replies).map(|()| sim));
-    let sim = match ran {
-        Ok(sim) => sim,
-        Err(stop) => {
-            eprintln!("arc_sim: {stop}");
-            return 14;
-        }
-    };
+    let mut sim = Sim::new(&trace, pool, device);
+    sim.run(with_replies);
     let status = sim.status();
     let Ok(text) = report(sim, events) else { return 7 };
     let mut out = io::stdout();

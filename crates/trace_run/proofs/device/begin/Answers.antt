@@ -12,6 +12,7 @@ returns-in-Ready-clause-found g c =
     let e = c.in-Ready.ensures in
     rw (c.in-Some.is, c.from_vec.ensures) (record {
       short = λ small. absurd (e.long small);
+      long = λ len is. absurd (c.in_default-stop.not-Short len is);
       image = λ le. some-told _ (g.D.CacheDev.told c.in-Some.dev) e.rebuilt;
       reads = λ le. (e.started.0, e.started.1, some-told _ (g.D.CacheDev.told c.in-Some.dev) (λ image is. (c.in-Ready.l2.cursor, e.started.2 image is)));
       cause = e.cause;

@@ -8,10 +8,13 @@
 //! machine gives to callers that share nothing.
 
 #[allow(dead_code)]
+#[path = "../../compare/key.rs"]
 mod key;
 #[allow(dead_code)]
+#[path = "../../compare/sha256.rs"]
 mod sha256;
 #[allow(dead_code)]
+#[path = "../../compare/shard.rs"]
 mod shard;
 
 use key::Key;

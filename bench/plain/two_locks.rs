@@ -10,10 +10,13 @@
 //! Each caller reads so many drawn blocks of 512 bytes, all of which are cached, and gives each back. It prints the reads of all callers a second.
 
 #[allow(dead_code)]
+#[path = "../../compare/key.rs"]
 mod key;
 #[allow(dead_code)]
+#[path = "../../compare/sha256.rs"]
 mod sha256;
 #[allow(dead_code)]
+#[path = "../../compare/shard.rs"]
 mod shard;
 
 use key::Key;
