@@ -3,8 +3,8 @@
 
 No contract speaks of `main`, so this table does: each row has the words, what the standard input and the standard output are, and
 the exit status, the standard output and the standard error, line by line. Behind the rows it looks at what became of the files, at the
-system calls that the program makes of its pool (where strace is installed), and at runs with ever less memory. It prints what is wrong,
-and how many rows were right.
+system calls that the program makes of its pool and of its cache device, also where one of them fails (where strace is installed), and at runs with ever less memory. It prints
+what is wrong, and how many rows were right. What waits for lines that compare/undone.py names is told as not done yet.
 """
 import hashlib
 import os
@@ -16,6 +16,11 @@ import signal
 import subprocess
 import sys
 import tempfile
+
+sys.dont_write_bytecode = True
+sys.path.append(os.path.join(os.path.dirname(os.path.abspath(__file__)), '..', 'compare'))
+import devices
+import undone
 
 ZEROS = '076a27c79e5ace2a3d47f9dd2e83e4ff6ea8872b3c2218f66c92b89b55f36560'  # of 512 zero bytes
 LETTERS = '471be6558b665e4f6dd49f1184814d1491b0315d466beea768c153cc5500c836'  # of 512 bytes 0x61
@@ -243,8 +248,19 @@ ROWS = [
     ('the help before a command', ['--help', 'run'], READS, 0, HELP, []),
     ('the help to a full output', ['--help'], '', 5, [], ['arc_tool: status 5'], 'full'),
 ]
-
-
+# nine blocks of 512 bytes, which the pool of 4,096 has no room for; one caller puts them, or two do
+PUTS = [f'put {{}} 1 7 {i} 512 61\n' for i in range(9)]
+FULL = [*(f'{i} done' for i in range(9)), *EMPTY[1:3], 'end 8']
+# rows of lines that the program may not do yet, in the same form; such a row is refused then
+LATER = [
+    ('a pool that has no room for a sync', ['zeros', '-', 'run'], ARC + ''.join(put.format(0) for put in PUTS) + 'txg 2\nput 0 3 7 0 512 61\n', 8, ['arc 1', *FULL], ['arc_tool: status 8']),
+    ('the same for two callers', ['zeros', '-', 'run'], ARC.replace('1', '2', 1) + ''.join(put.format(i % 2) for i, put in enumerate(PUTS)) + 'txg 2\nput 0 3 7 0 512 61\n', 8,
+     ['arc 1', *FULL], ['arc_tool: status 8']),
+    ('the same to a full output', ['zeros', '-', 'run'], ARC + ''.join(put.format(0) for put in PUTS) + 'txg 2\n', 5, [], ['arc_tool: status 5'], 'full'),
+    ('a feed of a file that is no device yet', ['pool', 'zeros', 'run'], f'{ARC}feed\n', 0, ['arc 1', '0 feed none', *EMPTY[1:3], 'rebuilt 0 short', 'end 0'], []),
+    ('a feed that picks nothing', ['pool', 'deep', 'run'], f'{ARC}feed\n', 0,
+     ['arc 1', '0 feed picked 0 bytes 0 written 0 cleared 0 ok', *EMPTY[1:3], 'rebuilt 0 header magic', 'end 0'], []),
+]
 
 
 def own_row(program):
@@ -257,8 +273,8 @@ def own_row(program):
 
 
 def put_files(program):
-    """The files that rows name: pools, a folder, the program itself, and a trace of 60 MB."""
-    contents = {'pool': bytes(512) + b'a' * 512, 'zeros': bytes(4096), 'random': RANDOM}
+    """The files that rows name: pools, a fed cache device, a folder, the program itself, and a trace of 60 MB."""
+    contents = {'pool': bytes(512) + b'a' * 512, 'zeros': bytes(4096), 'kilobytes': bytes(5120), 'random': RANDOM, 'fed': devices.fed([bytes(512)] * 3)}
     contents['x-'] = contents['pool']
     for name, content in contents.items():
         with open(name, 'wb') as out:
@@ -322,6 +338,8 @@ def run(program, words, given, special=None):
 def wrong_rows(program):
     """Each row that is wrong, and how many rows there are."""
     rows = [*ROWS, own_row(program)]
+    for name, words, given, *rest in LATER:
+        rows.append((name, words, given, 3, [], ['arc_tool: status 3']) if undone.has_undone(given) else (name, words, given, *rest))
     wrong = []
     for name, words, given, status, output, errors, *special in rows:
         special = special[0] if special else None
@@ -390,6 +408,73 @@ def wrong_reads(program):
     return wrong
 
 
+def ended_where(program, calls, when, words, given):
+    """How a run ends where one call of the system fails: of these kinds, on the last of the files that the words name."""
+    trace = ['strace', '-qq', '-f', '-o', 'calls', '-P', words[1] if words[1] != '-' else words[0], '-e', f'trace={calls}', '-e', f'inject={calls}:error=EIO:when={when}']
+    ended = subprocess.run([*trace, program, *words], input=given.encode(), capture_output=True, timeout=60)
+    with open('calls') as file:
+        return ended.returncode, ended.stdout.decode().splitlines(), file.read().count('INJECTED')
+
+
+def wrong_pool_calls(program):
+    """What is wrong where one of the reads of a pool fails, each in turn: that read alone is refused, and the cache goes on without its block."""
+    digest = hashlib.sha256(bytes(1024)).hexdigest()
+    given = ARC + ''.join(f'block {1024 * i} 1024 1 {digest}\n' for i in range(5)) + ''.join(f'read 0 {t} {x} 0 0\n' for t, x in enumerate((0, 1, 2, 3, 4, 0), 1))
+    # hits, misses, reads of the pool; the target; bytes of MRU, of its ghosts, and of MFU
+    table = [(0, 6, 6, 2048, 4096, 1024, 0), *[(1, 5, 5, 2048, 3072, 0, 1024)] * 3, (0, 6, 6, 3072, 3072, 0, 1024), (0, 6, 6, 3072, 3072, 1024, 0)]
+    wrong = []
+    for k, (hit, miss, pool, p, mru, mrug, mfu) in enumerate(table):
+        reads = [f'{i} ok {"hit" if hit and i == 5 else "pool"} {digest} -' for i in range(6)]
+        reads[k] = f'{k} refused pool'
+        sums = [f'shard 0 c 4096 p {p} anon 0 mru {mru} mrug {mrug} mfu {mfu} mfug 0 l2 0', f'count hit {hit} miss {miss} past 0 pool {pool} l2 0 pass 0 set 0']
+        ours = ended_where(program, 'read', k + 1, ['kilobytes', '-', 'run'], given)
+        if ours != (1, ['arc 1', *reads, *sums, 'end 1'], 1):
+            wrong.append(f'reads: where read {k} of the pool fails the run ended with {ours}')
+    return wrong
+
+
+def wrong_device_reads(program):
+    """What is wrong where one of the reads of a cache device fails, each in turn: of its header, of its three log blocks, and of its three blocks. What the
+    start found until then is known, and each block comes from the pool where the device doesn't give it."""
+    given = ARC + ''.join(f'block {512 * i} 512 1 {ZEROS}\n' for i in range(3)) + ''.join(f'read 0 {i + 1} {i} 0 1\n' for i in range(3))
+    wrong = []
+    for k in range(7):
+        found = [0, 0, 1, 2, 3, 3, 3][k]
+        # the start goes from the newest block to the oldest
+        known = range(3 - found, 3)
+        served = ['l2' if i in known and k != 4 + i else 'pool' for i in range(3)]
+        reads = [f'{i} ok {where} {ZEROS} 00' for i, where in enumerate(served)]
+        sums = [f'shard 0 c 4096 p 2048 anon 0 mru {512 * (3 - found)} mrug 0 mfu {512 * found} mfug 0 l2 0',
+                f'count hit 0 miss 3 past 0 pool {served.count("pool")} l2 {served.count("l2")} pass 0 set 0', f'rebuilt {found} {"device" if k < 4 else "zero"}']
+        ours = ended_where(program, 'read', k + 1, ['zeros', 'fed', 'run'], given)
+        if ours != (0, ['arc 1', *reads, *sums, 'end 0'], 1):
+            wrong.append(f'reads: where read {k} of the device fails the run ended with {ours}')
+    return wrong
+
+
+def wrong_device_feeds(program):
+    """What is wrong where one call of a cache device fails, each in turn, while a block is fed and read again: each read is answered all the same."""
+    digest = hashlib.sha256(bytes(2048)).hexdigest()
+    given = ARC + ''.join(f'block {2048 * i} 2048 1 {digest}\n' for i in range(4)) + 'read 0 1 0 0 0\nfeed\n' + ''.join(f'read 0 {t} {x} 0 0\n' for t, x in enumerate((1, 2, 3, 0), 2))
+    if undone.has_undone(given):
+        print('program: feeds where a call of the device fails are not done yet')
+        return []
+    wrong = []
+    for calls in 'read', 'write', 'fsync', 'fdatasync':
+        for k in range(1, 20):
+            with open('blocks', 'wb') as out:
+                out.truncate(8192)
+            with open('device', 'wb') as out:
+                out.truncate(devices.RING_END)
+            status, lines, injected = ended_where(program, calls, k, ['blocks', 'device', 'run'], given)
+            if not injected:
+                break
+            reads = [line for line in lines if ' ok ' in line and digest in line]
+            if status != 0 or len(reads) != 5 or not any(line.startswith('1 feed picked ') for line in lines):
+                wrong.append(f'feeds: where {calls} {k} of the device fails the run ended with {(status, lines)}')
+    return wrong
+
+
 def wrong_refusals(program):
     """What is wrong where memory is refused, at each place where it is asked for: then the status is 7. Each piece of memory is made a call
     of the system of its own, and all such calls from the n-th on are refused, for each n behind those of the loader."""
@@ -421,11 +506,15 @@ def main():
         others = changed_files(contents)
         if has_strace():
             others += wrong_opens(program) + wrong_reads(program) + wrong_refusals(program)
+            others += wrong_pool_calls(program) + wrong_device_reads(program) + wrong_device_feeds(program)
         else:
             print('program: there is no strace, so how the pool is opened and read, and where memory is refused, was not looked at')
         os.chdir('/')
     for line in wrong + others:
         print(line)
+    waiting = [name for name, _, given, *_ in LATER if undone.has_undone(given)]
+    if waiting:
+        print(f'program: not done yet, and refused as they have to be: {len(waiting)} rows: {"; ".join(waiting)}')
     print(f'program: {rows - len(wrong)} rows right, {len(wrong)} wrong')
     sys.exit(len(wrong + others) > 0)
 

@@ -1,13 +1,12 @@
 #!/usr/bin/env python3
 """Runs traces, lists of pages and logs of events over the built program, each with all the reports that it may have: .ci/trace_table.py PROGRAM.
 
-A row has what it shows, the words, the pool (the number of its zero bytes, or its bytes), the standard input, the exit status and
-the reports; there are several where callers may come in several orders, and such a row is run four times. The source comes through a
+A row (row.py) has what it shows, the words, the pool, the standard input, the exit status and the reports, and what may become of the pool and of the cache device; there are
+several reports where callers may come in several orders, and a row of several callers is run four times. The source comes through a
 pipe, a few bytes at a time. Behind the rows: a larger load of four callers, a caller that keeps many reads, a pool that may not be written, and each short list of up to three
-pages beside a plain form of the policy; and the events of each trace that has a report are judged by `check`. It prints each row that is wrong, and how many were right.
+pages beside a plain form of the policy; and the events of each trace that has a report are judged by `check`. It prints each row that is wrong, and how many were right. A row with a
+line that compare/undone.py names has to be refused, and is told as not done yet.
 """
-import collections
-import hashlib
 import itertools
 import os
 import shutil
@@ -15,56 +14,12 @@ import subprocess
 import sys
 import tempfile
 
-# the letters that stand for digests in traces and reports
-DIGESTS = {
-    'Z': '076a27c79e5ace2a3d47f9dd2e83e4ff6ea8872b3c2218f66c92b89b55f36560',  # of 512 zero bytes
-    'Y': '5f70bf18a086007016e948b04aed3b82103a36bea41755b6cddfaf10ace3c6ef',  # of 1,024
-    'X': 'e5a00aa9991ac8a5ee3109844d84a55583bd20572ad3ffcd42792f3c36b183ad',  # of 2,048
-    'L': 'fa43239bcee7b97ca62f007cc68487560a39e19f74f3dde7486db3f98df8e471',  # of 131,072
-    'M': '080acf35a507ac9849cfcba47dc2ad83e01b75663a516279c8b9d243b719643e',  # of 16,777,216
-    'N': '110009dcee21620b166f3abfecb5eff7a873be729d1c2d53822e7acc5f34eb9b',  # of the numbers from 0 to 255 twice
-    'F': 'f' * 64,  # of no bytes that are known
-}
-COUNTING = bytes(range(256)) * 2
-Row = collections.namedtuple('Row', 'shows words pool source status reports device', defaults=(None,))
-
-# ---- a cache device, spelled by the tables of docs/DEVICE.md
-RING_END = 266240
-
-
-def number(n):
-    return n.to_bytes(8, 'little')
-
-
-def pointer(place, block):
-    """The pointer to a log block of one entry that stands at this place; none is zero bytes."""
-    return number(place) + number(65536) + number(1) + bytes(8) + hashlib.sha256(block).digest() if block else bytes(64)
-
-
-def fed(bodies):
-    """A device to which these blocks were written one by one: block i stands at the place 512 * i of the pool, born in group 1."""
-    image = bytearray(RING_END)
-    hand, logs = 4096, [(0, b''), (0, b'')]
-    for i, body in enumerate(bodies):
-        entry = number(512 * i) + number(len(body)) + number(1) + number(hand) + hashlib.sha256(body).digest() + bytes(32)
-        head = bytes.fromhex('44484b4c42474f4c') + number(1) + number(1) + number(2) + bytes(32) + pointer(*logs[-2])
-        block = (head + entry).ljust(65536, b'\0')
-        image[hand:hand + len(body)] = body
-        place = hand + len(body)
-        image[place:place + 65536] = block
-        logs.append((place, block))
-        hand = place + 65536
-    header = bytes.fromhex('454843414353465a') + b''.join(map(number, (2, 4096, RING_END, hand, hand, 4096, 1, 681))) + bytes(56)
-    header = (header + pointer(*logs[-1]) + pointer(*logs[-2])).ljust(480, b'\0')
-    image[:512] = header + hashlib.sha256(header).digest()
-    return image
-
-
-def changed(image, at, body):
-    """The device with other bytes at a place."""
-    return image[:at] + body + image[at + len(body):]
-
-
+sys.dont_write_bytecode = True
+sys.path.append(os.path.join(os.path.dirname(os.path.abspath(__file__)), '..', 'compare'))
+from devices import RING_END, changed, fed, ring_of, sealed
+from line_rows import ONE_CALLER, SEVERAL
+from row import COUNTING, DIGESTS, Row, may_leave, pool_of, spelled
+import undone
 
 TRACES = [
     Row('one block is read', ['run', '--events'], 512, '''\
@@ -757,7 +712,7 @@ DEVICES = [
     Row('a device one byte too short', ['run'], 512, ONE_READ, 0, [one_read('0 short')], bytes(RING_END - 1)),
     Row('a device without a byte', ['run'], 512, ONE_READ, 0, [one_read('0 short')], b''),
     Row('a log block of other bytes', ['run'], 512, ONE_READ, 0, [one_read('0 block digest')], changed(fed([bytes(512)]), 4608, bytes(512))),
-    Row('a header of another length', ['run'], 512, ONE_READ, 0, [one_read('0 header field')], bytes(fed([bytes(512)])) + bytes(512)),
+    Row('a header of another length', ['run'], 512, ONE_READ, 0, [one_read('0 header field')], fed([bytes(512)]) + bytes(512)),
     Row('a header of one byte more', ['run'], 512, ONE_READ, 0, [one_read('0 header digest')], changed(fed([bytes(512)]), 100, b'\1')),
     Row('three keys that were found', ['run', '--events'], 512, ONE_READ, 0, [three_found('l2 Z 00000000', 'Z l2', 'pool 0 l2 1')], THREE_FED),
     Row('the device has what the pool has no more', ['run', '--events'], COUNTING, ONE_READ, 0, [three_found('l2 Z 00000000', 'Z l2', 'pool 0 l2 1')], THREE_FED),
@@ -895,6 +850,41 @@ count hit 0 miss 3 past 0 pool 0 l2 3 pass 0 set 0
 rebuilt 3 zero
 end 0
 '''], THREE_FED),
+    Row('a digest that neither the device nor the pool has', ['run', '--events'], 512, '''\
+arc 1 1 16 1 4096 0 4096
+block 0 512 1 F
+read 0 1 0 0 0
+''', 1, ['''\
+arc 1
+0 refused digest Z
+e 0 0 restore 1 0 512 1 4096 Z
+e 0 1 miss 0 0 512 1 1
+e 0 2 fail 0 0 512 1 pool
+shard 0 c 4096 p 2048 anon 0 mru 0 mrug 0 mfu 0 mfug 0 l2 0
+count hit 0 miss 1 past 0 pool 1 l2 0 pass 0 set 0
+rebuilt 1 zero
+end 1
+'''], fed([bytes(512)])),
+    Row('a block of an older device, which tells no digest', ['run', '--events'], COUNTING, '''\
+arc 1 1 16 1 4096 0 4096
+block 0 512 1 Z
+block 0 512 1 N
+read 0 1 0 0 1
+read 0 2 1 0 1
+''', 0, ['''\
+arc 1
+0 ok l2 Z 00
+1 ok past N 00
+e 0 0 restore 1 0 512 1 4096 -
+e 0 1 miss 0 0 512 1 1
+e 0 2 arrive 0 0 512 1 Z l2
+e 0 3 drop 0 0 512 1
+e 0 4 past 0 0 512 1 Z
+shard 0 c 4096 p 2048 anon 0 mru 0 mrug 0 mfu 512 mfug 0 l2 0
+count hit 0 miss 1 past 1 pool 1 l2 1 pass 0 set 0
+rebuilt 1 zero
+end 0
+'''], fed([bytes(512)], version=1)),
     Row('a pointer to other bytes than the device has', ['run'], COUNTING * 3, '''\
 arc 2 1 16 1 4096 0 4096
 block 0 512 1 N
@@ -908,6 +898,60 @@ rebuilt 3 zero
 end 0
 '''], THREE_FED),
 ]
+
+# what a start finds of three blocks, and says why its walk ended, where these bytes are changed, and the header's digest is made anew or not
+HURT = [
+    (3, 'zero', THREE_FED),
+    (0, 'header magic', changed(THREE_FED, 0, b'\0')),
+    (0, 'header version', changed(THREE_FED, 8, b'\3')),
+    (0, 'header digest', changed(THREE_FED, 100, b'\1')),
+    (0, 'header field', sealed(changed(THREE_FED, 100, b'\1'))),
+    (0, 'outside', sealed(changed(THREE_FED, 128, (4097).to_bytes(8, 'little')))),
+    (0, 'outside', sealed(changed(THREE_FED, 128, (202_240).to_bytes(8, 'little')))),
+    (0, 'evicted', sealed(changed(THREE_FED, 128, (200_704).to_bytes(8, 'little')))),
+    (0, 'block digest', changed(THREE_FED, 136_704, b'\0')),
+    (1, 'zero', sealed(changed(THREE_FED, 192, bytes(64)))),
+    (2, 'zero', sealed(changed(THREE_FED, 192, THREE_FED[128:192]))),
+    (3, 'block digest', fed([bytes(512)] * 4)),
+]
+# how many blocks a start finds where the device stops behind so many of the writes and flushes of three feeds, and then crashes: where nothing that was not
+# flushed is left, and where all is. A negative number says that there is no header yet.
+CRASHES = [(-1, -1), (-1, 0), *[(0, 0)] * 4, (0, 1), *[(1, 1)] * 6, (1, 2), *[(2, 2)] * 6, (2, 3), (3, 3)]
+
+
+def start_row(shows, found, stop, device):
+    report = f'''\
+arc 1
+shard 0 c 4096 p 2048 anon 0 mru 0 mrug 0 mfu 0 mfug 0 l2 {512 * found}
+count hit 0 miss 0 past 0 pool 0 l2 0 pass 0 set 0
+rebuilt {found} {stop}
+end 0
+'''
+    return Row(shows, ['run'], 0, 'arc 1 1 16 1 4096 0 4096\n', 0, [report], device)
+
+
+def start_rows():
+    for found, stop, device in HURT:
+        yield start_row(f'a start that stops so: {stop}', found, stop, device)
+    ring = ring_of([bytes(512)] * 3)
+    for stop, both in enumerate(CRASHES):
+        for found, keeps in zip(both, (False, True)):
+            shows = f'a crash behind {stop} writes and flushes, of which {"all" if keeps else "none"} is left that was not flushed'
+            yield start_row(shows, max(found, 0), 'header magic' if found < 0 else 'zero', ring.crashed(stop, keeps))
+
+
+def cut_rows():
+    """A trace of one read that is cut behind each of its bytes: where what is left is a trace, it is run."""
+    whole = spelled(TRACES[0].source)
+    lines = TRACES[0].reports[0].splitlines(keepends=True)
+    for n in range(len(whole) + 1):
+        if n in (21, 22, 23, 24, 25, 103, 104):
+            yield Row(f'the first {n} bytes of a trace', ['run'], 512, whole[:n], 0, [TRACES[1].reports[0]])
+        elif n >= 118:
+            yield Row(f'the first {n} bytes of a trace', ['run'], 512, whole[:n], 0, [''.join(line for line in lines if not line.startswith('e '))])
+        else:
+            yield Row(f'the first {n} bytes of a trace', ['run'], 512, whole[:n], 3, [''])
+
 
 LISTS = [
     Row('five pages, with a comment and an empty line', ['paper', '2'], 0, '# five\n1\n2\n\n1\n3\n2\n', 0, ['''\
@@ -1339,7 +1383,6 @@ REFUSED = [
     Row('a word that run has not', ['run', '--event'], 512, 'arc 1 1 16 1 4096 0 0\n', 2, ['']),
     Row('no block to read', ['gen', '1', '0', '10'], 512, '', 2, ['']),
     Row('no number of reads', ['gen', '1', '8'], 512, '', 2, ['']),
-    Row('the end of a transaction group of one caller, which is not done yet', ['run'], 512, 'arc 1 1 16 1 4096 0 0\ntxg 1\n', 3, ['']),
     Row('a line that lacks a number', ['run'], 512, 'arc 1 1 16 1 4096 0 0\n# none\nread 0 1 0 0\n', 3, ['']),
 ]
 
@@ -1357,13 +1400,8 @@ end 0
 '''
 
 
-def spelled(text):
-    """A text with the digests in place of their letters."""
-    return text.translate(str.maketrans(DIGESTS))
-
-
 def run(program, row):
-    """The exit status, and what was written."""
+    """The exit status, what was written, and what became of the pool and the device."""
     with open('pool', 'wb') as pool:
         if isinstance(row.pool, bytes):
             pool.write(row.pool)
@@ -1381,25 +1419,41 @@ def run(program, row):
         except BrokenPipeError:
             pass  # its words were refused before it read
         told = ended.stdout.read().decode()
-    if row.device is not None:
-        with open('device', 'rb') as device:
-            if device.read() != row.device:
-                return ended.returncode, 'the device was changed'
-    return ended.returncode, told
+    return ended.returncode, told, content('pool'), None if row.device is None else content('device')
+
+
+def content(name):
+    with open(name, 'rb') as file:
+        return file.read()
+
+
+def is_undone(row):
+    return row.words[:1] == ['run'] and row.status in (0, 1, 8, None) and undone.has_undone(row.source)
 
 
 def is_right(program, row):
-    wanted = [(row.status, spelled(report)) for report in row.reports]
-    for _ in range(4 if len(wanted) > 1 else 1):
-        ours = run(program, row)
-        if ours not in wanted:
-            print(f'{row.shows}: {row.words} ended with {ours}, which is none of {wanted}')
+    """Whether each of some runs ends in a way that the row allows. One with a line that isn't done yet has to be refused."""
+    if is_undone(row):
+        row = row._replace(status=3, reports=[''], pool_after=None, device_after=None)
+    # the status stands at the end of a report
+    wanted = [(row.status if row.status is not None else int(report.split()[-1]), spelled(report)) for report in row.reports]
+    callers = row.source.split(' ')[1:2] if row.source.startswith('arc ') else []
+    for _ in range(4 if len(wanted) > 1 or callers not in ([], ['1']) else 1):
+        *ours, pool, device = run(program, row)
+        if tuple(ours) not in wanted:
+            print(f'{row.shows}: {row.words} ended with {tuple(ours)}, which is none of {wanted}')
+            return False
+        if row.pool != pool and pool not in may_leave(row.pool_after, pool_of(row)):
+            print(f'{row.shows}: {row.words} left another pool')
+            return False
+        if device is not None and device not in may_leave(row.device_after, bytes(row.device)):
+            print(f'{row.shows}: {row.words} left another device')
             return False
     return True
 
 
 def is_load_right(program):
-    status, told = run(program, Row('a load of four callers', ['run'], 8 * 131072, LOAD, 0, []))
+    status, told, *_ = run(program, Row('a load of four callers', ['run'], 8 * 131072, LOAD, 0, []))
     right = status == 0 and told.count(' ok ') == 64 and told.endswith(LOAD_ENDS)
     if not right:
         print(f'a load of four callers ended with {status}: {told[-600:]}')
@@ -1410,7 +1464,7 @@ def are_many_kept(program):
     """A caller keeps 5,000 reads of a block and drops them: there is memory for each, and the oldest goes first, whatever is kept."""
     kept = 5000
     lines = [f'hold 0 {i + 1} 0\n' for i in range(kept)] + ['drop 0 0\n'] * kept
-    status, told = run(program, Row('many kept reads', ['run'], 512, 'arc 1 1 16 1 4096 0 0\nblock 0 512 1 Z\n' + ''.join(lines), 0, []))
+    status, told, *_ = run(program, Row('many kept reads', ['run'], 512, 'arc 1 1 16 1 4096 0 0\nblock 0 512 1 Z\n' + ''.join(lines), 0, []))
     replies = ['0 held pool', *(f'{i} held hit' for i in range(1, kept)), *(f'{i} dropped' for i in range(kept, 2 * kept))]
     right = status == 0 and told.splitlines()[1:-3] == replies
     if not right:
@@ -1441,7 +1495,7 @@ def is_log_right(program, row):
     events = [line for line in told if line.startswith('e ')]
     ends = [line for line in told if line.startswith('shard ')]
     wanted = 0, ''.join(f'{line}\n' for line in (f'check ok {len(events)}', *ends, 'end 0'))
-    ours = run(program, Row(row.shows, ['check'], 0, ''.join(f'{line}\n' for line in heads + events), 0, []))
+    ours = run(program, Row(row.shows, ['check'], 0, ''.join(f'{line}\n' for line in heads + events), 0, []))[:2]
     if ours != wanted:
         print(f'{row.shows}: the log of its events ended with {ours}, not with {wanted}')
     return ours == wanted
@@ -1519,15 +1573,25 @@ def policy_rows():
             yield Row(f'the pages {pages}', ['paper', str(c)], 0, text, 0, [Policy(c).told(pages)])
 
 
+def not_done(rows):
+    """Tells which rows wait for lines that the program doesn't do yet."""
+    waiting = [row.shows for row in rows if is_undone(row)]
+    if waiting:
+        words = ', '.join(sorted(undone.WORDS) + [f'{word} of one caller' for word in sorted(undone.ALONE)])
+        print(f'traces: not done yet ({words}), and refused as they have to be: {len(waiting)} rows: {"; ".join(waiting)}')
+
+
 def main():
     program = os.path.abspath(sys.argv[1])
+    lines = [*ONE_CALLER, *SEVERAL]
     with tempfile.TemporaryDirectory(prefix='arc_tool.') as work:
         os.chdir(work)
-        results = [is_right(program, row) for row in (*TRACES, *DEVICES, *LISTS, *LOGS, *REFUSED, *policy_rows())]
+        results = [is_right(program, row) for row in (*TRACES, *DEVICES, *lines, *start_rows(), *cut_rows(), *LISTS, *LOGS, *REFUSED, *policy_rows())]
         results += [is_load_right(program), are_many_kept(program), is_locked_pool_read(program)]
         load = Row('a load of four callers', ['run'], 8 * 131072, LOAD, 0, [])
-        results += [is_log_right(program, row) for row in (*TRACES, *DEVICES, load) if row.status in (0, 1, 6)]
+        results += [is_log_right(program, row) for row in (*TRACES, *DEVICES, *lines, load) if row.status in (0, 1, 6, 8, None) and not is_undone(row)]
         os.chdir('/')
+    not_done(lines)
     print(f'traces: {results.count(True)} rows right, {results.count(False)} wrong')
     sys.exit(not all(results))
 

@@ -8,25 +8,27 @@
 //! --lint it prints `ok` and the number of events, or the first line at fault and the kind. With --draw it prints a log of about so many
 //! events, nearly all of which may come where they stand.
 
+mod event_words;
+#[allow(dead_code)]
+mod judged;
 #[allow(dead_code)]
 mod key;
-mod judged;
 #[allow(dead_code)]
 mod sha256;
 #[allow(dead_code)]
 mod trace;
 
+use event_words::{event_of, key_of};
 use judged::{Event, FailedAt, Origin, Shard, State, What, Why};
-use key::{Key, LARGEST_BLOCK};
+use key::Key;
 use sha256::{Digest, Hex};
 use std::fmt::Write as _;
 use std::io::{self, Read, Write as _};
 use std::process::ExitCode;
-use trace::{digest, number};
+use trace::number;
 
 const LONGEST: usize = 67_108_864;
 const MOST_EVENTS: usize = 1_000_000;
-const LAST: u64 = 1 << 62;
 const MOST: u64 = 1 << 32;
 
 type Kind = &'static str;
@@ -138,7 +140,7 @@ impl Log {
     fn event(&mut self, fields: &[&[u8]]) -> Result<(), Kind> {
         let name = fields.get(3).ok_or("Shape")?;
         has_shape(fields, 4 + field_count(name).ok_or("Word")?)?;
-        let (shard, index, event) = self.event_of(fields).ok_or("Number")?;
+        let (shard, index, event) = event_of(fields, self.sizes.shards, self.sizes.callers + self.sizes.cells).ok_or("Number")?;
         let next = if shard == self.shard { self.histories[shard].len() as u64 } else { 0 };
         let of_shard = key_of(&event).is_none_or(|key| key.shard_of(self.histories.len()) == shard);
         if shard < self.shard || index != next || !of_shard {
@@ -150,88 +152,6 @@ impl Log {
         (self.shard, self.count) = (shard, self.count + 1);
         self.histories[shard].push(event);
         Ok(())
-    }
-
-    fn event_of(&self, fields: &[&[u8]]) -> Option<(usize, u64, Event)> {
-        let shard = number(fields[1], 0, self.sizes.shards - 1)? as usize;
-        let index = number(fields[2], 0, LAST)?;
-        let party = |field: &[u8]| number(field, 0, self.sizes.callers + self.sizes.cells);
-        let n = party(fields[4])?;
-        let what = match (fields[3], &fields[5..]) {
-            (b"feedend", _) => What::FeedEnd,
-            (b"resize", [c]) => What::Resize(number(c, 0, LAST)?),
-            (name, [offset, size, birth, rest @ ..]) => {
-                let key = key(offset, size, birth)?;
-                match (name, rest) {
-                    (b"pass", [owner]) => What::Pass(key, party(owner)?),
-                    (b"hit", [tick]) => What::Hit(key, number(tick, 0, LAST)?),
-                    (b"miss", [tick]) => What::Miss(key, number(tick, 0, LAST)?),
-                    (b"arrive", [bytes, from]) => What::Arrive(key, digest(bytes)?, origin(from)?),
-                    (b"fail", [at]) => What::Fail(key, failed(at)?),
-                    (b"drop", []) => What::Drop(key),
-                    (b"past", [kept]) => What::Past(key, digest(kept)?),
-                    (b"hand", [to]) => What::Hand(key, party(to)?),
-                    (b"insert", [bytes, tick]) => What::Insert(key, digest(bytes)?, number(tick, 0, LAST)?),
-                    (b"release", [sole]) => What::Release(key, is_sole(sole)?),
-                    (b"pick", []) => What::Pick(key),
-                    (b"set", [place]) => What::Set(key, number(place, 0, LAST)?),
-                    (b"leave", [why]) => What::Leave(key, why_of(why)?),
-                    (b"clear", []) => What::Clear(key),
-                    (b"restore", [place, b"-"]) => What::Restore(key, number(place, 0, LAST)?, None),
-                    (b"restore", [place, bytes]) => What::Restore(key, number(place, 0, LAST)?, Some(digest(bytes)?)),
-                    _ => return None,
-                }
-            }
-            _ => return None,
-        };
-        Some((shard, index, Event { n, what }))
-    }
-}
-
-fn key(offset: &[u8], size: &[u8], birth: &[u8]) -> Option<Key> {
-    let key = Key { offset: number(offset, 0, 1 << 63)?, size: number(size, 512, LARGEST_BLOCK)?, birth: number(birth, 1, u64::MAX)? };
-    (key.offset % 512 == 0 && key.size % 512 == 0 && key.offset + key.size <= 1 << 63).then_some(key)
-}
-
-fn origin(field: &[u8]) -> Option<Origin> {
-    match field {
-        b"pool" => Some(Origin::Pool),
-        b"l2" => Some(Origin::L2),
-        _ => None,
-    }
-}
-
-fn failed(field: &[u8]) -> Option<FailedAt> {
-    match field {
-        b"pool" => Some(FailedAt::Pool),
-        b"unread" => Some(FailedAt::Unread),
-        _ => None,
-    }
-}
-
-fn is_sole(field: &[u8]) -> Option<bool> {
-    match field {
-        b"sole" => Some(true),
-        b"shared" => Some(false),
-        _ => None,
-    }
-}
-
-fn why_of(field: &[u8]) -> Option<Why> {
-    match field {
-        b"gone" => Some(Why::Gone),
-        b"device" => Some(Why::Device),
-        b"memory" => Some(Why::Memory),
-        _ => None,
-    }
-}
-
-fn key_of(event: &Event) -> Option<Key> {
-    match event.what {
-        What::FeedEnd | What::Resize(_) => None,
-        What::Pass(key, _) | What::Hit(key, _) | What::Miss(key, _) | What::Arrive(key, ..) | What::Fail(key, _) => Some(key),
-        What::Drop(key) | What::Past(key, _) | What::Hand(key, _) | What::Insert(key, ..) | What::Release(key, _) => Some(key),
-        What::Pick(key) | What::Set(key, _) | What::Leave(key, _) | What::Clear(key) | What::Restore(key, ..) => Some(key),
     }
 }
 

@@ -6,12 +6,13 @@
 //! cache device and what a start finds on it. It was written from the rules alone and shares no code with the program, so it serves as a
 //! baseline of speed and as a second opinion on each report, on the pool and on the device. What several callers are answered is no
 //! function of the trace: then it ends with status 13, which says that it can't tell.
-//! With `--reads` as the first word a trace with other lines than `arc`, `block`, `read`, `hold` and `drop` is refused, and so is a cache
-//! device, as by a program that has no more yet.
+//! With `--undone=WORD,WORD..` in front of its words a trace with an operation of such a word is refused, as by a program that doesn't do it yet, and with
+//! `--undone-alone=..` so is one of a single caller.
 
 mod dbufs;
 mod device;
 mod key;
+#[allow(dead_code)]
 mod pool;
 mod sha256;
 #[allow(dead_code)]
@@ -20,7 +21,7 @@ mod shard;
 mod trace;
 
 use dbufs::{Cell, Kept};
-use device::Device;
+use device::{Device, RUN};
 use key::Key;
 use pool::Pool;
 use sha256::{Digest, Hex, sha256};
@@ -30,7 +31,7 @@ use std::fmt::{self, Display, Write as _};
 use std::io::{self, Read, Write};
 use std::process::ExitCode;
 use std::sync::Arc;
-use trace::{LONGEST_TRACE, Lines, MOST_OPS, Oid, Op, Pointer, Trace, What, number, parse};
+use trace::{LONGEST_TRACE, MOST_OPS, Oid, Op, Pointer, Trace, What, number, parse};
 
 /// The reads that a seed draws over blocks of zero bytes.
 fn draw(seed: u64, blocks: u64, ops: u64) -> Trace {
@@ -171,7 +172,7 @@ impl Sim<'_> {
             sim.cells[cell].map(*oid, trace.blocks[*block]);
         }
         if let Some((file, len)) = device {
-            let found = Device::start(file, len)?;
+            let found = Device::start(file, len);
             for live in &found.restored {
                 sim.shards[live.key.shard_of(trace.shards)].restore(live.key, live.place, live.digest);
             }
@@ -302,29 +303,43 @@ impl Sim<'_> {
 
     // ---- the feed
 
-    /// Feeds the device: how much was picked, how many bytes, and how many places were given and taken.
-    fn feed(&mut self) -> Result<String, Stop> {
-        let Some(device) = &mut self.device else { return Ok("feed none".into()) };
+    /// Feeds the device: how much was picked, how many bytes, how many places were given and taken, and whether it failed.
+    fn feed(&mut self) -> String {
+        let Some(device) = &mut self.device else { return "feed none".into() };
         let most = self.trace.write_max.min(device.half());
-        let (mut picked, mut bytes, mut cleared) = (0, 0, 0);
+        let (mut picked, mut bytes, mut written, mut cleared) = (0, 0, 0, 0);
+        let mut has_failed = false;
         for s in 0..self.shards.len() {
             let picks = self.shards[s].pick(most, self.trace.headroom);
             if picks.is_empty() {
                 continue;
             }
+            picked += picks.len();
             let blocks: Vec<_> = picks.iter().map(|place| self.shards[s].block(*place)).collect();
-            for dropped in device.begin(&blocks)? {
+            bytes += blocks.iter().map(|(key, ..)| key.size).sum::<u64>();
+            let (dropped, began) = device.begin(&blocks);
+            for dropped in dropped {
                 let shard = &mut self.shards[dropped.key.shard_of(self.trace.shards)];
                 cleared += u64::from(shard.clear(dropped.key, dropped.place));
             }
-            let places = device.write(&blocks)?;
-            for (place, on_device) in picks.iter().zip(places) {
-                self.shards[s].set(*place, on_device);
+            has_failed = began.is_err();
+            for (picks, run) in picks.chunks(RUN).zip(blocks.chunks(RUN)) {
+                // behind the first fault nothing is written
+                let places = if has_failed { None } else { device.write_run(run).ok() };
+                has_failed = places.is_none();
+                for (i, place) in picks.iter().enumerate() {
+                    match &places {
+                        Some(places) => self.shards[s].set(*place, places[i]),
+                        None => self.shards[s].leave(*place),
+                    }
+                }
+                written += places.map_or(0, |places| places.len());
             }
-            picked += picks.len();
-            bytes += blocks.iter().map(|(key, ..)| key.size).sum::<u64>();
+            if has_failed {
+                break;
+            }
         }
-        Ok(format!("feed picked {picked} bytes {bytes} written {picked} cleared {cleared} ok"))
+        format!("feed picked {picked} bytes {bytes} written {written} cleared {cleared} {}", if has_failed { "fault" } else { "ok" })
     }
 
     // ---- the lines
@@ -333,7 +348,7 @@ impl Sim<'_> {
     fn answer(&mut self, i: usize, op: &Op) -> Result<Result<(), Refusal>, Stop> {
         Ok(match &op.what {
             What::Feed => {
-                let reply = self.feed()?;
+                let reply = self.feed();
                 self.replies.push_str(&reply);
                 Ok(())
             }
@@ -479,6 +494,7 @@ impl Display for Event {
             Event::Pick(key) => write!(f, "pick {FEEDER} {key}"),
             Event::FeedEnd => write!(f, "feedend {FEEDER}"),
             Event::Set(key, place) => write!(f, "set {FEEDER} {key} {place}"),
+            Event::Leave(key) => write!(f, "leave {FEEDER} {key} device"),
             Event::Clear(key) => write!(f, "clear {FEEDER} {key}"),
             Event::Restore(of) => match &of.2 {
                 Some(digest) => write!(f, "restore {FEEDER} {} {} {}", of.0, of.1, Hex(digest)),
@@ -552,19 +568,27 @@ fn command(words: &[String]) -> Result<Command, usize> {
     if words.len() > end { Err(end) } else { Ok(command) }
 }
 
+/// Whether an operation is one that is named as undone.
+fn has_undone(trace: &Trace, undone: &[String]) -> bool {
+    let list = |word: &'_ String| {
+        let of_several = word.strip_prefix("--undone=");
+        let list = of_several.or_else(|| word.strip_prefix("--undone-alone=").filter(|_| trace.callers == 1));
+        list.unwrap_or("").split(',').map(str::to_string).collect::<Vec<_>>()
+    };
+    let named: Vec<String> = undone.iter().flat_map(list).collect();
+    trace.ops.iter().any(|op| named.iter().any(|word| word == op.word()))
+}
+
 /// Does what the words ask, and gives the exit status.
 fn perform() -> u8 {
     let words: Vec<String> = std::env::args().skip(1).collect();
-    let (words, lines) = match &words[..] {
-        [first, rest @ ..] if first == "--reads" => (rest, Lines::Reads),
-        all => (all, Lines::All),
-    };
+    let is_undone = |word: &&String| word.starts_with("--undone");
+    let (undone, words) = words.split_at(words.iter().take_while(is_undone).count());
     let [pool, cache, words @ ..] = words else { return 9 };
     let Some(pool) = Pool::open(pool) else { return 11 };
-    let device = match (cache.as_str(), lines) {
-        ("-", _) => None,
-        (_, Lines::Reads) => return 12,
-        (name, Lines::All) => match Device::open(name) {
+    let device = match cache.as_str() {
+        "-" => None,
+        name => match Device::open(name) {
             Some(device) => Some(device),
             None => return 12,
         },
@@ -582,7 +606,10 @@ fn perform() -> u8 {
             if text.len() > LONGEST_TRACE {
                 return 3;
             }
-            let Ok(trace) = parse(&text, 16, lines) else { return 3 };
+            let Ok(trace) = parse(&text, 16) else { return 3 };
+            if has_undone(&trace, undone) {
+                return 3;
+            }
             if trace.callers > 1 {
                 return 13;
             }

@@ -16,7 +16,7 @@ const LOG_BLOCK: u64 = 65_536;
 const MOST_ENTRIES: [u64; 2] = [1_022, 681];
 const ENTRY: [usize; 2] = [64, 96];
 const LARGEST_OLD_BLOCK: u64 = 1_048_576;
-const HEADER_MAGIC: u64 = 0x5a46_5341_4343_4845;
+const HEADER_MAGIC: u64 = 0x5a46_5343_4143_4845;
 const LOG_MAGIC: u64 = 0x4c4f_4742_4c4b_4844;
 
 #[derive(Clone, Copy)]
@@ -59,6 +59,12 @@ pub struct Device {
     second: Option<LogPtr>,
     live: Vec<Live>,
 }
+
+/// A block that is written: its key, its digest and its bytes.
+pub type Block = (Key, Digest, std::sync::Arc<[u8]>);
+
+/// how many blocks one log block tells of
+pub const RUN: usize = MOST_ENTRIES[1] as usize;
 
 /// What a start finds: the entries of the log blocks, the newest first, and why the walk ended.
 pub struct Found {
@@ -215,28 +221,28 @@ impl Device {
     }
 
     /// Reads what the device has.
-    pub fn start(file: File, len: u64) -> io::Result<Found> {
+    pub fn start(file: File, len: u64) -> Found {
         if len < SHORTEST {
-            return Ok(Found { device: None, restored: Vec::new(), stop: "short".into() });
+            return Found { device: None, restored: Vec::new(), stop: "short".into() };
         }
         let end = len / SECTOR * SECTOR;
         let mut sector = [0; SECTOR as usize];
-        file.read_exact_at(&mut sector, 0)?;
-        let found = header(&sector, end);
+        let found = file.read_exact_at(&mut sector, 0).map(|()| header(&sector, end));
         let mut device = Device { file, len, ring: Ring::fresh(end), newest: None, second: None, live: Vec::new() };
         let (restored, stop) = match found {
-            Err(fault) => (Vec::new(), format!("header {fault}")),
-            Ok(header) => {
+            Err(_) => (Vec::new(), "device".into()),
+            Ok(Err(fault)) => (Vec::new(), format!("header {fault}")),
+            Ok(Ok(header)) => {
                 (device.ring, device.newest, device.second) = (header.ring, header.newest, header.second);
-                device.walk(header.version)?
+                device.walk(header.version)
             }
         };
         device.live = restored.iter().rev().copied().collect();
-        Ok(Found { device: Some(device), restored, stop })
+        Found { device: Some(device), restored, stop }
     }
 
     /// Goes from log block to log block, the newest first, and gives the first entry of each key.
-    fn walk(&self, version: u64) -> io::Result<(Vec<Live>, String)> {
+    fn walk(&self, version: u64) -> (Vec<Live>, String) {
         let (mut restored, mut met) = (Vec::new(), HashSet::new());
         let (mut next, mut then) = (self.newest, self.second);
         let mut walked = 0;
@@ -255,7 +261,9 @@ impl Device {
             }
             walked += LOG_BLOCK;
             let mut bytes = vec![0; LOG_BLOCK as usize];
-            self.file.read_exact_at(&mut bytes, ptr.place)?;
+            if self.file.read_exact_at(&mut bytes, ptr.place).is_err() {
+                break "device".into();
+            }
             if sha256(&bytes) != ptr.digest {
                 break "block digest".into();
             }
@@ -275,7 +283,7 @@ impl Device {
             }
             (next, then) = (then, block.prev);
         };
-        Ok((restored, stop))
+        (restored, stop)
     }
 
     /// Half of the ring, which no feed of a shard goes past.
@@ -306,44 +314,52 @@ impl Device {
         self.file.write_all_at(&bytes, 0)
     }
 
-    /// Makes room for a batch, and gives the live entries that fall.
-    pub fn begin(&mut self, blocks: &[(Key, Digest, std::sync::Arc<[u8]>)]) -> io::Result<Vec<Live>> {
+    /// Makes room for a batch, and gives the live entries that fall. They do also where the device fails.
+    pub fn begin(&mut self, blocks: &[Block]) -> (Vec<Live>, io::Result<()>) {
         let sum: u64 = blocks.iter().map(|(key, ..)| key.size).sum();
         self.ring.make_room(sum + LOG_BLOCK * (blocks.len() as u64).div_ceil(MOST_ENTRIES[1]));
         let ring = self.ring;
         let (live, dropped) = self.live.iter().partition(|live| ring.holds(live));
         self.live = live;
-        self.write_header()?;
-        Ok(dropped)
+        (dropped, self.write_header())
     }
 
-    /// Writes a batch's blocks and log blocks, and gives the place of each block.
-    pub fn write(&mut self, blocks: &[(Key, Digest, std::sync::Arc<[u8]>)]) -> io::Result<Vec<u64>> {
-        let mut places = Vec::new();
-        for run in blocks.chunks(MOST_ENTRIES[1] as usize) {
-            let mut log = vec![0; LOG_BLOCK as usize];
-            put_number(&mut log, 0, LOG_MAGIC);
-            put_number(&mut log, 8, self.ring.lap);
-            put_number(&mut log, 16, run.len() as u64);
-            put_number(&mut log, 24, 2);
-            put_pointer(&mut log, 64, self.second);
-            for (i, (key, digest, bytes)) in run.iter().enumerate() {
-                let (place, at) = (self.ring.hand, 128 + i * ENTRY[1]);
-                for (j, number) in [key.offset, key.size, key.birth, place].into_iter().enumerate() {
-                    put_number(&mut log, at + j * 8, number);
-                }
-                log[at + 32..at + 64].copy_from_slice(digest);
-                self.file.write_all_at(bytes, place)?;
-                self.live.push(Live { key: *key, place, lap: self.ring.lap, digest: Some(*digest) });
-                places.push(place);
-                self.ring.hand += key.size;
-            }
-            self.file.write_all_at(&log, self.ring.hand)?;
-            let ptr = LogPtr { place: self.ring.hand, count: run.len() as u64, digest: sha256(&log) };
-            self.ring.hand += LOG_BLOCK;
-            (self.newest, self.second) = (Some(ptr), self.newest);
-            self.write_header()?;
+    /// Writes one run of a batch and the log block behind it, and gives the place of each block. Where the device fails, the hand goes back and nothing new is live.
+    pub fn write_run(&mut self, run: &[Block]) -> io::Result<Vec<u64>> {
+        let (hand, newest, second) = (self.ring.hand, self.newest, self.second);
+        let written = self.try_run(run);
+        if written.is_err() {
+            (self.ring.hand, self.newest, self.second) = (hand, newest, second);
         }
+        let places = written?;
+        let lap = self.ring.lap;
+        self.live.extend(run.iter().zip(&places).map(|((key, digest, _), place)| Live { key: *key, place: *place, lap, digest: Some(*digest) }));
+        Ok(places)
+    }
+
+    fn try_run(&mut self, run: &[Block]) -> io::Result<Vec<u64>> {
+        let mut places = Vec::new();
+        let mut log = vec![0; LOG_BLOCK as usize];
+        put_number(&mut log, 0, LOG_MAGIC);
+        put_number(&mut log, 8, self.ring.lap);
+        put_number(&mut log, 16, run.len() as u64);
+        put_number(&mut log, 24, 2);
+        put_pointer(&mut log, 64, self.second);
+        for (i, (key, digest, bytes)) in run.iter().enumerate() {
+            let (place, at) = (self.ring.hand, 128 + i * ENTRY[1]);
+            for (j, number) in [key.offset, key.size, key.birth, place].into_iter().enumerate() {
+                put_number(&mut log, at + j * 8, number);
+            }
+            log[at + 32..at + 64].copy_from_slice(digest);
+            self.file.write_all_at(bytes, place)?;
+            places.push(place);
+            self.ring.hand += key.size;
+        }
+        self.file.write_all_at(&log, self.ring.hand)?;
+        let ptr = LogPtr { place: self.ring.hand, count: run.len() as u64, digest: sha256(&log) };
+        self.ring.hand += LOG_BLOCK;
+        (self.newest, self.second) = (Some(ptr), self.newest);
+        self.write_header()?;
         Ok(places)
     }
 }

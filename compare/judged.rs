@@ -10,7 +10,7 @@ pub struct Event {
     pub what: What,
 }
 
-#[derive(Clone, Copy)]
+#[derive(Clone, Copy, PartialEq, Eq, Hash)]
 pub enum What {
     Pass(Key, u64),
     Hit(Key, u64),
@@ -31,19 +31,19 @@ pub enum What {
     Resize(u64),
 }
 
-#[derive(Clone, Copy, PartialEq)]
+#[derive(Clone, Copy, PartialEq, Eq, Hash)]
 pub enum Origin {
     Pool,
     L2,
 }
 
-#[derive(Clone, Copy)]
+#[derive(Clone, Copy, PartialEq, Eq, Hash)]
 pub enum FailedAt {
     Pool,
     Unread,
 }
 
-#[derive(Clone, Copy, PartialEq)]
+#[derive(Clone, Copy, PartialEq, Eq, Hash)]
 pub enum Why {
     Gone,
     Device,
@@ -139,6 +139,21 @@ impl Shard {
     /// The least number that holds a key.
     pub fn holder(&self, key: Key) -> Option<u64> {
         self.entries.get(&key)?.holds.keys().copied().min()
+    }
+
+    /// The digest of the bytes that are kept under a key.
+    pub fn kept(&self, key: Key) -> Option<Digest> {
+        self.entries.get(&key).filter(|entry| entry.is_resident()).and_then(|entry| entry.digest)
+    }
+
+    /// The key's place on the cache device, and the digest that is known of it.
+    pub fn place(&self, key: Key) -> (Option<u64>, Option<Digest>) {
+        self.entries.get(&key).map_or((None, None), |entry| (entry.place, entry.digest))
+    }
+
+    /// Whether nothing is held, read or fed.
+    pub fn is_at_rest(&self) -> bool {
+        self.phase == Phase::Idle && self.entries.values().all(|entry| entry.holds.is_empty() && !entry.is_read)
     }
 
     // ---- the sequences and the table

@@ -50,6 +50,18 @@ impl Pool {
         Ok(())
     }
 
+    /// All its bytes, where it is no longer than 64 MiB.
+    pub fn image(&self) -> Option<io::Result<Vec<u8>>> {
+        match self {
+            Pool::Memory(bytes) => Some(Ok(bytes.clone())),
+            Pool::File(..) if self.len() > 1 << 26 => None,
+            Pool::File(file, len) => {
+                let mut bytes = vec![0; *len as usize];
+                Some(file.read_exact_at(&mut bytes, 0).map(|()| bytes))
+            }
+        }
+    }
+
     /// Whether the key names a block here, or else what is wrong with it first.
     pub fn check(&self, key: Key) -> Result<(), String> {
         let (end, len) = (u128::from(key.offset) + u128::from(key.size), self.len());

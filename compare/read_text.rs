@@ -14,12 +14,12 @@ mod trace;
 
 use std::io::{self, Read};
 use std::process::ExitCode;
-use trace::{Lines, parse};
+use trace::parse;
 
 fn main() -> io::Result<ExitCode> {
     let mut text = Vec::new();
     io::stdin().lock().read_to_end(&mut text)?;
-    match parse(&text, 16, Lines::All) {
+    match parse(&text, 16) {
         Ok(trace) => {
             println!("blocks {} objects {} operations {}", trace.blocks.len(), trace.objects.len(), trace.ops.len());
             Ok(ExitCode::SUCCESS)

@@ -2,7 +2,8 @@
 """Runs the plain simulation on small traces whose reports were worked out by hand from the rules: compare/rows.py [PROGRAM]
 
 PROGRAM is another program with the words of arc_tool. Without it the simulation is compiled. A row names a pool, a device, a trace and what
-the report has to say; a device of one row may be the next one's. It prints each line that differs.
+the report has to say; a device of one row may be the next one's. What three feeds leave on a device is compared with its spelling in .ci/devices.py. It prints each line that
+differs.
 """
 import hashlib
 import os
@@ -12,6 +13,10 @@ import sys
 import tempfile
 
 HERE = os.path.dirname(os.path.abspath(__file__))
+sys.dont_write_bytecode = True
+sys.path.append(f'{HERE}/../.ci')
+import devices
+
 F = 'f' * 64
 DEVICE = 266_240
 
@@ -194,7 +199,12 @@ def main():
             faults += 1
             print(f'a device changed at {at}: the report has no line {wanted!r}, but {[line for line in lines if "rebuilt" in line]}')
         count += 1
-    print(f'{count} rows, {faults} at fault')
+    run(program, work, fed, device)
+    with open(device, 'rb') as file:
+        if file.read() != devices.fed([bytes(512)] * 3):
+            faults += 1
+            print('three feeds leave another device than is spelled')
+    print(f'{count + 1} rows, {faults} at fault')
     return faults > 0
 
 

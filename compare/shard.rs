@@ -42,6 +42,8 @@ pub enum Event {
     Pick(Key),
     FeedEnd,
     Set(Key, u64),
+    /// the device failed before the key got a place
+    Leave(Key),
     Clear(Key),
     Restore(Box<(Key, u64, Option<Digest>)>),
     Resize(u64),
@@ -376,6 +378,11 @@ impl Shard {
     pub fn set(&mut self, place: usize, on_device: u64) {
         self.history.push(Event::Set(self.entries[place].key, on_device));
         self.entries[place].place = on_device;
+    }
+
+    /// A picked key gets no place, since the device failed.
+    pub fn leave(&mut self, place: usize) {
+        self.history.push(Event::Leave(self.entries[place].key));
     }
 
     /// A key loses this place on the cache device, and says whether it had it.

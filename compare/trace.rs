@@ -12,13 +12,6 @@ const LAST: u64 = 1 << 62;
 const MOST: u64 = 1 << 32;
 const MOST_SHOWN: u64 = 64;
 
-/// Which lines are read: those of reads alone (`arc`, `l2`, `block`, `object`, `read`, `hold`, `drop`), or all that there are.
-#[derive(Clone, Copy, PartialEq)]
-pub enum Lines {
-    Reads,
-    All,
-}
-
 #[derive(Clone, Copy)]
 pub struct Pointer {
     pub key: Key,
@@ -54,6 +47,31 @@ impl Op {
     pub fn block(&self) -> Option<usize> {
         match self.what {
             What::Read { block, .. } | What::Hold { block, .. } | What::Drop { block } => Some(block),
+            _ => None,
+        }
+    }
+
+    /// The word of its line.
+    pub fn word(&self) -> &'static str {
+        match self.what {
+            What::Read { .. } => "read",
+            What::Hold { .. } => "hold",
+            What::Drop { .. } => "drop",
+            What::Get { .. } => "get",
+            What::Put { .. } => "put",
+            What::Patch { .. } => "patch",
+            What::Pin { .. } => "pin",
+            What::Unpin { .. } => "unpin",
+            What::Feed => "feed",
+            What::Txg { .. } => "txg",
+            What::Cap { .. } => "cap",
+        }
+    }
+
+    /// The block of an object that it names.
+    pub fn dbuf(&self) -> Option<Oid> {
+        match self.what {
+            What::Get { oid, .. } | What::Put { oid, .. } | What::Patch { oid, .. } | What::Pin { oid, .. } | What::Unpin { oid } => Some(oid),
             _ => None,
         }
     }
@@ -106,17 +124,17 @@ struct Draft {
 }
 
 /// The trace that a text is, or the number of the first line at fault. There are at most so many callers and shards.
-pub fn parse(text: &[u8], most: u64, lines: Lines) -> Result<Trace, usize> {
+pub fn parse(text: &[u8], most: u64) -> Result<Trace, usize> {
     let mut draft = None;
     for (i, line) in text.split(|byte| *byte == b'\n').enumerate() {
         if !line.is_empty() && line[0] != b'#' {
-            parse_line(line, most, lines, &mut draft).ok_or(i + 1)?;
+            parse_line(line, most, &mut draft).ok_or(i + 1)?;
         }
     }
     draft.map(|draft| draft.trace).ok_or(1)
 }
 
-fn parse_line(line: &[u8], most: u64, lines: Lines, draft: &mut Option<Draft>) -> Option<()> {
+fn parse_line(line: &[u8], most: u64, draft: &mut Option<Draft>) -> Option<()> {
     let mut fields = [&[][..]; 8];
     let mut count = 0;
     for field in line.split(|byte| *byte == b' ') {
@@ -127,11 +145,11 @@ fn parse_line(line: &[u8], most: u64, lines: Lines, draft: &mut Option<Draft>) -
     match draft {
         None if word == b"arc" => *draft = Some(arc(fields, most)?),
         None => return None,
-        Some(draft) => match (word, fields, lines) {
-            (b"block", [offset, size, birth, bytes], _) => draft.block(offset, size, birth, bytes)?,
-            (b"l2", [write_max, headroom], _) => draft.bounds(write_max, headroom)?,
-            (b"object", [object, i, block], _) => draft.object(object, i, block)?,
-            _ => draft.operation(word, fields, lines)?,
+        Some(draft) => match (word, fields) {
+            (b"block", [offset, size, birth, bytes]) => draft.block(offset, size, birth, bytes)?,
+            (b"l2", [write_max, headroom]) => draft.bounds(write_max, headroom)?,
+            (b"object", [object, i, block]) => draft.object(object, i, block)?,
+            _ => draft.operation(word, fields)?,
         },
     }
     Some(())
@@ -197,7 +215,7 @@ impl Draft {
         number(field, 0, self.trace.callers as u64 - 1).map(|caller| caller as usize)
     }
 
-    fn operation(&mut self, word: &[u8], fields: &[&[u8]], lines: Lines) -> Option<()> {
+    fn operation(&mut self, word: &[u8], fields: &[&[u8]]) -> Option<()> {
         let (caller, what) = match (word, fields) {
             (b"read", [n, t, x, at, len]) => {
                 let (at, len) = window(at, len)?;
@@ -205,7 +223,6 @@ impl Draft {
             }
             (b"hold", [n, t, x]) => (self.caller(n)?, What::Hold { block: self.declared(x)?, tick: tick(t)? }),
             (b"drop", [n, x]) => (self.caller(n)?, What::Drop { block: self.declared(x)? }),
-            _ if lines == Lines::Reads => return None,
             (b"get", [n, t, j, i, at, len]) => {
                 let (at, len) = window(at, len)?;
                 (self.caller(n)?, What::Get { oid: oid(j, i)?, tick: tick(t)?, at, len })

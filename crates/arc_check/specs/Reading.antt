@@ -1,6 +1,5 @@
 -- What the reader's own functions answer, in the words of the grammar.
 use Rattle.std.specs.Prelude.{◌≡◌, ℕ, ◌^◌, ◌<◌, ◌≤◌, Bool, false, List, ◌∷◌, ◌++◌, Option, Some, None, IfSome, Result, Ok, Err, codes, decimal, take, slice_get}
-use Rattle.std.specs.Str.Parse.{digits_value}
 use Rattle.hex.specs.Hex.{encode_lower}
 use Rattle.blk_ptr.specs.declared.digest.Digest.{Digest}
 use Rattle.blk_ptr.specs.declared.key.Key.{Key}
@@ -16,11 +15,9 @@ use Rattle.trace_text.specs.declared.fault.Kind.{Kind}
 use Rattle.trace_text.specs.declared.fault.Kind.TheVariants as kinds
 use Rattle.trace_text.specs.EventText.{failed_word, origin_word, sole_word, told_words, why_word}
 use Rattle.trace_text.specs.Grammar.{IsDigest, fields_of, is_passed_over, IsPlain, AreSizes}
-use Rattle.trace_text.specs.Reading.{EndsPart, IsOfDigits}
 use Rattle.arc_check.specs.declared.log.LogTextFault.{LogTextFault}
 use Rattle.arc_check.specs.declared.log.LogTextFault.TheVariants as faults
 use Rattle.arc_check.specs.declared.log.LogTextFault.TheVariants.{Bad}
-use Rattle.arc_check.specs.declared.parts.LeadingNumber.{LeadingNumber}
 use Rattle.arc_check.specs.declared.words.Name.{Name}
 use Rattle.arc_check.specs.declared.words.Name.TheVariants as names
 use Rattle.arc_check.specs.declared.words.Line.{Line}
@@ -31,17 +28,6 @@ use Rattle.arc_check.specs.declared.words.Made.{Made}
 use Rattle.arc_check.specs.LogText.{Content, HasFault, HasRoom, IsEventOf, IsFaulty, IsInOrder, IsLogKey, IsMade, IsMisplaced, IsMisspelled, IsTold, Say, event_fields, maker_of, name_of, name_text, spelling, told_fields, with_line}
 
 -- ---- fields
-
--- the first part of a text is of digits, which write this number, or it is not
-abbrev pub LeadsWithNumber : ℕ → List ℕ → Option LeadingNumber → Type 0
-LeadsWithNumber at text (Some number) =
-    EndsPart at text number.digits × IsOfDigits (take number.digits text) × (number.value ≡ digits_value 10 (take number.digits text))
-LeadsWithNumber at text None = (end : ℕ) → EndsPart at text end → IsOfDigits (take end text) → ⊥
-
--- the first field is a number and the others are left, or it is none
-abbrev pub IsNumberTaken : List (List ℕ) → List (List ℕ) → Option ℕ → Type 0
-IsNumberTaken old new (Some n) = (old ≡ decimal n ∷ new) × (n < 2 ^ 64)
-IsNumberTaken old new None = (n : ℕ) (rest : List (List ℕ)) → n < 2 ^ 64 → old ≡ decimal n ∷ rest → ⊥
 
 -- the first field is a number from low to high and the others are left, or it is none
 abbrev pub TakesNumber : ℕ → ℕ → List (List ℕ) → List (List ℕ) → Option ℕ → Type 0

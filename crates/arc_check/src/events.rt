@@ -7,10 +7,10 @@ use crate::fields::{
     LARGEST_PLAIN, next_below, next_digest, next_failed_at, next_key, next_number, next_origin,
     next_sole, next_told, next_why,
 };
-use crate::parts::Parts;
 use crate::words::Name;
 use arc_core::Event;
 use blk_ptr::Key;
+use trace_text::Parts;
 
 /// What the fields after the name of an event say, where there are so many parties.
 pub(crate) fn event_after(parties: u32, name: Name, fields: &mut Parts<'_>) -> Option<Event>

@@ -1,79 +1,19 @@
 //! The fields of a line, taken one after another as numbers, keys, digests and words.
 ghost use Rattle.std.specs.Prelude.{◌≡◌, ◌≢◌, ◌<◌, ◌+◌, ◌*◌, ◌^◌, ◌↔◌, [], IsTrue, length};
-ghost use Rattle.std.specs.Char.{digit_value};
-ghost use Rattle.std.specs.Option.{SomeIff};
 ghost use Rattle.trace_text.specs.EventText.{failed_word, origin_word, sole_word, told_words, why_word};
-ghost use Rattle.trace_text.specs.Reading.{BeginsAsNumber, IsByteRead, IsDigestRead, IsHexRead};
 ghost use Rattle.arc_check.specs.LogText.{name_text};
 ghost use Rattle.arc_check.specs.Reading.{IsToldRead, IsWordRead, TakesBelow, TakesDigest, TakesKey, TakesNumber, TakesTold, TakesWord};
 
-use crate::parts::Parts;
 use crate::words::Name;
 use arc_core::{FailedAt, Origin, Why};
 use blk_ptr::{Digest, Key};
+use trace_text::{Parts, digest};
 
 /// The largest number of a log that has no narrower range.
 pub(crate) const LARGEST_PLAIN: u64 = 1 << 62;
 
 /// The length of the largest pool.
 const LARGEST_POOL: u64 = 1 << 63;
-
-/// Whether the field begins as a number may: with no plus sign, and with no zero before another digit.
-pub(crate) fn begins_as_number(field: &[u8]) -> bool
-    ensures { IsTrue result ↔ BeginsAsNumber field.now }
-{
-    match field.len() {
-        0 => false,
-        1 => field[0] != b'+',
-        _ => field[0] != b'+' && field[0] != b'0',
-    }
-}
-
-/// The number that is written by one digit more, where the byte is a digit and the number is below 2^64.
-pub(crate) fn with_digit(value: u64, byte: u8) -> Option<u64>
-    ensures { SomeIff result ((digit_value byte < 10) × (value * 10 + digit_value byte < 2 ^ 64)) (value * 10 + digit_value byte) }
-{
-    let digit = (byte as char).to_digit(10)?;
-    value.checked_mul(10)?.checked_add(u64::from(digit))
-}
-
-/// The value of a lower-case hex digit.
-fn hex_value(digit: u8) -> Option<u8>
-    ensures { IsHexRead digit result }
-{
-    match digit {
-        b'0'..=b'9' => Some(digit - b'0'),
-        b'a'..=b'f' => Some(digit - b'a' + 10),
-        _ => None,
-    }
-}
-
-/// The byte that two lower-case hex digits spell.
-fn byte_spelled(high: u8, low: u8) -> Option<u8>
-    ensures { IsByteRead high low result }
-{
-    let high = hex_value(high)?;
-    let low = hex_value(low)?;
-    Some(high * 16 + low)
-}
-
-/// The digest that a field spells by 64 lower-case hex digits. `from_hex` takes upper case too, so what it gives would be spelled once
-/// more to be compared.
-fn digest(field: &[u8]) -> Option<Digest>
-    ensures { IsDigestRead field.now result }
-{
-    if field.len() != 64 {
-        return None;
-    }
-    let mut bytes = [0u8; 32];
-    for place in 0..32 {
-        let Some(byte) = byte_spelled(field[2 * place], field[2 * place + 1]) else {
-            return None;
-        };
-        bytes[place] = byte;
-    }
-    Some(Digest(bytes))
-}
 
 /// Takes the next field, where it is a number from `low` to `high`.
 pub(crate) fn next_number(fields: &mut Parts<'_>, low: u64, high: u64) -> Option<u64>

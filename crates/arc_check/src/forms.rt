@@ -9,10 +9,9 @@ ghost use Rattle.arc_check.specs.Reading.{IsBoundsRead, IsLineRead, IsMadeRead, 
 
 use crate::events::event_after;
 use crate::fields::{LARGEST_PLAIN, name_of, next_below, next_number};
-use crate::parts::Parts;
 use crate::words::{Line, Made, Name};
 use arc_core::{Bounds, Config};
-use trace_text::Kind;
+use trace_text::{Kind, Parts};
 
 /// The largest number of bytes of a cache or a feed, and of ticks of MINTIME.
 const LARGEST_SIZE: u64 = 1 << 32;

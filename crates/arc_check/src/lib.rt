@@ -11,7 +11,6 @@ mod forms;
 mod judge;
 mod laws;
 mod log;
-mod parts;
 mod reader;
 mod verdict;
 mod words;

@@ -6,11 +6,10 @@ ghost use Rattle.arc_check.specs.Reading.{IsFaultAt, IsLinesCause};
 
 use crate::draft::Draft;
 use crate::log::{Log, LogTextFault};
-use crate::parts::Parts;
 use crate::words::LineFault;
 use blk_ptr::NoMemory;
 use std::alloc::Global;
-use trace_text::Kind;
+use trace_text::{Kind, Parts};
 
 /// The most bytes of a text.
 const LONGEST_TEXT: usize = 67_108_864;

@@ -46,11 +46,14 @@ impl Model for Bucket {
         × (length (option_to_list b.first) + vec_len b.tags + b.spare ≤ vec_capacity b.tags + 1) };
 }
 
-// The tag of a key: the highest byte of its hash, since buckets are chosen by the lower ones.
+// The golden ratio of 2^64. Of keys of one offset the highest byte of the hash is mostly the same, and their tags are not to be.
+const SPREAD: u64 = 0x9e37_79b9_7f4a_7c15;
+
+// The tag of a key: the highest byte of its hash, spread once more, since buckets are chosen by the lower ones.
 fn tag_of(key: Key) -> u8
     ensures { result ≡ tag_of_key key }
 {
-    (hash_of(key) >> 56) as u8
+    (hash_of(key).wrapping_mul(SPREAD) >> 56) as u8
 }
 
 // How many of the `LANES` tags from `at` on come before the first that is this one.

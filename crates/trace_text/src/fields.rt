@@ -111,7 +111,7 @@ fn byte_spelled(high: u8, low: u8) -> Option<u8>
 
 /// The digest that a field spells by 64 lower-case hex digits. `from_hex` takes upper case too, so what it gives would be spelled once
 /// more to be compared.
-fn digest(field: &[u8]) -> Option<Digest>
+pub fn digest(field: &[u8]) -> Option<Digest>
     ensures { IsDigestRead field.now result }
 {
     if field.len() != 64 {

@@ -58,9 +58,10 @@ fn leading_number(at: u8, text: &[u8]) -> Option<LeadingNumber>
     Some(LeadingNumber { value, digits })
 }
 
-/// The parts of a text between the places of a byte, from the left. Contracts see the list of the parts that are left.
+/// The parts of a text between the places of a byte, from the left, as lines and fields are read. Contracts see the list of the parts
+/// that are left.
 #[derive(Drop)]
-pub(crate) struct Parts<'a> {
+pub struct Parts<'a> {
     rest: &'a [u8],
     at: u8,
     ended: bool,
@@ -74,7 +75,7 @@ impl<'a> Model for Parts<'a> {
 
 impl<'a> Parts<'a> {
     /// All parts of `text`.
-    pub(crate) fn new(text: &'a [u8], at: u8) -> Parts<'a>
+    pub fn new(text: &'a [u8], at: u8) -> Parts<'a>
         ensures { result ≡ slice_split (λ b. b == at) text.now }
     {
         Parts {
@@ -85,7 +86,7 @@ impl<'a> Parts<'a> {
     }
 
     /// The next part, or None after the last.
-    pub(crate) fn next(&mut self) -> Option<&'a [u8]>
+    pub fn next(&mut self) -> Option<&'a [u8]>
         ensures { MatchOption result (self.old ≡ []) (λ part. self.old ≡ part.now ∷ self.new) }
     {
         if self.ended {
@@ -106,7 +107,7 @@ impl<'a> Parts<'a> {
 
     /// Takes the next part, where it spells a number in decimal, with no sign and no leading zero. Its bytes are gone over once. After None
     /// some part is left or none.
-    pub(crate) fn next_number(&mut self) -> Option<u64>
+    pub fn next_number(&mut self) -> Option<u64>
         ensures { IsNumberTaken self.old self.new result }
     {
         if self.ended {
