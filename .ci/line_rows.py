@@ -1260,7 +1260,7 @@ shard 0 c 4096 p 2048 anon 0 mru 1024 mrug 0 mfu 0 mfug 0 l2 0
 count hit 0 miss 2 past 0 pool 2 l2 0 pass 0 set 2
 rebuilt 0 header magic
 end 0
-'''], bytes(RING_END), device_after=[Ring().feed(((0, 512, 1), bytes(512)), ((512, 512, 1), bytes(512))).image, Ring().feed(((512, 512, 1), bytes(512)), ((0, 512, 1), bytes(512))).image, fed([bytes(512)] * 2), Ring().feed(((512, 512, 1), bytes(512))).feed(((0, 512, 1), bytes(512))).image]),
+'''], bytes(RING_END), device_after=[Ring().feed(((0, 512, 1), bytes(512)), ((512, 512, 1), bytes(512))).image, Ring().feed(((512, 512, 1), bytes(512)), ((0, 512, 1), bytes(512))).image, fed([bytes(512)] * 2), Ring().feed(((512, 512, 1), bytes(512))).feed(((0, 512, 1), bytes(512))).image], times=100),
     Row('a feed behind two reads, and reads behind that in a smaller cache', ['run'], 8192, '''\
 arc 2 1 16 1 4096 0 4096
 block 0 2048 1 X

@@ -475,6 +475,26 @@ def wrong_device_feeds(program):
     return wrong
 
 
+def wrong_sync_writes(program):
+    """What is wrong where one write of a sync fails, each in turn, for one caller and for two: the run stops before the sync's line, with the blocks before written."""
+    wrong = []
+    for callers in 1, 2:
+        given = ARC.replace('1', str(callers), 1) + ''.join(f'put 0 1 7 {i} 512 61\n' for i in range(3)) + 'txg 2\nget 0 3 7 0 0 1\n'
+        if undone.has_undone(given):
+            print(f'program: syncs whose write fails are not done yet: {callers} callers')
+            continue
+        for k in range(1, 4):
+            with open('blocks', 'wb') as out:
+                out.truncate(4096)
+            ours = ended_where(program, 'write', k, ['blocks', '-', 'run'], given)
+            sums = [EMPTY[1].replace('mru 0', f'mru {512 * (k - 1)}'), EMPTY[2]]
+            with open('blocks', 'rb') as file:
+                pool = file.read()
+            if ours != (6, ['arc 1', *(f'{i} done' for i in range(3)), *sums, 'end 6'], 1) or pool != (b'a' * 512 * (k - 1)).ljust(4096, b'\0'):
+                wrong.append(f'syncs: where write {k} of the pool fails the run ended with {ours}')
+    return wrong
+
+
 def wrong_refusals(program):
     """What is wrong where memory is refused, at each place where it is asked for: then the status is 7. Each piece of memory is made a call
     of the system of its own, and all such calls from the n-th on are refused, for each n behind those of the loader."""
@@ -506,7 +526,7 @@ def main():
         others = changed_files(contents)
         if has_strace():
             others += wrong_opens(program) + wrong_reads(program) + wrong_refusals(program)
-            others += wrong_pool_calls(program) + wrong_device_reads(program) + wrong_device_feeds(program)
+            others += wrong_pool_calls(program) + wrong_device_reads(program) + wrong_device_feeds(program) + wrong_sync_writes(program)
         else:
             print('program: there is no strace, so how the pool is opened and read, and where memory is refused, was not looked at')
         os.chdir('/')

@@ -16,8 +16,8 @@ DIGESTS = {
 COUNTING = bytes(range(256)) * 2
 
 # What it shows, the words, the pool (the number of its zero bytes, or its bytes), the standard input, the exit status (None where a report tells it), the reports,
-# the bytes of the cache device, and what the pool and the device may be afterwards: as before where nothing is said.
-Row = collections.namedtuple('Row', 'shows words pool source status reports device pool_after device_after', defaults=(None, None, None))
+# the bytes of the cache device, what the pool and the device may be afterwards (as before where nothing is said), and how often it is run, where it matters.
+Row = collections.namedtuple('Row', 'shows words pool source status reports device pool_after device_after times', defaults=(None, None, None, None))
 
 
 def spelled(text):

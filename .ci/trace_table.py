@@ -1434,11 +1434,11 @@ def is_undone(row):
 def is_right(program, row):
     """Whether each of some runs ends in a way that the row allows. One with a line that isn't done yet has to be refused."""
     if is_undone(row):
-        row = row._replace(status=3, reports=[''], pool_after=None, device_after=None)
+        row = row._replace(status=3, reports=[''], pool_after=None, device_after=None, times=1)
     # the status stands at the end of a report
     wanted = [(row.status if row.status is not None else int(report.split()[-1]), spelled(report)) for report in row.reports]
     callers = row.source.split(' ')[1:2] if row.source.startswith('arc ') else []
-    for _ in range(4 if len(wanted) > 1 or callers not in ([], ['1']) else 1):
+    for _ in range(row.times or (4 if len(wanted) > 1 or callers not in ([], ['1']) else 1)):
         *ours, pool, device = run(program, row)
         if tuple(ours) not in wanted:
             print(f'{row.shows}: {row.words} ended with {tuple(ours)}, which is none of {wanted}')

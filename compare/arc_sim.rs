@@ -84,24 +84,12 @@ impl Display for Refusal {
 }
 
 /// Why a run ends before its last line.
+#[derive(Clone, Copy)]
 enum Stop {
+    /// a write of a sync failed
+    Fault,
+    /// the pool has no room for a sync
     Full,
-    Fault(io::Error),
-}
-
-impl Display for Stop {
-    fn fmt(&self, f: &mut fmt::Formatter<'_>) -> fmt::Result {
-        match self {
-            Stop::Full => f.write_str("the pool is full"),
-            Stop::Fault(fault) => fault.fmt(f),
-        }
-    }
-}
-
-impl From<io::Error> for Stop {
-    fn from(fault: io::Error) -> Stop {
-        Stop::Fault(fault)
-    }
 }
 
 /// A block that was read: where its bytes are from, and its place in its shard but where it went past that.
@@ -147,11 +135,11 @@ struct Sim<'a> {
     group: u64,
     replies: String,
     is_refused: bool,
-    is_full: bool,
+    stop: Option<Stop>,
 }
 
 impl Sim<'_> {
-    fn new(trace: &Trace, pool: Pool, device: Option<(std::fs::File, u64)>) -> Result<Sim<'_>, Stop> {
+    fn new(trace: &Trace, pool: Pool, device: Option<(std::fs::File, u64)>) -> Sim<'_> {
         let ends = trace.blocks.iter().filter(|it| pool.check(it.key).is_ok()).map(|it| it.key.offset + it.key.size);
         let mut sim = Sim {
             trace,
@@ -165,7 +153,7 @@ impl Sim<'_> {
             group: 1,
             replies: String::new(),
             is_refused: false,
-            is_full: false,
+            stop: None,
         };
         for (oid, block) in &trace.objects {
             let cell = sim.cell_of(*oid);
@@ -179,7 +167,7 @@ impl Sim<'_> {
             sim.device = found.device;
             sim.rebuilt = Some(Rebuilt { entries: found.restored.len(), stop: found.stop });
         }
-        Ok(sim)
+        sim
     }
 
     fn cell_of(&self, (object, i): Oid) -> usize {
@@ -292,7 +280,7 @@ impl Sim<'_> {
             let bytes: Arc<[u8]> = self.cells[c].bytes(*oid).into();
             let key = Key { offset: self.next, size: *size, birth: self.group };
             let pointer = Pointer { key, digest: sha256(&bytes) };
-            self.pool.write(key, &bytes)?;
+            self.pool.write(key, &bytes).map_err(|_| Stop::Fault)?;
             self.next += size;
             let shard = &mut self.shards[key.shard_of(self.trace.shards)];
             let place = shard.put_in(number_of(c), key, pointer.digest, tick, bytes.clone());
@@ -439,7 +427,7 @@ impl Sim<'_> {
     }
 
     /// Does all lines, and gives back what is kept at their end.
-    fn run(&mut self, with_replies: bool) -> Result<(), Stop> {
+    fn run(&mut self, with_replies: bool) {
         for (i, op) in self.trace.ops.iter().enumerate() {
             let start = self.replies.len();
             let _ = write!(self.replies, "{i} ");
@@ -449,12 +437,11 @@ impl Sim<'_> {
                     let _ = write!(self.replies, "{refusal}");
                     self.is_refused = true;
                 }
-                Err(Stop::Full) => {
+                Err(stop) => {
                     self.replies.truncate(start);
-                    self.is_full = true;
+                    self.stop = Some(stop);
                     break;
                 }
-                Err(fault) => return Err(fault),
             }
             self.replies.push('\n');
             if !with_replies {
@@ -467,11 +454,14 @@ impl Sim<'_> {
         for c in 0..self.cells.len() {
             self.cells[c].end().iter().for_each(|kept| self.give_back(number_of(c), kept));
         }
-        Ok(())
     }
 
     fn status(&self) -> u8 {
-        if self.is_full { 8 } else { u8::from(self.is_refused) }
+        match self.stop {
+            Some(Stop::Fault) => 6,
+            Some(Stop::Full) => 8,
+            None => u8::from(self.is_refused),
+        }
     }
 }
 
@@ -616,14 +606,8 @@ fn perform() -> u8 {
             (trace, pool, device, events, true)
         }
     };
-    let ran = Sim::new(&trace, pool, device).and_then(|mut sim| sim.run(with_replies).map(|()| sim));
-    let sim = match ran {
-        Ok(sim) => sim,
-        Err(stop) => {
-            eprintln!("arc_sim: {stop}");
-            return 14;
-        }
-    };
+    let mut sim = Sim::new(&trace, pool, device);
+    sim.run(with_replies);
     let status = sim.status();
     let Ok(text) = report(sim, events) else { return 7 };
     let mut out = io::stdout();

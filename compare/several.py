@@ -777,6 +777,30 @@ def drawn(rng, most):
     return '\n'.join([*lines, ''])
 
 
+HEAD2 = f'arc 2 1 16 1 4096 0 512\nblock 0 512 1 {ZEROS[512]}\nblock 512 512 1 {ZEROS[512]}\nobject 7 0 0\nobject 7 1 1\n'
+
+# what a wrong run would report: a trace, whether it has a device, and what stands in its right report in the place of what
+WRONG = [
+    ('a line behind a sync was done before the lines in front of it', 'read 0 1 0 0 0\ntxg 2\nread 1 3 0 0 0\n', False, [
+        ('0 ok pool', '0 ok hit'), ('2 ok hit', '2 ok pool'), ('miss 0 0 512 1 1', 'miss 1 0 512 1 3'), ('arrive 0', 'arrive 1'), ('e 0 2 drop 0', 'e 0 2 drop 1'),
+        ('hit 1 0 512 1 3', 'hit 0 0 512 1 1'), ('e 0 4 drop 1', 'e 0 4 drop 0'), ('mru 0 mrug 0 mfu 512', 'mru 512 mrug 0 mfu 0')]),
+    ('a capacity was given before the last line of its group', 'read 0 1 0 0 0\ncap 8192\n', False, [
+        ('e 0 2 drop 0 0 512 1\ne 0 3 resize 2 8192', 'e 0 2 resize 2 8192\ne 0 3 drop 0 0 512 1')]),
+    ('a sync writes where the first one did', 'put 0 1 9 0 512 ab\ntxg 2\nput 0 3 9 1 512 cd\ntxg 4\n', False, [(' 1536 512 2', ' 1024 512 2')]),
+    ('a sync has the birth of an earlier group', 'cap 8192\nput 0 1 9 0 512 ab\ntxg 2\n', False, [(' 1024 512 2', ' 1024 512 1')]),
+    ('a sync leaves out what was put', 'put 0 1 9 0 512 ab\ntxg 2\n', False, [
+        ('txg 1 blocks 1 bytes 512', 'txg 1 blocks 0 bytes 0'), ('mru 512', 'mru 0'), (f'e 0 0 insert 3 1024 512 1 {sha(bytes([0xab]) * 512)} 2\ne 0 1 drop 3 1024 512 1\n', '')]),
+    ('a kept read is given back as its group ends', 'hold 0 1 0\ncap 8192\ndrop 0 0\n', False, [
+        ('e 0 2 resize 2 8192\ne 0 3 drop 0 0 512 1', 'e 0 2 drop 0 0 512 1\ne 0 3 resize 2 8192')]),
+    ('no device is said to stand', 'feed\n', True, [('0 feed picked 0 bytes 0 written 0 cleared 0 ok', '0 feed none'), ('e 0 0 feedend 2\n', '')]),
+    ('another caller ends a pin', 'pin 0 1 7 0\nunpin 1 7 0\n', False, [('1 refused pin 7 0', '1 done'), ('end 1', 'end 0')]),
+    ('a dbuf that is due stays', 'get 0 1 7 0 0 0\nget 0 2 7 1 0 0\n', False, [
+        ('e 0 6 drop 3 0 512 1\ne 0 7 drop 3 512 512 1', 'e 0 6 drop 3 512 512 1\ne 0 7 drop 3 0 512 1')]),
+    ('the block of a caller before is not found', 'put 0 1 9 0 512 ab\ncap 8192\nget 1 2 9 0 0 1\n', False, [('2 got 512 ab', '2 refused block 9 0'), ('end 0', 'end 1')]),
+    ('bytes that were written over are shown', 'patch 0 1 7 0 0 ff\nget 0 2 7 0 0 1\n', False, [('1 got 512 ff', '1 got 512 00')]),
+]
+
+
 def changed(rng, report):
     """The report with one number or word of a line changed, or a line taken out or moved."""
     lines = report.split('\n')[:-1]
@@ -822,8 +846,28 @@ def check(seconds, seed):
         shutil.copy(f'{work}/device', f'{work}/device.own')
         words = [replay, f'{work}/pool', f'{work}/device.own' if image is not None else '-', f'{work}/trace', f'{work}/pool.after', f'{work}/device.after' if image is not None else '-']
         return subprocess.run(words, input=report.encode(), capture_output=True)
-    until, done, bad, kinds, missed, tried = time.time() + seconds, 0, 0, {}, 0, 0
-    image = None
+    def put(text, pool, run, image):
+        after = bytes(run.device.image) if run.device else image
+        for name, data in ('trace', text.encode()), ('pool', pool), ('pool.after', run.pool), ('device', image or b''), ('device.after', after or b''):
+            with open(f'{work}/{name}', 'wb') as out:
+                out.write(data)
+        return after
+
+    done, bad, kinds, missed, tried = 0, 0, {}, 0, 0
+    for what, lines, has_device, edits in WRONG:
+        image = bytes(266_240) if has_device else None
+        run = Run(Trace(HEAD2 + lines), bytearray(4096), image and bytearray(image), lambda count: 0)
+        run.run()
+        put(HEAD2 + lines, bytes(4096), run, image)
+        right = other = run.report(True)
+        for old, new in edits:
+            if old not in other:
+                raise SystemExit(f'{what}: {old!r} does not stand in the report\n{other}')
+            other = other.replace(old, new, 1)
+        if judged(right).returncode or not judged(other).returncode:
+            bad += 1
+            print(f'the checker is wrong of this: {what}')
+    until, image = time.time() + seconds, None
     while time.time() < until and bad < 5:
         text = drawn(rng, 40)
         pool = bytes(rng.choice([20480, 24576, 30000]))
@@ -832,10 +876,7 @@ def check(seconds, seed):
         run = Run(Trace(text), bytearray(pool), None if image is None else bytearray(image), rng.randrange)
         run.run()
         report = run.report(True)
-        after = bytes(run.device.image) if run.device else image
-        for name, data in ('trace', text.encode()), ('pool', pool), ('pool.after', run.pool), ('device', image or b''), ('device.after', after or b''):
-            with open(f'{work}/{name}', 'wb') as out:
-                out.write(data)
+        after = put(text, pool, run, image)
         ended = judged(report)
         if run.trace.callers == 1 and simulated() != [run.status, report, bytes(run.pool), after or b'']:
             bad += 1
