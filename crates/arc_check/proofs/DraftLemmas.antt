@@ -4,7 +4,7 @@ use Rattle.std.proofs.lemmas.Bool.{eq-eqb, eqb-true}
 use Rattle.std.proofs.lemmas.List.{length-replicate}
 use Rattle.trace_text.proofs.SplitLemmas.{false-from_not}
 use Rattle.arc_core.specs.declared.event.Event.{Event}
-use Rattle.arc_check.specs.LogText.{Content, at_shard, histories_to}
+use Rattle.arc_check.specs.LogText.{LogContent, at_shard, histories_to}
 
 -- an empty history more behind empty ones
 abbrev empty : List Event
@@ -37,11 +37,11 @@ close-length old events n low =
     omega (arith, low, length-append old (events ∷ replicate (n - (length old + 1)) []), length-replicate (n - (length old + 1)) empty)
 
 -- the shard in hand stays
-pub at-same : (shard : ℕ) (said : Content) → shard ≡ length said.closed → at_shard shard said ≡ said
+pub at-same : (shard : ℕ) (said : LogContent) → shard ≡ length said.closed → at_shard shard said ≡ said
 at-same shard said same = rw (eq-eqb shard (length said.closed) same) refl
 
 -- a greater shard is taken in hand
-pub at-more : (shard : ℕ) (said : Content) → length said.closed < shard → at_shard shard said ≡ record said { closed = histories_to shard said; events = [] }
+pub at-more : (shard : ℕ) (said : LogContent) → length said.closed < shard → at_shard shard said ≡ record said { closed = histories_to shard said; events = [] }
 at-more shard said more =
     let no : eqb shard (length said.closed) ≡ false = false-from_not _ (λ same. omega (arith, eqb-true shard (length said.closed) same, more)) in
     rw no refl

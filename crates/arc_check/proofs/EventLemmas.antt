@@ -4,11 +4,11 @@ use Rattle.std.specs.Prelude.{decimal, IfSome}
 use Rattle.blk_ptr.specs.declared.key.Key.{Key}
 use Rattle.arc_core.specs.declared.event.Event.{Event}
 use Rattle.arc_core.specs.declared.event.Event.TheVariants.{Pass, Hit, Miss, Arrive, Fail, Drop, Past, Hand, Insert, Release, Pick, FeedEnd, Set, Leave, Clear, Restore, Resize}
-use Rattle.arc_core.specs.Operations.{event_key}
+use Rattle.arc_core.specs.Operations.{event_key, number_of}
 use Rattle.trace_text.specs.Grammar.{IsPlain}
 use Rattle.arc_check.specs.declared.words.Name.{Name}
 use Rattle.arc_check.specs.declared.words.Name.TheVariants as names
-use Rattle.arc_check.specs.LogText.{IsEventOf, IsLogKey, IsTold, event_fields, field_count, key_and, maker_of, name_of, name_text, told_fields}
+use Rattle.arc_check.specs.LogText.{IsEventOf, IsLogKey, IsTold, event_fields, log_field_count, key_and, name_of, name_text, told_fields}
 use Rattle.arc_check.specs.Reading.{IsEventRead, IsTailRead, TailOf}
 use Rattle.arc_check.proofs.FieldLemmas.{next-fields}
 
@@ -58,7 +58,7 @@ name_text-injective v w e =
 -- ---- fields
 
 -- how many fields an event has
-pub fields-counted : (e : Event) → length (event_fields e) ≡ field_count (name_of e)
+pub fields-counted : (e : Event) → length (event_fields e) ≡ log_field_count (name_of e)
 fields-counted (Pass n k owner) = refl
 fields-counted (Hit n k t) = refl
 fields-counted (Miss n k t) = refl
@@ -88,7 +88,7 @@ rest-counted e f fields more less named one other =
       length-append (event_fields f) less,
       fields-counted e,
       fields-counted f,
-      ap field_count named,
+      ap log_field_count named,
     )
 
 -- what an event tells, by its name
@@ -188,11 +188,11 @@ pub tail-read : (parties : ℕ) (name : Name) (n : ℕ) (key : Key) (old mid bac
     → (name ≡ names.FeedEnd → ⊥) → (name ≡ names.Resize → ⊥) → old ≡ decimal n ∷ mid → mid ≡ decimal key.offset ∷ decimal key.size ∷ decimal key.birth ∷ back
     → IsTailRead parties name n key back new r → IsEventRead parties name old new r
 tail-read parties name n key old mid back new (Some e) low valid end size one two read =
-    let maker : maker_of e ≡ n = read.1 in
+    let maker : number_of e ≡ n = read.1 in
     let keyed : event_key e ≡ Some key = read.2 in
     let fields : (ℕ × Option Key) → List (List ℕ) = λ p. decimal p.0 ∷ (key_and p.1 (told_fields e) ++ new) in
     let whole : old ≡ fields (n, Some key) = one ∙ ap (λ (f : List (List ℕ)). decimal n ∷ f) (two ∙ ap (λ (f : List (List ℕ)). decimal key.offset ∷ decimal key.size ∷ decimal key.birth ∷ f) read.4) in
-    let same : fields (n, Some key) ≡ fields (maker_of e, event_key e) = ap fields (λ i. (sym maker i, sym keyed i)) in (
+    let same : fields (n, Some key) ≡ fields (number_of e, event_key e) = ap fields (λ i. (sym maker i, sym keyed i)) in (
       read.0,
       record { maker = subst (λ m. m < parties) (sym maker) low; key = subst (λ (o : Option Key). IfSome o IsLogKey) (sym keyed) valid; told = read.3 },
       whole ∙ same,

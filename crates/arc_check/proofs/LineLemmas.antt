@@ -11,7 +11,7 @@ use Rattle.arc_check.specs.declared.words.Name.{Name}
 use Rattle.arc_check.specs.declared.words.Line.{Line}
 use Rattle.arc_check.specs.declared.words.Line.TheVariants as line_of
 use Rattle.arc_check.specs.declared.words.Made.{Made}
-use Rattle.arc_check.specs.LogText.{HasFields, HasWords, IsMade, IsMisspelled, Say, event_fields, field_count, name_of, name_text, parties_of, spelling}
+use Rattle.arc_check.specs.LogText.{HasFields, HasWords, IsMade, IsMisspelledInLog, LogSays, event_fields, log_field_count, name_of, name_text, log_parties_of, log_spelling}
 use Rattle.arc_check.specs.Reading.{IsBoundsRead, IsEventRead, IsMadeRead, IsNameRead, IsSizesRead}
 use Rattle.arc_check.proofs.EventLemmas.{name_text-injective, rest-counted}
 use Rattle.arc_check.proofs.FieldLemmas.{first-field, next-fields}
@@ -48,7 +48,7 @@ some-none : {a : List ℕ} → Some a ≡ None → ⊥
 some-none e = cc
 
 -- an event's line whose name is none, or is missing
-pub nameless-line : (z : Config) (fields rest : List (List ℕ)) (kind : Kind) → fields ≡ codes "e" ∷ rest → IsNameRead fields (Err kind) → IsMisspelled (Some z) fields kind
+pub nameless-line : (z : Config) (fields rest : List (List ℕ)) (kind : Kind) → fields ≡ codes "e" ∷ rest → IsNameRead fields (Err kind) → IsMisspelledInLog (Some z) fields kind
 nameless-line z fields rest kinds.Word is read = (
   refl,
   λ words. elim words [
@@ -79,21 +79,21 @@ name-one fields v w one other =
 
 -- an event's line that has not the shape of its name
 pub shapeless-event : (z : Config) (name : Name) (fields rest : List (List ℕ)) → fields ≡ codes "e" ∷ rest → slice_get fields 3 ≡ Some (name_text name)
-    → (HasFields (4 + field_count name) fields → ⊥) → IsMisspelled (Some z) fields kinds.Shape
+    → (HasFields (4 + log_field_count name) fields → ⊥) → IsMisspelledInLog (Some z) fields kinds.Shape
 shapeless-event z name fields rest is named none = (
   inr (inr (name, (ap (λ (fs : List (List ℕ)). slice_get fs 0) is, named))),
   λ shape. elim shape [
     | inl l2 ↦ l2-not-e (sym (begun fields rest (codes "e") (codes "l2") is l2.0))
-    | inr other ↦ none (subst (λ (n : Name). HasFields (4 + field_count n) fields) (name-one fields other.0 name other.1.1 named) other.2)
+    | inr other ↦ none (subst (λ (n : Name). HasFields (4 + log_field_count n) fields) (name-one fields other.0 name other.1.1 named) other.2)
   ],
 )
 
 -- an event's line that says nothing
 pub wrong-event : (z : Config) (name : Name) (fields rest : List (List ℕ)) → fields ≡ codes "e" ∷ rest → slice_get fields 3 ≡ Some (name_text name)
-    → IsMadeRead z name rest None → HasFields (4 + field_count name) fields → IsMisspelled (Some z) fields kinds.Number
+    → IsMadeRead z name rest None → HasFields (4 + log_field_count name) fields → IsMisspelledInLog (Some z) fields kinds.Number
 wrong-event z name fields rest is named none shape = (inr (name, (ap (λ (fs : List (List ℕ)). slice_get fs 0) is, named), shape), no-line)
   where
-    no-line : (line : Line) → Say (Some z) fields line → ⊥
+    no-line : (line : Line) → LogSays (Some z) fields line → ⊥
     no-line (line_of.Sizes sizes) said = said.ranged
     no-line (line_of.Feed b) said = l2-not-e (sym (first-field is said.spelled))
     no-line (line_of.Made made) said =
@@ -101,7 +101,7 @@ wrong-event z name fields rest is named none shape = (inr (name, (ap (λ (fs : L
         none made (name-one fields (name_of made.event) name at named) said.ranged (sym is ∙ said.spelled)
 
 -- a feed's line
-pub shapeless-feed : (z : Config) (fields rest : List (List ℕ)) → fields ≡ codes "l2" ∷ rest → (HasFields 3 fields → ⊥) → IsMisspelled (Some z) fields kinds.Shape
+pub shapeless-feed : (z : Config) (fields rest : List (List ℕ)) → fields ≡ codes "l2" ∷ rest → (HasFields 3 fields → ⊥) → IsMisspelledInLog (Some z) fields kinds.Shape
 shapeless-feed z fields rest is none = (
   inl (ap (λ (fs : List (List ℕ)). slice_get fs 0) is),
   λ shape. elim shape [
@@ -110,10 +110,10 @@ shapeless-feed z fields rest is none = (
   ],
 )
 
-pub wrong-feed : (z : Config) (fields rest : List (List ℕ)) → fields ≡ codes "l2" ∷ rest → IsBoundsRead rest None → HasFields 3 fields → IsMisspelled (Some z) fields kinds.Number
+pub wrong-feed : (z : Config) (fields rest : List (List ℕ)) → fields ≡ codes "l2" ∷ rest → IsBoundsRead rest None → HasFields 3 fields → IsMisspelledInLog (Some z) fields kinds.Number
 wrong-feed z fields rest is none shape = (inl (ap (λ (fs : List (List ℕ)). slice_get fs 0) is, shape), no-line)
   where
-    no-line : (line : Line) → Say (Some z) fields line → ⊥
+    no-line : (line : Line) → LogSays (Some z) fields line → ⊥
     no-line (line_of.Sizes sizes) said = said.ranged
     no-line (line_of.Feed b) said = none b said.ranged (sym is ∙ said.spelled)
     no-line (line_of.Made made) said = l2-not-e (first-field is said.spelled)
@@ -122,13 +122,13 @@ wrong-feed z fields rest is none shape = (inl (ap (λ (fs : List (List ℕ)). sl
 pub unknown-head : (fields rest : List (List ℕ)) (first : List ℕ) → fields ≡ first ∷ rest → (first ≡ codes "arc" → ⊥) → HasWords None fields → ⊥
 unknown-head fields rest first is other words = other (begun fields rest first (codes "arc") is words)
 
-pub shapeless-head : (fields rest : List (List ℕ)) → fields ≡ codes "arc" ∷ rest → (HasFields 8 fields → ⊥) → IsMisspelled None fields kinds.Shape
+pub shapeless-head : (fields rest : List (List ℕ)) → fields ≡ codes "arc" ∷ rest → (HasFields 8 fields → ⊥) → IsMisspelledInLog None fields kinds.Shape
 shapeless-head fields rest is none = (ap (λ (fs : List (List ℕ)). slice_get fs 0) is, λ shape. none shape.1)
 
-pub wrong-head : (fields rest : List (List ℕ)) → fields ≡ codes "arc" ∷ rest → IsSizesRead rest None → HasFields 8 fields → IsMisspelled None fields kinds.Number
+pub wrong-head : (fields rest : List (List ℕ)) → fields ≡ codes "arc" ∷ rest → IsSizesRead rest None → HasFields 8 fields → IsMisspelledInLog None fields kinds.Number
 wrong-head fields rest is none shape = ((ap (λ (fs : List (List ℕ)). slice_get fs 0) is, shape), no-line)
   where
-    no-line : (line : Line) → Say None fields line → ⊥
+    no-line : (line : Line) → LogSays None fields line → ⊥
     no-line (line_of.Sizes z) said = none z said.ranged (sym is ∙ said.spelled)
     no-line (line_of.Feed b) said = said.ranged
     no-line (line_of.Made made) said = said.ranged
@@ -144,17 +144,17 @@ named-third f0 f1 f2 f3 a b named text at e0 e1 e2 =
 
 pub made-read : (z : Config) (name : Name) (f0 f1 f2 f3 f4 : List (List ℕ)) (named : List ℕ) (made : Made) (shard index : ℕ) (e : Event) → made ≡ record { shard = shard; index = index; event = e }
     → slice_get f0 2 ≡ Some (name_text name) → f0 ≡ decimal shard ∷ f1 → shard < z.shards → f1 ≡ decimal index ∷ f2 → IsPlain index → f2 ≡ named ∷ f3
-    → IsEventRead (parties_of z) name f3 f4 (Some e) → f4 ≡ [] → (codes "e" ∷ f0 ≡ spelling (line_of.Made made)) × IsMade z made
+    → IsEventRead (log_parties_of z) name f3 f4 (Some e) → f4 ≡ [] → (codes "e" ∷ f0 ≡ log_spelling (line_of.Made made)) × IsMade z made
 made-read z name f0 f1 f2 f3 f4 named made shard index e is at e0 low e1 plain e2 read left =
     let text : named ≡ name_text (name_of e) = named-third f0 f1 f2 f3 _ _ named (name_text name) at e0 e1 e2 ∙ ap name_text (sym read.0) in
     let last : f3 ≡ event_fields e = read.2 ∙ ap (λ (f : List (List ℕ)). event_fields e ++ f) left ∙ append-nil (event_fields e) in
     let one : Made = record { shard = shard; index = index; event = e } in
-    let whole : codes "e" ∷ f0 ≡ spelling (line_of.Made one) =
+    let whole : codes "e" ∷ f0 ≡ log_spelling (line_of.Made one) =
     ap (λ (f : List (List ℕ)). codes "e" ∷ f) (e0 ∙ ap (λ (f : List (List ℕ)). decimal shard ∷ f) (e1 ∙ ap (λ (f : List (List ℕ)). decimal index ∷ f) (e2 ∙ ap (λ (p : List ℕ × List (List ℕ)). p.0 ∷ p.1) (λ i. (text i, last i))))) in
-    subst (λ (m : Made). (codes "e" ∷ f0 ≡ spelling (line_of.Made m)) × IsMade z m) (sym is) (whole, record { shard = low; index = plain; event = read.1 })
+    subst (λ (m : Made). (codes "e" ∷ f0 ≡ log_spelling (line_of.Made m)) × IsMade z m) (sym is) (whole, record { shard = low; index = plain; event = read.1 })
 
 -- the fields of a candidate, one after another
-pub made-shard : (f0 : List (List ℕ)) (made : Made) → codes "e" ∷ f0 ≡ spelling (line_of.Made made)
+pub made-shard : (f0 : List (List ℕ)) (made : Made) → codes "e" ∷ f0 ≡ log_spelling (line_of.Made made)
     → f0 ≡ decimal made.shard ∷ decimal made.index ∷ name_text (name_of made.event) ∷ event_fields made.event
 made-shard f0 made is = next-fields refl is
 

@@ -13,7 +13,7 @@ use Rattle.arc_core.specs.Step.{after, legal}
 use Rattle.trace_text.specs.declared.ends.ShardEnd.{ShardEnd}
 use Rattle.arc_check.specs.declared.judge.Played.{Played}
 use Rattle.arc_check.specs.declared.judge.Played.TheVariants.{Ended, Stuck}
-use Rattle.arc_check.specs.Judging.{IsFirstStuck, IsLegal, IsPlayed, IsStuckAt, IsTried, end_of, ends_of}
+use Rattle.arc_check.specs.Judging.{IsFirstStuck, IsLegalFrom, IsPlayed, IsStuckAt, IsTried, end_of, ends_from}
 use Rattle.arc_core.proofs.Stepping.{legal-append, replay-append}
 
 -- what an event takes of the room
@@ -101,23 +101,23 @@ hist-more (x ∷ xs) zero h at = let same : x ≡ h = cc in ap (λ (y : List Eve
 hist-more (x ∷ xs) (suc i) h at =
     let next : suc i + 1 ≡ suc (i + 1) = omega arith in ap (λ k. take k (x ∷ xs)) next ∙ ap (λ (ys : List (List Event)). x ∷ ys) (hist-more xs i h at)
 
-all-push : (opening : PlainShard) (hs : List (List Event)) (h : List Event) → AllByRecursion (IsLegal opening) hs → IsLegal opening h → AllByRecursion (IsLegal opening) (hs ++ h ∷ [])
+all-push : (opening : PlainShard) (hs : List (List Event)) (h : List Event) → AllByRecursion (IsLegalFrom opening) hs → IsLegalFrom opening h → AllByRecursion (IsLegalFrom opening) (hs ++ h ∷ [])
 all-push opening [] h all last = (last, tt)
 all-push opening (x ∷ xs) h all last = (all.0, all-push opening xs h all.1 last)
 
 pub judged-more : (opening : PlainShard) (hs : List (List Event)) (i : ℕ) (h : List Event) (ends more : List ShardEnd) (end : ShardEnd) (p : Played) → slice_get hs i ≡ Some h
-    → AllByRecursion (IsLegal opening) (take i hs) → ends ≡ ends_of opening (take i hs) → IsPlayed opening h p → p ≡ Ended end → more ≡ ends ++ end ∷ []
-    → AllByRecursion (IsLegal opening) (take (i + 1) hs) × (more ≡ ends_of opening (take (i + 1) hs))
+    → AllByRecursion (IsLegalFrom opening) (take i hs) → ends ≡ ends_from opening (take i hs) → IsPlayed opening h p → p ≡ Ended end → more ≡ ends ++ end ∷ []
+    → AllByRecursion (IsLegalFrom opening) (take (i + 1) hs) × (more ≡ ends_from opening (take (i + 1) hs))
 judged-more opening hs i h ends more end p at all told came ended is =
     let played : IsPlayed opening h (Ended end) = subst (IsPlayed opening h) ended came in
     let longer = hist-more hs i h at in
     let f : List Event → ShardEnd = λ history. end_of (replay opening history) in
     let last : ends ++ end ∷ [] ≡ map f (take i hs) ++ f h ∷ [] = ap (λ (es : List ShardEnd). es ++ end ∷ []) told ∙ ap (λ (e : ShardEnd). map f (take i hs) ++ e ∷ []) played.1 in (
-      subst (AllByRecursion (IsLegal opening)) (sym longer) (all-push opening (take i hs) h all played.0),
+      subst (AllByRecursion (IsLegalFrom opening)) (sym longer) (all-push opening (take i hs) h all played.0),
       is ∙ last ∙ sym (map-append f (take i hs) (h ∷ [])) ∙ ap (map f) (sym longer),
     )
 
 pub first-stuck : (opening : PlainShard) (hs : List (List Event)) (i index : ℕ) (h : List Event) (p : Played) → slice_get hs i ≡ Some h
-    → AllByRecursion (IsLegal opening) (take i hs) → IsPlayed opening h p → p ≡ Stuck index → IsFirstStuck opening hs i index
+    → AllByRecursion (IsLegalFrom opening) (take i hs) → IsPlayed opening h p → p ≡ Stuck index → IsFirstStuck opening hs i index
 first-stuck opening hs i index h p at all came stuck =
     record { history = h; there = at; before = all; stuck = subst (IsPlayed opening h) stuck came }

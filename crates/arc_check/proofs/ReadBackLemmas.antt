@@ -21,7 +21,7 @@ use Rattle.arc_check.specs.declared.words.Name.{Name}
 use Rattle.arc_check.specs.declared.words.Name.TheVariants as names
 use Rattle.arc_check.specs.declared.words.Line.TheVariants as line_of
 use Rattle.arc_check.specs.declared.words.Made.{Made}
-use Rattle.arc_check.specs.LogText.{Add, AddAll, Adds, Content, IsEventOf, IsLogText, IsMade, IsNext, at_shard, event_fields, histories_to, name_of, name_text, nothing, parties_of, spelling, with_line}
+use Rattle.arc_check.specs.LogText.{AddToLog, AddAllToLog, AddsToLog, LogContent, IsEventOf, IsLogText, IsMade, IsNext, at_shard, event_fields, histories_to, name_of, name_text, empty_log, log_parties_of, log_spelling, with_log_line}
 use Rattle.arc_check.specs.ReadBack.{AreAt, IsEventAt, IsReadBack, events_in, log_text}
 use Rattle.arc_check.proofs.CleanLemmas.{Clean, clean-decimal, clean-hex, free-joined, split-append, split-first, split-joined}
 use Rattle.arc_check.proofs.DraftLemmas.{at-more, at-same, close-more}
@@ -156,18 +156,18 @@ made_of shard index e = record { shard = shard; index = index; event = e }
 
 -- the line without its newline
 abbrev line_text : ℕ → ℕ → Event → List ℕ
-line_text shard index e = spaced (spelling (line_of.Made (made_of shard index e)))
+line_text shard index e = spaced (log_spelling (line_of.Made (made_of shard index e)))
 
-clean-line : (z : Config) → IsConfig z → (shard index : ℕ) (e : Event) → shard < 2 ^ 64 → index < 2 ^ 64 → IsEventOf (parties_of z) e
+clean-line : (z : Config) → IsConfig z → (shard index : ℕ) (e : Event) → shard < 2 ^ 64 → index < 2 ^ 64 → IsEventOf (log_parties_of z) e
     → AllByRecursion Clean (decimal shard ∷ decimal index ∷ name_text (name_of e) ∷ event_fields e)
 clean-line z is shard index e low small ranged =
-    (clean-decimal shard low, (clean-decimal index small, (clean-name (name_of e), clean-event (parties_of z) (parties-few z is) e ranged)))
+    (clean-decimal shard low, (clean-decimal index small, (clean-name (name_of e), clean-event (log_parties_of z) (parties-few z is) e ranged)))
 
 clean-e : Clean (codes "e")
 clean-e = (omega arith, tt)
 
 -- the lines of a text that begins with it
-line-first : (z : Config) → IsConfig z → (shard index : ℕ) (e : Event) (rest : List ℕ) → shard < 2 ^ 64 → index < 2 ^ 64 → IsEventOf (parties_of z) e
+line-first : (z : Config) → IsConfig z → (shard index : ℕ) (e : Event) (rest : List ℕ) → shard < 2 ^ 64 → index < 2 ^ 64 → IsEventOf (log_parties_of z) e
     → lines_of (event_line shard index e ++ rest) ≡ line_text shard index e ∷ lines_of rest
 line-first z is shard index e rest low small ranged =
     ap (λ (t : List ℕ). lines_of (t ++ rest)) (printed shard index e)
@@ -175,16 +175,16 @@ line-first z is shard index e rest low small ranged =
     ∙ split-first 10 (line_text shard index e) rest (free-joined (codes "e") (decimal shard ∷ decimal index ∷ name_text (name_of e) ∷ event_fields e) clean-e (clean-line z is shard index e low small ranged))
 
 -- what it adds
-pub line-adds : (z : Config) → IsConfig z → (shard : ℕ) (e : Event) (before : Content) → before.config ≡ Some z → length before.closed ≤ shard → shard < z.shards
+pub line-adds : (z : Config) → IsConfig z → (shard : ℕ) (e : Event) (before : LogContent) → before.config ≡ Some z → length before.closed ≤ shard → shard < z.shards
     → IsEventAt z shard e → before.count < 1000000 → length (at_shard shard before).events ≤ 1000000
-    → Adds before (line_text shard (length (at_shard shard before).events) e) (with_line before (line_of.Made (made_of shard (length (at_shard shard before).events) e)))
+    → AddsToLog before (line_text shard (length (at_shard shard before).events) e) (with_log_line before (line_of.Made (made_of shard (length (at_shard shard before).events) e)))
 line-adds z is shard e before known past low at room few =
     let index : ℕ = length (at_shard shard before).events in
     let made : Made = made_of shard index e in
-    let fields : fields_of (line_text shard index e) ≡ spelling (line_of.Made made) =
+    let fields : fields_of (line_text shard index e) ≡ log_spelling (line_of.Made made) =
     split-joined (codes "e") (decimal shard ∷ decimal index ∷ name_text (name_of e) ∷ event_fields e) clean-e (clean-line z is shard index e (omega (arith, low, is.counts.shards.1)) (omega (arith, few)) at.ranged) in
     let inside : IsMade z made = record { shard = low; index = omega (arith, few); event = at.ranged } in
-    let there : Rattle.arc_check.specs.LogText.IsInRange before.config (line_of.Made made) = subst (λ (o : Option Config). Rattle.arc_check.specs.LogText.IsInRange o (line_of.Made made)) (sym known) inside in
+    let there : Rattle.arc_check.specs.LogText.IsInLogRange before.config (line_of.Made made) = subst (λ (o : Option Config). Rattle.arc_check.specs.LogText.IsInLogRange o (line_of.Made made)) (sym known) inside in
     let key : IfSome (event_key e) (λ k. shard_of (shards_of before.config) k ≡ shard) =
     subst (λ (o : Option Config). IfSome (event_key e) (λ k. shard_of (shards_of o) k ≡ shard)) (sym known) at.key in
     record {
@@ -198,34 +198,34 @@ line-adds z is shard e before known past low at room few =
 -- ---- the events of a shard
 
 -- a content with these events behind the others
-abbrev with_events : List Event → Content → Content
+abbrev with_events : List Event → LogContent → LogContent
 with_events es said = record said { events = said.events ++ es; count = said.count + length es }
 
 -- the line of an event, and others
-event-lead : (z : Config) → IsConfig z → (shard : ℕ) (e : Event) (es : List Event) (said base : Content) (i : ℕ) (rest : List ℕ) (after : Content)
+event-lead : (z : Config) → IsConfig z → (shard : ℕ) (e : Event) (es : List Event) (said base : LogContent) (i : ℕ) (rest : List ℕ) (after : LogContent)
     → at_shard shard said ≡ base → said.config ≡ Some z → base.count ≡ said.count → length said.closed ≤ shard
     → length base.events ≡ i → i ≤ base.count → shard < z.shards → IsEventAt z shard e → base.count + 1 ≤ 1000000
-    → AddAll (with_events (e ∷ []) base) (lines_of (event_lines shard (i + 1) es ++ rest)) after → AddAll said (lines_of (event_lines shard i (e ∷ es) ++ rest)) after
+    → AddAllToLog (with_events (e ∷ []) base) (lines_of (event_lines shard (i + 1) es ++ rest)) after → AddAllToLog said (lines_of (event_lines shard i (e ∷ es) ++ rest)) after
 event-lead z is shard e es said base i rest after here known counted past index small low at few tail =
-    let size : length (at_shard shard said).events ≡ length base.events = ap (λ (c : Content). length c.events) here in
+    let size : length (at_shard shard said).events ≡ length base.events = ap (λ (c : LogContent). length c.events) here in
     let adds_here = line-adds z is shard e said known past low at (omega (arith, counted, few)) (omega (arith, size, index, small, few)) in
-    let adds_base : Adds said (line_text shard (length base.events) e) (with_events (e ∷ []) base) =
-    subst (λ (c : Content). Adds said (line_text shard (length c.events) e) (with_events (e ∷ []) c)) here adds_here in
-    let adds : Adds said (line_text shard i e) (with_events (e ∷ []) base) = subst (λ (n : ℕ). Adds said (line_text shard n e) (with_events (e ∷ []) base)) index adds_base in
+    let adds_base : AddsToLog said (line_text shard (length base.events) e) (with_events (e ∷ []) base) =
+    subst (λ (c : LogContent). AddsToLog said (line_text shard (length c.events) e) (with_events (e ∷ []) c)) here adds_here in
+    let adds : AddsToLog said (line_text shard i e) (with_events (e ∷ []) base) = subst (λ (n : ℕ). AddsToLog said (line_text shard n e) (with_events (e ∷ []) base)) index adds_base in
     let whole : lines_of (event_lines shard i (e ∷ es) ++ rest) ≡ line_text shard i e ∷ lines_of (event_lines shard (i + 1) es ++ rest) =
     ap lines_of (append_assoc (event_line shard i e) (event_lines shard (i + 1) es) rest)
     ∙ line-first z is shard i e (event_lines shard (i + 1) es ++ rest) (omega (arith, low, is.counts.shards.1)) (omega (arith, small, few)) at.ranged in
-    subst (λ (ls : List (List ℕ)). AddAll said ls after) (sym whole) (with_events (e ∷ []) base, adds, tail)
+    subst (λ (ls : List (List ℕ)). AddAllToLog said ls after) (sym whole) (with_events (e ∷ []) base, adds, tail)
 
 -- the lines of the events of a shard, and others
-events-lead : (z : Config) → IsConfig z → (shard : ℕ) (e : Event) (es : List Event) (said base : Content) (i : ℕ) (rest : List ℕ) (after : Content)
+events-lead : (z : Config) → IsConfig z → (shard : ℕ) (e : Event) (es : List Event) (said base : LogContent) (i : ℕ) (rest : List ℕ) (after : LogContent)
     → at_shard shard said ≡ base → said.config ≡ Some z → base.config ≡ Some z → base.count ≡ said.count → length said.closed ≤ shard → length base.closed ≡ shard
     → length base.events ≡ i → i ≤ base.count → shard < z.shards → IsEventAt z shard e → AllByRecursion (IsEventAt z shard) es → base.count + length (e ∷ es) ≤ 1000000
-    → AddAll (with_events (e ∷ es) base) (lines_of rest) after → AddAll said (lines_of (event_lines shard i (e ∷ es) ++ rest)) after
+    → AddAllToLog (with_events (e ∷ es) base) (lines_of rest) after → AddAllToLog said (lines_of (event_lines shard i (e ∷ es) ++ rest)) after
 events-lead z is shard e [] said base i rest after here known known_base counted past size index small low at all few leads =
     event-lead z is shard e [] said base i rest after here known counted past index small low at (omega (arith, few)) leads
 events-lead z is shard e (f ∷ fs) said base i rest after here known known_base counted past size index small low at all few leads =
-    let mid : Content = with_events (e ∷ []) base in
+    let mid : LogContent = with_events (e ∷ []) base in
     let longer : length mid.events ≡ i + 1 = omega (arith, length-append base.events (e ∷ []), index) in
     let joined : with_events (f ∷ fs) mid ≡ with_events (e ∷ f ∷ fs) base =
     let events = append_assoc base.events (e ∷ []) (f ∷ fs) in
@@ -233,12 +233,12 @@ events-lead z is shard e (f ∷ fs) said base i rest after here known known_base
     λ k. record base { events = events k; count = count k } in
     event-lead z is shard e (f ∷ fs) said base i rest after here known counted past index small low at (omega (arith, few))
     (events-lead z is shard f fs mid mid (i + 1) rest after (at-same shard mid (sym size)) known_base known_base refl (omega (arith, size)) size longer (omega (arith, small)) low all.0 all.1
-    (omega (arith, few)) (subst (λ (c : Content). AddAll c (lines_of rest) after) (sym joined) leads))
+    (omega (arith, few)) (subst (λ (c : LogContent). AddAllToLog c (lines_of rest) after) (sym joined) leads))
 
 -- ---- the shards
 
 -- these are the histories up to this shard, none of whose events is said yet
-record Reached (z : Config) (shard : ℕ) (front : List (List Event)) (said : Content) : Type 0 where
+record Reached (z : Config) (shard : ℕ) (front : List (List Event)) (said : LogContent) : Type 0 where
   known : said.config ≡ Some z
   at : at_shard shard said ≡ record said { closed = front; events = [] }
   past : length said.closed ≤ shard
@@ -246,7 +246,7 @@ record Reached (z : Config) (shard : ℕ) (front : List (List Event)) (said : Co
   next : histories_to (shard + 1) said ≡ front ++ [] ∷ []
   here : 0 < shard → histories_to shard said ≡ front
 
-reached-next : (z : Config) (shard : ℕ) (front : List (List Event)) (said : Content) → said.config ≡ Some z → length said.closed ≤ shard → length front ≡ shard + 1
+reached-next : (z : Config) (shard : ℕ) (front : List (List Event)) (said : LogContent) → said.config ≡ Some z → length said.closed ≤ shard → length front ≡ shard + 1
     → histories_to (shard + 1) said ≡ front → Reached z (shard + 1) front said
 reached-next z shard front said known past size is =
     let last : front ++ [] ∷ [] ≡ histories_to (shard + 1 + 1) said =
@@ -260,13 +260,13 @@ reached-next z shard front said known past size is =
       here = λ some. is;
     }
 
-record Led (z : Config) (shards : ℕ) (all : List (List Event)) (said : Content) (lines : List (List ℕ)) : Type 0 where
-  after : Content
-  leads : AddAll said lines after
+record Led (z : Config) (shards : ℕ) (all : List (List Event)) (said : LogContent) (lines : List (List ℕ)) : Type 0 where
+  after : LogContent
+  leads : AddAllToLog said lines after
   known : after.config ≡ Some z
   histories : 0 < shards → histories_to shards after ≡ all
 
-histories-lead : (z : Config) → IsConfig z → (hs front : List (List Event)) (shard : ℕ) (said : Content) → Reached z shard front said → shard + length hs ≤ z.shards
+histories-lead : (z : Config) → IsConfig z → (hs front : List (List Event)) (shard : ℕ) (said : LogContent) → Reached z shard front said → shard + length hs ≤ z.shards
     → AreAt z shard hs → said.count + events_in hs ≤ 1000000 → Led z (shard + length hs) (front ++ hs) said (lines_of (history_lines shard hs))
 histories-lead z is [] front shard said reached low at few = record {
   after = said;
@@ -285,8 +285,8 @@ histories-lead z is ([] ∷ hs) front shard said reached low at few =
       histories = λ some. ap (λ n. histories_to n rest.after) (sym count) ∙ rest.histories (omega (arith, some, count)) ∙ append_assoc front ([] ∷ []) hs;
     }
 histories-lead z is ((e ∷ es) ∷ hs) front shard said reached low at few =
-    let base : Content = record said { closed = front; events = [] } in
-    let now : Content = with_events (e ∷ es) base in
+    let base : LogContent = record said { closed = front; events = [] } in
+    let now : LogContent = with_events (e ∷ es) base in
     let longer : length (front ++ (e ∷ es) ∷ []) ≡ shard + 1 = omega (arith, length-append front ((e ∷ es) ∷ []), reached.size) in
     let none : shard + 1 - (length front + 1) ≡ 0 = omega (arith, reached.size) in
     let closed : histories_to (shard + 1) now ≡ front ++ (e ∷ es) ∷ [] = ap (λ n. front ++ (e ∷ es) ∷ replicate n []) none in
@@ -303,11 +303,11 @@ histories-lead z is ((e ∷ es) ∷ hs) front shard said reached low at few =
 
 -- ---- the whole text
 
-AddAll-join : (front back : List (List ℕ)) (before mid after : Content) → AddAll before front mid → AddAll mid back after → AddAll before (front ++ back) after
-AddAll-join [] back before mid after a b = subst (λ (c : Content). AddAll c back after) a b
+AddAll-join : (front back : List (List ℕ)) (before mid after : LogContent) → AddAllToLog before front mid → AddAllToLog mid back after → AddAllToLog before (front ++ back) after
+AddAll-join [] back before mid after a b = subst (λ (c : LogContent). AddAllToLog c back after) a b
 AddAll-join (line ∷ front) back before mid after a b = (a.0, a.1, AddAll-join front back a.0 mid after a.2 b)
 
-reached-first : (z : Config) (said : Content) → said.config ≡ Some z → said.closed ≡ [] → said.events ≡ [] → Reached z 0 [] said
+reached-first : (z : Config) (said : LogContent) → said.config ≡ Some z → said.closed ≡ [] → said.events ≡ [] → Reached z 0 [] said
 reached-first z said known closed events =
     let size : length said.closed ≡ 0 = ap (λ (hs : List (List Event)). length hs) closed in
     let pair : (List (List Event) × List Event) → List (List Event) = λ p. p.0 ++ p.1 ∷ replicate (1 - (length p.0 + 1)) [] in
@@ -324,7 +324,7 @@ pub read-back : IsReadBack
 read-back head z histories start is shards at few short =
     let led = histories-lead z is histories [] 0 start.content (reached-first z start.content start.sized start.closed start.events) (omega (arith, shards)) at (omega (arith, few, start.count)) in
     let split = split-append 10 head (history_lines 0 histories) in
-    let all : AddAll nothing (lines_of (log_text head histories)) led.after =
-    subst (λ (ls : List (List ℕ)). AddAll nothing ls led.after) (sym split) (AddAll-join (lines_of head) (lines_of (history_lines 0 histories)) nothing start.content led.after start.lines led.leads) in
+    let all : AddAllToLog empty_log (lines_of (log_text head histories)) led.after =
+    subst (λ (ls : List (List ℕ)). AddAllToLog empty_log ls led.after) (sym split) (AddAll-join (lines_of head) (lines_of (history_lines 0 histories)) empty_log start.content led.after start.lines led.leads) in
     let said : histories_to z.shards led.after ≡ histories = (let count : z.shards ≡ 0 + length histories = omega (arith, shards) in ap (λ n. histories_to n led.after) count) ∙ led.histories (omega (arith, shards, is.counts.shards.0)) in
     record { short = short; content = led.after; lines = all; said = record { config = led.known; histories = sym said } }

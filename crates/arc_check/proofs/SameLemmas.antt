@@ -26,7 +26,7 @@ use Rattle.arc_check.specs.declared.words.Name.TheVariants as names
 use Rattle.arc_check.specs.declared.words.Line.{Line}
 use Rattle.arc_check.specs.declared.words.Line.TheVariants as line_of
 use Rattle.arc_check.specs.declared.words.Made.{Made}
-use Rattle.arc_check.specs.LogText.{HasShape, HasWords, IsEventOf, IsInRange, IsLogKey, IsMade, Say, event_fields, name_of, name_text, parties_of, spelling}
+use Rattle.arc_check.specs.LogText.{HasLogShape, HasWords, IsEventOf, IsInLogRange, IsLogKey, IsMade, LogSays, event_fields, name_of, name_text, log_parties_of, log_spelling}
 use Rattle.arc_check.proofs.EventLemmas.{fields-counted, name_text-injective}
 use Rattle.arc_check.proofs.FieldLemmas.{next-fields}
 
@@ -443,7 +443,7 @@ config-same : (a b : Config) → a.callers ≡ b.callers → a.shards ≡ b.shar
 config-same a b e1 e2 e3 e4 e5 e6 e7 e8 e9 =
     λ i. record { callers = e1 i; shards = e2 i; buckets = e3 i; cells = e4 i; c = e5 i; mintime = e6 i; dbuf_bytes = e7 i; bounds = record { write_max = e8 i; headroom = e9 i } }
 
-same-sizes : (a b : Config) → AreSizes a → AreSizes b → spelling (line_of.Sizes a) ≡ spelling (line_of.Sizes b) → line_of.Sizes a ≡ line_of.Sizes b
+same-sizes : (a b : Config) → AreSizes a → AreSizes b → log_spelling (line_of.Sizes a) ≡ log_spelling (line_of.Sizes b) → line_of.Sizes a ≡ line_of.Sizes b
 same-sizes a b p q e = ap line_of.Sizes (config-same a b
     (decimal_injective a.callers b.callers (omega (arith, p.ranged.counts.callers.1)) (omega (arith, q.ranged.counts.callers.1)) (ap (λ f. get_or f 1 []) e))
     (decimal_injective a.shards b.shards (omega (arith, p.ranged.counts.shards.1)) (omega (arith, q.ranged.counts.shards.1)) (ap (λ f. get_or f 2 []) e))
@@ -455,10 +455,10 @@ same-sizes a b p q e = ap line_of.Sizes (config-same a b
     (p.write_max ∙ sym q.write_max) (p.headroom ∙ sym q.headroom))
 
 -- there are few parties
-pub parties-few : (z : Config) → IsConfig z → parties_of z < 2 ^ 64
+pub parties-few : (z : Config) → IsConfig z → log_parties_of z < 2 ^ 64
 parties-few z is = omega (arith, is.counts.callers.1, is.counts.cells.1)
 
-same-made : (z : Config) → IsConfig z → (a b : Made) → IsMade z a → IsMade z b → spelling (line_of.Made a) ≡ spelling (line_of.Made b) → line_of.Made a ≡ line_of.Made b
+same-made : (z : Config) → IsConfig z → (a b : Made) → IsMade z a → IsMade z b → log_spelling (line_of.Made a) ≡ log_spelling (line_of.Made b) → line_of.Made a ≡ line_of.Made b
 same-made z is a b p q e =
     let shard = decimal_injective a.shard b.shard (omega (arith, p.shard, is.counts.shards.1)) (omega (arith, q.shard, is.counts.shards.1)) (ap (λ f. get_or f 1 []) e) in
     let low : a.index ≤ 2 ^ 62 = p.index in
@@ -466,21 +466,21 @@ same-made z is a b p q e =
     let index = decimal_injective a.index b.index (omega (arith, low)) (omega (arith, high)) (ap (λ f. get_or f 2 []) e) in
     let name : name_of a.event ≡ name_of b.event = name_text-injective (name_of a.event) (name_of b.event) (ap (λ f. get_or f 3 []) e) in
     let fields : event_fields a.event ≡ event_fields b.event = next-fields refl (next-fields refl (next-fields refl (next-fields refl e))) in
-    let event = same-event (parties_of z) (parties-few z is) a.event b.event p.event q.event (form-as (name_of a.event) b.event (sym name)) fields in
+    let event = same-event (log_parties_of z) (parties-few z is) a.event b.event p.event q.event (form-as (name_of a.event) b.event (sym name)) fields in
     λ i. line_of.Made (record { shard = shard i; index = index i; event = event i })
 
 same-feed : (a b : Bounds) → a.write_max ≤ 2 ^ 32 → b.write_max ≤ 2 ^ 32 → a.headroom ≤ 64 → b.headroom ≤ 64
-    → spelling (line_of.Feed a) ≡ spelling (line_of.Feed b) → line_of.Feed a ≡ line_of.Feed b
+    → log_spelling (line_of.Feed a) ≡ log_spelling (line_of.Feed b) → line_of.Feed a ≡ line_of.Feed b
 same-feed a b p q r t e =
     let most = decimal_injective a.write_max b.write_max (omega arith) (omega arith) (ap (λ f. get_or f 1 []) e) in
     let headroom = decimal_injective a.headroom b.headroom (omega arith) (omega arith) (ap (λ f. get_or f 2 []) e) in
     λ i. line_of.Feed (record { write_max = most i; headroom = headroom i })
 
-feed-made : (a : Bounds) (b : Made) → spelling (line_of.Feed a) ≡ spelling (line_of.Made b) → ⊥
+feed-made : (a : Bounds) (b : Made) → log_spelling (line_of.Feed a) ≡ log_spelling (line_of.Made b) → ⊥
 feed-made a b e = let at = ap (λ (f : List (List ℕ)). get_or (get_or f 0 []) 0 0) e in omega (arith, at)
 
 -- two lines in range with one spelling are one line
-pub spelling-injective : (config : Option Config) → IfSome config IsConfig → (l m : Line) → IsInRange config l → IsInRange config m → spelling l ≡ spelling m → l ≡ m
+pub spelling-injective : (config : Option Config) → IfSome config IsConfig → (l m : Line) → IsInLogRange config l → IsInLogRange config m → log_spelling l ≡ log_spelling m → l ≡ m
 spelling-injective None few (line_of.Sizes a) (line_of.Sizes b) p q e = same-sizes a b p q e
 spelling-injective None few (line_of.Sizes a) (line_of.Feed b) p q e = absurd q
 spelling-injective None few (line_of.Sizes a) (line_of.Made b) p q e = absurd q
@@ -496,7 +496,7 @@ spelling-injective (Some z) few (line_of.Made a) (line_of.Made b) p q e = same-m
 
 -- ---- a line has its words and their shape
 
-spelled-shape : (config : Option Config) → IfSome config IsConfig → (l : Line) → IsInRange config l → HasShape config (spelling l)
+spelled-shape : (config : Option Config) → IfSome config IsConfig → (l : Line) → IsInLogRange config l → HasLogShape config (log_spelling l)
 spelled-shape None few (line_of.Sizes z) r = (refl, (refl, (omega arith, (decimal_nonempty z.callers (omega (arith, r.ranged.counts.callers.1)), (decimal_nonempty z.shards (omega (arith, r.ranged.counts.shards.1)), (decimal_nonempty z.buckets (omega (arith, r.ranged.counts.buckets.1)), (decimal_nonempty z.cells (omega (arith, r.ranged.counts.cells.1)), (decimal_nonempty z.c (omega (arith, r.ranged.amounts.c.most)), (decimal_nonempty z.mintime (omega (arith, r.ranged.amounts.mintime)), (decimal_nonempty z.dbuf_bytes (omega (arith, r.ranged.amounts.dbuf_bytes)), tt))))))))))
 spelled-shape None few (line_of.Feed b) r = absurd r
 spelled-shape None few (line_of.Made a) r = absurd r
@@ -505,12 +505,12 @@ spelled-shape (Some z) few (line_of.Feed b) r = inl (refl, (refl, (omega arith, 
 spelled-shape (Some z) few (line_of.Made a) r =
     let low : a.index ≤ 2 ^ 62 = r.index in
     let counted = fields-counted a.event in
-    inr (name_of a.event, (refl, refl), (omega (arith, counted), (omega arith, (decimal_nonempty a.shard (omega (arith, r.shard, few.counts.shards.1)), (decimal_nonempty a.index (omega (arith, low)), (name-some (name_of a.event), event-some (parties_of z) (parties-few z few) a.event r.event))))))
+    inr (name_of a.event, (refl, refl), (omega (arith, counted), (omega arith, (decimal_nonempty a.shard (omega (arith, r.shard, few.counts.shards.1)), (decimal_nonempty a.index (omega (arith, low)), (name-some (name_of a.event), event-some (log_parties_of z) (parties-few z few) a.event r.event))))))
 
-pub shape-words : (config : Option Config) (fields : List (List ℕ)) → HasShape config fields → HasWords config fields
+pub shape-words : (config : Option Config) (fields : List (List ℕ)) → HasLogShape config fields → HasWords config fields
 shape-words None fields s = s.0
 shape-words (Some z) fields (inl s) = inl s.0
 shape-words (Some z) fields (inr s) = inr (inr (s.0, s.1))
 
-pub say-shape : (config : Option Config) → IfSome config IsConfig → (fields : List (List ℕ)) (l : Line) → Say config fields l → HasShape config fields
-say-shape config few fields l said = subst (HasShape config) (sym said.spelled) (spelled-shape config few l said.ranged)
+pub say-shape : (config : Option Config) → IfSome config IsConfig → (fields : List (List ℕ)) (l : Line) → LogSays config fields l → HasLogShape config fields
+say-shape config few fields l said = subst (HasLogShape config) (sym said.spelled) (spelled-shape config few l said.ranged)

@@ -2,9 +2,9 @@
 use Rattle.std.specs.Prelude.{◌≡◌, ◌≤◌, ◌<◌, MatchOption, vec_len}
 use Rattle.arc_core.specs.Config.{IsConfig}
 use Rattle.arc_check.specs.declared.draft.Draft.TheInside.{Inside}
-use Rattle.arc_check.specs.LogText.{Content}
+use Rattle.arc_check.specs.LogText.{LogContent}
 
-abbrev pub content_in : Inside → Content
+abbrev pub content_in : Inside → LogContent
 content_in s = record { config = s.config; bounded = s.bounded; closed = s.closed.items; events = s.events.items; count = s.count }
 
 pub record DraftKeeps (s : Inside) : Type 0 where

@@ -16,8 +16,8 @@ use Rattle.arc_check.specs.declared.verdict.Verdict.{Verdict}
 use Rattle.arc_check.specs.declared.verdict.Verdict.TheVariants.{Legal, Illegal}
 
 -- a shard of this cache before all events
-abbrev pub opening_of : Config → PlainShard
-opening_of config = opening_shard config.c config.mintime config.bounds
+abbrev pub log_opening : Config → PlainShard
+log_opening config = opening_shard config.c config.mintime config.bounds
 
 -- what a shard ends with: its capacity, its target, and the bytes of each state
 abbrev pub end_of : PlainShard → ShardEnd
@@ -28,35 +28,35 @@ end_of s = record {
 }
 
 -- the history is legal from this opening on
-abbrev pub IsLegal : PlainShard → List Event → Type 0
-IsLegal opening history = IsTrue (is_legal_history opening history)
+abbrev pub IsLegalFrom : PlainShard → List Event → Type 0
+IsLegalFrom opening history = IsTrue (is_legal_history opening history)
 
 -- the event of this number is the first that may not come: those before it are a legal history, and after them it is not legal
 pub record IsStuckAt (opening : PlainShard) (history : List Event) (index : ℕ) : Type 0 where
   pub event : Event
   pub there : slice_get history index ≡ Some event
-  pub before : IsLegal opening (take index history)
+  pub before : IsLegalFrom opening (take index history)
   pub stuck : legal (replay opening (take index history)) event ≡ false
 
 -- the history of this shard is the first that isn't legal, and the event of this number the first of it that may not come
 pub record IsFirstStuck (opening : PlainShard) (histories : List (List Event)) (shard index : ℕ) : Type 0 where
   pub history : List Event
   pub there : slice_get histories shard ≡ Some history
-  pub before : AllByRecursion (IsLegal opening) (take shard histories)
+  pub before : AllByRecursion (IsLegalFrom opening) (take shard histories)
   pub stuck : IsStuckAt opening history index
 
 -- what these histories end with
-abbrev pub ends_of : PlainShard → List (List Event) → List ShardEnd
-ends_of opening histories = map (λ history. end_of (replay opening history)) histories
+abbrev pub ends_from : PlainShard → List (List Event) → List ShardEnd
+ends_from opening histories = map (λ history. end_of (replay opening history)) histories
 
 -- each history is legal, and the ends are those of their replays; or the first event that may not come
 abbrev pub IsVerdict : Log → Verdict → Type 0
-IsVerdict log (Legal ends) = AllByRecursion (IsLegal (opening_of log.config)) log.histories × (ends ≡ ends_of (opening_of log.config) log.histories)
-IsVerdict log (Illegal shard index) = IsFirstStuck (opening_of log.config) log.histories shard index
+IsVerdict log (Legal ends) = AllByRecursion (IsLegalFrom (log_opening log.config)) log.histories × (ends ≡ ends_from (log_opening log.config) log.histories)
+IsVerdict log (Illegal shard index) = IsFirstStuck (log_opening log.config) log.histories shard index
 
 -- what becomes of one history
 abbrev pub IsPlayed : PlainShard → List Event → Played → Type 0
-IsPlayed opening history (Ended end) = IsLegal opening history × (end ≡ end_of (replay opening history))
+IsPlayed opening history (Ended end) = IsLegalFrom opening history × (end ≡ end_of (replay opening history))
 IsPlayed opening history (Stuck index) = IsStuckAt opening history index
 
 -- an event is made where it may come, and nothing else where it may not

@@ -8,12 +8,12 @@ use Rattle.arc_core.specs.declared.event.Event.{Event}
 use Rattle.arc_core.specs.Operations.{event_key}
 use Rattle.trace_text.specs.EventText.{history_lines}
 use Rattle.trace_text.specs.Grammar.{lines_of, longest_text}
-use Rattle.arc_check.specs.LogText.{AddAll, Content, IsEventOf, IsLogText, nothing, parties_of}
+use Rattle.arc_check.specs.LogText.{AddAllToLog, LogContent, IsEventOf, IsLogText, empty_log, log_parties_of}
 
 -- the lines of a head say this configuration, and no event
 pub record IsHead (head : List ℕ) (config : Config) : Type 0 where
-  pub content : Content
-  pub lines : AddAll nothing (lines_of head) content
+  pub content : LogContent
+  pub lines : AddAllToLog empty_log (lines_of head) content
   pub sized : content.config ≡ Some config
   pub closed : content.closed ≡ []
   pub events : content.events ≡ []
@@ -21,7 +21,7 @@ pub record IsHead (head : List ℕ) (config : Config) : Type 0 where
 
 -- an event whose numbers are in range and whose key is of this shard
 pub record IsEventAt (config : Config) (shard : ℕ) (e : Event) : Type 0 where
-  pub ranged : IsEventOf (parties_of config) e
+  pub ranged : IsEventOf (log_parties_of config) e
   pub key : IfSome (event_key e) (λ key. shard_of config.shards key ≡ shard)
 
 -- the same of each event of these histories, the first of which is that of this shard

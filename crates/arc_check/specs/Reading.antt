@@ -10,7 +10,7 @@ use Rattle.arc_core.specs.declared.event.FailedAt.{FailedAt}
 use Rattle.arc_core.specs.declared.event.Origin.{Origin}
 use Rattle.arc_core.specs.declared.event.Why.{Why}
 use Rattle.arc_core.specs.Config.{AreBounds}
-use Rattle.arc_core.specs.Operations.{event_key}
+use Rattle.arc_core.specs.Operations.{event_key, number_of}
 use Rattle.trace_text.specs.declared.fault.Kind.{Kind}
 use Rattle.trace_text.specs.declared.fault.Kind.TheVariants as kinds
 use Rattle.trace_text.specs.EventText.{failed_word, origin_word, sole_word, told_words, why_word}
@@ -25,7 +25,7 @@ use Rattle.arc_check.specs.declared.words.Line.TheVariants as line_of
 use Rattle.arc_check.specs.declared.words.LineFault.{LineFault}
 use Rattle.arc_check.specs.declared.words.LineFault.TheVariants.{NoMemory, Wrong}
 use Rattle.arc_check.specs.declared.words.Made.{Made}
-use Rattle.arc_check.specs.LogText.{Content, HasFault, HasRoom, IsEventOf, IsFaulty, IsInOrder, IsLogKey, IsMade, IsMisplaced, IsMisspelled, IsTold, Say, event_fields, maker_of, name_of, name_text, spelling, told_fields, with_line}
+use Rattle.arc_check.specs.LogText.{LogContent, LogHasFault, LogHasRoom, IsEventOf, IsFaultyInLog, IsInLogOrder, IsLogKey, IsMade, IsMisplacedInLog, IsMisspelledInLog, IsTold, LogSays, event_fields, name_of, name_text, log_spelling, told_fields, with_log_line}
 
 -- ---- fields
 
@@ -94,7 +94,7 @@ TailOf parties names.Resize fields rest = (c : ℕ) × IsPlain c × (fields ≡ 
 -- the fields after a key are those of an event of this name, maker and key, and the others are left; or they are of no such event
 abbrev pub IsTailRead : (parties : ℕ) → Name → (n : ℕ) → Key → List (List ℕ) → List (List ℕ) → Option Event → Type 0
 IsTailRead parties name n key old new (Some e) =
-    (name_of e ≡ name) × (maker_of e ≡ n) × (event_key e ≡ Some key) × IsTold parties e × (old ≡ told_fields e ++ new)
+    (name_of e ≡ name) × (number_of e ≡ n) × (event_key e ≡ Some key) × IsTold parties e × (old ≡ told_fields e ++ new)
 IsTailRead parties name n key old new None = (rest : List (List ℕ)) → TailOf parties name old rest → ⊥
 
 -- the fields after a name are those of an event of this name and the others are left, or they are of no such event
@@ -118,33 +118,33 @@ IsNameRead fields (Err kinds.Length) = ⊥
 
 -- the fields after the first are those of an `arc` line, or they are not
 abbrev pub IsSizesRead : List (List ℕ) → Option Config → Type 0
-IsSizesRead fields (Some z) = (codes "arc" ∷ fields ≡ spelling (line_of.Sizes z)) × AreSizes z
-IsSizesRead fields None = (z : Config) → AreSizes z → codes "arc" ∷ fields ≡ spelling (line_of.Sizes z) → ⊥
+IsSizesRead fields (Some z) = (codes "arc" ∷ fields ≡ log_spelling (line_of.Sizes z)) × AreSizes z
+IsSizesRead fields None = (z : Config) → AreSizes z → codes "arc" ∷ fields ≡ log_spelling (line_of.Sizes z) → ⊥
 
 -- the fields after the first are those of an `l2` line, or they are not
 abbrev pub IsBoundsRead : List (List ℕ) → Option Bounds → Type 0
-IsBoundsRead fields (Some b) = (codes "l2" ∷ fields ≡ spelling (line_of.Feed b)) × AreBounds b
-IsBoundsRead fields None = (b : Bounds) → AreBounds b → codes "l2" ∷ fields ≡ spelling (line_of.Feed b) → ⊥
+IsBoundsRead fields (Some b) = (codes "l2" ∷ fields ≡ log_spelling (line_of.Feed b)) × AreBounds b
+IsBoundsRead fields None = (b : Bounds) → AreBounds b → codes "l2" ∷ fields ≡ log_spelling (line_of.Feed b) → ⊥
 
 -- the fields after the first are those of an event's line with this name, or they are not
 abbrev pub IsMadeRead : Config → Name → List (List ℕ) → Option Made → Type 0
-IsMadeRead z name fields (Some made) = (codes "e" ∷ fields ≡ spelling (line_of.Made made)) × IsMade z made
-IsMadeRead z name fields None = (made : Made) → name_of made.event ≡ name → IsMade z made → codes "e" ∷ fields ≡ spelling (line_of.Made made) → ⊥
+IsMadeRead z name fields (Some made) = (codes "e" ∷ fields ≡ log_spelling (line_of.Made made)) × IsMade z made
+IsMadeRead z name fields None = (made : Made) → name_of made.event ≡ name → IsMade z made → codes "e" ∷ fields ≡ log_spelling (line_of.Made made) → ⊥
 
 -- the fields are a line, or why they are none
 abbrev pub IsLineRead : Option Config → List (List ℕ) → Result Line Kind → Type 0
-IsLineRead config fields (Ok line) = Say config fields line
-IsLineRead config fields (Err kind) = IsMisspelled config fields kind
+IsLineRead config fields (Ok line) = LogSays config fields line
+IsLineRead config fields (Err kind) = IsMisspelledInLog config fields kind
 
 -- the line is added, or it may not stand here, there is no room for it or no memory
-abbrev pub IsPlaced : Content → Line → Content → Result (Unit {0}) LineFault → Type 0
-IsPlaced before line after (Ok done) = IsInOrder before line × HasRoom before line × (after ≡ with_line before line)
-IsPlaced before line after (Err (Wrong kind)) = IsMisplaced before line kind
+abbrev pub IsPlaced : LogContent → Line → LogContent → Result (Unit {0}) LineFault → Type 0
+IsPlaced before line after (Ok done) = IsInLogOrder before line × LogHasRoom before line × (after ≡ with_log_line before line)
+IsPlaced before line after (Err (Wrong kind)) = IsMisplacedInLog before line kind
 IsPlaced before line after (Err NoMemory) = Unit {0}
 
 -- why a line that counts is not added
-abbrev pub IsLineCause : Content → List ℕ → LineFault → Type 0
-IsLineCause before line (Wrong kind) = (is_passed_over line ≡ false) × HasFault before (fields_of line) kind
+abbrev pub IsLineCause : LogContent → List ℕ → LineFault → Type 0
+IsLineCause before line (Wrong kind) = (is_passed_over line ≡ false) × LogHasFault before (fields_of line) kind
 IsLineCause before line NoMemory = Unit {0}
 
 -- the same fault, with the number of its line
@@ -154,5 +154,5 @@ IsFaultAt number NoMemory fault = fault ≡ faults.NoMemory
 
 -- why lines are not read
 abbrev pub IsLinesCause : List (List ℕ) → LogTextFault → Type 0
-IsLinesCause lines (Bad number kind) = IsFaulty lines number kind
+IsLinesCause lines (Bad number kind) = IsFaultyInLog lines number kind
 IsLinesCause lines faults.NoMemory = Unit {0}

@@ -4,7 +4,7 @@ ghost use Rattle.arc_core.specs.Operations.{event_key};
 ghost use Rattle.blk_ptr.specs.Hash.{shard_of};
 ghost use Rattle.arc_check.specs.DraftKeeps.{DraftKeeps, content_in};
 ghost use Rattle.trace_text.specs.Grammar.{fields_of, shards_of};
-ghost use Rattle.arc_check.specs.LogText.{Adds, Content, IsInRange, IsLog, IsLogSaid, IsNext, at_shard, nothing};
+ghost use Rattle.arc_check.specs.LogText.{AddsToLog, LogContent, IsInLogRange, IsLog, IsLogSaid, IsNext, at_shard, empty_log};
 ghost use Rattle.arc_check.specs.Reading.{IsLineCause, IsLineRead, IsPlaced};
 ghost use Rattle.arc_check.specs.declared.words.Line.TheVariants as line_of;
 
@@ -36,7 +36,7 @@ pub(crate) struct Draft {
 }
 
 impl Model for Draft {
-    ghost Value = { Content };
+    ghost Value = { LogContent };
 
     ghost view = { content_in };
 
@@ -46,7 +46,7 @@ impl Model for Draft {
 impl Draft {
     /// What no line says.
     pub(crate) fn new(alloc: Global) -> Draft
-        ensures { result ≡ nothing }
+        ensures { result ≡ empty_log }
     {
         Draft {
             config: None,
@@ -57,9 +57,9 @@ impl Draft {
         }
     }
 
-    /// Adds what the line says. Of an `Err` no line follows.
+    /// AddsToLog what the line says. Of an `Err` no line follows.
     pub(crate) fn add(&mut self, line: &[u8]) -> Result<(), LineFault>
-        ensures added { OnOk result (Adds self.old line.now self.new) }
+        ensures added { OnOk result (AddsToLog self.old line.now self.new) }
         ensures fault { IfErr result (IsLineCause self.old line.now) }
     {
         if line.is_empty() || line[0] == b'#' {
@@ -79,9 +79,9 @@ impl Draft {
         }
     }
 
-    /// Adds a line that is in its ranges, where it may stand here and there is room.
+    /// AddsToLog a line that is in its ranges, where it may stand here and there is room.
     fn place(&mut self, said: Line) -> Result<(), LineFault>
-        requires { IsInRange self.old.config said }
+        requires { IsInLogRange self.old.config said }
         ensures { IsPlaced self.old said self.new result }
     {
         match said {
@@ -96,7 +96,7 @@ impl Draft {
 
     /// Takes the bounds of a feed in, once and before all events.
     fn set_bounds(&mut self, bounds: Bounds) -> Result<(), LineFault>
-        requires { IsInRange self.old.config (line_of.Feed bounds) }
+        requires { IsInLogRange self.old.config (line_of.Feed bounds) }
         ensures { IsPlaced self.old (line_of.Feed bounds) self.new result }
     {
         if self.bounded || self.count != 0 {
@@ -107,9 +107,9 @@ impl Draft {
         Ok(())
     }
 
-    /// Adds an event to its shard's history, where it is the next one there.
+    /// AddsToLog an event to its shard's history, where it is the next one there.
     fn push(&mut self, made: Made) -> Result<(), LineFault>
-        requires { IsInRange self.old.config (line_of.Made made) }
+        requires { IsInLogRange self.old.config (line_of.Made made) }
         ensures { IsPlaced self.old (line_of.Made made) self.new result }
     {
         if !self.is_next(&made) {
@@ -126,7 +126,7 @@ impl Draft {
 
     /// Whether an event is the next of the shard in hand or the first of a greater one, and its key is of its shard.
     fn is_next(&self, made: &Made) -> bool
-        requires { IsInRange self.now.config (line_of.Made made.now) }
+        requires { IsInLogRange self.now.config (line_of.Made made.now) }
         ensures { IsTrue result ↔ IsNext self.now made.now }
     {
         let shard = made.shard as usize;
@@ -140,7 +140,7 @@ impl Draft {
 
     /// Whether the key of an event is of its shard.
     fn is_of_shard(&self, made: &Made) -> bool
-        requires { IsInRange self.now.config (line_of.Made made.now) }
+        requires { IsInLogRange self.now.config (line_of.Made made.now) }
         ensures { IsTrue result ↔ IfSome (event_key made.now.event) (λ key. shard_of (shards_of self.now.config) key ≡ made.now.shard) }
     {
         let Some(config) = self.config else {
@@ -186,7 +186,7 @@ impl Draft {
     }
 }
 
-/// Adds a history, and empty ones behind it up to so many.
+/// AddsToLog a history, and empty ones behind it up to so many.
 fn close_to(closed: &mut Vec<History>, events: Vec<Event>, shards: usize) -> Result<(), NoMemory>
     requires { length closed.old.items < shards }
     ensures closed { OnOk result (closed.new.items ≡ closed.old.items ++ events.items ∷ replicate (shards - (length closed.old.items + 1)) []) }

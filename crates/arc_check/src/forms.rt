@@ -4,7 +4,7 @@ ghost use Rattle.std.specs.Prelude.{◌≡◌, ◌↔◌, ◌∷◌, IsTrue, Mat
 ghost use Rattle.arc_core.specs.declared.config.Config.{Config};
 ghost use Rattle.trace_text.specs.Grammar.{fields_of};
 ghost use Rattle.arc_core.specs.Config.{IsConfig};
-ghost use Rattle.arc_check.specs.LogText.{HasFields, field_count, name_text};
+ghost use Rattle.arc_check.specs.LogText.{HasFields, log_field_count, name_text};
 ghost use Rattle.arc_check.specs.Reading.{IsBoundsRead, IsLineRead, IsMadeRead, IsNameRead, IsSizesRead};
 
 use crate::events::event_after;
@@ -24,7 +24,7 @@ const DEFAULT_BOUNDS: Bounds = Bounds {
 
 /// How many fields come after an event's name.
 fn fields_after(name: Name) -> usize
-    ensures { result ≡ field_count name }
+    ensures { result ≡ log_field_count name }
 {
     match name {
         Name::Pass | Name::Hit | Name::Miss => 5,

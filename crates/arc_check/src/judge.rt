@@ -1,7 +1,7 @@
 //! Judges a log: each history is played again on a shard that has just been opened, event by event.
 ghost use Rattle.std.specs.Prelude.{◌≡◌, IfOk, length};
 ghost use Rattle.arc_core.specs.Config.{IsConfig};
-ghost use Rattle.arc_check.specs.Judging.{IsPlayed, IsTried, IsVerdict, end_of, opening_of};
+ghost use Rattle.arc_check.specs.Judging.{IsPlayed, IsTried, IsVerdict, end_of, log_opening};
 
 use crate::log::Log;
 use crate::verdict::Verdict;
@@ -51,7 +51,7 @@ pub fn check(alloc: Global, log: &Log) -> Result<Verdict, NoMemory>
 /// Plays a history again, from a shard of this cache before all events.
 fn play(alloc: Global, config: Config, history: &[Event]) -> Result<Played, NoMemory>
     requires { IsConfig config }
-    ensures { IfOk result (IsPlayed (opening_of config) history.now) }
+    ensures { IfOk result (IsPlayed (log_opening config) history.now) }
 {
     let mut shard = Shard::new(alloc, config.c, config.mintime, config.bounds);
     for index in 0..history.len() {

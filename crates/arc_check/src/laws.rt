@@ -1,6 +1,6 @@
 //! Laws of the grammar of logs, over its definitions alone: each is the contract of a function with nothing to do.
 ghost use Rattle.std.specs.Prelude.{◌≡◌, ℕ, List};
-ghost use Rattle.arc_check.specs.LogText.{IsFirstFault, IsLogText};
+ghost use Rattle.arc_check.specs.LogText.{IsFirstLogFault, IsLogText};
 ghost use Rattle.arc_check.specs.Printed.{IsPrintedAsSpelled};
 ghost use Rattle.arc_check.specs.ReadBack.{IsReadBack};
 ghost use Rattle.arc_check.specs.declared.log.Log.{Log};
@@ -19,9 +19,9 @@ pub fn one_log()
 /// A text with a first fault is no log, and has no other first fault. So a reader names a fault only outside the grammar, and there is one
 /// that it may name.
 pub fn one_log_fault()
-    ensures no_log { (text : List ℕ) (log : Log) (line : ℕ) (kind : Kind) → IsLogText text log → IsFirstFault text line kind → ⊥ }
+    ensures no_log { (text : List ℕ) (log : Log) (line : ℕ) (kind : Kind) → IsLogText text log → IsFirstLogFault text line kind → ⊥ }
     ensures one { (text : List ℕ) (line other_line : ℕ) (kind other_kind : Kind) →
-        IsFirstFault text line kind → IsFirstFault text other_line other_kind → (line ≡ other_line) × (kind ≡ other_kind) }
+        IsFirstLogFault text line kind → IsFirstLogFault text other_line other_kind → (line ≡ other_line) × (kind ≡ other_kind) }
 {}
 
 /// A head that is followed by the printed form of histories is a log with these histories, where the text has at most 67,108,864 bytes and

@@ -1,7 +1,7 @@
 //! Reads a log, line by line.
 ghost use Rattle.std.specs.Prelude.{◌≡◌, ◌+◌, ◌≤◌, ◌==◌, IfErr, IfOk, count_by, length, take};
 ghost use Rattle.trace_text.specs.Grammar.{lines_of, longest_text};
-ghost use Rattle.arc_check.specs.LogText.{AddAll, IsCause, IsLog, IsLogText, nothing};
+ghost use Rattle.arc_check.specs.LogText.{AddAllToLog, IsLogCause, IsLog, IsLogText, empty_log};
 ghost use Rattle.arc_check.specs.Reading.{IsFaultAt, IsLinesCause};
 
 use crate::draft::Draft;
@@ -20,7 +20,7 @@ const LONGEST_TEXT: usize = 67_108_864;
 pub fn read_events(alloc: Global, bytes: &[u8]) -> Result<Log, LogTextFault>
     ensures read { IfOk result (IsLogText bytes.now) }
     ensures formed { IfOk result IsLog }
-    ensures fault { IfErr result (IsCause bytes.now) }
+    ensures fault { IfErr result (IsLogCause bytes.now) }
 {
     if bytes.len() > LONGEST_TEXT {
         return Err(LogTextFault::Bad {
@@ -58,7 +58,7 @@ fn newlines_of(bytes: &[u8]) -> usize
 /// What all lines of a text say, or the first fault of one.
 fn read_lines(alloc: Global, text: &[u8]) -> Result<Draft, LogTextFault>
     requires { length text.now ≤ longest_text }
-    ensures read { IfOk result (AddAll nothing (lines_of text.now)) }
+    ensures read { IfOk result (AddAllToLog empty_log (lines_of text.now)) }
     ensures fault { IfErr result (IsLinesCause (lines_of text.now)) }
 {
     let mut draft = Draft::new(alloc);

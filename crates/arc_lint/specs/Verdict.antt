@@ -1,7 +1,7 @@
 -- What a text is found to be.
 use Rattle.std.specs.Prelude.{◌≡◌, ℕ, List, length, sum_by}
 use Rattle.arc_check.specs.LogText.{IsLogText}
-use Rattle.arc_check.specs.LogText.{IsFirstFault as IsFirstLogFault}
+use Rattle.arc_check.specs.LogText.{IsFirstLogFault}
 use Rattle.arc_check.specs.declared.log.Log.{Log}
 use Rattle.arc_core.specs.declared.config.Config.{Config}
 use Rattle.trace_text.specs.Grammar.{IsFirstFault, IsTraceText}

@@ -23,8 +23,8 @@ use Rattle.arc_table.specs.Items.{Meanings, holds_in}
 use Rattle.arc_table.specs.pact.Rule.{Pact}
 use Rattle.arc_table.specs.pact.Scene.{Scene}
 use Rattle.arc_table.specs.Views.{after_lost, after_same}
-use Rattle.arc_table.specs.pact.AttachedLaws.{StillTaken, attached_moved, free_taken}
-use Rattle.arc_table.proofs.AttachedLaws.{mine, theirs, free_same}
+use Rattle.arc_table.specs.pact.AttachedLaws.{StillTaken, attached_moved, free_taken, mine, theirs}
+use Rattle.arc_table.proofs.AttachedLaws.{free_same}
 use Rattle.arc_table.specs.TableLaws.{same_at}
 use Rattle.arc_table.proofs.TableLaws.{without_else}
 

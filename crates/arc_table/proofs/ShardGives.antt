@@ -58,8 +58,8 @@ use Rattle.arc_table.specs.pact.Passed.{IsPassNoted, Passed}
 use Rattle.arc_table.specs.pact.Rule.{Pact}
 use Rattle.arc_table.specs.pact.Scene.{Scene}
 use Rattle.arc_table.specs.ShardGiving.{ActsFor, AreAlike, ArePassesNoted, IsActor, IsGivenShard, SameHead, after_shard, buckets_in, holds_through, ledger_through, listed_after, mines_of, passes_in, readings_through}
-use Rattle.arc_table.specs.pact.AttachedLaws.{StillTaken, attached_moved, free_taken}
-use Rattle.arc_table.proofs.AttachedLaws.{mine, theirs, free_same}
+use Rattle.arc_table.specs.pact.AttachedLaws.{StillTaken, attached_moved, free_taken, mine, theirs}
+use Rattle.arc_table.proofs.AttachedLaws.{free_same}
 use Rattle.arc_table.specs.TableLaws.{at_here, at_else, list_here, list_else, same_at, within}
 use Rattle.arc_table.proofs.TableLaws.{without_else}
 use Rattle.arc_table.proofs.Appending.{AreMines, Appends, append_logged, append_passed, appended, owned, owned_new}

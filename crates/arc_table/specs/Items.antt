@@ -2,6 +2,8 @@
 use Rattle.std.specs.Prelude.{ℕ, List, [], ◌∷◌, map}
 use Rattle.blk_ptr.specs.declared.ptr.Ptr.{Ptr}
 use Rattle.arc_core.specs.declared.config.Config.{Config}
+-- what a cell means to the cache: its holds, its entries, its opening, its claims, and what is so of it whenever its turn is free
+pub use Rattle.arc_core.specs.declared.keeps.Keeps.{Ghosts as Meanings}
 use Rattle.arc_core.specs.Operations.{number_of}
 use Rattle.arc_core.specs.PlainShard.{PlainShard}
 use Rattle.arc_core.specs.ShardLog.{ShardLog, opening_log}
@@ -11,17 +13,6 @@ use Rattle.arc_table.specs.declared.item.Item.{Item}
 use Rattle.arc_table.specs.declared.item.Item.TheVariants as item
 use Rattle.arc_table.specs.declared.view.Line.{Line}
 use Rattle.arc_table.specs.declared.view.Line.TheVariants as line
-
--- what a cell means to the cache: its holds, its entries, its opening, its claims, and what is so of it whenever its turn is free
-pub record Meanings (C : Type 0) : Type 1 where
-  pub holds : C → List Ptr
-  pub entries : C → List (List ℕ)
-  pub opening : C → List ℕ
-  pub claims : C → ℕ → List ℕ
-  pub sound : C → Type 0
-
-abbrev pub meanings : {C : Type 0} → (C → List Ptr) → (C → List (List ℕ)) → (C → List ℕ) → (C → ℕ → List ℕ) → (C → Type 0) → Meanings C
-meanings holds entries opening claims sound = record { holds = holds; entries = entries; opening = opening; claims = claims; sound = sound }
 
 -- the number of who made a line: an entry of a cell begins with it
 abbrev pub maker_of : Line → ℕ

@@ -4,7 +4,6 @@ ghost use Rattle.arc_core.specs.Config.{IsConfig};
 ghost use Rattle.turn_table.specs.Moments.{WasSo};
 ghost use Rattle.turn_table.specs.Places.{met, IsLast, stayed, parted};
 ghost use Rattle.arc_table.specs.Cache.{IsPartyOf, all_newcomers};
-ghost use Rattle.arc_table.specs.Items.{meanings};
 ghost use Rattle.arc_table.specs.opening.Opening.{AreFresh, AreFreshCells, about_of};
 ghost use Rattle.arc_table.specs.pact.Rule.{Pact as pact};
 ghost use Rattle.arc_table.specs.Views.{after_learned};
@@ -49,9 +48,9 @@ impl<C: Keeps + Drop> Arcs<C> {
         cells: Vec<C>,
     ) -> Result<(Arcs<C>, Vec<Party<C>>), NoMemory>
         requires config { IsConfig config.now }
-        requires cells { AreFreshCells (meanings C.holds C.entries C.opening C.claims C.sound) config.now cells.items }
+        requires cells { AreFreshCells C.Keeps config.now cells.items }
         ensures config { IfOk result (λ r. r.0.config ≡ config.now) }
-        ensures parties { IfOk result (λ r. r.1.items ≡ all_newcomers r.0 (about_of (meanings C.holds C.entries C.opening C.claims C.sound) config.now cells.items)) }
+        ensures parties { IfOk result (λ r. r.1.items ≡ all_newcomers r.0 (about_of C.Keeps config.now cells.items)) }
     {
         let settled = Settled {
             config: *config,
@@ -85,7 +84,7 @@ impl<C: Keeps> Arcs<C> {
         requires row { IsPartyOf self.now party.old × IsPartyOf self.now other }
         requires free { (party.old.held ≡ []) × (other.held ≡ []) }
         ensures joined { party.new ≡ met party.old other (after_learned party.old.own other.own) }
-        ensures moment { WasSo (pact (meanings C.holds C.entries C.opening C.claims C.sound)) (met party.old other party.old.own) }
+        ensures moment { WasSo (pact C.Keeps) (met party.old other party.old.own) }
     {
         self.turns.join(party, other);
     }

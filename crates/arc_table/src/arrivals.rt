@@ -12,7 +12,6 @@ ghost use Rattle.arc_table.specs.Arriving.{FindsCleared, IsReading};
 ghost use Rattle.arc_table.specs.Both.{Does, Makes};
 ghost use Rattle.arc_table.specs.Cache.{IsPartyOf};
 ghost use Rattle.arc_table.specs.Holding.{IsHeld, IsHoldOf};
-ghost use Rattle.arc_table.specs.Items.{meanings};
 ghost use Rattle.arc_table.specs.Looking.{HasNoLook};
 ghost use Rattle.arc_table.specs.Making.{IsTaken};
 
@@ -76,10 +75,10 @@ impl<C: Keeps> Arcs<C> {
         requires reading { IsReading ptr.now.key party.old }
         requires of { IsOf fetched.block.value ptr.now }
         requires shared { fetched.shared.value ≡ fetched.block.value }
-        ensures arrived { IfSome result (λ hold. Does (meanings C.holds C.entries C.opening C.claims C.sound) self.now.config ptr.now.key (Event.Arrive party.old.number ptr.now.key ptr.now.digest fetched.from ∷ []) party.old party.new) }
+        ensures arrived { IfSome result (λ hold. Does C.Keeps self.now.config ptr.now.key (Event.Arrive party.old.number ptr.now.key ptr.now.digest fetched.from ∷ []) party.old party.new) }
         ensures hold { IfSome result (λ hold. IsHoldOf ptr.now party.old.number hold × IsHeld self.now.config party.new hold) }
         ensures block { IfSome result (λ hold. hold.block.value ≡ fetched.block.value) }
-        ensures cleared { IfNone result ((fetched.from ≡ Origin.L2) × FindsCleared (meanings C.holds C.entries C.opening C.claims C.sound) self.now.config ptr.now.key party.old party.new) }
+        ensures cleared { IfNone result ((fetched.from ≡ Origin.L2) × FindsCleared C.Keeps self.now.config ptr.now.key party.old party.new) }
     {
         let both = self.take_both(rt, party, ptr.key);
         let Some(at) = both.hand.own.bucket.find(ptr.key) else {
@@ -103,7 +102,7 @@ impl<C: Keeps> Arcs<C> {
         fetched: Fetched,
     ) -> Hold
         requires party { IsPartyOf self.now party.old }
-        requires taken { IsTaken (meanings C.holds C.entries C.opening C.claims C.sound) self.now.config ptr.key both party.old }
+        requires taken { IsTaken C.Keeps self.now.config ptr.key both party.old }
         requires range { at < length both.hand.own.bucket.headers }
         requires found { header_at ptr.key both.hand.own.bucket.headers ≡ slice_get both.hand.own.bucket.headers at }
         requires key { IfSome (slice_get both.hand.own.bucket.headers at) (λ h. h.key ≡ ptr.key) }
@@ -111,7 +110,7 @@ impl<C: Keeps> Arcs<C> {
         requires of { IsOf fetched.block.value ptr }
         requires shared { fetched.shared.value ≡ fetched.block.value }
         requires comes { IsTrue (entry_is (may_come_from fetched.from) ptr.key both.shard.now) }
-        ensures makes { Makes (meanings C.holds C.entries C.opening C.claims C.sound) self.now.config ptr.key both.shard (Event.Arrive party.old.number ptr.key ptr.digest fetched.from ∷ []) party.old party.new }
+        ensures makes { Makes C.Keeps self.now.config ptr.key both.shard (Event.Arrive party.old.number ptr.key ptr.digest fetched.from ∷ []) party.old party.new }
         ensures hold { IsHoldOf ptr party.old.number result × IsHeld self.now.config party.new result }
         ensures block { result.block.value ≡ fetched.block.value }
     {
@@ -135,7 +134,7 @@ impl<C: Keeps> Arcs<C> {
         requires party { IsPartyOf self.now party.old }
         requires look { HasNoLook self.now party.old }
         requires reading { IsReading key party.old }
-        ensures { Does (meanings C.holds C.entries C.opening C.claims C.sound) self.now.config key (Event.Fail party.old.number key at ∷ []) party.old party.new }
+        ensures { Does C.Keeps self.now.config key (Event.Fail party.old.number key at ∷ []) party.old party.new }
     {
         let both = self.take_both(rt, party, key);
         self.fail_taken(party, both, key, at);
@@ -144,9 +143,9 @@ impl<C: Keeps> Arcs<C> {
     // The read has failed, of the key whose bucket and shard the party has just taken, and both are given back.
     fn fail_taken(&self, party: &mut Party<C>, mut both: Both, key: Key, at: FailedAt)
         requires party { IsPartyOf self.now party.old }
-        requires taken { IsTaken (meanings C.holds C.entries C.opening C.claims C.sound) self.now.config key both party.old }
+        requires taken { IsTaken C.Keeps self.now.config key both party.old }
         requires reading { IsReading key party.old }
-        ensures { Makes (meanings C.holds C.entries C.opening C.claims C.sound) self.now.config key both.shard (Event.Fail party.old.number key at ∷ []) party.old party.new }
+        ensures { Makes C.Keeps self.now.config key both.shard (Event.Fail party.old.number key at ∷ []) party.old party.new }
     {
         let n = party.number();
         let shard = &mut *both.shard;

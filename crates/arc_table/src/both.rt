@@ -7,7 +7,6 @@ ghost use Rattle.arc_table.specs.Both.{Makes, Takes, TakesBoth};
 ghost use Rattle.arc_table.specs.Cache.{IsPartyOf};
 ghost use Rattle.arc_table.specs.Geometry.{bucket_turn, shard_turn};
 ghost use Rattle.arc_table.specs.InHand.{made_since};
-ghost use Rattle.arc_table.specs.Items.{meanings};
 ghost use Rattle.arc_table.specs.Looking.{HasNoLook};
 ghost use Rattle.arc_table.specs.Making.{IsMade, IsOf, IsTaken};
 ghost use Rattle.arc_table.specs.Ready.{IsReady};
@@ -55,7 +54,7 @@ impl<C: Keeps> Arcs<C> {
         ensures party { IsPartyOf self.now party.new }
         ensures kind { IsOf self.now.config key result }
         ensures new { result.hand.before.value ≡ result.shard }
-        ensures takes { TakesBoth (meanings C.holds C.entries C.opening C.claims C.sound) self.now.config key result.hand.own.bucket result.shard party.old party.new }
+        ensures takes { TakesBoth C.Keeps self.now.config key result.hand.own.bucket result.shard party.old party.new }
     {
         let turn = shard_turn_of(&self.config, key);
         let own = self.take_bucket(rt, party, key);
@@ -75,7 +74,7 @@ impl<C: Keeps> Arcs<C> {
         ensures party { IsPartyOf self.now party.new }
         ensures kind { IsOf self.now.config ptr.now.key result.0 }
         ensures new { result.0.hand.before.value ≡ result.0.shard }
-        ensures takes { TakesBoth (meanings C.holds C.entries C.opening C.claims C.sound) self.now.config ptr.now.key result.0.hand.own.bucket result.0.shard party.old party.new }
+        ensures takes { TakesBoth C.Keeps self.now.config ptr.now.key result.0.hand.own.bucket result.0.shard party.old party.new }
         ensures ready { IfSome result.1 (λ at. IsReady ptr.now at result.0.hand.own.bucket.headers) }
         ensures here { IfSome result.1 (λ at. IsCachedWith ptr.now result.0.shard.now) }
         ensures elsewhere { IfNone result.1 (IsCachedWith ptr.now result.0.shard.now → ⊥) }
@@ -93,7 +92,7 @@ impl<C: Keeps> Arcs<C> {
         requires look { HasNoLook self.now party.old }
         ensures valid { IsConfig self.now.config }
         ensures turn { result.turn ≡ bucket_turn self.now.config key }
-        ensures takes { Takes (meanings C.holds C.entries C.opening C.claims C.sound) (bucket_turn self.now.config key) (item.Bucket result.bucket) party.old party.new }
+        ensures takes { Takes C.Keeps (bucket_turn self.now.config key) (item.Bucket result.bucket) party.old party.new }
     {
         let turn = bucket_turn_of(&self.config, key);
         let bucket = self.turns.take(rt, party, turn).into_bucket();
@@ -118,7 +117,7 @@ impl<C: Keeps> Arcs<C> {
         ensures kind { IsOf self.now.config key result }
         ensures own { result.hand.own ≡ own }
         ensures new { result.hand.before.value ≡ result.shard }
-        ensures takes { Takes (meanings C.holds C.entries C.opening C.claims C.sound) (shard_turn self.now.config key) (item.Shard result.shard) party.old party.new }
+        ensures takes { Takes C.Keeps (shard_turn self.now.config key) (item.Shard result.shard) party.old party.new }
     {
         let _ = key;
         let shard = self.turns.take(rt, party, turn).into_shard();
@@ -137,8 +136,8 @@ impl<C: Keeps> Arcs<C> {
         ensures party { IfTaken result (λ both. IsPartyOf self.now party.new) }
         ensures kind { IfTaken result (λ both. IsOf self.now.config key both) }
         ensures new { IfTaken result (λ both. both.hand.before.value ≡ both.shard) }
-        ensures takes { IfTaken result (λ both. TakesBoth (meanings C.holds C.entries C.opening C.claims C.sound) self.now.config key both.hand.own.bucket both.shard party.old party.new) }
-        ensures busy { IfBusy result (λ n. FindsBusy (meanings C.holds C.entries C.opening C.claims C.sound) self.now.config key n party.old party.new) }
+        ensures takes { IfTaken result (λ both. TakesBoth C.Keeps self.now.config key both.hand.own.bucket both.shard party.old party.new) }
+        ensures busy { IfBusy result (λ n. FindsBusy C.Keeps self.now.config key n party.old party.new) }
         ensures owner { IfBusy result (λ n. IsOther n party.old) }
     {
         let own = bucket_turn_of(&self.config, key);
@@ -166,8 +165,8 @@ impl<C: Keeps> Arcs<C> {
     // Gives both back as they were taken: there is no event.
     pub(crate) fn give_back(&self, party: &mut Party<C>, key: Key, both: Both)
         requires party { IsPartyOf self.now party.old }
-        requires taken { IsTaken (meanings C.holds C.entries C.opening C.claims C.sound) self.now.config key both party.old }
-        ensures { Makes (meanings C.holds C.entries C.opening C.claims C.sound) self.now.config key both.shard [] party.old party.new }
+        requires taken { IsTaken C.Keeps self.now.config key both party.old }
+        ensures { Makes C.Keeps self.now.config key both.shard [] party.old party.new }
     {
         self.give_both(party, key, both);
     }
@@ -176,8 +175,8 @@ impl<C: Keeps> Arcs<C> {
     #[inline(always)]
     pub(crate) fn give_both(&self, party: &mut Party<C>, key: Key, both: Both)
         requires party { IsPartyOf self.now party.old }
-        requires made { IsMade (meanings C.holds C.entries C.opening C.claims C.sound) self.now.config key (made_since both.hand.before.value both.shard) both party.old }
-        ensures { Makes (meanings C.holds C.entries C.opening C.claims C.sound) self.now.config key both.hand.before.value (made_since both.hand.before.value both.shard) party.old party.new }
+        requires made { IsMade C.Keeps self.now.config key (made_since both.hand.before.value both.shard) both party.old }
+        ensures { Makes C.Keeps self.now.config key both.hand.before.value (made_since both.hand.before.value both.shard) party.old party.new }
     {
         let Both { hand, turn, shard } = both;
         self.give_shard(party, turn, shard, &hand);

@@ -7,7 +7,6 @@ ghost use Rattle.turn_table.specs.Taken.{IfTaken, IfBusy};
 ghost use Rattle.arc_table.specs.Cache.{IsPartyOf};
 ghost use Rattle.arc_table.specs.Geometry.{IsCell};
 ghost use Rattle.arc_table.specs.Giving.{IsGivenCell};
-ghost use Rattle.arc_table.specs.Items.{meanings};
 ghost use Rattle.arc_table.specs.Looking.{HasNoLook};
 ghost use Rattle.arc_table.specs.pact.Rule.{Pact as pact};
 ghost use Rattle.arc_table.specs.Views.{after_cell, after_lost, after_won};
@@ -30,9 +29,9 @@ impl<C: Keeps> Arcs<C> {
         requires not_held { ¬ IsAmong i party.old.held }
         ensures party { IsPartyOf self.now party.new }
         ensures free { HasNoLook self.now party.new }
-        ensures took { (owners : List ℕ) × (w : Known C) × Loses (pact (meanings C.holds C.entries C.opening C.claims C.sound)) (λ _. after_lost) i owners party.old (saw party.old w)
-            × WasFree (pact (meanings C.holds C.entries C.opening C.claims C.sound)) (saw party.old w) i (item.Cell result)
-            × (party.new ≡ took party.old i (after_won (meanings C.holds C.entries C.opening C.claims C.sound) i (item.Cell result) w)) }
+        ensures took { (owners : List ℕ) × (w : Known C) × Loses (pact C.Keeps) (λ _. after_lost) i owners party.old (saw party.old w)
+            × WasFree (pact C.Keeps) (saw party.old w) i (item.Cell result)
+            × (party.new ≡ took party.old i (after_won C.Keeps i (item.Cell result) w)) }
     {
         self.turns.take(rt, party, i).into_cell()
     }
@@ -43,9 +42,9 @@ impl<C: Keeps> Arcs<C> {
         requires look { HasNoLook self.now party.old }
         requires range { IsCell self.now.config i }
         requires not_held { ¬ IsAmong i party.old.held }
-        ensures taken { IfTaken result (λ cell. WasFree (pact (meanings C.holds C.entries C.opening C.claims C.sound)) party.old i (item.Cell cell)
-            × (party.new ≡ took party.old i (after_won (meanings C.holds C.entries C.opening C.claims C.sound) i (item.Cell cell) party.old.own))) }
-        ensures busy { IfBusy result (λ m. WasTaken (pact (meanings C.holds C.entries C.opening C.claims C.sound)) party.old i m × (party.new ≡ saw party.old (after_lost i m party.old.own))) }
+        ensures taken { IfTaken result (λ cell. WasFree (pact C.Keeps) party.old i (item.Cell cell)
+            × (party.new ≡ took party.old i (after_won C.Keeps i (item.Cell cell) party.old.own))) }
+        ensures busy { IfBusy result (λ m. WasTaken (pact C.Keeps) party.old i m × (party.new ≡ saw party.old (after_lost i m party.old.own))) }
         ensures owner { IfBusy result (λ m. (m < self.now.row.parties) × (m ≢ party.old.number) × Apart m party.old.joined) }
     {
         match self.turns.try_take(party, i) {
@@ -60,8 +59,8 @@ impl<C: Keeps> Arcs<C> {
         requires look { HasNoLook self.now party.old }
         requires range { IsCell self.now.config i }
         requires held { IsAmong i party.old.held }
-        requires cell { IsGivenCell (meanings C.holds C.entries C.opening C.claims C.sound) party.old.number i cell party.old.own }
-        ensures { party.new ≡ gave_back party.old i (after_cell (meanings C.holds C.entries C.opening C.claims C.sound) i (item.Cell cell) party.old.own) }
+        requires cell { IsGivenCell C.Keeps party.old.number i cell party.old.own }
+        ensures { party.new ≡ gave_back party.old i (after_cell C.Keeps i (item.Cell cell) party.old.own) }
     {
         self.turns.give::<gives::Cell>(party, i, Item::Cell(cell));
     }

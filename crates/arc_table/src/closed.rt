@@ -4,7 +4,6 @@ ghost use Rattle.std.specs.Arc.{arc_value};
 ghost use Rattle.turn_table.specs.Places.{SomeHas};
 ghost use Rattle.arc_table.specs.Ended.{AreAtRest, Ends, cells_in, shards_in};
 ghost use Rattle.arc_table.specs.Geometry.{parties_of};
-ghost use Rattle.arc_table.specs.Items.{meanings};
 
 use crate::arcs::{Arcs, Party};
 use crate::item::Item;
@@ -85,7 +84,7 @@ impl<C: Keeps + Drop> Arcs<C> {
     pub fn close(self, parties: Vec<Party<C>>) -> Result<Closed<C>, NoMemory>
         requires rest { AreAtRest self parties.items }
         requires all { (n : ℕ) → n < parties_of self.config → SomeHas n parties.items }
-        ensures { IfOk result (λ closed. Ends (meanings C.holds C.entries C.opening C.claims C.sound) self parties.items closed) }
+        ensures { IfOk result (λ closed. Ends C.Keeps self parties.items closed) }
     {
         let Arcs {
             turns,

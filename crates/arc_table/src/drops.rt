@@ -5,7 +5,6 @@ ghost use Rattle.turn_table.specs.Places.{Apart, Place};
 ghost use Rattle.arc_table.specs.Both.{Does, Makes};
 ghost use Rattle.arc_table.specs.Cache.{IsPartyOf};
 ghost use Rattle.arc_table.specs.Holding.{IsHeld};
-ghost use Rattle.arc_table.specs.Items.{meanings};
 ghost use Rattle.arc_table.specs.Looking.{HasNoLook};
 ghost use Rattle.arc_table.specs.Making.{IsTaken};
 ghost use Rattle.arc_table.specs.Trying.{AnswersDrop};
@@ -34,7 +33,7 @@ impl<C: Keeps> Arcs<C> {
         requires party { IsPartyOf self.now party.old }
         requires look { HasNoLook self.now party.old }
         requires hold { IsHeld self.now.config party.old hold }
-        ensures { Does (meanings C.holds C.entries C.opening C.claims C.sound) self.now.config hold.key (Event.Drop hold.owner hold.key ∷ []) party.old party.new }
+        ensures { Does C.Keeps self.now.config hold.key (Event.Drop hold.owner hold.key ∷ []) party.old party.new }
     {
         let both = self.take_both(rt, party, hold.key);
         self.drop_taken(party, both, hold);
@@ -45,7 +44,7 @@ impl<C: Keeps> Arcs<C> {
         requires party { IsPartyOf self.now party.old }
         requires look { HasNoLook self.now party.old }
         requires hold { IsHeld self.now.config party.old hold }
-        ensures { AnswersDrop (meanings C.holds C.entries C.opening C.claims C.sound) self.now.config hold party.old party.new result }
+        ensures { AnswersDrop C.Keeps self.now.config hold party.old party.new result }
     {
         match self.try_both(party, hold.key) {
             Take::Busy { owner } => TryDrop::Busy { owner, hold },
@@ -60,9 +59,9 @@ impl<C: Keeps> Arcs<C> {
     #[inline(always)]
     fn drop_taken(&self, party: &mut Party<C>, mut both: Both, hold: Hold)
         requires party { IsPartyOf self.now party.old }
-        requires taken { IsTaken (meanings C.holds C.entries C.opening C.claims C.sound) self.now.config hold.key both party.old }
+        requires taken { IsTaken C.Keeps self.now.config hold.key both party.old }
         requires hold { IsHeld self.now.config party.old hold }
-        ensures { Makes (meanings C.holds C.entries C.opening C.claims C.sound) self.now.config hold.key both.shard (Event.Drop hold.owner hold.key ∷ []) party.old party.new }
+        ensures { Makes C.Keeps self.now.config hold.key both.shard (Event.Drop hold.owner hold.key ∷ []) party.old party.new }
     {
         let Hold { key, owner, block } = hold;
         let near = give_block(&mut both.hand.own.bucket, &both.shard, key, block);

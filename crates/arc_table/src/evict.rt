@@ -4,7 +4,6 @@ ghost use Rattle.arc_core.specs.declared.event.Event.{Event};
 ghost use Rattle.arc_core.specs.ShardLog.{ShardLog};
 ghost use Rattle.hash_chain.specs.Chain.{Chain};
 ghost use Rattle.arc_table.specs.Cache.{IsPartyOf};
-ghost use Rattle.arc_table.specs.Items.{meanings};
 ghost use Rattle.turn_table.specs.Places.{Place, gave_back};
 ghost use Rattle.arc_table.specs.Views.{after_same};
 ghost use Rattle.arc_table.specs.scans.Ending.{GivesAll, HasMade};
@@ -27,7 +26,7 @@ impl<C: Keeps> Arcs<C> {
     pub(crate) fn give_buckets(&self, party: &mut Party<C>, buckets: Vec<Taken>)
         requires party { IsPartyOf self.now party.old }
         requires apart { AreApart (pairs_of buckets.items) }
-        requires held { AllPairs (IsInHand (meanings C.holds C.entries C.opening C.claims C.sound) party.old) (pairs_of buckets.items) }
+        requires held { AllPairs (IsInHand C.Keeps party.old) (pairs_of buckets.items) }
         ensures { party.new ≡ gave_all (pairs_of buckets.items) party.old }
     {
         for taken in buckets {
@@ -38,7 +37,7 @@ impl<C: Keeps> Arcs<C> {
     // Gives a bucket back as it is in hand.
     pub(crate) fn give_bucket(&self, party: &mut Party<C>, taken: Taken)
         requires party { IsPartyOf self.now party.old }
-        requires held { IsInHand (meanings C.holds C.entries C.opening C.claims C.sound) party.old taken.turn taken.bucket }
+        requires held { IsInHand C.Keeps party.old taken.turn taken.bucket }
         ensures { party.new ≡ gave_back party.old taken.turn (after_same taken.turn party.old.own) }
     {
         let Taken { turn, bucket } = taken;
@@ -50,8 +49,8 @@ impl<C: Keeps> Arcs<C> {
     pub(crate) fn end_scan(&self, party: &mut Party<C>, scan: Scan)
         requires party { IsPartyOf self.now party.old }
         requires made { (e : Event) × (passes : List Event) × (p : Place (Known C)) × (l : ShardLog) × (chain : Chain)
-            × HasMade (meanings C.holds C.entries C.opening C.claims C.sound) self.now.config e passes p party.old l chain scan }
-        ensures { GivesAll (meanings C.holds C.entries C.opening C.claims C.sound) scan.both.turn (turns_in (buckets_of scan.both.hand)) scan.both.hand.before.value
+            × HasMade C.Keeps self.now.config e passes p party.old l chain scan }
+        ensures { GivesAll C.Keeps scan.both.turn (turns_in (buckets_of scan.both.hand)) scan.both.hand.before.value
             (made_since scan.both.hand.before.value scan.both.shard) scan.both.shard party.old party.new }
     {
         let Scan { both, marked } = scan;

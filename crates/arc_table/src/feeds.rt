@@ -6,7 +6,6 @@ ghost use Rattle.arc_core.specs.Step.{is_writing, may_set};
 ghost use Rattle.arc_table.specs.Both.{Does};
 ghost use Rattle.arc_table.specs.Cache.{IsPartyOf};
 ghost use Rattle.arc_table.specs.feeder.Feeding.{AnswersClear, AnswersSet, IsFeeder, IsPicked, Leaves, has_place};
-ghost use Rattle.arc_table.specs.Items.{meanings};
 ghost use Rattle.arc_table.specs.Looking.{HasNoLook};
 
 use crate::arcs::{Arcs, Party};
@@ -69,7 +68,7 @@ impl<C: Keeps> Arcs<C> {
         requires look { HasNoLook self.now party.old }
         requires feeder { IsFeeder self.now party.old }
         requires picked { IsPicked self.now.config party.old key }
-        ensures { AnswersSet (meanings C.holds C.entries C.opening C.claims C.sound) self.now.config key place party.old party.new result }
+        ensures { AnswersSet C.Keeps self.now.config key place party.old party.new result }
     {
         let mut both = self.take_both(rt, party, key);
         let n = party.number();
@@ -92,7 +91,7 @@ impl<C: Keeps> Arcs<C> {
         requires feeder { IsFeeder self.now party.old }
         requires picked { IsPicked self.now.config party.old key }
         requires why { why ≢ Why.Gone }
-        ensures { Leaves (meanings C.holds C.entries C.opening C.claims C.sound) self.now.config key why party.old party.new }
+        ensures { Leaves C.Keeps self.now.config key why party.old party.new }
     {
         let mut both = self.take_both(rt, party, key);
         let n = party.number();
@@ -114,8 +113,8 @@ impl<C: Keeps> Arcs<C> {
         requires party { IsPartyOf self.now party.old }
         requires look { HasNoLook self.now party.old }
         requires feeder { IsFeeder self.now party.old }
-        ensures ok { IfOk result (AnswersClear (meanings C.holds C.entries C.opening C.claims C.sound) self.now.config key place party.old party.new) }
-        ensures err { OnErr result (Does (meanings C.holds C.entries C.opening C.claims C.sound) self.now.config key [] party.old party.new) }
+        ensures ok { IfOk result (AnswersClear C.Keeps self.now.config key place party.old party.new) }
+        ensures err { OnErr result (Does C.Keeps self.now.config key [] party.old party.new) }
     {
         let mut both = self.take_both(rt, party, key);
         let shard = &mut *both.shard;

@@ -17,8 +17,7 @@ impl<C: Keeps> GivenView<Item<C>, Known<C>, ()> for Same {
 pub(crate) struct Cell;
 
 impl<C: Keeps> GivenView<Item<C>, Known<C>, ()> for Cell {
-    ghost use Rattle.arc_table.specs.Items.{meanings};
     ghost use Rattle.arc_table.specs.Views.{after_cell};
 
-    ghost given = { λ _ w i v. after_cell (meanings C.holds C.entries C.opening C.claims C.sound) i v w };
+    ghost given = { λ _ w i v. after_cell C.Keeps i v w };
 }

@@ -8,7 +8,6 @@ ghost use Rattle.arc_table.specs.Cache.{IsPartyOf};
 ghost use Rattle.arc_table.specs.Geometry.{IsCell, cell_number};
 ghost use Rattle.arc_table.specs.Handing.{AnswersHand, IsCellInHand, Releases};
 ghost use Rattle.arc_table.specs.Holding.{IsHeld};
-ghost use Rattle.arc_table.specs.Items.{meanings};
 ghost use Rattle.arc_table.specs.Looking.{HasNoLook};
 ghost use Rattle.arc_table.specs.Making.{IsTaken};
 
@@ -45,7 +44,7 @@ impl<C: Keeps> Arcs<C> {
         requires hold { IsHeld self.now.config party.old hold }
         requires owner { hold.owner ≡ party.old.number }
         requires cell { IsCellInHand self.now.config party.old to }
-        ensures { AnswersHand (meanings C.holds C.entries C.opening C.claims C.sound) self.now.config hold to party.old party.new result }
+        ensures { AnswersHand C.Keeps self.now.config hold to party.old party.new result }
     {
         let mut both = self.take_both(rt, party, hold.key);
         let shard = &mut *both.shard;
@@ -66,7 +65,7 @@ impl<C: Keeps> Arcs<C> {
         requires look { HasNoLook self.now party.old }
         requires hold { IsHeld self.now.config party.old hold }
         ensures bytes { IfOk result (λ bytes. bytes.items ≡ hold.block.value) }
-        ensures released { IfOk result (λ bytes. Releases (meanings C.holds C.entries C.opening C.claims C.sound) self.now.config hold party.old party.new) }
+        ensures released { IfOk result (λ bytes. Releases C.Keeps self.now.config hold party.old party.new) }
         ensures err { IfErr result (λ back. (back ≡ hold) × (party.new ≡ party.old)) }
     {
         let Ok(bytes) = hold.block.bytes().to_vec(self.alloc) else {
@@ -82,7 +81,7 @@ impl<C: Keeps> Arcs<C> {
         requires party { IsPartyOf self.now party.old }
         requires look { HasNoLook self.now party.old }
         requires hold { IsHeld self.now.config party.old hold }
-        ensures { Releases (meanings C.holds C.entries C.opening C.claims C.sound) self.now.config hold party.old party.new }
+        ensures { Releases C.Keeps self.now.config hold party.old party.new }
     {
         let both = self.take_both(rt, party, hold.key);
         self.release_taken(party, both, &hold);
@@ -101,9 +100,9 @@ impl<C: Keeps> Arcs<C> {
     // Gives a hold up on the entry whose bucket and shard the party has just taken.
     fn release_taken(&self, party: &mut Party<C>, mut both: Both, hold: &Hold)
         requires party { IsPartyOf self.now party.old }
-        requires taken { IsTaken (meanings C.holds C.entries C.opening C.claims C.sound) self.now.config hold.now.key both party.old }
+        requires taken { IsTaken C.Keeps self.now.config hold.now.key both party.old }
         requires hold { IsHeld self.now.config party.old hold.now }
-        ensures { (sole : Bool) × Makes (meanings C.holds C.entries C.opening C.claims C.sound) self.now.config hold.now.key both.shard (Event.Release hold.now.owner hold.now.key sole ∷ []) party.old party.new }
+        ensures { (sole : Bool) × Makes C.Keeps self.now.config hold.now.key both.shard (Event.Release hold.now.owner hold.now.key sole ∷ []) party.old party.new }
     {
         let shard = &mut *both.shard;
         let sole = is_sole(shard, hold.key);

@@ -8,7 +8,6 @@ ghost use Rattle.arc_core.specs.View.{view_of};
 ghost use Rattle.arc_table.specs.Both.{Makes};
 ghost use Rattle.arc_table.specs.Cache.{IsPartyOf};
 ghost use Rattle.arc_table.specs.Holding.{IsHeld, IsHoldOf, IsListed};
-ghost use Rattle.arc_table.specs.Items.{meanings};
 ghost use Rattle.arc_table.specs.Looking.{HasNoLook};
 ghost use Rattle.arc_table.specs.Making.{IsTaken};
 ghost use Rattle.arc_table.specs.Ready.{IsReady};
@@ -85,7 +84,7 @@ impl<C: Keeps> Arcs<C> {
     pub fn try_hit(&self, party: &mut Party<C>, ptr: &Ptr, tick: u64) -> TryHit
         requires party { IsPartyOf self.now party.old }
         requires look { HasNoLook self.now party.old }
-        ensures answer { AnswersHit (meanings C.holds C.entries C.opening C.claims C.sound) self.now.config ptr.now tick party.old party.new result }
+        ensures answer { AnswersHit C.Keeps self.now.config ptr.now tick party.old party.new result }
         ensures holder { (n : ℕ) → IsListed self.now.config party.old n ptr.now → MayAnswerHolder result }
     {
         let both = match self.try_both(party, ptr.key) {
@@ -140,12 +139,12 @@ impl<C: Keeps> Arcs<C> {
         at: usize,
     ) -> Result<Hold, NoMemory>
         requires party { IsPartyOf self.now party.old }
-        requires taken { IsTaken (meanings C.holds C.entries C.opening C.claims C.sound) self.now.config ptr.key both party.old }
+        requires taken { IsTaken C.Keeps self.now.config ptr.key both party.old }
         requires here { IsCachedWith ptr both.shard.now }
         requires ready { IsReady ptr at both.hand.own.bucket.headers }
-        ensures ok { IfOk result (λ hold. Makes (meanings C.holds C.entries C.opening C.claims C.sound) self.now.config ptr.key both.shard (Event.Hit party.old.number ptr.key tick ∷ []) party.old party.new) }
+        ensures ok { IfOk result (λ hold. Makes C.Keeps self.now.config ptr.key both.shard (Event.Hit party.old.number ptr.key tick ∷ []) party.old party.new) }
         ensures hold { IfOk result (λ hold. IsHoldOf ptr party.old.number hold × IsHeld self.now.config party.new hold) }
-        ensures err { OnErr result (Makes (meanings C.holds C.entries C.opening C.claims C.sound) self.now.config ptr.key both.shard [] party.old party.new) }
+        ensures err { OnErr result (Makes C.Keeps self.now.config ptr.key both.shard [] party.old party.new) }
     {
         let shard = &mut *both.shard;
         let Ok(()) = shard.reserve(2, 0) else {

@@ -5,7 +5,6 @@ ghost use Rattle.turn_table.specs.Places.{gave_back};
 ghost use Rattle.arc_table.specs.Cache.{IsPartyOf};
 ghost use Rattle.arc_table.specs.Geometry.{IsShard};
 ghost use Rattle.arc_table.specs.InHand.{buckets_of, made_since};
-ghost use Rattle.arc_table.specs.Items.{meanings};
 ghost use Rattle.arc_table.specs.ShardGiving.{IsGivenShard, after_shard};
 
 use crate::arcs::{Arcs, Party};
@@ -37,10 +36,10 @@ pub(crate) struct Events;
 
 impl<C: Keeps> GivenView<Item<C>, Known<C>, Hand> for Events {
     ghost use Rattle.arc_table.specs.InHand.{buckets_of, made_since};
-    ghost use Rattle.arc_table.specs.Items.{log_in, meanings};
+    ghost use Rattle.arc_table.specs.Items.{log_in};
     ghost use Rattle.arc_table.specs.ShardGiving.{after_shard};
 
-    ghost given = { λ hand w i v. after_shard (meanings C.holds C.entries C.opening C.claims C.sound) (buckets_of hand) i hand.before.value
+    ghost given = { λ hand w i v. after_shard C.Keeps (buckets_of hand) i hand.before.value
         (made_since hand.before.value (log_in w.about.config v)) (log_in w.about.config v) w };
 }
 
@@ -51,7 +50,7 @@ impl<C: Keeps> Arcs<C> {
         requires range { IsShard self.now.config turn }
         requires held { IsAmong turn party.old.held }
         requires given { IsGivenShard party.old.own.about.config party.old turn (buckets_of hand.now) hand.now.before.value (made_since hand.now.before.value shard) shard }
-        ensures { party.new ≡ gave_back party.old turn (after_shard (meanings C.holds C.entries C.opening C.claims C.sound) (buckets_of hand.now) turn hand.now.before.value (made_since hand.now.before.value shard) shard party.old.own) }
+        ensures { party.new ≡ gave_back party.old turn (after_shard C.Keeps (buckets_of hand.now) turn hand.now.before.value (made_since hand.now.before.value shard) shard party.old.own) }
     {
         self.turns
             .give_with::<Hand, Events>(party, turn, Item::Shard(shard), hand);

@@ -14,7 +14,6 @@ ghost use Rattle.arc_table.specs.scans.Ending.{MakesRoomy};
 ghost use Rattle.arc_table.specs.Geometry.{IsBucket, IsCell, bucket_turn};
 ghost use Rattle.arc_table.specs.Handing.{IsCellInHand};
 ghost use Rattle.arc_table.specs.Inserting.{AnswersInsert};
-ghost use Rattle.arc_table.specs.Items.{meanings};
 ghost use Rattle.arc_table.specs.Looking.{HasNoLook};
 ghost use Rattle.arc_table.specs.Making.{IsTaken};
 
@@ -79,14 +78,14 @@ impl<C: Keeps> Arcs<C> {
         tick: u64,
     ) -> Result<(), NoMemory>
         requires party { IsPartyOf self.now party.old }
-        requires taken { IsTaken (meanings C.holds C.entries C.opening C.claims C.sound) self.now.config key both party.old }
+        requires taken { IsTaken C.Keeps self.now.config key both party.old }
         requires others { (j : ℕ) → IsAmong j party.old.held → IsBucket self.now.config j → j ≡ bucket_turn self.now.config key }
         requires cell { IsCellInHand self.now.config party.old n }
         requires formed { IsTrue (is_well_formed key) }
         requires size { length block.value ≡ key.size }
         requires new { IsTrue (is_new_here key both.shard.now) }
-        ensures ok { OnOk result (MakesRoomy (meanings C.holds C.entries C.opening C.claims C.sound) self.now.config key both.shard (Event.Insert n key (sha256_of block.value) tick) party.old party.new) }
-        ensures err { OnErr result (Makes (meanings C.holds C.entries C.opening C.claims C.sound) self.now.config key both.shard [] party.old party.new) }
+        ensures ok { OnOk result (MakesRoomy C.Keeps self.now.config key both.shard (Event.Insert n key (sha256_of block.value) tick) party.old party.new) }
+        ensures err { OnErr result (Makes C.Keeps self.now.config key both.shard [] party.old party.new) }
     {
         let digest = block.digest();
         let event = Event::Insert {
@@ -129,8 +128,8 @@ impl<C: Keeps> Arcs<C> {
         requires size { length block.value ≡ key.size }
         ensures party { IsPartyOf self.now party.new }
         ensures free { HasNoLook self.now party.new }
-        ensures ok { IfOk result (AnswersInsert (meanings C.holds C.entries C.opening C.claims C.sound) self.now.config cell key block.value tick party.old party.new) }
-        ensures err { OnErr result (Does (meanings C.holds C.entries C.opening C.claims C.sound) self.now.config key [] party.old party.new) }
+        ensures ok { IfOk result (AnswersInsert C.Keeps self.now.config cell key block.value tick party.old party.new) }
+        ensures err { OnErr result (Does C.Keeps self.now.config key [] party.old party.new) }
     {
         let both = self.take_both(rt, party, key);
         let shard: &Shard = &both.shard;

@@ -5,7 +5,6 @@ ghost use Rattle.turn_table.specs.Moments.{WasFree, WasTaken};
 ghost use Rattle.turn_table.specs.Places.{saw, took, gave_back, Apart};
 ghost use Rattle.arc_table.specs.Cache.{IsPartyOf};
 ghost use Rattle.arc_table.specs.Geometry.{bucket_turn};
-ghost use Rattle.arc_table.specs.Items.{meanings};
 ghost use Rattle.arc_table.specs.Looking.{HasNoLook, IfLookBusy, IfSeen, IsOpen};
 ghost use Rattle.arc_table.specs.pact.Rule.{Pact as pact};
 ghost use Rattle.arc_table.specs.Views.{after_lost, after_same, after_won};
@@ -34,10 +33,10 @@ impl<C: Keeps> Arcs<C> {
         requires party { IsPartyOf self.now party.old }
         requires look { HasNoLook self.now party.old }
         ensures seen { IfSeen result (λ look. (look.turn ≡ bucket_turn self.now.config key) × (look.key ≡ key)
-            × WasFree (pact (meanings C.holds C.entries C.opening C.claims C.sound)) party.old look.turn (item.Bucket look.bucket)
-            × (party.new ≡ took party.old look.turn (after_won (meanings C.holds C.entries C.opening C.claims C.sound) look.turn (item.Bucket look.bucket) party.old.own))) }
-        ensures open { IfSeen result (λ look. IsOpen (meanings C.holds C.entries C.opening C.claims C.sound) look party.new) }
-        ensures busy { IfLookBusy result (λ m. WasTaken (pact (meanings C.holds C.entries C.opening C.claims C.sound)) party.old (bucket_turn self.now.config key) m
+            × WasFree (pact C.Keeps) party.old look.turn (item.Bucket look.bucket)
+            × (party.new ≡ took party.old look.turn (after_won C.Keeps look.turn (item.Bucket look.bucket) party.old.own))) }
+        ensures open { IfSeen result (λ look. IsOpen C.Keeps look party.new) }
+        ensures busy { IfLookBusy result (λ m. WasTaken (pact C.Keeps) party.old (bucket_turn self.now.config key) m
             × (party.new ≡ saw party.old (after_lost (bucket_turn self.now.config key) m party.old.own))) }
         ensures owner { IfLookBusy result (λ m. (m < self.now.row.parties) × (m ≢ party.old.number) × Apart m party.old.joined) }
     {
@@ -55,7 +54,7 @@ impl<C: Keeps> Arcs<C> {
     /// Ends the look, which is the party's open one.
     pub fn end_look(&self, party: &mut Party<C>, look: BucketTurn)
         requires party { IsPartyOf self.now party.old }
-        requires open { IsOpen (meanings C.holds C.entries C.opening C.claims C.sound) look party.old }
+        requires open { IsOpen C.Keeps look party.old }
         ensures { party.new ≡ gave_back party.old look.turn (after_same look.turn party.old.own) }
     {
         let BucketTurn {

@@ -12,7 +12,6 @@ ghost use Rattle.arc_table.specs.Both.{Makes};
 ghost use Rattle.arc_table.specs.Cache.{IsPartyOf};
 ghost use Rattle.arc_table.specs.scans.Ending.{MakesRoomy};
 ghost use Rattle.arc_table.specs.Geometry.{IsBucket, bucket_turn};
-ghost use Rattle.arc_table.specs.Items.{meanings};
 ghost use Rattle.arc_table.specs.Making.{IsTaken};
 
 use crate::arcs::{Arcs, Party};
@@ -63,13 +62,13 @@ impl<C: Keeps> Arcs<C> {
         tick: u64,
     ) -> Result<(), NoMemory>
         requires party { IsPartyOf self.now party.old }
-        requires taken { IsTaken (meanings C.holds C.entries C.opening C.claims C.sound) self.now.config key both party.old }
+        requires taken { IsTaken C.Keeps self.now.config key both party.old }
         requires others { (j : ℕ) → IsAmong j party.old.held → IsBucket self.now.config j → j ≡ bucket_turn self.now.config key }
         requires formed { IsTrue (is_well_formed key) }
         requires missing { IsTrue (is_missing key both.shard.now) }
         requires found { found ≡ option_map view_of (entry_of key both.shard.now) }
-        ensures ok { OnOk result (MakesRoomy (meanings C.holds C.entries C.opening C.claims C.sound) self.now.config key both.shard (Event.Miss party.old.number key tick) party.old party.new) }
-        ensures err { OnErr result (Makes (meanings C.holds C.entries C.opening C.claims C.sound) self.now.config key both.shard [] party.old party.new) }
+        ensures ok { OnOk result (MakesRoomy C.Keeps self.now.config key both.shard (Event.Miss party.old.number key tick) party.old party.new) }
+        ensures err { OnErr result (Makes C.Keeps self.now.config key both.shard [] party.old party.new) }
     {
         let n = party.number();
         let event = Event::Miss { n, key, t: tick };

@@ -21,7 +21,6 @@ pub struct Pact<C> {
 }
 
 impl<C: Keeps> TurnRule<Item<C>> for Pact<C> {
-    ghost use Rattle.arc_table.specs.Items.{meanings};
     ghost use Rattle.arc_table.specs.opening.Opening.{about_of};
     ghost use Rattle.arc_table.specs.pact.Rule.{Pact as pact};
     ghost use Rattle.arc_table.specs.Views.{newcomer, after_won, after_lost, after_learned, no_one, IsFair};
@@ -31,11 +30,11 @@ impl<C: Keeps> TurnRule<Item<C>> for Pact<C> {
 
     type Key = Settled<C>;
 
-    ghost holds = { pact (meanings C.holds C.entries C.opening C.claims C.sound) };
+    ghost holds = { pact C.Keeps };
 
-    ghost first = { λ key n. newcomer (about_of (meanings C.holds C.entries C.opening C.claims C.sound) key.config key.cells.value.items) n };
+    ghost first = { λ key n. newcomer (about_of C.Keeps key.config key.cells.value.items) n };
 
-    ghost won = { λ _ i v w. after_won (meanings C.holds C.entries C.opening C.claims C.sound) i v w };
+    ghost won = { λ _ i v w. after_won C.Keeps i v w };
 
     ghost lost = { λ _ i owner w. after_lost i owner w };
 
@@ -45,9 +44,9 @@ impl<C: Keeps> TurnRule<Item<C>> for Pact<C> {
 
     ghost blank = { no_one };
 
-    ghost keeps_won = { won_keeps (meanings C.holds C.entries C.opening C.claims C.sound) };
+    ghost keeps_won = { won_keeps C.Keeps };
 
-    ghost keeps_lost = { lost_keeps (meanings C.holds C.entries C.opening C.claims C.sound) };
+    ghost keeps_lost = { lost_keeps C.Keeps };
 
-    ghost keeps_learned = { learned_keeps (meanings C.holds C.entries C.opening C.claims C.sound) };
+    ghost keeps_learned = { learned_keeps C.Keeps };
 }

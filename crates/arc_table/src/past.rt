@@ -3,7 +3,6 @@ ghost use Rattle.std.specs.Prelude.{◌≡◌, [], ◌∷◌, vec_len, IfOk, OnO
 ghost use Rattle.arc_core.specs.declared.event.Event.{Event};
 ghost use Rattle.arc_table.specs.Both.{Makes};
 ghost use Rattle.arc_table.specs.Cache.{IsPartyOf};
-ghost use Rattle.arc_table.specs.Items.{meanings};
 ghost use Rattle.arc_table.specs.Making.{IsTaken};
 ghost use Rattle.arc_table.specs.pact.Standing.{IsCachedWith};
 
@@ -23,11 +22,11 @@ impl<C: Keeps> Arcs<C> {
         kept: Digest,
     ) -> Result<Vec<u8>, NoMemory>
         requires party { IsPartyOf self.now party.old }
-        requires taken { IsTaken (meanings C.holds C.entries C.opening C.claims C.sound) self.now.config key both party.old }
+        requires taken { IsTaken C.Keeps self.now.config key both party.old }
         requires kept { IsCachedWith (record { key = key; digest = kept }) both.shard.now }
         ensures room { IfOk result (λ bytes. vec_len bytes ≡ key.size) }
-        ensures ok { OnOk result (Makes (meanings C.holds C.entries C.opening C.claims C.sound) self.now.config key both.shard (Event.Past party.old.number key kept ∷ []) party.old party.new) }
-        ensures err { OnErr result (Makes (meanings C.holds C.entries C.opening C.claims C.sound) self.now.config key both.shard [] party.old party.new) }
+        ensures ok { OnOk result (Makes C.Keeps self.now.config key both.shard (Event.Past party.old.number key kept ∷ []) party.old party.new) }
+        ensures err { OnErr result (Makes C.Keeps self.now.config key both.shard [] party.old party.new) }
     {
         let Ok(bytes) = vec![in self.alloc; 0u8; key.size as usize] else {
             self.give_back(party, key, both);

@@ -12,7 +12,6 @@ ghost use Rattle.arc_table.specs.feeder.Feeding.{IsFeeder};
 ghost use Rattle.arc_table.specs.Fronts.{list_at};
 ghost use Rattle.arc_table.specs.Geometry.{IsShard};
 ghost use Rattle.arc_table.specs.InHand.{made_since};
-ghost use Rattle.arc_table.specs.Items.{meanings};
 ghost use Rattle.arc_table.specs.Looking.{HasNoLook};
 ghost use Rattle.arc_table.specs.feeder.Picking.{EndsFeed, Feeds, HasNoted, HasPicked, IsBlockOf, IsFeeding, KeepsFeed, PicksAll, left_to_pick, nth_shard_turn};
 ghost use Rattle.arc_table.specs.ShardGiving.{IsGivenShard, after_shard};
@@ -72,8 +71,8 @@ impl<C: Keeps> Arcs<C> {
         ensures free { HasNoLook self.now party.new }
         ensures held { party.new.held ≡ party.old.held }
         ensures number { party.new.number ≡ party.old.number }
-        ensures ok { OnOk result (PicksAll (meanings C.holds C.entries C.opening C.claims C.sound) self.now.config (nth_shard_turn self.now.config shard) party.old party.new out.old.items out.new.items) }
-        ensures err { OnErr result (Feeds (meanings C.holds C.entries C.opening C.claims C.sound) self.now.config (nth_shard_turn self.now.config shard) [] party.old party.new) }
+        ensures ok { OnOk result (PicksAll C.Keeps self.now.config (nth_shard_turn self.now.config shard) party.old party.new out.old.items out.new.items) }
+        ensures err { OnErr result (Feeds C.Keeps self.now.config (nth_shard_turn self.now.config shard) [] party.old party.new) }
         ensures unchanged { OnErr result (out.new.items ≡ out.old.items) }
     {
         let mut feed = self.begin_feed(rt, party, shard, out.as_slice().len());
@@ -104,7 +103,7 @@ impl<C: Keeps> Arcs<C> {
         ensures had { result.had ≡ had }
         ensures len { result.len ≡ length result.before.value.history }
         ensures began { result.began.value ≡ party.new }
-        ensures takes { Takes (meanings C.holds C.entries C.opening C.claims C.sound) result.turn (item.Shard result.before.value) party.old party.new }
+        ensures takes { Takes C.Keeps result.turn (item.Shard result.before.value) party.old party.new }
         ensures scan { HasPicked self.now.config result party.new [] }
         ensures picked { result.shard.now.picked ≡ [] }
     {
@@ -214,7 +213,7 @@ impl<C: Keeps> Arcs<C> {
         requires scan { (es : List Event) × HasPicked self.now.config feed party.old es }
         requires end { candidate feed.shard.now ≡ None }
         requires room { 1 ≤ feed.shard.event_room }
-        ensures { (es : List Event) → HasPicked self.now.config feed party.old es → EndsFeed (meanings C.holds C.entries C.opening C.claims C.sound) feed (es ++ Event.FeedEnd party.old.number ∷ []) feed.shard.now.picked party.old party.new }
+        ensures { (es : List Event) → HasPicked self.now.config feed party.old es → EndsFeed C.Keeps feed (es ++ Event.FeedEnd party.old.number ∷ []) feed.shard.now.picked party.old party.new }
     {
         feed.shard.feed_end(party.number());
         self.give_alone(party, feed);
@@ -224,7 +223,7 @@ impl<C: Keeps> Arcs<C> {
     fn end_unpicked(&self, party: &mut Party<C>, mut feed: Feed<C>)
         requires party { IsPartyOf self.now party.old }
         requires scan { (es : List Event) × HasPicked self.now.config feed party.old es }
-        ensures { EndsFeed (meanings C.holds C.entries C.opening C.claims C.sound) feed [] [] party.old party.new }
+        ensures { EndsFeed C.Keeps feed [] [] party.old party.new }
     {
         feed.shard.unpick(feed.len);
         self.give_alone(party, feed);
@@ -236,7 +235,7 @@ impl<C: Keeps> Arcs<C> {
         requires range { IsShard self.now.config feed.turn }
         requires held { IsAmong feed.turn party.old.held }
         requires given { IsGivenShard party.old.own.about.config party.old feed.turn [] feed.before.value (made_since feed.before.value feed.shard) feed.shard }
-        ensures { party.new ≡ gave_back party.old feed.turn (after_shard (meanings C.holds C.entries C.opening C.claims C.sound) [] feed.turn feed.before.value (made_since feed.before.value feed.shard) feed.shard party.old.own) }
+        ensures { party.new ≡ gave_back party.old feed.turn (after_shard C.Keeps [] feed.turn feed.before.value (made_since feed.before.value feed.shard) feed.shard party.old.own) }
     {
         let Feed {
             turn,
@@ -257,9 +256,9 @@ pub(crate) struct Alone;
 impl<C: Keeps> GivenView<Item<C>, Known<C>, Snapshot<HeapShard>> for Alone {
     ghost use Rattle.std.specs.Prelude.{[]};
     ghost use Rattle.arc_table.specs.InHand.{made_since};
-    ghost use Rattle.arc_table.specs.Items.{log_in, meanings};
+    ghost use Rattle.arc_table.specs.Items.{log_in};
     ghost use Rattle.arc_table.specs.ShardGiving.{after_shard};
 
-    ghost given = { λ before w i v. after_shard (meanings C.holds C.entries C.opening C.claims C.sound) [] i before.value
+    ghost given = { λ before w i v. after_shard C.Keeps [] i before.value
         (made_since before.value (log_in w.about.config v)) (log_in w.about.config v) w };
 }

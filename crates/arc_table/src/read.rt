@@ -5,7 +5,6 @@ ghost use Rattle.turn_table.specs.Places.{Place};
 ghost use Rattle.arc_table.specs.declared.view.Known.{Known};
 ghost use Rattle.arc_table.specs.Arriving.{IsReading};
 ghost use Rattle.arc_table.specs.Cache.{IsPartyOf};
-ghost use Rattle.arc_table.specs.Items.{meanings};
 ghost use Rattle.arc_table.specs.Looking.{HasNoLook};
 ghost use Rattle.vdev_io.specs.Calls.{KeepsPool};
 ghost use Rattle.arc_table.specs.Reading.{Answers, AnswersRead, AnswersRound, EndsMiss, GoesToPool, KeepsDevice, Waits, failed_at, fault_of, outside, served_as};
@@ -90,11 +89,11 @@ impl<C: Keeps> Arcs<C> {
     ) -> Result<Read, ReadFault>
         requires party { IsPartyOf self.now party.old }
         requires look { HasNoLook self.now party.old }
-        ensures answer { AnswersRead (meanings C.holds C.entries C.opening C.claims C.sound) P.Pool D.CacheDev self.now.config ptr.now tick
+        ensures answer { AnswersRead C.Keeps P.Pool D.CacheDev self.now.config ptr.now tick
             (outside pool.old cache.old) (outside pool.new cache.new)
             party.old party.new result }
         ensures alone { HasAllIdle self.now.config party.old → IsValid (P.size pool.old) ptr.now.key
-            → Answers (meanings C.holds C.entries C.opening C.claims C.sound) P.Pool D.CacheDev self.now.config ptr.now tick
+            → Answers C.Keeps P.Pool D.CacheDev self.now.config ptr.now tick
             (outside pool.old cache.old) (outside pool.new cache.new) party.old party.new result }
         ensures party { IsPartyOf self.now party.new }
         ensures held { party.new.held ≡ party.old.held }
@@ -125,8 +124,8 @@ impl<C: Keeps> Arcs<C> {
         requires look { HasNoLook self.now party.old }
         requires valid { IsValid (P.size pool.old) ptr.now.key }
         ensures answer { (times : ℕ) × (r : Place (Known C))
-            × Waits (meanings C.holds C.entries C.opening C.claims C.sound) self.now.config ptr.now.key times party.old r
-            × Answers (meanings C.holds C.entries C.opening C.claims C.sound) P.Pool D.CacheDev self.now.config ptr.now tick
+            × Waits C.Keeps self.now.config ptr.now.key times party.old r
+            × Answers C.Keeps P.Pool D.CacheDev self.now.config ptr.now tick
             (outside pool.old cache.old) (outside pool.new cache.new) r party.new result }
         ensures party { IsPartyOf self.now party.new }
         ensures held { party.new.held ≡ party.old.held }
@@ -155,7 +154,7 @@ impl<C: Keeps> Arcs<C> {
         requires party { IsPartyOf self.now party.old }
         requires look { HasNoLook self.now party.old }
         requires valid { IsValid (P.size pool.old) ptr.key }
-        ensures answer { AnswersRound (meanings C.holds C.entries C.opening C.claims C.sound) P.Pool D.CacheDev self.now.config ptr tick
+        ensures answer { AnswersRound C.Keeps P.Pool D.CacheDev self.now.config ptr tick
             (outside pool.old cache.old) (outside pool.new cache.new)
             party.old party.new result }
         ensures party { IsPartyOf self.now party.new }
@@ -203,7 +202,7 @@ impl<C: Keeps> Arcs<C> {
         requires look { HasNoLook self.now party.old }
         requires reading { IsReading ptr.now.key party.old }
         requires valid { IsValid (P.size pool.old) ptr.now.key }
-        ensures answer { EndsMiss (meanings C.holds C.entries C.opening C.claims C.sound) P.Pool D.CacheDev self.now.config ptr.now found
+        ensures answer { EndsMiss C.Keeps P.Pool D.CacheDev self.now.config ptr.now found
             (outside pool.old cache.old) (outside pool.new cache.new)
             party.old party.new result }
         ensures pool { KeepsPool P.Pool pool.old pool.new }
@@ -236,7 +235,7 @@ impl<C: Keeps> Arcs<C> {
         requires look { HasNoLook self.now party.old }
         requires reading { IsReading ptr.now.key party.old }
         requires valid { IsValid (P.size pool.old) ptr.now.key }
-        ensures answer { GoesToPool (meanings C.holds C.entries C.opening C.claims C.sound) P.Pool self.now.config ptr.now
+        ensures answer { GoesToPool C.Keeps P.Pool self.now.config ptr.now
             pool.old pool.new party.old party.new result }
         ensures pool { KeepsPool P.Pool pool.old pool.new }
     {

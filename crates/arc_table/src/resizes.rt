@@ -8,7 +8,6 @@ ghost use Rattle.arc_table.specs.Cache.{IsPartyOf};
 ghost use Rattle.arc_table.specs.scans.Ending.{MakesRoomy};
 ghost use Rattle.arc_table.specs.feeder.Feeding.{IsFeeder};
 ghost use Rattle.arc_table.specs.Geometry.{IsBucket, bucket_turn};
-ghost use Rattle.arc_table.specs.Items.{meanings};
 ghost use Rattle.arc_table.specs.Looking.{HasNoLook};
 ghost use Rattle.arc_table.specs.Making.{IsTaken};
 ghost use Rattle.arc_table.specs.Resizing.{AnswersResize, ResizesOne, key_in};
@@ -49,7 +48,7 @@ impl<C: Keeps> Arcs<C> {
         ensures free { HasNoLook self.now party.new }
         ensures held { party.new.held ≡ party.old.held }
         ensures number { party.new.number ≡ party.old.number }
-        ensures answer { AnswersResize (meanings C.holds C.entries C.opening C.claims C.sound) self.now.config c party.old party.new result }
+        ensures answer { AnswersResize C.Keeps self.now.config c party.old party.new result }
     {
         for shard in 0..self.config.shards {
             match self.resize_one(rt, party, shard, c) {
@@ -76,8 +75,8 @@ impl<C: Keeps> Arcs<C> {
         ensures party { IsPartyOf self.now party.new }
         ensures number { party.new.number ≡ party.old.number }
         ensures held { party.new.held ≡ party.old.held }
-        ensures ok { OnOk result (ResizesOne (meanings C.holds C.entries C.opening C.claims C.sound) self.now.config party.old.number c shard party.old party.new) }
-        ensures err { OnErr result (Does (meanings C.holds C.entries C.opening C.claims C.sound) self.now.config (key_in shard) [] party.old party.new) }
+        ensures ok { OnOk result (ResizesOne C.Keeps self.now.config party.old.number c shard party.old party.new) }
+        ensures err { OnErr result (Does C.Keeps self.now.config (key_in shard) [] party.old party.new) }
     {
         let key = key_in(shard);
         let both = self.take_both(rt, party, key);
@@ -93,12 +92,12 @@ impl<C: Keeps> Arcs<C> {
         c: u64,
     ) -> Result<(), NoMemory>
         requires party { IsPartyOf self.now party.old }
-        requires taken { IsTaken (meanings C.holds C.entries C.opening C.claims C.sound) self.now.config key both party.old }
+        requires taken { IsTaken C.Keeps self.now.config key both party.old }
         requires others { (j : ℕ) → IsAmong j party.old.held → IsBucket self.now.config j → j ≡ bucket_turn self.now.config key }
         requires feeder { IsFeeder self.now party.old }
         requires capacity { IsCapacity c }
-        ensures ok { OnOk result (MakesRoomy (meanings C.holds C.entries C.opening C.claims C.sound) self.now.config key both.shard (Event.Resize party.old.number c) party.old party.new) }
-        ensures err { OnErr result (Makes (meanings C.holds C.entries C.opening C.claims C.sound) self.now.config key both.shard [] party.old party.new) }
+        ensures ok { OnOk result (MakesRoomy C.Keeps self.now.config key both.shard (Event.Resize party.old.number c) party.old party.new) }
+        ensures err { OnErr result (Makes C.Keeps self.now.config key both.shard [] party.old party.new) }
     {
         let n = party.number();
         let event = Event::Resize { n, c };

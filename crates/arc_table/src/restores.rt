@@ -7,7 +7,6 @@ ghost use Rattle.blk_ptr.specs.Key.{is_well_formed};
 ghost use Rattle.blk_ptr.specs.declared.state.State.{State};
 ghost use Rattle.arc_table.specs.Cache.{IsPartyOf};
 ghost use Rattle.arc_table.specs.feeder.Feeding.{AnswersOne, AnswersRestore, IsFeeder, stop_after};
-ghost use Rattle.arc_table.specs.Items.{meanings};
 ghost use Rattle.arc_table.specs.Looking.{HasNoLook};
 
 use crate::arcs::{Arcs, Party};
@@ -75,7 +74,7 @@ impl<C: Keeps> Arcs<C> {
         requires look { HasNoLook self.now party.old }
         requires feeder { IsFeeder self.now party.old }
         requires keys { (i : ℕ) (r : Restored) → get_elem? list.now i ≡ some r → IsTrue (is_well_formed r.key) }
-        ensures { AnswersRestore (meanings C.holds C.entries C.opening C.claims C.sound) self.now.config list.now party.old party.new result }
+        ensures { AnswersRestore C.Keeps self.now.config list.now party.old party.new result }
     {
         for done in 0..list.len() {
             match self.restore_one(rt, party, &list[done]) {
@@ -100,7 +99,7 @@ impl<C: Keeps> Arcs<C> {
         ensures party { IsPartyOf self.now party.new }
         ensures number { party.new.number ≡ party.old.number }
         ensures held { party.new.held ≡ party.old.held }
-        ensures answer { AnswersOne (meanings C.holds C.entries C.opening C.claims C.sound) self.now.config restored.now party.old party.new result }
+        ensures answer { AnswersOne C.Keeps self.now.config restored.now party.old party.new result }
     {
         let mut both = self.take_both(rt, party, restored.key);
         let shard = &mut *both.shard;

@@ -13,7 +13,6 @@ ghost use Rattle.arc_table.specs.Cache.{IsPartyOf};
 ghost use Rattle.arc_table.specs.scans.Evicting.{HasBothRoom, HasScanRoom, HasScanned, IsScan, IsScanning, KeepsBoth, KeepsHand, MayBegin, left_of};
 ghost use Rattle.arc_table.specs.Fronts.{item_at};
 ghost use Rattle.arc_table.specs.InHand.{buckets_of};
-ghost use Rattle.arc_table.specs.Items.{meanings};
 ghost use Rattle.arc_table.specs.scans.Scanning.{takes_room};
 ghost use Rattle.arc_table.specs.declared.view.Known.{Known};
 
@@ -77,11 +76,11 @@ impl<C: Keeps> Arcs<C> {
     fn name_victim(&self, party: &mut Party<C>, scan: &mut Scan, key: Key)
         requires party { IsPartyOf self.now party.old }
         requires victim { (e : Event) × IsUnnamed key e scan.old.both.shard }
-        requires scan { IsScanning (meanings C.holds C.entries C.opening C.claims C.sound) self.now.config scan.old party.old }
+        requires scan { IsScanning C.Keeps self.now.config scan.old party.old }
         requires room { HasScanRoom 0 scan.old }
         ensures hand { KeepsHand scan.old.both scan.new.both }
-        ensures scan { (p : Place (Known C)) (es : List Event) → MayBegin self.now.config scan.old.both p → IsScan (meanings C.holds C.entries C.opening C.claims C.sound) self.now.config p party.old scan.old es
-            → (more : List Event) × IsScan (meanings C.holds C.entries C.opening C.claims C.sound) self.now.config p party.new scan.new more }
+        ensures scan { (p : Place (Known C)) (es : List Event) → MayBegin self.now.config scan.old.both p → IsScan C.Keeps self.now.config p party.old scan.old es
+            → (more : List Event) × IsScan C.Keeps self.now.config p party.new scan.new more }
         ensures room { (n : ℕ) → HasScanRoom n scan.old → HasScanRoom n scan.new }
         ensures fewer { left_of scan.new < left_of scan.old }
         ensures entry_room { scan.old.both.shard.entry_room ≤ scan.new.both.shard.entry_room }
@@ -108,11 +107,11 @@ impl<C: Keeps> Arcs<C> {
         requires party { IsPartyOf self.now party.old }
         requires event { IsTrue (takes_room event.now) }
         requires legal { IsTrue (legal scan.old.both.shard.now event.now) }
-        requires scan { IsScanning (meanings C.holds C.entries C.opening C.claims C.sound) self.now.config scan.old party.old }
+        requires scan { IsScanning C.Keeps self.now.config scan.old party.old }
         requires room { HasScanRoom (room_for event.now) scan.old }
         ensures hand { KeepsHand scan.old.both scan.new.both }
-        ensures scan { (p : Place (Known C)) (es : List Event) → MayBegin self.now.config scan.old.both p → IsScan (meanings C.holds C.entries C.opening C.claims C.sound) self.now.config p party.old scan.old es
-            → (more : List Event) × IsScan (meanings C.holds C.entries C.opening C.claims C.sound) self.now.config p party.new scan.new more }
+        ensures scan { (p : Place (Known C)) (es : List Event) → MayBegin self.now.config scan.old.both p → IsScan C.Keeps self.now.config p party.old scan.old es
+            → (more : List Event) × IsScan C.Keeps self.now.config p party.new scan.new more }
         ensures room { HasScanRoom (room_for event.now) scan.new }
         ensures entry_room { scan.old.both.shard.entry_room ≤ scan.new.both.shard.entry_room }
         ensures named { AreAllNamed event.now scan.new.both.shard }
@@ -135,7 +134,7 @@ impl<C: Keeps> Arcs<C> {
         requires may { MayBegin self.now.config both party.old }
         requires event { IsTrue (takes_room event.now) }
         requires legal { IsTrue (legal both.shard.now event.now) }
-        ensures ok { IfOk result (λ scan. HasScanned (meanings C.holds C.entries C.opening C.claims C.sound) self.now.config both event.now party.old party.new scan) }
+        ensures ok { IfOk result (λ scan. HasScanned C.Keeps self.now.config both event.now party.old party.new scan) }
         ensures err { IfErr result (λ back. KeepsBoth both back × (back.hand.own ≡ both.hand.own) × (party.new ≡ party.old)) }
     {
         let Ok(marked) = reserve(&mut both, self.alloc) else {

@@ -17,7 +17,7 @@ use Rattle.arc_table.specs.Both.{Does, Takes}
 use Rattle.arc_table.specs.Fronts.{list_at}
 use Rattle.arc_table.specs.Geometry.{cell_number, parties_of}
 use Rattle.arc_table.specs.Giving.{IsGivenCell}
-use Rattle.arc_table.specs.Items.{Meanings, meanings}
+use Rattle.arc_table.specs.Items.{Meanings}
 use Rattle.arc_table.specs.Views.{after_cell}
 use Rattle.arc_table.specs.declared.item.Item.TheVariants as item
 use Rattle.arc_table.specs.declared.view.Known.{Known}
@@ -53,12 +53,13 @@ holds_of c = holds_in key_of bytes_of is_held c.dbufs
 
 -- what a cell means to the shared cache
 abbrev pub dbuf_meanings : Meanings OnHeap
-dbuf_meanings = meanings
-    (λ b. holds_of b.value)
-    (λ b. map event_numbers b.value.history)
-    (λ b. opening_numbers b.value.limit b.value.opening)
-    (λ b n. mapping_numbers (claims_in n b.value.dbufs))
-    (λ b. IsSound b.value)
+dbuf_meanings = record {
+  holds = λ b. holds_of b.value;
+  entries = λ b. map event_numbers b.value.history;
+  opening = λ b. opening_numbers b.value.limit b.value.opening;
+  claims = λ b n. mapping_numbers (claims_in n b.value.dbufs);
+  sound = λ b. IsSound b.value;
+}
 
 -- the party took the bucket and the shard of a key, and gave both back without an event; so many times, with one key or another
 abbrev pub LooksTimes : Config → (times : ℕ) → PartyPlace → PartyPlace → Type 0

@@ -1,6 +1,5 @@
 //! The batch of one shard: what is picked there, the plan for it, and its runs.
 ghost use Rattle.std.specs.Prelude.{◌≡◌, ◌⊎◌, ◌+◌, ◌*◌, ◌^◌, ◌<◌, ◌≤◌, ◌++◌, ℕ, List, [], OnOk, IsErrOf, MatchResult, count_by, drop, length, take, true, vec_len};
-ghost use Rattle.arc_table.specs.Items.{meanings};
 ghost use Rattle.arc_table.specs.declared.picks.Picked.{Picked as Block};
 ghost use Rattle.l2_dev.specs.Calls.{HasDevCause};
 ghost use Rattle.l2_dev.specs.declared.fault.DevErr.TheVariants as err;
@@ -106,7 +105,7 @@ fn begin_batch<C: Keeps, D: CacheDev>(
     ensures cause { HasDevCause (D.faults l2.old.dev) (D.faults l2.new.dev) result }
     ensures crash { l2.new.cursor.ring.lap < last_lap → KeepsSo D.told D.has_sectors D.may_leave l2.old.dev l2.new.dev l2.old.cursor l2.new.cursor result }
     ensures counted { cleared.new ≤ vec_len dropped.new }
-    ensures acts { (acts : List Act) × (calls : List DeviceCall) × DoesActs (meanings C.holds C.entries C.opening C.claims C.sound) arcs.now.config acts party.old party.new × (cleared.new ≡ cleared.old + count_by is_cleared acts)
+    ensures acts { (acts : List Act) × (calls : List DeviceCall) × DoesActs C.Keeps arcs.now.config acts party.old party.new × (cleared.new ≡ cleared.old + count_by is_cleared acts)
         × MakesDeviceCalls D.CacheDev calls l2.old.dev l2.new.dev × HasBegun l2.old.cursor l2.new.cursor (batch_len blocks.now) acts calls result }
 {
     // that the ring is sound
@@ -142,7 +141,7 @@ fn write_runs<C: Keeps, D: CacheDev>(
     ensures crash { KeepsSo D.told D.has_sectors D.may_leave l2.old.dev l2.new.dev l2.old.cursor l2.new.cursor result }
     ensures ends { (l2.new.cursor.ring.end ≡ l2.old.cursor.ring.end) × (l2.new.cursor.pending ≡ []) }
     ensures counted { written.new ≤ written.old + length blocks.now }
-    ensures acts { (acts : List Act) × DoesActs (meanings C.holds C.entries C.opening C.claims C.sound) arcs.now.config acts party.old party.new × (written.new ≡ written.old + count_by is_placed acts)
+    ensures acts { (acts : List Act) × DoesActs C.Keeps arcs.now.config acts party.old party.new × (written.new ≡ written.old + count_by is_placed acts)
         × (ran : HaveRun l2.old.cursor l2.new.cursor blocks.now acts (end_of result)) × (calls : List DeviceCall) × MakesDeviceCalls D.CacheDev calls l2.old.dev l2.new.dev × RunsCalls l2.old.cursor blocks.now ran.count (end_of result) calls }
 {
     for number in 0..runs_of(blocks.len()) {
@@ -187,7 +186,7 @@ fn feed_batch<C: Keeps, D: CacheDev>(
     ensures written { report.new.written ≤ report.old.written + length blocks.now }
     ensures same { (report.new.picked ≡ report.old.picked) × (report.new.bytes ≡ report.old.bytes) }
     ensures end { report.new.end ≡ report.old.end }
-    ensures acts { (clears : List Act) × (settles : List Act) × DoesActs (meanings C.holds C.entries C.opening C.claims C.sound) arcs.now.config (clears ++ settles) party.old party.new × CountsMore (clears ++ settles) report.old report.new
+    ensures acts { (clears : List Act) × (settles : List Act) × DoesActs C.Keeps arcs.now.config (clears ++ settles) party.old party.new × CountsMore (clears ++ settles) report.old report.new
         × (written : IsWritten l2.old.cursor l2.new.cursor blocks.now clears settles (end_of result) ⊎ IsUnwritten l2.old.cursor l2.new.cursor blocks.now clears settles (end_of result))
         × (calls : List DeviceCall) × MakesDeviceCalls D.CacheDev calls l2.old.dev l2.new.dev × WrittenCalls written calls }
 {
@@ -230,7 +229,7 @@ pub(crate) fn feed_shard<C: Keeps, D: CacheDev>(
     ensures crash { l2.new.cursor.ring.lap < last_lap → KeepsSo D.told D.has_sectors D.may_leave l2.old.dev l2.new.dev l2.old.cursor l2.new.cursor result }
     ensures room { HasRoom (shard + 1) (vec_len dropped.new) report.new }
     ensures end { report.new.end ≡ report.old.end }
-    ensures fed { (acts : List Act) × (calls : List DeviceCall) × DoesActs (meanings C.holds C.entries C.opening C.claims C.sound) arcs.now.config acts party.old party.new × CountsMore acts report.old report.new
+    ensures fed { (acts : List Act) × (calls : List DeviceCall) × DoesActs C.Keeps arcs.now.config acts party.old party.new × CountsMore acts report.old report.new
         × MakesDeviceCalls D.CacheDev calls l2.old.dev l2.new.dev × FedShard shard l2.old.cursor l2.new.cursor acts calls (end_of result) }
 {
     let mut blocks = Vec::new(alloc);

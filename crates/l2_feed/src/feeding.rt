@@ -1,7 +1,6 @@
 //! The feed of all shards.
 ghost use Rattle.std.specs.Prelude.{◌≡◌, ◌<◌, ◌≤◌};
 ghost use Rattle.vdev_io.specs.Faults.{Rose};
-ghost use Rattle.arc_table.specs.Items.{meanings};
 ghost use Rattle.l2_dev.specs.declared.report.FeedStop.TheVariants as stop;
 ghost use Rattle.l2_ring.specs.Ring.{last_lap};
 ghost use Rattle.l2_feed.specs.Crashes.{FeedAsks, FeedKeeps};
@@ -47,7 +46,7 @@ pub fn feed<C: Keeps, D: CacheDev>(
     ensures cause { result.end ≡ stop.DevFault → Rose (D.faults l2.old.dev) (D.faults l2.new.dev) }
     ensures asks { FeedAsks D.CacheDev l2.old.dev l2.new.dev result.end }
     ensures crash { l2.new.cursor.ring.lap < last_lap → FeedKeeps D.told D.has_sectors D.may_leave l2.old.dev l2.new.dev l2.old.cursor l2.new.cursor result.end }
-    ensures fed { HasFed (meanings C.holds C.entries C.opening C.claims C.sound) arcs.now.config D.CacheDev l2.old.dev l2.new.dev l2.old.cursor l2.new.cursor party.old party.new result }
+    ensures fed { HasFed C.Keeps arcs.now.config D.CacheDev l2.old.dev l2.new.dev l2.old.cursor l2.new.cursor party.old party.new result }
 {
     let mut report = FeedReport {
         picked: 0,

@@ -1,5 +1,4 @@
 //! Laws of feeds that no single clause states: each is the contract of a function with nothing to do.
-ghost use Rattle.arc_table.specs.Items.{meanings};
 ghost use Rattle.l2_feed.specs.Ends.{DoneIsWhole, LeavesForItsEnd, NewestStay, TakesFewLaps};
 
 use arc_core::Keeps;
@@ -20,5 +19,5 @@ pub fn feeds_take_few_laps()
 /// Where each place that the feeder has seen is its key's newest live one, it is so after a feed that was refused memory for no place. So after feeds
 /// that were done a crash restores each such key at its place (`newest_is_restored` of `l2_dev`).
 pub fn newest_places_stay<C: Keeps, D: CacheDev>()
-    ensures { NewestStay (meanings C.holds C.entries C.opening C.claims C.sound) D.CacheDev }
+    ensures { NewestStay C.Keeps D.CacheDev }
 {}

@@ -1,6 +1,5 @@
 //! How the places of what a plan drops are taken back, and how the picks of a shard are settled.
 ghost use Rattle.std.specs.Prelude.{◌≡◌, ◌+◌, ◌^◌, ◌<◌, ◌≤◌, ◌++◌, ℕ, List, [], OnOk, count_by, length};
-ghost use Rattle.arc_table.specs.Items.{meanings};
 ghost use Rattle.arc_table.specs.declared.picks.Picked.{Picked as Block};
 ghost use Rattle.l2_feed.specs.Acts.{Act, DoesActs};
 ghost use Rattle.l2_feed.specs.Ready.{IsFeederOn, IsFeeding};
@@ -35,7 +34,7 @@ pub(crate) fn leave_all<C: Keeps>(
 )
     requires { (turn : ℕ) × IsFeeding arcs.now turn blocks.now party.old }
     ensures feeding { (turn : ℕ) → IsFeeding arcs.now turn blocks.now party.old → IsFeeding arcs.now turn [] party.new }
-    ensures acts { (acts : List Act) × DoesActs (meanings C.holds C.entries C.opening C.claims C.sound) arcs.now.config acts party.old party.new × AreLeft (why_of (stop_of fault)) blocks.now acts }
+    ensures acts { (acts : List Act) × DoesActs C.Keeps arcs.now.config acts party.old party.new × AreLeft (why_of (stop_of fault)) blocks.now acts }
 {
     let why = why_of(fault);
     for picked in blocks {
@@ -55,7 +54,7 @@ pub(crate) fn set_run<C: Keeps>(
     requires room { place + bytes_of run.now < 2 ^ 64 }
     requires few { length run.now ≤ most }
     ensures feeding { (turn : ℕ) (rest : List Block) → IsFeeding arcs.now turn (run.now ++ rest) party.old → IsFeeding arcs.now turn rest party.new }
-    ensures acts { (acts : List Act) × DoesActs (meanings C.holds C.entries C.opening C.claims C.sound) arcs.now.config acts party.old party.new × AreSet place run.now acts × (result ≡ count_by is_placed acts) }
+    ensures acts { (acts : List Act) × DoesActs C.Keeps arcs.now.config acts party.old party.new × AreSet place run.now acts × (result ≡ count_by is_placed acts) }
     ensures few { result ≤ length run.now }
 {
     let mut written = 0;
@@ -80,7 +79,7 @@ pub(crate) fn clear_all<C: Keeps>(
     requires on { IsFeederOn arcs.now party.old }
     requires room { cleared.old + length dropped.now < 2 ^ 64 }
     ensures feeding { (turn : ℕ) (blocks : List Block) → IsFeeding arcs.now turn blocks party.old → IsFeeding arcs.now turn blocks party.new }
-    ensures acts { (acts : List Act) × DoesActs (meanings C.holds C.entries C.opening C.claims C.sound) arcs.now.config acts party.old party.new × AreCleared dropped.now acts × (cleared.new ≡ cleared.old + count_by is_cleared acts) × OnOk result (NoneRefused acts) }
+    ensures acts { (acts : List Act) × DoesActs C.Keeps arcs.now.config acts party.old party.new × AreCleared dropped.now acts × (cleared.new ≡ cleared.old + count_by is_cleared acts) × OnOk result (NoneRefused acts) }
     ensures few { cleared.new ≤ cleared.old + length dropped.now }
 {
     let mut result = Ok(());

@@ -2,12 +2,10 @@
 use Rattle.std.specs.Prelude.{◌≡◌, ℕ, ◌<◌, List, [], length, map}
 use mathlib.Core.Option.{some}
 use lib.ListN.{get_elem?}
-use Rattle.arc_core.specs.declared.keeps.Keeps.{Ghosts}
 use Rattle.turn_table.specs.Places.{HasNumber, Place}
 use Rattle.arc_table.specs.declared.view.Known.{Known}
 use Rattle.arc_table.specs.Cache.{Cache}
 use Rattle.arc_table.specs.Geometry.{parties_of}
-use Rattle.arc_table.specs.Items.{Meanings}
 use Rattle.arc_table.specs.Views.{no_ledger}
 use Rattle.dbuf_cells.specs.declared.kept.Kept.{Kept}
 use Rattle.dbuf_state.specs.CellLog.{CellLog, fresh}
@@ -16,10 +14,6 @@ use Rattle.dbuf_state.specs.declared.state.DbState.TheVariants as state
 use Rattle.dbuf_state.specs.declared.state.Mapping.{Mapping}
 use Rattle.trace_run.specs.KeptBlocks.{Stands}
 use Rattle.arc_table.specs.Told.{IsTold}
-
--- what a cell of this type means to the cache
-abbrev pub meanings_of : {C : Type 0} → Ghosts C → Meanings C
-meanings_of cells = record { holds = cells.holds; entries = cells.entries; opening = cells.opening; claims = cells.claims; sound = cells.sound }
 
 -- a cell at its start: it has this limit and maps this, and nothing was done to it
 pub record HasBegun (limit : ℕ) (opening : List Mapping) (cell : CellLog Kept) : Type 0 where

@@ -10,7 +10,7 @@ use Rattle.trace_text.specs.ReportText.{report_text}
 use Rattle.arc_paper.specs.Text.{report_text as paper_text_of}
 use Rattle.arc_check.specs.Judging.{IsVerdict}
 use Rattle.arc_check.specs.LogText.{IsLogText}
-use Rattle.arc_check.specs.LogText.{IsFirstFault as IsFirstLogFault}
+use Rattle.arc_check.specs.LogText.{IsFirstLogFault}
 use Rattle.arc_check.specs.declared.log.Log.{Log}
 use Rattle.arc_check.specs.declared.verdict.Verdict.{Verdict}
 use Rattle.arc_check.specs.declared.verdict.Verdict.TheVariants as verdicts

@@ -3,7 +3,6 @@
 ghost use Rattle.std.specs.Prelude.{◌≡◌, ℕ, [], IfOk, List, map, vec_len};
 ghost use Rattle.std.specs.List.{AllByRecursion};
 ghost use Rattle.arc_table.specs.Geometry.{parties_of};
-ghost use Rattle.arc_table.specs.Items.{meanings};
 ghost use Rattle.arc_core.specs.declared.event.Event.{Event};
 ghost use Rattle.arc_core.specs.Operations.{Act};
 ghost use Rattle.trace_run.specs.Meeting.{AreLast, AreWaiting, FirstGaveBack, FirstMayGoOn, GaveBackJoined, HaveGivenBack, IsFed, JoinAll, MayGoOn, MayJoin, MayPart, PartAll};
@@ -33,7 +32,7 @@ pub(crate) fn numbers_of<C: Keeps>(
 pub(crate) fn join_all<C: Keeps>(arcs: &Arcs<C>, party: &mut Party<C>, mut others: Vec<Party<C>>)
     requires party { MayJoin arcs.now party.old }
     requires others { AllByRecursion (MayJoin arcs.now) others.items }
-    ensures { JoinAll (meanings C.holds C.entries C.opening C.claims C.sound) others.items party.old party.new }
+    ensures { JoinAll C.Keeps others.items party.old party.new }
 {
     while let Some(other) = others.pop() {
         arcs.join(party, other);

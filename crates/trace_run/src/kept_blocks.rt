@@ -2,7 +2,6 @@
 //! arc.c).
 ghost use Rattle.std.specs.Prelude.{◌≡◌, ◌++◌, ◌∷◌, [], is_some, map, List, MatchOption, OnErr, OnOk};
 ghost use Rattle.arc_core.specs.Operations.{Act};
-ghost use Rattle.arc_table.specs.Items.{meanings};
 ghost use Rattle.trace_run.specs.Acts.{acts_of_drops};
 ghost use Rattle.trace_run.specs.KeptBlocks.{AreOfOthers, DroppedAlone, Drops, GivesAll, GivesBack, IsTakenOut, Stands, read_of};
 ghost use Rattle.trace_run.specs.one_caller.OneCaller.{oldest_key, oldest_kept, without_oldest};
@@ -94,7 +93,7 @@ pub(crate) fn give_back<C: Keeps>(
 )
     requires { (front : List KeptBlock) × (rest : List KeptBlock) × Stands arcs.now party.old (front ++ read ∷ rest) }
     ensures stands { (front rest : List KeptBlock) → Stands arcs.now party.old (front ++ read ∷ rest) → Stands arcs.now party.new (front ++ rest) }
-    ensures gives { GivesBack (meanings C.holds C.entries C.opening C.claims C.sound) arcs.now.config read.kept party.old party.new }
+    ensures gives { GivesBack C.Keeps arcs.now.config read.kept party.old party.new }
 {
     match read.kept {
         Kept::Held(hold) => arcs.drop_hold(rt, party, hold),
@@ -132,7 +131,7 @@ pub(crate) fn give_back_all<C: Keeps>(
 )
     requires { Stands arcs.now party.old kept }
     ensures stands { Stands arcs.now party.new [] }
-    ensures gives { GivesAll (meanings C.holds C.entries C.opening C.claims C.sound) arcs.now.config kept party.old party.new }
+    ensures gives { GivesAll C.Keeps arcs.now.config kept party.old party.new }
     ensures told { (before : List Act) → IsTold arcs.now.config before party.old
         → IsTold arcs.now.config (before ++ acts_of_drops party.old.number (map read_of kept)) party.new }
     ensures alone { HasAll party.old → DroppedAlone arcs.now.config (map read_of kept) party.old party.new }

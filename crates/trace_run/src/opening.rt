@@ -5,7 +5,7 @@ ghost use Rattle.arc_table.specs.Geometry.{parties_of};
 ghost use Rattle.arc_table.specs.opening.Opening.{AreFreshCells};
 ghost use Rattle.dbuf_cells.specs.Places.{cell_of};
 ghost use Rattle.trace_text.specs.Grammar.{AreApart, IsFormed, IsMappingOn};
-ghost use Rattle.trace_run.specs.Opened.{AreOpened, HasBegun, meanings_of};
+ghost use Rattle.trace_run.specs.Opened.{AreOpened, HasBegun};
 ghost use Rattle.trace_run.specs.Openings.{AllKnow, mappings_in, openings_of};
 
 use arc_core::Keeps;
@@ -53,8 +53,8 @@ fn begun_cell(
 /// The cells of a trace at their start.
 fn begun_cells(alloc: Global, trace: &Trace) -> Result<Vec<HeapCell>, NoMemory>
     requires { IsFormed trace.now }
-    ensures fresh { IfOk result (λ cells. AreFreshCells (meanings_of ⟦<HeapCell as Keeps>⟧) trace.now.config cells.items) }
-    ensures openings { IfOk result (λ cells. map (meanings_of ⟦<HeapCell as Keeps>⟧).opening cells.items ≡ openings_of trace.now) }
+    ensures fresh { IfOk result (λ cells. AreFreshCells ⟦<HeapCell as Keeps>⟧ trace.now.config cells.items) }
+    ensures openings { IfOk result (λ cells. map ⟦<HeapCell as Keeps>⟧.opening cells.items ≡ openings_of trace.now) }
 {
     let limit = trace.config.dbuf_bytes;
     let count = trace.config.cells;

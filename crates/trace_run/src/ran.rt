@@ -1,7 +1,7 @@
 //! What a run of a trace came to, and its report.
 ghost use Rattle.std.specs.Prelude.{◌≡◌, IfOk, map};
 ghost use Rattle.std.specs.Arc.{arc_value};
-ghost use Rattle.trace_run.specs.Ends.{end_of};
+ghost use Rattle.arc_check.specs.Judging.{end_of};
 ghost use Rattle.trace_run.specs.one_caller.PlainRun.{status_of};
 ghost use Rattle.trace_run.specs.callers.Together.{report_of_closed};
 

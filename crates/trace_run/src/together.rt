@@ -14,7 +14,6 @@ ghost use Rattle.trace_run.specs.callers.Together.{groups_of};
 ghost use Rattle.trace_run.specs.callers.Group.{LeavesPool};
 ghost use Rattle.trace_run.specs.callers.GroupRun.{HaveClosed, HaveStopped, RanTogether};
 ghost use Rattle.trace_run.specs.Meeting.{AreWaiting, IsFed, MadeJoined, MayGoOn};
-ghost use Rattle.trace_run.specs.Opened.{meanings_of};
 ghost use Rattle.trace_run.specs.Restores.{restores_in};
 
 use crate::cells::end_crew;
@@ -37,7 +36,7 @@ use vdev_io::{CacheDev, Gate, Pool};
 /// Closes the cache of a run, once each party has given all back.
 fn close_run(arcs: Cells, parties: Vec<Party<HeapCell>>) -> Result<Closed<HeapCell>, NoMemory>
     requires { (entries : ℕ → List Line) × HaveStopped entries arcs parties.items }
-    ensures { IfOk result (λ closed. Ends (meanings_of ⟦<HeapCell as Keeps>⟧) arcs parties.items closed) }
+    ensures { IfOk result (λ closed. Ends ⟦<HeapCell as Keeps>⟧ arcs parties.items closed) }
 {
     arcs.close(parties)
 }
@@ -53,7 +52,7 @@ fn close_crew(
     requires count { vec_len crew.kept ≡ arcs.config.callers }
     requires callers { (acts : ℕ → List Act) × AreWaiting arcs acts 0 crew.kept.items crew.parties.items }
     requires feeder { (openings : List (List ℕ)) × (feeds since : (shard : ℕ) → List Event) × IsFed arcs openings feeds since crew.feeder }
-    ensures { IfOk result (λ closed. HaveClosed (meanings_of ⟦<HeapCell as Keeps>⟧) arcs crew closed) }
+    ensures { IfOk result (λ closed. HaveClosed ⟦<HeapCell as Keeps>⟧ arcs crew closed) }
 {
     let Crew {
         feeder,

@@ -101,7 +101,7 @@ module _ {P : Type 0} (pool : Ghosts P) (group next : ℕ) (before now : P) (g :
   RefusedAt = StopsAt (λ x old. pool.told now ≡ old) (λ x. Same)
       ⊎ StopsAt (λ x old. pool.told now ≡ tells_written (x ∷ []) old) (Looked g)
 
-  pub record IsRefused : Type 0 where
+  pub record IsMemoryRefused : Type 0 where
     pub outside : IsUnharmed pool before now
     pub stops : RefusedFirst ⊎ RefusedAt
 
@@ -109,7 +109,7 @@ module _ {P : Type 0} (pool : Ghosts P) (group next : ℕ) (before now : P) (g :
   AnswersWith (Ok done) = WritesAll done
   AnswersWith (Err (fault.PoolFull need left)) = IsFull need left
   AnswersWith (Err fault.PoolFault) = FailsAt
-  AnswersWith (Err fault.NoMemory) = IsRefused
+  AnswersWith (Err fault.NoMemory) = IsMemoryRefused
 
 -- ---- the answer
 

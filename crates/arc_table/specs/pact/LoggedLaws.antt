@@ -8,7 +8,7 @@ use Rattle.arc_table.specs.Items.{Meanings, lines_in}
 use Rattle.arc_table.specs.pact.Logged.{Logged}
 use Rattle.arc_table.specs.pact.Scene.{Scene}
 use Rattle.arc_table.specs.TableLaws.{at_here, at_else, starts_whole}
-use Rattle.arc_table.proofs.TableLaws.{front_here, front_else, front_both}
+use Rattle.turn_table.proofs.Histories.{front_here, front_else, front_both}
 
 module _ {C : Type 0} (m : Meanings C) where
   -- a party sees something

@@ -17,8 +17,7 @@ use Rattle.arc_table.specs.pact.Rule.{Pact}
 use Rattle.arc_table.specs.pact.Scene.{Scene}
 use Rattle.arc_table.specs.Views.{after_won, after_lost, after_learned, note, under_of}
 use Rattle.arc_table.specs.TableLaws.{same_at, at_here, at_else, item_here, item_else, list_here, list_else}
-use Rattle.arc_table.specs.pact.AttachedLaws.{StillTaken, attached_moved, free_taken, taken_same}
-use Rattle.arc_table.proofs.AttachedLaws.{mine, theirs}
+use Rattle.arc_table.specs.pact.AttachedLaws.{StillTaken, attached_moved, free_taken, taken_same, mine, theirs}
 use Rattle.arc_table.specs.pact.LoggedLaws.{with_seen, seen_logged, put_begins, both_begin}
 use Rattle.arc_table.specs.pact.PassedLaws.{with_note, noted_passed}
 

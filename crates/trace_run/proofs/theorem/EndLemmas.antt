@@ -37,8 +37,9 @@ use Rattle.trace_text.specs.declared.ends.ShardEnd.{ShardEnd}
 use Rattle.trace_text.specs.declared.op.Op.{Op}
 use Rattle.trace_text.specs.declared.op.Op.TheVariants as kinds
 use Rattle.trace_text.specs.declared.reply.Reply.{Reply}
+use Rattle.arc_check.specs.Judging.{end_of}
 use Rattle.trace_run.specs.Acts.{acts_of_caller, acts_of_callers, events_of_feeder, events_of_feeds}
-use Rattle.trace_run.specs.Ends.{end_of, ends_of}
+use Rattle.trace_run.specs.Ends.{ends_of}
 use Rattle.arc_table.specs.Telling.{opening_of}
 use Rattle.trace_run.specs.Explaining.{BeginsWith, EndsWith, Explain, drops_at_end}
 use Rattle.trace_run.specs.KeptBlocks.{IsIdle, Stands, StandsWith, is_ptr, times}

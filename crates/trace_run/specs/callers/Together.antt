@@ -27,10 +27,10 @@ use Rattle.trace_text.specs.declared.report.Report.{Report}
 use Rattle.trace_text.specs.declared.trace.Trace.{Trace}
 use Rattle.vdev_io.specs.declared.pool.Pool.{Ghosts}
 use Rattle.vdev_io.specs.Faults.{last_count}
+use Rattle.arc_check.specs.Judging.{end_of}
 use Rattle.trace_run.specs.Acts.{acts_of_lines}
 use Rattle.trace_run.specs.Answers.{is_pool_fault}
 use Rattle.trace_run.specs.Effects.{calls_of_all}
-use Rattle.trace_run.specs.Ends.{end_of}
 use Rattle.trace_run.specs.Lines.{is_of_caller, replies_where}
 use Rattle.trace_run.specs.one_caller.PlainRun.{status_of}
 use Rattle.trace_run.specs.Restores.{events_by_feeder, restored_of}

@@ -1,11 +1,11 @@
 use Rattle.std.proofs.Common.{◌≡◌, take}
 use Rattle.arc_core.specs.Replay.{replay}
-use Rattle.arc_check.specs.Judging.{IsLegal, opening_of}
+use Rattle.arc_check.specs.Judging.{IsLegalFrom, log_opening}
 use Rattle.arc_check.proofs.judge.play.Given as goal
 
 -- the shard is what the events so far, which are legal, made of it
 abbrev pub invariant-loop-index : goal.invariant-loop-index
 invariant-loop-index l = record {
-  now : l.shard.now ≡ replay (opening_of l.fn.config) (take l.index l.history);
-  legal : IsLegal (opening_of l.fn.config) (take l.index l.history);
+  now : l.shard.now ≡ replay (log_opening l.fn.config) (take l.index l.history);
+  legal : IsLegalFrom (log_opening l.fn.config) (take l.index l.history);
 }

@@ -1,5 +1,4 @@
 use Rattle.std.proofs.Common.{◌++◌, refl, arith}
-use Rattle.arc_table.specs.Items.{meanings}
 use Rattle.l2_feed.proofs.Acted.{acts_append}
 use Rattle.vdev_io.proofs.CallLemmas.{calls_behind}
 use Rattle.l2_feed.proofs.Crashing.{keeps_then}
@@ -16,7 +15,7 @@ returns-in-Err-clause-acts g c =
     let b = batch_failed c.args.l2.now.cursor c.begin_batch-begun.new.l2.cursor c.args.blocks.now e.0 l.0 e.1 c.in-Err.fault c.requires.some e.5 l.2 in (
       e.0,
       l.0,
-      acts_append (meanings g.C.Keeps.holds g.C.Keeps.entries g.C.Keeps.opening g.C.Keeps.claims g.C.Keeps.sound) c.args.arcs.now.config e.0 l.0 c.args.party.now c.begin_batch-begun.new.party c.leave_all.new.party e.2 l.1,
+      acts_append g.C.Keeps c.args.arcs.now.config e.0 l.0 c.args.party.now c.begin_batch-begun.new.party c.leave_all.new.party e.2 l.1,
       batch_counts e.0 l.0 c.args.report.now _ (clears_none _ _ _ e.0 _ _ e.5) (n.0, n.1) refl refl (let z = n.2 in omega arith) e.3,
       b.0,
       e.1,
@@ -31,7 +30,7 @@ returns-clause-acts g c =
     let b = batch_written c.args.l2.now.cursor c.begin_batch-begun.new.l2.cursor c.write_runs.new.l2.cursor c.args.blocks.now e.0 r.0 e.1 r.4 _ _ e.5 r.3 r.6 in (
       e.0,
       r.0,
-      acts_append (meanings g.C.Keeps.holds g.C.Keeps.entries g.C.Keeps.opening g.C.Keeps.claims g.C.Keeps.sound) c.args.arcs.now.config e.0 r.0 c.args.party.now c.begin_batch-begun.new.party c.write_runs.new.party e.2 r.1,
+      acts_append g.C.Keeps c.args.arcs.now.config e.0 r.0 c.args.party.now c.begin_batch-begun.new.party c.write_runs.new.party e.2 r.1,
       batch_counts e.0 r.0 c.args.report.now _ (clears_none _ _ _ e.0 _ _ e.5) (runs_none _ _ c.args.blocks.now r.0 _ r.3) refl refl r.2 e.3,
       b.0,
       e.1 ++ r.4,

@@ -1,6 +1,5 @@
 use Rattle.std.proofs.Common.{◌++◌, ℕ, List, [], ◌∷◌, length, ◌+◌, inl, inr, refl, sym, ap, ◌∙◌, subst, arith}
 use Rattle.arc_table.specs.declared.picks.Picked.{Picked as Block}
-use Rattle.arc_table.specs.Items.{meanings}
 use Rattle.arc_table.specs.feeder.Listing.{picks_of}
 use Rattle.arc_table.specs.feeder.Picking.{PicksAll, nth_shard_turn}
 use Rattle.l2_dev.specs.declared.report.FeedReport.{FeedReport}
@@ -13,14 +12,14 @@ use Rattle.l2_feed.proofs.Picked.{picked_feeding, picked_few, picked_whole, read
 use Rattle.l2_feed.proofs.batch.feed_shard.Goals as goal
 
 pub returns-in_default-clause-feeder : goal.returns-in_default-clause-feeder
-returns-in_default-clause-feeder g c = unpicked_ready (meanings g.C.Keeps.holds g.C.Keeps.entries g.C.Keeps.opening g.C.Keeps.claims g.C.Keeps.sound) c.args.arcs.now c.args.shard c.args.party.now c.pick.new.party c.requires.shard c.requires.feeder c.in_default.ensures.err
+returns-in_default-clause-feeder g c = unpicked_ready g.C.Keeps c.args.arcs.now c.args.shard c.args.party.now c.pick.new.party c.requires.shard c.requires.feeder c.in_default.ensures.err
 
 pub returns-in_default-clause-fed : goal.returns-in_default-clause-fed
 returns-in_default-clause-fed g c = (Unpicked c.args.shard ∷ [], [], (c.pick.new.party, c.in_default.ensures.err, refl), none_counts (Unpicked c.args.shard) c.args.report.now refl refl refl, refl, inr (inl (refl, refl, refl, refl)))
 
 pub returns-then-is_empty-clause-feeder : goal.returns-then-is_empty-clause-feeder
 returns-then-is_empty-clause-feeder g c =
-    let m = (meanings g.C.Keeps.holds g.C.Keeps.entries g.C.Keeps.opening g.C.Keeps.claims g.C.Keeps.sound) in
+    let m = g.C.Keeps in
     let cache = c.args.arcs.now in
     let p = c.args.party.now in
     let q = c.pick.new.party in
@@ -31,7 +30,7 @@ returns-then-is_empty-clause-feeder g c =
 
 pub returns-then-is_empty-clause-fed : goal.returns-then-is_empty-clause-fed
 returns-then-is_empty-clause-fed g c =
-    let m = (meanings g.C.Keeps.holds g.C.Keeps.entries g.C.Keeps.opening g.C.Keeps.claims g.C.Keeps.sound) in
+    let m = g.C.Keeps in
     let cache = c.args.arcs.now in
     let p = c.args.party.now in
     let q = c.pick.new.party in
@@ -43,7 +42,7 @@ returns-then-is_empty-clause-fed g c =
 
 pub bytes_of-bytes-requires : goal.bytes_of-bytes-requires
 bytes_of-bytes-requires g c =
-    let m = (meanings g.C.Keeps.holds g.C.Keeps.entries g.C.Keeps.opening g.C.Keeps.claims g.C.Keeps.sound) in
+    let m = g.C.Keeps in
     let cache = c.args.arcs.now in
     let p = c.args.party.now in
     let q = c.pick.new.party in
@@ -59,7 +58,7 @@ bytes_of-bytes-requires g c =
 
 pub overflow_cast-report : goal.overflow_cast-report
 overflow_cast-report g c =
-    let m = (meanings g.C.Keeps.holds g.C.Keeps.entries g.C.Keeps.opening g.C.Keeps.claims g.C.Keeps.sound) in
+    let m = g.C.Keeps in
     let cache = c.args.arcs.now in
     let p = c.args.party.now in
     let q = c.pick.new.party in
@@ -75,7 +74,7 @@ overflow_cast-report g c =
 
 pub overflow_add-report : goal.overflow_add-report
 overflow_add-report g c =
-    let m = (meanings g.C.Keeps.holds g.C.Keeps.entries g.C.Keeps.opening g.C.Keeps.claims g.C.Keeps.sound) in
+    let m = g.C.Keeps in
     let cache = c.args.arcs.now in
     let p = c.args.party.now in
     let q = c.pick.new.party in
@@ -93,7 +92,7 @@ overflow_add-report g c =
 
 pub overflow_add-report-2 : goal.overflow_add-report-2
 overflow_add-report-2 g c =
-    let m = (meanings g.C.Keeps.holds g.C.Keeps.entries g.C.Keeps.opening g.C.Keeps.claims g.C.Keeps.sound) in
+    let m = g.C.Keeps in
     let cache = c.args.arcs.now in
     let p = c.args.party.now in
     let q = c.pick.new.party in
@@ -112,7 +111,7 @@ overflow_add-report-2 g c =
 
 pub feed_batch-requires-clause-feeding : goal.feed_batch-requires-clause-feeding
 feed_batch-requires-clause-feeding g c = λ _ _.
-    let m = (meanings g.C.Keeps.holds g.C.Keeps.entries g.C.Keeps.opening g.C.Keeps.claims g.C.Keeps.sound) in
+    let m = g.C.Keeps in
     let cache = c.args.arcs.now in
     let p = c.args.party.now in
     let q = c.pick.new.party in
@@ -123,7 +122,7 @@ feed_batch-requires-clause-feeding g c = λ _ _.
 
 pub feed_batch-requires-clause-formed : goal.feed_batch-requires-clause-formed
 feed_batch-requires-clause-formed g c = λ _ _.
-    let m = (meanings g.C.Keeps.holds g.C.Keeps.entries g.C.Keeps.opening g.C.Keeps.claims g.C.Keeps.sound) in
+    let m = g.C.Keeps in
     let cache = c.args.arcs.now in
     let p = c.args.party.now in
     let q = c.pick.new.party in
@@ -134,7 +133,7 @@ feed_batch-requires-clause-formed g c = λ _ _.
 
 pub feed_batch-requires-clause-few : goal.feed_batch-requires-clause-few
 feed_batch-requires-clause-few g c = λ _ _.
-    let m = (meanings g.C.Keeps.holds g.C.Keeps.entries g.C.Keeps.opening g.C.Keeps.claims g.C.Keeps.sound) in
+    let m = g.C.Keeps in
     let cache = c.args.arcs.now in
     let p = c.args.party.now in
     let q = c.pick.new.party in
@@ -151,7 +150,7 @@ feed_batch-requires-clause-few g c = λ _ _.
 
 pub feed_batch-requires-clause-written : goal.feed_batch-requires-clause-written
 feed_batch-requires-clause-written g c = λ _ _.
-    let m = (meanings g.C.Keeps.holds g.C.Keeps.entries g.C.Keeps.opening g.C.Keeps.claims g.C.Keeps.sound) in
+    let m = g.C.Keeps in
     let cache = c.args.arcs.now in
     let p = c.args.party.now in
     let q = c.pick.new.party in
@@ -170,7 +169,7 @@ feed_batch-requires-clause-written g c = λ _ _.
 
 pub returns-clause-feeder : goal.returns-clause-feeder
 returns-clause-feeder g c =
-    let m = (meanings g.C.Keeps.holds g.C.Keeps.entries g.C.Keeps.opening g.C.Keeps.claims g.C.Keeps.sound) in
+    let m = g.C.Keeps in
     let cache = c.args.arcs.now in
     let p = c.args.party.now in
     let q = c.pick.new.party in
@@ -181,7 +180,7 @@ returns-clause-feeder g c =
 
 pub returns-clause-room : goal.returns-clause-room
 returns-clause-room g c =
-    let m = (meanings g.C.Keeps.holds g.C.Keeps.entries g.C.Keeps.opening g.C.Keeps.claims g.C.Keeps.sound) in
+    let m = g.C.Keeps in
     let cache = c.args.arcs.now in
     let p = c.args.party.now in
     let q = c.pick.new.party in
@@ -206,7 +205,7 @@ returns-clause-room g c =
 
 pub returns-clause-fed : goal.returns-clause-fed
 returns-clause-fed g c =
-    let m = (meanings g.C.Keeps.holds g.C.Keeps.entries g.C.Keeps.opening g.C.Keeps.claims g.C.Keeps.sound) in
+    let m = g.C.Keeps in
     let cache = c.args.arcs.now in
     let p = c.args.party.now in
     let q = c.pick.new.party in

@@ -1,7 +1,6 @@
 use Rattle.std.proofs.Common.{◌≡◌, ◌*◌, ◌<◌, ◌≤◌, ◌+◌, ◌++◌, ℕ, List, length, drop, take, refl, sym, ap, ◌∙◌, subst, arith}
 use Rattle.std.proofs.lemmas.List.{drop_all}
 use Rattle.arc_table.specs.declared.picks.Picked.{Picked as Block}
-use Rattle.arc_table.specs.Items.{meanings}
 use Rattle.l2_feed.specs.Ready.{IsFeeding}
 use Rattle.l2_feed.specs.Runs.{AreLeft, AreSet, AreWhole, HasWritten, bytes_of, most, runs_of}
 use Rattle.l2_log.specs.Rules.{log_len}
@@ -19,12 +18,12 @@ loop-number-init g c = record {
   faults = omega arith;
   asks = no_runs_asked g.D.CacheDev c.args.blocks.now c.args.l2.now.cursor c.args.l2.now.dev;
   crash = own_start g.D.CacheDev.told g.D.CacheDev.has_sectors g.D.CacheDev.may_leave c.args.l2.now.dev c.args.l2.now.cursor;
-  so = runs_start (meanings g.C.Keeps.holds g.C.Keeps.entries g.C.Keeps.opening g.C.Keeps.claims g.C.Keeps.sound) c.args.arcs.now c.args.blocks.now c.args.written.now c.args.l2.now.cursor c.args.party.now c.requires.based c.requires.none c.requires.ready c.requires.formed c.requires.room;
+  so = runs_start g.C.Keeps c.args.arcs.now c.args.blocks.now c.args.written.now c.args.l2.now.cursor c.args.party.now c.requires.based c.requires.none c.requires.ready c.requires.formed c.requires.room;
 }
 
 pub set_run-requires-clause-feeding : goal.set_run-requires-clause-feeding
 set_run-requires-clause-feeding g c =
-    let m = (meanings g.C.Keeps.holds g.C.Keeps.entries g.C.Keeps.opening g.C.Keeps.claims g.C.Keeps.sound) in
+    let m = g.C.Keeps in
     let below : c.loop-number.number < runs_of (length c.args.blocks.now) = (let t = c.loop-number-test.true in let e = c.runs_of-number-end.ensures in omega arith) in
     let left : c.left_after-left.result.now ≡ drop (c.loop-number.number * most) c.args.blocks.now = c.left_after-left.ensures in
     let run : c.run_of-run.result.now ≡ take most (drop (c.loop-number.number * most) c.args.blocks.now) = c.run_of-run.ensures ∙ ap (take most) left in (
@@ -36,7 +35,7 @@ set_run-requires-clause-feeding g c =
 
 pub returns-in-Err-clause-acts : goal.returns-in-Err-clause-acts
 returns-in-Err-clause-acts g c =
-    let m = (meanings g.C.Keeps.holds g.C.Keeps.entries g.C.Keeps.opening g.C.Keeps.claims g.C.Keeps.sound) in
+    let m = g.C.Keeps in
     let below : c.loop-number.number < runs_of (length c.args.blocks.now) = (let t = c.loop-number-test.true in let e = c.runs_of-number-end.ensures in omega arith) in
     let left : c.left_after-left.result.now ≡ drop (c.loop-number.number * most) c.args.blocks.now = c.left_after-left.ensures in
     let run : c.run_of-run.result.now ≡ take most (drop (c.loop-number.number * most) c.args.blocks.now) = c.run_of-run.ensures ∙ ap (take most) left in
@@ -49,7 +48,7 @@ returns-in-Err-clause-acts g c =
 
 pub loop-number-preserved : goal.loop-number-preserved
 loop-number-preserved g c =
-    let m = (meanings g.C.Keeps.holds g.C.Keeps.entries g.C.Keeps.opening g.C.Keeps.claims g.C.Keeps.sound) in
+    let m = g.C.Keeps in
     let below : c.loop-number.number < runs_of (length c.args.blocks.now) = (let t = c.loop-number-test.true in let e = c.runs_of-number-end.ensures in omega arith) in
     let left : c.left_after-left.result.now ≡ drop (c.loop-number.number * most) c.args.blocks.now = c.left_after-left.ensures in
     let run : c.run_of-run.result.now ≡ take most (drop (c.loop-number.number * most) c.args.blocks.now) = c.run_of-run.ensures ∙ ap (take most) left in
@@ -70,14 +69,14 @@ loop-number-preserved g c =
 
 pub returns-clause-acts : goal.returns-clause-acts
 returns-clause-acts g c =
-    let s = runs_end (meanings g.C.Keeps.holds g.C.Keeps.entries g.C.Keeps.opening g.C.Keeps.claims g.C.Keeps.sound) c.args.arcs.now c.args.blocks.now c.loop-number.number c.args.written.now c.loop-number.written c.args.l2.now.cursor c.loop-number.l2.cursor c.args.party.now c.loop-number.party
+    let s = runs_end g.C.Keeps c.args.arcs.now c.args.blocks.now c.loop-number.number c.args.written.now c.loop-number.written c.args.l2.now.cursor c.loop-number.l2.cursor c.args.party.now c.loop-number.party
     (drop_all (c.loop-number.number * most) c.args.blocks.now (let t = c.loop-number-test.false in let e = c.runs_of-number-end.ensures in omega arith)) c.loop-number.invariant.so in
     let r = runs_asked_end g.D.CacheDev c.args.blocks.now c.loop-number.number s.3.count c.args.l2.now.cursor c.loop-number.l2.cursor c.args.l2.now.dev c.loop-number.l2.dev s.4 c.loop-number.invariant.asks in
     (s.0, s.1, s.2, s.3, r.0, r.1, r.2)
 
 pub write_run-requires-clause-few : goal.write_run-requires-clause-few
 write_run-requires-clause-few g c = λ _ _.
-    let m = (meanings g.C.Keeps.holds g.C.Keeps.entries g.C.Keeps.opening g.C.Keeps.claims g.C.Keeps.sound) in
+    let m = g.C.Keeps in
     let below : c.loop-number.number < runs_of (length c.args.blocks.now) = (let t = c.loop-number-test.true in let e = c.runs_of-number-end.ensures in omega arith) in
     let left : c.left_after-left.result.now ≡ drop (c.loop-number.number * most) c.args.blocks.now = c.left_after-left.ensures in
     let run : c.run_of-run.result.now ≡ take most (drop (c.loop-number.number * most) c.args.blocks.now) = c.run_of-run.ensures ∙ ap (take most) left in
@@ -85,7 +84,7 @@ write_run-requires-clause-few g c = λ _ _.
 
 pub write_run-requires-clause-formed : goal.write_run-requires-clause-formed
 write_run-requires-clause-formed g c = λ _ _.
-    let m = (meanings g.C.Keeps.holds g.C.Keeps.entries g.C.Keeps.opening g.C.Keeps.claims g.C.Keeps.sound) in
+    let m = g.C.Keeps in
     let below : c.loop-number.number < runs_of (length c.args.blocks.now) = (let t = c.loop-number-test.true in let e = c.runs_of-number-end.ensures in omega arith) in
     let left : c.left_after-left.result.now ≡ drop (c.loop-number.number * most) c.args.blocks.now = c.left_after-left.ensures in
     let run : c.run_of-run.result.now ≡ take most (drop (c.loop-number.number * most) c.args.blocks.now) = c.run_of-run.ensures ∙ ap (take most) left in
@@ -93,7 +92,7 @@ write_run-requires-clause-formed g c = λ _ _.
 
 pub write_run-requires-clause-room : goal.write_run-requires-clause-room
 write_run-requires-clause-room g c = λ _ _.
-    let m = (meanings g.C.Keeps.holds g.C.Keeps.entries g.C.Keeps.opening g.C.Keeps.claims g.C.Keeps.sound) in
+    let m = g.C.Keeps in
     let below : c.loop-number.number < runs_of (length c.args.blocks.now) = (let t = c.loop-number-test.true in let e = c.runs_of-number-end.ensures in omega arith) in
     let left : c.left_after-left.result.now ≡ drop (c.loop-number.number * most) c.args.blocks.now = c.left_after-left.ensures in
     let run : c.run_of-run.result.now ≡ take most (drop (c.loop-number.number * most) c.args.blocks.now) = c.run_of-run.ensures ∙ ap (take most) left in
@@ -101,7 +100,7 @@ write_run-requires-clause-room g c = λ _ _.
 
 pub set_run-requires-clause-few : goal.set_run-requires-clause-few
 set_run-requires-clause-few g c =
-    let m = (meanings g.C.Keeps.holds g.C.Keeps.entries g.C.Keeps.opening g.C.Keeps.claims g.C.Keeps.sound) in
+    let m = g.C.Keeps in
     let below : c.loop-number.number < runs_of (length c.args.blocks.now) = (let t = c.loop-number-test.true in let e = c.runs_of-number-end.ensures in omega arith) in
     let left : c.left_after-left.result.now ≡ drop (c.loop-number.number * most) c.args.blocks.now = c.left_after-left.ensures in
     let run : c.run_of-run.result.now ≡ take most (drop (c.loop-number.number * most) c.args.blocks.now) = c.run_of-run.ensures ∙ ap (take most) left in
@@ -109,7 +108,7 @@ set_run-requires-clause-few g c =
 
 pub overflow_add-written : goal.overflow_add-written
 overflow_add-written g c =
-    let m = (meanings g.C.Keeps.holds g.C.Keeps.entries g.C.Keeps.opening g.C.Keeps.claims g.C.Keeps.sound) in
+    let m = g.C.Keeps in
     let below : c.loop-number.number < runs_of (length c.args.blocks.now) = (let t = c.loop-number-test.true in let e = c.runs_of-number-end.ensures in omega arith) in
     let left : c.left_after-left.result.now ≡ drop (c.loop-number.number * most) c.args.blocks.now = c.left_after-left.ensures in
     let run : c.run_of-run.result.now ≡ take most (drop (c.loop-number.number * most) c.args.blocks.now) = c.run_of-run.ensures ∙ ap (take most) left in

@@ -1,6 +1,5 @@
 use Rattle.std.proofs.Common.{◌≡◌, suc, ◌<◌, ◌+◌, ◌++◌, ℕ, refl, sym, ap, ◌∙◌, subst, arith, add-one}
 use Rattle.arc_core.specs.declared.config.Config.{Config}
-use Rattle.arc_table.specs.Items.{meanings}
 use Rattle.l2_dev.specs.declared.report.FeedStop.{FeedStop}
 use Rattle.l2_dev.specs.declared.report.FeedStop.TheVariants as stop
 use Rattle.l2_feed.specs.Shape.{AreFed, stop_of}
@@ -16,7 +15,7 @@ use Rattle.l2_feed.proofs.feeding.feed.Goals as goal
 
 pub returns-in-Err-clause-fed : goal.returns-in-Err-clause-fed
 returns-in-Err-clause-fed g c =
-    let m = (meanings g.C.Keeps.holds g.C.Keeps.entries g.C.Keeps.opening g.C.Keeps.claims g.C.Keeps.sound) in
+    let m = g.C.Keeps in
     let d = g.D.CacheDev in
     let cache = c.args.arcs.now in
     let old = c.args.l2.now.cursor in
@@ -36,7 +35,7 @@ returns-in-Err-clause-fed g c =
 
 pub loop-shard-preserved : goal.loop-shard-preserved
 loop-shard-preserved g c =
-    let m = (meanings g.C.Keeps.holds g.C.Keeps.entries g.C.Keeps.opening g.C.Keeps.claims g.C.Keeps.sound) in
+    let m = g.C.Keeps in
     let cache = c.args.arcs.now in
     let s : ℕ = c.loop-shard.shard in
     let was = c.loop-shard.invariant in
@@ -106,7 +105,7 @@ returns-clause-crash g c =
 
 pub returns-clause-fed : goal.returns-clause-fed
 returns-clause-fed g c =
-    let m = (meanings g.C.Keeps.holds g.C.Keeps.entries g.C.Keeps.opening g.C.Keeps.claims g.C.Keeps.sound) in
+    let m = g.C.Keeps in
     let cache = c.args.arcs.now in
     let old = c.args.l2.now.cursor in
     let new = c.loop-shard.l2.cursor in

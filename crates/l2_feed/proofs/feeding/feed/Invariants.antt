@@ -1,6 +1,5 @@
 use Rattle.std.proofs.Common.{◌≡◌, ◌<◌, ◌≤◌, List, vec_len}
 use Rattle.vdev_io.specs.Calls.{DeviceCall, MakesDeviceCalls}
-use Rattle.arc_table.specs.Items.{meanings}
 use Rattle.l2_dev.specs.declared.report.FeedStop.TheVariants as stop
 use Rattle.l2_feed.specs.Acts.{Act, DoesActs}
 use Rattle.l2_ring.specs.Ring.{last_lap}
@@ -20,6 +19,6 @@ invariant-loop-shard g l = record {
   room : HasRoom l.shard (vec_len l.dropped) l.report;
   end : l.report.end ≡ stop.Done;
   few : l.shard ≤ l.arcs.config.shards;
-  fed : (acts : List Act) × (calls : List DeviceCall) × DoesActs (meanings g.C.Keeps.holds g.C.Keeps.entries g.C.Keeps.opening g.C.Keeps.claims g.C.Keeps.sound) l.arcs.config acts l.fn.party l.party
+  fed : (acts : List Act) × (calls : List DeviceCall) × DoesActs g.C.Keeps l.arcs.config acts l.fn.party l.party
       × IsSummary acts l.report × MakesDeviceCalls g.D.CacheDev calls l.fn.l2.dev l.l2.dev × AreFed 0 l.shard l.fn.l2.cursor l.l2.cursor acts calls stop.Done;
 }

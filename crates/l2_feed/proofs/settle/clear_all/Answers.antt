@@ -2,7 +2,6 @@ use Rattle.std.proofs.Common.{None, get_or, subst}
 use Rattle.arc_table.specs.feeder.Feeding.{AnswersClear}
 use Rattle.l2_ring.specs.declared.live.Live.{Live}
 use Rattle.std.proofs.lemmas.List.{drop_all}
-use Rattle.arc_table.specs.Items.{meanings}
 use Rattle.l2_feed.proofs.Lists.{item_is}
 use Rattle.l2_feed.proofs.Loops.{cleared_end, done_turn, not_turn, refused_turn}
 use Rattle.l2_feed.proofs.settle.clear_all.Goals as goal
@@ -10,12 +9,12 @@ use Rattle.l2_feed.proofs.settle.clear_all.Goals.{in-Err, in-Ok-Done, in-Ok-Not}
 
 pub returns-clause-acts : goal.returns-clause-acts
 returns-clause-acts g c =
-    cleared_end (meanings g.C.Keeps.holds g.C.Keeps.entries g.C.Keeps.opening g.C.Keeps.claims g.C.Keeps.sound) c.args.arcs.now c.args.cleared.now c.args.dropped.now c.loop-live.live-index c.loop-live.cleared c.loop-live.result c.args.party.now c.loop-live.party
+    cleared_end g.C.Keeps c.args.arcs.now c.args.cleared.now c.args.dropped.now c.loop-live.live-index c.loop-live.cleared c.loop-live.result c.args.party.now c.loop-live.party
     (drop_all c.loop-live.live-index c.args.dropped.now c.loop-live-test.false) c.loop-live.invariant
 
 pub loop-live-preserved : goal.loop-live-preserved
 loop-live-preserved g c =
-    let m = (meanings g.C.Keeps.holds g.C.Keeps.entries g.C.Keeps.opening g.C.Keeps.claims g.C.Keeps.sound) in
+    let m = g.C.Keeps in
     let cache = c.args.arcs.now in
     let was = c.loop-live in
     let ls = c.args.dropped.now in

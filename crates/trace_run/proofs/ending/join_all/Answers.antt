@@ -2,7 +2,7 @@ use Rattle.std.proofs.Common.{rules, ◌≡◌, ◌∷◌, ◌++◌, [], List, r
 use Rattle.std.specs.List.{AllByRecursion}
 use Rattle.turn_table.specs.Places.{Place}
 use Rattle.arc_table.specs.declared.view.Known.{Known}
-use Rattle.arc_table.specs.Items.{Meanings, meanings}
+use Rattle.arc_table.specs.Items.{Meanings}
 use Rattle.arc_table.proofs.Ends.{nothing_left}
 use Rattle.trace_run.specs.Meeting.{JoinAll, MayJoin, MayPart}
 use Rattle.trace_run.proofs.callers.MeetLemmas.{all-before, joins-first}
@@ -25,7 +25,7 @@ join-requires-clause-free g c =
 
 pub loop-other-preserved : goal.loop-other-preserved
 loop-other-preserved g c =
-    let m : Meanings g.row.C.Denot = meanings g.C.Keeps.holds g.C.Keeps.entries g.C.Keeps.opening g.C.Keeps.claims g.C.Keeps.sound in
+    let m : Meanings g.row.C.Denot = g.C.Keeps in
     let before = c.loop-other.invariant in
     let rest : List (Place (Known g.row.C.Denot)) = c.pop.new.self.items in
     let is : c.loop-other.others.items ≡ rest ++ c.in-Some.other ∷ [] = c.in-Some.ensures.items in
@@ -38,6 +38,6 @@ loop-other-preserved g c =
 
 pub returns : goal.returns
 returns g c =
-    let m : Meanings g.row.C.Denot = meanings g.C.Keeps.holds g.C.Keeps.entries g.C.Keeps.opening g.C.Keeps.claims g.C.Keeps.sound in
+    let m : Meanings g.row.C.Denot = g.C.Keeps in
     let none : c.loop-other.others.items ≡ [] = nothing_left c.loop-other.others.items (search rules) in
     c.loop-other.invariant.joins c.loop-other.party (subst (λ (l : List (Place (Known g.row.C.Denot))). JoinAll m l c.loop-other.party c.loop-other.party) (sym none) refl)

@@ -1,5 +1,5 @@
 use Rattle.std.proofs.Common.{◌≡◌, List, [], ◌∷◌, refl, sym, subst}
-use Rattle.arc_table.specs.Items.{Meanings, meanings}
+use Rattle.arc_table.specs.Items.{Meanings}
 use Rattle.trace_run.specs.declared.kept_blocks.KeptBlock.{KeptBlock}
 use Rattle.trace_run.specs.KeptBlocks.{GivesAll, Stands}
 use Rattle.trace_run.proofs.GiveLemmas.{all-alone, all-stand, all-told}
@@ -13,7 +13,7 @@ give_back-requires g c = ([], c.pop_oldest.new.self, subst (Stands c.args.arcs.n
 
 pub loop-read-preserved : goal.loop-read-preserved
 loop-read-preserved g c =
-    let m : Meanings g.row.C.Denot = meanings g.C.Keeps.holds g.C.Keeps.entries g.C.Keeps.opening g.C.Keeps.claims g.C.Keeps.sound in
+    let m : Meanings g.row.C.Denot = g.C.Keeps in
     let before = c.loop-read.invariant in
     let rest : List KeptBlock = c.pop_oldest.new.self in
     let is : c.loop-read.kept ≡ c.in-Some.read ∷ rest = c.in-Some.ensures in
@@ -24,28 +24,28 @@ loop-read-preserved g c =
 
 pub returns-clause-stands : goal.returns-clause-stands
 returns-clause-stands g c =
-    let m : Meanings g.row.C.Denot = meanings g.C.Keeps.holds g.C.Keeps.entries g.C.Keeps.opening g.C.Keeps.claims g.C.Keeps.sound in
+    let m : Meanings g.row.C.Denot = g.C.Keeps in
     let gave : GivesAll m c.args.arcs.now.config c.args.kept c.args.party.now c.loop-read.party =
     c.loop-read.invariant.gives c.loop-read.party (subst (λ (l : List KeptBlock). GivesAll m c.args.arcs.now.config l c.loop-read.party c.loop-read.party) (sym c.in_default.ensures.0) refl) in
     all-stand m c.args.arcs.now c.args.kept c.args.party.now c.loop-read.party c.requires gave
 
 pub returns-clause-gives : goal.returns-clause-gives
 returns-clause-gives g c =
-    let m : Meanings g.row.C.Denot = meanings g.C.Keeps.holds g.C.Keeps.entries g.C.Keeps.opening g.C.Keeps.claims g.C.Keeps.sound in
+    let m : Meanings g.row.C.Denot = g.C.Keeps in
     let gave : GivesAll m c.args.arcs.now.config c.args.kept c.args.party.now c.loop-read.party =
     c.loop-read.invariant.gives c.loop-read.party (subst (λ (l : List KeptBlock). GivesAll m c.args.arcs.now.config l c.loop-read.party c.loop-read.party) (sym c.in_default.ensures.0) refl) in
     gave
 
 pub returns-clause-told : goal.returns-clause-told
 returns-clause-told g c =
-    let m : Meanings g.row.C.Denot = meanings g.C.Keeps.holds g.C.Keeps.entries g.C.Keeps.opening g.C.Keeps.claims g.C.Keeps.sound in
+    let m : Meanings g.row.C.Denot = g.C.Keeps in
     let gave : GivesAll m c.args.arcs.now.config c.args.kept c.args.party.now c.loop-read.party =
     c.loop-read.invariant.gives c.loop-read.party (subst (λ (l : List KeptBlock). GivesAll m c.args.arcs.now.config l c.loop-read.party c.loop-read.party) (sym c.in_default.ensures.0) refl) in
     all-told m c.args.arcs.now c.args.kept c.args.party.now c.loop-read.party c.requires gave
 
 pub returns-clause-alone : goal.returns-clause-alone
 returns-clause-alone g c =
-    let m : Meanings g.row.C.Denot = meanings g.C.Keeps.holds g.C.Keeps.entries g.C.Keeps.opening g.C.Keeps.claims g.C.Keeps.sound in
+    let m : Meanings g.row.C.Denot = g.C.Keeps in
     let gave : GivesAll m c.args.arcs.now.config c.args.kept c.args.party.now c.loop-read.party =
     c.loop-read.invariant.gives c.loop-read.party (subst (λ (l : List KeptBlock). GivesAll m c.args.arcs.now.config l c.loop-read.party c.loop-read.party) (sym c.in_default.ensures.0) refl) in
     all-alone m c.args.arcs.now c.args.kept c.args.party.now c.loop-read.party c.requires gave

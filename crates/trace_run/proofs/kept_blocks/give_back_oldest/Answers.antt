@@ -1,6 +1,5 @@
 use Rattle.std.proofs.Common.{map, Option, is_some, refl, sym, ap, ◌∙◌, subst}
 use Rattle.std.specs.Prelude.{option_and_then}
-use Rattle.arc_table.specs.Items.{meanings}
 use Rattle.trace_run.specs.KeptReads.{KeptRead}
 use Rattle.trace_run.specs.KeptBlocks.{Drops, Stands, read_of}
 use Rattle.trace_run.proofs.KeptBlockLemmas.{given-drops}
@@ -36,7 +35,7 @@ returns-clause-kept g c = (oldest-taken c.args.block c.in-Some.read c.args.kept.
 
 pub returns-clause-drops : goal.returns-clause-drops
 returns-clause-drops g c =
-    let m = meanings g.C.Keeps.holds g.C.Keeps.entries g.C.Keeps.opening g.C.Keeps.claims g.C.Keeps.sound in
+    let m = g.C.Keeps in
     let read = c.in-Some.read in
     let t = c.in-Some.ensures in
     subst (λ (o : Option KeptRead). Drops c.args.arcs.now.config (option_and_then (λ (r : KeptRead). r.held) o) c.args.party.now c.give_back.new.party)

@@ -6,7 +6,7 @@ use Rattle.arc_core.specs.Operations.{Reads}
 use Rattle.turn_table.specs.Places.{Place}
 use Rattle.arc_table.specs.declared.view.Known.{Known}
 use Rattle.arc_table.specs.Cache.{Cache}
-use Rattle.arc_table.specs.Items.{Meanings, meanings}
+use Rattle.arc_table.specs.Items.{Meanings}
 use Rattle.trace_run.specs.declared.get.Got.{Got}
 use Rattle.trace_run.specs.declared.kept_blocks.KeptBlock.{KeptBlock}
 use Rattle.trace_run.specs.one_caller.Access.{events_of_answered, events_of_drop, held_key as access_key}
@@ -40,7 +40,7 @@ returns-in-Ok-clause-stands g c = λ kept stands. subst (λ (l : List KeptBlock)
 
 pub returns-in-Ok-clause-did : goal.returns-in-Ok-clause-did
 returns-in-Ok-clause-did g c =
-    given-did (meanings g.C.Keeps.holds g.C.Keeps.entries g.C.Keeps.opening g.C.Keeps.claims g.C.Keeps.sound) c.args.arcs.now (g.D.CacheDev.size c.args.device.now) c.args.t c.args.block c.args.ptr.now c.in-Ok.field-0
+    given-did g.C.Keeps c.args.arcs.now (g.D.CacheDev.size c.args.device.now) c.args.t c.args.block c.args.ptr.now c.in-Ok.field-0
     c.args.party.now c.get.new.party c.give_back.new.party c.requires.0 (c.in-Ok.ensures.stands c.requires.0 c.requires.1) c.in-Ok.ensures.did c.in-Ok.ensures.got.kept c.give_back.ensures.gives
 
 pub returns-in_ok-refusal_of-in-Err-clause-did : goal.returns-in_ok-refusal_of-in-Err-clause-did

@@ -1,5 +1,5 @@
 use Rattle.std.proofs.Common.{◌≡◌, map, take}
-use Rattle.trace_run.specs.Ends.{end_of}
+use Rattle.arc_check.specs.Judging.{end_of}
 use Rattle.trace_run.proofs.ran.ends_of.Given as goal
 
 -- the ends of the shards so far

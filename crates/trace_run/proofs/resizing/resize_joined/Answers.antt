@@ -5,7 +5,7 @@ use Rattle.turn_table.specs.Places.{Place}
 use Rattle.arc_table.specs.declared.resizes.ResizeStop.{ResizeStop}
 use Rattle.arc_table.specs.declared.view.Known.{Known}
 use Rattle.arc_table.specs.Cache.{Cache}
-use Rattle.arc_table.specs.Items.{Meanings, meanings}
+use Rattle.arc_table.specs.Items.{Meanings}
 use Rattle.arc_table.specs.Resizing.{AnswersResize, Resizes}
 use Rattle.trace_run.specs.KeptBlocks.{no_entries}
 use Rattle.trace_run.proofs.ResizeLemmas.{q-stands, resized, resized-last}
@@ -26,32 +26,32 @@ join_all-requires-clause-others g c = all-may no_entries c.args.arcs.now c.args.
 
 pub resize-requires-clause-party : goal.resize-requires-clause-party
 resize-requires-clause-party g c =
-    let m : Meanings g.row.C.Denot = meanings g.C.Keeps.holds g.C.Keeps.entries g.C.Keeps.opening g.C.Keeps.claims g.C.Keeps.sound in
+    let m : Meanings g.row.C.Denot = g.C.Keeps in
     let r = c.requires.may in
     (q-stands m c.args.arcs.now c.args.feeder c.args.callers.items r.stands r.alone r.apart r.everyone r.count r.differ c.join_all.new.party c.join_all.ensures).of
 
 pub resize-requires-clause-look : goal.resize-requires-clause-look
 resize-requires-clause-look g c =
-    let m : Meanings g.row.C.Denot = meanings g.C.Keeps.holds g.C.Keeps.entries g.C.Keeps.opening g.C.Keeps.claims g.C.Keeps.sound in
+    let m : Meanings g.row.C.Denot = g.C.Keeps in
     let r = c.requires.may in
     let free = (q-stands m c.args.arcs.now c.args.feeder c.args.callers.items r.stands r.alone r.apart r.everyone r.count r.differ c.join_all.new.party c.join_all.ensures).free in
     λ i among. absurd (subst (IsAmong i) free among)
 
 pub resize-requires-clause-feeder : goal.resize-requires-clause-feeder
 resize-requires-clause-feeder g c =
-    let m : Meanings g.row.C.Denot = meanings g.C.Keeps.holds g.C.Keeps.entries g.C.Keeps.opening g.C.Keeps.claims g.C.Keeps.sound in
+    let m : Meanings g.row.C.Denot = g.C.Keeps in
     let r = c.requires.may in
     (joined m c.args.arcs.now c.args.feeder [] c.args.callers.items r.stands r.alone r.apart r.everyone r.count r.differ c.join_all.new.party c.join_all.ensures).number ∙ c.requires.feeder
 
 pub part_all-requires-clause-party : goal.part_all-requires-clause-party
 part_all-requires-clause-party g c =
-    let m : Meanings g.row.C.Denot = meanings g.C.Keeps.holds g.C.Keeps.entries g.C.Keeps.opening g.C.Keeps.claims g.C.Keeps.sound in
+    let m : Meanings g.row.C.Denot = g.C.Keeps in
     let r = c.requires.may in
     (c.resize.ensures.party, c.resize.ensures.held ∙ (q-stands m c.args.arcs.now c.args.feeder c.args.callers.items r.stands r.alone r.apart r.everyone r.count r.differ c.join_all.new.party c.join_all.ensures).free)
 
 pub part_all-requires-clause-numbers : goal.part_all-requires-clause-numbers
 part_all-requires-clause-numbers g c =
-    let m : Meanings g.row.C.Denot = meanings g.C.Keeps.holds g.C.Keeps.entries g.C.Keeps.opening g.C.Keeps.claims g.C.Keeps.sound in
+    let m : Meanings g.row.C.Denot = g.C.Keeps in
     let r = c.requires.may in
     let did = all-resized m c.args.arcs.now c.args.c c.join_all.new.party c.resize.new.party c.resize.result (sym c.is_err.ensures.value ∙ c.if-is_err.false) c.resize.ensures.answer in
     resized-last m c.args.arcs.now c.args.feeder c.args.callers.items r.stands r.alone r.apart r.everyone r.count r.differ c.join_all.new.party c.join_all.ensures c.args.arcs.now.config.callers c.args.c c.requires.feeder c.resize.new.party did
@@ -59,7 +59,7 @@ part_all-requires-clause-numbers g c =
 
 pub returns : goal.returns
 returns g c =
-    let m : Meanings g.row.C.Denot = meanings g.C.Keeps.holds g.C.Keeps.entries g.C.Keeps.opening g.C.Keeps.claims g.C.Keeps.sound in
+    let m : Meanings g.row.C.Denot = g.C.Keeps in
     let r = c.requires.may in
     let did = all-resized m c.args.arcs.now c.args.c c.join_all.new.party c.resize.new.party c.resize.result (sym c.is_err.ensures.value ∙ c.if-is_err.false) c.resize.ensures.answer in
     resized m c.args.arcs.now c.args.feeder c.args.callers.items r.stands r.alone r.apart r.everyone r.count r.differ c.join_all.new.party c.join_all.ensures c.args.arcs.now.config.callers c.args.c c.requires.feeder c.resize.new.party did

@@ -7,7 +7,7 @@ use Rattle.turn_table.specs.Places.{Place}
 use Rattle.arc_table.specs.declared.restores.RestoreStop.{RestoreStop}
 use Rattle.arc_table.specs.declared.view.Known.{Known}
 use Rattle.arc_table.specs.feeder.Feeding.{AnswersRestore, Restores}
-use Rattle.arc_table.specs.Items.{Meanings, meanings}
+use Rattle.arc_table.specs.Items.{Meanings}
 use Rattle.trace_run.specs.KeptBlocks.{no_entries}
 use Rattle.trace_run.proofs.ResizeLemmas.{last-of, made-joined, q-all, q-number, q-stands}
 use Rattle.trace_run.proofs.RestoreLemmas.{keys-formed, restored-to, restores-mine}
@@ -28,20 +28,20 @@ join_all-requires-clause-others g c = all-may no_entries c.args.arcs.now c.args.
 
 pub restore-requires-clause-party : goal.restore-requires-clause-party
 restore-requires-clause-party g c =
-    let m : Meanings g.row.C.Denot = meanings g.C.Keeps.holds g.C.Keeps.entries g.C.Keeps.opening g.C.Keeps.claims g.C.Keeps.sound in
+    let m : Meanings g.row.C.Denot = g.C.Keeps in
     let r = c.requires.may in
     (q-stands m c.args.arcs.now c.args.feeder c.args.callers.items r.stands r.alone r.apart r.everyone r.count r.differ c.join_all.new.party c.join_all.ensures).of
 
 pub restore-requires-clause-look : goal.restore-requires-clause-look
 restore-requires-clause-look g c =
-    let m : Meanings g.row.C.Denot = meanings g.C.Keeps.holds g.C.Keeps.entries g.C.Keeps.opening g.C.Keeps.claims g.C.Keeps.sound in
+    let m : Meanings g.row.C.Denot = g.C.Keeps in
     let r = c.requires.may in
     let free = (q-stands m c.args.arcs.now c.args.feeder c.args.callers.items r.stands r.alone r.apart r.everyone r.count r.differ c.join_all.new.party c.join_all.ensures).free in
     λ i among. absurd (subst (IsAmong i) free among)
 
 pub restore-requires-clause-feeder : goal.restore-requires-clause-feeder
 restore-requires-clause-feeder g c =
-    let m : Meanings g.row.C.Denot = meanings g.C.Keeps.holds g.C.Keeps.entries g.C.Keeps.opening g.C.Keeps.claims g.C.Keeps.sound in
+    let m : Meanings g.row.C.Denot = g.C.Keeps in
     let r = c.requires.may in
     q-number m c.args.arcs.now c.args.feeder c.args.callers.items r.stands r.alone r.apart r.everyone r.count r.differ c.join_all.new.party c.join_all.ensures ∙ c.requires.feeder
 
@@ -50,7 +50,7 @@ restore-requires-clause-keys g c = keys-formed c.args.restored.now c.requires.ke
 
 pub part_all-requires-clause-party : goal.part_all-requires-clause-party
 part_all-requires-clause-party g c =
-    let m : Meanings g.row.C.Denot = meanings g.C.Keeps.holds g.C.Keeps.entries g.C.Keeps.opening g.C.Keeps.claims g.C.Keeps.sound in
+    let m : Meanings g.row.C.Denot = g.C.Keeps in
     let r = c.requires.may in
     let stands = q-stands m c.args.arcs.now c.args.feeder c.args.callers.items r.stands r.alone r.apart r.everyone r.count r.differ c.join_all.new.party c.join_all.ensures in
     let all = q-all m c.args.arcs.now c.args.feeder c.args.callers.items r.stands r.alone r.apart r.everyone r.count r.differ c.join_all.new.party c.join_all.ensures in
@@ -61,7 +61,7 @@ part_all-requires-clause-party g c =
 
 pub part_all-requires-clause-numbers : goal.part_all-requires-clause-numbers
 part_all-requires-clause-numbers g c =
-    let m : Meanings g.row.C.Denot = meanings g.C.Keeps.holds g.C.Keeps.entries g.C.Keeps.opening g.C.Keeps.claims g.C.Keeps.sound in
+    let m : Meanings g.row.C.Denot = g.C.Keeps in
     let r = c.requires.may in
     let stands = q-stands m c.args.arcs.now c.args.feeder c.args.callers.items r.stands r.alone r.apart r.everyone r.count r.differ c.join_all.new.party c.join_all.ensures in
     let all = q-all m c.args.arcs.now c.args.feeder c.args.callers.items r.stands r.alone r.apart r.everyone r.count r.differ c.join_all.new.party c.join_all.ensures in
@@ -74,7 +74,7 @@ part_all-requires-clause-numbers g c =
 
 pub returns : goal.returns
 returns g c =
-    let m : Meanings g.row.C.Denot = meanings g.C.Keeps.holds g.C.Keeps.entries g.C.Keeps.opening g.C.Keeps.claims g.C.Keeps.sound in
+    let m : Meanings g.row.C.Denot = g.C.Keeps in
     let r = c.requires.may in
     let stands = q-stands m c.args.arcs.now c.args.feeder c.args.callers.items r.stands r.alone r.apart r.everyone r.count r.differ c.join_all.new.party c.join_all.ensures in
     let all = q-all m c.args.arcs.now c.args.feeder c.args.callers.items r.stands r.alone r.apart r.everyone r.count r.differ c.join_all.new.party c.join_all.ensures in

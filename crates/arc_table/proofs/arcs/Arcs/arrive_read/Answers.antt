@@ -1,13 +1,12 @@
 use Rattle.std.proofs.Common.{sym, ◌∙◌}
 use Rattle.std.proofs.lemmas.Option.{none-some}
-use Rattle.arc_table.specs.Items.{meanings}
 use Rattle.arc_table.specs.Making.{IsTaken}
 use Rattle.arc_table.proofs.reads.ArriveEvents.{comes_by, header_read, not_come, read_by, reading_taken}
 use Rattle.arc_table.proofs.arcs.Arcs.arrive_read.Goals as goal
 
 pub unreachable-requires : goal.unreachable-requires
 unreachable-requires g c =
-    let m = meanings g.C.Keeps.holds g.C.Keeps.entries g.C.Keeps.opening g.C.Keeps.claims g.C.Keeps.sound in
+    let m = g.C.Keeps in
     let b = c.take_both-both in
     let k = c.args.ptr.now.key in
     let config = c.args.self.now.config in
@@ -18,13 +17,13 @@ unreachable-requires g c =
 
 pub arrive_taken-requires-clause-reading : goal.arrive_taken-requires-clause-reading
 arrive_taken-requires-clause-reading g c =
-    let m = meanings g.C.Keeps.holds g.C.Keeps.entries g.C.Keeps.opening g.C.Keeps.claims g.C.Keeps.sound in
+    let m = g.C.Keeps in
     let b = c.take_both-both in
     reading_taken m c.args.self.now.config c.args.ptr.now.key b.result.hand.own.bucket b.result.shard c.args.party.now b.new.party b.ensures.takes c.args.ptr.now.key c.requires.reading
 
 pub arrive_taken-requires-clause-comes : goal.arrive_taken-requires-clause-comes
 arrive_taken-requires-clause-comes g c =
-    let m = meanings g.C.Keeps.holds g.C.Keeps.entries g.C.Keeps.opening g.C.Keeps.claims g.C.Keeps.sound in
+    let m = g.C.Keeps in
     let b = c.take_both-both in
     let k = c.args.ptr.now.key in
     let config = c.args.self.now.config in
@@ -36,7 +35,7 @@ arrive_taken-requires-clause-comes g c =
 
 pub returns-then-not-may_come-clause-cleared : goal.returns-then-not-may_come-clause-cleared
 returns-then-not-may_come-clause-cleared g c =
-    let m = meanings g.C.Keeps.holds g.C.Keeps.entries g.C.Keeps.opening g.C.Keeps.claims g.C.Keeps.sound in
+    let m = g.C.Keeps in
     let b = c.take_both-both in
     let k = c.args.ptr.now.key in
     let config = c.args.self.now.config in

@@ -9,7 +9,6 @@ use Rattle.arc_core.specs.Step.{after, arrived, legal}
 use Rattle.hash_chain.specs.Chain.{IsWith, header_at}
 use Rattle.hash_chain.specs.declared.header.Header.{Header}
 use Rattle.arc_table.specs.Holding.{IsListed}
-use Rattle.arc_table.specs.Items.{meanings}
 use Rattle.arc_table.proofs.reads.ArriveEvents.{arrive_listed, arrive_made, entry_now, header_says, may_arrive, taken_read}
 use Rattle.arc_table.proofs.OneEvent.{makes_these}
 use Rattle.arc_table.proofs.Lent.{lent, lent_taken}
@@ -21,7 +20,7 @@ use Rattle.arc_table.proofs.arcs.Arcs.arrive_taken.Goals as goal
 
 pub arrive-requires : goal.arrive-requires
 arrive-requires g c =
-    let m = meanings g.C.Keeps.holds g.C.Keeps.entries g.C.Keeps.opening g.C.Keeps.claims g.C.Keeps.sound in
+    let m = g.C.Keeps in
     let same = c.deref_mut-shard.ensures.value in
     let b = lent c.args.both c.deref_mut-shard.result.now in
     let taken = lent_taken m c.args.self.now.config c.args.ptr.key c.args.both c.args.party.now c.deref_mut-shard.result.now same c.requires.taken in
@@ -33,7 +32,7 @@ arrive-requires g c =
 
 pub give_both-requires-clause-made : goal.give_both-requires-clause-made
 give_both-requires-clause-made g c =
-    let m = meanings g.C.Keeps.holds g.C.Keeps.entries g.C.Keeps.opening g.C.Keeps.claims g.C.Keeps.sound in
+    let m = g.C.Keeps in
     let same = c.deref_mut-shard.ensures.value in
     let b = lent c.args.both c.deref_mut-shard.result.now in
     let taken = lent_taken m c.args.self.now.config c.args.ptr.key c.args.both c.args.party.now c.deref_mut-shard.result.now same c.requires.taken in
@@ -66,7 +65,7 @@ give_both-requires-clause-made g c =
 
 pub returns-clause-makes : goal.returns-clause-makes
 returns-clause-makes g c =
-    let m = meanings g.C.Keeps.holds g.C.Keeps.entries g.C.Keeps.opening g.C.Keeps.claims g.C.Keeps.sound in
+    let m = g.C.Keeps in
     let same = c.deref_mut-shard.ensures.value in
     let b = lent c.args.both c.deref_mut-shard.result.now in
     let taken = lent_taken m c.args.self.now.config c.args.ptr.key c.args.both c.args.party.now c.deref_mut-shard.result.now same c.requires.taken in
@@ -79,7 +78,7 @@ returns-clause-makes g c =
 
 pub returns-clause-hold : goal.returns-clause-hold
 returns-clause-hold g c =
-    let m = meanings g.C.Keeps.holds g.C.Keeps.entries g.C.Keeps.opening g.C.Keeps.claims g.C.Keeps.sound in
+    let m = g.C.Keeps in
     let ptr = c.args.ptr in
     let q = c.args.party.now in
     let config = c.args.self.now.config in

@@ -11,7 +11,6 @@ use Rattle.arc_table.specs.Both.{Takes}
 use Rattle.arc_table.specs.Cache.{Cache}
 use Rattle.arc_table.specs.Fronts.{list_at}
 use Rattle.arc_table.specs.Geometry.{IsCell, IsShard}
-use Rattle.arc_table.specs.Items.{meanings}
 use Rattle.arc_table.specs.feeder.Picking.{nth_shard_turn}
 use Rattle.arc_table.proofs.Boards.{loses_about, shard_there}
 use Rattle.arc_table.proofs.feeder.FeedBegins.{begins, not_cell, nth_range, own_number, picked_there}
@@ -25,7 +24,7 @@ take-requires-clause-not_held g c among =
 
 pub into_shard-shard-requires : goal.into_shard-shard-requires
 into_shard-shard-requires g c =
-    let m = meanings g.C.Keeps.holds g.C.Keeps.entries g.C.Keeps.opening g.C.Keeps.claims g.C.Keeps.sound in
+    let m = g.C.Keeps in
     let same = ap (λ (x : Cache). x.config) c.self.view_is in
     let t = c.take.ensures in
     let p = c.args.party.now in
@@ -36,7 +35,7 @@ into_shard-shard-requires g c =
 
 pub returns-clause-takes : goal.returns-clause-takes
 returns-clause-takes g c =
-    let m = meanings g.C.Keeps.holds g.C.Keeps.entries g.C.Keeps.opening g.C.Keeps.claims g.C.Keeps.sound in
+    let m = g.C.Keeps in
     let t = c.take.ensures in
     let i = nth_shard_turn c.self.inside.config c.args.shard in
     let is : c.take.result ≡ item.Shard c.of.result.value = c.into_shard-shard.ensures ∙ ap (λ (l : ShardLog). let v : Item g.row.C.Denot = item.Shard l in v) (sym c.of.ensures) in
@@ -44,7 +43,7 @@ returns-clause-takes g c =
 
 pub returns-clause-scan : goal.returns-clause-scan
 returns-clause-scan g c =
-    let m = meanings g.C.Keeps.holds g.C.Keeps.entries g.C.Keeps.opening g.C.Keeps.claims g.C.Keeps.sound in
+    let m = g.C.Keeps in
     let same = ap (λ (x : Cache). x.config) c.self.view_is in
     let config = c.args.self.now.config in
     let p = c.args.party.now in
@@ -61,7 +60,7 @@ returns-clause-scan g c =
 
 pub returns-clause-picked : goal.returns-clause-picked
 returns-clause-picked g c =
-    let m = meanings g.C.Keeps.holds g.C.Keeps.entries g.C.Keeps.opening g.C.Keeps.claims g.C.Keeps.sound in
+    let m = g.C.Keeps in
     let same = ap (λ (x : Cache). x.config) c.self.view_is in
     let config = c.args.self.now.config in
     let p = c.args.party.now in
@@ -74,13 +73,13 @@ returns-clause-picked g c =
 
 pub returns-clause-party : goal.returns-clause-party
 returns-clause-party g c =
-    let m = meanings g.C.Keeps.holds g.C.Keeps.entries g.C.Keeps.opening g.C.Keeps.claims g.C.Keeps.sound in
+    let m = g.C.Keeps in
     let k = took_is m (nth_shard_turn c.self.inside.config c.args.shard) (item.Shard c.of.result.value) c.args.party.now c.take.new.party (returns-clause-takes g c) in
     record { row = (k.table ∙ c.requires.party.row.0, k.parties ∙ c.requires.party.row.1); config = ap (λ (a : About). a.config) k.about ∙ c.requires.party.config }
 
 pub returns-clause-own : goal.returns-clause-own
 returns-clause-own g c =
-    let m = meanings g.C.Keeps.holds g.C.Keeps.entries g.C.Keeps.opening g.C.Keeps.claims g.C.Keeps.sound in
+    let m = g.C.Keeps in
     let same = ap (λ (x : Cache). x.config) c.self.view_is in
     let config = c.args.self.now.config in
     let p = c.args.party.now in

@@ -5,14 +5,14 @@ use Rattle.arc_table.specs.declared.both.Both.{Both}
 use Rattle.arc_table.specs.declared.in_hand.Taken.{Taken}
 use Rattle.arc_table.specs.declared.scan.Scan.{Scan}
 use Rattle.arc_table.specs.scans.Evicting.{MayBegin}
-use Rattle.arc_table.specs.Items.{Meanings, meanings}
+use Rattle.arc_table.specs.Items.{Meanings}
 use Rattle.arc_table.proofs.scans.ScanBegins.{may_keeps, scan_begins}
 use Rattle.arc_table.proofs.scans.ScanSteps.{legal_then, may_after}
 use Rattle.arc_table.proofs.arcs.Arcs.begin_scan.Goals as goal
 
 pub name_victims-requires-clause-scan : goal.name_victims-requires-clause-scan
 name_victims-requires-clause-scan g c =
-    let m : Meanings g.row.C.Denot = meanings g.C.Keeps.holds g.C.Keeps.entries g.C.Keeps.opening g.C.Keeps.claims g.C.Keeps.sound in
+    let m : Meanings g.row.C.Denot = g.C.Keeps in
     let s : Scan = record { both = record { hand = c.reserve.new.both.hand; turn = c.reserve.new.both.turn; shard = c.unmark_all.new.self }; marked = c.in-Ok.marked } in
     let unmarked : c.unmark_all.new.self ≡ record c.reserve.new.both.shard { marked = [] } = c.unmark_all.ensures ∙ ap (λ (l : ShardLog). let x : ShardLog = record l { marked = [] } in x) c.deref_mut.ensures.value in
     let is : s.both ≡ record c.reserve.new.both { shard = record c.reserve.new.both.shard { marked = [] } } = ap (λ (l : ShardLog). let b : Both = record { hand = c.reserve.new.both.hand; turn = c.reserve.new.both.turn; shard = l } in b) unmarked in
@@ -25,7 +25,7 @@ name_victims-requires-clause-scan g c =
 
 pub returns-clause-ok : goal.returns-clause-ok
 returns-clause-ok g c =
-    let m : Meanings g.row.C.Denot = meanings g.C.Keeps.holds g.C.Keeps.entries g.C.Keeps.opening g.C.Keeps.claims g.C.Keeps.sound in
+    let m : Meanings g.row.C.Denot = g.C.Keeps in
     let cfg = c.args.self.now.config in
     let s : Scan = record { both = record { hand = c.reserve.new.both.hand; turn = c.reserve.new.both.turn; shard = c.unmark_all.new.self }; marked = c.in-Ok.marked } in
     let unmarked : c.unmark_all.new.self ≡ record c.reserve.new.both.shard { marked = [] } = c.unmark_all.ensures ∙ ap (λ (l : ShardLog). let x : ShardLog = record l { marked = [] } in x) c.deref_mut.ensures.value in

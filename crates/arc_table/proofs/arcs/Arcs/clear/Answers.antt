@@ -7,7 +7,6 @@ use Rattle.arc_core.specs.Step.{after, legal}
 use Rattle.arc_table.specs.Both.{Makes}
 use Rattle.arc_table.specs.feeder.Feeding.{has_place}
 use Rattle.arc_table.specs.Geometry.{shard_turn}
-use Rattle.arc_table.specs.Items.{meanings}
 use Rattle.arc_table.proofs.feeder.FeedEvents.{clear_legal, clear_like, clear_there, feeder_is, number_few}
 use Rattle.arc_table.proofs.FollowEvents.{follow_made, header_there}
 use Rattle.arc_table.proofs.reads.HitEvents.{some_there}
@@ -19,7 +18,7 @@ use Rattle.arc_table.proofs.arcs.Arcs.clear.Goals as goal
 
 pub returns-then-not-has_place-clause-ok : goal.returns-then-not-has_place-clause-ok
 returns-then-not-has_place-clause-ok g c =
-    let m = meanings g.C.Keeps.holds g.C.Keeps.entries g.C.Keeps.opening g.C.Keeps.claims g.C.Keeps.sound in
+    let m = g.C.Keeps in
     let b = c.take_both-both in
     let q = b.new.party in
     let p = c.args.party.now in
@@ -37,7 +36,7 @@ returns-then-not-has_place-clause-ok g c =
 
 pub clear-requires-clause-legal : goal.clear-requires-clause-legal
 clear-requires-clause-legal g c =
-    let m = meanings g.C.Keeps.holds g.C.Keeps.entries g.C.Keeps.opening g.C.Keeps.claims g.C.Keeps.sound in
+    let m = g.C.Keeps in
     let b = c.take_both-both in
     let q = b.new.party in
     let p = c.args.party.now in
@@ -54,7 +53,7 @@ clear-requires-clause-legal g c =
 
 pub follow-requires : goal.follow-requires
 follow-requires g c =
-    let m = meanings g.C.Keeps.holds g.C.Keeps.entries g.C.Keeps.opening g.C.Keeps.claims g.C.Keeps.sound in
+    let m = g.C.Keeps in
     let b = c.take_both-both in
     let q = b.new.party in
     let p = c.args.party.now in
@@ -73,7 +72,7 @@ follow-requires g c =
 
 pub give_both-requires-clause-made : goal.give_both-requires-clause-made
 give_both-requires-clause-made g c =
-    let m = meanings g.C.Keeps.holds g.C.Keeps.entries g.C.Keeps.opening g.C.Keeps.claims g.C.Keeps.sound in
+    let m = g.C.Keeps in
     let b = c.take_both-both in
     let q = b.new.party in
     let p = c.args.party.now in
@@ -95,7 +94,7 @@ give_both-requires-clause-made g c =
 
 pub returns-clause-ok : goal.returns-clause-ok
 returns-clause-ok g c =
-    let m = meanings g.C.Keeps.holds g.C.Keeps.entries g.C.Keeps.opening g.C.Keeps.claims g.C.Keeps.sound in
+    let m = g.C.Keeps in
     let b = c.take_both-both in
     let q = b.new.party in
     let p = c.args.party.now in

@@ -2,7 +2,7 @@ use Rattle.std.proofs.Common.{◌≡◌, ◌++◌, ◌+◌, ◌≤◌, ℕ, ◌<
 use Rattle.arc_table.specs.Cache.{Cache}
 use Rattle.arc_table.specs.Ended.{AreAtRest, Ends, cells_in, shards_in}
 use Rattle.arc_table.specs.Geometry.{parties_of, turns_of}
-use Rattle.arc_table.specs.Items.{Meanings, meanings}
+use Rattle.arc_table.specs.Items.{Meanings}
 use Rattle.arc_table.proofs.Ends.{AreAll, rest_free, values_are, shards_long, ends}
 use Rattle.arc_table.proofs.arcs.Arcs.close.Goals as goal
 
@@ -18,7 +18,7 @@ pub sort_out-requires-clause-cells : goal.sort_out-requires-clause-cells
 sort_out-requires-clause-cells g c =
     let cache : Cache = record { row = c.self.inside.turns; config = c.self.inside.config } in
     let e = c.in-Ok.ensures in
-    let m : Meanings g.row.C.Denot = meanings g.C.Keeps.holds g.C.Keeps.entries g.C.Keeps.opening g.C.Keeps.claims g.C.Keeps.sound in
+    let m : Meanings g.row.C.Denot = g.C.Keeps in
     let long : length c.in-Ok.values.items ≡ turns_of c.self.inside.config = let a = e.0 in let b = c.in-Ok.values.ok.0 in let d = c.self.invariant.turns in omega arith in
     let all : AreAll {C = g.row.C.Denot} c.self.inside.config 0 c.in-Ok.values.items =
     values_are m cache c.in-Ok.values.items e.1.0 c.args.parties.items e.1.3 (subst (λ (k : Cache). AreAtRest k c.args.parties.items) (sym c.self.view_is) c.requires.rest) (c.requires.all 0 (omega arith)) e.1.2 long in
@@ -32,7 +32,7 @@ pub sort_out-requires-clause-shards : goal.sort_out-requires-clause-shards
 sort_out-requires-clause-shards g c =
     let cache : Cache = record { row = c.self.inside.turns; config = c.self.inside.config } in
     let e = c.in-Ok.ensures in
-    let m : Meanings g.row.C.Denot = meanings g.C.Keeps.holds g.C.Keeps.entries g.C.Keeps.opening g.C.Keeps.claims g.C.Keeps.sound in
+    let m : Meanings g.row.C.Denot = g.C.Keeps in
     let long : length c.in-Ok.values.items ≡ turns_of c.self.inside.config = let a = e.0 in let b = c.in-Ok.values.ok.0 in let d = c.self.invariant.turns in omega arith in
     let all : AreAll {C = g.row.C.Denot} c.self.inside.config 0 c.in-Ok.values.items =
     values_are m cache c.in-Ok.values.items e.1.0 c.args.parties.items e.1.3 (subst (λ (k : Cache). AreAtRest k c.args.parties.items) (sym c.self.view_is) c.requires.rest) (c.requires.all 0 (omega arith)) e.1.2 long in
@@ -46,7 +46,7 @@ pub returns : goal.returns
 returns g c =
     let cache : Cache = record { row = c.self.inside.turns; config = c.self.inside.config } in
     let e = c.in-Ok.ensures in
-    let m : Meanings g.row.C.Denot = meanings g.C.Keeps.holds g.C.Keeps.entries g.C.Keeps.opening g.C.Keeps.claims g.C.Keeps.sound in
+    let m : Meanings g.row.C.Denot = g.C.Keeps in
     let cells : c.sort_out.new.cells.items ≡ cells_in c.in-Ok.values.items = c.sort_out.ensures.cells ∙ ap (λ l. l ++ cells_in c.in-Ok.values.items) c.in_ok-cells.ensures.items in
     let counted : c.in_ok-shards-2.shards.value ≡ c.sort_out.new.shards = c.in_ok-shards-2.ensures.ok in
     let shards : c.in_ok-shards-2.shards.value.items ≡ shards_in c.in-Ok.values.items = ap (λ v. v.items) counted ∙ c.sort_out.ensures.shards ∙ ap (λ l. l ++ shards_in c.in-Ok.values.items) c.in_ok-shards.ensures.items in

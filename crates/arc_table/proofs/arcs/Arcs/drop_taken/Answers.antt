@@ -10,7 +10,6 @@ use Rattle.arc_table.specs.Both.{Makes}
 use Rattle.arc_table.specs.Geometry.{shard_turn}
 use Rattle.arc_table.specs.pact.Headed.{IsHead}
 use Rattle.arc_table.specs.Holding.{ptr_of}
-use Rattle.arc_table.specs.Items.{meanings}
 use Rattle.arc_table.proofs.reads.HitEvents.{head_there}
 use Rattle.arc_table.proofs.HoldEvents.{acts_for, drop_alike, drop_legal, held_alike}
 use Rattle.arc_table.proofs.KeptHeads.{head_given}
@@ -21,7 +20,7 @@ use Rattle.arc_table.proofs.arcs.Arcs.drop_taken.Goals as goal
 
 pub drop_near-requires : goal.drop_near-requires
 drop_near-requires g c =
-    let m = meanings g.C.Keeps.holds g.C.Keeps.entries g.C.Keeps.opening g.C.Keeps.claims g.C.Keeps.sound in
+    let m = g.C.Keeps in
     let same = c.deref_mut.ensures.value in
     let b = lent c.args.both c.deref_mut.result.now in
     let taken = lent_taken m c.args.self.now.config c.args.hold.key c.args.both c.args.party.now c.deref_mut.result.now same c.requires.taken in
@@ -30,7 +29,7 @@ drop_near-requires g c =
 
 pub give_block-near-requires : goal.give_block-near-requires
 give_block-near-requires g c =
-    let m = meanings g.C.Keeps.holds g.C.Keeps.entries g.C.Keeps.opening g.C.Keeps.claims g.C.Keeps.sound in
+    let m = g.C.Keeps in
     let b = c.args.both in
     let q = c.args.party.now in
     let h = c.args.hold in
@@ -41,7 +40,7 @@ give_block-near-requires g c =
 
 pub give_both-requires-clause-made : goal.give_both-requires-clause-made
 give_both-requires-clause-made g c =
-    let m = meanings g.C.Keeps.holds g.C.Keeps.entries g.C.Keeps.opening g.C.Keeps.claims g.C.Keeps.sound in
+    let m = g.C.Keeps in
     let same = c.deref_mut.ensures.value in
     let b = lent c.args.both c.deref_mut.result.now in
     let taken = lent_taken m c.args.self.now.config c.args.hold.key c.args.both c.args.party.now c.deref_mut.result.now same c.requires.taken in
@@ -65,7 +64,7 @@ give_both-requires-clause-made g c =
 
 pub returns : goal.returns
 returns g c =
-    let m = meanings g.C.Keeps.holds g.C.Keeps.entries g.C.Keeps.opening g.C.Keeps.claims g.C.Keeps.sound in
+    let m = g.C.Keeps in
     let same = c.deref_mut.ensures.value in
     let b = lent c.args.both c.deref_mut.result.now in
     let taken = lent_taken m c.args.self.now.config c.args.hold.key c.args.both c.args.party.now c.deref_mut.result.now same c.requires.taken in

@@ -2,14 +2,13 @@ use Rattle.std.proofs.Common.{[], ◌∷◌, subst}
 use Rattle.arc_core.specs.declared.event.Event.TheVariants.{Arrive}
 use Rattle.arc_core.specs.declared.event.Origin.{Origin}
 use Rattle.arc_table.specs.Both.{Does}
-use Rattle.arc_table.specs.Items.{meanings}
 use Rattle.arc_table.specs.Reading.{read}
 use Rattle.arc_table.proofs.reads.ReadEnds.{gives_block}
 use Rattle.arc_table.proofs.arcs.Arcs.end_cleared.Goals as goal
 
 pub returns-in-Some-clause-answer : goal.returns-in-Some-clause-answer
 returns-in-Some-clause-answer g c =
-    let m = meanings g.C.Keeps.holds g.C.Keeps.entries g.C.Keeps.opening g.C.Keeps.claims g.C.Keeps.sound in
+    let m = g.C.Keeps in
     let ptr = c.args.ptr.now in
     let p = c.args.party.now in
     let f = c.in-Ok.ensures in

@@ -3,7 +3,6 @@ use Rattle.std.specs.Prelude.{IsTrue}
 use Rattle.arc_core.specs.declared.event.Event.{Event}
 use Rattle.arc_core.specs.declared.event.Event.TheVariants.{FeedEnd}
 use Rattle.arc_core.specs.Step.{legal}
-use Rattle.arc_table.specs.Items.{meanings}
 use Rattle.arc_table.proofs.feeder.Candidates.{end_legal}
 use Rattle.arc_table.proofs.feeder.FeedScan.{ended, ended_since, feed_end_is, number_few}
 use Rattle.arc_table.proofs.Lent.{lent_legal, lent_makes}
@@ -31,7 +30,7 @@ give_alone-requires-clause-given g c =
 
 pub returns : goal.returns
 returns g c = λ es has.
-    let m = meanings g.C.Keeps.holds g.C.Keeps.entries g.C.Keeps.opening g.C.Keeps.claims g.C.Keeps.sound in
+    let m = g.C.Keeps in
     let f = c.args.feed in
     let r = c.args.party.now in
     let n = c.number.result in

@@ -5,7 +5,6 @@ use Rattle.arc_core.specs.declared.event.Origin.{Origin}
 use Rattle.arc_core.specs.declared.served.ReadFault.{ReadFault}
 use Rattle.arc_table.specs.Both.{Does}
 use Rattle.arc_table.specs.Fetching.{ServesOrNot}
-use Rattle.arc_table.specs.Items.{meanings}
 use Rattle.arc_table.specs.Reading.{EndsMiss, GoesToPool, cleared, from_pool, outside}
 use Rattle.arc_table.proofs.reads.AfterRead.{reads_still}
 use Rattle.arc_table.proofs.Afterwards.{does_stays, stays_free, stays_party}
@@ -14,7 +13,7 @@ use Rattle.arc_table.proofs.arcs.Arcs.end_miss.Goals as goal
 
 pub returns-in-Err-clause-answer : goal.returns-in-Err-clause-answer
 returns-in-Err-clause-answer g c =
-    let m = meanings g.C.Keeps.holds g.C.Keeps.entries g.C.Keeps.opening g.C.Keeps.claims g.C.Keeps.sound in
+    let m = g.C.Keeps in
     let config = c.args.self.now.config in
     let ptr = c.args.ptr.now in
     let p = c.args.party.now in
@@ -29,25 +28,25 @@ returns-in-Err-clause-answer g c =
 
 pub end_cleared-requires-clause-party : goal.end_cleared-requires-clause-party
 end_cleared-requires-clause-party g c κs within =
-    let m = meanings g.C.Keeps.holds g.C.Keeps.entries g.C.Keeps.opening g.C.Keeps.claims g.C.Keeps.sound in
+    let m = g.C.Keeps in
     let valid = c.in-Ok.ensures.config in
     stays_party c.args.self.now c.args.party.now c.arrive_read.new.party (does_stays m c.args.self.now.config valid c.args.ptr.now.key [] c.args.party.now c.arrive_read.new.party c.requires.party.config c.in-None.ensures.cleared.1.does) c.requires.party
 
 pub end_cleared-requires-clause-look : goal.end_cleared-requires-clause-look
 end_cleared-requires-clause-look g c κs within =
-    let m = meanings g.C.Keeps.holds g.C.Keeps.entries g.C.Keeps.opening g.C.Keeps.claims g.C.Keeps.sound in
+    let m = g.C.Keeps in
     let valid = c.in-Ok.ensures.config in
     stays_free c.args.self.now c.args.party.now c.arrive_read.new.party (does_stays m c.args.self.now.config valid c.args.ptr.now.key [] c.args.party.now c.arrive_read.new.party c.requires.party.config c.in-None.ensures.cleared.1.does) c.requires.look
 
 pub end_cleared-requires-clause-reading : goal.end_cleared-requires-clause-reading
 end_cleared-requires-clause-reading g c κs within =
-    let m = meanings g.C.Keeps.holds g.C.Keeps.entries g.C.Keeps.opening g.C.Keeps.claims g.C.Keeps.sound in
+    let m = g.C.Keeps in
     let valid = c.in-Ok.ensures.config in
     reads_still m c.args.self.now.config valid c.args.ptr.now.key c.args.party.now c.arrive_read.new.party c.requires.party.config c.in-None.ensures.cleared.1.does c.args.ptr.now.key c.requires.reading
 
 pub returns-in-Some-clause-answer : goal.returns-in-Some-clause-answer
 returns-in-Some-clause-answer g c =
-    let m = meanings g.C.Keeps.holds g.C.Keeps.entries g.C.Keeps.opening g.C.Keeps.claims g.C.Keeps.sound in
+    let m = g.C.Keeps in
     let e = c.in-Ok.ensures in
     let f = c.in-Ok.fetched in
     miss_arrives m g.P.Pool g.D.CacheDev c.args.self.now.config c.args.ptr.now c.args.found (outside c.args.pool.now c.args.cache.now) (outside c.fetch.new.pool c.fetch.new.cache) c.args.party.now c.arrive_read.new.party
@@ -56,7 +55,7 @@ returns-in-Some-clause-answer g c =
 
 pub returns-in-None-clause-answer : goal.returns-in-None-clause-answer
 returns-in-None-clause-answer g c =
-    let m = meanings g.C.Keeps.holds g.C.Keeps.entries g.C.Keeps.opening g.C.Keeps.claims g.C.Keeps.sound in
+    let m = g.C.Keeps in
     let back = c.arrive_read.new.party in
     let gone = c.in-None.ensures.cleared in
     let f = c.in-Ok.fetched in

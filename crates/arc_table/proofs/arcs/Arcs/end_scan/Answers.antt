@@ -11,7 +11,7 @@ use Rattle.arc_table.specs.declared.view.Known.{Known}
 use Rattle.arc_table.specs.Cache.{Cache, IsPartyOf}
 use Rattle.arc_table.specs.scans.Ending.{HasMade}
 use Rattle.arc_table.specs.InHand.{buckets_of, made_since}
-use Rattle.arc_table.specs.Items.{Meanings, meanings}
+use Rattle.arc_table.specs.Items.{Meanings}
 use Rattle.arc_table.specs.scans.Scanning.{AllPairs, IsInHand, gave_all, pairs_of}
 use Rattle.arc_table.specs.ShardGiving.{IsGivenShard, after_shard}
 use Rattle.arc_table.specs.scans.Sparing.{AreHeadsBut}
@@ -22,13 +22,13 @@ use Rattle.arc_table.proofs.arcs.Arcs.end_scan.Goals as goal
 
 pub spare_all-requires-clause-apart : goal.spare_all-requires-clause-apart
 spare_all-requires-clause-apart g c =
-    let m : Meanings g.row.C.Denot = meanings g.C.Keeps.holds g.C.Keeps.entries g.C.Keeps.opening g.C.Keeps.claims g.C.Keeps.sound in
+    let m : Meanings g.row.C.Denot = g.C.Keeps in
     let r = c.requires.made in
     hand_apart m c.args.self.now.config r.0 r.1 r.2 c.args.party.now r.3 r.4 c.args.scan r.5
 
 pub spare_all-requires-clause-in_hand : goal.spare_all-requires-clause-in_hand
 spare_all-requires-clause-in_hand g c =
-    let m : Meanings g.row.C.Denot = meanings g.C.Keeps.holds g.C.Keeps.entries g.C.Keeps.opening g.C.Keeps.claims g.C.Keeps.sound in
+    let m : Meanings g.row.C.Denot = g.C.Keeps in
     let r = c.requires.made in
     let cfg : Config = c.self.inside.config in
     let h : HasMade m cfg r.0 r.1 r.2 c.args.party.now r.3 r.4 c.args.scan = subst (λ (x : Config). HasMade m x r.0 r.1 r.2 c.args.party.now r.3 r.4 c.args.scan) (sym (ap (λ (x : Cache). x.config) c.self.view_is)) r.5 in
@@ -36,7 +36,7 @@ spare_all-requires-clause-in_hand g c =
 
 pub spare_all-requires-clause-heads : goal.spare_all-requires-clause-heads
 spare_all-requires-clause-heads g c =
-    let m : Meanings g.row.C.Denot = meanings g.C.Keeps.holds g.C.Keeps.entries g.C.Keeps.opening g.C.Keeps.claims g.C.Keeps.sound in
+    let m : Meanings g.row.C.Denot = g.C.Keeps in
     let r = c.requires.made in
     let cfg : Config = c.self.inside.config in
     let h : HasMade m cfg r.0 r.1 r.2 c.args.party.now r.3 r.4 c.args.scan = subst (λ (x : Config). HasMade m x r.0 r.1 r.2 c.args.party.now r.3 r.4 c.args.scan) (sym (ap (λ (x : Cache). x.config) c.self.view_is)) r.5 in
@@ -48,14 +48,14 @@ give_shard-requires-clause-range g c = c.requires.made.5.may.range
 
 pub give_shard-requires-clause-held : goal.give_shard-requires-clause-held
 give_shard-requires-clause-held g c =
-    let m : Meanings g.row.C.Denot = meanings g.C.Keeps.holds g.C.Keeps.entries g.C.Keeps.opening g.C.Keeps.claims g.C.Keeps.sound in
+    let m : Meanings g.row.C.Denot = g.C.Keeps in
     let r = c.requires.made in
     let h : HasMade m c.args.self.now.config r.0 r.1 r.2 c.args.party.now r.3 r.4 c.args.scan = r.5 in
     scan_among m c.args.self.now.config c.args.scan.both.turn ((c.args.scan.both.hand.own.turn, r.4) ∷ []) c.args.scan.both.hand.before.value r.2 h.may c.args.party.now r.3 r.3.marked (pairs_of c.args.scan.both.hand.victims.items) r.1 h.scan
 
 pub give_shard-requires-clause-given : goal.give_shard-requires-clause-given
 give_shard-requires-clause-given g c =
-    let m : Meanings g.row.C.Denot = meanings g.C.Keeps.holds g.C.Keeps.entries g.C.Keeps.opening g.C.Keeps.claims g.C.Keeps.sound in
+    let m : Meanings g.row.C.Denot = g.C.Keeps in
     let r = c.requires.made in
     let cfg : Config = c.self.inside.config in
     let h : HasMade m cfg r.0 r.1 r.2 c.args.party.now r.3 r.4 c.args.scan = subst (λ (x : Config). HasMade m x r.0 r.1 r.2 c.args.party.now r.3 r.4 c.args.scan) (sym (ap (λ (x : Cache). x.config) c.self.view_is)) r.5 in
@@ -76,7 +76,7 @@ give_bucket-requires-clause-party g c =
 
 pub give_bucket-requires-clause-held : goal.give_bucket-requires-clause-held
 give_bucket-requires-clause-held g c =
-    let m : Meanings g.row.C.Denot = meanings g.C.Keeps.holds g.C.Keeps.entries g.C.Keeps.opening g.C.Keeps.claims g.C.Keeps.sound in
+    let m : Meanings g.row.C.Denot = g.C.Keeps in
     let r = c.requires.made in
     let cfg : Config = c.self.inside.config in
     let h : HasMade m cfg r.0 r.1 r.2 c.args.party.now r.3 r.4 c.args.scan = subst (λ (x : Config). HasMade m x r.0 r.1 r.2 c.args.party.now r.3 r.4 c.args.scan) (sym (ap (λ (x : Cache). x.config) c.self.view_is)) r.5 in
@@ -97,7 +97,7 @@ give_buckets-requires-clause-party g c =
 
 pub give_buckets-requires-clause-apart : goal.give_buckets-requires-clause-apart
 give_buckets-requires-clause-apart g c =
-    let m : Meanings g.row.C.Denot = meanings g.C.Keeps.holds g.C.Keeps.entries g.C.Keeps.opening g.C.Keeps.claims g.C.Keeps.sound in
+    let m : Meanings g.row.C.Denot = g.C.Keeps in
     let r = c.requires.made in
     let cfg : Config = c.self.inside.config in
     let h : HasMade m cfg r.0 r.1 r.2 c.args.party.now r.3 r.4 c.args.scan = subst (λ (x : Config). HasMade m x r.0 r.1 r.2 c.args.party.now r.3 r.4 c.args.scan) (sym (ap (λ (x : Cache). x.config) c.self.view_is)) r.5 in
@@ -108,7 +108,7 @@ give_buckets-requires-clause-apart g c =
 
 pub give_buckets-requires-clause-held : goal.give_buckets-requires-clause-held
 give_buckets-requires-clause-held g c =
-    let m : Meanings g.row.C.Denot = meanings g.C.Keeps.holds g.C.Keeps.entries g.C.Keeps.opening g.C.Keeps.claims g.C.Keeps.sound in
+    let m : Meanings g.row.C.Denot = g.C.Keeps in
     let r = c.requires.made in
     let cfg : Config = c.self.inside.config in
     let h : HasMade m cfg r.0 r.1 r.2 c.args.party.now r.3 r.4 c.args.scan = subst (λ (x : Config). HasMade m x r.0 r.1 r.2 c.args.party.now r.3 r.4 c.args.scan) (sym (ap (λ (x : Cache). x.config) c.self.view_is)) r.5 in
@@ -127,7 +127,7 @@ give_buckets-requires-clause-held g c =
 
 pub returns : goal.returns
 returns g c =
-    let m : Meanings g.row.C.Denot = meanings g.C.Keeps.holds g.C.Keeps.entries g.C.Keeps.opening g.C.Keeps.claims g.C.Keeps.sound in
+    let m : Meanings g.row.C.Denot = g.C.Keeps in
     let did = c.spare_all.ensures in
     let hand : Hand = c.spare_all.new.hand in
     let vs : List (ℕ × Chain) = pairs_of hand.victims.items in

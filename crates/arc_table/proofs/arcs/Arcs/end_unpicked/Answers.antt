@@ -1,5 +1,4 @@
 use Rattle.std.proofs.Common.{[], append-nil, sym, ◌∙◌, subst}
-use Rattle.arc_table.specs.Items.{meanings}
 use Rattle.arc_table.proofs.feeder.FeedScan.{ended_since, feed_none_is, idle_picks, may_unpick, unended, unpicked_history, unpicked_now}
 use Rattle.arc_core.specs.ShardLog.{IsUnpicked, MayUnpick, ShardLog}
 use Rattle.arc_table.proofs.arcs.Arcs.end_unpicked.Goals as goal
@@ -23,7 +22,7 @@ give_alone-requires-clause-given g c =
 
 pub returns : goal.returns
 returns g c =
-    let m = meanings g.C.Keeps.holds g.C.Keeps.entries g.C.Keeps.opening g.C.Keeps.claims g.C.Keeps.sound in
+    let m = g.C.Keeps in
     let f = c.args.feed in
     let s = c.requires.scan in
     let r = c.args.party.now in

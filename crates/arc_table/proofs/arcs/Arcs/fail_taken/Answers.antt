@@ -2,7 +2,6 @@ use Rattle.std.proofs.Common.{ℕ, [], ◌∷◌, ◌++◌, sym, ap, ◌∙◌, 
 use Rattle.std.specs.Prelude.{IsTrue}
 use Rattle.arc_core.specs.declared.event.Event.TheVariants.{Fail}
 use Rattle.arc_core.specs.Step.{after, legal}
-use Rattle.arc_table.specs.Items.{meanings}
 use Rattle.arc_table.proofs.reads.ArriveEvents.{fail_made, header_read, may_fail}
 use Rattle.arc_table.proofs.reads.HitEvents.{some_there}
 use Rattle.arc_table.proofs.OneEvent.{makes_these}
@@ -13,7 +12,7 @@ use Rattle.arc_table.proofs.arcs.Arcs.fail_taken.Goals as goal
 
 pub fail-requires : goal.fail-requires
 fail-requires g c =
-    let m = meanings g.C.Keeps.holds g.C.Keeps.entries g.C.Keeps.opening g.C.Keeps.claims g.C.Keeps.sound in
+    let m = g.C.Keeps in
     let same = c.deref_mut-shard.ensures.value in
     let b = lent c.args.both c.deref_mut-shard.result.now in
     let taken = lent_taken m c.args.self.now.config c.args.key c.args.both c.args.party.now c.deref_mut-shard.result.now same c.requires.taken in
@@ -22,7 +21,7 @@ fail-requires g c =
 
 pub follow-requires : goal.follow-requires
 follow-requires g c =
-    let m = meanings g.C.Keeps.holds g.C.Keeps.entries g.C.Keeps.opening g.C.Keeps.claims g.C.Keeps.sound in
+    let m = g.C.Keeps in
     let same = c.deref_mut-shard.ensures.value in
     let b = lent c.args.both c.deref_mut-shard.result.now in
     let taken = lent_taken m c.args.self.now.config c.args.key c.args.both c.args.party.now c.deref_mut-shard.result.now same c.requires.taken in
@@ -30,7 +29,7 @@ follow-requires g c =
 
 pub give_both-requires-clause-made : goal.give_both-requires-clause-made
 give_both-requires-clause-made g c =
-    let m = meanings g.C.Keeps.holds g.C.Keeps.entries g.C.Keeps.opening g.C.Keeps.claims g.C.Keeps.sound in
+    let m = g.C.Keeps in
     let same = c.deref_mut-shard.ensures.value in
     let b = lent c.args.both c.deref_mut-shard.result.now in
     let taken = lent_taken m c.args.self.now.config c.args.key c.args.both c.args.party.now c.deref_mut-shard.result.now same c.requires.taken in
@@ -41,7 +40,7 @@ give_both-requires-clause-made g c =
 
 pub returns : goal.returns
 returns g c =
-    let m = meanings g.C.Keeps.holds g.C.Keeps.entries g.C.Keeps.opening g.C.Keeps.claims g.C.Keeps.sound in
+    let m = g.C.Keeps in
     let same = c.deref_mut-shard.ensures.value in
     let b = lent c.args.both c.deref_mut-shard.result.now in
     let taken = lent_taken m c.args.self.now.config c.args.key c.args.both c.args.party.now c.deref_mut-shard.result.now same c.requires.taken in

@@ -1,5 +1,4 @@
 use Rattle.arc_table.specs.InHand.{made_since}
-use Rattle.arc_table.specs.Items.{meanings}
 use Rattle.arc_table.specs.declared.item.Item.TheVariants as item
 use Rattle.arc_table.proofs.Boards.{given_same}
 use Rattle.arc_table.proofs.Taking.{in_range, still_taken}
@@ -7,11 +6,11 @@ use Rattle.arc_table.proofs.arcs.Arcs.give_both.Goals as goal
 
 pub give_shard-requires-clause-range : goal.give_shard-requires-clause-range
 give_shard-requires-clause-range g c =
-    let m = meanings g.C.Keeps.holds g.C.Keeps.entries g.C.Keeps.opening g.C.Keeps.claims g.C.Keeps.sound in
+    let m = g.C.Keeps in
     in_range m c.args.self.now.config c.args.key (made_since c.args.both.hand.before.value c.args.both.shard) c.args.both c.args.party.now c.requires.made c.requires.party.config
 
 pub give-requires-clause-rule : goal.give-requires-clause-rule
 give-requires-clause-rule g c =
-    let m = meanings g.C.Keeps.holds g.C.Keeps.entries g.C.Keeps.opening g.C.Keeps.claims g.C.Keeps.sound in
+    let m = g.C.Keeps in
     given_same m c.give_shard.new.party c.args.both.hand.own.turn (item.Bucket c.args.both.hand.own.bucket)
     (still_taken m c.args.self.now.config c.args.key (made_since c.args.both.hand.before.value c.args.both.shard) c.args.both c.args.party.now c.requires.made c.requires.party.config c.give_shard.new.party c.give_shard.ensures).1

@@ -3,7 +3,7 @@ use Rattle.hash_chain.specs.Chain.{Chain}
 use Rattle.turn_table.specs.Places.{Place, gave_back}
 use Rattle.arc_table.specs.declared.view.Known.{Known}
 use Rattle.arc_table.specs.Cache.{IsPartyOf}
-use Rattle.arc_table.specs.Items.{Meanings, meanings}
+use Rattle.arc_table.specs.Items.{Meanings}
 use Rattle.arc_table.specs.scans.Scanning.{AllPairs, AreApart, IsInHand, gave_all, pairs_of}
 use Rattle.arc_table.specs.Views.{after_same}
 use Rattle.arc_table.proofs.scans.Scans.{all_in_hand_else}
@@ -11,7 +11,7 @@ use Rattle.arc_table.proofs.arcs.Arcs.give_buckets.Goals as goal
 
 pub loop-taken-preserved : goal.loop-taken-preserved
 loop-taken-preserved g c =
-    let m : Meanings g.row.C.Denot = meanings g.C.Keeps.holds g.C.Keeps.entries g.C.Keeps.opening g.C.Keeps.claims g.C.Keeps.sound in
+    let m : Meanings g.row.C.Denot = g.C.Keeps in
     let before = c.loop-taken.invariant in
     let x : ℕ × Chain = (c.in-Some.taken.turn, c.in-Some.taken.bucket) in
     let rest : List (ℕ × Chain) = pairs_of c.next.new.self.rest.items in

@@ -9,7 +9,6 @@ use Rattle.turn_table.specs.Board.{IsAmong}
 use Rattle.arc_table.specs.Both.{Makes}
 use Rattle.arc_table.specs.Geometry.{shard_turn}
 use Rattle.arc_table.specs.Holding.{IsListed, ptr_of}
-use Rattle.arc_table.specs.Items.{meanings}
 use Rattle.arc_table.proofs.HoldEvents.{acts_for, cell_is, hand_alike, hand_legal, handed_listed}
 use Rattle.arc_table.proofs.OneEvent.{alike_made, makes_these, some_is, taken_holding, taken_sound}
 use Rattle.arc_table.proofs.Reached.{listed_still, reached}
@@ -18,7 +17,7 @@ use Rattle.arc_table.proofs.arcs.Arcs.hand.Goals as goal
 
 pub hand-requires-clause-legal : goal.hand-requires-clause-legal
 hand-requires-clause-legal g c =
-    let m = meanings g.C.Keeps.holds g.C.Keeps.entries g.C.Keeps.opening g.C.Keeps.claims g.C.Keeps.sound in
+    let m = g.C.Keeps in
     let b = c.take_both-both in
     let h = c.args.hold in
     let config = c.args.self.now.config in
@@ -33,7 +32,7 @@ hand-requires-clause-legal g c =
 
 pub give_both-requires-clause-made : goal.give_both-requires-clause-made
 give_both-requires-clause-made g c =
-    let m = meanings g.C.Keeps.holds g.C.Keeps.entries g.C.Keeps.opening g.C.Keeps.claims g.C.Keeps.sound in
+    let m = g.C.Keeps in
     let b = c.take_both-both in
     let h = c.args.hold in
     let q = b.new.party in
@@ -55,7 +54,7 @@ give_both-requires-clause-made g c =
 
 pub returns : goal.returns
 returns g c =
-    let m = meanings g.C.Keeps.holds g.C.Keeps.entries g.C.Keeps.opening g.C.Keeps.claims g.C.Keeps.sound in
+    let m = g.C.Keeps in
     let b = c.take_both-both in
     let h = c.args.hold in
     let q = b.new.party in

@@ -10,7 +10,6 @@ use Rattle.arc_core.specs.Step.{after, legal}
 use Rattle.arc_table.specs.Both.{Makes}
 use Rattle.arc_table.specs.Holding.{IsListed}
 use Rattle.arc_table.specs.InHand.{made_since}
-use Rattle.arc_table.specs.Items.{meanings}
 use Rattle.arc_table.specs.Making.{IsMade, IsTaken}
 use Rattle.arc_table.proofs.reads.HitEvents.{block_of_it, found, hit_legal, hit_listed, hit_made, mfu_says}
 use Rattle.arc_table.proofs.KeptHeads.{lent_at, own_with}
@@ -21,7 +20,7 @@ use Rattle.arc_table.proofs.arcs.Arcs.hit_taken.Goals as goal
 
 pub give_back-requires-clause-taken : goal.give_back-requires-clause-taken
 give_back-requires-clause-taken g c =
-    let m = meanings g.C.Keeps.holds g.C.Keeps.entries g.C.Keeps.opening g.C.Keeps.claims g.C.Keeps.sound in
+    let m = g.C.Keeps in
     let same = c.deref_mut-shard.ensures.value in
     let b = lent c.args.both c.deref_mut-shard.result.now in
     let taken = lent_taken m c.args.self.now.config c.args.ptr.key c.args.both c.args.party.now c.deref_mut-shard.result.now same c.requires.taken in
@@ -29,13 +28,13 @@ give_back-requires-clause-taken g c =
 
 pub returns-in_default-clause-err : goal.returns-in_default-clause-err
 returns-in_default-clause-err g c =
-    let m = meanings g.C.Keeps.holds g.C.Keeps.entries g.C.Keeps.opening g.C.Keeps.claims g.C.Keeps.sound in
+    let m = g.C.Keeps in
     let same = c.deref_mut-shard.ensures.value in
     subst (λ (l : ShardLog). Makes m c.args.self.now.config c.args.ptr.key l [] c.args.party.now c.give_back.new.party) (c.in_default.ensures.err ∙ same) c.give_back.ensures
 
 pub hit_near-requires-clause-legal : goal.hit_near-requires-clause-legal
 hit_near-requires-clause-legal g c =
-    let m = meanings g.C.Keeps.holds g.C.Keeps.entries g.C.Keeps.opening g.C.Keeps.claims g.C.Keeps.sound in
+    let m = g.C.Keeps in
     let same = c.deref_mut-shard.ensures.value in
     let b = lent c.args.both c.deref_mut-shard.result.now in
     let taken = lent_taken m c.args.self.now.config c.args.ptr.key c.args.both c.args.party.now c.deref_mut-shard.result.now same c.requires.taken in
@@ -48,7 +47,7 @@ hit_near-requires-clause-legal g c =
 -- no owner was to be had
 pub give_both-requires-clause-made : goal.give_both-requires-clause-made
 give_both-requires-clause-made g c =
-    let m = meanings g.C.Keeps.holds g.C.Keeps.entries g.C.Keeps.opening g.C.Keeps.claims g.C.Keeps.sound in
+    let m = g.C.Keeps in
     let same = c.deref_mut-shard.ensures.value in
     let b = lent c.args.both c.deref_mut-shard.result.now in
     let taken = lent_taken m c.args.self.now.config c.args.ptr.key c.args.both c.args.party.now c.deref_mut-shard.result.now same c.requires.taken in
@@ -58,7 +57,7 @@ give_both-requires-clause-made g c =
 
 pub returns-in_default-take_block-clause-err : goal.returns-in_default-take_block-clause-err
 returns-in_default-take_block-clause-err g c =
-    let m = meanings g.C.Keeps.holds g.C.Keeps.entries g.C.Keeps.opening g.C.Keeps.claims g.C.Keeps.sound in
+    let m = g.C.Keeps in
     let same = c.deref_mut-shard.ensures.value in
     let b = lent c.args.both c.deref_mut-shard.result.now in
     let taken = lent_taken m c.args.self.now.config c.args.ptr.key c.args.both c.args.party.now c.deref_mut-shard.result.now same c.requires.taken in
@@ -68,7 +67,7 @@ returns-in_default-take_block-clause-err g c =
 
 pub follow_hit-requires-clause-range : goal.follow_hit-requires-clause-range
 follow_hit-requires-clause-range g c =
-    let m = meanings g.C.Keeps.holds g.C.Keeps.entries g.C.Keeps.opening g.C.Keeps.claims g.C.Keeps.sound in
+    let m = g.C.Keeps in
     let same = c.deref_mut-shard.ensures.value in
     let b = lent c.args.both c.deref_mut-shard.result.now in
     let taken = lent_taken m c.args.self.now.config c.args.ptr.key c.args.both c.args.party.now c.deref_mut-shard.result.now same c.requires.taken in
@@ -79,7 +78,7 @@ follow_hit-requires-clause-range g c =
 
 pub follow_hit-requires-clause-found : goal.follow_hit-requires-clause-found
 follow_hit-requires-clause-found g c =
-    let m = meanings g.C.Keeps.holds g.C.Keeps.entries g.C.Keeps.opening g.C.Keeps.claims g.C.Keeps.sound in
+    let m = g.C.Keeps in
     let same = c.deref_mut-shard.ensures.value in
     let b = lent c.args.both c.deref_mut-shard.result.now in
     let taken = lent_taken m c.args.self.now.config c.args.ptr.key c.args.both c.args.party.now c.deref_mut-shard.result.now same c.requires.taken in
@@ -90,7 +89,7 @@ follow_hit-requires-clause-found g c =
 
 pub follow_hit-requires-clause-key : goal.follow_hit-requires-clause-key
 follow_hit-requires-clause-key g c =
-    let m = meanings g.C.Keeps.holds g.C.Keeps.entries g.C.Keeps.opening g.C.Keeps.claims g.C.Keeps.sound in
+    let m = g.C.Keeps in
     let same = c.deref_mut-shard.ensures.value in
     let b = lent c.args.both c.deref_mut-shard.result.now in
     let taken = lent_taken m c.args.self.now.config c.args.ptr.key c.args.both c.args.party.now c.deref_mut-shard.result.now same c.requires.taken in
@@ -101,7 +100,7 @@ follow_hit-requires-clause-key g c =
 
 pub follow_hit-requires-clause-mfu : goal.follow_hit-requires-clause-mfu
 follow_hit-requires-clause-mfu g c h stands mfu =
-    let m = meanings g.C.Keeps.holds g.C.Keeps.entries g.C.Keeps.opening g.C.Keeps.claims g.C.Keeps.sound in
+    let m = g.C.Keeps in
     let same = c.deref_mut-shard.ensures.value in
     let b = lent c.args.both c.deref_mut-shard.result.now in
     let taken = lent_taken m c.args.self.now.config c.args.ptr.key c.args.both c.args.party.now c.deref_mut-shard.result.now same c.requires.taken in
@@ -113,7 +112,7 @@ follow_hit-requires-clause-mfu g c h stands mfu =
 
 pub give_both-requires-2-clause-made : goal.give_both-requires-2-clause-made
 give_both-requires-2-clause-made g c =
-    let m = meanings g.C.Keeps.holds g.C.Keeps.entries g.C.Keeps.opening g.C.Keeps.claims g.C.Keeps.sound in
+    let m = g.C.Keeps in
     let same = c.deref_mut-shard.ensures.value in
     let b = lent c.args.both c.deref_mut-shard.result.now in
     let taken = lent_taken m c.args.self.now.config c.args.ptr.key c.args.both c.args.party.now c.deref_mut-shard.result.now same c.requires.taken in
@@ -127,7 +126,7 @@ give_both-requires-2-clause-made g c =
 
 pub returns-clause-ok : goal.returns-clause-ok
 returns-clause-ok g c =
-    let m = meanings g.C.Keeps.holds g.C.Keeps.entries g.C.Keeps.opening g.C.Keeps.claims g.C.Keeps.sound in
+    let m = g.C.Keeps in
     let same = c.deref_mut-shard.ensures.value in
     let b = lent c.args.both c.deref_mut-shard.result.now in
     let taken = lent_taken m c.args.self.now.config c.args.ptr.key c.args.both c.args.party.now c.deref_mut-shard.result.now same c.requires.taken in
@@ -138,13 +137,13 @@ returns-clause-ok g c =
 
 pub invariant_of-result : goal.invariant_of-result
 invariant_of-result g c =
-    let m = meanings g.C.Keeps.holds g.C.Keeps.entries g.C.Keeps.opening g.C.Keeps.claims g.C.Keeps.sound in
+    let m = g.C.Keeps in
     let alike = subst (λ (o : Option Header). IsAlikeTo o c.in-Ok-take_block.block.value) (sym c.requires.ready.found) c.in-Ok-take_block.ensures.alike in
     record { sized = (block_of_it m c.args.self.now.config c.args.ptr c.args.both c.args.party.now c.requires.taken c.requires.party.config c.requires.taken.kind.valid c.requires.here c.in-Ok-take_block.block.value alike).size }
 
 pub returns-clause-hold : goal.returns-clause-hold
 returns-clause-hold g c =
-    let m = meanings g.C.Keeps.holds g.C.Keeps.entries g.C.Keeps.opening g.C.Keeps.claims g.C.Keeps.sound in
+    let m = g.C.Keeps in
     let ptr = c.args.ptr in
     let q = c.args.party.now in
     let config = c.args.self.now.config in

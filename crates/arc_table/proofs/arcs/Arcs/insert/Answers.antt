@@ -10,7 +10,6 @@ use Rattle.arc_table.specs.Cache.{Cache}
 use Rattle.arc_table.specs.scans.Ending.{MakesRoomy}
 use Rattle.arc_table.specs.Geometry.{cell_number}
 use Rattle.arc_table.specs.Holding.{IsListed}
-use Rattle.arc_table.specs.Items.{meanings}
 use Rattle.arc_table.proofs.Afterwards.{does_stays, stays_free, stays_party}
 use Rattle.arc_table.proofs.Reached.{cell_recorded, reached}
 use Rattle.arc_table.proofs.scans.RoomyAfter.{does_roomy_stays}
@@ -21,14 +20,14 @@ use Rattle.arc_table.proofs.arcs.Arcs.insert.Goals as goal
 
 pub insert_taken-requires-clause-others : goal.insert_taken-requires-clause-others
 insert_taken-requires-clause-others g c =
-    let m = meanings g.C.Keeps.holds g.C.Keeps.entries g.C.Keeps.opening g.C.Keeps.claims g.C.Keeps.sound in
+    let m = g.C.Keeps in
     let b = c.take_both-both in
     only_bucket c.args.self.now.config c.args.key c.args.party.now.held b.new.party.held b.ensures.kind.valid
     (reached m c.args.self.now.config c.args.key b.result.hand.own.bucket b.result.shard c.args.party.now b.new.party b.ensures.takes).held c.requires.look
 
 pub returns-then-not-is_new_here-clause-ok : goal.returns-then-not-is_new_here-clause-ok
 returns-then-not-is_new_here-clause-ok g c =
-    let m = meanings g.C.Keeps.holds g.C.Keeps.entries g.C.Keeps.opening g.C.Keeps.claims g.C.Keeps.sound in
+    let m = g.C.Keeps in
     let b = c.take_both-both in
     let k = c.args.key in
     let config = c.args.self.now.config in
@@ -40,7 +39,7 @@ returns-then-not-is_new_here-clause-ok g c =
 
 pub returns-in_err-insert_taken-clause-err : goal.returns-in_err-insert_taken-clause-err
 returns-in_err-insert_taken-clause-err g c =
-    let m = meanings g.C.Keeps.holds g.C.Keeps.entries g.C.Keeps.opening g.C.Keeps.claims g.C.Keeps.sound in
+    let m = g.C.Keeps in
     let b = c.take_both-both in
     on_err c.from_residual.result (Does m c.args.self.now.config c.args.key [] c.args.party.now c.insert_taken.new.party)
     record { chain = b.result.hand.own.bucket; before = b.result.shard; reached = b.new.party; takes = b.ensures.takes; makes = c.in_err-insert_taken.ensures.err }
@@ -51,7 +50,7 @@ returns-in_err-insert_taken-clause-err g c =
 
 pub returns-clause-ok : goal.returns-clause-ok
 returns-clause-ok g c =
-    let m = meanings g.C.Keeps.holds g.C.Keeps.entries g.C.Keeps.opening g.C.Keeps.claims g.C.Keeps.sound in
+    let m = g.C.Keeps in
     let b = c.take_both-both in
     let k = c.args.key in
     let q = b.new.party in
@@ -76,41 +75,41 @@ returns-clause-ok g c =
 
 pub returns-then-not-is_new_here-clause-party : goal.returns-then-not-is_new_here-clause-party
 returns-then-not-is_new_here-clause-party g c =
-    let m = meanings g.C.Keeps.holds g.C.Keeps.entries g.C.Keeps.opening g.C.Keeps.claims g.C.Keeps.sound in
+    let m = g.C.Keeps in
     stays_party c.args.self.now c.args.party.now c.give_back.new.party (does_stays m c.args.self.now.config c.take_both-both.ensures.kind.valid c.args.key [] c.args.party.now c.give_back.new.party c.requires.party.config (returns-then-not-is_new_here-clause-ok g c).0) c.requires.party
 
 pub returns-clause-party : goal.returns-clause-party
 returns-clause-party g c =
-    let m = meanings g.C.Keeps.holds g.C.Keeps.entries g.C.Keeps.opening g.C.Keeps.claims g.C.Keeps.sound in
+    let m = g.C.Keeps in
     stays_party c.args.self.now c.args.party.now c.insert_taken.new.party (does_roomy_stays m c.args.self.now.config c.take_both-both.ensures.kind.valid c.args.key (Insert (cell_number c.args.self.now.config c.args.cell) c.args.key (sha256_of c.args.block.value) c.args.tick) c.args.party.now c.insert_taken.new.party c.requires.party.config (returns-clause-ok g c).0) c.requires.party
 
 pub returns-in_err-insert_taken-clause-party : goal.returns-in_err-insert_taken-clause-party
 returns-in_err-insert_taken-clause-party g c =
-    let m = meanings g.C.Keeps.holds g.C.Keeps.entries g.C.Keeps.opening g.C.Keeps.claims g.C.Keeps.sound in
+    let m = g.C.Keeps in
     let b = c.take_both-both in
     stays_party c.args.self.now c.args.party.now c.insert_taken.new.party (does_stays m c.args.self.now.config b.ensures.kind.valid c.args.key [] c.args.party.now c.insert_taken.new.party c.requires.party.config
     record { chain = b.result.hand.own.bucket; before = b.result.shard; reached = b.new.party; takes = b.ensures.takes; makes = c.in_err-insert_taken.ensures.err }) c.requires.party
 
 pub returns-then-not-is_new_here-clause-free : goal.returns-then-not-is_new_here-clause-free
 returns-then-not-is_new_here-clause-free g c =
-    let m = meanings g.C.Keeps.holds g.C.Keeps.entries g.C.Keeps.opening g.C.Keeps.claims g.C.Keeps.sound in
+    let m = g.C.Keeps in
     stays_free c.args.self.now c.args.party.now c.give_back.new.party (does_stays m c.args.self.now.config c.take_both-both.ensures.kind.valid c.args.key [] c.args.party.now c.give_back.new.party c.requires.party.config (returns-then-not-is_new_here-clause-ok g c).0) c.requires.look
 
 pub returns-clause-free : goal.returns-clause-free
 returns-clause-free g c =
-    let m = meanings g.C.Keeps.holds g.C.Keeps.entries g.C.Keeps.opening g.C.Keeps.claims g.C.Keeps.sound in
+    let m = g.C.Keeps in
     stays_free c.args.self.now c.args.party.now c.insert_taken.new.party (does_roomy_stays m c.args.self.now.config c.take_both-both.ensures.kind.valid c.args.key (Insert (cell_number c.args.self.now.config c.args.cell) c.args.key (sha256_of c.args.block.value) c.args.tick) c.args.party.now c.insert_taken.new.party c.requires.party.config (returns-clause-ok g c).0) c.requires.look
 
 pub returns-in_err-insert_taken-clause-free : goal.returns-in_err-insert_taken-clause-free
 returns-in_err-insert_taken-clause-free g c =
-    let m = meanings g.C.Keeps.holds g.C.Keeps.entries g.C.Keeps.opening g.C.Keeps.claims g.C.Keeps.sound in
+    let m = g.C.Keeps in
     let b = c.take_both-both in
     stays_free c.args.self.now c.args.party.now c.insert_taken.new.party (does_stays m c.args.self.now.config b.ensures.kind.valid c.args.key [] c.args.party.now c.insert_taken.new.party c.requires.party.config
     record { chain = b.result.hand.own.bucket; before = b.result.shard; reached = b.new.party; takes = b.ensures.takes; makes = c.in_err-insert_taken.ensures.err }) c.requires.look
 
 pub returns-in_default-clause-free : goal.returns-in_default-clause-free
 returns-in_default-clause-free g c =
-    let m = meanings g.C.Keeps.holds g.C.Keeps.entries g.C.Keeps.opening g.C.Keeps.claims g.C.Keeps.sound in
+    let m = g.C.Keeps in
     let b = c.take_both-both in
     stays_free c.args.self.now c.args.party.now c.give_back-in_default.new.party (does_stays m c.args.self.now.config b.ensures.kind.valid c.args.key [] c.args.party.now c.give_back-in_default.new.party c.requires.party.config
     record { chain = b.result.hand.own.bucket; before = b.result.shard; reached = b.new.party; takes = b.ensures.takes; makes = c.give_back-in_default.ensures }) c.requires.look

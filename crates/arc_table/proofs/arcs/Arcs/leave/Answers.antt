@@ -6,7 +6,6 @@ use Rattle.arc_core.specs.PlainShard.{numbers}
 use Rattle.arc_core.specs.Step.{may_set}
 use Rattle.arc_table.specs.Both.{Makes}
 use Rattle.arc_table.specs.Geometry.{shard_turn}
-use Rattle.arc_table.specs.Items.{meanings}
 use Rattle.arc_table.proofs.feeder.FeedEvents.{feeder_is, leave_legal, leave_same, number_few, number_is, pick_there, reason_is, writes}
 use Rattle.arc_table.proofs.OneEvent.{alike_made, makes_these, some_is, taken_sound}
 use Rattle.arc_table.proofs.Reached.{reached}
@@ -15,7 +14,7 @@ use Rattle.arc_table.proofs.arcs.Arcs.leave.Goals as goal
 
 pub reason_for-why-requires-clause-number : goal.reason_for-why-requires-clause-number
 reason_for-why-requires-clause-number g c =
-    let m = meanings g.C.Keeps.holds g.C.Keeps.entries g.C.Keeps.opening g.C.Keeps.claims g.C.Keeps.sound in
+    let m = g.C.Keeps in
     let b = c.take_both-both in
     let q = b.new.party in
     let p = c.args.party.now in
@@ -31,7 +30,7 @@ reason_for-why-requires-clause-number g c =
 
 pub reason_for-why-requires-clause-writing : goal.reason_for-why-requires-clause-writing
 reason_for-why-requires-clause-writing g c =
-    let m = meanings g.C.Keeps.holds g.C.Keeps.entries g.C.Keeps.opening g.C.Keeps.claims g.C.Keeps.sound in
+    let m = g.C.Keeps in
     let b = c.take_both-both in
     let q = b.new.party in
     let p = c.args.party.now in
@@ -47,7 +46,7 @@ reason_for-why-requires-clause-writing g c =
 
 pub leave-requires : goal.leave-requires
 leave-requires g c =
-    let m = meanings g.C.Keeps.holds g.C.Keeps.entries g.C.Keeps.opening g.C.Keeps.claims g.C.Keeps.sound in
+    let m = g.C.Keeps in
     let b = c.take_both-both in
     let q = b.new.party in
     let p = c.args.party.now in
@@ -67,7 +66,7 @@ leave-requires g c =
 
 pub give_both-requires-clause-made : goal.give_both-requires-clause-made
 give_both-requires-clause-made g c =
-    let m = meanings g.C.Keeps.holds g.C.Keeps.entries g.C.Keeps.opening g.C.Keeps.claims g.C.Keeps.sound in
+    let m = g.C.Keeps in
     let b = c.take_both-both in
     let q = b.new.party in
     let p = c.args.party.now in
@@ -90,7 +89,7 @@ give_both-requires-clause-made g c =
 
 pub returns : goal.returns
 returns g c =
-    let m = meanings g.C.Keeps.holds g.C.Keeps.entries g.C.Keeps.opening g.C.Keeps.claims g.C.Keeps.sound in
+    let m = g.C.Keeps in
     let b = c.take_both-both in
     let q = b.new.party in
     let p = c.args.party.now in

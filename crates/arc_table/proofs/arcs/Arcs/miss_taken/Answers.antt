@@ -14,14 +14,14 @@ use Rattle.arc_table.specs.Cache.{IsPartyOf}
 use Rattle.arc_table.specs.scans.Ending.{MakesRoomy}
 use Rattle.arc_table.specs.InHand.{made_since}
 use Rattle.arc_table.specs.Making.{IsMade}
-use Rattle.arc_table.specs.Items.{Meanings, meanings}
+use Rattle.arc_table.specs.Items.{Meanings}
 use Rattle.arc_table.proofs.reads.MissEvents.{makes_roomy, may_taken, miss_entry, miss_legal, miss_made, none_makes, none_roomier, reading_is, scanned_entry, scanned_party, scanned_replayed}
 use Rattle.arc_table.proofs.Lent.{lent_legal, lent_makes}
 use Rattle.arc_table.proofs.arcs.Arcs.miss_taken.Goals as goal
 
 pub begin_scan-requires-clause-may : goal.begin_scan-requires-clause-may
 begin_scan-requires-clause-may g c =
-    let m : Meanings g.row.C.Denot = meanings g.C.Keeps.holds g.C.Keeps.entries g.C.Keeps.opening g.C.Keeps.claims g.C.Keeps.sound in
+    let m : Meanings g.row.C.Denot = g.C.Keeps in
     may_taken m c.args.self.now.config c.args.key c.args.both c.args.party.now c.requires.taken c.requires.party.config c.requires.taken.kind.valid c.requires.others
 
 pub begin_scan-requires-clause-new : goal.begin_scan-requires-clause-new
@@ -32,7 +32,7 @@ begin_scan-requires-clause-alone g c = c.requires.taken.kind.alone
 
 pub begin_scan-requires-clause-legal : goal.begin_scan-requires-clause-legal
 begin_scan-requires-clause-legal g c =
-    let m : Meanings g.row.C.Denot = meanings g.C.Keeps.holds g.C.Keeps.entries g.C.Keeps.opening g.C.Keeps.claims g.C.Keeps.sound in
+    let m : Meanings g.row.C.Denot = g.C.Keeps in
     miss_legal m c.args.self.now.config c.args.key c.args.both c.args.party.now c.requires.taken c.requires.party.config c.requires.taken.kind.valid c.number-n.result c.args.tick c.number-n.ensures c.requires.formed c.requires.missing
 
 pub miss-requires-clause-legal : goal.miss-requires-clause-legal
@@ -40,7 +40,7 @@ miss-requires-clause-legal g c = lent_legal (Miss c.number-n.result c.args.key c
 
 pub give_both-requires-clause-made : goal.give_both-requires-clause-made
 give_both-requires-clause-made g c =
-    let m : Meanings g.row.C.Denot = meanings g.C.Keeps.holds g.C.Keeps.entries g.C.Keeps.opening g.C.Keeps.claims g.C.Keeps.sound in
+    let m : Meanings g.row.C.Denot = g.C.Keeps in
     let e = c.in-Err.ensures.err in
     subst (λ (q : Place (Known g.row.C.Denot)). IsMade m c.args.self.now.config c.args.key (made_since c.in-Err.both.hand.before.value c.in-Err.both.shard) c.in-Err.both q) (sym e.2)
     (none_roomier m c.args.self.now.config c.args.key c.args.both c.args.party.now c.requires.taken c.requires.party.config c.requires.taken.kind.valid c.in-Err.both e.0 e.1)
@@ -50,18 +50,18 @@ give_both-requires-clause-party g c = subst (IsPartyOf c.args.self.now) (sym c.i
 
 pub returns-in-Err-clause-err : goal.returns-in-Err-clause-err
 returns-in-Err-clause-err g c =
-    let m : Meanings g.row.C.Denot = meanings g.C.Keeps.holds g.C.Keeps.entries g.C.Keeps.opening g.C.Keeps.claims g.C.Keeps.sound in
+    let m : Meanings g.row.C.Denot = g.C.Keeps in
     let e = c.in-Err.ensures.err in
     none_makes m c.args.self.now.config c.args.key c.args.both c.in-Err.both c.args.party.now c.begin_scan.new.party c.give_both.new.party e.0 c.requires.taken.new e.2 c.give_both.ensures
 
 pub end_scan-requires-clause-party : goal.end_scan-requires-clause-party
 end_scan-requires-clause-party g c =
-    let m : Meanings g.row.C.Denot = meanings g.C.Keeps.holds g.C.Keeps.entries g.C.Keeps.opening g.C.Keeps.claims g.C.Keeps.sound in
+    let m : Meanings g.row.C.Denot = g.C.Keeps in
     scanned_party m c.args.self.now.config c.args.both (Miss c.number-n.result c.args.key c.args.tick) c.args.self.now c.args.party.now c.begin_scan.new.party c.in-Ok.scan c.in-Ok.ensures.ok c.requires.party
 
 pub end_scan-requires-clause-made : goal.end_scan-requires-clause-made
 end_scan-requires-clause-made g c =
-    let m : Meanings g.row.C.Denot = meanings g.C.Keeps.holds g.C.Keeps.entries g.C.Keeps.opening g.C.Keeps.claims g.C.Keeps.sound in
+    let m : Meanings g.row.C.Denot = g.C.Keeps in
     let h = c.in-Ok.ensures.ok in
     let s : Scan = c.in-Ok.scan in
     let s' : Scan = record {
@@ -87,7 +87,7 @@ end_scan-requires-clause-made g c =
 
 pub returns-clause-ok : goal.returns-clause-ok
 returns-clause-ok g c =
-    let m : Meanings g.row.C.Denot = meanings g.C.Keeps.holds g.C.Keeps.entries g.C.Keeps.opening g.C.Keeps.claims g.C.Keeps.sound in
+    let m : Meanings g.row.C.Denot = g.C.Keeps in
     let h = c.in-Ok.ensures.ok in
     let s : Scan = c.in-Ok.scan in
     let s' : Scan = record {

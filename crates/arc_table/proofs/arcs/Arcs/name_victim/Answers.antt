@@ -14,7 +14,7 @@ use Rattle.arc_table.specs.scans.Evicting.{IsScan}
 use Rattle.arc_table.specs.Fronts.{item_at}
 use Rattle.arc_table.specs.Geometry.{bucket_turn, parties_of}
 use Rattle.arc_table.specs.InHand.{buckets_of}
-use Rattle.arc_table.specs.Items.{Meanings, meanings}
+use Rattle.arc_table.specs.Items.{Meanings}
 use Rattle.arc_table.specs.pact.Rule.{Pact}
 use Rattle.arc_table.proofs.scans.ScanSteps.{free_bucket, free_not_held, mark_room, marked_fewer, marked_room, marked_step, pass_legal, pass_room, passed_fewer, passed_room, passed_step, won_fewer, won_room, won_step}
 use Rattle.arc_table.proofs.Lent.{lent_legal, lent_makes, lent_room}
@@ -23,7 +23,7 @@ use Rattle.arc_table.proofs.arcs.Arcs.name_victim.Goals as goal
 
 pub mark-requires-clause-room : goal.mark-requires-clause-room
 mark-requires-clause-room g c =
-    (mark_room (meanings g.C.Keeps.holds g.C.Keeps.entries g.C.Keeps.opening g.C.Keeps.claims g.C.Keeps.sound) c.args.self.now.config
+    (mark_room g.C.Keeps c.args.self.now.config
     (subst IsConfig (ap (λ (x : Cache). x.config) c.self.view_is) c.self.invariant.valid) c.args.key c.requires.victim.0 c.args.scan.now c.requires.victim.1 c.requires.room).0
 
 pub returns-then-has_bucket-clause-hand : goal.returns-then-has_bucket-clause-hand
@@ -33,7 +33,7 @@ returns-then-has_bucket-clause-hand g c =
 
 pub returns-then-has_bucket-clause-scan : goal.returns-then-has_bucket-clause-scan
 returns-then-has_bucket-clause-scan g c p es may scan =
-    let m : Meanings g.row.C.Denot = meanings g.C.Keeps.holds g.C.Keeps.entries g.C.Keeps.opening g.C.Keeps.claims g.C.Keeps.sound in
+    let m : Meanings g.row.C.Denot = g.C.Keeps in
     let cfg : Config = c.args.self.now.config in
     let valid : IsConfig cfg = subst IsConfig (ap (λ (x : Cache). x.config) c.self.view_is) c.self.invariant.valid in
     let e = c.mark.ensures in
@@ -46,18 +46,18 @@ returns-then-has_bucket-clause-scan g c p es may scan =
 pub returns-then-has_bucket-clause-room : goal.returns-then-has_bucket-clause-room
 returns-then-has_bucket-clause-room g c =
     let e = c.mark.ensures in
-    marked_room (meanings g.C.Keeps.holds g.C.Keeps.entries g.C.Keeps.opening g.C.Keeps.claims g.C.Keeps.sound) c.args.self.now.config
+    marked_room g.C.Keeps c.args.self.now.config
     (subst IsConfig (ap (λ (x : Cache). x.config) c.self.view_is) c.self.invariant.valid) c.args.key c.requires.victim.0 c.args.scan.now c.requires.victim.1 c.mark.new.scan e.both e.marked e.keys e.len e.capacity
 
 pub returns-then-has_bucket-clause-fewer : goal.returns-then-has_bucket-clause-fewer
 returns-then-has_bucket-clause-fewer g c =
     let e = c.mark.ensures in
-    marked_fewer (meanings g.C.Keeps.holds g.C.Keeps.entries g.C.Keeps.opening g.C.Keeps.claims g.C.Keeps.sound) c.args.self.now.config
+    marked_fewer g.C.Keeps c.args.self.now.config
     (subst IsConfig (ap (λ (x : Cache). x.config) c.self.view_is) c.self.invariant.valid) c.args.key c.requires.victim.0 c.args.scan.now c.requires.victim.1 c.mark.new.scan e.both e.marked e.keys e.len e.capacity
 
 pub try_take-requires-clause-not_held : goal.try_take-requires-clause-not_held
 try_take-requires-clause-not_held g c =
-    let m : Meanings g.row.C.Denot = meanings g.C.Keeps.holds g.C.Keeps.entries g.C.Keeps.opening g.C.Keeps.claims g.C.Keeps.sound in
+    let m : Meanings g.row.C.Denot = g.C.Keeps in
     let cfg : Config = c.args.self.now.config in
     let valid : IsConfig cfg = subst IsConfig (ap (λ (x : Cache). x.config) c.self.view_is) c.self.invariant.valid in
     let turn : c.bucket_turn_of-turn.result ≡ bucket_turn cfg c.args.key = c.bucket_turn_of-turn.ensures ∙ ap (λ (x : Cache). bucket_turn x.config c.args.key) c.self.view_is in
@@ -67,7 +67,7 @@ try_take-requires-clause-not_held g c =
 
 pub into_bucket-bucket-requires : goal.into_bucket-bucket-requires
 into_bucket-bucket-requires g c =
-    let m : Meanings g.row.C.Denot = meanings g.C.Keeps.holds g.C.Keeps.entries g.C.Keeps.opening g.C.Keeps.claims g.C.Keeps.sound in
+    let m : Meanings g.row.C.Denot = g.C.Keeps in
     let cfg : Config = c.args.self.now.config in
     let valid : IsConfig cfg = subst IsConfig (ap (λ (x : Cache). x.config) c.self.view_is) c.self.invariant.valid in
     let turn : c.bucket_turn_of-turn.result ≡ bucket_turn cfg c.args.key = c.bucket_turn_of-turn.ensures ∙ ap (λ (x : Cache). bucket_turn x.config c.args.key) c.self.view_is in
@@ -76,12 +76,12 @@ into_bucket-bucket-requires g c =
 
 pub push_reserved-requires : goal.push_reserved-requires
 push_reserved-requires g c =
-    (mark_room (meanings g.C.Keeps.holds g.C.Keeps.entries g.C.Keeps.opening g.C.Keeps.claims g.C.Keeps.sound) c.args.self.now.config
+    (mark_room g.C.Keeps c.args.self.now.config
     (subst IsConfig (ap (λ (x : Cache). x.config) c.self.view_is) c.self.invariant.valid) c.args.key c.requires.victim.0 c.args.scan.now c.requires.victim.1 c.requires.room).1
 
 pub mark-requires-in-Taken-clause-room : goal.mark-requires-in-Taken-clause-room
 mark-requires-in-Taken-clause-room g c =
-    (mark_room (meanings g.C.Keeps.holds g.C.Keeps.entries g.C.Keeps.opening g.C.Keeps.claims g.C.Keeps.sound) c.args.self.now.config
+    (mark_room g.C.Keeps c.args.self.now.config
     (subst IsConfig (ap (λ (x : Cache). x.config) c.self.view_is) c.self.invariant.valid) c.args.key c.requires.victim.0 c.args.scan.now c.requires.victim.1 c.requires.room).0
 
 pub returns-in-Taken-clause-hand : goal.returns-in-Taken-clause-hand
@@ -91,7 +91,7 @@ returns-in-Taken-clause-hand g c =
 
 pub returns-in-Taken-clause-scan : goal.returns-in-Taken-clause-scan
 returns-in-Taken-clause-scan g c p es may scan =
-    let m : Meanings g.row.C.Denot = meanings g.C.Keeps.holds g.C.Keeps.entries g.C.Keeps.opening g.C.Keeps.claims g.C.Keeps.sound in
+    let m : Meanings g.row.C.Denot = g.C.Keeps in
     let cfg : Config = c.args.self.now.config in
     let valid : IsConfig cfg = subst IsConfig (ap (λ (x : Cache). x.config) c.self.view_is) c.self.invariant.valid in
     let turn : c.bucket_turn_of-turn.result ≡ bucket_turn cfg c.args.key = c.bucket_turn_of-turn.ensures ∙ ap (λ (x : Cache). bucket_turn x.config c.args.key) c.self.view_is in
@@ -113,7 +113,7 @@ returns-in-Taken-clause-scan g c p es may scan =
 
 pub returns-in-Taken-clause-room : goal.returns-in-Taken-clause-room
 returns-in-Taken-clause-room g c n room =
-    let m : Meanings g.row.C.Denot = meanings g.C.Keeps.holds g.C.Keeps.entries g.C.Keeps.opening g.C.Keeps.claims g.C.Keeps.sound in
+    let m : Meanings g.row.C.Denot = g.C.Keeps in
     let cfg : Config = c.args.self.now.config in
     let valid : IsConfig cfg = subst IsConfig (ap (λ (x : Cache). x.config) c.self.view_is) c.self.invariant.valid in
     let turn : c.bucket_turn_of-turn.result ≡ bucket_turn cfg c.args.key = c.bucket_turn_of-turn.ensures ∙ ap (λ (x : Cache). bucket_turn x.config c.args.key) c.self.view_is in
@@ -128,7 +128,7 @@ returns-in-Taken-clause-room g c n room =
 
 pub returns-in-Taken-clause-fewer : goal.returns-in-Taken-clause-fewer
 returns-in-Taken-clause-fewer g c =
-    let m : Meanings g.row.C.Denot = meanings g.C.Keeps.holds g.C.Keeps.entries g.C.Keeps.opening g.C.Keeps.claims g.C.Keeps.sound in
+    let m : Meanings g.row.C.Denot = g.C.Keeps in
     let cfg : Config = c.args.self.now.config in
     let valid : IsConfig cfg = subst IsConfig (ap (λ (x : Cache). x.config) c.self.view_is) c.self.invariant.valid in
     let turn : c.bucket_turn_of-turn.result ≡ bucket_turn cfg c.args.key = c.bucket_turn_of-turn.ensures ∙ ap (λ (x : Cache). bucket_turn x.config c.args.key) c.self.view_is in
@@ -141,7 +141,7 @@ returns-in-Taken-clause-fewer g c =
 
 pub pass-requires-clause-legal : goal.pass-requires-clause-legal
 pass-requires-clause-legal g c =
-    let m : Meanings g.row.C.Denot = meanings g.C.Keeps.holds g.C.Keeps.entries g.C.Keeps.opening g.C.Keeps.claims g.C.Keeps.sound in
+    let m : Meanings g.row.C.Denot = g.C.Keeps in
     let cfg : Config = c.args.self.now.config in
     let valid : IsConfig cfg = subst IsConfig (ap (λ (x : Cache). x.config) c.self.view_is) c.self.invariant.valid in
     let own = c.in-Busy.ensures.owner in
@@ -154,12 +154,12 @@ pass-requires-clause-legal g c =
 pub pass-requires-clause-room : goal.pass-requires-clause-room
 pass-requires-clause-room g c =
     lent_room c.deref_mut.ensures.value
-    (pass_room (meanings g.C.Keeps.holds g.C.Keeps.entries g.C.Keeps.opening g.C.Keeps.claims g.C.Keeps.sound) c.args.self.now.config
+    (pass_room g.C.Keeps c.args.self.now.config
     (subst IsConfig (ap (λ (x : Cache). x.config) c.self.view_is) c.self.invariant.valid) c.args.key c.requires.victim.0 c.args.scan.now c.requires.victim.1 c.number.result c.in-Busy.owner c.requires.room)
 
 pub returns-in-Busy-clause-scan : goal.returns-in-Busy-clause-scan
 returns-in-Busy-clause-scan g c p es may scan =
-    let m : Meanings g.row.C.Denot = meanings g.C.Keeps.holds g.C.Keeps.entries g.C.Keeps.opening g.C.Keeps.claims g.C.Keeps.sound in
+    let m : Meanings g.row.C.Denot = g.C.Keeps in
     let cfg : Config = c.args.self.now.config in
     let valid : IsConfig cfg = subst IsConfig (ap (λ (x : Cache). x.config) c.self.view_is) c.self.invariant.valid in
     let own = c.in-Busy.ensures.owner in
@@ -178,10 +178,10 @@ returns-in-Busy-clause-scan g c p es may scan =
 
 pub returns-in-Busy-clause-room : goal.returns-in-Busy-clause-room
 returns-in-Busy-clause-room g c =
-    passed_room (meanings g.C.Keeps.holds g.C.Keeps.entries g.C.Keeps.opening g.C.Keeps.claims g.C.Keeps.sound) c.args.self.now.config
+    passed_room g.C.Keeps c.args.self.now.config
     (subst IsConfig (ap (λ (x : Cache). x.config) c.self.view_is) c.self.invariant.valid) c.args.key c.requires.victim.0 c.args.scan.now c.requires.victim.1 c.pass.new.self c.number.result c.in-Busy.owner (lent_makes c.deref_mut.ensures.value c.pass.ensures.makes)
 
 pub returns-in-Busy-clause-fewer : goal.returns-in-Busy-clause-fewer
 returns-in-Busy-clause-fewer g c =
-    passed_fewer (meanings g.C.Keeps.holds g.C.Keeps.entries g.C.Keeps.opening g.C.Keeps.claims g.C.Keeps.sound) c.args.self.now.config
+    passed_fewer g.C.Keeps c.args.self.now.config
     (subst IsConfig (ap (λ (x : Cache). x.config) c.self.view_is) c.self.invariant.valid) c.args.key c.requires.victim.0 c.args.scan.now c.requires.victim.1 c.pass.new.self c.number.result c.in-Busy.owner (lent_makes c.deref_mut.ensures.value c.pass.ensures.makes)

@@ -6,7 +6,7 @@ use Rattle.turn_table.specs.Places.{Place}
 use Rattle.arc_table.specs.declared.scan.Scan.{Scan}
 use Rattle.arc_table.specs.declared.view.Known.{Known}
 use Rattle.arc_table.specs.scans.Evicting.{HasScanRoom, IsScan, IsScanning, MayBegin, left_of}
-use Rattle.arc_table.specs.Items.{Meanings, meanings}
+use Rattle.arc_table.specs.Items.{Meanings}
 use Rattle.arc_table.proofs.scans.ScanSteps.{keeps_none, keeps_then, legal_then, may_after, party_after, room_below}
 use Rattle.arc_table.proofs.Lent.{lent_legal}
 use Rattle.arc_table.proofs.arcs.Arcs.name_victims.Goals as goal
@@ -22,7 +22,7 @@ loop-key-init g c = record {
 
 pub victim-requires : goal.victim-requires
 victim-requires g c =
-    let m : Meanings g.row.C.Denot = meanings g.C.Keeps.holds g.C.Keeps.entries g.C.Keeps.opening g.C.Keeps.claims g.C.Keeps.sound in
+    let m : Meanings g.row.C.Denot = g.C.Keeps in
     let r = c.requires.scan in
     let s = c.loop-key.invariant.scan r.from r.passes r.may r.scan in
     lent_legal c.args.event.now c.deref_mut.ensures.value
@@ -36,7 +36,7 @@ name_victim-requires-clause-victim g c = (c.args.event.now, subst (IsUnnamed c.i
 
 pub name_victim-requires-clause-scan : goal.name_victim-requires-clause-scan
 name_victim-requires-clause-scan g c =
-    let m : Meanings g.row.C.Denot = meanings g.C.Keeps.holds g.C.Keeps.entries g.C.Keeps.opening g.C.Keeps.claims g.C.Keeps.sound in
+    let m : Meanings g.row.C.Denot = g.C.Keeps in
     let r = c.requires.scan in
     let s = c.loop-key.invariant.scan r.from r.passes r.may r.scan in
     subst (λ (l : ShardLog). IsScanning m c.args.self.now.config (record { both = record { hand = c.loop-key.scan.both.hand; turn = c.loop-key.scan.both.turn; shard = l }; marked = c.loop-key.scan.marked }) c.loop-key.party) (sym (c.in-Some.ensures.log ∙ c.deref_mut.ensures.value))
@@ -54,7 +54,7 @@ loop-key-smaller g c =
 
 pub loop-key-preserved : goal.loop-key-preserved
 loop-key-preserved g c =
-    let m : Meanings g.row.C.Denot = meanings g.C.Keeps.holds g.C.Keeps.entries g.C.Keeps.opening g.C.Keeps.claims g.C.Keeps.sound in
+    let m : Meanings g.row.C.Denot = g.C.Keeps in
     let cfg = c.args.self.now.config in
     let S : ShardLog → Scan = λ l. record { both = record { hand = c.loop-key.scan.both.hand; turn = c.loop-key.scan.both.turn; shard = l }; marked = c.loop-key.scan.marked } in
     let log : c.victim.new.self ≡ c.loop-key.scan.both.shard = (c.in-Some.ensures.log ∙ c.deref_mut.ensures.value) in
@@ -81,7 +81,7 @@ returns-clause-hand g c = let h = c.loop-key.invariant.hand in record { turn = h
 
 pub returns-clause-scan : goal.returns-clause-scan
 returns-clause-scan g c p es may scan =
-    let m : Meanings g.row.C.Denot = meanings g.C.Keeps.holds g.C.Keeps.entries g.C.Keeps.opening g.C.Keeps.claims g.C.Keeps.sound in
+    let m : Meanings g.row.C.Denot = g.C.Keeps in
     let s = c.loop-key.invariant.scan p es may scan in
     (s.0, subst (λ (l : ShardLog). IsScan m c.args.self.now.config p c.loop-key.party (record { both = record { hand = c.loop-key.scan.both.hand; turn = c.loop-key.scan.both.turn; shard = l }; marked = c.loop-key.scan.marked }) s.0) (sym (c.in_default.ensures.log ∙ c.deref_mut.ensures.value)) s.1)
 

@@ -4,7 +4,6 @@ use Rattle.arc_core.specs.Owed.{room_for}
 use Rattle.turn_table.specs.Places.{Place}
 use Rattle.arc_table.specs.Cache.{IsPartyOf}
 use Rattle.arc_table.specs.scans.Evicting.{HasScanRoom, IsScan, KeepsHand, MayBegin, left_of}
-use Rattle.arc_table.specs.Items.{meanings}
 use Rattle.arc_table.specs.declared.view.Known.{Known}
 use Rattle.arc_table.proofs.arcs.Arcs.name_victims.Given as goal
 
@@ -13,8 +12,8 @@ invariant-loop-key g l = record {
   hand : KeepsHand l.fn.scan.both l.scan.both;
   party : IsPartyOf l.self l.party;
   scan : (p : Place (Known g.row.C.Denot)) (es : List Event) → MayBegin l.self.config l.fn.scan.both p
-      → IsScan (meanings g.C.Keeps.holds g.C.Keeps.entries g.C.Keeps.opening g.C.Keeps.claims g.C.Keeps.sound) l.self.config p l.fn.party l.fn.scan es
-      → (more : List Event) × IsScan (meanings g.C.Keeps.holds g.C.Keeps.entries g.C.Keeps.opening g.C.Keeps.claims g.C.Keeps.sound) l.self.config p l.party l.scan more;
+      → IsScan g.C.Keeps l.self.config p l.fn.party l.fn.scan es
+      → (more : List Event) × IsScan g.C.Keeps l.self.config p l.party l.scan more;
   room : HasScanRoom (room_for l.event) l.scan;
   entry_room : l.fn.scan.both.shard.entry_room ≤ l.scan.both.shard.entry_room;
 }

@@ -5,7 +5,6 @@ use Rattle.arc_core.specs.PlainShard.{PlainShard}
 use Rattle.arc_core.specs.ShardLog.{ShardLog}
 use Rattle.arc_core.specs.Step.{after, legal}
 use Rattle.arc_table.specs.Geometry.{shard_turn}
-use Rattle.arc_table.specs.Items.{meanings}
 use Rattle.arc_table.proofs.OneEvent.{alike_made, makes_these, same_head, some_is, taken_few}
 use Rattle.arc_table.proofs.reads.PastEvents.{past_legal}
 use Rattle.arc_table.proofs.Lent.{lent, lent_taken}
@@ -15,7 +14,7 @@ use Rattle.arc_table.proofs.arcs.Arcs.past_taken.Goals as goal
 
 pub past-requires-clause-legal : goal.past-requires-clause-legal
 past-requires-clause-legal g c =
-    let m = meanings g.C.Keeps.holds g.C.Keeps.entries g.C.Keeps.opening g.C.Keeps.claims g.C.Keeps.sound in
+    let m = g.C.Keeps in
     let same = c.deref_mut-shard.ensures.value in
     let b = lent c.args.both c.deref_mut-shard.result.now in
     let taken = lent_taken m c.args.self.now.config c.args.key c.args.both c.args.party.now c.deref_mut-shard.result.now same c.requires.taken in
@@ -25,7 +24,7 @@ past-requires-clause-legal g c =
 
 pub give_both-requires-clause-made : goal.give_both-requires-clause-made
 give_both-requires-clause-made g c =
-    let m = meanings g.C.Keeps.holds g.C.Keeps.entries g.C.Keeps.opening g.C.Keeps.claims g.C.Keeps.sound in
+    let m = g.C.Keeps in
     let same = c.deref_mut-shard.ensures.value in
     let b = lent c.args.both c.deref_mut-shard.result.now in
     let taken = lent_taken m c.args.self.now.config c.args.key c.args.both c.args.party.now c.deref_mut-shard.result.now same c.requires.taken in
@@ -45,7 +44,7 @@ give_both-requires-clause-made g c =
 
 pub returns-clause-ok : goal.returns-clause-ok
 returns-clause-ok g c =
-    let m = meanings g.C.Keeps.holds g.C.Keeps.entries g.C.Keeps.opening g.C.Keeps.claims g.C.Keeps.sound in
+    let m = g.C.Keeps in
     let same = c.deref_mut-shard.ensures.value in
     let b = lent c.args.both c.deref_mut-shard.result.now in
     let taken = lent_taken m c.args.self.now.config c.args.key c.args.both c.args.party.now c.deref_mut-shard.result.now same c.requires.taken in

@@ -5,7 +5,6 @@ use Rattle.arc_table.specs.declared.item.Item.TheVariants as item
 use Rattle.arc_table.specs.declared.picks.Picked.{Picked}
 use Rattle.arc_table.specs.declared.view.Known.{Known}
 use Rattle.arc_table.specs.Both.{Takes}
-use Rattle.arc_table.specs.Items.{meanings}
 use Rattle.arc_table.specs.feeder.Picking.{Feeds, PicksAll}
 use Rattle.arc_table.proofs.Afterwards.{stays_free}
 use Rattle.arc_table.proofs.feeder.FeedEnds.{feeding_begins, feeds_end, feeds_stays, front_is, picks_all}
@@ -18,7 +17,7 @@ pick_all-requires-clause-feeding g c =
 
 pub returns-in-Ok-clause-ok : goal.returns-in-Ok-clause-ok
 returns-in-Ok-clause-ok g c =
-    let m = meanings g.C.Keeps.holds g.C.Keeps.entries g.C.Keeps.opening g.C.Keeps.claims g.C.Keeps.sound in
+    let m = g.C.Keeps in
     let config = c.args.self.now.config in
     let b = c.begin_feed-feed in
     let p = c.args.party.now in
@@ -38,13 +37,13 @@ returns-in-Ok-clause-ok g c =
 
 pub returns-in-Ok-clause-free : goal.returns-in-Ok-clause-free
 returns-in-Ok-clause-free g c =
-    let m = meanings g.C.Keeps.holds g.C.Keeps.entries g.C.Keeps.opening g.C.Keeps.claims g.C.Keeps.sound in
+    let m = g.C.Keeps in
     let d = returns-in-Ok-clause-ok g c in
     stays_free c.args.self.now c.args.party.now c.end_feed.new.party (feeds_stays m c.args.self.now.config _ _ c.args.party.now c.end_feed.new.party d.feeds) c.requires.look
 
 pub returns-in-Err-clause-err : goal.returns-in-Err-clause-err
 returns-in-Err-clause-err g c =
-    let m = meanings g.C.Keeps.holds g.C.Keeps.entries g.C.Keeps.opening g.C.Keeps.claims g.C.Keeps.sound in
+    let m = g.C.Keeps in
     let config = c.args.self.now.config in
     let b = c.begin_feed-feed in
     let p = c.args.party.now in
@@ -59,16 +58,16 @@ returns-in-Err-clause-err g c =
 
 pub returns-in-Err-clause-free : goal.returns-in-Err-clause-free
 returns-in-Err-clause-free g c =
-    let m = meanings g.C.Keeps.holds g.C.Keeps.entries g.C.Keeps.opening g.C.Keeps.claims g.C.Keeps.sound in
+    let m = g.C.Keeps in
     stays_free c.args.self.now c.args.party.now c.end_unpicked.new.party (feeds_stays m c.args.self.now.config _ [] c.args.party.now c.end_unpicked.new.party (returns-in-Err-clause-err g c)) c.requires.look
 
 pub returns-in-Ok-clause-held : goal.returns-in-Ok-clause-held
 returns-in-Ok-clause-held g c =
-    let m = meanings g.C.Keeps.holds g.C.Keeps.entries g.C.Keeps.opening g.C.Keeps.claims g.C.Keeps.sound in
+    let m = g.C.Keeps in
     let d = returns-in-Ok-clause-ok g c in
     (feeds_stays m c.args.self.now.config _ _ c.args.party.now c.end_feed.new.party d.feeds).held
 
 pub returns-in-Err-clause-held : goal.returns-in-Err-clause-held
 returns-in-Err-clause-held g c =
-    let m = meanings g.C.Keeps.holds g.C.Keeps.entries g.C.Keeps.opening g.C.Keeps.claims g.C.Keeps.sound in
+    let m = g.C.Keeps in
     (feeds_stays m c.args.self.now.config _ [] c.args.party.now c.end_unpicked.new.party (returns-in-Err-clause-err g c)).held

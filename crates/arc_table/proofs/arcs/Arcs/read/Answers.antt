@@ -7,7 +7,7 @@ use Rattle.arc_core.specs.declared.config.Config.{Config}
 use Rattle.turn_table.specs.Board.{IsAmong}
 use Rattle.turn_table.specs.Places.{Place}
 use Rattle.arc_table.specs.declared.view.Known.{Known}
-use Rattle.arc_table.specs.Items.{Meanings, meanings}
+use Rattle.arc_table.specs.Items.{Meanings}
 use Rattle.vdev_io.specs.Calls.{KeepsPool}
 use Rattle.arc_table.specs.Reading.{Answers, FindsReading, KeepsDevice, Outside, Waits, answered, outside, refused}
 use Rattle.arc_table.proofs.reads.Readers.{waits_not}
@@ -54,7 +54,7 @@ read_later-requires-clause-valid g c κs within =
 
 pub returns-in-Reading-clause-answer : goal.returns-in-Reading-clause-answer
 returns-in-Reading-clause-answer g c =
-    let m = meanings g.C.Keeps.holds g.C.Keeps.entries g.C.Keeps.opening g.C.Keeps.claims g.C.Keeps.sound in
+    let m = g.C.Keeps in
     let first = c.in-Reading.ensures.answer in
     let later = c.read_later.ensures.answer in
     answered (subst (λ (n : ℕ). IsValid n c.args.ptr.now.key) c.len.ensures c.in_default.ensures.valid.1)
@@ -63,7 +63,7 @@ returns-in-Reading-clause-answer g c =
 
 pub returns-in-Reading-clause-alone : goal.returns-in-Reading-clause-alone
 returns-in-Reading-clause-alone g c none valid =
-    let m = meanings g.C.Keeps.holds g.C.Keeps.entries g.C.Keeps.opening g.C.Keeps.claims g.C.Keeps.sound in
+    let m = g.C.Keeps in
     let first = c.in-Reading.ensures.answer in
     let later = c.read_later.ensures.answer in
     let same = waits_not m c.args.self.now.config none.valid c.args.ptr.now.key c.args.party.now c.requires.party.config none (suc later.0) later.1

@@ -1,7 +1,6 @@
 use Rattle.std.proofs.Common.{ℕ, suc, refl, sym, ap, ◌∙◌, subst}
 use Rattle.blk_ptr.specs.Key.{IsValid}
 use Rattle.turn_table.specs.Board.{IsAmong}
-use Rattle.arc_table.specs.Items.{meanings}
 use Rattle.vdev_io.specs.Calls.{KeepsPool}
 use Rattle.arc_table.specs.Reading.{Answers, KeepsDevice, Outside, outside}
 use Rattle.arc_table.proofs.arcs.Arcs.read_later.Goals as goal
@@ -21,7 +20,7 @@ read_round-requires-clause-valid g c κs within =
 
 pub returns-in-Answered-clause-answer : goal.returns-in-Answered-clause-answer
 returns-in-Answered-clause-answer g c =
-    let m = meanings g.C.Keeps.holds g.C.Keeps.entries g.C.Keeps.opening g.C.Keeps.claims g.C.Keeps.sound in
+    let m = g.C.Keeps in
     let i = c.loop.invariant in (
       i.waits.0,
       c.loop.party,

@@ -1,6 +1,5 @@
 use Rattle.std.proofs.Common.{◌≡◌, ℕ}
 use Rattle.arc_table.specs.Cache.{IsPartyOf}
-use Rattle.arc_table.specs.Items.{meanings}
 use Rattle.arc_table.specs.Reading.{Waits}
 use Rattle.arc_table.proofs.arcs.Arcs.read_later.Given as goal
 
@@ -8,7 +7,7 @@ abbrev pub invariant-loop : goal.invariant-loop
 invariant-loop g l = record {
   party : IsPartyOf l.self l.party;
   held : l.party.held ≡ l.fn.party.held;
-  waits : (times : ℕ) × Waits (meanings g.C.Keeps.holds g.C.Keeps.entries g.C.Keeps.opening g.C.Keeps.claims g.C.Keeps.sound) l.self.config l.ptr.key times l.fn.party l.party;
+  waits : (times : ℕ) × Waits g.C.Keeps l.self.config l.ptr.key times l.fn.party l.party;
   pool : l.pool ≡ l.fn.pool;
   cache : l.cache ≡ l.fn.cache;
 }

@@ -3,7 +3,6 @@ use Rattle.std.specs.Prelude.{IfNone, IfSome}
 use Rattle.std.specs.Option.{option_map}
 use Rattle.arc_core.specs.PlainShard.{entry_of}
 use Rattle.arc_core.specs.View.{view_of}
-use Rattle.arc_table.specs.Items.{meanings}
 use Rattle.arc_table.specs.Reading.{outside}
 use Rattle.arc_table.specs.pact.Standing.{IsCachedWith}
 use Rattle.arc_table.proofs.reads.AfterRead.{answers_stays}
@@ -16,14 +15,14 @@ use Rattle.arc_table.proofs.arcs.Arcs.read_round.Goals as goal
 
 pub miss_taken-requires-clause-others : goal.miss_taken-requires-clause-others
 miss_taken-requires-clause-others g c =
-    let m = meanings g.C.Keeps.holds g.C.Keeps.entries g.C.Keeps.opening g.C.Keeps.claims g.C.Keeps.sound in
+    let m = g.C.Keeps in
     let b = c.take_ready-both in
     only_bucket c.args.self.now.config c.args.ptr.key c.args.party.now.held b.new.party.held b.ensures.kind.valid
     (reached m c.args.self.now.config c.args.ptr.key b.result.0.hand.own.bucket b.result.0.shard c.args.party.now b.new.party b.ensures.takes).held c.requires.look
 
 pub read_past-requires-clause-look : goal.read_past-requires-clause-look
 read_past-requires-clause-look g c κs within =
-    let m = meanings g.C.Keeps.holds g.C.Keeps.entries g.C.Keeps.opening g.C.Keeps.claims g.C.Keeps.sound in
+    let m = g.C.Keeps in
     let b = c.take_ready-both in
     stays_free c.args.self.now c.args.party.now c.past_taken.new.party
     (does_stays m c.args.self.now.config b.ensures.kind.valid c.args.ptr.key _ c.args.party.now c.past_taken.new.party c.requires.party.config
@@ -32,7 +31,7 @@ read_past-requires-clause-look g c κs within =
 
 pub end_miss-requires-clause-party : goal.end_miss-requires-clause-party
 end_miss-requires-clause-party g c κs within =
-    let m = meanings g.C.Keeps.holds g.C.Keeps.entries g.C.Keeps.opening g.C.Keeps.claims g.C.Keeps.sound in
+    let m = g.C.Keeps in
     let b = c.take_ready-both in
     stays_party c.args.self.now c.args.party.now c.miss_taken.new.party
     (missed_stays m c.args.self.now.config c.args.ptr.key b.result.0.hand.own.bucket b.result.0.shard c.args.party.now b.new.party c.miss_taken.new.party b.ensures.takes b.ensures.kind.valid c.requires.party.config c.args.tick c.in-Ok-miss_taken.ensures.ok)
@@ -40,7 +39,7 @@ end_miss-requires-clause-party g c κs within =
 
 pub end_miss-requires-clause-look : goal.end_miss-requires-clause-look
 end_miss-requires-clause-look g c κs within =
-    let m = meanings g.C.Keeps.holds g.C.Keeps.entries g.C.Keeps.opening g.C.Keeps.claims g.C.Keeps.sound in
+    let m = g.C.Keeps in
     let b = c.take_ready-both in
     stays_free c.args.self.now c.args.party.now c.miss_taken.new.party
     (missed_stays m c.args.self.now.config c.args.ptr.key b.result.0.hand.own.bucket b.result.0.shard c.args.party.now b.new.party c.miss_taken.new.party b.ensures.takes b.ensures.kind.valid c.requires.party.config c.args.tick c.in-Ok-miss_taken.ensures.ok)
@@ -48,13 +47,13 @@ end_miss-requires-clause-look g c κs within =
 
 pub end_miss-requires-clause-reading : goal.end_miss-requires-clause-reading
 end_miss-requires-clause-reading g c κs within =
-    let m = meanings g.C.Keeps.holds g.C.Keeps.entries g.C.Keeps.opening g.C.Keeps.claims g.C.Keeps.sound in
+    let m = g.C.Keeps in
     let b = c.take_ready-both in
     missed_reading m c.args.self.now.config c.args.ptr.key b.result.0.hand.own.bucket b.result.0.shard c.args.party.now b.new.party c.miss_taken.new.party b.ensures.takes b.ensures.kind.valid c.requires.party.config c.args.tick c.in-Ok-miss_taken.ensures.ok
 
 pub returns-in-Reading-clause-answer : goal.returns-in-Reading-clause-answer
 returns-in-Reading-clause-answer g c =
-    let m = meanings g.C.Keeps.holds g.C.Keeps.entries g.C.Keeps.opening g.C.Keeps.claims g.C.Keeps.sound in
+    let m = g.C.Keeps in
     let b = c.take_ready-both in
     let log = sound_log m c.args.self.now.config c.args.ptr.key b.result.0.hand.own.bucket b.result.0.shard c.args.party.now b.new.party b.ensures.takes c.requires.party.config b.ensures.kind.valid in
     let shown = c.entry-found.ensures ∙ ap (λ (l : ShardLog). option_map view_of (entry_of c.args.ptr.key l.now)) c.deref.ensures in
@@ -69,19 +68,19 @@ returns-in-Reading-clause-answer g c =
 
 pub returns-in-Reading-clause-party : goal.returns-in-Reading-clause-party
 returns-in-Reading-clause-party g c =
-    let m = meanings g.C.Keeps.holds g.C.Keeps.entries g.C.Keeps.opening g.C.Keeps.claims g.C.Keeps.sound in
+    let m = g.C.Keeps in
     let b = c.take_ready-both in
     stays_party c.args.self.now c.args.party.now c.give_back.new.party (none_stays m c.args.self.now.config c.args.ptr.key b.result.0.hand.own.bucket b.result.0.shard c.args.party.now b.new.party c.give_back.new.party b.ensures.takes b.ensures.kind.valid c.requires.party.config c.give_back.ensures) c.requires.party
 
 pub returns-in-Reading-clause-held : goal.returns-in-Reading-clause-held
 returns-in-Reading-clause-held g c =
-    let m = meanings g.C.Keeps.holds g.C.Keeps.entries g.C.Keeps.opening g.C.Keeps.claims g.C.Keeps.sound in
+    let m = g.C.Keeps in
     let b = c.take_ready-both in
     (none_stays m c.args.self.now.config c.args.ptr.key b.result.0.hand.own.bucket b.result.0.shard c.args.party.now b.new.party c.give_back.new.party b.ensures.takes b.ensures.kind.valid c.requires.party.config c.give_back.ensures).held
 
 pub unreachable-requires : goal.unreachable-requires
 unreachable-requires g c =
-    let m = meanings g.C.Keeps.holds g.C.Keeps.entries g.C.Keeps.opening g.C.Keeps.claims g.C.Keeps.sound in
+    let m = g.C.Keeps in
     let b = c.take_ready-both in
     let log = sound_log m c.args.self.now.config c.args.ptr.key b.result.0.hand.own.bucket b.result.0.shard c.args.party.now b.new.party b.ensures.takes c.requires.party.config b.ensures.kind.valid in
     let shown = c.entry-found.ensures ∙ ap (λ (l : ShardLog). option_map view_of (entry_of c.args.ptr.key l.now)) c.deref.ensures in
@@ -94,7 +93,7 @@ hit_taken-requires-clause-here g c =
 
 pub returns-in-Ok-clause-answer : goal.returns-in-Ok-clause-answer
 returns-in-Ok-clause-answer g c =
-    let m = meanings g.C.Keeps.holds g.C.Keeps.entries g.C.Keeps.opening g.C.Keeps.claims g.C.Keeps.sound in
+    let m = g.C.Keeps in
     let b = c.take_ready-both in
     let here = subst (λ o. IfSome o (λ ready. IsCachedWith c.args.ptr c.take_ready-both.result.0.shard.now)) c.in-Some.is c.take_ready-both.ensures.here in
     round_hit m g.P.Pool g.D.CacheDev c.args.self.now.config c.args.ptr c.args.tick b.result.0.hand.own.bucket b.result.0.shard c.args.party.now b.new.party c.hit_taken.new.party b.ensures.takes
@@ -102,14 +101,14 @@ returns-in-Ok-clause-answer g c =
 
 pub returns-in-Err-clause-answer : goal.returns-in-Err-clause-answer
 returns-in-Err-clause-answer g c =
-    let m = meanings g.C.Keeps.holds g.C.Keeps.entries g.C.Keeps.opening g.C.Keeps.claims g.C.Keeps.sound in
+    let m = g.C.Keeps in
     let b = c.take_ready-both in
     round_none m g.P.Pool g.D.CacheDev c.args.self.now.config c.args.ptr c.args.tick b.result.0.hand.own.bucket b.result.0.shard c.args.party.now b.new.party c.hit_taken.new.party b.ensures.takes
     (outside c.args.pool.now c.args.cache.now) c.in-Err.ensures.err
 
 pub returns-in-Ok-past_taken-clause-answer : goal.returns-in-Ok-past_taken-clause-answer
 returns-in-Ok-past_taken-clause-answer g c =
-    let m = meanings g.C.Keeps.holds g.C.Keeps.entries g.C.Keeps.opening g.C.Keeps.claims g.C.Keeps.sound in
+    let m = g.C.Keeps in
     let b = c.take_ready-both in
     let log = sound_log m c.args.self.now.config c.args.ptr.key b.result.0.hand.own.bucket b.result.0.shard c.args.party.now b.new.party b.ensures.takes c.requires.party.config b.ensures.kind.valid in
     let shown = c.entry-found.ensures ∙ ap (λ (l : ShardLog). option_map view_of (entry_of c.args.ptr.key l.now)) c.deref.ensures in
@@ -119,14 +118,14 @@ returns-in-Ok-past_taken-clause-answer g c =
 
 pub returns-in-Err-past_taken-clause-answer : goal.returns-in-Err-past_taken-clause-answer
 returns-in-Err-past_taken-clause-answer g c =
-    let m = meanings g.C.Keeps.holds g.C.Keeps.entries g.C.Keeps.opening g.C.Keeps.claims g.C.Keeps.sound in
+    let m = g.C.Keeps in
     let b = c.take_ready-both in
     round_none m g.P.Pool g.D.CacheDev c.args.self.now.config c.args.ptr c.args.tick b.result.0.hand.own.bucket b.result.0.shard c.args.party.now b.new.party c.past_taken.new.party b.ensures.takes
     (outside c.args.pool.now c.args.cache.now) c.in-Err-past_taken.ensures.err
 
 pub returns-in-Ok-miss_taken-clause-answer : goal.returns-in-Ok-miss_taken-clause-answer
 returns-in-Ok-miss_taken-clause-answer g c =
-    let m = meanings g.C.Keeps.holds g.C.Keeps.entries g.C.Keeps.opening g.C.Keeps.claims g.C.Keeps.sound in
+    let m = g.C.Keeps in
     let b = c.take_ready-both in
     let log = sound_log m c.args.self.now.config c.args.ptr.key b.result.0.hand.own.bucket b.result.0.shard c.args.party.now b.new.party b.ensures.takes c.requires.party.config b.ensures.kind.valid in
     let shown = c.entry-found.ensures ∙ ap (λ (l : ShardLog). option_map view_of (entry_of c.args.ptr.key l.now)) c.deref.ensures in
@@ -137,86 +136,86 @@ returns-in-Ok-miss_taken-clause-answer g c =
 
 pub returns-in-Err-miss_taken-clause-answer : goal.returns-in-Err-miss_taken-clause-answer
 returns-in-Err-miss_taken-clause-answer g c =
-    let m = meanings g.C.Keeps.holds g.C.Keeps.entries g.C.Keeps.opening g.C.Keeps.claims g.C.Keeps.sound in
+    let m = g.C.Keeps in
     let b = c.take_ready-both in
     round_none m g.P.Pool g.D.CacheDev c.args.self.now.config c.args.ptr c.args.tick b.result.0.hand.own.bucket b.result.0.shard c.args.party.now b.new.party c.miss_taken.new.party b.ensures.takes
     (outside c.args.pool.now c.args.cache.now) c.in-Err-miss_taken.ensures.err
 
 pub returns-in-Ok-clause-party : goal.returns-in-Ok-clause-party
 returns-in-Ok-clause-party g c =
-    let m = meanings g.C.Keeps.holds g.C.Keeps.entries g.C.Keeps.opening g.C.Keeps.claims g.C.Keeps.sound in
+    let m = g.C.Keeps in
     let b = c.take_ready-both in
     stays_party c.args.self.now c.args.party.now c.hit_taken.new.party (answers_stays m c.args.self.now.config b.ensures.kind.valid g.P.Pool g.D.CacheDev c.args.ptr c.args.tick (outside c.args.pool.now c.args.cache.now) (outside c.args.pool.now c.args.cache.now) c.args.party.now c.hit_taken.new.party _ c.requires.party.config (returns-in-Ok-clause-answer g c)) c.requires.party
 
 pub returns-in-Ok-clause-held : goal.returns-in-Ok-clause-held
 returns-in-Ok-clause-held g c =
-    let m = meanings g.C.Keeps.holds g.C.Keeps.entries g.C.Keeps.opening g.C.Keeps.claims g.C.Keeps.sound in
+    let m = g.C.Keeps in
     let b = c.take_ready-both in
     (answers_stays m c.args.self.now.config b.ensures.kind.valid g.P.Pool g.D.CacheDev c.args.ptr c.args.tick (outside c.args.pool.now c.args.cache.now) (outside c.args.pool.now c.args.cache.now) c.args.party.now c.hit_taken.new.party _ c.requires.party.config (returns-in-Ok-clause-answer g c)).held
 
 pub returns-in-Err-clause-party : goal.returns-in-Err-clause-party
 returns-in-Err-clause-party g c =
-    let m = meanings g.C.Keeps.holds g.C.Keeps.entries g.C.Keeps.opening g.C.Keeps.claims g.C.Keeps.sound in
+    let m = g.C.Keeps in
     let b = c.take_ready-both in
     stays_party c.args.self.now c.args.party.now c.hit_taken.new.party (answers_stays m c.args.self.now.config b.ensures.kind.valid g.P.Pool g.D.CacheDev c.args.ptr c.args.tick (outside c.args.pool.now c.args.cache.now) (outside c.args.pool.now c.args.cache.now) c.args.party.now c.hit_taken.new.party _ c.requires.party.config (returns-in-Err-clause-answer g c)) c.requires.party
 
 pub returns-in-Err-clause-held : goal.returns-in-Err-clause-held
 returns-in-Err-clause-held g c =
-    let m = meanings g.C.Keeps.holds g.C.Keeps.entries g.C.Keeps.opening g.C.Keeps.claims g.C.Keeps.sound in
+    let m = g.C.Keeps in
     let b = c.take_ready-both in
     (answers_stays m c.args.self.now.config b.ensures.kind.valid g.P.Pool g.D.CacheDev c.args.ptr c.args.tick (outside c.args.pool.now c.args.cache.now) (outside c.args.pool.now c.args.cache.now) c.args.party.now c.hit_taken.new.party _ c.requires.party.config (returns-in-Err-clause-answer g c)).held
 
 pub returns-in-Ok-past_taken-clause-party : goal.returns-in-Ok-past_taken-clause-party
 returns-in-Ok-past_taken-clause-party g c =
-    let m = meanings g.C.Keeps.holds g.C.Keeps.entries g.C.Keeps.opening g.C.Keeps.claims g.C.Keeps.sound in
+    let m = g.C.Keeps in
     let b = c.take_ready-both in
     stays_party c.args.self.now c.args.party.now c.past_taken.new.party (answers_stays m c.args.self.now.config b.ensures.kind.valid g.P.Pool g.D.CacheDev c.args.ptr c.args.tick (outside c.args.pool.now c.args.cache.now) (outside c.read_past.new.pool c.args.cache.now) c.args.party.now c.past_taken.new.party _ c.requires.party.config (returns-in-Ok-past_taken-clause-answer g c)) c.requires.party
 
 pub returns-in-Ok-past_taken-clause-held : goal.returns-in-Ok-past_taken-clause-held
 returns-in-Ok-past_taken-clause-held g c =
-    let m = meanings g.C.Keeps.holds g.C.Keeps.entries g.C.Keeps.opening g.C.Keeps.claims g.C.Keeps.sound in
+    let m = g.C.Keeps in
     let b = c.take_ready-both in
     (answers_stays m c.args.self.now.config b.ensures.kind.valid g.P.Pool g.D.CacheDev c.args.ptr c.args.tick (outside c.args.pool.now c.args.cache.now) (outside c.read_past.new.pool c.args.cache.now) c.args.party.now c.past_taken.new.party _ c.requires.party.config (returns-in-Ok-past_taken-clause-answer g c)).held
 
 pub returns-in-Err-past_taken-clause-party : goal.returns-in-Err-past_taken-clause-party
 returns-in-Err-past_taken-clause-party g c =
-    let m = meanings g.C.Keeps.holds g.C.Keeps.entries g.C.Keeps.opening g.C.Keeps.claims g.C.Keeps.sound in
+    let m = g.C.Keeps in
     let b = c.take_ready-both in
     stays_party c.args.self.now c.args.party.now c.past_taken.new.party (answers_stays m c.args.self.now.config b.ensures.kind.valid g.P.Pool g.D.CacheDev c.args.ptr c.args.tick (outside c.args.pool.now c.args.cache.now) (outside c.args.pool.now c.args.cache.now) c.args.party.now c.past_taken.new.party _ c.requires.party.config (returns-in-Err-past_taken-clause-answer g c)) c.requires.party
 
 pub returns-in-Err-past_taken-clause-held : goal.returns-in-Err-past_taken-clause-held
 returns-in-Err-past_taken-clause-held g c =
-    let m = meanings g.C.Keeps.holds g.C.Keeps.entries g.C.Keeps.opening g.C.Keeps.claims g.C.Keeps.sound in
+    let m = g.C.Keeps in
     let b = c.take_ready-both in
     (answers_stays m c.args.self.now.config b.ensures.kind.valid g.P.Pool g.D.CacheDev c.args.ptr c.args.tick (outside c.args.pool.now c.args.cache.now) (outside c.args.pool.now c.args.cache.now) c.args.party.now c.past_taken.new.party _ c.requires.party.config (returns-in-Err-past_taken-clause-answer g c)).held
 
 pub returns-in-Ok-miss_taken-clause-party : goal.returns-in-Ok-miss_taken-clause-party
 returns-in-Ok-miss_taken-clause-party g c =
-    let m = meanings g.C.Keeps.holds g.C.Keeps.entries g.C.Keeps.opening g.C.Keeps.claims g.C.Keeps.sound in
+    let m = g.C.Keeps in
     let b = c.take_ready-both in
     stays_party c.args.self.now c.args.party.now c.end_miss.new.party (answers_stays m c.args.self.now.config b.ensures.kind.valid g.P.Pool g.D.CacheDev c.args.ptr c.args.tick (outside c.args.pool.now c.args.cache.now) (outside c.end_miss.new.pool c.end_miss.new.cache) c.args.party.now c.end_miss.new.party _ c.requires.party.config (returns-in-Ok-miss_taken-clause-answer g c)) c.requires.party
 
 pub returns-in-Ok-miss_taken-clause-held : goal.returns-in-Ok-miss_taken-clause-held
 returns-in-Ok-miss_taken-clause-held g c =
-    let m = meanings g.C.Keeps.holds g.C.Keeps.entries g.C.Keeps.opening g.C.Keeps.claims g.C.Keeps.sound in
+    let m = g.C.Keeps in
     let b = c.take_ready-both in
     (answers_stays m c.args.self.now.config b.ensures.kind.valid g.P.Pool g.D.CacheDev c.args.ptr c.args.tick (outside c.args.pool.now c.args.cache.now) (outside c.end_miss.new.pool c.end_miss.new.cache) c.args.party.now c.end_miss.new.party _ c.requires.party.config (returns-in-Ok-miss_taken-clause-answer g c)).held
 
 pub returns-in-Err-miss_taken-clause-party : goal.returns-in-Err-miss_taken-clause-party
 returns-in-Err-miss_taken-clause-party g c =
-    let m = meanings g.C.Keeps.holds g.C.Keeps.entries g.C.Keeps.opening g.C.Keeps.claims g.C.Keeps.sound in
+    let m = g.C.Keeps in
     let b = c.take_ready-both in
     stays_party c.args.self.now c.args.party.now c.miss_taken.new.party (answers_stays m c.args.self.now.config b.ensures.kind.valid g.P.Pool g.D.CacheDev c.args.ptr c.args.tick (outside c.args.pool.now c.args.cache.now) (outside c.args.pool.now c.args.cache.now) c.args.party.now c.miss_taken.new.party _ c.requires.party.config (returns-in-Err-miss_taken-clause-answer g c)) c.requires.party
 
 pub returns-in-Err-miss_taken-clause-held : goal.returns-in-Err-miss_taken-clause-held
 returns-in-Err-miss_taken-clause-held g c =
-    let m = meanings g.C.Keeps.holds g.C.Keeps.entries g.C.Keeps.opening g.C.Keeps.claims g.C.Keeps.sound in
+    let m = g.C.Keeps in
     let b = c.take_ready-both in
     (answers_stays m c.args.self.now.config b.ensures.kind.valid g.P.Pool g.D.CacheDev c.args.ptr c.args.tick (outside c.args.pool.now c.args.cache.now) (outside c.args.pool.now c.args.cache.now) c.args.party.now c.miss_taken.new.party _ c.requires.party.config (returns-in-Err-miss_taken-clause-answer g c)).held
 
 pub miss_taken-requires-clause-missing : goal.miss_taken-requires-clause-missing
 miss_taken-requires-clause-missing g c =
-    let m = meanings g.C.Keeps.holds g.C.Keeps.entries g.C.Keeps.opening g.C.Keeps.claims g.C.Keeps.sound in
+    let m = g.C.Keeps in
     let b = c.take_ready-both in
     let log = sound_log m c.args.self.now.config c.args.ptr.key b.result.0.hand.own.bucket b.result.0.shard c.args.party.now b.new.party b.ensures.takes c.requires.party.config b.ensures.kind.valid in
     let shown = c.entry-found.ensures ∙ ap (λ (l : ShardLog). option_map view_of (entry_of c.args.ptr.key l.now)) c.deref.ensures in
@@ -225,7 +224,7 @@ miss_taken-requires-clause-missing g c =
 
 pub past_taken-requires-clause-kept : goal.past_taken-requires-clause-kept
 past_taken-requires-clause-kept g c =
-    let m = meanings g.C.Keeps.holds g.C.Keeps.entries g.C.Keeps.opening g.C.Keeps.claims g.C.Keeps.sound in
+    let m = g.C.Keeps in
     let b = c.take_ready-both in
     let log = sound_log m c.args.self.now.config c.args.ptr.key b.result.0.hand.own.bucket b.result.0.shard c.args.party.now b.new.party b.ensures.takes c.requires.party.config b.ensures.kind.valid in
     let shown = c.entry-found.ensures ∙ ap (λ (l : ShardLog). option_map view_of (entry_of c.args.ptr.key l.now)) c.deref.ensures in

@@ -2,7 +2,6 @@ use Rattle.std.proofs.Common.{[], ◌∷◌, refl, ap, subst}
 use Rattle.arc_core.specs.declared.event.Event.TheVariants.{Release}
 use Rattle.arc_table.specs.Geometry.{shard_turn}
 use Rattle.arc_table.specs.Holding.{ptr_of}
-use Rattle.arc_table.specs.Items.{meanings}
 use Rattle.arc_table.proofs.FollowEvents.{follow_made, header_there, release_like, sole_is}
 use Rattle.arc_table.proofs.reads.HitEvents.{some_there}
 use Rattle.arc_table.proofs.HoldEvents.{acts_for, release_legal}
@@ -14,7 +13,7 @@ use Rattle.arc_table.proofs.arcs.Arcs.release_taken.Goals as goal
 
 pub release-requires : goal.release-requires
 release-requires g c =
-    let m = meanings g.C.Keeps.holds g.C.Keeps.entries g.C.Keeps.opening g.C.Keeps.claims g.C.Keeps.sound in
+    let m = g.C.Keeps in
     let same = c.deref_mut-shard.ensures.value in
     let b = lent c.args.both c.deref_mut-shard.result.now in
     let taken = lent_taken m c.args.self.now.config c.args.hold.now.key c.args.both c.args.party.now c.deref_mut-shard.result.now same c.requires.taken in
@@ -24,7 +23,7 @@ release-requires g c =
 
 pub follow-requires : goal.follow-requires
 follow-requires g c =
-    let m = meanings g.C.Keeps.holds g.C.Keeps.entries g.C.Keeps.opening g.C.Keeps.claims g.C.Keeps.sound in
+    let m = g.C.Keeps in
     let same = c.deref_mut-shard.ensures.value in
     let b = lent c.args.both c.deref_mut-shard.result.now in
     let taken = lent_taken m c.args.self.now.config c.args.hold.now.key c.args.both c.args.party.now c.deref_mut-shard.result.now same c.requires.taken in
@@ -35,7 +34,7 @@ follow-requires g c =
 
 pub give_both-requires-clause-made : goal.give_both-requires-clause-made
 give_both-requires-clause-made g c =
-    let m = meanings g.C.Keeps.holds g.C.Keeps.entries g.C.Keeps.opening g.C.Keeps.claims g.C.Keeps.sound in
+    let m = g.C.Keeps in
     let same = c.deref_mut-shard.ensures.value in
     let b = lent c.args.both c.deref_mut-shard.result.now in
     let taken = lent_taken m c.args.self.now.config c.args.hold.now.key c.args.both c.args.party.now c.deref_mut-shard.result.now same c.requires.taken in
@@ -53,7 +52,7 @@ give_both-requires-clause-made g c =
 
 pub returns : goal.returns
 returns g c =
-    let m = meanings g.C.Keeps.holds g.C.Keeps.entries g.C.Keeps.opening g.C.Keeps.claims g.C.Keeps.sound in
+    let m = g.C.Keeps in
     let same = c.deref_mut-shard.ensures.value in
     let b = lent c.args.both c.deref_mut-shard.result.now in
     let taken = lent_taken m c.args.self.now.config c.args.hold.now.key c.args.both c.args.party.now c.deref_mut-shard.result.now same c.requires.taken in

@@ -1,6 +1,5 @@
 use Rattle.std.proofs.Common.{◌≡◌}
 use Rattle.arc_table.specs.Cache.{IsPartyOf}
-use Rattle.arc_table.specs.Items.{meanings}
 use Rattle.arc_table.specs.Resizing.{Resizes}
 use Rattle.arc_table.proofs.arcs.Arcs.resize.Given as goal
 
@@ -9,5 +8,5 @@ invariant-loop-shard g l = record {
   party : IsPartyOf l.self l.party;
   number : l.party.number ≡ l.fn.party.number;
   held : l.party.held ≡ l.fn.party.held;
-  resized : Resizes (meanings g.C.Keeps.holds g.C.Keeps.entries g.C.Keeps.opening g.C.Keeps.claims g.C.Keeps.sound) l.self.config l.fn.party.number l.c l.shard l.fn.party l.party;
+  resized : Resizes g.C.Keeps l.self.config l.fn.party.number l.c l.shard l.fn.party l.party;
 }

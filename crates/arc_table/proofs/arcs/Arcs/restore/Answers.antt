@@ -1,7 +1,6 @@
 use Rattle.std.proofs.Common.{None, get_or, refl, sym, ◌∙◌, subst}
 use Rattle.turn_table.specs.Board.{IsAmong}
 use Rattle.arc_core.specs.declared.served.Restored.{Restored}
-use Rattle.arc_table.specs.Items.{meanings}
 use Rattle.std.specs.Prelude.{Err}
 use Rattle.arc_table.specs.declared.restores.RestoreStop.{RestoreStop}
 use Rattle.arc_table.specs.feeder.Feeding.{AnswersRestore}
@@ -18,7 +17,7 @@ restore_one-requires-clause-key g c =
 
 pub returns-in-Err : goal.returns-in-Err
 returns-in-Err g c =
-    let m = meanings g.C.Keeps.holds g.C.Keeps.entries g.C.Keeps.opening g.C.Keeps.claims g.C.Keeps.sound in
+    let m = g.C.Keeps in
     let d : Restored = record { key = record { offset = 0; size = 0; birth = 0 }; place = 0; digest = None } in
     let i = c.loop-done.invariant in
     subst (λ (x : RestoreStop). AnswersRestore m c.args.self.now.config c.args.list.now c.args.party.now c.restore_one.new.party (Err x)) (sym c.after.ensures)
@@ -26,7 +25,7 @@ returns-in-Err g c =
 
 pub loop-done-preserved : goal.loop-done-preserved
 loop-done-preserved g c =
-    let m = meanings g.C.Keeps.holds g.C.Keeps.entries g.C.Keeps.opening g.C.Keeps.claims g.C.Keeps.sound in
+    let m = g.C.Keeps in
     let d : Restored = record { key = record { offset = 0; size = 0; birth = 0 }; place = 0; digest = None } in
     let i = c.loop-done.invariant in
     let e = c.in-Ok.ensures in record {

@@ -13,7 +13,6 @@ use Rattle.hash_chain.specs.Chain.{IsWith}
 use Rattle.arc_table.specs.Geometry.{shard_turn}
 use Rattle.arc_table.specs.pact.Headed.{IsHead}
 use Rattle.arc_table.specs.InHand.{made_since}
-use Rattle.arc_table.specs.Items.{meanings}
 use Rattle.arc_table.specs.Making.{IsMade}
 use Rattle.arc_table.proofs.feeder.FeedEvents.{no_header, none_there, restore_legal, restored_head, shown_there, feeder_is, number_few}
 use Rattle.arc_table.proofs.OneEvent.{makes_these, none_made, one_made, some_is, taken_head, taken_sound}
@@ -24,7 +23,7 @@ use Rattle.arc_table.proofs.arcs.Arcs.restore_one.Goals as goal
 
 pub returns-then-is_some-clause-answer : goal.returns-then-is_some-clause-answer
 returns-then-is_some-clause-answer g c =
-    let m = meanings g.C.Keeps.holds g.C.Keeps.entries g.C.Keeps.opening g.C.Keeps.claims g.C.Keeps.sound in
+    let m = g.C.Keeps in
     let b = c.take_both-both in
     let q = b.new.party in
     let p = c.args.party.now in
@@ -42,7 +41,7 @@ returns-then-is_some-clause-answer g c =
 
 pub give_both-requires-clause-made : goal.give_both-requires-clause-made
 give_both-requires-clause-made g c =
-    let m = meanings g.C.Keeps.holds g.C.Keeps.entries g.C.Keeps.opening g.C.Keeps.claims g.C.Keeps.sound in
+    let m = g.C.Keeps in
     let b = c.take_both-both in
     let q = b.new.party in
     let p = c.args.party.now in
@@ -59,7 +58,7 @@ give_both-requires-clause-made g c =
 
 pub add-requires-clause-absent : goal.add-requires-clause-absent
 add-requires-clause-absent g c =
-    let m = meanings g.C.Keeps.holds g.C.Keeps.entries g.C.Keeps.opening g.C.Keeps.claims g.C.Keeps.sound in
+    let m = g.C.Keeps in
     let b = c.take_both-both in
     let q = b.new.party in
     let p = c.args.party.now in
@@ -76,7 +75,7 @@ add-requires-clause-absent g c =
 
 pub give_both-requires-2-clause-made : goal.give_both-requires-2-clause-made
 give_both-requires-2-clause-made g c =
-    let m = meanings g.C.Keeps.holds g.C.Keeps.entries g.C.Keeps.opening g.C.Keeps.claims g.C.Keeps.sound in
+    let m = g.C.Keeps in
     let b = c.take_both-both in
     let q = b.new.party in
     let p = c.args.party.now in
@@ -104,7 +103,7 @@ give_both-requires-2-clause-made g c =
 
 pub returns-clause-answer : goal.returns-clause-answer
 returns-clause-answer g c =
-    let m = meanings g.C.Keeps.holds g.C.Keeps.entries g.C.Keeps.opening g.C.Keeps.claims g.C.Keeps.sound in
+    let m = g.C.Keeps in
     let b = c.take_both-both in
     let q = b.new.party in
     let p = c.args.party.now in

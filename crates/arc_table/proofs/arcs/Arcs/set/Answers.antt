@@ -6,7 +6,6 @@ use Rattle.arc_core.specs.PlainShard.{numbers}
 use Rattle.arc_core.specs.Step.{may_set}
 use Rattle.arc_table.specs.Both.{Makes}
 use Rattle.arc_table.specs.Geometry.{shard_turn}
-use Rattle.arc_table.specs.Items.{meanings}
 use Rattle.arc_table.proofs.feeder.FeedEvents.{feeder_is, leave_legal, leave_same, number_few, number_is, pick_there, set_legal, set_like, set_there, writes}
 use Rattle.arc_table.proofs.FollowEvents.{follow_made, header_there}
 use Rattle.arc_table.proofs.reads.HitEvents.{some_there}
@@ -17,7 +16,7 @@ use Rattle.arc_table.proofs.arcs.Arcs.set.Goals as goal
 
 pub may_set-requires-clause-number : goal.may_set-requires-clause-number
 may_set-requires-clause-number g c =
-    let m = meanings g.C.Keeps.holds g.C.Keeps.entries g.C.Keeps.opening g.C.Keeps.claims g.C.Keeps.sound in
+    let m = g.C.Keeps in
     let b = c.take_both-both in
     let q = b.new.party in
     let p = c.args.party.now in
@@ -33,7 +32,7 @@ may_set-requires-clause-number g c =
 
 pub may_set-requires-clause-writing : goal.may_set-requires-clause-writing
 may_set-requires-clause-writing g c =
-    let m = meanings g.C.Keeps.holds g.C.Keeps.entries g.C.Keeps.opening g.C.Keeps.claims g.C.Keeps.sound in
+    let m = g.C.Keeps in
     let b = c.take_both-both in
     let q = b.new.party in
     let p = c.args.party.now in
@@ -49,7 +48,7 @@ may_set-requires-clause-writing g c =
 
 pub leave-requires : goal.leave-requires
 leave-requires g c =
-    let m = meanings g.C.Keeps.holds g.C.Keeps.entries g.C.Keeps.opening g.C.Keeps.claims g.C.Keeps.sound in
+    let m = g.C.Keeps in
     let b = c.take_both-both in
     let q = b.new.party in
     let p = c.args.party.now in
@@ -69,7 +68,7 @@ leave-requires g c =
 
 pub give_both-requires-clause-made : goal.give_both-requires-clause-made
 give_both-requires-clause-made g c =
-    let m = meanings g.C.Keeps.holds g.C.Keeps.entries g.C.Keeps.opening g.C.Keeps.claims g.C.Keeps.sound in
+    let m = g.C.Keeps in
     let b = c.take_both-both in
     let q = b.new.party in
     let p = c.args.party.now in
@@ -92,7 +91,7 @@ give_both-requires-clause-made g c =
 
 pub returns-then-not-may_set : goal.returns-then-not-may_set
 returns-then-not-may_set g c =
-    let m = meanings g.C.Keeps.holds g.C.Keeps.entries g.C.Keeps.opening g.C.Keeps.claims g.C.Keeps.sound in
+    let m = g.C.Keeps in
     let b = c.take_both-both in
     let q = b.new.party in
     let p = c.args.party.now in
@@ -109,7 +108,7 @@ returns-then-not-may_set g c =
 
 pub set-requires : goal.set-requires
 set-requires g c =
-    let m = meanings g.C.Keeps.holds g.C.Keeps.entries g.C.Keeps.opening g.C.Keeps.claims g.C.Keeps.sound in
+    let m = g.C.Keeps in
     let b = c.take_both-both in
     let q = b.new.party in
     let p = c.args.party.now in
@@ -129,7 +128,7 @@ set-requires g c =
 
 pub follow-requires : goal.follow-requires
 follow-requires g c =
-    let m = meanings g.C.Keeps.holds g.C.Keeps.entries g.C.Keeps.opening g.C.Keeps.claims g.C.Keeps.sound in
+    let m = g.C.Keeps in
     let b = c.take_both-both in
     let q = b.new.party in
     let p = c.args.party.now in
@@ -146,7 +145,7 @@ follow-requires g c =
 
 pub give_both-requires-2-clause-made : goal.give_both-requires-2-clause-made
 give_both-requires-2-clause-made g c =
-    let m = meanings g.C.Keeps.holds g.C.Keeps.entries g.C.Keeps.opening g.C.Keeps.claims g.C.Keeps.sound in
+    let m = g.C.Keeps in
     let b = c.take_both-both in
     let q = b.new.party in
     let p = c.args.party.now in
@@ -169,7 +168,7 @@ give_both-requires-2-clause-made g c =
 
 pub returns : goal.returns
 returns g c =
-    let m = meanings g.C.Keeps.holds g.C.Keeps.entries g.C.Keeps.opening g.C.Keeps.claims g.C.Keeps.sound in
+    let m = g.C.Keeps in
     let b = c.take_both-both in
     let q = b.new.party in
     let p = c.args.party.now in

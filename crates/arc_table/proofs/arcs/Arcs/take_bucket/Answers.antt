@@ -7,7 +7,6 @@ use Rattle.arc_table.specs.declared.item.Item.{Item}
 use Rattle.arc_table.specs.Both.{Takes}
 use Rattle.arc_table.specs.Cache.{Cache}
 use Rattle.arc_table.specs.Geometry.{IsBucket, IsCell, bucket_turn}
-use Rattle.arc_table.specs.Items.{meanings}
 use Rattle.arc_table.proofs.Boards.{bucket_there, loses_about}
 use Rattle.arc_table.proofs.Ranges.{bucket_range}
 use Rattle.arc_table.proofs.Taking.{no_bucket}
@@ -21,7 +20,7 @@ take-requires-clause-not_held g c among =
 
 pub into_bucket-bucket-requires : goal.into_bucket-bucket-requires
 into_bucket-bucket-requires g c =
-    let m = meanings g.C.Keeps.holds g.C.Keeps.entries g.C.Keeps.opening g.C.Keeps.claims g.C.Keeps.sound in
+    let m = g.C.Keeps in
     let same = ap (λ (x : Cache). x.config) c.self.view_is in
     let t = c.take.ensures in
     let p = c.args.party.now in
@@ -31,7 +30,7 @@ into_bucket-bucket-requires g c =
 
 pub returns-clause-takes : goal.returns-clause-takes
 returns-clause-takes g c =
-    let m = meanings g.C.Keeps.holds g.C.Keeps.entries g.C.Keeps.opening g.C.Keeps.claims g.C.Keeps.sound in
+    let m = g.C.Keeps in
     let same = ap (λ (x : Cache). x.config) c.self.view_is in
     let t = c.take.ensures in
     let bucket : c.bucket_turn_of-turn.result ≡ bucket_turn c.args.self.now.config c.args.key = c.bucket_turn_of-turn.ensures ∙ ap (λ (x : Config). bucket_turn x c.args.key) same in

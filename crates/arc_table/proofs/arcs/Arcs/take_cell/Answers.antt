@@ -3,7 +3,6 @@ use Rattle.turn_table.specs.Places.{saw}
 use Rattle.arc_core.specs.declared.config.Config.{Config}
 use Rattle.arc_table.specs.declared.about.About.{About}
 use Rattle.arc_table.specs.Geometry.{IsCell}
-use Rattle.arc_table.specs.Items.{meanings}
 use Rattle.turn_table.specs.Board.{IsAmong}
 use Rattle.turn_table.specs.Places.{Place}
 use Rattle.arc_table.specs.declared.view.Known.{Known}
@@ -13,7 +12,7 @@ use Rattle.arc_table.proofs.arcs.Arcs.take_cell.Goals as goal
 
 pub into_cell-requires : goal.into_cell-requires
 into_cell-requires g c =
-    let m = meanings g.C.Keeps.holds g.C.Keeps.entries g.C.Keeps.opening g.C.Keeps.claims g.C.Keeps.sound in
+    let m = g.C.Keeps in
     let t = c.take.ensures in
     let p = c.args.party.now in
     cell_there m (saw p t.1) c.args.i c.take.result t.3
@@ -21,7 +20,7 @@ into_cell-requires g c =
 
 pub returns-clause-party : goal.returns-clause-party
 returns-clause-party g c =
-    let m = meanings g.C.Keeps.holds g.C.Keeps.entries g.C.Keeps.opening g.C.Keeps.claims g.C.Keeps.sound in
+    let m = g.C.Keeps in
     let t = c.take.ensures in
     let p = c.args.party.now in
     let about = loses_about m c.args.i t.0 p (saw p t.1) t.2 in

@@ -6,14 +6,13 @@ use Rattle.arc_table.specs.declared.item.Item.{Item}
 use Rattle.arc_table.specs.Both.{Takes}
 use Rattle.arc_table.specs.Cache.{Cache}
 use Rattle.arc_table.specs.Geometry.{IsShard, shard_turn}
-use Rattle.arc_table.specs.Items.{meanings}
 use Rattle.arc_table.proofs.Boards.{loses_about, shard_there}
 use Rattle.arc_table.proofs.Ranges.{shard_range}
 use Rattle.arc_table.proofs.arcs.Arcs.take_shard.Goals as goal
 
 pub into_shard-shard-requires : goal.into_shard-shard-requires
 into_shard-shard-requires g c =
-    let m = meanings g.C.Keeps.holds g.C.Keeps.entries g.C.Keeps.opening g.C.Keeps.claims g.C.Keeps.sound in
+    let m = g.C.Keeps in
     let same = ap (λ (x : Cache). x.config) c.self.view_is in
     let t = c.take.ensures in
     let p = c.args.party.now in
@@ -23,7 +22,7 @@ into_shard-shard-requires g c =
 
 pub returns-clause-takes : goal.returns-clause-takes
 returns-clause-takes g c =
-    let m = meanings g.C.Keeps.holds g.C.Keeps.entries g.C.Keeps.opening g.C.Keeps.claims g.C.Keeps.sound in
+    let m = g.C.Keeps in
     let same = ap (λ (x : Cache). x.config) c.self.view_is in
     let t = c.take.ensures in
     let shard : c.args.turn ≡ shard_turn c.args.self.now.config c.args.key = c.requires.turn in

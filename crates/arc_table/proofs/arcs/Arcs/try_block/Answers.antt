@@ -6,7 +6,6 @@ use Rattle.arc_table.specs.declared.item.Item.{Item}
 use Rattle.arc_table.specs.declared.item.Item.TheVariants as item
 use Rattle.arc_table.specs.Cache.{Cache}
 use Rattle.arc_table.specs.Geometry.{IsBucket, bucket_turn, parties_of}
-use Rattle.arc_table.specs.Items.{meanings}
 use Rattle.arc_table.specs.pact.Rule.{Pact}
 use Rattle.arc_table.proofs.Boards.{bucket_there, given_same}
 use Rattle.arc_table.proofs.feeder.FeedTries.{block_if, noted, not_held, still_picked, there, won_as_taken}
@@ -16,7 +15,7 @@ use Rattle.arc_table.proofs.arcs.Arcs.try_block.Goals as goal
 
 pub try_take-requires-clause-not_held : goal.try_take-requires-clause-not_held
 try_take-requires-clause-not_held g c among =
-    let m = meanings g.C.Keeps.holds g.C.Keeps.entries g.C.Keeps.opening g.C.Keeps.claims g.C.Keeps.sound in
+    let m = g.C.Keeps in
     let same = ap (λ (x : Cache). x.config) c.self.view_is in
     let s = c.requires.scan in
     not_held m c.args.self.now.config c.args.feed.now c.args.party.now s.0 s.1 c.args.key c.requires.candidate
@@ -24,14 +23,14 @@ try_take-requires-clause-not_held g c among =
 
 pub into_bucket-bucket-requires : goal.into_bucket-bucket-requires
 into_bucket-bucket-requires g c =
-    let m = meanings g.C.Keeps.holds g.C.Keeps.entries g.C.Keeps.opening g.C.Keeps.claims g.C.Keeps.sound in
+    let m = g.C.Keeps in
     let same = ap (λ (x : Cache). x.config) c.self.view_is in
     bucket_there m c.args.party.now c.bucket_turn_of-turn.result c.in-Taken.value c.in-Taken.ensures.taken.0
     (subst (λ (x : Config). IsBucket x c.bucket_turn_of-turn.result) (same ∙ sym c.requires.party.config) (subst (IsBucket c.self.inside.config) (sym c.bucket_turn_of-turn.ensures) (bucket_range c.self.inside.config c.args.key c.self.invariant.valid)))
 
 pub block_of-block-requires : goal.block_of-block-requires
 block_of-block-requires g c =
-    let m = meanings g.C.Keeps.holds g.C.Keeps.entries g.C.Keeps.opening g.C.Keeps.claims g.C.Keeps.sound in
+    let m = g.C.Keeps in
     let same = ap (λ (x : Cache). x.config) c.self.view_is in
     let s = c.requires.scan in
     let free = subst (λ (x : ℕ × Item g.row.C.Denot). WasFree (Pact m) c.args.party.now x.0 x.1) (λ z. ((c.bucket_turn_of-turn.ensures ∙ ap (λ (x : Config). bucket_turn x c.args.key) same) z, c.into_bucket-bucket.ensures z)) c.in-Taken.ensures.taken.0 in
@@ -39,14 +38,14 @@ block_of-block-requires g c =
 
 pub give-requires-clause-rule : goal.give-requires-clause-rule
 give-requires-clause-rule g c =
-    let m = meanings g.C.Keeps.holds g.C.Keeps.entries g.C.Keeps.opening g.C.Keeps.claims g.C.Keeps.sound in
+    let m = g.C.Keeps in
     let s = c.requires.scan in
     given_same m c.try_take.new.party c.bucket_turn_of-turn.result (item.Bucket c.into_bucket-bucket.result)
     (won_as_taken m c.args.self.now.config c.args.feed.now c.args.party.now s.0 s.1 c.args.key c.requires.candidate c.bucket_turn_of-turn.result c.in-Taken.value c.into_bucket-bucket.result c.try_take.new.party c.into_bucket-bucket.ensures c.in-Taken.ensures.taken.1)
 
 pub returns-in-Taken-clause-taken : goal.returns-in-Taken-clause-taken
 returns-in-Taken-clause-taken g c =
-    let m = meanings g.C.Keeps.holds g.C.Keeps.entries g.C.Keeps.opening g.C.Keeps.claims g.C.Keeps.sound in
+    let m = g.C.Keeps in
     let same = ap (λ (x : Cache). x.config) c.self.view_is in
     let s = c.requires.scan in
     still_picked m c.args.self.now.config c.args.feed.now c.args.party.now s.0 s.1 c.args.key c.requires.candidate c.bucket_turn_of-turn.result c.in-Taken.value c.into_bucket-bucket.result c.try_take.new.party c.give.new.party
@@ -54,7 +53,7 @@ returns-in-Taken-clause-taken g c =
 
 pub returns-in-Taken-clause-block : goal.returns-in-Taken-clause-block
 returns-in-Taken-clause-block g c =
-    let m = meanings g.C.Keeps.holds g.C.Keeps.entries g.C.Keeps.opening g.C.Keeps.claims g.C.Keeps.sound in
+    let m = g.C.Keeps in
     let same = ap (λ (x : Cache). x.config) c.self.view_is in
     let s = c.requires.scan in
     let free = subst (λ (x : ℕ × Item g.row.C.Denot). WasFree (Pact m) c.args.party.now x.0 x.1) (λ z. ((c.bucket_turn_of-turn.ensures ∙ ap (λ (x : Config). bucket_turn x c.args.key) same) z, c.into_bucket-bucket.ensures z)) c.in-Taken.ensures.taken.0 in
@@ -62,7 +61,7 @@ returns-in-Taken-clause-block g c =
 
 pub returns-in-Busy-clause-busy : goal.returns-in-Busy-clause-busy
 returns-in-Busy-clause-busy g c =
-    let m = meanings g.C.Keeps.holds g.C.Keeps.entries g.C.Keeps.opening g.C.Keeps.claims g.C.Keeps.sound in
+    let m = g.C.Keeps in
     let same = ap (λ (x : Cache). x.config) c.self.view_is in
     let s = c.requires.scan in
     noted m c.args.self.now.config c.args.feed.now c.args.party.now s.0 s.1 c.args.key c.requires.candidate c.bucket_turn_of-turn.result c.in-Busy.owner c.try_take.new.party

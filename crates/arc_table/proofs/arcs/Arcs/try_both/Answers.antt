@@ -8,7 +8,6 @@ use Rattle.arc_table.specs.declared.view.Known.{Known}
 use Rattle.arc_table.specs.Both.{Takes}
 use Rattle.arc_table.specs.Cache.{Cache}
 use Rattle.arc_table.specs.Geometry.{IsBucket, IsCell, IsShard, bucket_turn, shard_turn}
-use Rattle.arc_table.specs.Items.{meanings}
 use Rattle.arc_table.proofs.Boards.{bucket_there, given_same, shard_there}
 use Rattle.arc_table.proofs.Ranges.{bucket_range, shard_range}
 use Rattle.arc_table.proofs.Taking.{busy_at_shard, lost_as_taken, no_bucket, no_shard}
@@ -22,7 +21,7 @@ try_take-requires-clause-not_held g c among =
 
 pub into_bucket-bucket-requires : goal.into_bucket-bucket-requires
 into_bucket-bucket-requires g c =
-    let m = meanings g.C.Keeps.holds g.C.Keeps.entries g.C.Keeps.opening g.C.Keeps.claims g.C.Keeps.sound in
+    let m = g.C.Keeps in
     let same = ap (λ (x : Cache). x.config) c.self.view_is in
     bucket_there m c.args.party.now c.bucket_turn_of-own.result c.in-Taken.value c.in-Taken.ensures.taken.0
     (subst (λ (x : Config). IsBucket x c.bucket_turn_of-own.result) (same ∙ sym c.requires.party.config) (subst (IsBucket c.self.inside.config) (sym c.bucket_turn_of-own.ensures) (bucket_range c.self.inside.config c.args.key c.self.invariant.valid)))
@@ -37,14 +36,14 @@ try_take-requires-2-clause-not_held g c among =
 
 pub give-requires-clause-rule : goal.give-requires-clause-rule
 give-requires-clause-rule g c =
-    let m = meanings g.C.Keeps.holds g.C.Keeps.entries g.C.Keeps.opening g.C.Keeps.claims g.C.Keeps.sound in
+    let m = g.C.Keeps in
     given_same m c.try_take-2.new.party c.bucket_turn_of-own.result (item.Bucket c.into_bucket-bucket.result)
     (lost_as_taken m c.bucket_turn_of-own.result c.in-Taken.value (item.Bucket c.into_bucket-bucket.result) c.shard_turn_of-turn.result c.in-Busy-try_take.owner c.args.party.now c.try_take.new.party c.try_take-2.new.party c.into_bucket-bucket.ensures
     c.in-Taken.ensures.taken.1 c.in-Busy-try_take.ensures.busy.1)
 
 pub returns-in-Busy-try_take-clause-busy : goal.returns-in-Busy-try_take-clause-busy
 returns-in-Busy-try_take-clause-busy g c =
-    let m = meanings g.C.Keeps.holds g.C.Keeps.entries g.C.Keeps.opening g.C.Keeps.claims g.C.Keeps.sound in
+    let m = g.C.Keeps in
     let same = ap (λ (x : Cache). x.config) c.self.view_is in
     busy_at_shard m c.args.self.now.config c.args.key c.bucket_turn_of-own.result c.shard_turn_of-turn.result c.into_bucket-bucket.result c.in-Taken.value c.in-Busy-try_take.owner c.args.party.now c.try_take.new.party c.try_take-2.new.party c.give.new.party
     (c.bucket_turn_of-own.ensures ∙ ap (λ (x : Config). bucket_turn x c.args.key) same) (c.shard_turn_of-turn.ensures ∙ ap (λ (x : Config). shard_turn x c.args.key) same) c.into_bucket-bucket.ensures
@@ -52,7 +51,7 @@ returns-in-Busy-try_take-clause-busy g c =
 
 pub into_shard-shard-requires : goal.into_shard-shard-requires
 into_shard-shard-requires g c =
-    let m = meanings g.C.Keeps.holds g.C.Keeps.entries g.C.Keeps.opening g.C.Keeps.claims g.C.Keeps.sound in
+    let m = g.C.Keeps in
     let same = ap (λ (x : Cache). x.config) c.self.view_is in
     let config = ap (λ (x : Place (Known g.row.C.Denot)). x.own.about.config) c.in-Taken.ensures.taken.1 ∙ c.requires.party.config in
     shard_there m c.try_take.new.party c.shard_turn_of-turn.result c.in-Taken-try_take.value c.in-Taken-try_take.ensures.taken.0
@@ -60,7 +59,7 @@ into_shard-shard-requires g c =
 
 pub returns-clause-takes : goal.returns-clause-takes
 returns-clause-takes g c =
-    let m = meanings g.C.Keeps.holds g.C.Keeps.entries g.C.Keeps.opening g.C.Keeps.claims g.C.Keeps.sound in
+    let m = g.C.Keeps in
     let same = ap (λ (x : Cache). x.config) c.self.view_is in
     let p = c.args.party.now in
     let q = c.try_take.new.party in

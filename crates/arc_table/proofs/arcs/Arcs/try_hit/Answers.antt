@@ -5,7 +5,6 @@ use Rattle.std.specs.Prelude.{IsTrue, ◌&&◌}
 use Rattle.arc_core.specs.PlainShard.{entry_is, entry_of, is_resident, keeps_digest}
 use Rattle.arc_core.specs.Step.{is_missing, reads}
 use Rattle.arc_core.specs.View.{view_of}
-use Rattle.arc_table.specs.Items.{meanings}
 use Rattle.arc_table.specs.declared.hits.Standing.TheVariants as standing
 use Rattle.arc_table.proofs.Holders.{held_still}
 use Rattle.arc_table.proofs.Taking.{tells}
@@ -16,7 +15,7 @@ use Rattle.arc_table.proofs.arcs.Arcs.try_hit.Goals as goal
 
 pub returns-in-Missing-clause-answer : goal.returns-in-Missing-clause-answer
 returns-in-Missing-clause-answer g c =
-    let m = meanings g.C.Keeps.holds g.C.Keeps.entries g.C.Keeps.opening g.C.Keeps.claims g.C.Keeps.sound in
+    let m = g.C.Keeps in
     let b = c.in-Taken.both in
     let e = c.in-Taken.ensures in
     let log = sound_log m c.args.self.now.config c.args.ptr.now.key b.hand.own.bucket b.shard c.args.party.now c.try_both.new.party e.takes c.requires.party.config e.kind.valid in
@@ -30,7 +29,7 @@ returns-in-Missing-clause-answer g c =
 
 pub returns-in-Other-clause-answer : goal.returns-in-Other-clause-answer
 returns-in-Other-clause-answer g c =
-    let m = meanings g.C.Keeps.holds g.C.Keeps.entries g.C.Keeps.opening g.C.Keeps.claims g.C.Keeps.sound in
+    let m = g.C.Keeps in
     let b = c.in-Taken.both in
     let e = c.in-Taken.ensures in
     let log = sound_log m c.args.self.now.config c.args.ptr.now.key b.hand.own.bucket b.shard c.args.party.now c.try_both.new.party e.takes c.requires.party.config e.kind.valid in
@@ -45,7 +44,7 @@ returns-in-Other-clause-answer g c =
 
 pub returns-in-Reading-clause-answer : goal.returns-in-Reading-clause-answer
 returns-in-Reading-clause-answer g c =
-    let m = meanings g.C.Keeps.holds g.C.Keeps.entries g.C.Keeps.opening g.C.Keeps.claims g.C.Keeps.sound in
+    let m = g.C.Keeps in
     let b = c.in-Taken.both in
     let e = c.in-Taken.ensures in
     let log = sound_log m c.args.self.now.config c.args.ptr.now.key b.hand.own.bucket b.shard c.args.party.now c.try_both.new.party e.takes c.requires.party.config e.kind.valid in
@@ -59,7 +58,7 @@ returns-in-Reading-clause-answer g c =
 
 pub returns-in-Missing-clause-holder : goal.returns-in-Missing-clause-holder
 returns-in-Missing-clause-holder g c n listed =
-    let m = meanings g.C.Keeps.holds g.C.Keeps.entries g.C.Keeps.opening g.C.Keeps.claims g.C.Keeps.sound in
+    let m = g.C.Keeps in
     let b = c.in-Taken.both in
     let e = c.in-Taken.ensures in
     let log = sound_log m c.args.self.now.config c.args.ptr.now.key b.hand.own.bucket b.shard c.args.party.now c.try_both.new.party e.takes c.requires.party.config e.kind.valid in
@@ -69,7 +68,7 @@ returns-in-Missing-clause-holder g c n listed =
 
 pub returns-in-Other-clause-holder : goal.returns-in-Other-clause-holder
 returns-in-Other-clause-holder g c n listed =
-    let m = meanings g.C.Keeps.holds g.C.Keeps.entries g.C.Keeps.opening g.C.Keeps.claims g.C.Keeps.sound in
+    let m = g.C.Keeps in
     let b = c.in-Taken.both in
     let e = c.in-Taken.ensures in
     let log = sound_log m c.args.self.now.config c.args.ptr.now.key b.hand.own.bucket b.shard c.args.party.now c.try_both.new.party e.takes c.requires.party.config e.kind.valid in
@@ -79,7 +78,7 @@ returns-in-Other-clause-holder g c n listed =
 
 pub returns-in-Reading-clause-holder : goal.returns-in-Reading-clause-holder
 returns-in-Reading-clause-holder g c n listed =
-    let m = meanings g.C.Keeps.holds g.C.Keeps.entries g.C.Keeps.opening g.C.Keeps.claims g.C.Keeps.sound in
+    let m = g.C.Keeps in
     let b = c.in-Taken.both in
     let e = c.in-Taken.ensures in
     let log = sound_log m c.args.self.now.config c.args.ptr.now.key b.hand.own.bucket b.shard c.args.party.now c.try_both.new.party e.takes c.requires.party.config e.kind.valid in
@@ -89,7 +88,7 @@ returns-in-Reading-clause-holder g c n listed =
 
 pub hit_taken-requires-clause-here : goal.hit_taken-requires-clause-here
 hit_taken-requires-clause-here g c =
-    let m = meanings g.C.Keeps.holds g.C.Keeps.entries g.C.Keeps.opening g.C.Keeps.claims g.C.Keeps.sound in
+    let m = g.C.Keeps in
     let b = c.in-Taken.both in
     let e = c.in-Taken.ensures in
     let k = c.args.ptr.now.key in
@@ -98,7 +97,7 @@ hit_taken-requires-clause-here g c =
 
 pub unreachable-requires : goal.unreachable-requires
 unreachable-requires g c =
-    let m = meanings g.C.Keeps.holds g.C.Keeps.entries g.C.Keeps.opening g.C.Keeps.claims g.C.Keeps.sound in
+    let m = g.C.Keeps in
     let b = c.in-Taken.both in
     let e = c.in-Taken.ensures in
     let log = sound_log m c.args.self.now.config c.args.ptr.now.key b.hand.own.bucket b.shard c.args.party.now c.try_both.new.party e.takes c.requires.party.config e.kind.valid in

@@ -2,7 +2,6 @@ use Rattle.std.proofs.Common.{arith, sym, ap, ◌∙◌, subst}
 use Rattle.arc_core.specs.declared.config.Config.{Config}
 use Rattle.arc_table.specs.Cache.{Cache}
 use Rattle.arc_table.specs.Geometry.{IsBucket, IsCell, bucket_turn}
-use Rattle.arc_table.specs.Items.{meanings}
 use Rattle.arc_table.proofs.Boards.{bucket_there}
 use Rattle.arc_table.proofs.Ranges.{bucket_range}
 use Rattle.arc_table.proofs.arcs.Arcs.try_look.Goals as goal
@@ -18,7 +17,7 @@ try_take-requires-clause-not_held g c among =
 
 pub into_bucket-requires : goal.into_bucket-requires
 into_bucket-requires g c =
-    let m = meanings g.C.Keeps.holds g.C.Keeps.entries g.C.Keeps.opening g.C.Keeps.claims g.C.Keeps.sound in
+    let m = g.C.Keeps in
     let same = ap (λ (x : Cache). x.config) c.self.view_is in
     let range = bucket_range c.self.inside.config c.args.key c.self.invariant.valid in
     bucket_there m c.args.party.now c.bucket_turn_of-turn.result c.in-Taken.value c.in-Taken.ensures.taken.0

@@ -2,7 +2,6 @@ use Rattle.std.proofs.Common.{◌∷◌, [], refl, sym, ap, ◌∙◌}
 use Rattle.arc_table.specs.declared.hold.Hold.{Hold}
 use Rattle.arc_table.specs.declared.item.Item.TheVariants as item
 use Rattle.arc_table.specs.Holding.{ptr_of}
-use Rattle.arc_table.specs.Items.{meanings}
 use Rattle.cache_tests.specs.contracts.scenes.hands.KeeperKeeps.TheImpl as keeper
 use Rattle.cache_tests.specs.Kept.{holds_of}
 use Rattle.cache_tests.proofs.Cells.{first-cell, hold-listed, releases-cell, then-party, then-ready, won-took}
@@ -10,7 +9,7 @@ use Rattle.cache_tests.proofs.scenes.hands.let_go.Goals as goal
 
 pub of_cell-hold-requires : goal.of_cell-hold-requires
 of_cell-hold-requires g c =
-    let m = meanings keeper.ghosts.holds keeper.ghosts.entries keeper.ghosts.opening keeper.ghosts.claims keeper.ghosts.sound in
+    let m = keeper.ghosts in
     let w = c.in-Taken-Some.ensures.taken in
     let cell = c.in-Taken-Some.field-0 in
     let t = won-took m 0 (item.Cell cell) c.args.party.now c.try_take_cell.new.party w.1 in
@@ -18,7 +17,7 @@ of_cell-hold-requires g c =
 
 pub give_up-requires-clause-hold : goal.give_up-requires-clause-hold
 give_up-requires-clause-hold g c =
-    let m = meanings keeper.ghosts.holds keeper.ghosts.entries keeper.ghosts.opening keeper.ghosts.claims keeper.ghosts.sound in
+    let m = keeper.ghosts in
     let w = c.in-Taken-Some.ensures.taken in
     let cell = c.in-Taken-Some.field-0 in
     let t = won-took m 0 (item.Cell cell) c.args.party.now c.try_take_cell.new.party w.1 in
@@ -28,7 +27,7 @@ give_up-requires-clause-hold g c =
 
 pub give_cell-requires-clause-party : goal.give_cell-requires-clause-party
 give_cell-requires-clause-party g c =
-    let m = meanings keeper.ghosts.holds keeper.ghosts.entries keeper.ghosts.opening keeper.ghosts.claims keeper.ghosts.sound in
+    let m = keeper.ghosts in
     let w = c.in-Taken-Some.ensures.taken in
     let cell = c.in-Taken-Some.field-0 in
     let t = won-took m 0 (item.Cell cell) c.args.party.now c.try_take_cell.new.party w.1 in
@@ -36,7 +35,7 @@ give_cell-requires-clause-party g c =
 
 pub give_cell-requires-clause-cell : goal.give_cell-requires-clause-cell
 give_cell-requires-clause-cell g c =
-    let m = meanings keeper.ghosts.holds keeper.ghosts.entries keeper.ghosts.opening keeper.ghosts.claims keeper.ghosts.sound in
+    let m = keeper.ghosts in
     let w = c.in-Taken-Some.ensures.taken in
     let cell = c.in-Taken-Some.field-0 in
     let t = won-took m 0 (item.Cell cell) c.args.party.now c.try_take_cell.new.party w.1 in
@@ -47,7 +46,7 @@ give_cell-requires-clause-cell g c =
 
 pub returns : goal.returns
 returns g c =
-    let m = meanings keeper.ghosts.holds keeper.ghosts.entries keeper.ghosts.opening keeper.ghosts.claims keeper.ghosts.sound in
+    let m = keeper.ghosts in
     let w = c.in-Taken-Some.ensures.taken in
     let cell = c.in-Taken-Some.field-0 in
     let t = won-took m 0 (item.Cell cell) c.args.party.now c.try_take_cell.new.party w.1 in

@@ -1,6 +1,5 @@
 use Rattle.std.proofs.Common.{◌+◌, ℕ, refl, sym, ap, ◌∙◌, subst}
 use Rattle.arc_table.specs.declared.item.Item.TheVariants as item
-use Rattle.arc_table.specs.Items.{meanings}
 use Rattle.cache_tests.specs.contracts.scenes.hands.KeeperKeeps.TheImpl as keeper
 use Rattle.cache_tests.specs.Kept.{IsUnder, holds_of}
 use Rattle.cache_tests.proofs.Cells.{cell-sound, hold-listed, releases-cell, then-party, then-ready, won-took}
@@ -8,7 +7,7 @@ use Rattle.cache_tests.proofs.scenes.hands.take_over.Goals as goal
 
 pub release-requires-clause-hold : goal.release-requires-clause-hold
 release-requires-clause-hold g c =
-    let m = meanings keeper.ghosts.holds keeper.ghosts.entries keeper.ghosts.opening keeper.ghosts.claims keeper.ghosts.sound in
+    let m = keeper.ghosts in
     let w = c.in-Taken-Some.ensures.taken in
     let cell = c.in-Taken-Some.field-0 in
     let t = won-took m 0 (item.Cell cell) c.args.party.now c.try_take_cell.new.party w.1 in
@@ -18,7 +17,7 @@ release-requires-clause-hold g c =
 
 pub give_cell-requires-clause-party : goal.give_cell-requires-clause-party
 give_cell-requires-clause-party g c =
-    let m = meanings keeper.ghosts.holds keeper.ghosts.entries keeper.ghosts.opening keeper.ghosts.claims keeper.ghosts.sound in
+    let m = keeper.ghosts in
     let w = c.in-Taken-Some.ensures.taken in
     let cell = c.in-Taken-Some.field-0 in
     let t = won-took m 0 (item.Cell cell) c.args.party.now c.try_take_cell.new.party w.1 in
@@ -26,7 +25,7 @@ give_cell-requires-clause-party g c =
 
 pub give_cell-requires-clause-cell : goal.give_cell-requires-clause-cell
 give_cell-requires-clause-cell g c =
-    let m = meanings keeper.ghosts.holds keeper.ghosts.entries keeper.ghosts.opening keeper.ghosts.claims keeper.ghosts.sound in
+    let m = keeper.ghosts in
     let w = c.in-Taken-Some.ensures.taken in
     let cell = c.in-Taken-Some.field-0 in
     let t = won-took m 0 (item.Cell cell) c.args.party.now c.try_take_cell.new.party w.1 in
@@ -38,7 +37,7 @@ give_cell-requires-clause-cell g c =
 
 pub returns : goal.returns
 returns g c =
-    let m = meanings keeper.ghosts.holds keeper.ghosts.entries keeper.ghosts.opening keeper.ghosts.claims keeper.ghosts.sound in
+    let m = keeper.ghosts in
     let w = c.in-Taken-Some.ensures.taken in
     let cell = c.in-Taken-Some.field-0 in
     let t = won-took m 0 (item.Cell cell) c.args.party.now c.try_take_cell.new.party w.1 in
