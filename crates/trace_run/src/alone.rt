@@ -1,5 +1,5 @@
 //! The run of a trace with one caller over the shared cache.
-ghost use Rattle.std.specs.Prelude.{◌≡◌, ℕ, [], IfOk, List, false, map};
+ghost use Rattle.std.specs.Prelude.{◌≡◌, ℕ, [], IfOk, List, map};
 ghost use Rattle.arc_lists.specs.Adapting.{IsCapacity};
 ghost use Rattle.arc_table.specs.Geometry.{parties_of};
 ghost use Rattle.arc_table.specs.Reading.{KeepsDevice};
@@ -27,7 +27,7 @@ use crate::device::Device;
 use crate::kept_blocks::{KeptBlocks, give_back_all};
 use crate::lines::{is_of_caller, line};
 use crate::opening::open_cache;
-use crate::ran::Ran;
+use crate::ran::{Ending, Ran};
 use crate::resizing::resize_joined;
 use crate::restoring::restore_joined;
 use arc_core::Restored;
@@ -225,7 +225,7 @@ fn run_over<P: Pool, D: CacheDev, G: Gate>(
     ensures asks { IfOk result (λ ran. (calls : List Call) × AsksLines D.CacheDev trace.now.config.shards trace.now.blocks (restored_shard trace.now.config restored.now) []
         trace.now.ops ran.replies.items calls device.old device.new) }
     ensures cells { IfOk result (λ ran. AreCellsOf trace.now ran.closed) }
-    ensures fork { IfOk result (λ ran. ran.fork_failed ≡ false) }
+    ensures whole { IfOk result (λ ran. ran.ending ≡ Ending.Whole) }
     ensures pool { KeepsPool P.Pool pool.old pool.new }
     ensures device { KeepsDevice D.CacheDev device.old device.new }
 {
@@ -242,7 +242,7 @@ fn run_over<P: Pool, D: CacheDev, G: Gate>(
     Ok(Ran {
         replies,
         closed,
-        fork_failed: false,
+        ending: Ending::Whole,
     })
 }
 
@@ -262,7 +262,7 @@ pub(crate) fn run_alone<P: Pool, D: CacheDev, G: Gate>(
     ensures ran { IfOk result (λ ran. RanAlone P.Pool pool.old pool.new trace.now restored.now ran.replies.items ran.closed) }
     ensures read { IfOk result (λ ran. ReadsAlone P.Pool D.CacheDev pool.old trace.now restored.now ran.replies.items (lent_in device.old) (lent_in device.new)) }
     ensures cells { IfOk result (λ ran. AreCellsOf trace.now ran.closed) }
-    ensures fork { IfOk result (λ ran. ran.fork_failed ≡ false) }
+    ensures whole { IfOk result (λ ran. ran.ending ≡ Ending.Whole) }
     ensures pool { KeepsPool P.Pool pool.old pool.new }
     ensures device { WasLent D.CacheDev device.old device.new }
 {

@@ -22,6 +22,7 @@ use crate::device::Device;
 use crate::group::{Worked, forks, run_group};
 use crate::in_order::in_order;
 use crate::kept_blocks::KeptBlocks;
+use crate::ran::Ending;
 use crate::resizing::resize_joined;
 use crate::syncing::{AfterSync, sync_joined};
 use arc_core::Keeps;
@@ -52,8 +53,8 @@ pub(crate) struct Came<C: Keeps> {
     pub(crate) crew: Crew<C>,
     /// The replies to the lines that were answered, in their order.
     pub(crate) replies: Vec<Reply>,
-    /// Whether a fork of the pool failed, which ended the run before the next group.
-    pub(crate) fork_failed: bool,
+    /// How the lines ended.
+    pub(crate) ending: Ending,
 }
 
 /// No reads for each of so many callers.
@@ -347,7 +348,7 @@ pub(crate) fn all_groups<R: Threads + Wait + Sync, P: Pool, D: CacheDev, G: Gate
     requires rows { arcs.now.row.parties ≡ parties_of arcs.now.config }
     requires between { (restored : List Restored) × AreBetween arcs.now restored P.Pool trace.now (between_groups pool.old syncs.group syncs.next) (between_groups pool.old syncs.group syncs.next) [] crew }
     ensures stopped { (restored : List Restored) → AreBetween arcs.now restored P.Pool trace.now (between_groups pool.old syncs.group syncs.next) (between_groups pool.old syncs.group syncs.next) [] crew
-        → IfOk result (λ came. AreDone arcs.now restored P.Pool trace.now (between_groups pool.old syncs.group syncs.next) pool.new came.fork_failed came.replies.items came.crew) }
+        → IfOk result (λ came. AreDone arcs.now restored P.Pool trace.now (between_groups pool.old syncs.group syncs.next) pool.new came.ending came.replies.items came.crew) }
     ensures read { IfOk result (λ came. HaveReadSoFar D.CacheDev trace.now came.replies.items (lent_in device.old) (lent_in device.new)) }
     ensures pool { LeavesPool P.Pool pool.old pool.new }
     ensures device { WasLent D.CacheDev device.old device.new }
@@ -374,13 +375,13 @@ pub(crate) fn all_groups<R: Threads + Wait + Sync, P: Pool, D: CacheDev, G: Gate
             return Ok(Came {
                 crew,
                 replies,
-                fork_failed: true,
+                ending: Ending::Fork,
             });
         }
     }
     Ok(Came {
         crew,
         replies,
-        fork_failed: false,
+        ending: Ending::Whole,
     })
 }

@@ -1,5 +1,5 @@
 //! The run of a trace, and its report.
-ghost use Rattle.std.specs.Prelude.{◌≡◌, ◌≤◌, Bool, IfOk, false};
+ghost use Rattle.std.specs.Prelude.{◌≡◌, ◌≤◌, IfOk, false};
 ghost use Rattle.l2_dev.specs.Rebuilding.{HaveKeys};
 ghost use Rattle.trace_text.specs.Grammar.{IsFormed};
 ghost use Rattle.trace_run.specs.Outcome.{IsGenReport, IsRun};
@@ -49,8 +49,8 @@ pub(crate) fn run_trace<R: Threads + Wait + Sync, P: Pool, D: CacheDev, G: Gate>
 ) -> Result<Reported, NoMemory>
     requires formed { IsFormed trace.now }
     requires keys { HaveKeys (found_keys rebuilt) }
-    ensures run { IfOk result (λ told. (fork_failed : Bool) × IsRun P.Pool D.CacheDev pool.old pool.new (lent_in device.old) (lent_in device.new) trace.now fork_failed told.closed told.report
-        × (told.report.status ≡ report_status fork_failed told.report.replies)) }
+    ensures run { IfOk result (λ told. IsRun P.Pool D.CacheDev pool.old pool.new (lent_in device.old) (lent_in device.new) trace.now told.ending told.closed told.report
+        × (told.report.status ≡ report_status told.ending told.report.replies)) }
     ensures cells { IfOk result (λ told. AreCellsOf trace.now told.closed) }
     ensures rebuilt { IfOk result (λ told. told.report.rebuilt ≡ rebuilt) }
     ensures whole { IfOk result (λ told. told.report.short ≡ false) }
@@ -78,7 +78,8 @@ pub(crate) fn run_generated_trace<R: Threads + Wait + Sync, G: Gate>(
     gate: &G,
 ) -> Result<Reported, NoMemory>
     requires { IsInRange (command.Gen seed blocks ops) }
-    ensures { IfOk result (λ told. IsGenReport seed blocks ops told.closed told.report) }
+    ensures generated { IfOk result (λ told. IsGenReport seed blocks ops told.closed told.report) }
+    ensures status { IfOk result (λ told. told.report.status ≡ report_status told.ending told.report.replies) }
 {
     let trace = gen_trace(alloc, seed, blocks, ops)?;
     let mut pool = ZeroPool::new(u64::from(blocks) * SECTOR);

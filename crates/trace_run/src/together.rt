@@ -104,7 +104,7 @@ pub(crate) fn run_together<R: Threads + Wait + Sync, P: Pool, D: CacheDev, G: Ga
 ) -> Result<Ran, NoMemory>
     requires formed { IsFormed trace.now }
     requires keys { HaveKeys restored.now }
-    ensures ran { IfOk result (λ ran. RanTogether P.Pool pool.old pool.new trace.now ran.fork_failed restored.now ran.replies.items ran.closed) }
+    ensures ran { IfOk result (λ ran. RanTogether P.Pool pool.old pool.new trace.now ran.ending restored.now ran.replies.items ran.closed) }
     ensures cells { IfOk result (λ ran. AreCellsOf trace.now ran.closed) }
     ensures read { IfOk result (λ ran. ReadInGroups D.CacheDev trace.now.blocks trace.now.config.callers (groups_of trace.now.ops ran.replies.items) (lent_in device.old) (lent_in device.new)) }
     ensures pool { LeavesPool P.Pool pool.old pool.new }
@@ -120,12 +120,12 @@ pub(crate) fn run_together<R: Threads + Wait + Sync, P: Pool, D: CacheDev, G: Ga
     let Came {
         crew,
         replies,
-        fork_failed,
+        ending,
     } = all_groups(alloc, rt, &arcs, trace, crew, syncs, pool, device, gate)?;
     let closed = close_crew(alloc, rt, arcs, crew)?;
     Ok(Ran {
         replies,
         closed,
-        fork_failed,
+        ending,
     })
 }

@@ -40,6 +40,8 @@ use Rattle.trace_text.specs.declared.reply.Reply.TheVariants.{Capped}
 use Rattle.trace_text.specs.declared.trace.Trace.{Trace}
 use Rattle.trace_text.specs.Grammar.{IsFormed, IsPossible}
 use Rattle.trace_run.specs.declared.groups.Crew.{Crew}
+use Rattle.trace_run.specs.declared.ran.Ending.{Ending}
+use Rattle.trace_run.specs.declared.ran.Ending.TheVariants.{Fork, Full, Sync, Whole}
 use Rattle.trace_run.specs.declared.kept_blocks.KeptBlock.{KeptBlock}
 use Rattle.trace_run.specs.Acts.{acts_of_all, acts_of_caller, acts_of_callers, acts_of_drops, acts_of_lines, events_of_feeds}
 use Rattle.trace_run.specs.one_caller.Alone.{ends_in, histories_of}
@@ -52,7 +54,7 @@ use Rattle.trace_run.specs.CellEnds.{AreCellsOf}
 use Rattle.trace_run.specs.Effects.{calls_of_all}
 use Rattle.trace_run.specs.Explaining.{EndsWith, Explain, drops_at_end}
 use Rattle.trace_run.specs.callers.GroupRun.{HaveClosed, HaveStopped, RanTogether}
-use Rattle.trace_run.specs.callers.Groups.{AreDone, AreEndLines, AreNamedAll, HaveCome, IsEndLine, StoodFresh}
+use Rattle.trace_run.specs.callers.Groups.{AreDone, AreEndLines, AreNamedAll, EndsLines, HaveCome, IsEndLine, StoodFresh}
 use Rattle.trace_run.specs.KeptBlocks.{Stands, holds_in, read_of}
 use Rattle.trace_run.specs.Making.{AreNoEntries, MadeItsOwn}
 use Rattle.trace_run.specs.KeptReads.{KeptRead}
@@ -62,7 +64,7 @@ use Rattle.trace_run.specs.one_caller.OneCaller.{events_of_drops, kept_after, ke
 use Rattle.trace_run.specs.one_caller.OverShards.{AreNamed}
 use Rattle.trace_run.specs.Restores.{events_by_feeder, restores_in}
 use Rattle.trace_run.specs.Tally.{AreDeclared}
-use Rattle.trace_run.specs.callers.Together.{AreCut, IsFirstPlace, GroupLines, StoodThen, WorkInGroups, answered_ops, faults_told, groups_of, over_callers, reads_of_caller, replies_of_caller, between_groups}
+use Rattle.trace_run.specs.callers.Together.{AreCut, EndsRun, IsFirstPlace, GroupLines, StoodThen, StopsSo, WorkInGroups, answered_ops, faults_told, groups_of, over_callers, reads_of_caller, replies_of_caller, between_groups}
 use Rattle.trace_run.proofs.callers.AbsorbLemmas.{over-few}
 use Rattle.trace_run.proofs.callers.AfterEnds.{AreAfter, crew-after, crew-long}
 use Rattle.trace_run.proofs.callers.CallerActLemmas.{line-kind}
@@ -551,7 +553,7 @@ end-no-fault o r (inr sync) = ap is_pool_fault sync.5
 -- ---- what the run came to
 
 module _ {P : Type 0} (m : Meanings OnHeap) (cache : Cache) (pools : Ghosts P) (before after : P) (place : ℕ) (trace : Trace) (formed : IsFormed trace) (config : cache.config ≡ trace.config) (valid : IsConfig cache.config)
-    (fork_failed : Bool) (restored : List Restored) (rs : List Reply) (crew : Crew OnHeap) (d : AreDone cache restored pools trace (between_groups before 1 place) after fork_failed rs crew) (closed : Ended OnHeap) (h : HaveClosed m cache crew closed) where
+    (ending : Ending) (restored : List Restored) (rs : List Reply) (crew : Crew OnHeap) (d : AreDone cache restored pools trace (between_groups before 1 place) after ending rs crew) (closed : Ended OnHeap) (h : HaveClosed m cache crew closed) where
   abbrev callers : ℕ
   callers = cache.config.callers
 
@@ -638,26 +640,30 @@ module _ {P : Type 0} (m : Meanings OnHeap) (cache : Cache) (pools : Ghosts P) (
   reached-faults room = omega (arith, d.between.counted.faults room, all-faults-are)
 
   after-reads : pools.reads before < 2 ^ 63 → pools.reads after ≡ pools.reads before + sum_by pool_reads (histories_of closed)
-  after-reads room = go fork_failed refl
+  after-reads room = go ending d.ended
     where
-      go : (b : Bool) → fork_failed ≡ b → pools.reads after ≡ pools.reads before + sum_by pool_reads (histories_of closed)
-      go false is = ap (λ (p : P). pools.reads p) (d.whole is).1 ∙ reached-reads room
-      go true is = (d.failed is).1.reads (omega (arith, room, d.between.counted.reads room, reads-few, few-callers)) ∙ reached-reads room
+      go : (e : Ending) → EndsLines pools trace rs e d.reached.pool after → pools.reads after ≡ pools.reads before + sum_by pool_reads (histories_of closed)
+      go Whole is = ap (λ (p : P). pools.reads p) is.1 ∙ reached-reads room
+      go Sync is = absurd is
+      go (Full need left) is = absurd is
+      go Fork is = is.1.reads (omega (arith, room, d.between.counted.reads room, reads-few, few-callers)) ∙ reached-reads room
 
-  after-faults : pools.faults before < 2 ^ 63 → pools.faults after ≡ pools.faults before + faults_told fork_failed rs
-  after-faults room = go fork_failed refl
+  after-faults : pools.faults before < 2 ^ 63 → pools.faults after ≡ pools.faults before + faults_told ending rs
+  after-faults room = go ending d.ended
     where
-      go : (b : Bool) → fork_failed ≡ b → pools.faults after ≡ pools.faults before + faults_told b rs
-      go false is = ap (λ (p : P). pools.faults p) (d.whole is).1 ∙ reached-faults room
-      go true is = omega (arith, (d.failed is).1.faults (omega (arith, room, reached-faults room, faults-few)), reached-faults room)
+      go : (e : Ending) → EndsLines pools trace rs e d.reached.pool after → pools.faults after ≡ pools.faults before + faults_told e rs
+      go Whole is = ap (λ (p : P). pools.faults p) is.1 ∙ reached-faults room
+      go Sync is = absurd is
+      go (Full need left) is = absurd is
+      go Fork is = omega (arith, is.1.faults (omega (arith, room, reached-faults room, faults-few)), reached-faults room)
 
-  pub group-together : IsFirstPlace (pools.size before) trace.blocks place → AreCellsOf trace closed → RanTogether pools before after trace fork_failed restored rs closed
+  pub group-together : IsFirstPlace (pools.size before) trace.blocks place → AreCellsOf trace closed → RanTogether pools before after trace ending restored rs closed
   group-together first cells = record {
-    answers = go fork_failed refl;
+    answers = answered ending d.ended;
     config = h.ends.config ∙ config;
     explained = explained;
     reads = after-reads;
-    faults = λ room. subst (λ (b : Bool). pools.faults after ≡ pools.faults before + faults_told b rs) refl (after-faults room);
+    faults = after-faults;
     together = λ rebuilt is. record {
       place = place;
       first = first;
@@ -665,7 +671,7 @@ module _ {P : Type 0} (m : Meanings OnHeap) (cache : Cache) (pools : Ghosts P) (
       groups = in-groups-as pools trace.config (StoodFresh (openings_of trace) trace.config.cells) (StoodThen trace closed.cells) (fresh-then trace closed cells) (groups_of trace.ops rs) (between_groups before 1 place) d.reached
           (subst (λ (x : Config × List GroupLines). WorkInGroups pools x.0 (StoodFresh (openings_of trace) x.0.cells) x.1 (between_groups before 1 place) d.reached)
           (λ i. (config i, (sym (groups-prefix os more rs come.long) ∙ ap (λ (l : List Op). groups_of l rs) whole-ops) i)) d.between.groups);
-      whole = λ is. (d.whole is).1;
+      ended = ends ending d.ended;
       counted = λ n below.
           ap (λ (l : List Op). length (calls_of_all (replies_of_caller n l rs))) (sym whole-ops)
           ∙ (ap (λ (l : List Reply). length (calls_of_all l)) (replies-prefix trace.blocks os more rs come.long n)
@@ -677,24 +683,37 @@ module _ {P : Type 0} (m : Meanings OnHeap) (cache : Cache) (pools : Ghosts P) (
           (cut-prefix cache.config restored trace.blocks shard os more rs l.0.history come.long
           (come-cut cache restored (pools.size before) (pools.told before) trace.blocks os rs crew come all-given gave h.ended.last closing closing-long after-ends m valid closed h.ends shard l.0 l.1));
     };
-    failed = λ is.
-        let f = d.failed is in (
-          rose-then (pools.faults before) (pools.faults d.reached.pool) (pools.faults after) d.between.counted.keeps.faults f.1.rose,
-          record { some = f.0; begins = d.between.begins f.0 },
-        );
+    stopped = stops ending d.ended;
   }
     where
-      go : (b : Bool) → fork_failed ≡ b → AnswersAll (pools.size before) (pools.told before) trace.blocks (answered_ops trace fork_failed rs) rs
-      go false is = subst (λ (l : List Op). AnswersAll (pools.size before) (pools.told before) trace.blocks l rs) (take_all (length rs) trace.ops (omega (arith, (d.whole is).0)) ∙ sym (ap (λ (b : Bool). answered_ops trace b rs) is)) answers
-      go true is = subst (λ (l : List Op). AnswersAll (pools.size before) (pools.told before) trace.blocks l rs) (sym (ap (λ (b : Bool). answered_ops trace b rs) is)) answers
+      rose-then : (start reached later : ℕ) → min start last_count ≤ reached → Rose reached later → Rose start later
+      rose-then start reached later least rose = omega (arith, least, rose)
+
+      ends : (e : Ending) → EndsLines pools trace rs e d.reached.pool after → EndsRun pools trace.config (StoodThen trace closed.cells) trace rs e d.reached after
+      ends Whole is = is.1
+      ends Fork is = (is.1.keeps.size, is.1.keeps.told)
+      ends Sync is = absurd is
+      ends (Full need left) is = absurd is
+
+      stops : (e : Ending) → EndsLines pools trace rs e d.reached.pool after → StopsSo pools before after trace rs e
+      stops Whole is = tt
+      stops Fork is = (
+        rose-then (pools.faults before) (pools.faults d.reached.pool) (pools.faults after) d.between.counted.keeps.faults is.1.rose,
+        record { some = is.0; begins = d.between.begins is.0 },
+      )
+      stops Sync is = absurd is
+      stops (Full need left) is = absurd is
+
+      answered : (e : Ending) → EndsLines pools trace rs e d.reached.pool after → AnswersAll (pools.size before) (pools.told before) trace.blocks (answered_ops trace e rs) rs
+      answered Whole is = subst (λ (l : List Op). AnswersAll (pools.size before) (pools.told before) trace.blocks l rs) (take_all (length rs) trace.ops (omega (arith, is.0))) answers
+      answered Fork is = answers
+      answered Sync is = absurd is
+      answered (Full need left) is = absurd is
 
       index-history : (logs : List ShardLog) (i : ℕ) (l : ShardLog) → get_elem? logs i ≡ some l → slice_index_or (map (λ (log : ShardLog). log.history) logs) i [] ≡ l.history
       index-history [] i l at = absurd (some-ne-none l (sym at))
       index-history (x ∷ xs) zero l at = ap (λ (log : ShardLog). log.history) (some-injective x l at)
       index-history (x ∷ xs) (suc i) l at = index-history xs i l at
-
-      rose-then : (start reached later : ℕ) → min start last_count ≤ reached → Rose reached later → Rose start later
-      rose-then start reached later least rose = omega (arith, least, rose)
 
 -- what follows of two facts of an answer
 pub ok-both : {T E : Type 0} (A B R : T → Type 0) (r : Result T E) → IfOk r A → IfOk r B → ((x : T) → A x → B x → R x) → IfOk r R

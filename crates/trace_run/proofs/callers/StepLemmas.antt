@@ -31,6 +31,7 @@ use Rattle.vdev_io.specs.Calls.{MakesCalls}
 use Rattle.vdev_io.specs.Faults.{last_count, sum_of_counts}
 use Rattle.vdev_io.specs.declared.pool.Pool.{Ghosts}
 use Rattle.trace_run.specs.declared.groups.Crew.{Crew}
+use Rattle.trace_run.specs.declared.ran.Ending.TheVariants.{Fork, Whole}
 use Rattle.trace_run.specs.declared.kept_blocks.KeptBlock.{KeptBlock}
 use Rattle.trace_run.specs.Answers.{is_pool_fault}
 use Rattle.trace_run.specs.Effects.{calls_of, calls_of_all, effect_of}
@@ -469,21 +470,19 @@ pub stepped : {C P : Type 0} (cache : Cache) (restored : List Restored) (pools :
 stepped cache restored pools trace start before after replied replies done old new is step = subst (λ (b : Bool). StepsOn cache restored pools trace start before after replied replies b old new) is step
 
 pub not-stepped : {C P : Type 0} (cache : Cache) (restored : List Restored) (pools : Ghosts P) (trace : Trace) (start before after : BetweenGroups P) (replied replies : List Reply) (done : Bool) (old new : Crew C) → done ≡ false
-    → StepsOn cache restored pools trace start before after replied replies done old new → AreBetween cache restored pools trace start before replied old → length replied < length trace.ops → AreDone cache restored pools trace start after.pool true replies new
+    → StepsOn cache restored pools trace start before after replied replies done old new → AreBetween cache restored pools trace start before replied old → length replied < length trace.ops → AreDone cache restored pools trace start after.pool Fork replies new
 not-stepped {C} cache restored pools trace start before after replied replies done old new is step between more =
     let same = subst (λ (b : Bool). StepsOn cache restored pools trace start before after replied replies b old new) is step in
     record {
       reached = before;
       between = subst (λ (x : List Reply × Crew C). AreBetween cache restored pools trace start before x.0 x.1) (λ i. (sym same.0 i, sym same.1 i)) between;
-      whole = λ no. absurd (false≢true (sym no));
-      failed = λ yes. (omega (arith, ap length same.0, more), same.2);
+      ended = (omega (arith, ap length same.0, more), same.2);
     }
 
 pub all-stepped : {C P : Type 0} (cache : Cache) (restored : List Restored) (pools : Ghosts P) (trace : Trace) (start after : BetweenGroups P) (replies : List Reply) (crew : Crew C) → AreBetween cache restored pools trace start after replies crew → length trace.ops ≤ length replies
-    → AreDone cache restored pools trace start after.pool false replies crew
+    → AreDone cache restored pools trace start after.pool Whole replies crew
 all-stepped cache restored pools trace start after replies crew between all = record {
   reached = after;
   between = between;
-  whole = λ no. (omega (arith, between.few, all), refl);
-  failed = λ yes. absurd (false≢true yes);
+  ended = (omega (arith, between.few, all), refl);
 }

@@ -27,6 +27,7 @@ use Rattle.trace_text.specs.declared.reply.Reply.{Reply}
 use Rattle.trace_text.specs.declared.trace.Trace.{Trace}
 use Rattle.trace_text.specs.Grammar.{IsFormed}
 use Rattle.trace_run.specs.declared.groups.Crew.{Crew}
+use Rattle.trace_run.specs.declared.ran.Ending.{Ending}
 use Rattle.trace_run.specs.CellEnds.{AreCellsOf, HasSeenEnds, IsCellOf, end_entry, events_there}
 use Rattle.trace_run.specs.callers.GroupRun.{HaveClosed, HaveStopped}
 use Rattle.trace_run.specs.callers.Groups.{AreDone}
@@ -121,13 +122,13 @@ module _ (cache : Cache) (fin : List PartyPlace) (all : List PartyPlace) (e : En
           )
 
 module _ {P : Type 0} (cache : Cache) (pools : Ghosts P) (before after : P) (place : ℕ) (trace : Trace) (formed : IsFormed trace) (config : cache.config ≡ trace.config) (valid : IsConfig cache.config)
-    (fork_failed : Bool) (restored : List Restored) (rs : List Reply) (crew : Crew OnHeap) (d : AreDone cache restored pools trace (between_groups before 1 place) after fork_failed rs crew) (closed : Ended OnHeap) (h : HaveClosed dbuf_meanings cache crew closed) where
+    (ending : Ending) (restored : List Restored) (rs : List Reply) (crew : Crew OnHeap) (d : AreDone cache restored pools trace (between_groups before 1 place) after ending rs crew) (closed : Ended OnHeap) (h : HaveClosed dbuf_meanings cache crew closed) where
   given : HaveStopped cache h.parties
-  given = stopped dbuf_meanings cache pools before after place trace formed config valid fork_failed restored rs crew d closed h
+  given = stopped dbuf_meanings cache pools before after place trace formed config valid ending restored rs crew d closed h
 
   gone : HaveGivenBack cache (lines-acts cache restored (pools.size before) (pools.told before) trace.blocks (take (length rs) trace.ops) rs crew d.between.come) crew.feeder.own.about.openings
       (events_by_feeder cache.config restored (take (length rs) trace.ops) rs) (λ shard. seen_of cache.config shard crew.feeder) crew.kept.items h.parties
-  gone = gave dbuf_meanings cache pools before after place trace formed config valid fork_failed restored rs crew d closed h
+  gone = gave dbuf_meanings cache pools before after place trace formed config valid ending restored rs crew d closed h
 
   long : length h.ended.callers ≡ cache.config.callers
   long = omega (arith, given.count, ap length h.ended.are, length-append h.ended.callers (h.ended.feeder ∷ []))
@@ -146,7 +147,7 @@ module _ {P : Type 0} (cache : Cache) (pools : Ghosts P) (before after : P) (pla
 
   -- the callers' parties made nothing of a cell, nor did the feeder's before
   only-callers : AllByRecursion (λ o. AreNoEntries cache.config o.own.mine) h.ended.callers
-  only-callers = go h.ended.callers (λ n o at. (only-given dbuf_meanings cache pools before after place trace formed config valid fork_failed restored rs crew d closed h n o
+  only-callers = go h.ended.callers (λ n o at. (only-given dbuf_meanings cache pools before after place trace formed config valid ending restored rs crew d closed h n o
       (ap (λ (l : List PartyPlace). get_elem? l n) h.ended.are ∙ get_front h.ended.callers (h.ended.feeder ∷ []) n o at)).entries)
     where
       go : (os : List PartyPlace) → ((n : ℕ) (o : PartyPlace) → get_elem? os n ≡ some o → AreNoEntries cache.config o.own.mine) → AllByRecursion (λ o. AreNoEntries cache.config o.own.mine) os
@@ -154,10 +155,10 @@ module _ {P : Type 0} (cache : Cache) (pools : Ghosts P) (before after : P) (pla
       go (o ∷ os) each = (each 0 o refl, go os (λ n q at. each (suc n) q at))
 
   only-feeder : AreNoEntries cache.config h.ended.feeder.own.mine
-  only-feeder = (only-given dbuf_meanings cache pools before after place trace formed config valid fork_failed restored rs crew d closed h (length h.ended.callers) h.ended.feeder
+  only-feeder = (only-given dbuf_meanings cache pools before after place trace formed config valid ending restored rs crew d closed h (length h.ended.callers) h.ended.feeder
       (ap (λ (l : List PartyPlace). get_elem? l (length h.ended.callers)) h.ended.are ∙ get_last h.ended.callers h.ended.feeder)).entries
 
   pub closed-cells : AreCellsOf trace closed
   closed-cells = together-cells cache h.closing h.parties closed h.ends trace config (crew-long cache h.parties h.closing h.ended ∙ given.count) (λ n p at. (given.each n p at).0) h.ended.last
-      (after-ends dbuf_meanings cache pools before after place trace formed config valid fork_failed restored rs crew d closed h) last-at knows-last
+      (after-ends dbuf_meanings cache pools before after place trace formed config valid ending restored rs crew d closed h) last-at knows-last
       (λ i in_range. (h.ended.ended.idle only-feeder only-callers).ends i in_range ∙ ap (λ (n : ℕ). end_entry n i) feeder-number)

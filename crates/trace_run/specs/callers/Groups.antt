@@ -22,6 +22,8 @@ use Rattle.trace_text.specs.declared.trace.Trace.{Trace}
 use Rattle.vdev_io.specs.declared.pool.Pool.{Ghosts}
 use Rattle.vdev_io.specs.Faults.{Rose, last_count}
 use Rattle.trace_run.specs.declared.groups.Crew.{Crew}
+use Rattle.trace_run.specs.declared.ran.Ending.{Ending}
+use Rattle.trace_run.specs.declared.ran.Ending.TheVariants.{Whole, Fork, Sync, Full}
 use Rattle.trace_run.specs.declared.kept_blocks.KeptBlock.{KeptBlock}
 use Rattle.trace_run.specs.Acts.{acts_of_lines}
 use Rattle.trace_run.specs.Answers.{is_pool_fault}
@@ -149,12 +151,19 @@ pub record ForkFailed {P : Type 0} (pools : Ghosts P) (before after : P) : Type 
   pub faults : pools.faults before < last_count → pools.faults after ≡ pools.faults before + 1
   pub rose : Rose (pools.faults before) (pools.faults after)
 
--- All lines of the trace were done; or a fork of the pool failed before the group of the first line that isn't answered.
-pub record AreDone {C P : Type 0} (cache : Cache) (restored : List Restored) (pools : Ghosts P) (trace : Trace) (before : BetweenGroups P) (after : P) (fork_failed : Bool) (replies : List Reply) (crew : Crew C) : Type 0 where
+-- how the lines ended, with the pool that was reached
+abbrev pub EndsLines : {P : Type 0} → Ghosts P → Trace → List Reply → Ending → (reached after : P) → Type 0
+EndsLines pools trace replies Whole reached after = (length replies ≡ length trace.ops) × (after ≡ reached)
+EndsLines pools trace replies Fork reached after = (length replies < length trace.ops) × ForkFailed pools reached after
+EndsLines pools trace replies Sync reached after = ⊥
+EndsLines pools trace replies (Full need left) reached after = ⊥
+
+-- All lines of the trace were done; or a fork of the pool failed before the group of the first line that isn't answered. No sync stops, since no line makes
+-- a block dirty yet.
+pub record AreDone {C P : Type 0} (cache : Cache) (restored : List Restored) (pools : Ghosts P) (trace : Trace) (before : BetweenGroups P) (after : P) (ending : Ending) (replies : List Reply) (crew : Crew C) : Type 0 where
   pub reached : BetweenGroups P
   pub between : AreBetween cache restored pools trace before reached replies crew
-  pub whole : fork_failed ≡ false → (length replies ≡ length trace.ops) × (after ≡ reached.pool)
-  pub failed : fork_failed ≡ true → (length replies < length trace.ops) × ForkFailed pools reached.pool after
+  pub ended : EndsLines pools trace replies ending reached.pool after
 
 -- each of these lines is one of so many callers
 abbrev pub AreOfCallers : (callers : ℕ) → List Op → Type 0

@@ -41,7 +41,7 @@ returns-in-Ok-ran-clause-does g c =
       took = search rules;
       unrun = search rules;
       cache = found-kept g.D.CacheDev c.args.cache.now (device_of begun) c.back.result c.in-Ok-begin.begun.rebuilt found back;
-      reported = reported-so g.P.Pool g.D.CacheDev _ _ told.report told.closed c.deliver.result.report c.deliver.result.closed c.deliver.ensures.same (record {
+      reported = reported-so g.P.Pool g.D.CacheDev _ _ _ told.report told.closed c.deliver.result.report c.deliver.result.closed c.deliver.ensures.same (record {
         trace = trace;
         read = c.in-Ok.ensures.read;
         done = c.in-Ok.ensures.done;
@@ -49,9 +49,10 @@ returns-in-Ok-ran-clause-does g c =
         found = subst (Finds g.D.CacheDev c.args.cache.now (device_of begun)) (sym c.in-Ok-ran.ensures.rebuilt) found;
         used = subst (λ (t : Trace). WasUsed g.D.CacheDev t told.report.replies (device_of begun) c.back.result) bounded
             (was-used g.D.CacheDev c.with_bound-trace.result told.report.replies begun c.run_trace-ran.new.device c.back.result c.back.ensures kind lent c.in-Ok-ran.ensures.together);
-        fork_failed = run.0;
-        run = subst (λ (x : Trace × Option g.row.D.Denot × Option g.row.D.Denot). IsRun g.P.Pool g.D.CacheDev c.args.pool.now c.run_trace-ran.new.pool x.1 x.2 x.0 run.0 told.closed told.report) (λ i. (bounded i, before i, after i)) run.1;
-        status = run.2;
+        ending = told.ending;
+        run = subst (λ (x : Trace × Option g.row.D.Denot × Option g.row.D.Denot). IsRun g.P.Pool g.D.CacheDev c.args.pool.now c.run_trace-ran.new.pool x.1 x.2 x.0 told.ending told.closed told.report) (λ i. (bounded i, before i, after i)) run.0;
+        status = run.1;
+        told = c.deliver.ensures.full;
         whole = c.in-Ok-ran.ensures.whole;
         cells = subst (λ (t : Trace). AreCellsOf t told.closed) bounded c.in-Ok-ran.ensures.cells;
       });
