@@ -8,7 +8,7 @@ use Rattle.arc_core.specs.Operations.{Act}
 use Rattle.turn_table.specs.Places.{Place}
 use Rattle.arc_table.specs.declared.view.Known.{Known}
 use Rattle.arc_table.specs.Cache.{Cache}
-use Rattle.trace_run.specs.Making.{HasTold}
+use Rattle.trace_run.specs.Deeds.{HasToldAll}
 use Rattle.trace_text.specs.declared.op.Op.{Op}
 use Rattle.trace_text.specs.declared.op.Op.TheVariants as ops
 use Rattle.trace_text.specs.declared.reply.Reply.{Reply}
@@ -23,7 +23,7 @@ module _ {C P : Type 0} (g : Config) (pools : Ghosts P) (blocks : List Ptr) (p q
   cap-there : (c : ℕ) → HasResized g c p q → DidThere g blocks kept (ops.Cap c) (Capped c) p q
   cap-there c r = record {
     number = r.number;
-    told = λ before told. subst (λ (l : List Act). HasTold g l q) (sym (append-nil before)) (r.told before told);
+    told = λ before noted told. subst (λ (l : List Act). HasToldAll g l noted q) (sym (append-nil before)) (r.told before noted told);
     alone = λ alone shard. r.seen shard;
     all = r.all;
     joined = λ his. absurd (false≢true his);

@@ -62,7 +62,8 @@ use Rattle.dbuf_state.specs.Soundness.{IsSound, plain_cell}
 use Rattle.dbuf_state.specs.declared.event.CellEvent.{CellEvent}
 use Rattle.dbuf_state.specs.declared.event.CellEvent.TheVariants.{End}
 use Rattle.dbuf_state.specs.declared.state.Mapping.{Mapping}
-use Rattle.trace_run.specs.CellEnds.{end_entry, events_there}
+use Rattle.trace_run.specs.CellEnds.{end_entry}
+use Rattle.trace_run.specs.Deeds.{events_there}
 use Rattle.trace_run.specs.Making.{HasSeenItsEvents}
 use Rattle.trace_run.proofs.CellsLeft.{CellsGrow, LeavesCells, does-leaves, leaves-same, leaves-seen, leaves-then}
 use Rattle.trace_run.proofs.MoveLemmas.{made-only}

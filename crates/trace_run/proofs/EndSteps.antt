@@ -18,7 +18,8 @@ use Rattle.arc_table.specs.Seen.{AreSeen, HasAll, events_in, seen_of, turn_of}
 use Rattle.arc_table.specs.Telling.{opening_of}
 use Rattle.dbuf_cells.specs.Ending.{EndsFrom}
 use Rattle.dbuf_cells.specs.Turns.{KeepsClaims, OnHeap, PartyPlace, dbuf_meanings}
-use Rattle.trace_run.specs.CellEnds.{EndedCells, EndedIdle, end_entry, events_there}
+use Rattle.trace_run.specs.CellEnds.{EndedCells, EndedIdle, end_entry}
+use Rattle.trace_run.specs.Deeds.{events_there}
 use Rattle.trace_run.specs.KeptBlocks.{Stands, times}
 use Rattle.trace_run.specs.Making.{AreEventsSeen, AreNoEntries}
 use Rattle.trace_run.specs.Meeting.{AreLast, HasLearned, HaveParted, IsApart, JoinAll, Joins, MayPart, PartAll}

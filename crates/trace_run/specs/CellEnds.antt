@@ -1,11 +1,9 @@
 -- How the cells of a run end: the feeder ends them, while all other parties have joined it. And what they come to.
-use Rattle.std.specs.Prelude.{◌≡◌, ◌==◌, ℕ, false, List, [], ◌∷◌, ◌++◌, Some, filter, length, slice_get}
+use Rattle.std.specs.Prelude.{◌≡◌, ℕ, List, [], ◌∷◌, ◌++◌, Some, length, slice_get}
 use Rattle.std.specs.List.{AllByRecursion}
-use Rattle.std.specs.Option.{option_map_or}
-use Rattle.blk_ptr.specs.Hash.{shard_of}
 use Rattle.arc_core.specs.declared.config.Config.{Config}
 use Rattle.arc_core.specs.declared.event.Event.{Event}
-use Rattle.arc_core.specs.Operations.{event_key, moments, own_moments}
+use Rattle.arc_core.specs.Operations.{moments, own_moments}
 use Rattle.turn_table.specs.Places.{Place, kept as as_kept}
 use Rattle.arc_table.specs.declared.view.Known.{Known}
 use Rattle.arc_table.specs.declared.view.Line.{Line}
@@ -22,6 +20,7 @@ use Rattle.dbuf_state.specs.Numbers.{event_numbers}
 use Rattle.dbuf_state.specs.Objects.{PlainCell}
 use Rattle.dbuf_state.specs.declared.event.CellEvent.TheVariants.{End}
 use Rattle.trace_text.specs.declared.trace.Trace.{Trace}
+use Rattle.trace_run.specs.Deeds.{events_there}
 use Rattle.trace_run.specs.KeptBlocks.{Stands}
 use Rattle.trace_run.specs.Making.{AreEventsSeen, AreNoEntries}
 use Rattle.trace_run.specs.Meeting.{HaveParted, IsLevel}
@@ -30,10 +29,6 @@ use Rattle.trace_run.specs.Openings.{Knows, opening_map}
 -- the entry that the number n makes of each cell at the end
 abbrev pub end_entry : (n : ℕ) → ℕ → List Line
 end_entry n i = line.Entry (event_numbers (End n)) ∷ []
-
--- the events of these that are of keys of this shard
-abbrev pub events_there : Config → (shard : ℕ) → List Event → List Event
-events_there g shard = filter (λ e. option_map_or (λ k. shard_of g.shards k == shard) (event_key e) false)
 
 module _ {C : Type 0} where
   -- What it comes to where nobody had done anything to a cell: no event of a shard was made, and the party has seen just its ends.

@@ -18,7 +18,8 @@ use Rattle.arc_table.specs.Items.{Meanings}
 use Rattle.arc_table.specs.pact.Rule.{Pact}
 use Rattle.arc_table.specs.Seen.{events_in, seen_of, turn_of}
 use Rattle.arc_table.specs.Telling.{opening_of}
-use Rattle.trace_run.specs.Making.{AreEventsSeen, AreNoEntries, HasSeenItsEvents, HasTold, MadeItsOwn}
+use Rattle.trace_run.specs.Deeds.{HasToldAll, SameMade}
+use Rattle.trace_run.specs.Making.{AreEventsSeen, AreNoEntries, HasSeenItsEvents, MadeItsOwn}
 use Rattle.arc_table.specs.Views.{after_learned}
 use Rattle.trace_run.specs.declared.kept_blocks.KeptBlock.{KeptBlock}
 use Rattle.trace_run.specs.Acts.{acts_of_drops}
@@ -79,12 +80,12 @@ module _ {C : Type 0} where
   abbrev pub IsLevel : Config → (ℕ → List Line) → Place (Known C) → Type 0
   IsLevel g lines p = (shard : ℕ) → front_of (turn_of g shard) p.own.seen ≡ lines shard
 
-  -- A party that stands by itself with these kept reads and has done these acts.
+  -- A party that stands by itself with these kept reads and has done these acts, and nothing to a cell.
   pub record Waits (cache : Cache) (n : ℕ) (acts : List Act) (kept : List KeptBlock) (p : Place (Known C)) : Type 0 where
     pub number : p.number ≡ n
     pub alone : p.joined ≡ []
     pub stands : Stands cache p kept
-    pub told : HasTold cache.config acts p
+    pub told : HasToldAll cache.config acts [] p
 
   -- The feeder's party stands by itself and keeps nothing, and knows that the cells began so. These are the events of each shard that it made, and what
   -- it has seen begins with these.
@@ -126,6 +127,7 @@ module _ {C : Type 0} where
     pub starts : (shard : ℕ) → StartsWith (seen_of cache.config shard new) (seen_of cache.config shard old)
     pub mine : new.own.mine ≡ old.own.mine
     pub only : MadeItsOwn cache.config old → MadeItsOwn cache.config new
+    pub same : (kept : List KeptBlock) → Stands cache old kept → SameMade cache.config old new
 
   abbrev pub HaveParted : Cache → (ℕ → List Line) → (olds news : List (Place (Known C))) → Type 0
   HaveParted cache lines [] [] = Unit {0}

@@ -21,8 +21,9 @@ use crate::device_forks::{device_forks, take_fork_back};
 use crate::kept_blocks::KeptBlocks;
 use crate::lines::all_lines;
 use arc_core::Keeps;
-use arc_table::{Arcs, Party};
+use arc_table::Party;
 use blk_ptr::{NoMemory, Ptr};
+use dbuf_cells::{Cells, HeapCell};
 use std::alloc::Global;
 use std::sync::Wait;
 use std::thread;
@@ -142,11 +143,11 @@ fn enlist<C: Keeps, P: Pool, D: CacheDev>(
 }
 
 /// Does the lines of a caller over the cache device that it was given, or over none.
-fn lines_over<C: Keeps, P: Pool, D: CacheDev, G: Gate>(
+fn lines_over<P: Pool, D: CacheDev, G: Gate>(
     alloc: Global,
     rt: &impl Wait,
-    arcs: &Arcs<C>,
-    party: &mut Party<C>,
+    arcs: &Cells,
+    party: &mut Party<HeapCell>,
     kept: &mut KeptBlocks,
     pool: &mut P,
     device: &mut Option<D>,
@@ -185,11 +186,11 @@ fn lines_over<C: Keeps, P: Pool, D: CacheDev, G: Gate>(
 }
 
 /// Does the lines of a caller.
-fn work<C: Keeps, P: Pool, D: CacheDev, G: Gate>(
+fn work<P: Pool, D: CacheDev, G: Gate>(
     alloc: Global,
     rt: &impl Wait,
-    arcs: &Arcs<C>,
-    caller: &mut Caller<C, P, D>,
+    arcs: &Cells,
+    caller: &mut Caller<HeapCell, P, D>,
     blocks: &[Ptr],
     ops: &[Op],
     first: u32,
@@ -217,11 +218,11 @@ fn work<C: Keeps, P: Pool, D: CacheDev, G: Gate>(
 }
 
 /// Does the lines of all callers, each in a thread of its own where one can be started.
-fn work_all<R: Threads + Wait + Sync, C: Keeps + Send, P: Pool, D: CacheDev, G: Gate>(
+fn work_all<R: Threads + Wait + Sync, P: Pool, D: CacheDev, G: Gate>(
     alloc: Global,
     rt: &R,
-    arcs: &Arcs<C>,
-    callers: &mut [Caller<C, P, D>],
+    arcs: &Cells,
+    callers: &mut [Caller<HeapCell, P, D>],
     blocks: &[Ptr],
     ops: &[Op],
     first: u32,
@@ -233,7 +234,7 @@ fn work_all<R: Threads + Wait + Sync, C: Keeps + Send, P: Pool, D: CacheDev, G: 
     ensures tried { AllZip (HasTried arcs.now P.Pool blocks.now ops.now) callers.old callers.new }
     ensures asked { AllZip (HasAsked D.CacheDev blocks.now ops.now) callers.old callers.new }
 {
-    let each = |_: usize, caller: &mut Caller<C, P, D>|
+    let each = |_: usize, caller: &mut Caller<HeapCell, P, D>|
         requires { IsReady arcs.now blocks.now caller.old × AreDeclared (length blocks.now) ops.now × (first + length ops.now < 2 ^ 32) }
         ensures { HasTried arcs.entry.now P.Pool blocks.entry.now ops.entry.now caller.old caller.new × HasAsked D.CacheDev blocks.entry.now ops.entry.now caller.old caller.new }
     { work(alloc, rt, arcs, caller, blocks, ops, first, gate) };
@@ -301,11 +302,11 @@ fn take_all_back<C: Keeps, P: Pool, D: CacheDev>(
 
 /// Lets callers work at once, each by its own lines among these, with its own party, the reads that it keeps and its own forks of the pool and of
 /// the cache device. Then these take their forks back, by their numbers. The first of the lines has this number in the trace.
-pub(crate) fn run_group<R: Threads + Wait + Sync, C: Keeps + Send, P: Pool, D: CacheDev, G: Gate>(
+pub(crate) fn run_group<R: Threads + Wait + Sync, P: Pool, D: CacheDev, G: Gate>(
     alloc: Global,
     rt: &R,
-    arcs: &Arcs<C>,
-    parties: Vec<Party<C>>,
+    arcs: &Cells,
+    parties: Vec<Party<HeapCell>>,
     kept: Vec<KeptBlocks>,
     forks: Vec<P>,
     pool: &mut P,
@@ -314,7 +315,7 @@ pub(crate) fn run_group<R: Threads + Wait + Sync, C: Keeps + Send, P: Pool, D: C
     ops: &[Op],
     first: u32,
     gate: &G,
-) -> Result<Worked<C>, NoMemory>
+) -> Result<Worked<HeapCell>, NoMemory>
     requires parties { AreAtStart arcs.now blocks.now 0 kept.items parties.items }
     requires forks { AllByRecursion (IsFork P.Pool pool.old) forks.items }
     requires same { vec_len forks ≡ vec_len parties }

@@ -26,6 +26,7 @@ use crate::kept_blocks::{KeptBlocks, give_back, give_back_oldest};
 use arc_core::{Keeps, ReadFault};
 use arc_table::{Arcs, Party};
 use blk_ptr::{Block, NoMemory, Ptr, Shows};
+use dbuf_cells::{Cells, HeapCell};
 use std::alloc::Global;
 use std::sync::Wait;
 use trace_text::{Op, Refusal, Reply, Shown, Window};
@@ -165,10 +166,10 @@ fn drop_line<C: Keeps>(
 }
 
 /// Answers one operation of a caller.
-pub(crate) fn line<C: Keeps, P: Pool, D: CacheDev>(
+pub(crate) fn line<P: Pool, D: CacheDev>(
     rt: &impl Wait,
-    arcs: &Arcs<C>,
-    party: &mut Party<C>,
+    arcs: &Cells,
+    party: &mut Party<HeapCell>,
     kept: &mut KeptBlocks,
     pool: &mut P,
     device: &mut D,
@@ -244,11 +245,11 @@ pub(crate) fn is_of_caller(op: &Op, caller: u32) -> bool
 
 /// Answers those of these operations that are this caller's, in their order, each between the gate's calls with its number in the trace, where
 /// the first of them has this one.
-pub(crate) fn all_lines<C: Keeps, P: Pool, D: CacheDev, G: Gate>(
+pub(crate) fn all_lines<P: Pool, D: CacheDev, G: Gate>(
     alloc: Global,
     rt: &impl Wait,
-    arcs: &Arcs<C>,
-    party: &mut Party<C>,
+    arcs: &Cells,
+    party: &mut Party<HeapCell>,
     kept: &mut KeptBlocks,
     pool: &mut P,
     device: &mut D,

@@ -67,7 +67,7 @@ use Rattle.trace_run.specs.Tally.{AreDeclared}
 use Rattle.trace_run.specs.callers.Together.{AreCut, EndsRun, IsFirstPlace, GroupLines, StoodThen, StopsSo, WorkInGroups, answered_ops, faults_told, groups_of, over_callers, reads_of_caller, replies_of_caller, between_groups}
 use Rattle.trace_run.proofs.callers.AbsorbLemmas.{over-few}
 use Rattle.trace_run.proofs.callers.AfterEnds.{AreAfter, crew-after, crew-long}
-use Rattle.trace_run.proofs.callers.CallerActLemmas.{line-kind}
+use Rattle.trace_run.proofs.callers.CallerActLemmas.{line-kind, own-lines}
 use Rattle.trace_run.proofs.theorem.EndLemmas.{HasEnded, caller-ended, caller-told, callers-counted, closed-level, explains, feeder-ended, history-starts, stands-idle}
 use Rattle.trace_run.proofs.callers.GroupCounts.{caller-reads, over-add, over-one, over-same, over-zero}
 use Rattle.trace_run.proofs.callers.GroupsLemmas.{acts-append, are-cut-more, cut-prefix, feeds-append, get-left, groups-prefix, kept-append, some-same, where-append}
@@ -75,7 +75,8 @@ use Rattle.trace_run.proofs.LineLemmas.{named-after}
 use Rattle.trace_run.proofs.MappedLemmas.{explain-mapped}
 use Rattle.trace_run.proofs.callers.MeetLemmas.{starts-then}
 use Rattle.trace_run.proofs.RunLemmas.{calls-few}
-use Rattle.trace_run.proofs.one_caller.TellLemmas.{some-number}
+use Rattle.trace_run.proofs.deeds.OwnAlone.{waits-alone}
+use Rattle.trace_run.proofs.one_caller.TellLemmas.{act-caller, act-lines, some-number}
 use Rattle.trace_run.proofs.callers.TogetherLemmas.{all-answered, answered-length}
 
 -- ---- what a trace has
@@ -193,6 +194,12 @@ drops-are g blocks shard n (k ∷ ks) os rs each =
     (λ j x at. let y : n + suc j ≡ suc n + j = omega arith in subst (λ (c : ℕ). map read_of x ≡ kept_after_all blocks [] (filter (is_of_caller c) os) (replies_where (is_of_caller c) os rs)) y (each (suc j) x at))
     ∙ ap (λ (c : ℕ). drops_at_end g blocks shard c os rs) more))
 
+-- what a caller made that has done its lines and given back what it kept
+caller-alone : {C : Type 0} (cache : Cache) (blocks : List Ptr) (os : List Op) (rs : List Reply) (n : ℕ) (p : Place (Known C)) → n < cache.config.callers
+    → Waits cache n (acts_of_caller blocks n (filter (is_of_caller n) os) (replies_of_caller n os rs)) [] p → MadeItsOwn cache.config p
+caller-alone cache blocks os rs n p below waits =
+    waits-alone cache n (acts_of_caller blocks n (filter (is_of_caller n) os) (replies_of_caller n os rs)) [] p below (act-caller blocks n (filter (is_of_caller n) os) (replies_of_caller n os rs) (own-lines n os)) waits
+
 module _ {C : Type 0} (cache : Cache) (restored : List Restored) (len : ℕ) (image : Option (List ℕ)) (blocks : List Ptr) (os : List Op) (rs : List Reply) (crew : Crew C) (come : HaveCome cache restored len image blocks os rs crew) where
   -- what each caller's lines did
   abbrev pub lines-acts : ℕ → List Act
@@ -236,6 +243,12 @@ module _ {C : Type 0} (cache : Cache) (restored : List Restored) (len : ℕ) (im
     differ = differ-from 0 crew.feeder.number crew.parties.items (omega (arith, come.parties, come.feeder.number)) caller-stands;
   }
 
+  -- what a caller made are events of shards, with its own number
+  comes-alone : (k : ℕ) (below : k < cache.config.callers) → MadeItsOwn cache.config (come.each k below).party
+  comes-alone k below =
+      let b = come.each k below in
+      waits-alone cache k (lines-acts k) b.reads b.party below (act-lines k blocks [] (filter (is_of_caller k) os) (replies_of_caller k os rs) (own-lines k os)) b.come.waits
+
   -- no party has made an entry of a cell
   pub come-unwritten : AllByRecursion (λ o. AreNoEntries cache.config o.own.mine) (crew.feeder ∷ crew.parties.items)
   come-unwritten = (
@@ -243,7 +256,7 @@ module _ {C : Type 0} (cache : Cache) (restored : List Restored) (len : ℕ) (im
     all-from crew.parties.items (λ k p at.
         let b = come.each k (subst (λ (c : ℕ). k < c) come.parties (within crew.parties.items k p at)) in
         let same : b.party ≡ p = some-injective b.party p (sym b.at.party_at ∙ at) in
-        subst (λ (q : Place (Known C)). AreNoEntries cache.config q.own.mine) same b.come.waits.told.only.entries),
+        subst (λ (q : Place (Known C)). AreNoEntries cache.config q.own.mine) same (comes-alone k (subst (λ (c : ℕ). k < c) come.parties (within crew.parties.items k p at))).entries),
   )
     where
       all-from : (ps : List (Place (Known C))) → ((k : ℕ) (p : Place (Known C)) → get_elem? ps k ≡ some p → AreNoEntries cache.config p.own.mine) → AllByRecursion (λ o. AreNoEntries cache.config o.own.mine) ps
@@ -332,7 +345,7 @@ module _ {C : Type 0} (cache : Cache) (restored : List Restored) (len : ℕ) (im
 
     come-ended : (n : ℕ) (p : Place (Known C)) → get_elem? all n ≡ some p → HasEnded cache.config (acts_of_callers blocks cache.config.callers os rs) (events_by_feeder cache.config restored os rs) n p
     come-ended = each-party (λ n p. HasEnded cache.config (acts_of_callers blocks cache.config.callers os rs) (events_by_feeder cache.config restored os rs) n p)
-        (λ n p at. let w = caller-at n p at in caller-ended cache restored blocks os rs n p w.1.number w.1.stands (replies_of_caller n os rs) w.0 refl w.1.told)
+        (λ n p at. let w = caller-at n p at in caller-ended cache restored blocks os rs n p w.1.number w.1.stands (replies_of_caller n os rs) w.0 refl w.1.told.acts (caller-alone cache blocks os rs n p w.0 w.1).events)
         (feeder-ended cache restored blocks os rs cache.config.callers gone.feeder gone.fed.number gone.fed.stands refl gone.fed.fed gone.fed.only.events)
 
     -- what each caller still kept
@@ -589,7 +602,9 @@ module _ {P : Type 0} (m : Meanings OnHeap) (cache : Cache) (pools : Ghosts P) (
   -- what they made are events of shards, with their own numbers
   pub only-given : (n : ℕ) (p : PartyPlace) → get_elem? all-given n ≡ some p → MadeItsOwn cache.config p
   only-given = each-party cache restored (pools.size before) (pools.told before) trace.blocks os rs crew come all-given gave (λ n p. MadeItsOwn cache.config p)
-      (λ n p at. (caller-at cache restored (pools.size before) (pools.told before) trace.blocks os rs crew come all-given gave n p at).1.told.only) gave.fed.only
+      (λ n p at.
+      let w = caller-at cache restored (pools.size before) (pools.told before) trace.blocks os rs crew come all-given gave n p at in
+      caller-alone cache trace.blocks os rs n p w.0 w.1) gave.fed.only
 
   pub after-ends : AreAfter cache h.ended.last all-given closing
   after-ends = crew-after cache h.parties h.closing h.ended gave.lines gave.level (λ n p at. ((stopped.each n p at).1, only-given n p at))

@@ -305,7 +305,7 @@ module _ {C : Type 0} (cache : Cache) (whole : List (Place (Known C))) (crew : C
       knows = refl;
       fed = λ shard below. none-own shard;
       since = λ shard. starts_whole (seen_of cache.config shard crew.feeder);
-      only = feeder-new.new.told.only;
+      only = feeder-new.new.only;
     };
     begun = λ shard below. (seen_of cache.config shard crew.feeder, refl);
     cut = λ shard below k op at ends some_k. absurd (omega (arith, some_k));

@@ -32,7 +32,7 @@ use Rattle.dbuf_cells.specs.Turns.{PartyPlace, dbuf_meanings}
 use Rattle.txg_sync.specs.Items.{SyncItem}
 use Rattle.txg_sync.specs.Laws.{InsertsEach}
 use Rattle.txg_sync.specs.Turns.{InsertsAll, InsertsItem, inserted, there}
-use Rattle.trace_run.specs.CellEnds.{events_there}
+use Rattle.trace_run.specs.Deeds.{events_there}
 use Rattle.trace_run.specs.Making.{HasSeenItsEvents}
 use Rattle.trace_run.specs.Syncing.{inserts_in}
 use Rattle.trace_run.proofs.CellEnds.{AreCellDrops, HasDropped, dropped-none, dropped-then, look-dropped}

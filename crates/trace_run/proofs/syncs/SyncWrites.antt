@@ -20,7 +20,7 @@ use Rattle.dbuf_state.specs.declared.event.CellEvent.{CellEvent}
 use Rattle.txg_sync.specs.Items.{SyncItem}
 use Rattle.txg_sync.specs.Syncing.{Same}
 use Rattle.txg_sync.specs.Turns.{GivesFrom, SyncsCells, synced_in}
-use Rattle.trace_run.specs.CellEnds.{events_there}
+use Rattle.trace_run.specs.Deeds.{events_there}
 use Rattle.trace_run.specs.Making.{HasSeenItsEvents}
 use Rattle.trace_run.specs.Syncing.{lines_of}
 use Rattle.trace_run.proofs.CellEnds.{HasDropped, HasEndedSome, cell-drops-there, drops-unmade}

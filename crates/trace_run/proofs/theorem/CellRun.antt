@@ -28,7 +28,8 @@ use Rattle.trace_text.specs.declared.trace.Trace.{Trace}
 use Rattle.trace_text.specs.Grammar.{IsFormed}
 use Rattle.trace_run.specs.declared.groups.Crew.{Crew}
 use Rattle.trace_run.specs.declared.ran.Ending.{Ending}
-use Rattle.trace_run.specs.CellEnds.{AreCellsOf, HasSeenEnds, IsCellOf, end_entry, events_there}
+use Rattle.trace_run.specs.CellEnds.{AreCellsOf, HasSeenEnds, IsCellOf, end_entry}
+use Rattle.trace_run.specs.Deeds.{events_there}
 use Rattle.trace_run.specs.callers.GroupRun.{HaveClosed, HaveStopped}
 use Rattle.trace_run.specs.callers.Groups.{AreDone}
 use Rattle.trace_run.specs.callers.Together.{between_groups}

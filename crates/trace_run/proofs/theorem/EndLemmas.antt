@@ -49,7 +49,6 @@ use Rattle.arc_table.proofs.SeenLemmas.{get-behind}
 use Rattle.trace_run.specs.Restores.{events_by_feeder, restores_in}
 use Rattle.trace_run.specs.callers.Together.{over_callers, reads_of_caller}
 use Rattle.arc_table.specs.Told.{IsTold}
-use Rattle.trace_run.specs.Making.{HasTold}
 use Rattle.trace_run.proofs.callers.CallerActLemmas.{callers-none, callers-own, own-lines}
 use Rattle.trace_run.proofs.theorem.CloseLemmas.{closed-finds, closed-legal, closed-now, closed-sound, closed-told}
 use Rattle.trace_run.proofs.theorem.EachLemmas.{AreLast, IsLast, closed-others, closed-placed, each-own}
@@ -424,11 +423,11 @@ module _ {C : Type 0} (cache : Cache) (restored : List Restored) (blocks : List 
 
   -- a caller, by what its own lines and the end of the run do
   pub caller-ended : (own : List Reply) → n < cache.config.callers → replies_where (is_of_caller n) ops replies ≡ own
-      → HasTold cache.config (acts_of_caller blocks n (filter (is_of_caller n) ops) own) p → HasEnded cache.config all-acts all-feeds n p
-  caller-ended own below is told = record {
+      → IsTold cache.config (acts_of_caller blocks n (filter (is_of_caller n) ops) own) p → AreSeen cache.config p.number p.own.mine p.own.seen → HasEnded cache.config all-acts all-feeds n p
+  caller-ended own below is told seen = record {
     number = number;
     config = stands.of.config;
-    seen = told.only.events;
+    seen = seen;
     idle = stands-idle cache p stands;
     told = λ _ shard.
         let f : Key → ℕ = shard_of cache.config.shards in
@@ -438,7 +437,7 @@ module _ {C : Type 0} (cache : Cache) (restored : List Restored) (blocks : List 
         ∙ (callers-own f shard blocks ops replies cache.config.callers n below
         ∙ (ap (λ (r : List Reply). acts_in f shard n (mine r)) is
         ∙ ap (λ (x : ℕ). acts_in f shard x (mine own)) (sym number))) in
-        subst (λ (acts : List Act). Tell acts (own_moments p.number (moments (opening_of cache.config) (seen_of cache.config shard p)))) (sym same) (told.acts shard);
+        subst (λ (acts : List Act). Tell acts (own_moments p.number (moments (opening_of cache.config) (seen_of cache.config shard p)))) (sym same) (told shard);
     fed = λ is_feeder. absurd (omega (arith, below, is_feeder));
   }
 

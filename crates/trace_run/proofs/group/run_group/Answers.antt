@@ -4,6 +4,7 @@ use Rattle.std.proofs.Math.Seq.{take-append_seam}
 use Rattle.std.proofs.lemmas.Result.{IfOk-weaker}
 use Rattle.dbuf_state.proofs.CellLemmas.{all-at}
 use Rattle.trace_text.specs.declared.reply.Reply.{Reply}
+use Rattle.dbuf_cells.specs.Turns.{OnHeap}
 use Rattle.trace_run.specs.Devices.{lent_in}
 use Rattle.trace_run.specs.callers.DeviceForks.{AllAsk, HasAsked, HaveRead, TakesForksBack}
 use Rattle.trace_run.specs.callers.Callers.{AbsorbsAll, HasTried, HaveComeBack, IsReady}
@@ -26,11 +27,11 @@ work_all-requires-clause-ready g c = λ k lives i d lt.
 
 pub returns-clause-worked : goal.returns-clause-worked
 returns-clause-worked g c =
-    let news : List (Caller g.row.C.Denot g.row.P.Denot g.row.D.Denot) = c.work_all.new.callers in
-    let tried = subst (λ (l : List (Caller g.row.C.Denot g.row.P.Denot g.row.D.Denot)). AllZip (HasTried c.args.arcs.now g.P.Pool c.args.blocks.now c.args.ops.now) l news) c.deref_mut.ensures.value c.work_all.ensures.tried in
+    let news : List (Caller OnHeap g.row.P.Denot g.row.D.Denot) = c.work_all.new.callers in
+    let tried = subst (λ (l : List (Caller OnHeap g.row.P.Denot g.row.D.Denot)). AllZip (HasTried c.args.arcs.now g.P.Pool c.args.blocks.now c.args.ops.now) l news) c.deref_mut.ensures.value c.work_all.ensures.tried in
     let long : c.in_ok-callers.callers.len ≡ length news = let a = c.work_all.auto.callers in let b = c.deref_mut.ensures.len in omega arith in
     let same = written c.in_ok-callers.callers.len news c.in_ok-callers.callers.items long in
-    let absorbs = subst (λ (l : List (Caller g.row.C.Denot g.row.P.Denot g.row.D.Denot)). AbsorbsAll g.P.Pool (map (λ caller. caller.pool) l) c.args.pool.now c.take_all_back.new.pool) same c.take_all_back.ensures.absorbs in
+    let absorbs = subst (λ (l : List (Caller OnHeap g.row.P.Denot g.row.D.Denot)). AbsorbsAll g.P.Pool (map (λ caller. caller.pool) l) c.args.pool.now c.take_all_back.new.pool) same c.take_all_back.ensures.absorbs in
     let many : length c.args.parties.items ≡ c.args.parties.len = let o = c.args.parties.ok in omega arith in
     IfOk-weaker c.take_all_back.result
     (λ worked. HaveComeBack (take c.in_ok-callers.callers.len (news ++ drop (length news) c.in_ok-callers.callers.items)) (map (λ (v : Vec Reply Global). v.items) worked.replies.items) worked.parties.items worked.kept.items)
@@ -39,19 +40,19 @@ returns-clause-worked g c =
     subst (λ (n : ℕ). HaveWorked c.args.arcs.now g.P.Pool c.args.blocks.now c.args.ops.now n c.args.pool.now c.take_all_back.new.pool (map (λ (v : Vec Reply Global). v.items) worked.replies.items) c.args.kept.items c.args.parties.items worked.kept.items worked.parties.items) many
     (have-worked c.args.arcs.now g.P.Pool c.args.blocks.now c.args.ops.now c.args.pool.now c.take_all_back.new.pool c.args.parties.items c.args.kept.items c.args.forks.items c.in_ok-callers.callers.items news
     (map (λ (v : Vec Reply Global). v.items) worked.replies.items) worked.kept.items worked.parties.items c.requires.parties c.requires.forks c.in_ok-callers.ensures.enlisted tried absorbs
-    (subst (λ (l : List (Caller g.row.C.Denot g.row.P.Denot g.row.D.Denot)). HaveComeBack l (map (λ (v : Vec Reply Global). v.items) worked.replies.items) worked.parties.items worked.kept.items) same came)))
+    (subst (λ (l : List (Caller OnHeap g.row.P.Denot g.row.D.Denot)). HaveComeBack l (map (λ (v : Vec Reply Global). v.items) worked.replies.items) worked.parties.items worked.kept.items) same came)))
     c.take_all_back.ensures.came
 
 -- what the callers asked the device, which has their forks back
 pub returns-clause-read : goal.returns-clause-read
 returns-clause-read g c =
-    let news : List (Caller g.row.C.Denot g.row.P.Denot g.row.D.Denot) = c.work_all.new.callers in
-    let olds : List (Caller g.row.C.Denot g.row.P.Denot g.row.D.Denot) = c.in_ok-callers.callers.items in
-    let asked = subst (λ (l : List (Caller g.row.C.Denot g.row.P.Denot g.row.D.Denot)). AllZip (HasAsked g.D.CacheDev c.args.blocks.now c.args.ops.now) l news) c.deref_mut.ensures.value c.work_all.ensures.asked in
+    let news : List (Caller OnHeap g.row.P.Denot g.row.D.Denot) = c.work_all.new.callers in
+    let olds : List (Caller OnHeap g.row.P.Denot g.row.D.Denot) = c.in_ok-callers.callers.items in
+    let asked = subst (λ (l : List (Caller OnHeap g.row.P.Denot g.row.D.Denot)). AllZip (HasAsked g.D.CacheDev c.args.blocks.now c.args.ops.now) l news) c.deref_mut.ensures.value c.work_all.ensures.asked in
     let long : c.in_ok-callers.callers.len ≡ length news = let a = c.work_all.auto.callers in let b = c.deref_mut.ensures.len in omega arith in
     let same = written c.in_ok-callers.callers.len news olds long in
     let given : List (Option g.row.D.Denot) = c.in_ok-devices.devices.items in
-    let done : List (Option g.row.D.Denot) = map (λ (x : Caller g.row.C.Denot g.row.P.Denot g.row.D.Denot). x.device) news in
+    let done : List (Option g.row.D.Denot) = map (λ (x : Caller OnHeap g.row.P.Denot g.row.D.Denot). x.device) news in
     let count : length given ≡ c.args.parties.len = let a = c.in_ok-devices.ensures.count in let b = c.in_ok-devices.devices.ok.0 in let l = c.len.ensures in let o = c.args.parties.ok.0 in omega arith in
     IfOk-weaker c.take_all_back.result
     (λ worked. HaveComeBack (take c.in_ok-callers.callers.len (news ++ drop (length news) olds)) (map (λ (v : Vec Reply Global). v.items) worked.replies.items) worked.parties.items worked.kept.items)
@@ -65,8 +66,8 @@ returns-clause-read g c =
       asked = subst (λ (l : List (Option g.row.D.Denot)). AllAsk g.D.CacheDev c.args.blocks.now c.args.ops.now 0 l done (map (λ (v : Vec Reply Global). v.items) worked.replies.items)) c.in_ok-callers.ensures.devices
           (have-asked c.args.arcs.now g.P.Pool c.args.blocks.now c.args.ops.now g.D.CacheDev c.args.pool.now c.args.parties.items c.args.kept.items c.args.forks.items olds news
           (map (λ (v : Vec Reply Global). v.items) worked.replies.items) c.requires.parties c.requires.forks c.in_ok-callers.ensures.enlisted asked
-          (subst (λ (l : List (Caller g.row.C.Denot g.row.P.Denot g.row.D.Denot)). HaveComeBack l (map (λ (v : Vec Reply Global). v.items) worked.replies.items) worked.parties.items worked.kept.items) same came).replied);
-      back = subst (λ (l : List (Caller g.row.C.Denot g.row.P.Denot g.row.D.Denot)). TakesForksBack g.D.CacheDev (map (λ caller. caller.device) l) (lent_in c.device_forks.new.device) (lent_in c.take_all_back.new.device)) same c.take_all_back.ensures.back;
+          (subst (λ (l : List (Caller OnHeap g.row.P.Denot g.row.D.Denot)). HaveComeBack l (map (λ (v : Vec Reply Global). v.items) worked.replies.items) worked.parties.items worked.kept.items) same came).replied);
+      back = subst (λ (l : List (Caller OnHeap g.row.P.Denot g.row.D.Denot)). TakesForksBack g.D.CacheDev (map (λ caller. caller.device) l) (lent_in c.device_forks.new.device) (lent_in c.take_all_back.new.device)) same c.take_all_back.ensures.back;
     })
     c.take_all_back.ensures.came
 
