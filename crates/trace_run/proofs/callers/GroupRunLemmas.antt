@@ -38,7 +38,7 @@ use Rattle.trace_text.specs.declared.op.Op.TheVariants as ops
 use Rattle.trace_text.specs.declared.reply.Reply.{Reply}
 use Rattle.trace_text.specs.declared.reply.Reply.TheVariants.{Capped}
 use Rattle.trace_text.specs.declared.trace.Trace.{Trace}
-use Rattle.trace_text.specs.Grammar.{IsFormed, IsPossible}
+use Rattle.trace_text.specs.Grammar.{IsFormed, IsOperation, IsPossible}
 use Rattle.trace_run.specs.declared.groups.Crew.{Crew}
 use Rattle.trace_run.specs.declared.ran.Ending.{Ending}
 use Rattle.trace_run.specs.declared.ran.Ending.TheVariants.{Fork, Full, Sync, Whole}
@@ -48,6 +48,7 @@ use Rattle.trace_run.specs.one_caller.Alone.{ends_in, histories_of}
 use Rattle.trace_run.specs.Answers.{AnswersAll, is_pool_fault}
 use Rattle.trace_run.specs.callers.Callers.{AreAtStart}
 use Rattle.dbuf_cells.specs.Turns.{OnHeap, PartyPlace}
+use Rattle.trace_run.specs.ObjectLines.{IsSized}
 use Rattle.trace_run.specs.Openings.{openings_of}
 use Rattle.trace_run.proofs.callers.SyncRun.{fresh-then, in-groups-as}
 use Rattle.trace_run.specs.CellEnds.{AreCellsOf}
@@ -86,8 +87,21 @@ module _ (trace : Trace) (formed : IsFormed trace) where
   possible-at k op at = subst (IsPossible trace.config trace.blocks) (get_or_from_slice_get trace.ops k op op at)
       (All-get_or (IsPossible trace.config trace.blocks) trace.ops k op (slice_get_within trace.ops k op at) formed.ops)
 
+  operation-sized : (callers shards : ℕ) (op : Op) → IsOperation callers shards op → IsSized op
+  operation-sized callers shards (ops.Put n t at size fill) possible = possible.3
+  operation-sized callers shards (ops.Get n t at window) possible = tt
+  operation-sized callers shards (ops.Patch n t at from bytes) possible = tt
+  operation-sized callers shards (ops.Pin n t at) possible = tt
+  operation-sized callers shards (ops.Unpin n at) possible = tt
+  operation-sized callers shards (ops.Read n t x window) possible = tt
+  operation-sized callers shards (ops.Hold n t x) possible = tt
+  operation-sized callers shards (ops.Drop n x) possible = tt
+  operation-sized callers shards ops.Feed possible = tt
+  operation-sized callers shards (ops.Txg t) possible = tt
+  operation-sized callers shards (ops.Cap c) possible = tt
+
   pub all-declared : AreDeclared (length trace.blocks) trace.ops
-  all-declared k op at = (possible-at k op at).1
+  all-declared k op at = let possible = possible-at k op at in (possible.1, operation-sized trace.config.callers trace.config.shards op possible.0)
 
   caller-below : (op : Op) → IsPossible trace.config trace.blocks op → (n : ℕ) → caller_of op ≡ Some n → n < trace.config.callers
   caller-below (ops.Read m t x w) possible n of = subst (λ (k : ℕ). k < trace.config.callers) (some-number m n of) possible.0.0

@@ -25,9 +25,10 @@ use Rattle.trace_text.specs.declared.reply.Refusal.{Refusal}
 use Rattle.trace_text.specs.declared.reply.Refusal.TheVariants as refusals
 use Rattle.trace_text.specs.declared.reply.Reply.{Reply}
 use Rattle.trace_text.specs.declared.reply.Reply.TheVariants as replies
-use Rattle.trace_run.specs.callers.WorkLines.{DidWorkLine, IsWorkOf, acts_with_op, is_line_of}
+use Rattle.trace_run.specs.callers.WorkLines.{DidWorkLine, IsWorkOf, acts_with_op}
 use Rattle.trace_run.specs.Deeds.{HasToldAll, Noted, acts_of_events, noted_in}
 use Rattle.trace_run.specs.KeptReads.{KeptRead}
+use Rattle.trace_run.specs.Lines.{is_of_caller}
 use Rattle.trace_run.specs.ObjectLines.{Did, DidGet, DidObjectLine, DidPatch, DidPin, DidPut, DidUnpin, DidWork, IsBrought, RefusesBlock, RefusesBytes, RefusesUnpin, ReleasesFor, its_number, on_object}
 use Rattle.trace_run.specs.Objects.{Brought, IsAnswered, IsRefusedWith, NotesOwn, Nothing, Loaded, Refused, Work, loads_of}
 use Rattle.trace_run.proofs.deeds.OperatesDone.{AreOfCell, both-of, evictions-of, release-of}
@@ -201,7 +202,7 @@ module _ {P D : Type 0} (pools : PoolGhosts P) (devices : DeviceGhosts D) (g : C
   unpin-work at (replies.Capped c) d none = absurd d
 
   -- each line on an object has such a work
-  pub object-work : (op : Op) (reply : Reply) → is_line_of p.number op ≡ true → DidObjectLine pools devices g before now p q op reply → IsSome (on_object op) → HasWork op reply
+  pub object-work : (op : Op) (reply : Reply) → is_of_caller p.number op ≡ true → DidObjectLine pools devices g before now p q op reply → IsSome (on_object op) → HasWork op reply
   object-work (ops.Get n t at w) reply his d some = subst (λ (m : ℕ). HasWork (ops.Get m t at w) reply) (sym (eqb-true n p.number his)) (get-work t at w reply d)
   object-work (ops.Patch n t at from bytes) reply his d some = subst (λ (m : ℕ). HasWork (ops.Patch m t at from bytes) reply) (sym (eqb-true n p.number his)) (patch-work t at from bytes reply d)
   object-work (ops.Pin n t at) reply his d some = subst (λ (m : ℕ). HasWork (ops.Pin m t at) reply) (sym (eqb-true n p.number his)) (pin-work t at reply d)

@@ -1,6 +1,5 @@
 -- A caller's lines, those on objects among them, each with what it did beside its reply; and what such lines come to, one after another.
-use Rattle.std.specs.Prelude.{◌≡◌, ℕ, ◌==◌, Bool, false, List, [], ◌∷◌, ◌++◌, Option, Some, None}
-use Rattle.std.specs.Option.{option_map_or}
+use Rattle.std.specs.Prelude.{◌≡◌, ℕ, List, [], ◌∷◌, ◌++◌, Option, Some, None}
 use Rattle.blk_ptr.specs.declared.ptr.Ptr.{Ptr}
 use Rattle.vdev_io.specs.declared.device.CacheDev.{Ghosts as DeviceGhosts}
 use Rattle.vdev_io.specs.declared.pool.Pool.{Ghosts as PoolGhosts}
@@ -25,23 +24,6 @@ use Rattle.trace_run.specs.DeviceReads.{LineAsks}
 use Rattle.trace_run.specs.ObjectLines.{DidObjectLine, OnObject, on_object}
 use Rattle.trace_run.specs.Objects.{Brought, GoesTogether, Line, Loaded, NotesNothing, NotesOwn, Nothing, OwnEvent, Refused, Work, acts_of_bringing, no_work, own_event}
 use Rattle.trace_run.specs.one_caller.OneCaller.{kept_after}
-
--- the caller of a line, where it is a caller's
-abbrev pub caller_of_line : Op → Option ℕ
-caller_of_line (ops.Read n t x window) = Some n
-caller_of_line (ops.Hold n t x) = Some n
-caller_of_line (ops.Drop n x) = Some n
-caller_of_line (ops.Get n t at w) = Some n
-caller_of_line (ops.Put n t at size fill) = Some n
-caller_of_line (ops.Patch n t at from bytes) = Some n
-caller_of_line (ops.Pin n t at) = Some n
-caller_of_line (ops.Unpin n at) = Some n
-caller_of_line ops.Feed = None
-caller_of_line (ops.Txg t) = None
-caller_of_line (ops.Cap c) = None
-
-abbrev pub is_line_of : ℕ → Op → Bool
-is_line_of n op = option_map_or (λ (m : ℕ). m == n) (caller_of_line op) false
 
 -- what a reply says was done, where this was brought for its line: a block that was brought was read, whatever the line did with it then
 abbrev pub effect_with : Brought → Reply → Effect
@@ -139,10 +121,18 @@ module _ {P D : Type 0} (pools : PoolGhosts P) (devices : DeviceGhosts D) (g : C
       × LineAsks devices blocks l.op l.reply old.outside.device new.outside.device
   DidLineBy (Some on) l old new = (new.kept ≡ old.kept) × DidWorkLine pools devices g blocks old.kept old.outside new.outside old.party new.party l
 
+  -- the operation was answered so, with some work beside its reply
+  abbrev pub DidWith : Op → Reply → (old new : AtWork P D) → Type 0
+  DidWith op reply old new = (work : Work) × DidLineBy (on_object op) (record { op = op; reply = reply; work = work }) old new
+
   -- the lines were answered, each with this work
   abbrev pub DidAll : List Line → (old new : AtWork P D) → Type 0
   DidAll [] old new = new ≡ old
   DidAll (l ∷ ls) old new = (next : AtWork P D) × DidLineBy (on_object l.op) l old next × DidAll ls next new
+
+-- a caller between its lines
+abbrev pub at_work : {P D : Type 0} → PartyPlace → List KeptRead → Outside P D → AtWork P D
+at_work party kept outside = record { party = party; kept = kept; outside = outside }
 
 -- the lines of these operations with these replies, each with some work
 abbrev pub AreLinesOf : List Op → List Reply → List Line → Type 0
@@ -152,3 +142,9 @@ AreLinesOf [] (r ∷ rs) ls = ⊥
 AreLinesOf (op ∷ ops_left) [] ls = ⊥
 AreLinesOf (op ∷ ops_left) (r ∷ rs) [] = ⊥
 AreLinesOf (op ∷ ops_left) (r ∷ rs) (l ∷ ls) = (l.op ≡ op) × (l.reply ≡ r) × AreLinesOf ops_left rs ls
+
+-- the operations were answered so, one after another, each with some work beside its reply
+pub record DidOps {P D : Type 0} (pools : PoolGhosts P) (devices : DeviceGhosts D) (g : Config) (blocks : List Ptr) (ops_done : List Op) (replied : List Reply) (old new : AtWork P D) : Type 0 where
+  pub lines : List Line
+  pub are : AreLinesOf ops_done replied lines
+  pub did : DidAll pools devices g blocks lines old new
