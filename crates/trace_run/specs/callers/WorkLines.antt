@@ -3,7 +3,7 @@ use Rattle.std.specs.Prelude.{◌≡◌, ℕ, List, [], ◌∷◌, ◌++◌, Opt
 use Rattle.blk_ptr.specs.declared.ptr.Ptr.{Ptr}
 use Rattle.vdev_io.specs.declared.device.CacheDev.{Ghosts as DeviceGhosts}
 use Rattle.vdev_io.specs.declared.pool.Pool.{Ghosts as PoolGhosts}
-use Rattle.vdev_io.specs.Calls.{Call, KeepsPool}
+use Rattle.vdev_io.specs.Calls.{Call, KeepsPool, MakesCalls}
 use Rattle.arc_core.specs.declared.config.Config.{Config}
 use Rattle.arc_core.specs.Operations.{Act}
 use Rattle.arc_table.specs.Geometry.{cell_number}
@@ -20,7 +20,7 @@ use Rattle.trace_run.specs.callers.CallerLines.{DidLine, at}
 use Rattle.trace_run.specs.Deeds.{HasToldAll, Noted}
 use Rattle.trace_run.specs.Effects.{Effect, Answered, calls_of, effect_of}
 use Rattle.trace_run.specs.KeptReads.{KeptRead}
-use Rattle.trace_run.specs.DeviceReads.{LineAsks}
+use Rattle.trace_run.specs.DeviceReads.{AsksFor, LineAsks}
 use Rattle.trace_run.specs.ObjectLines.{DidObjectLine, OnObject, on_object}
 use Rattle.trace_run.specs.Objects.{Brought, GoesTogether, Line, Loaded, NotesNothing, NotesOwn, Nothing, OwnEvent, Refused, Work, acts_of_bringing, no_work, own_event}
 use Rattle.trace_run.specs.one_caller.OneCaller.{kept_after}
@@ -95,13 +95,22 @@ pub record IsWorkOf (g : Config) (n : ℕ) (l : Line) : Type 0 where
 
 -- ---- a line on an object, with its work
 
--- The line came to this, by what the contract of its call says; its work fits it; and its acts and its entries of cells are told.
+-- how many bytes are asked for at once, for what was brought
+abbrev pub size_brought : Brought → ℕ
+size_brought Nothing = 0
+size_brought (Loaded ptr from) = ptr.key.size
+size_brought (Refused ptr) = ptr.key.size
+
+-- The line came to this, by what the contract of its call says; its work fits it; its acts and its entries of cells are told; and the pool and the cache device were
+-- read for what was brought, and for nothing else.
 pub record DidWorkLine {P D : Type 0} (pools : PoolGhosts P) (devices : DeviceGhosts D) (g : Config) (blocks : List Ptr) (kept : List KeptRead) (before now : Outside P D) (p q : PartyPlace) (l : Line) : Type 0 where
   pub came : DidObjectLine pools devices g before now p q l.op l.reply
   pub fits : IsWorkOf g p.number l
   pub number : q.number ≡ p.number
   pub told : (did : List Act) (had : List Noted) → HasToldAll g did had p → HasToldAll g (did ++ acts_with g blocks kept l) (had ++ l.work.noted) q
   pub joined : q.joined ≡ p.joined
+  pub calls : MakesCalls pools (calls_of (effect_with l.work.brought l.reply)) before.pool now.pool
+  pub asked : AsksFor devices (size_brought l.work.brought) (effect_with l.work.brought l.reply) before.device now.device
   pub pool : KeepsPool pools before.pool now.pool
   pub device : KeepsDevice devices before.device now.device
 
