@@ -25,7 +25,7 @@ ghost use Rattle.trace_run.specs.Restores.{restored_shard, restores_in};
 use crate::cells::end_cells_joined;
 use crate::device::Device;
 use crate::kept_blocks::{KeptBlocks, give_back_all};
-use crate::lines::{is_of_caller, line};
+use crate::lines::{is_of_caller, is_on_object, line};
 use crate::opening::open_cache;
 use crate::ran::{Ending, Ran};
 use crate::resizing::resize_joined;
@@ -200,8 +200,14 @@ fn lines_alone<P: Pool, D: CacheDev, G: Gate>(
             replies.push(reply)?;
             continue;
         }
+        // A trace of one caller with a line on an object is refused before it is run.
+        if is_on_object(op) {
+            return Err(NoMemory);
+        }
         gate.before(caller, number as u32);
-        let reply = line(rt, arcs, &mut party, kept, pool, device, blocks, op)?;
+        let reply = line(
+            alloc, rt, arcs, &mut party, kept, pool, device, blocks, op,
+        )?;
         gate.after(caller, number as u32);
         replies.push(reply)?;
     }

@@ -8,6 +8,7 @@ ghost use Rattle.arc_table.specs.declared.view.Line.{Line};
 ghost use Rattle.l2_dev.specs.Rebuilding.{HaveKeys};
 ghost use Rattle.trace_text.specs.Grammar.{IsFormed};
 ghost use Rattle.trace_run.specs.CellEnds.{AreCellsOf};
+ghost use Rattle.trace_run.specs.Deeds.{Noted};
 ghost use Rattle.trace_run.specs.Devices.{WasLent, lent_in};
 ghost use Rattle.trace_run.specs.callers.DeviceForks.{ReadInGroups};
 ghost use Rattle.trace_run.specs.callers.Together.{groups_of};
@@ -50,7 +51,7 @@ fn close_crew(
 ) -> Result<Closed<HeapCell>, NoMemory>
     requires rows { arcs.row.parties ≡ parties_of arcs.config }
     requires count { vec_len crew.kept ≡ arcs.config.callers }
-    requires callers { (acts : ℕ → List Act) × AreWaiting arcs acts 0 crew.kept.items crew.parties.items }
+    requires callers { (acts : ℕ → List Act) × (noted : ℕ → List Noted) × AreWaiting arcs acts noted 0 crew.kept.items crew.parties.items }
     requires feeder { (openings : List (List ℕ)) × (feeds since : (shard : ℕ) → List Event) × IsFed arcs openings feeds since crew.feeder }
     ensures { IfOk result (λ closed. HaveClosed ⟦<HeapCell as Keeps>⟧ arcs crew closed) }
 {

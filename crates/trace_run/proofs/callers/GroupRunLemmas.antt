@@ -38,7 +38,7 @@ use Rattle.trace_text.specs.declared.op.Op.TheVariants as ops
 use Rattle.trace_text.specs.declared.reply.Reply.{Reply}
 use Rattle.trace_text.specs.declared.reply.Reply.TheVariants.{Capped}
 use Rattle.trace_text.specs.declared.trace.Trace.{Trace}
-use Rattle.trace_text.specs.Grammar.{IsFormed, IsPossible}
+use Rattle.trace_text.specs.Grammar.{IsFormed, IsOperation, IsPossible}
 use Rattle.trace_run.specs.declared.groups.Crew.{Crew}
 use Rattle.trace_run.specs.declared.ran.Ending.{Ending}
 use Rattle.trace_run.specs.declared.ran.Ending.TheVariants.{Fork, Full, Sync, Whole}
@@ -48,6 +48,7 @@ use Rattle.trace_run.specs.one_caller.Alone.{ends_in, histories_of}
 use Rattle.trace_run.specs.Answers.{AnswersAll, is_pool_fault}
 use Rattle.trace_run.specs.callers.Callers.{AreAtStart}
 use Rattle.dbuf_cells.specs.Turns.{OnHeap, PartyPlace}
+use Rattle.trace_run.specs.ObjectLines.{IsSized}
 use Rattle.trace_run.specs.Openings.{openings_of}
 use Rattle.trace_run.proofs.callers.SyncRun.{fresh-then, in-groups-as}
 use Rattle.trace_run.specs.CellEnds.{AreCellsOf}
@@ -59,6 +60,7 @@ use Rattle.trace_run.specs.KeptBlocks.{Stands, holds_in, read_of}
 use Rattle.trace_run.specs.Making.{AreNoEntries, MadeItsOwn}
 use Rattle.trace_run.specs.KeptReads.{KeptRead}
 use Rattle.trace_run.specs.Lines.{caller_of, is_of_caller, replies_where}
+use Rattle.trace_run.specs.Deeds.{Noted}
 use Rattle.trace_run.specs.Meeting.{AllGave, AreWaiting, HaveGivenBack, IsApart, IsLevel, MayGoOn, Waits, drops_from}
 use Rattle.trace_run.specs.one_caller.OneCaller.{events_of_drops, kept_after, kept_after_all}
 use Rattle.trace_run.specs.one_caller.OverShards.{AreNamed}
@@ -86,8 +88,21 @@ module _ (trace : Trace) (formed : IsFormed trace) where
   possible-at k op at = subst (IsPossible trace.config trace.blocks) (get_or_from_slice_get trace.ops k op op at)
       (All-get_or (IsPossible trace.config trace.blocks) trace.ops k op (slice_get_within trace.ops k op at) formed.ops)
 
+  operation-sized : (callers shards : ℕ) (op : Op) → IsOperation callers shards op → IsSized op
+  operation-sized callers shards (ops.Put n t at size fill) possible = possible.3
+  operation-sized callers shards (ops.Get n t at window) possible = tt
+  operation-sized callers shards (ops.Patch n t at from bytes) possible = tt
+  operation-sized callers shards (ops.Pin n t at) possible = tt
+  operation-sized callers shards (ops.Unpin n at) possible = tt
+  operation-sized callers shards (ops.Read n t x window) possible = tt
+  operation-sized callers shards (ops.Hold n t x) possible = tt
+  operation-sized callers shards (ops.Drop n x) possible = tt
+  operation-sized callers shards ops.Feed possible = tt
+  operation-sized callers shards (ops.Txg t) possible = tt
+  operation-sized callers shards (ops.Cap c) possible = tt
+
   pub all-declared : AreDeclared (length trace.blocks) trace.ops
-  all-declared k op at = (possible-at k op at).1
+  all-declared k op at = let possible = possible-at k op at in (possible.1, operation-sized trace.config.callers trace.config.shards op possible.0)
 
   caller-below : (op : Op) → IsPossible trace.config trace.blocks op → (n : ℕ) → caller_of op ≡ Some n → n < trace.config.callers
   caller-below (ops.Read m t x w) possible n of = subst (λ (k : ℕ). k < trace.config.callers) (some-number m n of) possible.0.0
@@ -127,43 +142,43 @@ module _ {C : Type 0} (cache : Cache) where
 -- ---- where all callers did their work
 
 -- callers that wait, by their places
-module _ {C : Type 0} (cache : Cache) (acts : ℕ → List Act) where
+module _ {C : Type 0} (cache : Cache) (acts : ℕ → List Act) (noted : ℕ → List Noted) where
   wait-from : (n : ℕ) (ks : List (List KeptBlock)) (ps : List (Place (Known C))) → length ps ≡ length ks
-      → ((k : ℕ) → k < length ks → (x : List KeptBlock) × (p : Place (Known C)) × (get_elem? ks k ≡ some x) × (get_elem? ps k ≡ some p) × Waits cache (n + k) (acts (n + k)) x p) → AreWaiting cache acts n ks ps
+      → ((k : ℕ) → k < length ks → (x : List KeptBlock) × (p : Place (Known C)) × (get_elem? ks k ≡ some x) × (get_elem? ps k ≡ some p) × Waits cache (n + k) (acts (n + k)) (noted (n + k)) x p) → AreWaiting cache acts noted n ks ps
   wait-from n [] [] same each = tt
   wait-from n [] (p ∷ ps) same each = absurd (omega (arith, same))
   wait-from n (k ∷ ks) [] same each = absurd (omega (arith, same))
   wait-from n (k ∷ ks) (p ∷ ps) same each =
       let h = each 0 (omega arith) in
       let z : n + 0 ≡ n = omega arith in (
-        subst (λ (x : List KeptBlock × Place (Known C) × ℕ). Waits cache x.2 (acts x.2) x.0 x.1) (λ i. (sym (some-injective k h.0 h.2) i, sym (some-injective p h.1 h.3) i, z i)) h.4,
-        wait-from (suc n) ks ps (omega (arith, same)) (λ j below. let e = each (suc j) (omega (arith, below)) in let z : n + suc j ≡ suc n + j = omega arith in (e.0, e.1, e.2, e.3, subst (λ (x : ℕ). Waits cache x (acts x) e.0 e.1) z e.4)),
+        subst (λ (x : List KeptBlock × Place (Known C) × ℕ). Waits cache x.2 (acts x.2) (noted x.2) x.0 x.1) (λ i. (sym (some-injective k h.0 h.2) i, sym (some-injective p h.1 h.3) i, z i)) h.4,
+        wait-from (suc n) ks ps (omega (arith, same)) (λ j below. let e = each (suc j) (omega (arith, below)) in let z : n + suc j ≡ suc n + j = omega arith in (e.0, e.1, e.2, e.3, subst (λ (x : ℕ). Waits cache x (acts x) (noted x) e.0 e.1) z e.4)),
       )
 
   -- what the caller at a place is once it has given back
-  gave-at : (n : ℕ) (ks : List (List KeptBlock)) (ps : List (Place (Known C))) (k : ℕ) (p : Place (Known C)) → AllGave cache acts n ks ps → get_elem? ps k ≡ some p
-      → (x : List KeptBlock) × (get_elem? ks k ≡ some x) × Waits cache (n + k) (acts (n + k) ++ acts_of_drops (n + k) (map read_of x)) [] p
+  gave-at : (n : ℕ) (ks : List (List KeptBlock)) (ps : List (Place (Known C))) (k : ℕ) (p : Place (Known C)) → AllGave cache acts noted n ks ps → get_elem? ps k ≡ some p
+      → (x : List KeptBlock) × (get_elem? ks k ≡ some x) × Waits cache (n + k) (acts (n + k) ++ acts_of_drops (n + k) (map read_of x)) (noted (n + k)) [] p
   gave-at n [] [] k p gave at = absurd (some-ne-none p (sym at))
   gave-at n [] (q ∷ ps) k p gave at = absurd gave
   gave-at n (j ∷ ks) [] k p gave at = absurd gave
   gave-at n (j ∷ ks) (q ∷ ps) zero p gave at =
       let z : n ≡ n + 0 = omega arith in
-      (j, refl, subst (λ (x : Place (Known C) × ℕ). Waits cache x.1 (acts x.1 ++ acts_of_drops x.1 (map read_of j)) [] x.0) (λ i. (some-injective q p at i, z i)) gave.0)
+      (j, refl, subst (λ (x : Place (Known C) × ℕ). Waits cache x.1 (acts x.1 ++ acts_of_drops x.1 (map read_of j)) (noted x.1) [] x.0) (λ i. (some-injective q p at i, z i)) gave.0)
   gave-at n (j ∷ ks) (q ∷ ps) (suc k) p gave at =
       let h = gave-at (suc n) ks ps k p gave.1 at in
       let z : suc n + k ≡ n + suc k = omega arith in
-      (h.0, h.1, subst (λ (x : ℕ). Waits cache x (acts x ++ acts_of_drops x (map read_of h.0)) [] p) z h.2)
+      (h.0, h.1, subst (λ (x : ℕ). Waits cache x (acts x ++ acts_of_drops x (map read_of h.0)) (noted x) [] p) z h.2)
 
-  gave-length : (n : ℕ) (ks : List (List KeptBlock)) (ps : List (Place (Known C))) → AllGave cache acts n ks ps → length ps ≡ length ks
+  gave-length : (n : ℕ) (ks : List (List KeptBlock)) (ps : List (Place (Known C))) → AllGave cache acts noted n ks ps → length ps ≡ length ks
   gave-length n [] [] gave = refl
   gave-length n [] (p ∷ ps) gave = absurd gave
   gave-length n (k ∷ ks) [] gave = absurd gave
   gave-length n (k ∷ ks) (p ∷ ps) gave = ap suc (gave-length (suc n) ks ps gave.1)
 
 -- all parties have stopped once the callers gave back what they kept
-module _ {C : Type 0} (cache : Cache) (acts : ℕ → List Act) (openings : List (List ℕ)) (feeds since : (shard : ℕ) → List Event) (kept : List (List KeptBlock)) (all : List (Place (Known C))) (count : length kept ≡ cache.config.callers) (gone : HaveGivenBack cache acts openings feeds since kept all) where
+module _ {C : Type 0} (cache : Cache) (acts : ℕ → List Act) (noted : ℕ → List Noted) (openings : List (List ℕ)) (feeds since : (shard : ℕ) → List Event) (kept : List (List KeptBlock)) (all : List (Place (Known C))) (count : length kept ≡ cache.config.callers) (gone : HaveGivenBack cache acts noted openings feeds since kept all) where
   gone-long : length gone.callers ≡ cache.config.callers
-  gone-long = gave-length cache acts 0 kept gone.callers gone.gave ∙ count
+  gone-long = gave-length cache acts noted 0 kept gone.callers gone.gave ∙ count
 
   pub gone-some : 0 < length all
   gone-some = omega (arith, ap length gone.are, length-append gone.callers (gone.feeder ∷ []))
@@ -172,7 +187,7 @@ module _ {C : Type 0} (cache : Cache) (acts : ℕ → List Act) (openings : List
   gone-stopped = record {
     count = ap length gone.are ∙ (length-append gone.callers (gone.feeder ∷ []) ∙ ap (λ (x : ℕ). x + 1) gone-long);
     each = λ n p at. elim (get_more gone.callers gone.feeder p n (ap (λ (l : List (Place (Known C))). get_elem? l n) (sym gone.are) ∙ at)) [
-      | inl caller ↦ let h = gave-at cache acts 0 kept gone.callers n p gone.gave caller in let z : 0 + n ≡ n = omega arith in (h.2.number ∙ z, h.2.stands)
+      | inl caller ↦ let h = gave-at cache acts noted 0 kept gone.callers n p gone.gave caller in let z : 0 + n ≡ n = omega arith in (h.2.number ∙ z, h.2.stands)
       | inr is ↦ subst (λ (x : ℕ × Place (Known C)). (x.1.number ≡ x.0) × Stands cache x.1 []) (λ i. ((sym gone-long ∙ sym is.0) i, is.1 i)) (gone.fed.number, gone.fed.stands)
     ];
   }
@@ -196,7 +211,7 @@ drops-are g blocks shard n (k ∷ ks) os rs each =
 
 -- what a caller made that has done its lines and given back what it kept
 caller-alone : {C : Type 0} (cache : Cache) (blocks : List Ptr) (os : List Op) (rs : List Reply) (n : ℕ) (p : Place (Known C)) → n < cache.config.callers
-    → Waits cache n (acts_of_caller blocks n (filter (is_of_caller n) os) (replies_of_caller n os rs)) [] p → MadeItsOwn cache.config p
+    → Waits cache n (acts_of_caller blocks n (filter (is_of_caller n) os) (replies_of_caller n os rs)) [] [] p → MadeItsOwn cache.config p
 caller-alone cache blocks os rs n p below waits =
     waits-alone cache n (acts_of_caller blocks n (filter (is_of_caller n) os) (replies_of_caller n os rs)) [] p below (act-caller blocks n (filter (is_of_caller n) os) (replies_of_caller n os rs) (own-lines n os)) waits
 
@@ -205,11 +220,15 @@ module _ {C : Type 0} (cache : Cache) (restored : List Restored) (len : ℕ) (im
   abbrev pub lines-acts : ℕ → List Act
   lines-acts n = acts_of_lines blocks os n (replies_of_caller n os rs)
 
-  pub come-wait : AreWaiting cache lines-acts 0 crew.kept.items crew.parties.items
-  come-wait = wait-from cache lines-acts 0 crew.kept.items crew.parties.items (come.parties ∙ sym come.kepts) (λ k below.
+  -- and what they did to cells: nothing yet
+  abbrev pub lines-noted : ℕ → List Noted
+  lines-noted n = []
+
+  pub come-wait : AreWaiting cache lines-acts lines-noted 0 crew.kept.items crew.parties.items
+  come-wait = wait-from cache lines-acts lines-noted 0 crew.kept.items crew.parties.items (come.parties ∙ sym come.kepts) (λ k below.
       let b = come.each k (subst (λ (c : ℕ). k < c) come.kepts below) in
       let z : k ≡ 0 + k = omega arith in
-      (b.reads, b.party, b.at.kept_at, b.at.party_at, subst (λ (x : ℕ). Waits cache x (lines-acts x) b.reads b.party) z b.come.waits))
+      (b.reads, b.party, b.at.kept_at, b.at.party_at, subst (λ (x : ℕ). Waits cache x (lines-acts x) [] b.reads b.party) z b.come.waits))
 
   -- all stand by themselves, so the feeder may go on
   apart-from : (n : ℕ) (ps : List (Place (Known C))) → ((k : ℕ) (p : Place (Known C)) → get_elem? ps k ≡ some p → (p.number ≡ n + k) × IsApart cache p) → AllByRecursion (IsApart cache) ps
@@ -268,10 +287,10 @@ module _ {C : Type 0} (cache : Cache) (restored : List Restored) (len : ℕ) (im
   may-start named = start-from 0 crew.kept.items crew.parties.items (come.parties ∙ sym come.kepts) named (λ k below.
       let b = come.each k (subst (λ (c : ℕ). k < c) come.kepts below) in
       let z : k ≡ 0 + k = omega arith in
-      (b.reads, b.party, b.at.kept_at, b.at.party_at, subst (λ (x : ℕ). Waits cache x (lines-acts x) b.reads b.party) z b.come.waits))
+      (b.reads, b.party, b.at.kept_at, b.at.party_at, subst (λ (x : ℕ). Waits cache x (lines-acts x) [] b.reads b.party) z b.come.waits))
     where
       start-from : (n : ℕ) (ks : List (List KeptBlock)) (ps : List (Place (Known C))) → length ps ≡ length ks → AreNamedAll blocks ks
-          → ((k : ℕ) → k < length ks → (x : List KeptBlock) × (p : Place (Known C)) × (get_elem? ks k ≡ some x) × (get_elem? ps k ≡ some p) × Waits cache (n + k) (lines-acts (n + k)) x p) → AreAtStart cache blocks n ks ps
+          → ((k : ℕ) → k < length ks → (x : List KeptBlock) × (p : Place (Known C)) × (get_elem? ks k ≡ some x) × (get_elem? ps k ≡ some p) × Waits cache (n + k) (lines-acts (n + k)) [] x p) → AreAtStart cache blocks n ks ps
       start-from n [] [] same all each = tt
       start-from n [] (p ∷ ps) same all each = absurd (omega (arith, same))
       start-from n (k ∷ ks) [] same all each = absurd (omega (arith, same))
@@ -279,9 +298,9 @@ module _ {C : Type 0} (cache : Cache) (restored : List Restored) (len : ℕ) (im
           let h = each 0 (omega arith) in
           let is_reads : h.0 ≡ k = sym (some-injective k h.0 h.2) in
           let is_party : h.1 ≡ p = sym (some-injective p h.1 h.3) in
-          let w : Waits cache (n + 0) (lines-acts (n + 0)) k p = subst (λ (x : List KeptBlock × Place (Known C)). Waits cache (n + 0) (lines-acts (n + 0)) x.0 x.1) (λ i. (is_reads i, is_party i)) h.4 in (
+          let w : Waits cache (n + 0) (lines-acts (n + 0)) [] k p = subst (λ (x : List KeptBlock × Place (Known C)). Waits cache (n + 0) (lines-acts (n + 0)) [] x.0 x.1) (λ i. (is_reads i, is_party i)) h.4 in (
             record { number = w.number ∙ omega arith; alone = w.alone; stands = w.stands; named = all.0 },
-            start-from (suc n) ks ps (omega (arith, same)) all.1 (λ j below. let e = each (suc j) (omega (arith, below)) in let z : n + suc j ≡ suc n + j = omega arith in (e.0, e.1, e.2, e.3, subst (λ (x : ℕ). Waits cache x (lines-acts x) e.0 e.1) z e.4)),
+            start-from (suc n) ks ps (omega (arith, same)) all.1 (λ j below. let e = each (suc j) (omega (arith, below)) in let z : n + suc j ≡ suc n + j = omega arith in (e.0, e.1, e.2, e.3, subst (λ (x : ℕ). Waits cache x (lines-acts x) [] e.0 e.1) z e.4)),
           )
 
   -- each kept read holds the entry of its own block
@@ -302,21 +321,21 @@ module _ {C : Type 0} (cache : Cache) (restored : List Restored) (len : ℕ) (im
       all-named kept (o ∷ l) [] named = named
       all-named kept (o ∷ l) (x ∷ r) named = all-named (kept_after blocks o x kept) l r (named-after blocks o x kept named)
 
-  module _ (all : List (Place (Known C))) (gone : HaveGivenBack cache lines-acts crew.feeder.own.about.openings (events_by_feeder cache.config restored os rs) (λ shard. seen_of cache.config shard crew.feeder) crew.kept.items all) where
+  module _ (all : List (Place (Known C))) (gone : HaveGivenBack cache lines-acts lines-noted crew.feeder.own.about.openings (events_by_feeder cache.config restored os rs) (λ shard. seen_of cache.config shard crew.feeder) crew.kept.items all) where
     callers-long : length gone.callers ≡ cache.config.callers
-    callers-long = gave-length cache lines-acts 0 crew.kept.items gone.callers gone.gave ∙ come.kepts
+    callers-long = gave-length cache lines-acts lines-noted 0 crew.kept.items gone.callers gone.gave ∙ come.kepts
 
     -- each caller, once it has given back
     caller-at : (n : ℕ) (p : Place (Known C)) → get_elem? gone.callers n ≡ some p
-        → (n < cache.config.callers) × Waits cache n (acts_of_caller blocks n (filter (is_of_caller n) os) (replies_of_caller n os rs)) [] p
+        → (n < cache.config.callers) × Waits cache n (acts_of_caller blocks n (filter (is_of_caller n) os) (replies_of_caller n os rs)) [] [] p
     caller-at n p at =
         let inside : n < cache.config.callers = subst (λ (x : ℕ). n < x) callers-long (within gone.callers n p at) in
         let b = come.each n inside in
-        let h = gave-at cache lines-acts 0 crew.kept.items gone.callers n p gone.gave at in
+        let h = gave-at cache lines-acts lines-noted 0 crew.kept.items gone.callers n p gone.gave at in
         let same : h.0 ≡ b.reads = some-injective h.0 b.reads (sym h.1 ∙ b.at.kept_at) in
         let z : 0 + n ≡ n = omega arith in
-        let gave = subst (λ (x : ℕ). Waits cache x (lines-acts x ++ acts_of_drops x (map read_of h.0)) [] p) z h.2 in
-        (inside, subst (λ (x : List KeptRead). Waits cache n (lines-acts n ++ acts_of_drops n x) [] p) (ap (map read_of) same ∙ b.come.keeps) gave)
+        let gave = subst (λ (x : ℕ). Waits cache x (lines-acts x ++ acts_of_drops x (map read_of h.0)) [] [] p) z h.2 in
+        (inside, subst (λ (x : List KeptRead). Waits cache n (lines-acts n ++ acts_of_drops n x) [] [] p) (ap (map read_of) same ∙ b.come.keeps) gave)
 
     -- a fact of each party, where it is so of the callers' and of the feeder's
     each-party : (fact : ℕ → Place (Known C) → Type 0) → ((n : ℕ) (p : Place (Known C)) → get_elem? gone.callers n ≡ some p → fact n p) → fact cache.config.callers gone.feeder
@@ -589,8 +608,8 @@ module _ {P : Type 0} (m : Meanings OnHeap) (cache : Cache) (pools : Ghosts P) (
   abbrev closing : List (Place (Known OnHeap))
   closing = h.closing
 
-  pub gave : HaveGivenBack cache (lines-acts cache restored (pools.size before) (pools.told before) trace.blocks os rs crew come) crew.feeder.own.about.openings (events_by_feeder cache.config restored os rs) (λ shard. seen_of cache.config shard crew.feeder) crew.kept.items all-given
-  gave = h.gave (lines-acts cache restored (pools.size before) (pools.told before) trace.blocks os rs crew come) (come-wait cache restored (pools.size before) (pools.told before) trace.blocks os rs crew come)
+  pub gave : HaveGivenBack cache (lines-acts cache restored (pools.size before) (pools.told before) trace.blocks os rs crew come) (λ n. []) crew.feeder.own.about.openings (events_by_feeder cache.config restored os rs) (λ shard. seen_of cache.config shard crew.feeder) crew.kept.items all-given
+  gave = h.gave (lines-acts cache restored (pools.size before) (pools.told before) trace.blocks os rs crew come) (λ n. []) (come-wait cache restored (pools.size before) (pools.told before) trace.blocks os rs crew come)
       crew.feeder.own.about.openings (events_by_feeder cache.config restored os rs) (λ shard. seen_of cache.config shard crew.feeder) come.feeder
 
   pub stopped : HaveStopped cache all-given

@@ -438,10 +438,10 @@ module _ {C P : Type 0} (cache : Cache) (restored : List Restored) (pools : Ghos
           party = w.to;
           at = w.after;
           come = record {
-            waits = both (λ l r. Waits cache n (acts_of_all blocks [] l r) w.new w.to)
-                (subst (λ (acts : List Act). Waits cache n acts w.new w.to)
+            waits = both (λ l r. Waits cache n (acts_of_all blocks [] l r) [] w.new w.to)
+                (subst (λ (acts : List Act). Waits cache n acts [] w.new w.to)
                 (ap (λ (l : List KeptRead). acts_of_all blocks [] f0 r0 ++ acts_of_all blocks l f1 r1) left ∙ sym (acts-append blocks [] f0 f1 r0 r1 long))
-                (worked.waits (acts_of_lines blocks os n r0) b.come.waits));
+                (worked.waits (acts_of_lines blocks os n r0) [] b.come.waits));
             keeps = both (λ l r. map read_of w.new ≡ kept_after_all blocks [] l r)
                 (worked.keeps ∙ (ap (λ (l : List KeptRead). kept_after_all blocks l f1 r1) left ∙ sym (kept-append blocks [] f0 f1 r0 r1 long)));
             answers = both (λ l r. AreAnswered len image blocks [] l r)
@@ -521,7 +521,7 @@ module _ {C : Type 0} (cache : Cache) (restored : List Restored) (len : ℕ) (im
   replies-same n = where-append n os (op ∷ []) rs (reply ∷ []) before.long ∙ (ap (λ (l : List Reply). replies_of_caller n os rs ++ l) (no-replies n) ∙ append-nil (replies_of_caller n os rs))
 
   abbrev Come : ℕ → List Op → List Reply → List KeptBlock → Place (Known C) → Type 0
-  Come n l r ks p = Waits cache n (acts_of_all blocks [] l r) ks p × (map read_of ks ≡ kept_after_all blocks [] l r) × AreAnswered len image blocks [] l r
+  Come n l r ks p = Waits cache n (acts_of_all blocks [] l r) [] ks p × (map read_of ks ≡ kept_after_all blocks [] l r) × AreAnswered len image blocks [] l r
 
   end-come : (n : ℕ) → n < g.callers → ComesAt cache len image blocks (os ++ op ∷ []) (rs ++ reply ∷ []) n new
   end-come n below =
@@ -533,7 +533,7 @@ module _ {C : Type 0} (cache : Cache) (restored : List Restored) (len : ℕ) (im
         at = record { kept_at = ap (λ (l : List (List KeptBlock)). get_elem? l n) so.kept ∙ b.at.kept_at; party_at = x.1 };
         come =
             let came = subst (λ (y : List Op × List Reply). Come n y.0 y.1 b.reads x.0) (λ i. (sym (lines-same n) i, sym (replies-same n) i))
-            (parted-waits cache so.made.lines b.party x.0 x.2 n (acts_of_lines blocks os n (replies_of_caller n os rs)) b.reads b.come.waits, b.come.keeps, b.come.answers) in
+            (parted-waits cache so.made.lines b.party x.0 x.2 n (acts_of_lines blocks os n (replies_of_caller n os rs)) [] b.reads b.come.waits, b.come.keeps, b.come.answers) in
             record { waits = came.0; keeps = came.1; answers = came.2 };
       }
 

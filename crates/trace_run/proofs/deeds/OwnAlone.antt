@@ -117,6 +117,6 @@ module _ {C : Type 0} (g : Config) (did : List Act) (p : Place (Known C)) (low :
   }
 
 -- a caller that waits, and did acts of its own alone
-pub waits-alone : {C : Type 0} (cache : Cache) (n : ℕ) (acts : List Act) (kept : List KeptBlock) (p : Place (Known C)) → n < cache.config.callers → AreActsBy n acts → Waits cache n acts kept p → MadeItsOwn cache.config p
+pub waits-alone : {C : Type 0} (cache : Cache) (n : ℕ) (acts : List Act) (kept : List KeptBlock) (p : Place (Known C)) → n < cache.config.callers → AreActsBy n acts → Waits cache n acts [] kept p → MadeItsOwn cache.config p
 waits-alone cache n acts kept p below mine waits =
     own-alone cache.config acts p (let same = waits.number in omega (arith, same, below)) (subst (λ (k : ℕ). AreActsBy k acts) (sym waits.number) mine) waits.told waits.stands.seen waits.stands.cells

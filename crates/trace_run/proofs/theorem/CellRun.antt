@@ -127,7 +127,7 @@ module _ {P : Type 0} (cache : Cache) (pools : Ghosts P) (before after : P) (pla
   given : HaveStopped cache h.parties
   given = stopped dbuf_meanings cache pools before after place trace formed config valid ending restored rs crew d closed h
 
-  gone : HaveGivenBack cache (lines-acts cache restored (pools.size before) (pools.told before) trace.blocks (take (length rs) trace.ops) rs crew d.between.come) crew.feeder.own.about.openings
+  gone : HaveGivenBack cache (lines-acts cache restored (pools.size before) (pools.told before) trace.blocks (take (length rs) trace.ops) rs crew d.between.come) (λ n. []) crew.feeder.own.about.openings
       (events_by_feeder cache.config restored (take (length rs) trace.ops) rs) (λ shard. seen_of cache.config shard crew.feeder) crew.kept.items h.parties
   gone = gave dbuf_meanings cache pools before after place trace formed config valid ending restored rs crew d closed h
 

@@ -22,6 +22,7 @@ use Rattle.trace_run.specs.one_caller.Alone.{ends_in, histories_of}
 use Rattle.trace_run.specs.Answers.{AnswersAll}
 use Rattle.trace_run.specs.Explaining.{Explain}
 use Rattle.trace_run.specs.CellEnds.{EndedCrew}
+use Rattle.trace_run.specs.Deeds.{Noted}
 use Rattle.trace_run.specs.KeptBlocks.{Stands}
 use Rattle.trace_run.specs.Meeting.{AreWaiting, HaveGivenBack, IsFed}
 use Rattle.trace_run.specs.Restores.{found_keys}
@@ -36,8 +37,8 @@ pub record HaveStopped {C : Type 0} (cache : Cache) (ps : List (Place (Known C))
 pub record HaveClosed {C : Type 0} (m : Meanings C) (cache : Cache) (crew : Crew C) (closed : Ended C) : Type 0 where
   pub parties : List (Place (Known C))
   pub closing : List (Place (Known C))
-  pub gave : (acts : ℕ → List Act) → AreWaiting cache acts 0 crew.kept.items crew.parties.items → (openings : List (List ℕ)) (feeds since : (shard : ℕ) → List Event) → IsFed cache openings feeds since crew.feeder
-      → HaveGivenBack cache acts openings feeds since crew.kept.items parties
+  pub gave : (acts : ℕ → List Act) (noted : ℕ → List Noted) → AreWaiting cache acts noted 0 crew.kept.items crew.parties.items → (openings : List (List ℕ)) (feeds since : (shard : ℕ) → List Event) → IsFed cache openings feeds since crew.feeder
+      → HaveGivenBack cache acts noted openings feeds since crew.kept.items parties
   pub ended : EndedCrew cache parties closing
   pub ends : Ends m cache closing closed
 

@@ -61,7 +61,7 @@ module _ {C : Type 0} where
   -- What a caller has come to by its own lines among these: they are answered, what it did is told, and it stands by itself with what they say that
   -- it keeps.
   pub record HasCome (cache : Cache) (pool_len : ℕ) (image : Option (List ℕ)) (blocks : List Ptr) (ops : List Op) (n : ℕ) (replies : List Reply) (kept : List KeptBlock) (p : Place (Known C)) : Type 0 where
-    pub waits : Waits cache n (acts_of_lines blocks ops n (replies_of_caller n ops replies)) kept p
+    pub waits : Waits cache n (acts_of_lines blocks ops n (replies_of_caller n ops replies)) [] kept p
     pub keeps : map read_of kept ≡ kept_after_all blocks [] (filter (is_of_caller n) ops) (replies_of_caller n ops replies)
     pub answers : AreAnswered pool_len image blocks [] (filter (is_of_caller n) ops) (replies_of_caller n ops replies)
 

@@ -51,7 +51,7 @@ close_crew-requires-clause-callers g c =
     (last-knows (openings_of c.args.trace.now) c.in_ok-crew.crew.parties.items c.in_ok-crew.crew.feeder (subst (AllKnow (openings_of c.args.trace.now)) c.in_ok-crew.ensures.parties c.in_ok-arcs.ensures.known))
     (first-may g.P.Pool c.args.pool.now c.first_place.result c.len.result c.first_place.ensures.aligned c.first_place.ensures.inside c.len.ensures) in
     let come = (c.in_ok-crew-3.ensures.stopped c.args.restored.now begun).between.come in
-    (lines-acts c.in_ok-arcs.arcs _ _ _ _ _ _ _ come, come-wait c.in_ok-arcs.arcs _ _ _ _ _ _ _ come)
+    (lines-acts c.in_ok-arcs.arcs _ _ _ _ _ _ _ come, (λ n. []), come-wait c.in_ok-arcs.arcs _ _ _ _ _ _ _ come)
 
 pub close_crew-requires-clause-feeder : goal.close_crew-requires-clause-feeder
 close_crew-requires-clause-feeder g c =
