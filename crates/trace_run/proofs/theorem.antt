@@ -10,4 +10,5 @@ pub mod RanLemmas
 pub mod ReportLemmas
 pub mod RestLemmas
 pub mod SourceLemmas
+pub mod ToldLemmas
 pub mod WordLemmas

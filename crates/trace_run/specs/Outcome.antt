@@ -32,7 +32,7 @@ use Rattle.dbuf_cells.specs.Turns.{OnHeap}
 use Rattle.trace_text.specs.Generator.{generated_block, generated_read, generated_sizes}
 use Rattle.trace_run.specs.Answers.{AnswersAll}
 use Rattle.trace_run.specs.Bounded.{device_len, with_bound}
-use Rattle.trace_run.specs.CellEnds.{AreCellsOf}
+use Rattle.trace_run.specs.CellEnds.{AreCellsOf, only_ended}
 use Rattle.trace_run.specs.CheckText.{check_text}
 use Rattle.trace_run.specs.DeviceUse.{WasUsed}
 use Rattle.trace_run.specs.Devices.{Finds, MayLose, usable}
@@ -126,8 +126,8 @@ pub record IsReport {P D : Type 0} (pool : Ghosts P) (device : Devices D) (befor
   pub used : WasUsed device (with_bound trace (device_len device.size before.cache)) report.replies started after.cache
   pub ending : Ending
   pub run : IsRun pool device before.pool after.pool (usable device started) (usable device after.cache) (with_bound trace (device_len device.size before.cache)) ending closed report
-  -- the cells began with the trace's lines, and were ended
-  pub cells : AreCellsOf (with_bound trace (device_len device.size before.cache)) closed
+  -- the cells began with the trace's lines, and were ended; nothing else was done to them yet
+  pub cells : AreCellsOf (with_bound trace (device_len device.size before.cache)) (only_ended trace.config) closed
   pub status : report.status ≡ report_status ending report.replies
   pub told : TellsEnding answer ending
   pub whole : report.short ≡ false
@@ -153,7 +153,7 @@ pub record IsGenReport (seed blocks ops : ℕ) (closed : Ended OnHeap) (report :
   pub explained : Explain (generated seed blocks ops) [] report.replies report.ends report.histories
   pub tells : TellsClosed closed report
   pub config : closed.config ≡ generated_sizes blocks
-  pub cells : AreCellsOf (generated seed blocks ops) closed
+  pub cells : AreCellsOf (generated seed blocks ops) (only_ended (generated_sizes blocks)) closed
   pub status : report.status ≡ 0
 
 -- the report is there exactly where the trace was run

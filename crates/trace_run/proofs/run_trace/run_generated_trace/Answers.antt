@@ -5,7 +5,7 @@ use Rattle.trace_text.specs.declared.report.Report.{Report}
 use Rattle.trace_text.specs.declared.trace.Trace.{Trace}
 use Rattle.vdev_io.specs.Calls.{Call}
 use Rattle.trace_run.specs.Answers.{AnswersAll, is_pool_fault}
-use Rattle.trace_run.specs.CellEnds.{AreCellsOf}
+use Rattle.trace_run.specs.CellEnds.{AreCellsOf, only_ended}
 use Rattle.trace_run.specs.Explaining.{Explain}
 use Rattle.trace_run.specs.Outcome.{generated, zeros_of}
 use Rattle.trace_run.specs.one_caller.PlainReport.{IsPlainReport}
@@ -49,6 +49,6 @@ returns-clause-generated g c =
       explained = subst (λ (x : Trace × Option Rebuilt). Explain x.0 (found_keys x.1) report.replies report.ends report.histories) (λ i. (is i, nothing i)) run.explained;
       tells = record { histories = run.tells.histories; ends = run.tells.ends };
       config = run.config ∙ ap (λ (t : Trace). t.config) is;
-      cells = subst (λ (t : Trace). AreCellsOf t reported.closed) is c.in_ok-reported.ensures.cells;
+      cells = subst (λ (t : Trace). AreCellsOf t (only_ended t.config) reported.closed) is c.in_ok-reported.ensures.cells;
       status = ran.1 ∙ rw (one.0, fine) refl;
     }

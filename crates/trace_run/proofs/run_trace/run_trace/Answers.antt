@@ -1,7 +1,7 @@
 use Rattle.std.proofs.Common.{List, refl, subst, arith}
 use Rattle.arc_core.specs.declared.served.Restored.{Restored}
 use Rattle.trace_run.specs.one_caller.Alone.{RanAlone}
-use Rattle.trace_run.specs.CellEnds.{AreCellsOf}
+use Rattle.trace_run.specs.CellEnds.{AreCellsOf, only_ended}
 use Rattle.trace_run.specs.Devices.{lent_in}
 use Rattle.trace_run.specs.one_caller.Lent.{ReadsAlone}
 use Rattle.trace_run.specs.callers.GroupRun.{RanTogether}
@@ -34,7 +34,7 @@ returns-clause-run g c =
 pub returns-clause-cells : goal.returns-clause-cells
 returns-clause-cells g c =
     let ran = c.if-trace-eq1.ran in
-    let here : AreCellsOf c.args.trace.now ran.closed = elim c.if-trace-eq1.branch [
+    let here : AreCellsOf c.args.trace.now (only_ended c.args.trace.now.config) ran.closed = elim c.if-trace-eq1.branch [
       | then-trace-eq1+in_ok-ran w ↦ rw w.ran-is w.in_ok-ran.ensures.cells
       | else-trace-eq1+in_ok-ran-2 w ↦ rw w.ran-is w.in_ok-ran-2.ensures.cells
     ] in

@@ -1,7 +1,7 @@
 use Rattle.std.proofs.Common.{rules, ◌≡◌, Option, sym, ap, ◌∙◌, subst}
 use Rattle.trace_text.specs.declared.trace.Trace.{Trace}
 use Rattle.trace_run.specs.Bounded.{device_len, with_bound}
-use Rattle.trace_run.specs.CellEnds.{AreCellsOf}
+use Rattle.trace_run.specs.CellEnds.{AreCellsOf, only_ended}
 use Rattle.trace_run.specs.DeviceUse.{WasUsed}
 use Rattle.trace_run.specs.Devices.{Finds, IsHandedBack, WasLent, device_of, lent_in, usable}
 use Rattle.trace_run.specs.declared.device.Device.{Device}
@@ -54,7 +54,7 @@ returns-in-Ok-ran-clause-does g c =
         status = run.1;
         told = c.deliver.ensures.full;
         whole = c.in-Ok-ran.ensures.whole;
-        cells = subst (λ (t : Trace). AreCellsOf t told.closed) bounded c.in-Ok-ran.ensures.cells;
+        cells = subst (λ (t : Trace). AreCellsOf t (only_ended t.config) told.closed) bounded c.in-Ok-ran.ensures.cells;
       });
       sink = search rules;
       present = search rules;
