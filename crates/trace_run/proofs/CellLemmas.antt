@@ -35,7 +35,8 @@ use Rattle.dbuf_state.proofs.HandLemmas.{ended-keeps-nothing}
 use Rattle.dbuf_state.proofs.NumberLemmas.{events-numbered, events-read, mappings-read}
 use Rattle.trace_text.specs.declared.trace.Trace.{Trace}
 use Rattle.arc_core.specs.declared.config.Config.{Config}
-use Rattle.trace_run.specs.CellEnds.{AreCellsOf, IsCellOf, done_by, end_entry, ends_from, only_ended}
+use Rattle.trace_run.specs.CellEnds.{AreCellsOf, IsCellOf, done_by, end_entry, ends_from}
+use Rattle.trace_run.specs.RunWork.{only_ended}
 use Rattle.trace_run.specs.Deeds.{Noted, events_of_cell}
 use Rattle.trace_run.specs.MadeLines.{made_from, owned_from}
 use Rattle.trace_run.specs.Openings.{opening_map, openings_of}
@@ -91,19 +92,16 @@ all-placed P (e ∷ h) each = (each 0 e refl, all-placed P h (λ x f at. each (s
 -- where each owner is the number of what it did
 by-number : (owner : ℕ → ℕ) (n place : ℕ) (h : List CellEvent) → ((x : ℕ) (e : CellEvent) → get_elem? h x ≡ some e → owner (place + x) ≡ number_of e) → done_by n h ≡ owned_from owner n place h
 by-number owner n place [] each = refl
-by-number owner n place (e ∷ h) each = go (cases_true (number_of e == n))
+by-number owner n place (e ∷ h) each = go (cases_true (number_of e == n)) (by-number owner n (suc place) h (λ x f at. let z : suc place + x ≡ place + suc x = omega arith in ap owner z ∙ each (suc x) f at))
   where
-    rest : done_by n h ≡ owned_from owner n (suc place) h
-    rest = by-number owner n (suc place) h (λ x f at. let z : suc place + x ≡ place + suc x = omega arith in ap owner z ∙ each (suc x) f at)
-
     here : owner place ≡ number_of e
     here = ap owner (let z : place ≡ place + 0 = omega arith in z) ∙ each 0 e refl
 
-    go : ((number_of e == n) ≡ true) ⊎ ((number_of e == n) ≡ false) → done_by n (e ∷ h) ≡ owned_from owner n place (e ∷ h)
-    go (inl own) =
+    go : ((number_of e == n) ≡ true) ⊎ ((number_of e == n) ≡ false) → done_by n h ≡ owned_from owner n (suc place) h → done_by n (e ∷ h) ≡ owned_from owner n place (e ∷ h)
+    go (inl own) rest =
         let his : (owner place == n) ≡ true = ap (λ (k : ℕ). k == n) here ∙ own in
         rw (own, his) (ap (λ (l : List CellEvent). e ∷ l) rest)
-    go (inr other) =
+    go (inr other) rest =
         let none : (owner place == n) ≡ false = ap (λ (k : ℕ). k == n) here ∙ other in
         rw (other, none) rest
 
@@ -142,7 +140,7 @@ module _ (trace : Trace) (i : ℕ) (below : i < trace.config.cells) where
       let here : done_by (number_of e) (e ∷ es ++ End callers ∷ []) ≡ e ∷ done_by (number_of e) es ++ End callers ∷ [] =
       rw mine (ap (λ (l : List CellEvent). e ∷ l) (filter-append (λ f. number_of f == number_of e) es (End callers ∷ []) ∙ ap (λ (l : List CellEvent). done_by (number_of e) es ++ l) (rw end refl))) in
       let there : events_of_cell i (only_ended trace.config (number_of e)) ≡ End callers ∷ [] =
-      ap (λ (n : ℕ). events_of_cell i (only_ended trace.config n)) is ∙ (ap (events_of_cell i) (feeder-notes trace.config) ∙ ends-one callers i 0 trace.config.cells (omega arith) below) in
+      ap (λ (n : ℕ). events_of_cell i (only_ended trace.config n)) is ∙ (ap (events_of_cell i) (feeder-notes trace.config) ∙ ends-one callers i 0 trace.config.cells (omega arith) (omega (arith, below))) in
       let long : suc (length (done_by (number_of e) es ++ End callers ∷ [])) ≡ 1 = ap length (sym here ∙ (did ∙ there)) in
       omega (arith, long, length-append (done_by (number_of e) es) (End callers ∷ [])))
       (λ differs.
@@ -270,8 +268,8 @@ module _ (cache : Cache) (ps : List PartyPlace) (e : Ended OnHeap) (ends : Ends 
           numbers-same : (a b : List ℕ) → line.Entry a ≡ line.Entry b → a ≡ b
           numbers-same a b is = cc
 
-          first-same : (a b : ℕ) (as bs : List ℕ) → a ∷ as ≡ b ∷ bs → a ≡ b
-          first-same a b as bs is = cc
+          first-same : (a b : ℕ) (xs ys : List ℕ) → a ∷ xs ≡ b ∷ ys → a ≡ b
+          first-same a b xs ys is = cc
 
           head-is : (rest : List ℕ) × (event_numbers ev ≡ number_of ev ∷ rest) → owner ≡ number_of ev
           head-is h = sym (first-same (number_of ev) owner h.0 entry.rest (sym h.1 ∙ numbers-same (event_numbers ev) (owner ∷ entry.rest) same))
@@ -280,7 +278,7 @@ module _ (cache : Cache) (ps : List PartyPlace) (e : Ended OnHeap) (ends : Ends 
       pub done-is : (k : ℕ) (v : Known OnHeap) → get_elem? ends.views k ≡ some v → AreEntriesSeen scene.about.config k v.mine v.seen → (did : List CellEvent)
           → made_from i 0 v.mine (front_of i v.seen) ≡ map line.Entry (map event_numbers did) → done_by k c.value.history ≡ did
       done-is k v shown own did made =
-          by-number (scene.owner i) k 0 c.value.history (λ x ev there. (owner-is x ev there).0)
+          by-number (scene.owner i) k 0 c.value.history (λ x ev there. ap (scene.owner i) (let z : 0 + x ≡ x = omega arith in z) ∙ (owner-is x ev there).0)
           ∙ owned-entries (scene.owner i) k c.value.history did
           (ap (owned_from (scene.owner i) k 0) (sym lines-are)
           ∙ (sym (made-owned dbuf_meanings scene ends.pact.logged k v (ends.pact.attached.views k v shown) i (entries-below scene.about.config k v.mine v.seen i in_range own)) ∙ made))

@@ -1,3 +1,4 @@
+pub mod CellActs
 pub mod CellRun
 pub mod CloseLemmas
 pub mod EachLemmas
@@ -12,3 +13,5 @@ pub mod RestLemmas
 pub mod SourceLemmas
 pub mod ToldLemmas
 pub mod WordLemmas
+pub mod WorkEnds
+pub mod WorkLemmas

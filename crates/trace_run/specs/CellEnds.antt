@@ -1,5 +1,5 @@
 -- How the cells of a run end: the feeder ends them, while all other parties have joined it. And what they come to.
-use Rattle.std.specs.Prelude.{◌≡◌, ◌≢◌, ℕ, zero, suc, ◌<◌, ◌≤◌, ◌==◌, if◌then◌else◌, List, [], ◌∷◌, ◌++◌, Some, filter, length, slice_get}
+use Rattle.std.specs.Prelude.{◌≡◌, ◌≢◌, ℕ, zero, suc, ◌<◌, ◌≤◌, ◌==◌, List, [], ◌∷◌, ◌++◌, Some, filter, length, slice_get}
 use Rattle.std.specs.List.{AllByRecursion}
 use Rattle.blk_ptr.specs.Hash.{shard_of}
 use Rattle.arc_core.specs.declared.config.Config.{Config}
@@ -130,7 +130,3 @@ pub record IsCellOf (trace : Trace) (noted : ℕ → List Noted) (i : ℕ) (cell
 pub record AreCellsOf (trace : Trace) (noted : ℕ → List Noted) (closed : Ended OnHeap) : Type 0 where
   pub count : length closed.cells ≡ trace.config.cells
   pub each : (i : ℕ) (cell : OnHeap) → slice_get closed.cells i ≡ Some cell → IsCellOf trace noted i cell
-
--- what is noted of each party where no line did anything to a cell: the feeder ended them all
-abbrev pub only_ended : Config → (n : ℕ) → List Noted
-only_ended g n = if n == g.callers then ends_from n 0 g.cells else []

@@ -15,7 +15,8 @@ use Rattle.trace_text.specs.declared.op.Op.TheVariants as ops
 use Rattle.trace_text.specs.declared.reply.Reply.{Reply}
 use Rattle.trace_text.specs.declared.trace.Trace.{Trace}
 use Rattle.vdev_io.specs.declared.pool.Pool.{Ghosts}
-use Rattle.trace_run.specs.CellEnds.{AreCellsOf, IsCellOf, only_ended}
+use Rattle.trace_run.specs.CellEnds.{AreCellsOf, IsCellOf}
+use Rattle.trace_run.specs.RunWork.{only_ended}
 use Rattle.trace_run.specs.callers.Groups.{StoodFresh}
 use Rattle.trace_run.specs.callers.Together.{EndLine, EndsBy, EndsGroup, HadThen, GroupLines, OfCells, BetweenGroups, StoodThen, SyncsGroup, WorkInGroups}
 use Rattle.trace_run.specs.Openings.{opening_map, openings_of}

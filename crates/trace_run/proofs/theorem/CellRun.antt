@@ -35,7 +35,8 @@ use Rattle.trace_text.specs.declared.trace.Trace.{Trace}
 use Rattle.trace_text.specs.Grammar.{IsFormed}
 use Rattle.trace_run.specs.declared.groups.Crew.{Crew}
 use Rattle.trace_run.specs.declared.ran.Ending.{Ending}
-use Rattle.trace_run.specs.CellEnds.{AreCellsOf, EndedCrew, HasSeenEnds, HasToldOthers, IsCellOf, done_by, end_entry, ends_from, only_ended}
+use Rattle.trace_run.specs.CellEnds.{AreCellsOf, EndedCrew, HasSeenEnds, HasToldOthers, IsCellOf, done_by, end_entry, ends_from}
+use Rattle.trace_run.specs.RunWork.{only_ended}
 use Rattle.trace_run.specs.Deeds.{Noted, events_of_cell, events_there, lines_of_cell}
 use Rattle.trace_run.specs.MadeLines.{made_from, made_of}
 use Rattle.trace_run.specs.callers.GroupRun.{HaveClosed, HaveStopped}
@@ -70,19 +71,16 @@ module _ (cache : Cache) (ps : List PartyPlace) (e : Ended OnHeap) (ends : Ends 
       → AreCellsOf trace noted e
   cells-of-run noted n w knows opening m u sees own fronts each = all-cells-of trace noted e (ends.cells ∙ ap (λ (g : Config). g.cells) config) one
     where
-      abbrev there : Config
-      there = ends.pact.scene.about.config
-
-      settled : there ≡ cache.config
+      settled : ends.pact.scene.about.config ≡ cache.config
       settled = ap (λ (a : About). a.config) (sym (ends.pact.attached.views m u sees).about) ∙ own
 
-      all-seen : (k : ℕ) → k < parties_of there → (v : Known OnHeap) × (get_elem? ends.views k ≡ some v) × AreEntriesSeen there k v.mine u.seen
+      all-seen : (k : ℕ) → k < parties_of ends.pact.scene.about.config → (v : Known OnHeap) × (get_elem? ends.views k ≡ some v) × AreEntriesSeen ends.pact.scene.about.config k v.mine u.seen
       all-seen k below = let h = each k (subst (λ (g : Config). k < parties_of g) settled below) in (h.0, h.1, subst (λ (g : Config). AreEntriesSeen g k h.0.mine u.seen) (sym settled) h.2.seen)
 
       one : (i : ℕ) (c : OnHeap) → get_elem? e.cells i ≡ some c → IsCellOf trace noted i c
       one i c at =
           let inside : i < cache.config.cells = subst (λ (k : ℕ). i < k) ends.cells (within e.cells i c at) in
-          let range : IsCell there i = subst (λ (g : Config). IsCell g i) (sym settled) inside in
+          let range : IsCell ends.pact.scene.about.config i = subst (λ (g : Config). IsCell g i) (sym settled) inside in
           let front = fronts i inside in
           cell-of cache ps e ends i c at trace (subst (λ (g : Config). i < g.cells) config inside)
           (opened-so cache ps e ends i c at n w knows ∙ ap (λ (os : List (List ℕ)). slice_index_or os i []) opening)
@@ -127,7 +125,7 @@ module _ (cache : Cache) (ps : List PartyPlace) (e : Ended OnHeap) (ends : Ends 
           (λ same.
           let here : (trace.config.callers == k) ≡ true = eq-eqb trace.config.callers k (sym same) in
           let test : (k == trace.config.callers) ≡ true = eq-eqb k trace.config.callers same in
-          rw (here, test) (ap (λ (x : ℕ). End x ∷ []) (sym same) ∙ sym (ends-one k i 0 trace.config.cells (omega arith) inside)))
+          rw (here, test) (ap (λ (x : ℕ). End x ∷ []) (sym same) ∙ sym (ends-one k i 0 trace.config.cells (omega arith) (omega (arith, inside)))))
           (λ differs.
           let here : (trace.config.callers == k) ≡ false = ne_eqb trace.config.callers k (λ is. differs (sym is)) in
           let test : (k == trace.config.callers) ≡ false = ne_eqb k trace.config.callers differs in
@@ -272,9 +270,6 @@ module _ {P : Type 0} (cache : Cache) (pools : Ghosts P) (before after : P) (pla
 
   long : length h.ended.callers ≡ cache.config.callers
   long = omega (arith, given.count, ap length h.ended.are, length-append h.ended.callers (h.ended.feeder ∷ []))
-
-  feeder-number : h.ended.feeder.number ≡ cache.config.callers
-  feeder-number = (given.each (length h.ended.callers) h.ended.feeder (ap (λ (l : List PartyPlace). get_elem? l (length h.ended.callers)) h.ended.are ∙ get_last h.ended.callers h.ended.feeder)).0 ∙ long
 
   knows-last : Knows (openings_of trace) h.ended.last
   knows-last =

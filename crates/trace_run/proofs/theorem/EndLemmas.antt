@@ -40,7 +40,7 @@ use Rattle.arc_check.specs.Judging.{end_of}
 use Rattle.trace_run.specs.Acts.{acts_of_caller, acts_of_callers, events_of_feeder, events_of_feeds}
 use Rattle.trace_run.specs.Ends.{ends_of}
 use Rattle.arc_table.specs.Telling.{opening_of}
-use Rattle.trace_run.specs.Explaining.{BeginsWith, EndsWith, Explain, drops_at_end}
+use Rattle.trace_run.specs.Explaining.{BeginsWith, EndsWith, ExplainReads, drops_at_end}
 use Rattle.trace_run.specs.KeptBlocks.{IsIdle, Stands, is_ptr, times}
 use Rattle.trace_run.specs.Lines.{is_of_caller, replies_where}
 use Rattle.arc_table.specs.Seen.{AreSeen, HasSeenItsOwn, seen_of}
@@ -164,18 +164,18 @@ no-own n s es none = no-own-events n s es (no-own-moments n s es none)
 
 -- ---- lists of histories
 
-all-logs : (P : List Event → Type 0) (logs : List ShardLog) → ((i : ℕ) (l : ShardLog) → get_elem? logs i ≡ some l → P l.history) → AllByRecursion P (map (λ log. log.history) logs)
+pub all-logs : (P : List Event → Type 0) (logs : List ShardLog) → ((i : ℕ) (l : ShardLog) → get_elem? logs i ≡ some l → P l.history) → AllByRecursion P (map (λ log. log.history) logs)
 all-logs P [] each = tt
 all-logs P (x ∷ xs) each = (each 0 x refl, all-logs P xs (λ i l at. each (suc i) l at))
 
-ends-of-logs : (g : Config) (logs : List ShardLog) → ((i : ℕ) (l : ShardLog) → get_elem? logs i ≡ some l → replay (opening_of g) l.history ≡ l.now)
+pub ends-of-logs : (g : Config) (logs : List ShardLog) → ((i : ℕ) (l : ShardLog) → get_elem? logs i ≡ some l → replay (opening_of g) l.history ≡ l.now)
     → map (λ log. end_of log.now) logs ≡ ends_of g (map (λ log. log.history) logs)
 ends-of-logs g [] each = refl
 ends-of-logs g (x ∷ xs) each =
     ap (λ (s : ShardEnd). s ∷ map (λ log. end_of log.now) xs) (ap end_of (sym (each 0 x refl)))
     ∙ ap (λ (l : List ShardEnd). end_of (replay (opening_of g) x.history) ∷ l) (ends-of-logs g xs (λ i l at. each (suc i) l at))
 
-log-at : (logs : List ShardLog) (i : ℕ) → i < length (map (λ (log : ShardLog). log.history) logs)
+pub log-at : (logs : List ShardLog) (i : ℕ) → i < length (map (λ (log : ShardLog). log.history) logs)
     → (l : ShardLog) × (get_elem? logs i ≡ some l) × (slice_index_or (map (λ (log : ShardLog). log.history) logs) i [] ≡ l.history)
 log-at [] i inside = absurd (omega arith)
 log-at (x ∷ xs) zero inside = (x, refl, refl)
@@ -373,7 +373,7 @@ module _ {C : Type 0} (m : Meanings C) (cache : Cache) (valid : IsConfig cache.c
   at-end i = drops_at_end settled blocks i settled.callers ops replies
 
   pub explains : ((j : ℕ) (c : C) → get_elem? e.cells j ≡ some c → m.holds c ≡ []) → ((i : ℕ) (l : ShardLog) → get_elem? e.shards i ≡ some l → StartsWith l.history (restores_in settled restored i)) → ((i : ℕ) (l : ShardLog) → get_elem? e.shards i ≡ some l → EndsWith l.history (at-end i))
-      → Explain (record { config = settled; blocks = blocks; objects = []; ops = ops }) restored replies (map (λ log. end_of log.now) e.shards) (map (λ log. log.history) e.shards)
+      → ExplainReads (record { config = settled; blocks = blocks; objects = []; ops = ops }) restored replies (map (λ log. end_of log.now) e.shards) (map (λ log. log.history) e.shards)
   explains emptied begun_so ends_so = record {
     shards = length-map e.shards (λ (log : ShardLog). log.history) ∙ ends.shards;
     legal = all-logs (λ h. IsTrue (is_legal_history (opening_of settled) h)) e.shards (λ i l at. legal i l at);

@@ -31,24 +31,21 @@ use Rattle.trace_run.proofs.deeds.TurnMakes.{AreTurnEvents}
 own-numbered : (turn place n c : ℕ) (mines : List Mine) (ls : List Line) → c ≢ n
     → ((k : ℕ) (e : Event) → get_elem? ls k ≡ some (line.Event e) → is_listed turn (place + k) mines ≡ true → number_of e ≡ n) → with_number c (events_in (made_from turn place mines ls)) ≡ []
 own-numbered turn place n c mines [] differs each = refl
-own-numbered turn place n c mines (x ∷ xs) differs each = go (cases_true (is_listed turn place mines))
+own-numbered turn place n c mines (x ∷ xs) differs each = go (cases_true (is_listed turn place mines)) (own-numbered turn (suc place) n c mines xs differs (λ k e at listed.
+    let z : suc place + k ≡ place + suc k = omega arith in
+    each (suc k) e at (ap (λ (y : ℕ). is_listed turn y mines) (sym z) ∙ listed)))
   where
-    rest : with_number c (events_in (made_from turn (suc place) mines xs)) ≡ []
-    rest = own-numbered turn (suc place) n c mines xs differs (λ k e at listed.
-        let z : suc place + k ≡ place + suc k = omega arith in
-        each (suc k) e at (ap (λ (y : ℕ). is_listed turn y mines) (sym z) ∙ listed))
-
-    first : (y : Line) → x ≡ y → is_listed turn place mines ≡ true → with_number c (events_in (y ∷ made_from turn (suc place) mines xs)) ≡ []
-    first (line.Event e) is listed =
+    first : (y : Line) → x ≡ y → is_listed turn place mines ≡ true → with_number c (events_in (made_from turn (suc place) mines xs)) ≡ [] → with_number c (events_in (y ∷ made_from turn (suc place) mines xs)) ≡ []
+    first (line.Event e) is listed rest =
         let z : place + 0 ≡ place = omega arith in
         let his : number_of e ≡ n = each 0 e (ap some is) (ap (λ (y : ℕ). is_listed turn y mines) z ∙ listed) in
         let other : (number_of e == c) ≡ false = ne_eqb (number_of e) c (λ same. differs (sym same ∙ his)) in
         rw other rest
-    first (line.Entry ns) is listed = rest
+    first (line.Entry ns) is listed rest = rest
 
-    go : (is_listed turn place mines ≡ true) ⊎ (is_listed turn place mines ≡ false) → with_number c (events_in (made_from turn place mines (x ∷ xs))) ≡ []
-    go (inl here) = rw here (first x refl here)
-    go (inr other) = rw other rest
+    go : (is_listed turn place mines ≡ true) ⊎ (is_listed turn place mines ≡ false) → with_number c (events_in (made_from turn (suc place) mines xs)) ≡ [] → with_number c (events_in (made_from turn place mines (x ∷ xs))) ≡ []
+    go (inl here) rest = rw here (first x refl here rest)
+    go (inr other) rest = rw other rest
 
 module _ {C : Type 0} (g : Config) where
   pub others-told : (did : List Act) (noted : List Noted) (p : Place (Known C)) → HasToldAll g did noted p → HasToldOthers g did noted p
@@ -87,7 +84,8 @@ module _ {C : Type 0} (g : Config) where
     none-there shard c differs = own-numbered (turn_of g shard) 0 p.number c p.own.mine (front_of (turn_of g shard) p.own.seen) differs (λ k e at listed.
         let h = listed-at (turn_of g shard) (0 + k) p.own.mine listed in
         let s = own.events shard h.0 h.1 h.2 h.3 in
-        let here : get_elem? (front_of (turn_of g shard) p.own.seen) k ≡ some (line.Event s.event) = ap (λ (y : ℕ). get_elem? (front_of (turn_of g shard) p.own.seen) y) (sym h.4) ∙ s.there in
+        let place : h.1.place ≡ k = h.4 ∙ (let z : 0 + k ≡ k = omega arith in z) in
+        let here : get_elem? (front_of (turn_of g shard) p.own.seen) k ≡ some (line.Event s.event) = ap (λ (y : ℕ). get_elem? (front_of (turn_of g shard) p.own.seen) y) (sym place) ∙ s.there in
         ap number_of (event-is e s.event (some-injective (line.Event e) (line.Event s.event) (sym at ∙ here))) ∙ s.number)
       where
         event-is : (a b : Event) → line.Event a ≡ line.Event b → a ≡ b

@@ -1,11 +1,12 @@
 use Rattle.std.proofs.Common.{List, refl, subst, arith}
 use Rattle.arc_core.specs.declared.served.Restored.{Restored}
 use Rattle.trace_run.specs.one_caller.Alone.{RanAlone}
-use Rattle.trace_run.specs.CellEnds.{AreCellsOf, only_ended}
+use Rattle.trace_run.specs.CellEnds.{AreCellsOf}
 use Rattle.trace_run.specs.Devices.{lent_in}
 use Rattle.trace_run.specs.one_caller.Lent.{ReadsAlone}
 use Rattle.trace_run.specs.callers.GroupRun.{RanTogether}
 use Rattle.trace_run.specs.Outcome.{IsRun}
+use Rattle.trace_run.specs.RunWork.{only_ended, plain_work}
 use Rattle.trace_run.specs.callers.Together.{report_of_closed}
 use Rattle.trace_run.proofs.theorem.RanLemmas.{alone-told, together-run}
 use Rattle.trace_run.proofs.run_trace.run_trace.Goals as goal
@@ -16,7 +17,7 @@ returns-clause-run g c =
     let ran = c.if-trace-eq1.ran in
     let trace = c.args.trace.now in
     let told = c.in_ok-reported.ensures in
-    let run : IsRun g.P.Pool g.D.CacheDev c.args.pool.now c.if-trace-eq1.pool (lent_in c.args.device.now) (lent_in c.if-trace-eq1.device) trace ran.ending ran.closed (report_of_closed ran.ending c.args.rebuilt ran.replies.items ran.closed) = elim c.if-trace-eq1.branch [
+    let run : IsRun g.P.Pool g.D.CacheDev c.args.pool.now c.if-trace-eq1.pool (lent_in c.args.device.now) (lent_in c.if-trace-eq1.device) trace ran.ending (plain_work trace.ops ran.replies.items) ran.closed (report_of_closed ran.ending c.args.rebuilt ran.replies.items ran.closed) = elim c.if-trace-eq1.branch [
       | then-trace-eq1+in_ok-ran w ↦
           let did = w.in_ok-ran.ran in
           rw (w.ran-is, w.pool-is, w.device-is) (alone-told g.P.Pool g.D.CacheDev c.args.pool.now w.run_alone.new.pool (lent_in c.args.device.now) (lent_in w.run_alone.new.device) trace c.args.rebuilt did.replies.items did.closed did.ending

@@ -2,7 +2,7 @@
 use Rattle.std.proofs.Common.{◌≡◌, ℕ, List, [], length, sym, subst, arith}
 use Rattle.arc_core.specs.Config.{IsConfig}
 use Rattle.trace_run.specs.Openings.{AllKnow, openings_of}
-use Rattle.trace_run.specs.CellEnds.{only_ended}
+use Rattle.trace_run.specs.RunWork.{only_ended}
 use Rattle.trace_run.proofs.CellLemmas.{all-empty}
 use Rattle.trace_run.proofs.theorem.CellRun.{closed-cells}
 use Rattle.trace_run.proofs.callers.GroupRunLemmas.{come-wait, group-together, lines-acts, may-resize}
