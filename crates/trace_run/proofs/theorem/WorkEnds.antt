@@ -91,8 +91,8 @@ module _ (g : Config) where
 
   served-runs : (n t : ℕ) (ptr : Ptr) (from : Served) (rest es : List Event) → n < g.callers → AllByRecursion (IsRunEvent g) rest → IsServed n t ptr from rest es → AllByRecursion (IsRunEvent g) es
   served-runs n t ptr served.Hit rest es low all is = let lt : nat_lt n g.callers ≡ true = grind (arith, nat_tests, low) in subst (AllByRecursion (IsRunEvent g)) (sym is) ((lt, inl refl), all)
-  served-runs n t ptr served.Pool rest es low all is = let lt : nat_lt n g.callers ≡ true = grind (arith, nat_tests, low) in subst (AllByRecursion (IsRunEvent g)) (sym is) ((lt, inl refl), (lt, inl refl), all)
-  served-runs n t ptr served.L2 rest es low all is = let lt : nat_lt n g.callers ≡ true = grind (arith, nat_tests, low) in subst (AllByRecursion (IsRunEvent g)) (sym is) ((lt, inl refl), (lt, inl refl), all)
+  served-runs n t ptr served.Pool rest es low all is = let lt : nat_lt n g.callers ≡ true = grind (arith, nat_tests, low) in subst (AllByRecursion (IsRunEvent g)) (sym is) ((lt, inl refl), ((lt, inl refl), all))
+  served-runs n t ptr served.L2 rest es low all is = let lt : nat_lt n g.callers ≡ true = grind (arith, nat_tests, low) in subst (AllByRecursion (IsRunEvent g)) (sym is) ((lt, inl refl), ((lt, inl refl), all))
   served-runs n t ptr served.Past rest es low all is = let lt : nat_lt n g.callers ≡ true = grind (arith, nat_tests, low) in subst (AllByRecursion (IsRunEvent g)) (sym is.1) ((lt, inl refl), tt)
 
   drop-runs : (n : ℕ) (k : Key) → n < g.callers → IsRunEvent g (Drop n k)
@@ -105,7 +105,7 @@ module _ (g : Config) where
   act-runs (Loads n t ptr from cell) es of is =
       let lt : nat_lt n g.callers ≡ true = let low = of.0 in grind (arith, nat_tests, low) in
       served-runs n t ptr from (Hand n ptr.key cell ∷ []) es of.0 ((both (nat_lt n g.callers) (is_cell_of g.callers g.cells cell) lt of.1, inl refl), tt) is
-  act-runs (Fails n t ptr) es low (inl is) = let lt : nat_lt n g.callers ≡ true = grind (arith, nat_tests, low) in subst (AllByRecursion (IsRunEvent g)) (sym is) ((lt, inl refl), (lt, inl refl), tt)
+  act-runs (Fails n t ptr) es low (inl is) = let lt : nat_lt n g.callers ≡ true = grind (arith, nat_tests, low) in subst (AllByRecursion (IsRunEvent g)) (sym is) ((lt, inl refl), ((lt, inl refl), tt))
   act-runs (Fails n t ptr) es low (inr is) = let lt : nat_lt n g.callers ≡ true = grind (arith, nat_tests, low) in subst (AllByRecursion (IsRunEvent g)) (sym is.1) ((lt, inl refl), tt)
   act-runs (RunsOut n t ptr) es of is = absurd of
   act-runs (RunsOutAtDbuf n t ptr cell) es of is = absurd of
@@ -199,8 +199,8 @@ module _ (f : Key → ℕ) (shard : ℕ) where
   acts-same n [] = refl
   acts-same n (act ∷ acts) = elim (cases_true (actor_of act == n)) [
     | inl own ↦ elim (cases_true (f (act_key act) == shard)) [
-      | inl here ↦ rw (own, here) (ap (λ (l : List Act). act ∷ l) (acts-same n acts))
-      | inr out ↦ rw (own, out) (acts-same n acts)
+      | inl here ↦ rw (own, here, own) (ap (λ (l : List Act). act ∷ l) (acts-same n acts))
+      | inr out ↦ rw (own, out, own) (acts-same n acts)
     ]
     | inr other ↦ rw other (acts-same n acts)
   ]
