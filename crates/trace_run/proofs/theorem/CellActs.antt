@@ -1,10 +1,9 @@
 -- What was done with the numbers of cells in the shards of a closed cache: which party made each event, and for which act it stands.
-use Rattle.std.proofs.Common.{◌≡◌, ◌≢◌, ◌⊎◌, ℕ, zero, suc, ◌+◌, ◌<◌, ◌≤◌, ◌==◌, ◌&&◌, nat_le, Bool, true, false, IsTrue, List, [], ◌∷◌, ◌++◌, length, map, Some, refl, sym, ap, ◌∙◌, subst, inl, inr, arith, append-nil, eq-eqb, ne_eqb}
-use Rattle.std.specs.Prelude.{filter, slice_get, slice_index_or}
+use Rattle.std.proofs.Common.{◌≡◌, ◌≢◌, ◌⊎◌, ℕ, zero, suc, ◌+◌, ◌<◌, ◌≤◌, ◌==◌, ◌&&◌, nat_le, Bool, true, false, IsTrue, List, [], ◌∷◌, ◌++◌, length, map, Some, refl, sym, ap, ◌∙◌, subst, inl, inr, arith, eq-eqb, ne_eqb}
+use Rattle.std.specs.Prelude.{filter, slice_get}
 use Rattle.std.specs.List.{AllByRecursion}
 use Rattle.std.proofs.lemmas.Bool.{cases_lt, eqb-true, false≢true}
 use Rattle.std.proofs.lemmas.Bool.Decides.{nat_tests}
-use Rattle.std.proofs.lemmas.List.Elements.{filter-append}
 use mathlib.Core.Option.{some, some-injective, some-ne-none}
 use lib.ListN.{get_elem?}
 use Rattle.arc_lists.proofs.Standing.{and_left, and_right}
@@ -26,7 +25,7 @@ use Rattle.arc_table.specs.declared.view.Mine.{Mine}
 use Rattle.arc_table.specs.Cache.{Cache}
 use Rattle.arc_table.specs.Ended.{Ended, Ends}
 use Rattle.arc_table.specs.Fronts.{StartsWith, front_of}
-use Rattle.arc_table.specs.Geometry.{IsCell, cell_number, numbers_of, parties_of}
+use Rattle.arc_table.specs.Geometry.{cell_number, numbers_of, parties_of}
 use Rattle.arc_table.specs.Items.{Meanings, lines_in}
 use Rattle.arc_table.specs.pact.Logged.{HasPlace, IsOwn}
 use Rattle.arc_table.specs.pact.Scene.{Scene}
@@ -36,7 +35,7 @@ use Rattle.arc_table.specs.Telling.{opening_of}
 use Rattle.arc_table.proofs.SeenLemmas.{events-at, events-map}
 use Rattle.trace_run.specs.CellEnds.{HasToldOthers}
 use Rattle.trace_run.specs.Deeds.{HasAct, Noted, act_of_event, acts_of_events, with_number}
-use Rattle.trace_run.specs.MadeLines.{made_from, made_in, owned_from}
+use Rattle.trace_run.specs.MadeLines.{made_in, owned_from}
 use Rattle.trace_run.specs.Making.{AreEventsSeen}
 use Rattle.trace_run.specs.RunWork.{AreMadeBy}
 use Rattle.trace_run.proofs.deeds.ClosedDeeds.{cell-told}

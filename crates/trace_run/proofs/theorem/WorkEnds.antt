@@ -1,6 +1,6 @@
 -- A closed cache explains the replies of its callers and what its run did beside them, whatever was done to its cells.
-use Rattle.std.proofs.Common.{◌≡◌, ◌≢◌, ◌⊎◌, ℕ, zero, suc, ◌+◌, ◌<◌, ◌≤◌, ◌==◌, ◌&&◌, ◌||◌, nat_le, nat_lt, Bool, true, false, IsTrue, List, [], ◌∷◌, ◌++◌, append-nil, length, map, refl, sym, ap, ◌∙◌, subst, inl, inr, arith, eq-eqb, ne_eqb}
-use Rattle.std.specs.Prelude.{filter, slice_index_or}
+use Rattle.std.proofs.Common.{◌≡◌, ◌≢◌, ℕ, zero, suc, ◌+◌, ◌<◌, ◌≤◌, ◌==◌, ◌||◌, nat_le, nat_lt, Bool, true, false, IsTrue, List, [], ◌∷◌, ◌++◌, append-nil, length, map, refl, sym, ap, ◌∙◌, subst, inl, inr, arith, eq-eqb, ne_eqb}
+use Rattle.std.specs.Prelude.{filter}
 use Rattle.std.specs.List.{AllByRecursion}
 use Rattle.std.proofs.lemmas.Bool.{cases_lt, eqb-true, false≢true}
 use Rattle.std.proofs.lemmas.Bool.Decides.{nat_tests}
@@ -21,20 +21,19 @@ use Rattle.arc_core.specs.declared.event.Event.TheVariants.{Pass, Hit, Miss, Arr
 use Rattle.arc_core.specs.declared.served.Restored.{Restored}
 use Rattle.arc_core.specs.declared.served.Served.{Served}
 use Rattle.arc_core.specs.declared.served.Served.TheVariants as served
-use Rattle.arc_core.specs.Operations.{Act, AreEvents, Fails, GivesBack, HoldEveryCallOnce, IsAtRest, IsServed, Keeps, Loads, MakesPrivate, Moment, Reads, RunsOut, RunsOutAtDbuf, Tell, Writes, act_key, actor_of, acts_in, are_passes_placed, has_its_number, is_cell_of, is_of_feed, is_pass, moments, number_of, own_events, own_moments}
+use Rattle.arc_core.specs.Operations.{Act, AreEvents, Fails, GivesBack, HoldEveryCallOnce, IsAtRest, IsServed, Keeps, Loads, MakesPrivate, Moment, Reads, RunsOut, RunsOutAtDbuf, Tell, Writes, act_key, actor_of, acts_in, are_passes_placed, has_its_number, is_cell_of, is_pass, moments, number_of, own_events, own_moments}
 use Rattle.arc_core.specs.PlainShard.{PlainShard}
 use Rattle.arc_core.specs.Replay.{is_legal_history, replay}
 use Rattle.arc_core.specs.ShardLog.{ShardLog}
 use Rattle.arc_core.proofs.OwnEvents.{no-own-events, own-events-are}
-use Rattle.turn_table.specs.Places.{Place, ShowAll, Shows}
+use Rattle.turn_table.specs.Places.{Place}
 use Rattle.arc_table.specs.declared.about.About.{About}
 use Rattle.arc_table.specs.declared.view.Known.{Known}
 use Rattle.arc_table.specs.Cache.{Cache}
 use Rattle.arc_table.specs.Ended.{Ended, Ends}
-use Rattle.arc_table.specs.Geometry.{IsCell, cell_number, numbers_of, parties_of}
+use Rattle.arc_table.specs.Geometry.{numbers_of, parties_of}
 use Rattle.arc_table.specs.Items.{Meanings}
 use Rattle.arc_table.specs.pact.Logged.{IsSoundLog}
-use Rattle.arc_table.specs.Fronts.{StartsWith}
 use Rattle.arc_table.specs.Seen.{Finds, HasSeenBy, IsNumberOrCell, pass_owner, seen_of}
 use Rattle.arc_table.specs.TableLaws.{within}
 use Rattle.arc_table.specs.Telling.{opening_of}
@@ -42,13 +41,10 @@ use Rattle.arc_table.specs.Told.{IsTold}
 use Rattle.arc_table.proofs.OwnLemmas.{no-own-moments}
 use Rattle.arc_table.proofs.TableLaws.{there}
 use Rattle.arc_check.specs.Judging.{end_of}
-use Rattle.trace_text.specs.declared.ends.ShardEnd.{ShardEnd}
 use Rattle.trace_text.specs.declared.op.Op.{Op}
 use Rattle.trace_text.specs.declared.reply.Reply.{Reply}
-use Rattle.trace_text.specs.declared.trace.Trace.{Trace}
 use Rattle.trace_run.specs.CellEnds.{HasToldOthers}
-use Rattle.trace_run.specs.Deeds.{HasAct, Noted, act_of_event, acts_of_events, events_there, with_number}
-use Rattle.trace_run.specs.Ends.{ends_of}
+use Rattle.trace_run.specs.Deeds.{HasAct, Noted, acts_of_events, events_there, with_number}
 use Rattle.trace_run.specs.Explaining.{BeginsWith, EndsWith, Explain, drops_at_end}
 use Rattle.trace_run.specs.KeptBlocks.{IsIdle}
 use Rattle.trace_run.specs.Making.{AreEventsSeen}
@@ -56,7 +52,7 @@ use Rattle.trace_run.specs.Restores.{events_by_feeder, restores_in}
 use Rattle.trace_run.specs.RunWork.{AreMadeBy, RunWork, acts_by, acts_of_cells, noted_by, own_acts}
 use Rattle.trace_run.proofs.one_caller.TellLemmas.{all-append, is_given}
 use Rattle.trace_run.proofs.deeds.DeedLemmas.{acts-append}
-use Rattle.trace_run.proofs.theorem.CellActs.{HasMade, acts-else, acts-here, acts-low, cell-tells, made-by, number-there, own-number, owner-party, pass-named, pass-own, pass-placed, stands-there}
+use Rattle.trace_run.proofs.theorem.CellActs.{HasMade, acts-else, acts-here, acts-low, cell-tells, made-by, number-there, owner-party, pass-named, pass-own, pass-placed, stands-there}
 use Rattle.trace_run.proofs.theorem.CloseLemmas.{closed-finds, closed-legal, closed-now, closed-sound, closed-told}
 use Rattle.trace_run.proofs.theorem.EndLemmas.{all-logs, ends-of-logs, log-at, shown-at}
 use Rattle.trace_run.proofs.theorem.HistoryLemmas.{IsUnfed, all-events, own-events}

@@ -9,7 +9,6 @@ use mathlib.Core.Option.{some, some-injective, some-ne-none}
 use lib.ListN.{get_elem?}
 use Rattle.arc_lists.proofs.Standing.{and_left}
 use Rattle.arc_lists.proofs.Tables.{cases_true}
-use Rattle.blk_ptr.specs.declared.key.Key.{Key}
 use Rattle.blk_ptr.specs.declared.ptr.Ptr.{Ptr}
 use Rattle.blk_ptr.specs.Hash.{shard_of}
 use Rattle.arc_core.specs.declared.config.Config.{Config}
@@ -18,7 +17,7 @@ use Rattle.arc_core.specs.declared.event.Event.TheVariants.{Pass, Hit, Miss, Arr
 use Rattle.arc_core.specs.declared.served.Restored.{Restored}
 use Rattle.arc_core.specs.Operations.{Act, HoldEveryCallOnce, Moment, Tell, acts_in, actor_of, has_its_number, is_pass, moments, number_of, own_moments}
 use Rattle.arc_table.specs.Ended.{Ended}
-use Rattle.arc_table.specs.Geometry.{IsCell, cell_number, parties_of}
+use Rattle.arc_table.specs.Geometry.{cell_number, parties_of}
 use Rattle.arc_table.specs.Telling.{opening_of}
 use Rattle.dbuf_cells.specs.Turns.{OnHeap}
 use Rattle.trace_text.specs.declared.ends.ShardEnd.{ShardEnd}
@@ -30,16 +29,16 @@ use Rattle.trace_run.specs.declared.ran.Ending.{Ending}
 use Rattle.trace_run.specs.declared.ran.Ending.TheVariants.{Whole, Fork, Sync, Full}
 use Rattle.trace_run.specs.Acts.{acts_of, acts_of_all, acts_of_caller, acts_of_callers, acts_of_drops}
 use Rattle.trace_run.specs.CellEnds.{AreCellsOf}
-use Rattle.trace_run.specs.Deeds.{Noted, acts_of_events, events_of_cell, with_number}
+use Rattle.trace_run.specs.Deeds.{Noted, acts_of_events, with_number}
 use Rattle.trace_run.specs.Explaining.{EndsWith, Explain, ExplainReads, drops_at_end}
 use Rattle.trace_run.specs.KeptReads.{KeptRead}
 use Rattle.trace_run.specs.Lines.{caller_of, has_undone, is_of_caller, is_undone, replies_where}
 use Rattle.trace_run.specs.MadeLines.{owned_from}
 use Rattle.trace_run.specs.Objects.{Line, no_work}
 use Rattle.trace_run.specs.Restores.{events_by_feeder}
-use Rattle.trace_run.specs.RunWork.{AreMadeBy, FitsBy, IsRunWork, RunWork, acts_by, acts_of_caller_lines, acts_of_cells, kept_after_lines, lines_of_caller, noted_by, only_ended, own_acts, plain_lines, plain_work}
+use Rattle.trace_run.specs.RunWork.{AreMadeBy, FitsBy, IsRunWork, acts_by, acts_of_caller_lines, acts_of_cells, kept_after_lines, lines_of_caller, noted_by, only_ended, own_acts, plain_lines, plain_work}
 use Rattle.trace_run.specs.callers.Together.{answered_ops}
-use Rattle.trace_run.specs.callers.WorkLines.{AreLinesOf, IsWorkOf, acts_of_work, acts_with_op, caller_of_line, is_line_of, noted_of_work}
+use Rattle.trace_run.specs.callers.WorkLines.{AreLinesOf, acts_of_work, acts_with_op, caller_of_line, is_line_of, noted_of_work}
 use Rattle.trace_run.specs.one_caller.OneCaller.{kept_after, kept_after_all}
 use Rattle.trace_run.proofs.callers.CallerActLemmas.{callers-none, own-lines}
 use Rattle.trace_run.proofs.one_caller.TellLemmas.{act-caller, filter-all, all-map}
