@@ -29,7 +29,7 @@ use Rattle.arc_table.specs.Geometry.{cell_number, numbers_of, parties_of}
 use Rattle.arc_table.specs.Items.{Meanings, lines_in}
 use Rattle.arc_table.specs.pact.Logged.{HasPlace, IsOwn}
 use Rattle.arc_table.specs.pact.Scene.{Scene}
-use Rattle.arc_table.specs.Seen.{IsNumberOrCell, IsSeenBy, events_in, pass_owner, turn_of}
+use Rattle.arc_table.specs.Seen.{IsNumberOrCell, IsSeenBy, events_in, pass_owner, seen_of, turn_of}
 use Rattle.arc_table.specs.TableLaws.{get_front, within}
 use Rattle.arc_table.specs.Telling.{opening_of}
 use Rattle.arc_table.proofs.SeenLemmas.{events-at, events-map}
@@ -136,6 +136,13 @@ event-back : (es : List Event) (x : ℕ) (y : Event) → get_elem? (map line.Eve
 event-back [] x y is = absurd (some-ne-none (line.Event y) (sym is))
 event-back (z ∷ zs) zero y is = ap some (event-same z y (some-injective (line.Event z) (line.Event y) is))
 event-back (z ∷ zs) (suc x) y is = event-back zs x y is
+
+-- lines of a shard are events, as far as they were seen
+front-long : (front rest : List Line) (h : List Event) → map line.Event h ≡ front ++ rest → length (events_in front) ≡ length front
+front-long [] rest h is = refl
+front-long (l ∷ front) rest [] is = cc
+front-long (line.Entry ns ∷ front) rest (e ∷ h) is = cc
+front-long (line.Event y ∷ front) rest (e ∷ h) is = let tail : map line.Event h ≡ front ++ rest = cc in ap suc (front-long front rest h tail)
 
 -- ---- one shard of a closed cache
 
@@ -257,6 +264,16 @@ module _ {C : Type 0} (m : Meanings C) (cache : Cache) (ps : List (Place (Known 
         event-back l.history (suc x) next.0 (ap (λ (k : List Line). get_elem? k (suc x)) starts.1 ∙ get_front front starts.0 (suc x) (line.Event next.0) next.1),
         subst (λ (n : ℕ). IsTrue (goes_on n next.0)) (sym (pass-own x ev there pass)) next.2,
       )
+
+  -- its party has seen it
+  pub owner-seen : (x : ℕ) (ev : Event) (there : get_elem? l.history x ≡ some ev) → x < length (seen_of g i (each (owner x) (owner-party x ev there)).party)
+  owner-seen x ev there =
+      let below = owner-party x ev there in
+      let front : List Line = front_of (turn_of g i) (each (owner x) below).party.own.seen in
+      let s = seen-there x ev there in
+      let starts = lines-seen (owner x) below in
+      let inside : x < length front = within front x (line.Event s.event) s.there in
+      omega (arith, inside, front-long front starts.0 l.history starts.1)
 
   pub pass-named : (x : ℕ) (ev : Event) → get_elem? l.history x ≡ some ev → is_pass ev ≡ true → pass_owner ev < parties_of g
   pass-named x ev there pass =

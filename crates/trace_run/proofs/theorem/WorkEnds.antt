@@ -39,6 +39,7 @@ use Rattle.arc_table.specs.TableLaws.{within}
 use Rattle.arc_table.specs.Telling.{opening_of}
 use Rattle.arc_table.specs.Told.{IsTold}
 use Rattle.arc_table.proofs.OwnLemmas.{no-own-moments}
+use Rattle.arc_table.proofs.SeenLemmas.{get-behind}
 use Rattle.arc_table.proofs.TableLaws.{there}
 use Rattle.arc_check.specs.Judging.{end_of}
 use Rattle.trace_text.specs.declared.op.Op.{Op}
@@ -52,7 +53,7 @@ use Rattle.trace_run.specs.Restores.{events_by_feeder, restores_in}
 use Rattle.trace_run.specs.RunWork.{AreMadeBy, RunWork, acts_by, acts_of_cells, noted_by, own_acts}
 use Rattle.trace_run.proofs.one_caller.TellLemmas.{all-append, is_given}
 use Rattle.trace_run.proofs.deeds.DeedLemmas.{acts-append}
-use Rattle.trace_run.proofs.theorem.CellActs.{HasMade, acts-else, acts-here, acts-low, cell-tells, made-by, number-there, owner-party, pass-named, pass-own, pass-placed, stands-there}
+use Rattle.trace_run.proofs.theorem.CellActs.{HasMade, acts-else, acts-here, acts-low, cell-tells, made-by, number-there, owner-party, owner-seen, pass-named, pass-own, pass-placed, stands-there}
 use Rattle.trace_run.proofs.theorem.CloseLemmas.{closed-finds, closed-legal, closed-now, closed-sound, closed-told}
 use Rattle.trace_run.proofs.theorem.EndLemmas.{all-logs, ends-of-logs, log-at, shown-at}
 use Rattle.trace_run.proofs.theorem.HistoryLemmas.{IsUnfed, all-events, own-events}
@@ -407,6 +408,29 @@ module _ {C : Type 0} (m : Meanings C) (cache : Cache) (restored : List Restored
     rests emptied = closed-rests m cache ps e ends i l at config sound
         (λ n below. let p = party n below in let h = ended n p.0 p.1 in (p.0.own, subst (λ (k : ℕ). get_elem? ends.views k ≡ some p.0.own) h.number (view-of n p.0 p.1), h.idle)) emptied
         (unfed-picked m cache ps e ends i l at config sound (all-second settled l.history all-run))
+
+  -- where all parties have seen the same, the histories are that
+  module _ (fronts : ℕ → List Event) (level : (n : ℕ) (p : Place (Known C)) → get_elem? ps n ≡ some p → (shard : ℕ) → seen_of settled shard p ≡ fronts shard) (i : ℕ) (l : ShardLog) (at : get_elem? e.shards i ≡ some l) where
+    whole : (rest : List Event) × (l.history ≡ fronts i ++ rest)
+    whole = let p = party 0 first-party in let f = finds i l at 0 p.0 p.1 in (f.rest, f.whole ∙ ap (λ (es : List Event). es ++ f.rest) (level 0 p.0 p.1 i))
+
+    nothing-more : (ev : Event) → get_elem? whole.0 0 ≡ some ev → ⊥
+    unfolding party made
+    nothing-more ev first =
+        let x : ℕ = length (fronts i) + 0 in
+        let here : get_elem? l.history x ≡ some ev = ap (λ (h : List Event). get_elem? h x) whole.1 ∙ (get-behind (fronts i) whole.0 0 ∙ first) in
+        let low = owner-party m cache ps e ends config did (noted_by settled work) made i l at x ev here in
+        let p = party _ low in
+        let inside : x < length (seen_of settled i p.0) = owner-seen m cache ps e ends config did (noted_by settled work) made i l at x ev here in
+        let long : length (seen_of settled i p.0) ≡ length (fronts i) = ap length (level _ p.0 p.1 i) in
+        omega (arith, inside, long)
+
+    pub work-level : l.history ≡ fronts i
+    work-level = whole.1 ∙ (ap (λ (rest : List Event). fronts i ++ rest) (none-first whole.0 nothing-more) ∙ append-nil (fronts i))
+      where
+        none-first : (es : List Event) → ((ev : Event) → get_elem? es 0 ≡ some ev → ⊥) → es ≡ []
+        none-first [] none = refl
+        none-first (ev ∷ es) none = absurd (none ev refl)
 
   abbrev histories : List (List Event)
   histories = map (λ (log : ShardLog). log.history) e.shards
