@@ -1,5 +1,5 @@
 -- Where no line did anything to a cell, the histories of a run explain its replies with lines that did nothing beside them.
-use Rattle.std.proofs.Common.{◌≡◌, ◌≢◌, ◌⊎◌, ℕ, zero, suc, ◌+◌, ◌<◌, ◌≤◌, ◌==◌, nat_le, Bool, true, false, IsTrue, List, [], ◌∷◌, ◌++◌, length, take, Option, refl, sym, ap, ◌∙◌, subst, inl, inr, arith, append-nil, eq-eqb, ne_eqb}
+use Rattle.std.proofs.Common.{◌≡◌, ◌≢◌, ◌⊎◌, ℕ, zero, suc, ◌+◌, ◌<◌, ◌≤◌, ◌==◌, nat_le, Bool, true, false, if◌then◌else◌, IsTrue, List, [], ◌∷◌, ◌++◌, length, take, Option, refl, sym, ap, ◌∙◌, subst, inl, inr, arith, append-nil, eq-eqb, ne_eqb}
 use Rattle.std.specs.Prelude.{filter, slice_get, slice_index_or}
 use Rattle.std.specs.List.{AllByRecursion, list_any}
 use Rattle.std.specs.Option.{option_map_or}
@@ -28,7 +28,7 @@ use Rattle.trace_text.specs.declared.trace.Trace.{Trace}
 use Rattle.trace_run.specs.declared.ran.Ending.{Ending}
 use Rattle.trace_run.specs.declared.ran.Ending.TheVariants.{Whole, Fork, Sync, Full}
 use Rattle.trace_run.specs.Acts.{acts_of, acts_of_all, acts_of_caller, acts_of_callers, acts_of_drops}
-use Rattle.trace_run.specs.CellEnds.{AreCellsOf}
+use Rattle.trace_run.specs.CellEnds.{AreCellsOf, ends_from}
 use Rattle.trace_run.specs.Deeds.{Noted, acts_of_events, with_number}
 use Rattle.trace_run.specs.Explaining.{EndsWith, Explain, ExplainReads, drops_at_end}
 use Rattle.trace_run.specs.KeptReads.{KeptRead}
@@ -328,12 +328,17 @@ front-work trace rs done same =
     subst (λ (ls : List Line). IsRunWork trace.config (take (length rs) trace.ops) rs (record { lines = ls; synced = []; inserted = []; ended = [] })) (sym (plain-front trace.ops rs))
     (plain-is trace.config (take (length rs) trace.ops) rs same (front-done (is_undone trace.config.callers) (length rs) trace.ops done))
 
-pub plain-work : (trace : Trace) (ending : Ending) (rs : List Reply) → has_undone trace ≡ false → length rs ≡ length (answered_ops trace ending rs) → IsRunWork trace.config (answered_ops trace ending rs) rs (plain_work trace.ops rs)
-plain-work trace Whole rs done same = plain-is trace.config trace.ops rs same done
-plain-work trace Fork rs done same = front-work trace rs done same
-plain-work trace Sync rs done same = front-work trace rs done same
-plain-work trace (Full need left) rs done same = front-work trace rs done same
+pub plain-work : (trace t : Trace) (ending : Ending) (rs : List Reply) → t.ops ≡ trace.ops → has_undone trace ≡ false → length rs ≡ length (answered_ops t ending rs)
+    → IsRunWork trace.config (answered_ops trace ending rs) rs (plain_work trace.ops rs)
+plain-work trace t Whole rs same done long = plain-is trace.config trace.ops rs (long ∙ ap length same) done
+plain-work trace t Fork rs same done long = front-work trace rs done (long ∙ ap (λ (os : List Op). length (take (length rs) os)) same)
+plain-work trace t Sync rs same done long = front-work trace rs done (long ∙ ap (λ (os : List Op). length (take (length rs) os)) same)
+plain-work trace t (Full need left) rs same done long = front-work trace rs done (long ∙ ap (λ (os : List Op). length (take (length rs) os)) same)
 
 -- nothing was done to the cells but their ends
-pub cells-plain : (trace : Trace) (os : List Op) (rs : List Reply) (closed : Ended OnHeap) → AreCellsOf trace (only_ended trace.config) closed → AreCellsOf trace (noted_by trace.config (plain_work os rs)) closed
-cells-plain trace os rs closed are = subst (λ (d : ℕ → List Noted). AreCellsOf trace d closed) (λ i n. plain-noted trace.config os rs n i) are
+pub cells-plain : (trace : Trace) (g : Config) → g.callers ≡ trace.config.callers → g.cells ≡ trace.config.cells → (os : List Op) (rs : List Reply) (closed : Ended OnHeap)
+    → AreCellsOf trace (only_ended trace.config) closed → AreCellsOf trace (noted_by g (plain_work os rs)) closed
+cells-plain trace g callers cells os rs closed are = subst (λ (d : ℕ → List Noted). AreCellsOf trace d closed) (λ i n. (bridge n ∙ plain-noted g os rs n) i) are
+  where
+    bridge : (n : ℕ) → only_ended trace.config n ≡ only_ended g n
+    bridge n = λ i. if n == sym callers i then ends_from n 0 (sym cells i) else []

@@ -1,4 +1,4 @@
-use Rattle.std.proofs.Common.{rules, ◌≡◌, Option, length, sym, ap, ◌∙◌, subst}
+use Rattle.std.proofs.Common.{rules, ◌≡◌, Option, refl, sym, ap, ◌∙◌, subst}
 use Rattle.trace_text.specs.declared.trace.Trace.{Trace}
 use Rattle.trace_run.specs.Bounded.{device_len, with_bound}
 use Rattle.trace_run.specs.CellEnds.{AreCellsOf}
@@ -7,7 +7,6 @@ use Rattle.trace_run.specs.Devices.{Finds, IsHandedBack, WasLent, device_of, len
 use Rattle.trace_run.specs.declared.device.Device.{Device}
 use Rattle.trace_run.specs.Outcome.{IsRun}
 use Rattle.trace_run.specs.RunWork.{only_ended, plain_work}
-use Rattle.trace_run.specs.callers.Together.{answered_ops}
 use Rattle.trace_run.proofs.DeviceLemmas.{found-kept, lent-back, nothing-lost, usable-kept, usable-lent}
 use Rattle.trace_run.proofs.callers.DeviceSteps.{was-used}
 use Rattle.trace_run.proofs.theorem.OutcomeLemmas.{reported-so}
@@ -58,8 +57,9 @@ returns-in-Ok-ran-clause-does g c =
         told = c.deliver.ensures.full;
         whole = c.in-Ok-ran.ensures.whole;
         work = plain_work trace.ops told.report.replies;
-        did = plain-work trace told.ending told.report.replies c.in-Ok.ensures.done (subst (λ (t : Trace). length told.report.replies ≡ length (answered_ops t told.ending told.report.replies)) bounded run.0.answers.all);
-        cells = cells-plain _ trace.ops told.report.replies told.closed (subst (λ (t : Trace). AreCellsOf t (only_ended t.config) told.closed) bounded c.in-Ok-ran.ensures.cells);
+        did = plain-work trace c.with_bound-trace.result told.ending told.report.replies (ap (λ (t : Trace). t.ops) bounded) c.in-Ok.ensures.done run.0.answers.all;
+        cells = cells-plain (with_bound trace (device_len g.D.CacheDev.size c.args.cache.now)) trace.config refl refl trace.ops told.report.replies told.closed
+            (subst (λ (t : Trace). AreCellsOf t (only_ended t.config) told.closed) bounded c.in-Ok-ran.ensures.cells);
       });
       sink = search rules;
       present = search rules;
