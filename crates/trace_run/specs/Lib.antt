@@ -28,6 +28,7 @@ pub mod Outcome
 pub mod Read
 pub mod Reads
 pub mod Restores
+pub mod RunWork
 pub mod States
 pub mod Status
 pub mod Syncing

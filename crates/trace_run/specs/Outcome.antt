@@ -33,6 +33,7 @@ use Rattle.trace_text.specs.Generator.{generated_block, generated_read, generate
 use Rattle.trace_run.specs.Answers.{AnswersAll}
 use Rattle.trace_run.specs.Bounded.{device_len, with_bound}
 use Rattle.trace_run.specs.CellEnds.{AreCellsOf}
+use Rattle.trace_run.specs.RunWork.{IsRunWork, RunWork, noted_by, only_ended, plain_work}
 use Rattle.trace_run.specs.CheckText.{check_text}
 use Rattle.trace_run.specs.DeviceUse.{WasUsed}
 use Rattle.trace_run.specs.Devices.{Finds, MayLose, usable}
@@ -81,12 +82,12 @@ pub record IsBadTrace (before after : StreamState) (line : ℕ) (kind : Kind) : 
   pub unfailed : NoneFailed before after
   pub fault : IsFirstFault text line kind ⊎ IsUndone text kind
 
--- Each operation that was answered has its answer, and the histories, which are those of the closed cache, explain the replies and the reads of
--- the pool; its faults rose by one for each reply that says so, and by one more where a fork failed, where each count had room. With one
+-- Each operation that was answered has its answer, and the histories, which are those of the closed cache, explain the replies, with this work beside them, and the
+-- reads of the pool; its faults rose by one for each reply that says so, and by one more where a fork failed, where each count had room. With one
 -- caller the report is a plain function; with several, each reads the pool through forks of its own, one for each group.
-pub record IsRun {P D : Type 0} (pool : Ghosts P) (device : Devices D) (before after : P) (lent back : Option D) (trace : Trace) (ending : Ending) (closed : Ended OnHeap) (report : Report) : Type 0 where
+pub record IsRun {P D : Type 0} (pool : Ghosts P) (device : Devices D) (before after : P) (lent back : Option D) (trace : Trace) (ending : Ending) (work : RunWork) (closed : Ended OnHeap) (report : Report) : Type 0 where
   pub answers : AnswersAll (pool.size before) (pool.told before) trace.blocks (answered_ops trace ending report.replies) report.replies
-  pub explained : Explain trace (found_keys report.rebuilt) report.replies report.ends report.histories
+  pub explained : Explain trace (found_keys report.rebuilt) work report.replies report.ends report.histories
   pub tells : TellsClosed closed report
   -- the shared cache was made with the trace's numbers
   pub config : closed.config ≡ trace.config
@@ -125,9 +126,12 @@ pub record IsReport {P D : Type 0} (pool : Ghosts P) (device : Devices D) (befor
   pub found : Finds device before.cache started report.rebuilt
   pub used : WasUsed device (with_bound trace (device_len device.size before.cache)) report.replies started after.cache
   pub ending : Ending
-  pub run : IsRun pool device before.pool after.pool (usable device started) (usable device after.cache) (with_bound trace (device_len device.size before.cache)) ending closed report
-  -- the cells began with the trace's lines, and were ended
-  pub cells : AreCellsOf (with_bound trace (device_len device.size before.cache)) closed
+  -- what the answered lines did beside their replies, and the feeder
+  pub work : RunWork
+  pub did : IsRunWork trace.config (answered_ops trace ending report.replies) report.replies work
+  pub run : IsRun pool device before.pool after.pool (usable device started) (usable device after.cache) (with_bound trace (device_len device.size before.cache)) ending work closed report
+  -- the cells began with the trace's lines; that was done to them, and they were ended
+  pub cells : AreCellsOf (with_bound trace (device_len device.size before.cache)) (noted_by trace.config work) closed
   pub status : report.status ≡ report_status ending report.replies
   pub told : TellsEnding answer ending
   pub whole : report.short ≡ false
@@ -150,10 +154,10 @@ zeros_of blocks = replicate (blocks * 512) 0
 pub record IsGenReport (seed blocks ops : ℕ) (closed : Ended OnHeap) (report : Report) : Type 0 where
   pub plain : report ≡ record (report_of (generated seed blocks ops) None (images (zeros_of blocks) []) [] []) { short = true }
   pub answers : AnswersAll (blocks * 512) (Some (zeros_of blocks)) (generated seed blocks ops).blocks (generated seed blocks ops).ops report.replies
-  pub explained : Explain (generated seed blocks ops) [] report.replies report.ends report.histories
+  pub explained : Explain (generated seed blocks ops) [] (plain_work (generated seed blocks ops).ops report.replies) report.replies report.ends report.histories
   pub tells : TellsClosed closed report
   pub config : closed.config ≡ generated_sizes blocks
-  pub cells : AreCellsOf (generated seed blocks ops) closed
+  pub cells : AreCellsOf (generated seed blocks ops) (only_ended (generated_sizes blocks)) closed
   pub status : report.status ≡ 0
 
 -- the report is there exactly where the trace was run

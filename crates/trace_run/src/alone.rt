@@ -10,6 +10,7 @@ ghost use Rattle.trace_text.specs.Grammar.{IsFormed, IsOperation};
 ghost use Rattle.trace_run.specs.declared.kept_blocks.KeptBlock.{KeptBlock};
 ghost use Rattle.trace_run.specs.one_caller.Alone.{RanAlone};
 ghost use Rattle.trace_run.specs.callers.CallerLines.{DidLines, HasFed, HasResized, at};
+ghost use Rattle.trace_run.specs.RunWork.{only_ended};
 ghost use Rattle.trace_run.specs.CellEnds.{AreCellsOf, HasSeenEnds};
 ghost use Rattle.trace_run.specs.KeptBlocks.{Stands, read_of};
 ghost use Rattle.trace_run.specs.Meeting.{HasFeeder};
@@ -230,7 +231,7 @@ fn run_over<P: Pool, D: CacheDev, G: Gate>(
     ensures ran { IfOk result (λ ran. RanAlone P.Pool pool.old pool.new trace.now restored.now ran.replies.items ran.closed) }
     ensures asks { IfOk result (λ ran. (calls : List Call) × AsksLines D.CacheDev trace.now.config.shards trace.now.blocks (restored_shard trace.now.config restored.now) []
         trace.now.ops ran.replies.items calls device.old device.new) }
-    ensures cells { IfOk result (λ ran. AreCellsOf trace.now ran.closed) }
+    ensures cells { IfOk result (λ ran. AreCellsOf trace.now (only_ended trace.now.config) ran.closed) }
     ensures whole { IfOk result (λ ran. ran.ending ≡ Ending.Whole) }
     ensures pool { KeepsPool P.Pool pool.old pool.new }
     ensures device { KeepsDevice D.CacheDev device.old device.new }
@@ -267,7 +268,7 @@ pub(crate) fn run_alone<P: Pool, D: CacheDev, G: Gate>(
     requires keys { HaveKeys restored.now }
     ensures ran { IfOk result (λ ran. RanAlone P.Pool pool.old pool.new trace.now restored.now ran.replies.items ran.closed) }
     ensures read { IfOk result (λ ran. ReadsAlone P.Pool D.CacheDev pool.old trace.now restored.now ran.replies.items (lent_in device.old) (lent_in device.new)) }
-    ensures cells { IfOk result (λ ran. AreCellsOf trace.now ran.closed) }
+    ensures cells { IfOk result (λ ran. AreCellsOf trace.now (only_ended trace.now.config) ran.closed) }
     ensures whole { IfOk result (λ ran. ran.ending ≡ Ending.Whole) }
     ensures pool { KeepsPool P.Pool pool.old pool.new }
     ensures device { WasLent D.CacheDev device.old device.new }

@@ -9,6 +9,7 @@ ghost use Rattle.trace_run.specs.callers.DeviceForks.{ReadInGroups};
 ghost use Rattle.trace_run.specs.callers.Group.{LeavesPool};
 ghost use Rattle.trace_run.specs.Devices.{WasLent, lent_in};
 ghost use Rattle.trace_run.specs.Restores.{found_keys};
+ghost use Rattle.trace_run.specs.RunWork.{only_ended, plain_work};
 ghost use Rattle.trace_run.specs.callers.Together.{groups_of, report_status};
 ghost use Rattle.trace_run.specs.Words.{IsInRange};
 ghost use Rattle.trace_run.specs.declared.words.Command.TheVariants as command;
@@ -49,9 +50,9 @@ pub(crate) fn run_trace<R: Threads + Wait + Sync, P: Pool, D: CacheDev, G: Gate>
 ) -> Result<Reported, NoMemory>
     requires formed { IsFormed trace.now }
     requires keys { HaveKeys (found_keys rebuilt) }
-    ensures run { IfOk result (λ told. IsRun P.Pool D.CacheDev pool.old pool.new (lent_in device.old) (lent_in device.new) trace.now told.ending told.closed told.report
+    ensures run { IfOk result (λ told. IsRun P.Pool D.CacheDev pool.old pool.new (lent_in device.old) (lent_in device.new) trace.now told.ending (plain_work trace.now.ops told.report.replies) told.closed told.report
         × (told.report.status ≡ report_status told.ending told.report.replies)) }
-    ensures cells { IfOk result (λ told. AreCellsOf trace.now told.closed) }
+    ensures cells { IfOk result (λ told. AreCellsOf trace.now (only_ended trace.now.config) told.closed) }
     ensures rebuilt { IfOk result (λ told. told.report.rebuilt ≡ rebuilt) }
     ensures whole { IfOk result (λ told. told.report.short ≡ false) }
     ensures together { IfOk result (λ told. 2 ≤ trace.now.config.callers

@@ -7,6 +7,7 @@ ghost use Rattle.arc_table.specs.Geometry.{parties_of};
 ghost use Rattle.arc_table.specs.declared.view.Line.{Line};
 ghost use Rattle.l2_dev.specs.Rebuilding.{HaveKeys};
 ghost use Rattle.trace_text.specs.Grammar.{IsFormed};
+ghost use Rattle.trace_run.specs.RunWork.{only_ended};
 ghost use Rattle.trace_run.specs.CellEnds.{AreCellsOf};
 ghost use Rattle.trace_run.specs.Deeds.{Noted};
 ghost use Rattle.trace_run.specs.Devices.{WasLent, lent_in};
@@ -106,7 +107,7 @@ pub(crate) fn run_together<R: Threads + Wait + Sync, P: Pool, D: CacheDev, G: Ga
     requires formed { IsFormed trace.now }
     requires keys { HaveKeys restored.now }
     ensures ran { IfOk result (λ ran. RanTogether P.Pool pool.old pool.new trace.now ran.ending restored.now ran.replies.items ran.closed) }
-    ensures cells { IfOk result (λ ran. AreCellsOf trace.now ran.closed) }
+    ensures cells { IfOk result (λ ran. AreCellsOf trace.now (only_ended trace.now.config) ran.closed) }
     ensures read { IfOk result (λ ran. ReadInGroups D.CacheDev trace.now.blocks trace.now.config.callers (groups_of trace.now.ops ran.replies.items) (lent_in device.old) (lent_in device.new)) }
     ensures pool { LeavesPool P.Pool pool.old pool.new }
     ensures device { WasLent D.CacheDev device.old device.new }

@@ -52,8 +52,9 @@ use Rattle.trace_run.specs.ObjectLines.{IsSized}
 use Rattle.trace_run.specs.Openings.{openings_of}
 use Rattle.trace_run.proofs.callers.SyncRun.{fresh-then, in-groups-as}
 use Rattle.trace_run.specs.CellEnds.{AreCellsOf}
+use Rattle.trace_run.specs.RunWork.{only_ended}
 use Rattle.trace_run.specs.Effects.{calls_of_all}
-use Rattle.trace_run.specs.Explaining.{EndsWith, Explain, drops_at_end}
+use Rattle.trace_run.specs.Explaining.{EndsWith, ExplainReads, drops_at_end}
 use Rattle.trace_run.specs.callers.GroupRun.{HaveClosed, HaveStopped, RanTogether}
 use Rattle.trace_run.specs.callers.Groups.{AreDone, AreEndLines, AreNamedAll, EndsLines, HaveCome, IsEndLine, StoodFresh}
 use Rattle.trace_run.specs.KeptBlocks.{Stands, holds_in, read_of}
@@ -428,8 +429,8 @@ module _ {C : Type 0} (cache : Cache) (restored : List Restored) (len : ℕ) (im
             starts-then l.history (seen_of cache.config i crew.feeder) (restores_in cache.config restored i)
             (starts-then l.history (seen_of cache.config i gone.feeder) (seen_of cache.config i crew.feeder) first (gone.fed.since i)) (come.begun i inside)
 
-        pub come-explains : Explain (record { config = cache.config; blocks = blocks; objects = []; ops = os }) restored rs (ends_in closed) (histories_of closed)
-        come-explains = explains m cache valid restored blocks os rs fin closed ends fin-count fin-ended begins-at ends-at
+        pub come-explains : ((j : ℕ) (c : C) → get_elem? closed.cells j ≡ some c → m.holds c ≡ []) → ExplainReads (record { config = cache.config; blocks = blocks; objects = []; ops = os }) restored rs (ends_in closed) (histories_of closed)
+        come-explains emptied = explains m cache valid restored blocks os rs fin closed ends fin-count fin-ended emptied begins-at ends-at
 
         pub come-others : over_callers cache.config.callers (λ n. reads_of_caller n (histories_of closed)) ≡ sum_by pool_reads (histories_of closed)
         come-others = callers-counted m cache valid restored blocks os rs fin closed ends fin-count fin-ended
@@ -566,7 +567,7 @@ module _ (blocks : List Ptr) (os more : List Op) (rs : List Reply) (same : lengt
 -- so the histories explain the replies to all lines
 explained-more : (config : Config) (restored : List Restored) (blocks : List Ptr) (os more : List Op) (rs : List Reply) (ends : List ShardEnd) (histories : List (List Event)) → length rs ≡ length os
     → ((n : ℕ) → n < config.callers → length (replies_of_caller n os rs) ≡ length (filter (is_of_caller n) os))
-    → Explain (record { config = config; blocks = blocks; objects = []; ops = os }) restored rs ends histories → Explain (record { config = config; blocks = blocks; objects = []; ops = os ++ more }) restored rs ends histories
+    → ExplainReads (record { config = config; blocks = blocks; objects = []; ops = os }) restored rs ends histories → ExplainReads (record { config = config; blocks = blocks; objects = []; ops = os ++ more }) restored rs ends histories
 explained-more config restored blocks os more rs ends histories same long e = record {
   shards = e.shards;
   legal = e.legal;
@@ -638,11 +639,11 @@ module _ {P : Type 0} (m : Meanings OnHeap) (cache : Cache) (pools : Ghosts P) (
   answers : AnswersAll (pools.size before) (pools.told before) trace.blocks os rs
   answers = all-answered (pools.size before) (pools.told before) trace.blocks (λ n. n < callers) os rs come.long below-all come.ended (λ n below. (come.each n below).come.answers)
 
-  explained : Explain trace restored rs (ends_in closed) (histories_of closed)
-  explained =
-      let e = come-explains cache restored (pools.size before) (pools.told before) trace.blocks os rs crew come all-given gave h.ended.last closing closing-long after-ends m valid closed h.ends in
+  explained : ((j : ℕ) (c : OnHeap) → get_elem? closed.cells j ≡ some c → m.holds c ≡ []) → ExplainReads trace restored rs (ends_in closed) (histories_of closed)
+  explained emptied =
+      let e = come-explains cache restored (pools.size before) (pools.told before) trace.blocks os rs crew come all-given gave h.ended.last closing closing-long after-ends m valid closed h.ends emptied in
       explain-mapped trace restored rs (ends_in closed) (histories_of closed)
-      (subst (λ (x : Config × List Op). Explain (record { config = x.0; blocks = trace.blocks; objects = []; ops = x.1 }) restored rs (ends_in closed) (histories_of closed)) (λ i. (config i, whole-ops i))
+      (subst (λ (x : Config × List Op). ExplainReads (record { config = x.0; blocks = trace.blocks; objects = []; ops = x.1 }) restored rs (ends_in closed) (histories_of closed)) (λ i. (config i, whole-ops i))
       (explained-more cache.config restored trace.blocks os more rs (ends_in closed) (histories_of closed) come.long long-each e))
 
   all-reads-are : over_callers callers (λ n. length (calls_of_all (replies_of_caller n os rs))) ≡ sum_by pool_reads (histories_of closed)
@@ -691,11 +692,11 @@ module _ {P : Type 0} (m : Meanings OnHeap) (cache : Cache) (pools : Ghosts P) (
       go (Full need left) is = absurd is
       go Fork is = omega (arith, is.1.faults (omega (arith, room, reached-faults room, faults-few)), reached-faults room)
 
-  pub group-together : IsFirstPlace (pools.size before) trace.blocks place → AreCellsOf trace closed → RanTogether pools before after trace ending restored rs closed
-  group-together first cells = record {
+  pub group-together : IsFirstPlace (pools.size before) trace.blocks place → AreCellsOf trace (only_ended trace.config) closed → ((j : ℕ) (c : OnHeap) → get_elem? closed.cells j ≡ some c → m.holds c ≡ []) → RanTogether pools before after trace ending restored rs closed
+  group-together first cells emptied = record {
     answers = answered ending d.ended;
     config = h.ends.config ∙ config;
-    explained = explained;
+    explained = explained emptied;
     reads = after-reads;
     faults = after-faults;
     together = λ rebuilt is. record {

@@ -44,15 +44,15 @@ use Rattle.trace_run.proofs.CellsLeft.{CellsGrow, leaves-seen}
 use Rattle.trace_run.proofs.deeds.MadeCells.{given-made, given-made-else, took-made, took-made-else}
 use Rattle.trace_run.proofs.deeds.TurnMakes.{AreTurnEvents, TurnMakes, all-made, held-append, own-there, starts-on, there-append}
 
-noted-here : (i : ℕ) (news : List CellEvent) → events_of_cell i (noted_in i news) ≡ news
+pub noted-here : (i : ℕ) (news : List CellEvent) → events_of_cell i (noted_in i news) ≡ news
 noted-here i [] = refl
 noted-here i (e ∷ es) = let here : (i == i) ≡ true = eq-eqb i i refl in rw here (ap (λ l. e ∷ l) (noted-here i es))
 
-noted-else : (i j : ℕ) (news : List CellEvent) → i ≢ j → events_of_cell j (noted_in i news) ≡ []
+pub noted-else : (i j : ℕ) (news : List CellEvent) → i ≢ j → events_of_cell j (noted_in i news) ≡ []
 noted-else i j [] differs = refl
 noted-else i j (e ∷ es) differs = let other : (i == j) ≡ false = ne_eqb i j differs in rw other (noted-else i j es differs)
 
-cell-append : (i : ℕ) (a b : List Noted) → events_of_cell i (a ++ b) ≡ events_of_cell i a ++ events_of_cell i b
+pub cell-append : (i : ℕ) (a b : List Noted) → events_of_cell i (a ++ b) ≡ events_of_cell i a ++ events_of_cell i b
 cell-append i [] b = refl
 cell-append i (n ∷ ns) b = elim (cases_true (n.cell == i)) [
   | inl here ↦ rw here (ap (λ l. n.event ∷ l) (cell-append i ns b))

@@ -41,7 +41,7 @@ use Rattle.trace_run.specs.callers.CallerLines.{At, DidLines, HasFed, at}
 use Rattle.trace_run.specs.Effects.{calls_of_all}
 use Rattle.trace_run.specs.Ends.{ends_of}
 use Rattle.arc_table.specs.Telling.{opening_of}
-use Rattle.trace_run.specs.Explaining.{BeginsWith, EndsWith, Explain, drops_at_end}
+use Rattle.trace_run.specs.Explaining.{BeginsWith, EndsWith, ExplainReads, drops_at_end}
 use Rattle.trace_run.specs.KeptBlocks.{DroppedAlone, GivesAll, Stands, holds_in, read_of}
 use Rattle.trace_run.specs.Lines.{caller_of, is_in_shard, is_of_caller, replies_where, shard_of_block, shard_of_line}
 use Rattle.trace_run.specs.one_caller.OneCaller.{AreFoundAs, IsFoundAs, events_of_drops, kept_after, kept_after_all, one_caller_history, only_feeder}
@@ -416,7 +416,7 @@ module _ {C P : Type 0} (m : Meanings C) (cache : Cache) (pools : Ghosts P) (blo
     begins-at : (i : ℕ) (l : ShardLog) → get_elem? closed.shards i ≡ some l → BeginsWith l.history (begun i)
     begins-at i l at_i = (_, the-history i l at_i)
 
-    explained : Explain trace restored replies (ends_in closed) (histories_of closed)
+    explained : ExplainReads trace restored replies (ends_in closed) (histories_of closed)
     explained = record {
       shards = length-map closed.shards (λ (log : ShardLog). log.history) ∙ ends.shards;
       legal = all-mapped (λ (log : ShardLog). log.history) (λ history. IsTrue (is_legal_history opening history)) closed.shards (alone-legal m cache z closed ends parties-z stands-z all-z);

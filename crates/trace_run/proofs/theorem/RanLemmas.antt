@@ -15,11 +15,13 @@ use Rattle.vdev_io.specs.declared.device.CacheDev.{Ghosts as DeviceGhosts}
 use Rattle.vdev_io.specs.declared.pool.Pool.{Ghosts}
 use Rattle.trace_run.specs.declared.ran.Ending.{Ending}
 use Rattle.trace_run.specs.declared.ran.Ending.TheVariants.{Fork, Full, Sync, Whole}
-use Rattle.trace_run.specs.one_caller.Alone.{RanAlone, ends_in}
+use Rattle.trace_run.specs.one_caller.Alone.{RanAlone, ends_in, histories_of}
 use Rattle.trace_run.specs.Effects.{calls_of_all}
 use Rattle.trace_run.specs.Ends.{ends_of}
 use Rattle.dbuf_cells.specs.Turns.{OnHeap}
 use Rattle.trace_run.specs.callers.GroupRun.{RanTogether}
+use Rattle.trace_run.specs.RunWork.{plain_work}
+use Rattle.trace_run.proofs.theorem.WorkLemmas.{explain-plain}
 use Rattle.trace_run.specs.Outcome.{IsRun}
 use Rattle.trace_run.specs.one_caller.Lent.{ReadsAlone, told_lent}
 use Rattle.trace_run.specs.one_caller.PlainRun.{images, no_contents, replies_to, report_with}
@@ -43,7 +45,7 @@ both-told (Some x) (Some y) each is = each x y is
 module _ {P D : Type 0} (pools : Ghosts P) (devices : DeviceGhosts D) (before after : P) (lent back : Option D) (trace : Trace) (rebuilt : Option Rebuilt) (replies : List Reply) (closed : Ended OnHeap) where
   -- one caller's run
   pub alone-run : IsFormed trace → trace.config.callers ≡ 1 → RanAlone pools before after trace (found_keys rebuilt) replies closed
-      → ReadsAlone pools devices before trace (found_keys rebuilt) replies lent back → IsRun pools devices before after lent back trace Whole closed (report_of_closed Whole rebuilt replies closed)
+      → ReadsAlone pools devices before trace (found_keys rebuilt) replies lent back → IsRun pools devices before after lent back trace Whole (plain_work trace.ops replies) closed (report_of_closed Whole rebuilt replies closed)
   alone-run formed one ran read =
       let report : Report = report_of_closed Whole rebuilt replies closed in
       let few : length (calls_of_all replies) < 2 ^ 32 = omega (arith, calls-few replies, ran.answers.all, formed.few_ops) in
@@ -51,7 +53,7 @@ module _ {P D : Type 0} (pools : Ghosts P) (devices : DeviceGhosts D) (before af
       let plain : report ≡ report_with trace rebuilt replies = report-is trace report ran.histories ends refl refl refl in
       record {
         answers = ran.answers;
-        explained = ran.explained;
+        explained = explain-plain trace (found_keys rebuilt) replies (ends_in closed) (histories_of closed) ran.explained;
         tells = record { histories = refl; ends = refl };
         config = ran.config;
         no_workers = refl;
@@ -78,16 +80,16 @@ module _ {P D : Type 0} (pools : Ghosts P) (devices : DeviceGhosts D) (before af
       }
 
   pub alone-told : (ending : Ending) → ending ≡ Whole → IsFormed trace → trace.config.callers ≡ 1 → RanAlone pools before after trace (found_keys rebuilt) replies closed
-      → ReadsAlone pools devices before trace (found_keys rebuilt) replies lent back → IsRun pools devices before after lent back trace ending closed (report_of_closed ending rebuilt replies closed)
+      → ReadsAlone pools devices before trace (found_keys rebuilt) replies lent back → IsRun pools devices before after lent back trace ending (plain_work trace.ops replies) closed (report_of_closed ending rebuilt replies closed)
   alone-told ending whole formed one ran read =
-      subst (λ (e : Ending). IsRun pools devices before after lent back trace e closed (report_of_closed e rebuilt replies closed)) (sym whole) (alone-run formed one ran read)
+      subst (λ (e : Ending). IsRun pools devices before after lent back trace e (plain_work trace.ops replies) closed (report_of_closed e rebuilt replies closed)) (sym whole) (alone-run formed one ran read)
 
   -- several callers' run
   pub together-run : (ending : Ending) → 2 ≤ trace.config.callers → RanTogether pools before after trace ending (found_keys rebuilt) replies closed
-      → IsRun pools devices before after lent back trace ending closed (report_of_closed ending rebuilt replies closed)
+      → IsRun pools devices before after lent back trace ending (plain_work trace.ops replies) closed (report_of_closed ending rebuilt replies closed)
   together-run ending two ran = record {
     answers = ran.answers;
-    explained = ran.explained;
+    explained = explain-plain trace (found_keys rebuilt) replies (ends_in closed) (histories_of closed) ran.explained;
     tells = record { histories = refl; ends = refl };
     config = ran.config;
     no_workers = refl;

@@ -20,7 +20,7 @@ use Rattle.trace_run.specs.declared.groups.Crew.{Crew}
 use Rattle.trace_run.specs.declared.ran.Ending.{Ending}
 use Rattle.trace_run.specs.one_caller.Alone.{ends_in, histories_of}
 use Rattle.trace_run.specs.Answers.{AnswersAll}
-use Rattle.trace_run.specs.Explaining.{Explain}
+use Rattle.trace_run.specs.Explaining.{ExplainReads}
 use Rattle.trace_run.specs.CellEnds.{EndedCrew}
 use Rattle.trace_run.specs.Deeds.{Noted}
 use Rattle.trace_run.specs.KeptBlocks.{Stands}
@@ -47,7 +47,7 @@ pub record HaveClosed {C : Type 0} (m : Meanings C) (cache : Cache) (crew : Crew
 pub record RanTogether {P : Type 0} (pools : Ghosts P) (before after : P) (trace : Trace) (ending : Ending) (restored : List Restored) (replies : List Reply) (closed : Ended OnHeap) : Type 0 where
   pub answers : AnswersAll (pools.size before) (pools.told before) trace.blocks (answered_ops trace ending replies) replies
   pub config : closed.config ≡ trace.config
-  pub explained : Explain trace restored replies (ends_in closed) (histories_of closed)
+  pub explained : ExplainReads trace restored replies (ends_in closed) (histories_of closed)
   pub reads : pools.reads before < 2 ^ 63 → pools.reads after ≡ pools.reads before + sum_by pool_reads (histories_of closed)
   pub faults : pools.faults before < 2 ^ 63 → pools.faults after ≡ pools.faults before + faults_told ending replies
   pub together : (rebuilt : Option Rebuilt) → found_keys rebuilt ≡ restored → RunsTogether pools before after trace ending closed.cells (report_of_closed ending rebuilt replies closed)

@@ -11,6 +11,7 @@ use Rattle.trace_run.specs.Outcome.{generated, zeros_of}
 use Rattle.trace_run.specs.one_caller.PlainReport.{IsPlainReport}
 use Rattle.trace_run.specs.one_caller.PlainRun.{Images, images, report_of}
 use Rattle.trace_run.specs.Restores.{found_keys}
+use Rattle.trace_run.specs.RunWork.{only_ended, plain_work}
 use Rattle.vdev_io.specs.contracts.device.NoCacheCacheDev.TheImpl as no_cache
 use Rattle.trace_run.proofs.one_caller.LentLemmas.{unlent-calls}
 use Rattle.trace_run.proofs.theorem.GenLemmas.{made-plain, made-report, made-trace, never-failed, none-refused}
@@ -46,9 +47,9 @@ returns-clause-generated g c =
     record {
       plain = ap (λ (r : Report). record r { short = true }) whole;
       answers = subst (λ (t : Trace). AnswersAll (c.args.blocks * 512) (Some (zeros_of c.args.blocks)) t.blocks t.ops report.replies) is answers;
-      explained = subst (λ (x : Trace × Option Rebuilt). Explain x.0 (found_keys x.1) report.replies report.ends report.histories) (λ i. (is i, nothing i)) run.explained;
+      explained = subst (λ (x : Trace × Option Rebuilt). Explain x.0 (found_keys x.1) (plain_work x.0.ops report.replies) report.replies report.ends report.histories) (λ i. (is i, nothing i)) run.explained;
       tells = record { histories = run.tells.histories; ends = run.tells.ends };
       config = run.config ∙ ap (λ (t : Trace). t.config) is;
-      cells = subst (λ (t : Trace). AreCellsOf t reported.closed) is c.in_ok-reported.ensures.cells;
+      cells = subst (λ (t : Trace). AreCellsOf t (only_ended t.config) reported.closed) is c.in_ok-reported.ensures.cells;
       status = ran.1 ∙ rw (one.0, fine) refl;
     }

@@ -6,6 +6,7 @@ use Rattle.trace_run.specs.Devices.{lent_in}
 use Rattle.trace_run.specs.one_caller.Lent.{ReadsAlone}
 use Rattle.trace_run.specs.callers.GroupRun.{RanTogether}
 use Rattle.trace_run.specs.Outcome.{IsRun}
+use Rattle.trace_run.specs.RunWork.{only_ended, plain_work}
 use Rattle.trace_run.specs.callers.Together.{report_of_closed}
 use Rattle.trace_run.proofs.theorem.RanLemmas.{alone-told, together-run}
 use Rattle.trace_run.proofs.run_trace.run_trace.Goals as goal
@@ -16,7 +17,7 @@ returns-clause-run g c =
     let ran = c.if-trace-eq1.ran in
     let trace = c.args.trace.now in
     let told = c.in_ok-reported.ensures in
-    let run : IsRun g.P.Pool g.D.CacheDev c.args.pool.now c.if-trace-eq1.pool (lent_in c.args.device.now) (lent_in c.if-trace-eq1.device) trace ran.ending ran.closed (report_of_closed ran.ending c.args.rebuilt ran.replies.items ran.closed) = elim c.if-trace-eq1.branch [
+    let run : IsRun g.P.Pool g.D.CacheDev c.args.pool.now c.if-trace-eq1.pool (lent_in c.args.device.now) (lent_in c.if-trace-eq1.device) trace ran.ending (plain_work trace.ops ran.replies.items) ran.closed (report_of_closed ran.ending c.args.rebuilt ran.replies.items ran.closed) = elim c.if-trace-eq1.branch [
       | then-trace-eq1+in_ok-ran w ↦
           let did = w.in_ok-ran.ran in
           rw (w.ran-is, w.pool-is, w.device-is) (alone-told g.P.Pool g.D.CacheDev c.args.pool.now w.run_alone.new.pool (lent_in c.args.device.now) (lent_in w.run_alone.new.device) trace c.args.rebuilt did.replies.items did.closed did.ending
@@ -34,7 +35,7 @@ returns-clause-run g c =
 pub returns-clause-cells : goal.returns-clause-cells
 returns-clause-cells g c =
     let ran = c.if-trace-eq1.ran in
-    let here : AreCellsOf c.args.trace.now ran.closed = elim c.if-trace-eq1.branch [
+    let here : AreCellsOf c.args.trace.now (only_ended c.args.trace.now.config) ran.closed = elim c.if-trace-eq1.branch [
       | then-trace-eq1+in_ok-ran w ↦ rw w.ran-is w.in_ok-ran.ensures.cells
       | else-trace-eq1+in_ok-ran-2 w ↦ rw w.ran-is w.in_ok-ran-2.ensures.cells
     ] in

@@ -2,6 +2,8 @@
 use Rattle.std.proofs.Common.{◌≡◌, ℕ, List, [], length, sym, subst, arith}
 use Rattle.arc_core.specs.Config.{IsConfig}
 use Rattle.trace_run.specs.Openings.{AllKnow, openings_of}
+use Rattle.trace_run.specs.RunWork.{only_ended}
+use Rattle.trace_run.proofs.CellLemmas.{all-empty}
 use Rattle.trace_run.proofs.theorem.CellRun.{closed-cells}
 use Rattle.trace_run.proofs.callers.GroupRunLemmas.{come-wait, group-together, lines-acts, may-resize}
 use Rattle.trace_run.proofs.callers.GroupsLemmas.{crew-rows, have-started}
@@ -88,7 +90,7 @@ returns-clause-ran g c =
     let cells = closed-cells c.in_ok-arcs.arcs g.P.Pool c.args.pool.now c.all_groups.new.pool c.first_place.result c.args.trace.now c.requires.formed config (subst IsConfig (sym config) c.requires.formed.config) _ c.args.restored.now _ _ done c.in_ok-closed.closed
     c.in_ok-closed.ensures in
     group-together _ c.in_ok-arcs.arcs g.P.Pool c.args.pool.now c.all_groups.new.pool c.first_place.result c.args.trace.now c.requires.formed config (subst IsConfig (sym config) c.requires.formed.config) _ c.args.restored.now _ _ done c.in_ok-closed.closed
-    c.in_ok-closed.ensures place cells
+    c.in_ok-closed.ensures place cells (all-empty c.in_ok-arcs.arcs c.in_ok-closed.ensures.closing c.in_ok-closed.closed c.in_ok-closed.ensures.ends c.args.trace.now (only_ended c.args.trace.now.config) cells)
 
 pub returns-clause-cells : goal.returns-clause-cells
 returns-clause-cells g c =

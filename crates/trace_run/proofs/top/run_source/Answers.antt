@@ -1,4 +1,4 @@
-use Rattle.std.proofs.Common.{rules, ◌≡◌, Option, sym, ap, ◌∙◌, subst}
+use Rattle.std.proofs.Common.{rules, ◌≡◌, Option, refl, sym, ap, ◌∙◌, subst}
 use Rattle.trace_text.specs.declared.trace.Trace.{Trace}
 use Rattle.trace_run.specs.Bounded.{device_len, with_bound}
 use Rattle.trace_run.specs.CellEnds.{AreCellsOf}
@@ -6,9 +6,11 @@ use Rattle.trace_run.specs.DeviceUse.{WasUsed}
 use Rattle.trace_run.specs.Devices.{Finds, IsHandedBack, WasLent, device_of, lent_in, usable}
 use Rattle.trace_run.specs.declared.device.Device.{Device}
 use Rattle.trace_run.specs.Outcome.{IsRun}
+use Rattle.trace_run.specs.RunWork.{only_ended, plain_work}
 use Rattle.trace_run.proofs.DeviceLemmas.{found-kept, lent-back, nothing-lost, usable-kept, usable-lent}
 use Rattle.trace_run.proofs.callers.DeviceSteps.{was-used}
 use Rattle.trace_run.proofs.theorem.OutcomeLemmas.{reported-so}
+use Rattle.trace_run.proofs.theorem.WorkLemmas.{cells-plain, plain-work}
 use Rattle.trace_run.proofs.top.run_source.Goals as goal
 
 pub returns-in-Err-clause-does : goal.returns-in-Err-clause-does
@@ -50,11 +52,14 @@ returns-in-Ok-ran-clause-does g c =
         used = subst (λ (t : Trace). WasUsed g.D.CacheDev t told.report.replies (device_of begun) c.back.result) bounded
             (was-used g.D.CacheDev c.with_bound-trace.result told.report.replies begun c.run_trace-ran.new.device c.back.result c.back.ensures kind lent c.in-Ok-ran.ensures.together);
         ending = told.ending;
-        run = subst (λ (x : Trace × Option g.row.D.Denot × Option g.row.D.Denot). IsRun g.P.Pool g.D.CacheDev c.args.pool.now c.run_trace-ran.new.pool x.1 x.2 x.0 told.ending told.closed told.report) (λ i. (bounded i, before i, after i)) run.0;
+        run = subst (λ (x : Trace × Option g.row.D.Denot × Option g.row.D.Denot). IsRun g.P.Pool g.D.CacheDev c.args.pool.now c.run_trace-ran.new.pool x.1 x.2 x.0 told.ending (plain_work x.0.ops told.report.replies) told.closed told.report) (λ i. (bounded i, before i, after i)) run.0;
         status = run.1;
         told = c.deliver.ensures.full;
         whole = c.in-Ok-ran.ensures.whole;
-        cells = subst (λ (t : Trace). AreCellsOf t told.closed) bounded c.in-Ok-ran.ensures.cells;
+        work = plain_work trace.ops told.report.replies;
+        did = plain-work trace c.with_bound-trace.result told.ending told.report.replies (ap (λ (t : Trace). t.ops) bounded) c.in-Ok.ensures.done run.0.answers.all;
+        cells = cells-plain (with_bound trace (device_len g.D.CacheDev.size c.args.cache.now)) trace.config refl refl trace.ops told.report.replies told.closed
+            (subst (λ (t : Trace). AreCellsOf t (only_ended t.config) told.closed) bounded c.in-Ok-ran.ensures.cells);
       });
       sink = search rules;
       present = search rules;
