@@ -17,9 +17,10 @@ use Rattle.trace_run.specs.Acts.{acts_of_drops}
 use Rattle.trace_run.specs.CellEnds.{ends_from}
 use Rattle.trace_run.specs.Deeds.{Noted, acts_of_events, with_number}
 use Rattle.trace_run.specs.KeptReads.{KeptRead}
+use Rattle.trace_run.specs.Lines.{caller_of, is_of_caller}
 use Rattle.trace_run.specs.MadeLines.{owned_from}
 use Rattle.trace_run.specs.Objects.{Line, no_work}
-use Rattle.trace_run.specs.callers.WorkLines.{AreLinesOf, IsWorkOf, acts_of_work, caller_of_line, is_line_of, noted_of_work}
+use Rattle.trace_run.specs.callers.WorkLines.{AreLinesOf, IsWorkOf, acts_of_work, noted_of_work}
 use Rattle.trace_run.specs.one_caller.OneCaller.{kept_after}
 
 -- The lines that were answered, in their order, each with its work. What the feeder noted in cells as it synced, and the blocks that it inserted then with the cells'
@@ -70,7 +71,7 @@ pub record IsCellDrop (g : Config) (e : Event) : Type 0 where
 
 pub record IsRunWork (g : Config) (ops : List Op) (replies : List Reply) (work : RunWork) : Type 0 where
   pub lines : AreLinesOf ops replies work.lines
-  pub fits : AllByRecursion (λ l. FitsBy g (caller_of_line l.op) l) work.lines
+  pub fits : AllByRecursion (λ l. FitsBy g (caller_of l.op) l) work.lines
   pub synced : AllByRecursion (IsSyncedNote g) work.synced
   pub inserted : AllByRecursion (IsInserted g) work.inserted
   pub ended : AllByRecursion (IsCellDrop g) work.ended
@@ -78,7 +79,7 @@ pub record IsRunWork (g : Config) (ops : List Op) (replies : List Reply) (work :
 -- ---- what each party did
 
 abbrev pub lines_of_caller : ℕ → List Line → List Line
-lines_of_caller n = filter (λ l. is_line_of n l.op)
+lines_of_caller n = filter (λ l. is_of_caller n l.op)
 
 -- what is kept behind these lines, where it was this before them
 abbrev pub kept_after_lines : List Ptr → List KeptRead → List Line → List KeptRead

@@ -38,7 +38,7 @@ use Rattle.trace_run.specs.Objects.{Line, no_work}
 use Rattle.trace_run.specs.Restores.{events_by_feeder}
 use Rattle.trace_run.specs.RunWork.{AreMadeBy, FitsBy, IsRunWork, acts_by, acts_of_caller_lines, acts_of_cells, kept_after_lines, lines_of_caller, noted_by, only_ended, own_acts, plain_lines, plain_work}
 use Rattle.trace_run.specs.callers.Together.{answered_ops}
-use Rattle.trace_run.specs.callers.WorkLines.{AreLinesOf, acts_of_work, acts_with_op, caller_of_line, is_line_of, noted_of_work}
+use Rattle.trace_run.specs.callers.WorkLines.{AreLinesOf, acts_of_work, acts_with_op, noted_of_work}
 use Rattle.trace_run.specs.one_caller.OneCaller.{kept_after, kept_after_all}
 use Rattle.trace_run.proofs.callers.CallerActLemmas.{callers-none, own-lines}
 use Rattle.trace_run.proofs.one_caller.TellLemmas.{act-caller, filter-all, all-map}
@@ -46,22 +46,6 @@ use Rattle.trace_run.proofs.theorem.HistoryLemmas.{own-events}
 use Rattle.trace_run.proofs.theorem.PlacedLemmas.{all-by-place}
 
 -- ---- lines that did nothing beside their replies
-
-caller-line : (op : Op) → caller_of_line op ≡ caller_of op
-caller-line (ops.Read n t x window) = refl
-caller-line (ops.Hold n t x) = refl
-caller-line (ops.Drop n x) = refl
-caller-line (ops.Get n t at window) = refl
-caller-line (ops.Put n t at size fill) = refl
-caller-line (ops.Patch n t at from bytes) = refl
-caller-line (ops.Pin n t at) = refl
-caller-line (ops.Unpin n at) = refl
-caller-line ops.Feed = refl
-caller-line (ops.Txg t) = refl
-caller-line (ops.Cap c) = refl
-
-his-line : (n : ℕ) (op : Op) → is_line_of n op ≡ is_of_caller n op
-his-line n op = ap (λ (o : Option ℕ). option_map_or (λ (m : ℕ). m == n) o false) (caller-line op)
 
 plain-none : (l : List Op) → plain_lines l [] ≡ []
 plain-none [] = refl
@@ -277,7 +261,7 @@ module _ (g : Config) where
   plain-are (o ∷ os) [] same = absurd (omega (arith, same))
   plain-are (o ∷ os) (r ∷ rs) same = (refl, refl, plain-are os rs (omega (arith, same)))
 
-  one-fits : (op : Op) (reply : Reply) → is_undone g.callers op ≡ false → FitsBy g (caller_of_line op) (record { op = op; reply = reply; work = no_work })
+  one-fits : (op : Op) (reply : Reply) → is_undone g.callers op ≡ false → FitsBy g (caller_of op) (record { op = op; reply = reply; work = no_work })
   one-fits (ops.Read n t x window) reply done = record { together = refl; notes = refl }
   one-fits (ops.Hold n t x) reply done = record { together = refl; notes = refl }
   one-fits (ops.Drop n x) reply done = record { together = refl; notes = refl }
@@ -290,7 +274,7 @@ module _ (g : Config) where
   one-fits (ops.Txg t) reply done = refl
   one-fits (ops.Cap c) reply done = refl
 
-  all-fit : (os : List Op) (rs : List Reply) → list_any (is_undone g.callers) os ≡ false → AllByRecursion (λ l. FitsBy g (caller_of_line l.op) l) (plain_lines os rs)
+  all-fit : (os : List Op) (rs : List Reply) → list_any (is_undone g.callers) os ≡ false → AllByRecursion (λ l. FitsBy g (caller_of l.op) l) (plain_lines os rs)
   all-fit [] rs done = tt
   all-fit (o ∷ os) [] done = tt
   all-fit (o ∷ os) (r ∷ rs) done = let h = first-done (is_undone g.callers) o os done in (one-fits o r h.0, all-fit os rs h.1)
