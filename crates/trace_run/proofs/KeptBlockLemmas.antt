@@ -242,10 +242,10 @@ module _ {C : Type 0} (m : Meanings C) (cache : Cache) (p q : Place (Known C)) (
     held-adds = record {
       number = made.same.number;
       told = λ before noted told. told-own g before (acts_of_drop p.number (Some hold.key)) noted p q (refl, tt)
-        (told-more g before (GivenBack p.number hold.key) (record { before = d.before.now; event = Drop p.number hold.key } ∷ []) p q refl told.acts
-            (subst (λ (ms : List Moment). AddsOwn g (shard_of g.shards hold.key) ms p q) moments-are (made-own g (shard_of g.shards hold.key) d.before (Drop hold.owner hold.key ∷ []) p q made))
-            (record { events = refl; digests = (tt, tt) }))
-        (does-moves m g valid hold.key p q config stands.seen (Drop hold.owner hold.key ∷ []) mine d).same told;
+          (told-more g before (GivenBack p.number hold.key) (record { before = d.before.now; event = Drop p.number hold.key } ∷ []) p q refl told.acts
+          (subst (λ (ms : List Moment). AddsOwn g (shard_of g.shards hold.key) ms p q) moments-are (made-own g (shard_of g.shards hold.key) d.before (Drop hold.owner hold.key ∷ []) p q made))
+          (record { events = refl; digests = (tt, tt) }))
+          (does-moves m g valid hold.key p q config stands.seen (Drop hold.owner hold.key ∷ []) mine d).same told;
       keeps = (does-moves m g valid hold.key p q config stands.seen (Drop hold.owner hold.key ∷ []) mine d).same.keeps;
       alone = λ all. subst (λ (n : ℕ). AddsAll g (shard_of g.shards hold.key) (Drop n hold.key ∷ []) p q) owner (made-alone g (shard_of g.shards hold.key) d.before (Drop hold.owner hold.key ∷ []) p q made all);
       all = λ all. made-all g (shard_of g.shards hold.key) d.before (Drop hold.owner hold.key ∷ []) p q made all;

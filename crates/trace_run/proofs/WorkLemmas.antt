@@ -150,8 +150,7 @@ module _ {P D : Type 0} (pools : PoolGhosts P) (devices : DeviceGhosts D) (g : C
   all-plain (o ∷ os) (r ∷ rs) (l ∷ ls) a b plain are did =
       let next = did.0 in
       let one : DidLineBy pools devices g blocks None l a next = subst (λ (x : Option OnObject). DidLineBy pools devices g blocks x l a next) (ap on_object are.0 ∙ plain.0) did.1 in
-      let rest = all-plain os rs ls next b plain.1 are.2 did.2 in
-      (
+      let rest = all-plain os rs ls next b plain.1 are.2 did.2 in (
         (plainly next, subst (λ (x : Op × Reply). DidLine g pools blocks x.0 x.1 (plainly a) (plainly next)) (λ i. (are.0 i, are.1 i)) one.1, rest.0),
         (next.outside.device, subst (λ (x : Op × Reply). LineAsks devices blocks x.0 x.1 a.outside.device next.outside.device) (λ i. (are.0 i, are.1 i)) one.2, rest.1),
       )
@@ -286,8 +285,7 @@ module _ {P D : Type 0} (pools : PoolGhosts P) (devices : DeviceGhosts D) (g : C
       let later = (all-keeps n ls next b his.1 d.2).0 in
       let mine : is_of_caller a.party.number l.op ≡ true = ap (λ (m : ℕ). is_of_caller m l.op) number ∙ his.0 in
       let here = still-answers valid (pools.size a.outside.pool) (pools.told a.outside.pool) o l a.kept a.party next.party b.party later (by-answer o n l a next refl mine d.1) in
-      let rest = all-answers valid n ls next b len image openings (one.2.size ∙ size) (one.2.told ∙ told) (ap (λ (x : About). x.openings) one.0.about ∙ opens) (by-number pools devices g blocks o l a next d.1 ∙ number) his.1 d.2 in
-      (
+      let rest = all-answers valid n ls next b len image openings (one.2.size ∙ size) (one.2.told ∙ told) (ap (λ (x : About). x.openings) one.0.about ∙ opens) (by-number pools devices g blocks o l a next d.1 ∙ number) his.1 d.2 in (
         subst (λ (x : ℕ × Option (List ℕ) × List (List ℕ)). AnswersLine g x.0 x.1 blocks x.2 b.party.own.seen a.kept o l) (λ i. (size i, told i, opens i)) here,
         subst (λ (ks : List KeptRead). AnswersLines g len image blocks openings b.party.own.seen ks ls) (by-kept o l a next refl d.1) rest,
       )

@@ -479,7 +479,7 @@ parted-waits cache lines old new parted n acts noted kept waits = record {
   stands = parted.stands kept waits.stands;
   told = told-still cache.config acts noted old new
       (λ shard. subst (λ (k : ℕ). Tell (acts_in (shard_of cache.config.shards) shard k acts) (own_moments k (moments (opening_of cache.config) (seen_of cache.config shard new)))) (sym parted.number)
-          (subst (Tell (acts_in (shard_of cache.config.shards) shard old.number acts)) (sym (parted.own shard)) (waits.told.acts shard)))
+      (subst (Tell (acts_in (shard_of cache.config.shards) shard old.number acts)) (sym (parted.own shard)) (waits.told.acts shard)))
       (parted.same kept waits.stands) waits.told;
 }
 
