@@ -1,15 +1,17 @@
 -- What a line on an object was answered, by the cell that its party found: as the contract of its call says it, without the pool and the device.
-use Rattle.std.proofs.Common.{◌≡◌, ℕ, ◌+◌, true, false, List, length, sym, subst}
+use Rattle.std.proofs.Common.{◌≡◌, ℕ, ◌+◌, true, List, length, sym, ap, ◌∙◌, subst}
 use Rattle.std.specs.Prelude.{IfSome}
 use Rattle.std.proofs.lemmas.Bool.{eqb-true}
+use Rattle.blk_ptr.specs.declared.key.KeyFault.{KeyFault}
+use Rattle.blk_ptr.specs.declared.ptr.Ptr.{Ptr}
 use Rattle.vdev_io.specs.declared.device.CacheDev.{Ghosts as DeviceGhosts}
 use Rattle.vdev_io.specs.declared.pool.Pool.{Ghosts as PoolGhosts}
 use Rattle.arc_core.specs.declared.config.Config.{Config}
 use Rattle.arc_table.specs.Reading.{Outside}
 use Rattle.dbuf_cells.specs.Turns.{OnHeap, PartyPlace, outline_in}
 use Rattle.dbuf_state.proofs.OutlineLemmas.{leads-outline}
-use Rattle.dbuf_state.specs.Objects.{opening_cell}
-use Rattle.dbuf_state.specs.Outline.{Outline, has_pin_at, outline_after}
+use Rattle.dbuf_state.specs.Objects.{Never, opening_cell}
+use Rattle.dbuf_state.specs.Outline.{Outline, OutlineDbuf, has_pin_at, is_cached_at, mapped_at, outline_after}
 use Rattle.dbuf_state.specs.Soundness.{IsSound, plain_cell}
 use Rattle.dbuf_state.specs.declared.event.CellEvent.{CellEvent}
 use Rattle.dbuf_state.specs.declared.event.CellEvent.TheVariants as events
@@ -21,15 +23,43 @@ use Rattle.trace_text.specs.declared.reply.Refusal.{Refusal}
 use Rattle.trace_text.specs.declared.reply.Refusal.TheVariants as refusals
 use Rattle.trace_text.specs.declared.reply.Reply.{Reply}
 use Rattle.trace_text.specs.declared.reply.Reply.TheVariants as replies
-use Rattle.trace_run.specs.Answers.{IsReadRefusal}
 use Rattle.trace_run.specs.Lines.{is_of_caller}
 use Rattle.trace_run.specs.ObjectLines.{Did, DidGet, DidNot, DidObjectLine, DidPatch, DidPin, DidPut, DidUnpin, EndsInside, RefusesBlock, RefusesBytes, RefusesUnpin, WasToBring, on_object}
-use Rattle.trace_run.specs.ObjectReplies.{AnswersDone, AnswersFrom, AnswersObject, RefusesAt, RefusesPin, RefusesWhole}
+use Rattle.trace_run.specs.ObjectReplies.{AnswersFrom, AnswersObject, RefusesAt}
 use Rattle.trace_run.specs.Objects.{AnswersKey, AnswersNoBlock, AnswersRange, Brought}
 
--- a sound cell stands as its history tells
-stands-so : (cell : OnHeap) → IsSound cell.value → outline_in cell ≡ outline_after cell.value.limit cell.value.opening cell.value.history
-stands-so cell sound = leads-outline (opening_cell cell.value.limit cell.value.opening) cell.value.history sound.bases (plain_cell sound.evicting cell.value) sound.history.legal
+-- the dbufs of a sound cell are as its history tells
+dbufs-so : (cell : OnHeap) → IsSound cell.value → (outline_in cell).dbufs ≡ (outline_after cell.value.limit cell.value.opening cell.value.history).dbufs
+dbufs-so cell sound = ap (λ (o : Outline). o.dbufs) (leads-outline (opening_cell cell.value.limit cell.value.opening) cell.value.history sound.bases (plain_cell sound.evicting cell.value) sound.history.legal)
+
+-- what two outlines with the same dbufs tell of a block
+module _ (at : Oid) (o x : Outline) (same : o.dbufs ≡ x.dbufs) where
+  abbrev along : (ds : List OutlineDbuf) → Outline
+  along ds = record { limit = 0; dbufs = ds; events = 0; evicting = Never }
+
+  same-mapped : mapped_at at x ≡ mapped_at at o
+  same-mapped = λ i. mapped_at at (along (sym same i))
+
+  same-cached : is_cached_at at x ≡ is_cached_at at o
+  same-cached = λ i. is_cached_at at (along (sym same i))
+
+  same-pin : (n : ℕ) → has_pin_at n at x ≡ has_pin_at n at o
+  same-pin n = λ i. has_pin_at n at (along (sym same i))
+
+  no-block : (named : Oid) → AnswersNoBlock at named o → AnswersNoBlock at named x
+  no-block named w = (w.0, same-mapped ∙ w.1)
+
+  past-it : (last end size : ℕ) → AnswersRange at last end size o → AnswersRange at last end size x
+  past-it last end size w = record { end_is = w.end_is; mapped = w.mapped; there = same-mapped ∙ w.there; size_is = w.size_is; past = w.past }
+
+  inside-it : (last : ℕ) → EndsInside at last o → EndsInside at last x
+  inside-it last w = record { mapped = w.mapped; there = same-mapped ∙ w.there; inside = w.inside }
+
+  to-bring : (ptr : Ptr) → WasToBring at ptr o → WasToBring at ptr x
+  to-bring ptr w = record { pointer = same-mapped ∙ w.pointer; uncached = same-cached ∙ w.uncached }
+
+  bad-key : (len : ℕ) (why : KeyFault) → AnswersKey len at o (refusals.Key why) → AnswersKey len at x (refusals.Key why)
+  bad-key len why w = (w.0, same-mapped ∙ w.1, w.2)
 
 module _ {P D : Type 0} (pools : PoolGhosts P) (devices : DeviceGhosts D) (g : Config) (before now : Outside P D) (p q : PartyPlace) where
   abbrev len : ℕ
@@ -48,23 +78,33 @@ module _ {P D : Type 0} (pools : PoolGhosts P) (devices : DeviceGhosts D) (g : C
   from-not : (at : Oid) (t : ℕ) (brought : Brought) (Why : OnHeap → Type 0) (op : Op) (reply : Reply) (d : DidNot g at t p q brought Why) → By d.cell op reply → From at op reply
   from-not at t brought Why op reply d answer = record { cell = d.cell; sound = d.found.sound; opening = d.found.opening; front = d.found.seen; answer = answer }
 
-  -- a fact of the outline that was found, by what had been done
-  module _ (Fact : Outline → Type 0) (at : Oid) (t : ℕ) (brought : Brought) (Why : OnHeap → Type 0) (d : DidNot g at t p q brought Why) where
-    told-so : Fact (outline_in d.cell) → Fact (outline_after d.cell.value.limit d.cell.value.opening d.cell.value.history)
-    told-so = subst Fact (stands-so d.cell d.found.sound)
+  -- the outline that was found, by what had been done
+  abbrev told : OnHeap → Outline
+  told cell = outline_after cell.value.limit cell.value.opening cell.value.history
 
   -- why a line that asks for bytes was refused, as any line with this cause says it
   refused-at : (at : Oid) (t last : ℕ) (op : Op) (refusal : Refusal) → ((cell : OnHeap) → RefusesAt len (pools.told before.pool) cell.value.limit cell.value.opening cell.value.history at last refusal → By cell op (replies.Refused refusal))
       → RefusesBytes pools devices g at t before now p q last refusal → From at op (replies.Refused refusal)
-  refused-at at t last op (refusals.NoBlock named) so r = from-not at t _ _ op (replies.Refused (refusals.NoBlock named)) r.0 (so r.0.cell (told-so (λ o. AnswersNoBlock at named o) at t _ _ r.0 r.0.why))
-  refused-at at t last op (refusals.Range end size) so r = from-not at t _ _ op (replies.Refused (refusals.Range end size)) r.0 (so r.0.cell (told-so (λ o. AnswersRange at last end size o) at t _ _ r.0 r.0.why))
-  refused-at at t last op (refusals.Key why) so r = from-not at t _ _ op (replies.Refused (refusals.Key why)) r.0 (so r.0.cell (told-so (λ o. EndsInside at last o × AnswersKey len at o (refusals.Key why)) at t _ _ r.0 r.0.why))
+  refused-at at t last op (refusals.NoBlock named) so r =
+      let d = r.0 in
+      from-not at t _ _ op (replies.Refused (refusals.NoBlock named)) d (so d.cell (no-block at (outline_in d.cell) (told d.cell) (dbufs-so d.cell d.found.sound) named d.why))
+  refused-at at t last op (refusals.Range end size) so r =
+      let d = r.0 in
+      from-not at t _ _ op (replies.Refused (refusals.Range end size)) d (so d.cell (past-it at (outline_in d.cell) (told d.cell) (dbufs-so d.cell d.found.sound) last end size d.why))
+  refused-at at t last op (refusals.Key why) so r =
+      let d = r.0 in
+      let same = dbufs-so d.cell d.found.sound in
+      from-not at t _ _ op (replies.Refused (refusals.Key why)) d (so d.cell (inside-it at (outline_in d.cell) (told d.cell) same last d.why.0, bad-key at (outline_in d.cell) (told d.cell) same len why d.why.1))
   refused-at at t last op refusals.PoolFault so r =
-      from-not at t _ _ op (replies.Refused refusals.PoolFault) r.1
-      (so r.1.cell (let w = told-so (λ o. EndsInside at last o × WasToBring at r.0 o × IsReadRefusal len (pools.told before.pool) r.0 refusals.PoolFault) at t _ _ r.1 r.1.why in (r.0, w.0, w.1, w.2)))
+      let d = r.1 in
+      let same = dbufs-so d.cell d.found.sound in
+      from-not at t _ _ op (replies.Refused refusals.PoolFault) d
+      (so d.cell (r.0, inside-it at (outline_in d.cell) (told d.cell) same last d.why.0, to-bring at (outline_in d.cell) (told d.cell) same r.0 d.why.1, d.why.2))
   refused-at at t last op (refusals.Mismatch other) so r =
-      from-not at t _ _ op (replies.Refused (refusals.Mismatch other)) r.1
-      (so r.1.cell (let w = told-so (λ o. EndsInside at last o × WasToBring at r.0 o × IsReadRefusal len (pools.told before.pool) r.0 (refusals.Mismatch other)) at t _ _ r.1 r.1.why in (r.0, w.0, w.1, w.2)))
+      let d = r.1 in
+      let same = dbufs-so d.cell d.found.sound in
+      from-not at t _ _ op (replies.Refused (refusals.Mismatch other)) d
+      (so d.cell (r.0, inside-it at (outline_in d.cell) (told d.cell) same last d.why.0, to-bring at (outline_in d.cell) (told d.cell) same r.0 d.why.1, d.why.2))
   refused-at at t last op (refusals.NoHold block) so r = absurd r
   refused-at at t last op (refusals.NoPin named) so r = absurd r
   refused-at at t last op refusals.NoMemory so r = absurd r
@@ -128,7 +168,8 @@ module _ {P D : Type 0} (pools : PoolGhosts P) (devices : DeviceGhosts D) (g : C
   put-from n t at size fill (replies.Capped c) d = absurd d
 
   refused-pin : (at : Oid) (refusal : Refusal) → RefusesUnpin g at p q refusal → From at (ops.Unpin p.number at) (replies.Refused refusal)
-  refused-pin at (refusals.NoPin named) r = from-not at 0 _ _ (ops.Unpin p.number at) (replies.Refused (refusals.NoPin named)) r (told-so (λ o. (named ≡ at) × (has_pin_at p.number at o ≡ false)) at 0 _ _ r r.why)
+  refused-pin at (refusals.NoPin named) r =
+      from-not at 0 _ _ (ops.Unpin p.number at) (replies.Refused (refusals.NoPin named)) r (r.why.0, same-pin at (outline_in r.cell) (told r.cell) (dbufs-so r.cell r.found.sound) p.number ∙ r.why.1)
   refused-pin at (refusals.NoBlock named) r = absurd r
   refused-pin at (refusals.Range end size) r = absurd r
   refused-pin at (refusals.Key why) r = absurd r
