@@ -55,7 +55,7 @@ use Rattle.trace_run.specs.Tally.{kept_of_block}
 use Rattle.trace_run.specs.Deeds.{HasToldAll}
 use Rattle.trace_run.specs.Making.{HasSeenItsEvents}
 use Rattle.trace_run.proofs.deeds.DeedLemmas.{told-own}
-use Rattle.trace_run.proofs.deeds.MakesLemmas.{same-then}
+use Rattle.trace_run.proofs.deeds.MakesLemmas.{keeps-none, same-then}
 use Rattle.trace_run.proofs.GetLemmas.{all-last}
 use Rattle.trace_run.proofs.MoveLemmas.{Moves, one-moves}
 use Rattle.arc_table.proofs.reads.ReadMoments.{moment}
@@ -68,6 +68,7 @@ module _ {C : Type 0} (g : Config) (p q : Place (Known C)) where
   acts-none shard is = subst (DidActs g shard [] [] p) (sym is) (record {
     number = refl;
     told = λ before noted told. subst (λ (l : List Act). HasToldAll g l noted p) (sym (append-nil before)) told;
+    keeps = keeps-none g p;
     alone = λ a. record { number = refl; here = sym (append-nil (seen_of g shard p)); others = λ j differs. refl };
     all = λ all. all;
     joined = refl;
@@ -78,6 +79,7 @@ module _ {C : Type 0} (g : Config) (p q : Place (Known C)) where
   acts-one act es his did = record {
     number = did.own.number;
     told = λ before noted told. told-own g before (act ∷ []) noted p q (his, tt) (told-more g before act did.made p q his told.acts did.own did.act_is) did.same told;
+    keeps = did.same.keeps;
     alone = did.alone;
     all = did.all;
     joined = did.joined;
@@ -265,6 +267,7 @@ module _ {C : Type 0} (g : Config) (blocks : List Ptr) (kept : List KeptRead) (o
         ∙ (sym (append-nil (seen_of g shard p)) ∙ ap (λ (l : List Event). seen_of g shard p ++ l) (sym (ap there (in-it shard ∙ ne_eqb its shard differs)))));
     all = did.all;
     joined = λ his. did.joined;
+    keeps = λ his. did.keeps;
   }
 
 -- ---- the line of each operation
@@ -322,7 +325,7 @@ module _ {C P : Type 0} (g : Config) (pools : Ghosts P) (blocks : List Ptr) (p q
       let here : shard_of g.shards k ≡ shard_of_block g.shards blocks x =
       ap (shard_of g.shards) own.2 ∙ ap (λ (o : Option Ptr). option_map_or (λ (ptr : Ptr). shard_of g.shards ptr.key) o 0) (sym own.1) in
       subst (λ (shard : ℕ). DidActs g shard (acts_of_drop p.number (Some k)) (events_of_drop p.number (Some k)) p q) here
-      (record { number = drops.number; told = drops.told; alone = λ alone. drops.alone alone; all = drops.all; joined = drops.joined })
+      (record { number = drops.number; told = drops.told; keeps = drops.keeps; alone = λ alone. drops.alone alone; all = drops.all; joined = drops.joined })
 
   drop-acts : (n x had gave : ℕ) (kept : List KeptRead) (reply : Reply) → AreNamed blocks kept → AnswersDrop had gave x reply → Drops g (oldest_key x kept) p q → (reply ≢ Dropped → oldest_key x kept ≡ None)
       → DidActs g (shard_of_block g.shards blocks x) (acts_of_dropping p.number x kept (effect_of reply)) (events_of_dropping p.number x kept (effect_of reply)) p q

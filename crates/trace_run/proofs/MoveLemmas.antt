@@ -150,7 +150,7 @@ module _ {C : Type 0} (g : Config) (shard : ℕ) where
     seen = made-sees g shard before es p q made seen;
     config = ap (λ a. a.config) made.same.about ∙ config;
     only = only-then g p q left (made-only g shard before es p q made mine);
-    same = own-same g shard es p q made.same.number (numbers-of (parties_of g) p.number es mine) (makes-more g shard before es p q made long seen.own left.fronts);
+    same = own-same g shard es p q made.same.number (numbers-of (parties_of g) p.number es mine) (makes-more g shard before es p q made long seen.own left.fronts) left;
   }
 
 module _ {C : Type 0} (m : Meanings C) (g : Config) (valid : IsConfig g) (k : Key) (p q : Place (Known C)) (config : p.own.about.config ≡ g) (seen : HasSeenItsEvents g p) where

@@ -19,11 +19,12 @@ use Rattle.arc_table.specs.declared.view.Known.{Known}
 use Rattle.arc_table.specs.declared.view.Ledger.{Ledger}
 use Rattle.arc_table.specs.declared.view.Line.{Line}
 use Rattle.arc_table.specs.Cache.{Cache, all_newcomers}
-use Rattle.arc_table.specs.Fronts.{front_of, seen_by_both}
+use Rattle.arc_table.specs.Fronts.{StartsWith, front_of, seen_by_both}
 use Rattle.arc_table.specs.Geometry.{IsCell, parties_of}
 use Rattle.arc_table.proofs.TableLaws.{there}
 use Rattle.arc_table.specs.Views.{after_learned, newcomer as known}
 use Rattle.arc_table.specs.Telling.{opening_of}
+use Rattle.arc_table.specs.TableLaws.{starts_whole}
 use Rattle.trace_run.specs.KeptBlocks.{AllQuiet, Stands}
 use Rattle.trace_run.proofs.CellsLeft.{all-entries-as, entries-as}
 use Rattle.trace_run.specs.Opened.{AreOpened, HasJoined, IsNew, IsOpened}
@@ -196,6 +197,10 @@ module _ {C : Type 0} (cache : Cache) where
           number = refl;
           cells = λ shard c other. ap (λ (s : List (List Line)). with_number c (events_in (made_from (turn_of cache.config shard) 0 p.own.mine (front_of (turn_of cache.config shard) s)))) (seen-none ∙ sym first.new.seen);
           entries = λ i in_range. ap (λ (s : List (List Line)). made_from i 0 p.own.mine (front_of i s)) (seen-none ∙ sym first.new.seen);
+          keeps = record {
+            about = refl;
+            fronts = λ i in_range. subst (λ (s : List (List Line)). StartsWith (front_of i s) (front_of i p.own.seen)) (sym (seen-none ∙ sym first.new.seen)) (starts_whole (front_of i p.own.seen));
+          };
         }
         first.new.told
 

@@ -11,6 +11,7 @@ use Rattle.turn_table.specs.Places.{Place}
 use Rattle.arc_table.specs.declared.view.Known.{Known}
 use Rattle.arc_table.specs.declared.view.Line.{Line}
 use Rattle.arc_table.specs.declared.view.Line.TheVariants as line
+use Rattle.arc_table.specs.Fronts.{StartsWith, front_of}
 use Rattle.arc_table.specs.Geometry.{IsCell}
 use Rattle.arc_table.specs.Told.{IsTold}
 use Rattle.dbuf_state.specs.Numbers.{event_numbers}
@@ -78,8 +79,14 @@ module _ {C : Type 0} where
     pub kinds : (shard c : ℕ) → c ≢ p.number → AllByRecursion HasAct (with_number c (made_in g shard p))
     pub entries : (i : ℕ) → IsCell g i → made_of i p ≡ lines_of_cell i noted
 
+  -- it knows what it knew of the cells' beginnings, and has seen of each cell at least what it had
+  pub record KeepsCells (g : Config) (p q : Place (Known C)) : Type 0 where
+    pub about : q.own.about ≡ p.own.about
+    pub fronts : (i : ℕ) → IsCell g i → StartsWith (front_of i q.own.seen) (front_of i p.own.seen)
+
   -- it made nothing with another number than its own, and nothing of a cell, more
   pub record SameMade (g : Config) (p q : Place (Known C)) : Type 0 where
     pub number : q.number ≡ p.number
     pub cells : (shard c : ℕ) → c ≢ p.number → with_number c (made_in g shard q) ≡ with_number c (made_in g shard p)
     pub entries : (i : ℕ) → IsCell g i → made_of i q ≡ made_of i p
+    pub keeps : KeepsCells g p q

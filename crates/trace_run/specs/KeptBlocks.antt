@@ -28,7 +28,7 @@ use Rattle.trace_run.specs.one_caller.OneCaller.{events_of_drops}
 use Rattle.arc_table.specs.Seen.{AddsAll, HasAll, HasSeenItsEntries, seen_of}
 use Rattle.trace_run.specs.one_caller.Access.{events_of_drop}
 use Rattle.trace_run.specs.Acts.{acts_of_drop}
-use Rattle.trace_run.specs.Deeds.{HasToldAll, Noted}
+use Rattle.trace_run.specs.Deeds.{HasToldAll, KeepsCells, Noted}
 use Rattle.trace_run.specs.Making.{HasSeenItsEvents}
 
 -- the key of the entry that is held for a kept block: a loose one holds none
@@ -118,6 +118,7 @@ module _ {C : Type 0} where
   pub record Adds (g : Config) (shard : ℕ) (acts : List Act) (es : List Event) (p q : Place (Known C)) : Type 0 where
     pub number : q.number ≡ p.number
     pub told : (before : List Act) (noted : List Noted) → HasToldAll g before noted p → HasToldAll g (before ++ acts) noted q
+    pub keeps : KeepsCells g p q
     pub alone : HasAll p → AddsAll g shard es p q
     pub all : HasAll p → HasAll q
     pub joined : q.joined ≡ p.joined

@@ -22,6 +22,7 @@ pub mod Making
 pub mod Meeting
 pub mod ObjectLines
 pub mod Objects
+pub mod ObjectReplies
 pub mod Opened
 pub mod Openings
 pub mod Outcome

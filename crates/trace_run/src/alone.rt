@@ -206,9 +206,7 @@ fn lines_alone<P: Pool, D: CacheDev, G: Gate>(
             return Err(NoMemory);
         }
         gate.before(caller, number as u32);
-        let reply = line(
-            alloc, rt, arcs, &mut party, kept, pool, device, blocks, op,
-        )?;
+        let reply = line(alloc, rt, arcs, &mut party, kept, pool, device, blocks, op)?;
         gate.after(caller, number as u32);
         replies.push(reply)?;
     }

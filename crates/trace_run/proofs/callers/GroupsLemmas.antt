@@ -363,7 +363,7 @@ module _ {C : Type 0} (cache : Cache) (restored : List Restored) (len : ℕ) (im
         reads = b.reads;
         party = x.0;
         at = record { kept_at = ap (λ (l : List (List KeptBlock)). get_elem? l n) kept ∙ b.at.kept_at; party_at = x.1 };
-        come = record { waits = parted-waits cache made.lines b.party x.0 x.2 n [] b.reads b.come.waits; keeps = b.come.keeps; answers = b.come.answers };
+        come = record { waits = parted-waits cache made.lines b.party x.0 x.2 n [] [] b.reads b.come.waits; keeps = b.come.keeps; answers = b.come.answers };
       }
 
   pub have-restored : HaveCome cache restored len image blocks [] [] new

@@ -468,7 +468,7 @@ module _ {C : Type 0} (cache : Cache) (q r o : Place (Known C)) (learned : HasLe
     starts = λ shard. starts-events (front_of (turn_of cache.config shard) parting.own.seen) (front_of (turn_of cache.config shard) o.own.seen) (x-starts shard);
     mine = refl;
     only = λ only. record { events = own-seen-more cache.config o.number o.own.mine o.own.seen parting.own.seen x-starts only.events; entries = only.entries };
-    same = λ kept stands. grown-same cache.config o parting refl refl x-starts x-cells stands.seen stands.cells;
+    same = λ kept stands. grown-same cache.config o parting refl refl refl x-starts x-cells stands.seen stands.cells;
   }
 
 -- a party that waits still does once it has parted

@@ -208,7 +208,7 @@ module _ {C : Type 0} (m : Meanings C) (cache : Cache) (p : Place (Known C)) (ke
     joined-told {n} {acts} {noted} waits = told-still gk acts noted p q
         (λ s. subst (λ (k : ℕ). Tell (acts_in (shard_of gk.shards) s k acts) (own_moments k (moments (opening_of gk) (seen_of gk s q)))) (sym have.number)
         (subst (Tell (acts_in (shard_of gk.shards) s p.number acts)) (sym (have.self.own s)) (waits.told.acts s)))
-        (grown-same gk p q have.number have.mine have.self.starts have.self.cells waits.stands.seen waits.stands.cells) waits.told
+        (grown-same gk p q have.number have.about have.mine have.self.starts have.self.cells waits.stands.seen waits.stands.cells) waits.told
 
     last-waits : (n : ℕ) (acts : List Act) (noted : List Noted) → Waits cache n acts noted kept p → Waits cache n (acts ++ acts_of_drops n reads) noted [] last
     last-waits n acts noted waits = record {

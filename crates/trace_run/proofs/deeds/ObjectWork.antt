@@ -104,12 +104,12 @@ module _ {P D : Type 0} (pools : PoolGhosts P) (devices : DeviceGhosts D) (g : C
       → ((did : List Act) (had : List Noted) → HasToldAll g did had p
       → HasToldAll g (did ++ acts_with_op g blocks kept op reply (did-work g at t p q own brought Fits d)) (had ++ (did-work g at t p q own brought Fits d).noted) q) → HasWork op reply
   done-line op reply at t own brought Fits d came spent fits told =
-      (did-work g at t p q own brought Fits d, record { came = came; fits = fits; number = d.work.number; told = told; joined = d.work.joined; calls = spent.calls; asked = spent.asked; pool = pool; device = device })
+      (did-work g at t p q own brought Fits d, record { came = came; fits = fits; number = d.work.number; told = told; joined = d.work.joined; keeps = d.work.keeps; calls = spent.calls; asked = spent.asked; pool = pool; device = device })
 
   not-line : (op : Op) (reply : Reply) (at : Oid) (t : ℕ) (brought : Brought) → DidWork g t (cell_number g (cell_of g.cells at)) brought [] [] p q → DidObjectLine pools devices g before now p q op reply → Spent brought reply
       → IsWorkOf g p.number (record { op = op; reply = reply; work = tried brought })
       → ((did : List Act) (had : List Noted) → HasToldAll g did had p → HasToldAll g (did ++ acts_with_op g blocks kept op reply (tried brought)) (had ++ []) q) → HasWork op reply
-  not-line op reply at t brought w came spent fits told = (tried brought, record { came = came; fits = fits; number = w.number; told = told; joined = w.joined; calls = spent.calls; asked = spent.asked; pool = pool; device = device })
+  not-line op reply at t brought w came spent fits told = (tried brought, record { came = came; fits = fits; number = w.number; told = told; joined = w.joined; keeps = w.keeps; calls = spent.calls; asked = spent.asked; pool = pool; device = device })
 
   -- why a line that asks for a block's bytes was refused
   refused-bytes : (at : Oid) (t last : ℕ) (refusal : Refusal) → RefusesBytes pools devices g at t before now p q last refusal → (brought : Brought) × IsRefusedWith refusal brought × DidWork g t (cell_number g (cell_of g.cells at)) brought [] [] p q × Spent brought (replies.Refused refusal)

@@ -56,7 +56,7 @@ module _ {C : Type 0} (m : Meanings C) (g : Config) (valid : IsConfig g) where
         left = left;
         sees = made-sees g (shard_of g.shards k) d.before es p q made sees;
         same = own-same g (shard_of g.shards k) es p q made.same.number (numbers-of (parties_of g) p.number es mine)
-            (makes-more g (shard_of g.shards k) d.before es p q made (does-long m g valid k p q config es d made) sees.own left.fronts);
+            (makes-more g (shard_of g.shards k) d.before es p q made (does-long m g valid k p q config es d made) sees.own left.fronts) left;
       }
 
   one-only : (k : Key) (e : Event) (p q : Place (Known C)) → p.number < parties_of g → p.own.about.config ≡ g → HasSeenItsEvents g p → number_of e ≡ p.number → is_pass e ≡ false → Does m g k (e ∷ []) p q → OnlyOwn g p q
@@ -73,7 +73,7 @@ module _ {C : Type 0} (m : Meanings C) (g : Config) (valid : IsConfig g) where
         left = left;
         sees = made-sees g (shard_of g.shards k) d.before (d.makes.passes ++ e ∷ []) p q made sees;
         same = own-same g (shard_of g.shards k) (d.makes.passes ++ e ∷ []) p q made.same.number (numbers-of (parties_of g) p.number (d.makes.passes ++ e ∷ []) (roomy-mine m g valid k p q config sees e fits d))
-            (makes-more g (shard_of g.shards k) d.before (d.makes.passes ++ e ∷ []) p q made (roomy-long m g valid k p q config e d made) sees.own left.fronts);
+            (makes-more g (shard_of g.shards k) d.before (d.makes.passes ++ e ∷ []) p q made (roomy-long m g valid k p q config e d made) sees.own left.fronts) left;
       }
 
   still-low : (p q : Place (Known C)) → OnlyOwn g p q → p.number < parties_of g → q.number < parties_of g

@@ -17,6 +17,8 @@ use Rattle.arc_table.specs.Cache.{Cache, IsPartyOf}
 use Rattle.arc_table.specs.Geometry.{parties_of}
 use Rattle.arc_table.specs.Items.{Meanings}
 use Rattle.arc_table.specs.Seen.{AllEntriesSeen, AreEntriesSeen, IsEntrySeen, IsNumberOrCell, IsSeenBy, events_in, seen_of, turn_of}
+use Rattle.arc_table.specs.TableLaws.{starts_whole}
+use Rattle.arc_table.specs.Fronts.{front_of}
 use Rattle.trace_run.specs.Making.{AllEventsSeen, AreEventsSeen}
 use Rattle.arc_table.specs.Telling.{opening_of}
 use Rattle.arc_table.specs.Views.{after_learned}
@@ -207,9 +209,9 @@ module _ {C : Type 0} (cache : Cache) (more : (shard : ℕ) → List Event) (p :
       -- and it made nothing more
       same-made : SameMade g p q
       same-made =
-          let first : SameMade g p p1 = record { number = refl; cells = λ shard c other. refl; entries = λ i in_range. refl } in
+          let first : SameMade g p p1 = record { number = refl; cells = λ shard c other. refl; entries = λ i in_range. refl; keeps = record { about = refl; fronts = λ i in_range. starts_whole (front_of i p.own.seen) } } in
           same-then g p p1 q first
-          (same-then g p1 p2 q (p2-parted.same had p1-stands) (grown-same g p2 q have2.number have2.mine have2.self.starts have2.self.cells p2-stands.seen p2-stands.cells))
+          (same-then g p1 p2 q (p2-parted.same had p1-stands) (grown-same g p2 q have2.number have2.about have2.mine have2.self.starts have2.self.cells p2-stands.seen p2-stands.cells))
 
       pub alone-fed : HasFed g more p q
       alone-fed = record {

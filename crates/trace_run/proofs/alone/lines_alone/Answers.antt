@@ -94,8 +94,8 @@ loop-number-preserved g c =
     let before = at c.loop-number.party (map read_of c.loop-number.kept) c.loop-number.pool in
     let after = at c.line.new.party (map read_of c.line.new.kept) c.line.new.pool in
     let one : DidLine config g.P.Pool blocks op reply before after = subst (λ (bs : List Ptr). DidLine config g.P.Pool bs op reply before after) c.as_slice-blocks.ensures
-        (with-plain g.P.Pool g.D.CacheDev config c.as_slice-blocks.result.now op reply (at_work c.loop-number.party (map read_of c.loop-number.kept) (outside c.loop-number.pool c.loop-number.device))
-        (at_work c.line.new.party (map read_of c.line.new.kept) (outside c.line.new.pool c.line.new.device)) plain c.in_ok-reply.ensures.did) in
+    (with-plain g.P.Pool g.D.CacheDev config c.as_slice-blocks.result.now op reply (at_work c.loop-number.party (map read_of c.loop-number.kept) (outside c.loop-number.pool c.loop-number.device))
+    (at_work c.line.new.party (map read_of c.line.new.kept) (outside c.line.new.pool c.line.new.device)) plain c.in_ok-reply.ensures.did) in
     record {
       stands = c.in_ok-reply.ensures.stands;
       named = line-named config g.P.Pool blocks op reply before after was.named one;

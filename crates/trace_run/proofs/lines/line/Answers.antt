@@ -1,5 +1,6 @@
-use Rattle.std.proofs.Common.{map, sym, subst}
-use Rattle.std.specs.Prelude.{IfOk, Ok}
+use Rattle.std.proofs.Common.{◌≡◌, Bool, true, inl, inr, map, sym, ap, subst}
+use Rattle.std.specs.Prelude.{IfOk, Ok, is_some}
+use Rattle.trace_run.specs.ObjectLines.{on_object}
 use Rattle.trace_text.specs.declared.op.Op.{Op}
 use Rattle.trace_text.specs.declared.op.Op.TheVariants as ops
 use Rattle.arc_table.specs.Reading.{outside}
@@ -62,8 +63,22 @@ returns-in-Drop-clause-did g c =
 -- one on an object
 pub returns-in-Get-clause-did : goal.returns-in-Get-clause-did
 returns-in-Get-clause-did g c =
+    let some : Op → Bool = λ op. is_some (on_object op) in
+    let on : some c.args.op.now ≡ true = elim c.in-Get.is [
+      | inl get ↦ ap some get.4
+      | inr other ↦ elim other [
+        | inl put ↦ ap some put.5
+        | inr other ↦ elim other [
+          | inl patch ↦ ap some patch.5
+          | inr other ↦ elim other [
+            | inl pin ↦ ap some pin.3
+            | inr unpin ↦ ap some unpin.2
+          ]
+        ]
+      ]
+    ] in
     object-ok g.P.Pool g.D.CacheDev c.args.arcs.now.config c.args.blocks.now c.args.party.now c.object_line.new.party (outside c.args.pool.now c.args.device.now) (outside c.object_line.new.pool c.object_line.new.device) (map read_of c.args.kept.now) c.args.op.now
-    c.object_line.result c.requires.own (rw c.in-Get.is refl) c.object_line.ensures.pool c.object_line.ensures.device c.object_line.ensures.did
+    c.object_line.result c.requires.own on c.object_line.ensures.pool c.object_line.ensures.device c.object_line.ensures.did
 
 pub returns-in-Read-clause-asks : goal.returns-in-Read-clause-asks
 returns-in-Read-clause-asks g c = λ plain.
