@@ -160,7 +160,7 @@ module _ (cache : Cache) (p : PartyPlace) (others : List PartyPlace) (stands : S
         drops = ended.drops;
         numbers = then.drops;
         told = λ did noted h.
-            let q_told : HasToldOthers g did noted q = others-still g did noted p q (grown-same g p q have.number have.mine have.self.starts have.self.cells stands.seen stands.cells) h in
+            let q_told : HasToldOthers g did noted q = others-still g did noted p q (grown-same g p q have.number have.about have.mine have.self.starts have.self.cells stands.seen stands.cells) h in
             let r_told = ended.told did noted q_told in
             let is : noted ++ ends_from q.number 0 g.cells ≡ noted ++ ends_from p.number 0 g.cells = ap (λ (n : ℕ). noted ++ ends_from n 0 g.cells) have.number in
             subst (λ (l : List Noted). HasToldOthers g (did ++ acts_of_events ended.drops) l (left_alone r)) is record { cells = r_told.cells; kinds = r_told.kinds; entries = r_told.entries };

@@ -29,23 +29,6 @@ use Rattle.trace_run.specs.Objects.{Brought, GoesTogether, Line, Loaded, NotesNo
 use Rattle.trace_run.specs.one_caller.OneCaller.{kept_after}
 use Rattle.trace_run.specs.Tally.{AnswersNow}
 
--- the caller of a line, where it is a caller's
-abbrev pub caller_of_line : Op → Option ℕ
-caller_of_line (ops.Read n t x window) = Some n
-caller_of_line (ops.Hold n t x) = Some n
-caller_of_line (ops.Drop n x) = Some n
-caller_of_line (ops.Get n t at w) = Some n
-caller_of_line (ops.Put n t at size fill) = Some n
-caller_of_line (ops.Patch n t at from bytes) = Some n
-caller_of_line (ops.Pin n t at) = Some n
-caller_of_line (ops.Unpin n at) = Some n
-caller_of_line ops.Feed = None
-caller_of_line (ops.Txg t) = None
-caller_of_line (ops.Cap c) = None
-
-abbrev pub is_line_of : ℕ → Op → Bool
-is_line_of n op = option_map_or (λ (m : ℕ). m == n) (caller_of_line op) false
-
 -- what a reply says was done, where this was brought for its line: a block that was brought was read, whatever the line did with it then
 abbrev pub effect_with : Brought → Reply → Effect
 effect_with Nothing reply = effect_of reply
