@@ -11,8 +11,6 @@ use blk_ptr::NoMemory;
 use l2_feed::feed;
 use std::alloc::Global;
 use std::sync::Wait;
-use std::thread;
-use std::thread::Threads;
 use trace_text::{Op, Reply};
 use vdev_io::CacheDev;
 
@@ -52,7 +50,7 @@ fn feed_line<C: Keeps, D: CacheDev>(
 
 /// Does the lines `feed` among these, in their order. A feed that fails, or is short of memory, is told in its reply, and the next one is made all
 /// the same.
-fn feed_lines<C: Keeps, D: CacheDev>(
+pub(crate) fn feed_lines<C: Keeps, D: CacheDev>(
     alloc: Global,
     rt: &impl Wait,
     arcs: &Arcs<C>,
@@ -75,37 +73,4 @@ fn feed_lines<C: Keeps, D: CacheDev>(
         }
     }
     Ok(replies)
-}
-
-/// Does the lines `feed`, in a thread of its own where one can be started, and beside it in this one what the closure does.
-pub(crate) fn feed_beside<R: Threads + Wait + Sync, C: Keeps + Send, D: CacheDev, F: FnMut()>(
-    alloc: Global,
-    rt: &R,
-    arcs: &Arcs<C>,
-    feeder: &mut Party<C>,
-    device: &mut Device<D>,
-    ops: &[Op],
-    beside: &mut F,
-) -> Result<Vec<Reply>, NoMemory>
-    requires beside { F.pre beside.old }
-    requires feeder { IsIdleFeeder arcs.now feeder.old }
-    requires device { MayBeFed D.CacheDev arcs.now.config device.old }
-    ensures beside { F.step beside.old tt beside.new }
-    ensures feeder { IsIdleFeeder arcs.now feeder.new }
-    ensures device { MayBeFed D.CacheDev arcs.now.config device.new }
-    ensures tried { TriesFeeds C.Keeps D.CacheDev arcs.now (filter is_feed ops.now) device.old device.new feeder.old feeder.new }
-    ensures fed { IfOk result (λ replies. DoesFeeds C.Keeps D.CacheDev arcs.now (filter is_feed ops.now) replies.items device.old device.new feeder.old feeder.new) }
-{
-    let (replies, ()) = thread::join_mut(
-        rt,
-        &mut ||
-            requires { IsIdleFeeder arcs.now feeder.now × MayBeFed D.CacheDev arcs.now.config device.now }
-            ensures feeder { IsIdleFeeder arcs.entry.now feeder.exit.now }
-            ensures device { MayBeFed D.CacheDev arcs.entry.now.config device.exit.now }
-            ensures tried { TriesFeeds C.Keeps D.CacheDev arcs.entry.now (filter is_feed ops.entry.now) device.entry.now device.exit.now feeder.entry.now feeder.exit.now }
-            ensures fed { IfOk result (λ replies. DoesFeeds C.Keeps D.CacheDev arcs.entry.now (filter is_feed ops.entry.now) replies.items device.entry.now device.exit.now feeder.entry.now feeder.exit.now) }
-        { feed_lines(alloc, rt, arcs, feeder, device, ops) },
-        beside,
-    );
-    replies
 }

@@ -6,6 +6,7 @@ ghost use Rattle.vdev_io.specs.Calls.{KeepsPool};
 ghost use Rattle.trace_text.specs.declared.reply.Reply.{Reply};
 ghost use Rattle.vdev_io.specs.Faults.{CountsIoFault, Rose, last_count};
 ghost use Rattle.vdev_io.specs.declared.fault.IoFault.{IoFault};
+ghost use Rattle.dbuf_cells.specs.Turns.{dbuf_meanings};
 ghost use Rattle.trace_run.specs.DeviceReads.{AsksGiven};
 ghost use Rattle.trace_run.specs.Devices.{WasLent, lent_in};
 ghost use Rattle.trace_run.specs.KeptBlocks.{Stands, read_of};
@@ -21,7 +22,7 @@ ghost use Rattle.trace_run.specs.Tally.{AreDeclared};
 
 use crate::device::Device;
 use crate::device_forks::{device_forks, take_fork_back};
-use crate::feeder::{feed_beside, has_feed};
+use crate::feeder::{feed_lines, has_feed};
 use crate::kept_blocks::KeptBlocks;
 use crate::lines::all_lines;
 use arc_core::Keeps;
@@ -265,6 +266,40 @@ fn work_lines<R: Threads + Wait + Sync, P: Pool, D: CacheDev, G: Gate>(
     work_all(alloc, rt, arcs, callers, blocks, ops, first, gate);
 }
 
+/// Does the lines of all callers, and beside them, in a thread of its own where one can be started, what the closure does.
+fn work_beside<R: Threads + Wait + Sync, P: Pool, D: CacheDev, G: Gate, F>(
+    alloc: Global,
+    rt: &R,
+    arcs: &Cells,
+    callers: &mut Vec<Caller<HeapCell, P, D>>,
+    blocks: &[Ptr],
+    ops: &[Op],
+    first: u32,
+    gate: &G,
+    feed: &mut F,
+) -> Result<Vec<Reply>, NoMemory>
+where
+    F: FnMut() -> Result<Vec<Reply>, NoMemory> + Send,
+    requires feed { F.pre feed.old }
+    requires ready { AllByRecursion (IsReady arcs.now blocks.now) callers.old.items }
+    requires declared { AreDeclared (length blocks.now) ops.now }
+    requires few { first + length ops.now < 2 ^ 32 }
+    ensures feed { F.step feed.old result feed.new }
+    ensures worked { AllZip (HasTried arcs.now P.Pool blocks.now ops.now) callers.old.items callers.new.items }
+    ensures asked { AllZip (HasAsked D.CacheDev blocks.now ops.now) callers.old.items callers.new.items }
+{
+    let (replies, ()) = thread::join_mut(
+        rt,
+        feed,
+        &mut ||
+            requires { AllByRecursion (IsReady arcs.now blocks.now) callers.now.items × AreDeclared (length blocks.now) ops.now × (first + length ops.now < 2 ^ 32) }
+            ensures worked { AllZip (HasTried arcs.entry.now P.Pool blocks.entry.now ops.entry.now) callers.entry.now.items callers.exit.now.items }
+            ensures asked { AllZip (HasAsked D.CacheDev blocks.entry.now ops.entry.now) callers.entry.now.items callers.exit.now.items }
+        { work_lines(alloc, rt, arcs, callers, blocks, ops, first, gate) },
+    );
+    replies
+}
+
 /// Does the lines of all callers, and beside them the lines `feed`. Where there are none, no thread more is started.
 fn work_and_feed<R: Threads + Wait + Sync, P: Pool, D: CacheDev, G: Gate>(
     alloc: Global,
@@ -287,19 +322,23 @@ fn work_and_feed<R: Threads + Wait + Sync, P: Pool, D: CacheDev, G: Gate>(
     ensures asked { AllZip (HasAsked D.CacheDev blocks.now ops.now) callers.old.items callers.new.items }
     ensures feeder { IsIdleFeeder arcs.now feeder.new }
     ensures device { MayBeFed D.CacheDev arcs.now.config device.new }
-    ensures tried { TriesFeeds ⟦<HeapCell as Keeps>⟧ D.CacheDev arcs.now (filter is_feed ops.now) device.old device.new feeder.old feeder.new }
-    ensures fed { IfOk result (λ replies. DoesFeeds ⟦<HeapCell as Keeps>⟧ D.CacheDev arcs.now (filter is_feed ops.now) replies.items device.old device.new feeder.old feeder.new) }
+    ensures tried { TriesFeeds dbuf_meanings D.CacheDev arcs.now (filter is_feed ops.now) device.old device.new feeder.old feeder.new }
+    ensures fed { IfOk result (λ replies. DoesFeeds dbuf_meanings D.CacheDev arcs.now (filter is_feed ops.now) replies.items device.old device.new feeder.old feeder.new) }
 {
     if !has_feed(ops) {
         work_lines(alloc, rt, arcs, callers, blocks, ops, first, gate);
         return Ok(Vec::new(alloc));
     }
-    let mut lines = ||
-        requires { AllByRecursion (IsReady arcs.now blocks.now) callers.now.items × AreDeclared (length blocks.now) ops.now × (first + length ops.now < 2 ^ 32) }
-        ensures worked { AllZip (HasTried arcs.entry.now P.Pool blocks.entry.now ops.entry.now) callers.entry.now.items callers.exit.now.items }
-        ensures asked { AllZip (HasAsked D.CacheDev blocks.entry.now ops.entry.now) callers.entry.now.items callers.exit.now.items }
-    { work_lines(alloc, rt, arcs, callers, blocks, ops, first, gate) };
-    feed_beside(alloc, rt, arcs, feeder, device, ops, &mut lines)
+    let mut feed = ||
+        requires { IsIdleFeeder arcs.now feeder.now × MayBeFed D.CacheDev arcs.now.config device.now }
+        ensures feeder { IsIdleFeeder arcs.entry.now feeder.exit.now }
+        ensures device { MayBeFed D.CacheDev arcs.entry.now.config device.exit.now }
+        ensures tried { TriesFeeds dbuf_meanings D.CacheDev arcs.entry.now (filter is_feed ops.entry.now) device.entry.now device.exit.now feeder.entry.now feeder.exit.now }
+        ensures fed { IfOk result (λ replies. DoesFeeds dbuf_meanings D.CacheDev arcs.entry.now (filter is_feed ops.entry.now) replies.items device.entry.now device.exit.now feeder.entry.now feeder.exit.now) }
+    { feed_lines(alloc, rt, arcs, feeder, device, ops) };
+    work_beside(
+        alloc, rt, arcs, callers, blocks, ops, first, gate, &mut feed,
+    )
 }
 
 /// Takes a caller back that has done its lines: the pool and the cache device take its forks.
@@ -388,8 +427,8 @@ pub(crate) fn run_group<R: Threads + Wait + Sync, P: Pool, D: CacheDev, G: Gate>
     requires few { first + length ops.now < 2 ^ 32 }
     ensures worked { IfOk result (λ done. HaveWorked arcs.now P.Pool blocks.now ops.now (vec_len parties) pool.old pool.new (map (λ v. v.items) done.0.replies.items)
         kept.items parties.items done.0.kept.items done.0.parties.items) }
-    ensures beside { IfOk result (λ done. WorksBeside ⟦<HeapCell as Keeps>⟧ D.CacheDev arcs.now blocks.now ops.now (vec_len parties) (map (λ v. v.items) done.0.replies.items) done.1.items device.old device.new feeder.old feeder.new) }
-    ensures tried { TriesBeside ⟦<HeapCell as Keeps>⟧ D.CacheDev arcs.now ops.now device.old device.new feeder.old feeder.new }
+    ensures beside { IfOk result (λ done. WorksBeside dbuf_meanings D.CacheDev arcs.now blocks.now ops.now (vec_len parties) (map (λ v. v.items) done.0.replies.items) done.1.items device.old device.new feeder.old feeder.new) }
+    ensures tried { TriesBeside dbuf_meanings D.CacheDev arcs.now ops.now device.old device.new feeder.old feeder.new }
     ensures feeder { IsIdleFeeder arcs.now feeder.new }
     ensures device { MayBeFed D.CacheDev arcs.now.config device.new }
     ensures pool { LeavesPool P.Pool pool.old pool.new }

@@ -4,7 +4,7 @@ ghost use Rattle.std.specs.List.{AllByRecursion};
 ghost use Rattle.arc_core.specs.declared.served.Restored.{Restored};
 ghost use Rattle.arc_table.specs.Geometry.{parties_of};
 ghost use Rattle.arc_table.specs.declared.view.Known.{Known};
-ghost use Rattle.dbuf_cells.specs.Turns.{OnHeap};
+ghost use Rattle.dbuf_cells.specs.Turns.{OnHeap, dbuf_meanings};
 ghost use Rattle.turn_table.specs.Places.{Place};
 ghost use Rattle.blk_ptr.specs.Key.{IsValid, key_end};
 ghost use Rattle.blk_ptr.specs.Size.{sector};
@@ -15,10 +15,10 @@ ghost use Rattle.trace_run.specs.Devices.{WasLent, lent_in};
 ghost use Rattle.trace_run.specs.callers.Callers.{AreAtStart};
 ghost use Rattle.trace_run.specs.Feeds.{IsIdleFeeder, MayBeFed};
 ghost use Rattle.trace_run.specs.callers.Beside.{TriesBeside, WorksInOrder};
-ghost use Rattle.trace_run.specs.callers.DeviceForks.{HaveReadSoFar};
+ghost use Rattle.trace_run.specs.callers.DeviceForks.{HaveReadSoFar, ReadAtOnce, these};
 ghost use Rattle.trace_run.specs.callers.InOrder.{AreInGroup};
 ghost use Rattle.trace_run.specs.callers.Group.{IsFork, LeavesPool};
-ghost use Rattle.trace_run.specs.callers.Groups.{AreBetween, DidEndLine, DidLinesAtOnce, AreDone, KeepNothing, MaySync, StepsOn};
+ghost use Rattle.trace_run.specs.callers.Groups.{AreBetween, AreOfCallers, DidEndLine, DidLinesAtOnce, AreDone, KeepNothing, MaySync, StepsOn};
 ghost use Rattle.trace_run.specs.Making.{AreNoEntries};
 ghost use Rattle.trace_run.specs.Meeting.{MayGoOn};
 ghost use Rattle.trace_run.specs.Tally.{AreDeclared};
@@ -148,8 +148,8 @@ fn lines_at_once<R: Threads + Wait + Sync, P: Pool, D: CacheDev, G: Gate>(
     requires device { MayBeFed D.CacheDev arcs.now.config device.old }
     requires few { first + length ops.now < 2 ^ 32 }
     ensures did { IfOk result (λ done. DidLinesAtOnce arcs.now P.Pool blocks.now ops.now pool.old pool.new crew done.0 done.1.items) }
-    ensures beside { IfOk result (λ done. WorksInOrder ⟦<HeapCell as Keeps>⟧ D.CacheDev arcs.now blocks.now ops.now (vec_len crew.parties) done.1.items device.old device.new crew.feeder done.0.feeder) }
-    ensures tried { (p : Place (Known OnHeap)) × TriesBeside ⟦<HeapCell as Keeps>⟧ D.CacheDev arcs.now ops.now device.old device.new crew.feeder p }
+    ensures beside { IfOk result (λ done. WorksInOrder dbuf_meanings D.CacheDev arcs.now blocks.now ops.now (vec_len crew.parties) done.1.items device.old device.new crew.feeder done.0.feeder) }
+    ensures tried { (p : Place (Known OnHeap)) × TriesBeside dbuf_meanings D.CacheDev arcs.now ops.now device.old device.new crew.feeder p }
     ensures feeder { IfOk result (λ done. IsIdleFeeder arcs.now done.0.feeder) }
     ensures device { MayBeFed D.CacheDev arcs.now.config device.new }
     ensures pool { LeavesPool P.Pool pool.old pool.new }
@@ -186,6 +186,39 @@ fn lines_at_once<R: Threads + Wait + Sync, P: Pool, D: CacheDev, G: Gate>(
         kept,
     };
     Ok((crew, replies))
+}
+
+/// The lines of a group none of which asks for a feed: the feeder is as before, and the cache device was only lent.
+fn callers_at_once<R: Threads + Wait + Sync, P: Pool, D: CacheDev, G: Gate>(
+    alloc: Global,
+    rt: &R,
+    arcs: &Cells,
+    crew: Crew<HeapCell>,
+    forks: Vec<P>,
+    pool: &mut P,
+    device: &mut Device<D>,
+    blocks: &[Ptr],
+    ops: &[Op],
+    first: u32,
+    gate: &G,
+) -> Result<(Crew<HeapCell>, Vec<Reply>), NoMemory>
+    requires start { AreAtStart arcs.now blocks.now 0 crew.kept.items crew.parties.items }
+    requires forks { AllByRecursion (IsFork P.Pool pool.old) forks.items }
+    requires same { vec_len forks ≡ vec_len crew.parties }
+    requires declared { AreDeclared (length blocks.now) ops.now }
+    requires callers { AreOfCallers (vec_len crew.parties) ops.now }
+    requires feeder { IsIdleFeeder arcs.now crew.feeder }
+    requires device { MayBeFed D.CacheDev arcs.now.config device.old }
+    requires few { first + length ops.now < 2 ^ 32 }
+    ensures did { IfOk result (λ done. DidLinesAtOnce arcs.now P.Pool blocks.now ops.now pool.old pool.new crew done.0 done.1.items) }
+    ensures feeder { IfOk result (λ done. done.0.feeder ≡ crew.feeder) }
+    ensures read { IfOk result (λ done. ReadAtOnce D.CacheDev blocks.now (vec_len crew.parties) (these ops.now done.1.items) (lent_in device.old) (lent_in device.new)) }
+    ensures pool { LeavesPool P.Pool pool.old pool.new }
+    ensures device { WasLent D.CacheDev device.old device.new }
+{
+    lines_at_once(
+        alloc, rt, arcs, crew, forks, pool, device, blocks, ops, first, gate,
+    )
 }
 
 /// Where the syncs of a run stand.
@@ -332,7 +365,7 @@ fn next_group<R: Threads + Wait + Sync, P: Pool, D: CacheDev, G: Gate>(
         Err(IoFault::Failed) => return Ok((crew, syncs, false)),
         Err(IoFault::NoMemory) => return Err(NoMemory),
     };
-    let (crew, answered) = lines_at_once(
+    let (crew, answered) = callers_at_once(
         alloc,
         rt,
         arcs,

@@ -1,6 +1,9 @@
 -- The feeder beside the callers: where no line asks for a feed the device was only lent, and the feeder's party is as it was.
-use Rattle.std.proofs.Common.{◌≡◌, ◌≤◌, ℕ, zero, suc, true, false, List, [], ◌∷◌, Option, Some, None, length, refl, sym, ap, ◌∙◌, subst, inl, arith}
+use Rattle.std.proofs.Common.{◌≡◌, ◌≤◌, ℕ, zero, suc, true, false, List, [], ◌∷◌, Option, Some, None, length, refl, sym, ap, ◌∙◌, subst, inl, inr, arith}
 use Rattle.std.specs.Prelude.{filter, slice_get}
+use Rattle.std.specs.List.{list_any}
+use Rattle.std.proofs.lemmas.Bool.{false≢true}
+use Rattle.arc_lists.proofs.Tables.{cases_true}
 use Rattle.blk_ptr.specs.declared.ptr.Ptr.{Ptr}
 use Rattle.vdev_io.specs.declared.device.CacheDev.{Ghosts}
 use Rattle.arc_core.specs.declared.config.Config.{Config}
@@ -24,7 +27,7 @@ use Rattle.trace_run.specs.callers.DeviceForks.{HaveRead, ReadAtOnce, these}
 use Rattle.trace_run.specs.callers.Groups.{AreOfCallers}
 use Rattle.trace_run.specs.callers.InOrder.{AreInGroup}
 use Rattle.trace_run.proofs.DeviceLemmas.{lent-same, lent-then, only-same}
-use Rattle.trace_run.proofs.feeds.FeedLemmas.{few-fed, made-none}
+use Rattle.trace_run.proofs.feeds.FeedLemmas.{few-fed, made-none, none-done}
 use Rattle.trace_run.proofs.callers.DeviceSteps.{read-in-order}
 use Rattle.trace_run.proofs.callers.InOrderLemmas.{caller-no-feed}
 
@@ -41,6 +44,14 @@ none-asked callers (o ∷ os) own =
     let first = own 0 o refl in
     let none : is_feed o ≡ false = caller-no-feed o first.0 first.1 in
     rw none (none-asked callers os (λ k op at. own (suc k) op at))
+
+-- nor do lines of which none is found to
+none-found : (os : List Op) → list_any is_feed os ≡ false → filter is_feed os ≡ []
+none-found [] none = refl
+none-found (o ∷ os) none = elim (cases_true (is_feed o)) [
+  | inl asks ↦ absurd (false≢true (sym none ∙ rw asks refl))
+  | inr other ↦ rw other (none-found os (rw other at none))
+]
 
 none-of : {X : Type 0} (xs : List X) → length xs ≤ 0 → xs ≡ []
 none-of [] few = refl
@@ -116,6 +127,12 @@ module _ {C D : Type 0} (m : Meanings C) (devices : Ghosts D) (cache : Cache) wh
     few = omega arith;
     used = record { lent = b; later = b; gave = lent; made = made-none m devices cache b p; took = lent-same devices b };
   }
+
+  pub none-tried : (os : List Op) (a : Device D) (p : Place (Known C)) → TriesFeeds m devices cache (filter is_feed os) a a p p
+  none-tried os a p = record { feeds = []; few = omega arith; made = made-none m devices cache a p }
+
+  pub none-asked-done : (os : List Op) (a : Device D) (p : Place (Known C)) → list_any is_feed os ≡ false → DoesFeeds m devices cache (filter is_feed os) [] a a p p
+  none-asked-done os a p none = subst (λ (l : List Op). DoesFeeds m devices cache l [] a a p p) (sym (none-found os none)) (none-done m devices cache a p)
 
   pub tries-beside : (os : List Op) (a b c d : Device D) (p q : Place (Known C)) → WasLent devices a b → TriesFeeds m devices cache (filter is_feed os) b c p q → WasLent devices c d → TriesBeside m devices cache os a d p q
   tries-beside os a b c d p q gave tried took = record { feeds = tried.feeds; few = tried.few; used = record { lent = b; later = c; gave = gave; made = tried.made; took = took } }

@@ -1,9 +1,8 @@
-use Rattle.std.proofs.Common.{◌≡◌, ◌++◌, ℕ, List, Vec, Global, length, map, Option, sym, ap, ◌∙◌, subst, arith}
+use Rattle.std.proofs.Common.{◌≡◌, ℕ, List, Vec, Global, length, map, Option, subst, arith}
 use Rattle.std.specs.Prelude.{IfOk, Result, filter}
-use Rattle.std.specs.List.{AllByRecursion, AllZip}
 use Rattle.blk_ptr.specs.declared.memory.NoMemory.{NoMemory}
 use Rattle.trace_text.specs.declared.reply.Reply.{Reply}
-use Rattle.dbuf_cells.specs.Turns.{OnHeap}
+use Rattle.dbuf_cells.specs.Turns.{OnHeap, dbuf_meanings}
 use Rattle.trace_run.specs.Devices.{lent_in}
 use Rattle.trace_run.specs.Feeds.{DoesFeeds, is_feed}
 use Rattle.trace_run.specs.callers.DeviceForks.{AllAsk, HaveRead}
@@ -28,7 +27,7 @@ returns-clause-worked g c =
     let own : List (List Reply) = map (λ (v : Vec Reply Global). v.items) c.in_ok-worked.worked.replies.items in
     subst (λ (n : ℕ). HaveWorked c.args.arcs.now g.P.Pool c.args.blocks.now c.args.ops.now n c.args.pool.now c.take_all_back.new.pool own c.args.kept.items c.args.parties.items c.in_ok-worked.worked.kept.items c.in_ok-worked.worked.parties.items) many
     (have-worked c.args.arcs.now g.P.Pool c.args.blocks.now c.args.ops.now c.args.pool.now c.take_all_back.new.pool c.args.parties.items c.args.kept.items c.args.forks.items c.in_ok-callers.callers.items c.work_and_feed.new.callers.items
-    own c.in_ok-worked.worked.kept.items c.in_ok-worked.worked.parties.items c.requires.parties c.requires.forks c.in_ok-callers.ensures.enlisted c.work_and_feed.ensures.worked c.take_all_back.ensures.absorbs c.in_ok-worked.ensures)
+    own c.in_ok-worked.worked.kept.items c.in_ok-worked.worked.parties.items c.requires.parties c.requires.forks c.in_ok-callers.ensures.enlisted c.work_and_feed.ensures.worked c.take_all_back.ensures.absorbs c.in_ok-worked.ensures.came)
 
 -- what the callers asked the device, which has their forks back, and the feeds meanwhile
 pub returns-clause-beside : goal.returns-clause-beside
@@ -46,17 +45,61 @@ returns-clause-beside g c =
       done = done;
       asked = subst (λ (l : List (Option g.row.D.Denot)). AllAsk g.D.CacheDev c.args.blocks.now c.args.ops.now 0 l done own) c.in_ok-callers.ensures.devices
           (have-asked c.args.arcs.now g.P.Pool c.args.blocks.now c.args.ops.now g.D.CacheDev c.args.pool.now c.args.parties.items c.args.kept.items c.args.forks.items olds news own c.requires.parties c.requires.forks c.in_ok-callers.ensures.enlisted
-          c.work_and_feed.ensures.asked c.in_ok-worked.ensures.replied);
+          c.work_and_feed.ensures.asked c.in_ok-worked.ensures.came.replied);
       back = c.take_all_back.ensures.back;
     } in
-    works-beside _ g.D.CacheDev c.args.arcs.now c.args.blocks.now c.args.ops.now c.args.parties.len own c.in_ok-fed.fed.items c.args.device.now c.device_forks.new.device c.work_and_feed.new.device c.take_all_back.new.device c.args.feeder.now c.work_and_feed.new.feeder
+    works-beside dbuf_meanings g.D.CacheDev c.args.arcs.now c.args.blocks.now c.args.ops.now c.args.parties.len own c.in_ok-fed.fed.items c.args.device.now c.device_forks.new.device c.work_and_feed.new.device c.take_all_back.new.device c.args.feeder.now c.work_and_feed.new.feeder
     c.in_ok-devices.ensures.device
-    (subst (λ (r : Result (Vec Reply Global) NoMemory). IfOk r (λ replies. DoesFeeds _ g.D.CacheDev c.args.arcs.now (filter is_feed c.args.ops.now) replies.items c.device_forks.new.device c.work_and_feed.new.device c.args.feeder.now c.work_and_feed.new.feeder)) c.in_ok-fed.was c.work_and_feed.ensures.fed)
+    (subst (λ (r : Result (Vec Reply Global) NoMemory). IfOk r (λ replies. DoesFeeds dbuf_meanings g.D.CacheDev c.args.arcs.now (filter is_feed c.args.ops.now) replies.items c.device_forks.new.device c.work_and_feed.new.device c.args.feeder.now c.work_and_feed.new.feeder)) c.in_ok-fed.was c.work_and_feed.ensures.fed)
     c.take_all_back.ensures.device read
 
-pub returns-clause-tried : goal.returns-clause-tried
-returns-clause-tried g c = tries-beside _ g.D.CacheDev c.args.arcs.now c.args.ops.now c.args.device.now c.device_forks.new.device c.work_and_feed.new.device c.take_all_back.new.device c.args.feeder.now c.work_and_feed.new.feeder
+-- what was tried, whatever it came to
+pub returns-in_err-devices-clause-tried : goal.returns-in_err-devices-clause-tried
+returns-in_err-devices-clause-tried g c = tries-none dbuf_meanings g.D.CacheDev c.args.arcs.now c.args.ops.now c.args.device.now c.device_forks.new.device c.args.feeder.now c.device_forks.ensures.device
+
+pub returns-in_err-callers-clause-tried : goal.returns-in_err-callers-clause-tried
+returns-in_err-callers-clause-tried g c = tries-none dbuf_meanings g.D.CacheDev c.args.arcs.now c.args.ops.now c.args.device.now c.device_forks.new.device c.args.feeder.now c.in_ok-devices.ensures.device
+
+pub returns-in_err-worked-clause-tried : goal.returns-in_err-worked-clause-tried
+returns-in_err-worked-clause-tried g c =
+    tries-beside dbuf_meanings g.D.CacheDev c.args.arcs.now c.args.ops.now c.args.device.now c.device_forks.new.device c.work_and_feed.new.device c.take_all_back.new.device c.args.feeder.now c.work_and_feed.new.feeder
     c.in_ok-devices.ensures.device c.work_and_feed.ensures.tried c.take_all_back.ensures.device
+
+pub returns-in_err-fed-clause-tried : goal.returns-in_err-fed-clause-tried
+returns-in_err-fed-clause-tried g c =
+    tries-beside dbuf_meanings g.D.CacheDev c.args.arcs.now c.args.ops.now c.args.device.now c.device_forks.new.device c.work_and_feed.new.device c.take_all_back.new.device c.args.feeder.now c.work_and_feed.new.feeder
+    c.in_ok-devices.ensures.device c.work_and_feed.ensures.tried c.take_all_back.ensures.device
+
+pub returns-clause-tried : goal.returns-clause-tried
+returns-clause-tried g c =
+    tries-beside dbuf_meanings g.D.CacheDev c.args.arcs.now c.args.ops.now c.args.device.now c.device_forks.new.device c.work_and_feed.new.device c.take_all_back.new.device c.args.feeder.now c.work_and_feed.new.feeder
+    c.in_ok-devices.ensures.device c.work_and_feed.ensures.tried c.take_all_back.ensures.device
+
+-- the device may be fed again
+pub returns-in_err-devices-clause-device : goal.returns-in_err-devices-clause-device
+returns-in_err-devices-clause-device g c = lent-fed g.D.CacheDev c.args.arcs.now.config c.args.device.now c.device_forks.new.device c.device_forks.ensures.device c.requires.device
+
+pub returns-in_err-callers-clause-device : goal.returns-in_err-callers-clause-device
+returns-in_err-callers-clause-device g c = lent-fed g.D.CacheDev c.args.arcs.now.config c.args.device.now c.device_forks.new.device c.in_ok-devices.ensures.device c.requires.device
+
+pub returns-in_err-worked-clause-device : goal.returns-in_err-worked-clause-device
+returns-in_err-worked-clause-device g c = lent-fed g.D.CacheDev c.args.arcs.now.config c.work_and_feed.new.device c.take_all_back.new.device c.take_all_back.ensures.device c.work_and_feed.ensures.device
+
+pub returns-in_err-fed-clause-device : goal.returns-in_err-fed-clause-device
+returns-in_err-fed-clause-device g c = lent-fed g.D.CacheDev c.args.arcs.now.config c.work_and_feed.new.device c.take_all_back.new.device c.take_all_back.ensures.device c.work_and_feed.ensures.device
+
+pub returns-clause-device : goal.returns-clause-device
+returns-clause-device g c = lent-fed g.D.CacheDev c.args.arcs.now.config c.work_and_feed.new.device c.take_all_back.new.device c.take_all_back.ensures.device c.work_and_feed.ensures.device
+
+-- and the pool has what it had
+pub returns-in_err-worked-clause-pool : goal.returns-in_err-worked-clause-pool
+returns-in_err-worked-clause-pool g c = absorbed-leaves g.P.Pool (map (λ caller. caller.pool) c.work_and_feed.new.callers.items) c.args.pool.now c.take_all_back.new.pool c.take_all_back.ensures.absorbs
+
+pub returns-in_err-fed-clause-pool : goal.returns-in_err-fed-clause-pool
+returns-in_err-fed-clause-pool g c = absorbed-leaves g.P.Pool (map (λ caller. caller.pool) c.work_and_feed.new.callers.items) c.args.pool.now c.take_all_back.new.pool c.take_all_back.ensures.absorbs
+
+pub returns-clause-pool : goal.returns-clause-pool
+returns-clause-pool g c = absorbed-leaves g.P.Pool (map (λ caller. caller.pool) c.work_and_feed.new.callers.items) c.args.pool.now c.take_all_back.new.pool c.take_all_back.ensures.absorbs
 
 pub enlist-requires-clause-kept : goal.enlist-requires-clause-kept
 enlist-requires-clause-kept g c κs within =

@@ -33,3 +33,13 @@ returns-clause-beside g c = record {
   ordered = c.in_ok-replies.ensures;
   works = c.in_ok-worked.ensures.beside;
 }
+
+-- what was tried, whatever it came to
+pub returns-in_err-worked-clause-tried : goal.returns-in_err-worked-clause-tried
+returns-in_err-worked-clause-tried g c = (c.run_group.new.feeder, c.run_group.ensures.tried)
+
+pub returns-in_err-replies-clause-tried : goal.returns-in_err-replies-clause-tried
+returns-in_err-replies-clause-tried g c = (c.run_group.new.feeder, c.run_group.ensures.tried)
+
+pub returns-clause-tried : goal.returns-clause-tried
+returns-clause-tried g c = (c.run_group.new.feeder, c.run_group.ensures.tried)
