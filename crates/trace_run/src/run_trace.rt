@@ -5,6 +5,7 @@ ghost use Rattle.trace_text.specs.Grammar.{IsFormed};
 ghost use Rattle.trace_run.specs.Outcome.{IsGenReport, IsRun};
 ghost use Rattle.trace_run.specs.CellEnds.{AreCellsOf};
 ghost use Rattle.trace_run.specs.Devices.{WasLent, lent_in};
+ghost use Rattle.trace_run.specs.Feeds.{MayBeFed};
 ghost use Rattle.trace_run.specs.callers.DeviceForks.{ReadInGroups};
 ghost use Rattle.trace_run.specs.callers.Group.{LeavesPool};
 ghost use Rattle.trace_run.specs.Devices.{WasLent, lent_in};
@@ -50,6 +51,7 @@ pub(crate) fn run_trace<R: Threads + Wait + Sync, P: Pool, D: CacheDev, G: Gate>
 ) -> Result<Reported, NoMemory>
     requires formed { IsFormed trace.now }
     requires keys { HaveKeys (found_keys rebuilt) }
+    requires device { MayBeFed D.CacheDev trace.now.config device.old }
     ensures run { IfOk result (λ told. IsRun P.Pool D.CacheDev pool.old pool.new (lent_in device.old) (lent_in device.new) trace.now told.ending (plain_work trace.now.ops told.report.replies) told.closed told.report
         × (told.report.status ≡ report_status told.ending told.report.replies)) }
     ensures cells { IfOk result (λ told. AreCellsOf trace.now (only_ended trace.now.config) told.closed) }

@@ -11,6 +11,7 @@ ghost use Rattle.trace_run.specs.RunWork.{only_ended};
 ghost use Rattle.trace_run.specs.CellEnds.{AreCellsOf};
 ghost use Rattle.trace_run.specs.Deeds.{Noted};
 ghost use Rattle.trace_run.specs.Devices.{WasLent, lent_in};
+ghost use Rattle.trace_run.specs.Feeds.{MayBeFed};
 ghost use Rattle.trace_run.specs.callers.DeviceForks.{ReadInGroups};
 ghost use Rattle.trace_run.specs.callers.Together.{groups_of};
 ghost use Rattle.trace_run.specs.callers.Group.{LeavesPool};
@@ -106,6 +107,7 @@ pub(crate) fn run_together<R: Threads + Wait + Sync, P: Pool, D: CacheDev, G: Ga
 ) -> Result<Ran, NoMemory>
     requires formed { IsFormed trace.now }
     requires keys { HaveKeys restored.now }
+    requires device { MayBeFed D.CacheDev trace.now.config device.old }
     ensures ran { IfOk result (λ ran. RanTogether P.Pool pool.old pool.new trace.now ran.ending restored.now ran.replies.items ran.closed) }
     ensures cells { IfOk result (λ ran. AreCellsOf trace.now (only_ended trace.now.config) ran.closed) }
     ensures read { IfOk result (λ ran. ReadInGroups D.CacheDev trace.now.blocks trace.now.config.callers (groups_of trace.now.ops ran.replies.items) (lent_in device.old) (lent_in device.new)) }

@@ -392,7 +392,7 @@ module _ {C : Type 0} (cache : Cache) (restored : List Restored) (len : ℕ) (im
 -- ---- the lines of a group
 
 module _ {C P : Type 0} (cache : Cache) (restored : List Restored) (pools : Ghosts P) (len : ℕ) (image : Option (List ℕ)) (blocks : List Ptr) (os qs : List Op) (rs ss : List Reply) (from to : P) (old new : Crew C)
-    (before : HaveCome cache restored len image blocks os rs old) (did : DidLinesAtOnce cache pools blocks qs from to old new ss) (own : AreOfCallers cache.config.callers qs)
+    (before : HaveCome cache restored len image blocks os rs old) (did : DidLinesAtOnce cache pools blocks qs from to old new ss) (same_feeder : new.feeder ≡ old.feeder) (own : AreOfCallers cache.config.callers qs)
     (size : pools.size from ≡ len) (told : pools.told from ≡ image) where
   callers-are : length old.parties.items ≡ cache.config.callers
   callers-are = before.parties
@@ -473,11 +473,11 @@ module _ {C P : Type 0} (cache : Cache) (restored : List Restored) (pools : Ghos
         let below = in-front k op at none in
         let given = before.ended k op (sym (get-left os qs k below) ∙ at) none in
         (given.0, get-left rs ss k (omega (arith, below, before.long)) ∙ given.1, given.2);
-    settled = subst HasSettled (sym did.feeder) before.settled;
-    feeder = subst (λ (p : Place (Known C)). IsFed cache p.own.about.openings (events_by_feeder cache.config restored (os ++ qs) (rs ++ ss)) (λ shard. seen_of cache.config shard p) p) (sym did.feeder)
+    settled = subst HasSettled (sym same_feeder) before.settled;
+    feeder = subst (λ (p : Place (Known C)). IsFed cache p.own.about.openings (events_by_feeder cache.config restored (os ++ qs) (rs ++ ss)) (λ shard. seen_of cache.config shard p) p) (sym same_feeder)
         (subst (λ (fed : ℕ → List Event). IsFed cache old.feeder.own.about.openings fed (λ shard. seen_of cache.config shard old.feeder) old.feeder) (sym feeds-are) before.feeder);
-    begun = λ shard below. subst (λ (p : Place (Known C)). StartsWith (seen_of cache.config shard p) (restores_in cache.config restored shard)) (sym did.feeder) (before.begun shard below);
-    cut = λ shard below. subst (λ (p : Place (Known C)). AreCut cache.config restored blocks shard (os ++ qs) (rs ++ ss) (seen_of cache.config shard p)) (sym did.feeder)
+    begun = λ shard below. subst (λ (p : Place (Known C)). StartsWith (seen_of cache.config shard p) (restores_in cache.config restored shard)) (sym same_feeder) (before.begun shard below);
+    cut = λ shard below. subst (λ (p : Place (Known C)). AreCut cache.config restored blocks shard (os ++ qs) (rs ++ ss) (seen_of cache.config shard p)) (sym same_feeder)
         (λ k op at ends inside. cut-before cache.config restored blocks shard os qs rs ss (seen_of cache.config shard old.feeder) before.long (before.cut shard below) k op at ends (in-front k op at (ends-nobody op ends)));
   }
 

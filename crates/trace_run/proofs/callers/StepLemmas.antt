@@ -95,7 +95,7 @@ leaves-same pools a = record { size = refl; told = refl; faults = omega arith }
 
 -- What callers who worked at once did to the pool. It was the same before their forks were made.
 module _ {C P : Type 0} (cache : Cache) (pools : Ghosts P) (blocks : List Ptr) (qs : List Op) (callers : ℕ) (was from to : P) (own : List (List Reply)) (had : List (List KeptBlock)) (ps : List (Place (Known C))) (kept : List (List KeptBlock)) (xs : List (Place (Known C))) (ss : List Reply)
-    (unused : IsUnused pools was from) (w : HaveWorked cache pools blocks qs callers from to own had ps kept xs) (ordered : AreInOrder qs own ss) (some : 0 < callers) where
+    (unused : IsUnused pools was from) (w : HaveWorked cache pools blocks qs callers from to own had ps kept xs) (fed : List Reply) (ordered : AreInOrder qs own fed ss) (some : 0 < callers) where
   calls-are : (n : ℕ) → n < callers → MakesCalls pools (calls_of_all (replies_of_caller n qs ss)) (w.forks n) (w.done n)
   calls-are n below =
       let h = w.each n below in
@@ -208,7 +208,7 @@ between-begun cache restored pools trace start whole old new opened is none many
     (ap (λ (a : About). a.openings) made.about ∙ knows) may
 
 module _ {P : Type 0} (cache : Cache) (restored : List Restored) (pools : Ghosts P) (trace : Trace) (start was : BetweenGroups P) (from to : P) (rs ss : List Reply) (qs : List Op) (old new : Crew OnHeap) (few : length trace.ops ≤ 1000000) (some_callers : (0 < cache.config.callers) × (cache.config.callers ≤ 16))
-    (between : AreBetween cache restored pools trace start was rs old) (more : length rs < length trace.ops) (unused : IsUnused pools was.pool from) (did : DidLinesAtOnce cache pools trace.blocks qs from to old new ss) (leaves : LeavesPool pools from to)
+    (between : AreBetween cache restored pools trace start was rs old) (more : length rs < length trace.ops) (unused : IsUnused pools was.pool from) (did : DidLinesAtOnce cache pools trace.blocks qs from to old new ss) (same_feeder : new.feeder ≡ old.feeder) (leaves : LeavesPool pools from to)
     (own : AreOfCallers cache.config.callers qs) (inside : length rs + length qs ≤ length trace.ops) (here : take (length qs) (drop (length rs) trace.ops) ≡ qs) where
   abbrev callers : ℕ
   callers = cache.config.callers
@@ -241,18 +241,18 @@ module _ {P : Type 0} (cache : Cache) (restored : List Restored) (pools : Ghosts
   few-here = omega (arith, same-length, inside, few)
 
   once : (end : Option EndLine) → WorkAtOnce pools callers (record { ops = qs; replies = ss; end = end }) was.pool to
-  once = at-once cache pools trace.blocks qs callers was.pool from to did.own old.kept.items old.parties.items new.kept.items new.parties.items ss unused worked did.ordered some_callers.0
+  once = at-once cache pools trace.blocks qs callers was.pool from to did.own old.kept.items old.parties.items new.kept.items new.parties.items ss unused worked did.fed did.ordered some_callers.0
 
   now-leaves : LeavesPool pools was.pool to
   now-leaves = unused-leaves pools was.pool from to unused leaves
 
   counted-lines : HaveCounted pools callers (os ++ qs) (rs ++ ss) start.pool to
   counted-lines = counted-more pools callers os qs rs ss long start.pool was.pool to few-so-far some_callers.1 between.counted now-leaves
-      (group-reads cache pools trace.blocks qs callers was.pool from to did.own old.kept.items old.parties.items new.kept.items new.parties.items ss unused worked did.ordered some_callers.0 few-here some_callers.1)
-      (group-faults cache pools trace.blocks qs callers was.pool from to did.own old.kept.items old.parties.items new.kept.items new.parties.items ss unused worked did.ordered some_callers.0 few-here some_callers.1)
+      (group-reads cache pools trace.blocks qs callers was.pool from to did.own old.kept.items old.parties.items new.kept.items new.parties.items ss unused worked did.fed did.ordered some_callers.0 few-here some_callers.1)
+      (group-faults cache pools trace.blocks qs callers was.pool from to did.own old.kept.items old.parties.items new.kept.items new.parties.items ss unused worked did.fed did.ordered some_callers.0 few-here some_callers.1)
 
   come-lines : HaveCome cache restored (pools.size start.pool) (pools.told start.pool) trace.blocks (os ++ qs) (rs ++ ss) new
-  come-lines = have-come-more cache restored pools (pools.size start.pool) (pools.told start.pool) trace.blocks os qs rs ss from to old new between.come did own (unused.size ∙ between.counted.keeps.size) (unused.told ∙ between.counted.keeps.told)
+  come-lines = have-come-more cache restored pools (pools.size start.pool) (pools.told start.pool) trace.blocks os qs rs ss from to old new between.come did same_feeder own (unused.size ∙ between.counted.keeps.size) (unused.told ∙ between.counted.keeps.told)
 
   -- the trace ends with these lines
   pub between-last : length rs + length qs ≡ length trace.ops → AreBetween cache restored pools trace start (between_groups to was.group was.next) (rs ++ ss) new
@@ -260,7 +260,7 @@ module _ {P : Type 0} (cache : Cache) (restored : List Restored) (pools : Ghosts
     few = omega (arith, both-long, all);
     begins = λ less. absurd (omega (arith, both-long, all, less));
     come = subst (λ (l : List Op). HaveCome cache restored (pools.size start.pool) (pools.told start.pool) trace.blocks l (rs ++ ss) new) (sym taken) come-lines;
-    knows = ap (λ (p : PartyPlace). p.own.about.openings) did.feeder ∙ between.knows;
+    knows = ap (λ (p : PartyPlace). p.own.about.openings) same_feeder ∙ between.knows;
     counted = subst (λ (l : List Op). HaveCounted pools callers l (rs ++ ss) start.pool to) (sym taken) counted-lines;
     groups = subst (λ (gs : List GroupLines). WorkInGroups pools cache.config Cells gs start (between_groups to was.group was.next))
         (sym (ap (λ (l : List Op). groups_of l (rs ++ ss)) taken
@@ -294,7 +294,7 @@ module _ {P : Type 0} (cache : Cache) (restored : List Restored) (pools : Ghosts
         ∙ (λ i. (sym (ap (λ (k : ℕ). take k trace.ops) both-long) ∙ taken) i ++ get_or_from_slice_get trace.ops (length rs + length qs) op op at i ∷ []))
 
     knows-new : Knows (openings_of trace) new.feeder
-    knows-new = ap (λ (p : PartyPlace). p.own.about.openings) did.feeder ∙ between.knows
+    knows-new = ap (λ (p : PartyPlace). p.own.about.openings) same_feeder ∙ between.knows
 
     turn : Turned cache pools (openings_of trace) op reply (between_groups to was.group was.next) fin new last
     turn = end-turned cache pools (openings_of trace) op (between_groups to was.group was.next) fin new last reply knows-new (come-unwritten cache restored (pools.size start.pool) (pools.told start.pool) trace.blocks (os ++ qs) (rs ++ ss) new come-lines) ended
@@ -392,7 +392,7 @@ module _ (trace : Trace) (formed : IsFormed trace) (a b : ℕ) where
 module _ {P : Type 0} (cache : Cache) (restored : List Restored) (pools : Ghosts P) (trace : Trace) (formed : IsFormed trace) (config : cache.config ≡ trace.config) (start was : BetweenGroups P) (from to : P) (rs ss : List Reply) (old new : Crew OnHeap)
     (first end : ℕ) (bs : List Ptr) (os : List Op) (is_bs : bs ≡ trace.blocks) (is_os : os ≡ trace.ops) (is_first : first ≡ length rs) (le : first ≤ end) (few : end ≤ length os)
     (inside : (k : ℕ) (op : Op) → first ≤ k → k < end → slice_get os k ≡ Some op → ends_group op ≡ false) (between : AreBetween cache restored pools trace start was rs old) (more : length rs < length trace.ops)
-    (unused : IsUnused pools was.pool from) (did : DidLinesAtOnce cache pools bs (slice_range os first end) from to old new ss) (leaves : LeavesPool pools from to) where
+    (unused : IsUnused pools was.pool from) (did : DidLinesAtOnce cache pools bs (slice_range os first end) from to old new ss) (same_feeder : new.feeder ≡ old.feeder) (leaves : LeavesPool pools from to) where
   abbrev qs : List Op
   qs = slice_range trace.ops (length rs) end
 
@@ -424,7 +424,7 @@ module _ {P : Type 0} (cache : Cache) (restored : List Restored) (pools : Ghosts
       let whole : length rs + length qs ≡ length trace.ops = omega (arith, ends-at, few-lines, last, long) in
       let size = ap length is in (
         subst (λ (l : List Reply). AreBetween cache restored pools trace start (between_groups to was.group was.next) l new) (sym is)
-            (between-last cache restored pools trace start was from to rs ss qs old new formed.few_ops few-callers between more unused did-these leaves own (omega (arith, ends-at, few-lines)) here whole),
+            (between-last cache restored pools trace start was from to rs ss qs old new formed.few_ops few-callers between more unused did-these same_feeder leaves own (omega (arith, ends-at, few-lines)) here whole),
         omega (arith, size, length-append rs ss, did-these.ordered.all, whole, more),
       )
 
@@ -432,13 +432,13 @@ module _ {P : Type 0} (cache : Cache) (restored : List Restored) (pools : Ghosts
   pub next-may : cache.row.parties ≡ parties_of cache.config → MayGoOn cache [] new.feeder new.parties.items
   next-may rows =
       may-resize cache restored (pools.size start.pool) (pools.told start.pool) trace.blocks (take (length rs) trace.ops ++ qs) (rs ++ ss) new
-      (come-lines cache restored pools trace start was from to rs ss qs old new formed.few_ops few-callers between more unused did-these leaves own (omega (arith, ends-at, few-lines)) here) rows
+      (come-lines cache restored pools trace start was from to rs ss qs old new formed.few_ops few-callers between more unused did-these same_feeder leaves own (omega (arith, ends-at, few-lines)) here) rows
 
   -- none of them has changed a cell
   pub next-unwritten : AllByRecursion (λ o. AreNoEntries cache.config o.own.mine) (new.feeder ∷ new.parties.items)
   next-unwritten =
       come-unwritten cache restored (pools.size start.pool) (pools.told start.pool) trace.blocks (take (length rs) trace.ops ++ qs) (rs ++ ss) new
-      (come-lines cache restored pools trace start was from to rs ss qs old new formed.few_ops few-callers between more unused did-these leaves own (omega (arith, ends-at, few-lines)) here)
+      (come-lines cache restored pools trace start was from to rs ss qs old new formed.few_ops few-callers between more unused did-these same_feeder leaves own (omega (arith, ends-at, few-lines)) here)
 
   -- the sync that ends it may be done
   pub next-sync : (lines : ℕ) × (lines < 2 ^ 32) × MaySync pools lines (between_groups to was.group was.next)
@@ -460,7 +460,7 @@ module _ {P : Type 0} (cache : Cache) (restored : List Restored) (pools : Ghosts
       let whole : all ≡ (rs ++ ss) ++ reply ∷ [] = is ∙ ap (λ (l : List Reply). l ++ reply ∷ []) is_far in
       let size = ap length whole in (
         subst (λ (l : List Reply). AreBetween cache restored pools trace start fin l last) (sym whole)
-            (between-ended cache restored pools trace start was from to rs ss qs old new formed.few_ops few-callers between more unused did-these leaves own (omega (arith, ends-at, few-lines)) here op reply last fin there ends ended),
+            (between-ended cache restored pools trace start was from to rs ss qs old new formed.few_ops few-callers between more unused did-these same_feeder leaves own (omega (arith, ends-at, few-lines)) here op reply last fin there ends ended),
         omega (arith, size, length-append (rs ++ ss) (reply ∷ []), length-append rs ss),
       )
 

@@ -118,12 +118,12 @@ pub record AreBetween {C P : Type 0} (cache : Cache) (restored : List Restored) 
   pub groups : WorkInGroups pools cache.config (StoodFresh (openings_of trace) cache.config.cells) (groups_of (take (length replies) trace.ops) replies) before now
   pub may_sync : MaySync pools (length replies) now
 
--- the lines of a group were done at once, and these are the replies to them in their order
+-- the lines of a group were done at once, and these are the replies to them in their order; those to the lines `feed` among them are the feeder's
 pub record DidLinesAtOnce {C P : Type 0} (cache : Cache) (pools : Ghosts P) (blocks : List Ptr) (ops : List Op) (before after : P) (old new : Crew C) (replies : List Reply) : Type 0 where
   pub own : List (List Reply)
+  pub fed : List Reply
   pub worked : HaveWorked cache pools blocks ops (length old.parties.items) before after own old.kept.items old.parties.items new.kept.items new.parties.items
-  pub ordered : AreInOrder ops own replies
-  pub feeder : new.feeder ≡ old.feeder
+  pub ordered : AreInOrder ops own fed replies
 
 -- every shard was given a capacity
 pub record DidCap {C P : Type 0} (cache : Cache) (c : ℕ) (from to : BetweenGroups P) (old new : Crew C) (reply : Reply) : Type 0 where

@@ -7,7 +7,9 @@ use Rattle.trace_run.proofs.CellLemmas.{all-empty}
 use Rattle.trace_run.proofs.theorem.CellRun.{closed-cells}
 use Rattle.trace_run.proofs.callers.GroupRunLemmas.{come-wait, group-together, lines-acts, may-resize}
 use Rattle.trace_run.proofs.callers.GroupsLemmas.{crew-rows, have-started}
+use Rattle.arc_core.specs.declared.config.Config.{Config}
 use Rattle.trace_run.specs.Devices.{lent_in}
+use Rattle.trace_run.specs.Feeds.{MayBeFed}
 use Rattle.trace_run.proofs.callers.DeviceSteps.{read-whole}
 use Rattle.trace_run.proofs.OpenLemmas.{last-knows}
 use Rattle.trace_run.proofs.callers.StepLemmas.{between-begun, first-may}
@@ -110,3 +112,6 @@ returns-clause-read g c =
     (last-knows (openings_of c.args.trace.now) c.in_ok-crew.crew.parties.items c.in_ok-crew.crew.feeder (subst (AllKnow (openings_of c.args.trace.now)) c.in_ok-crew.ensures.parties c.in_ok-arcs.ensures.known))
     (first-may g.P.Pool c.args.pool.now c.first_place.result c.len.result c.first_place.ensures.aligned c.first_place.ensures.inside c.len.ensures) in
     read-whole g.D.CacheDev c.args.trace.now c.in_ok-crew-3.field-0.replies.items (c.in_ok-crew-3.ensures.stopped c.args.restored.now begun).between.few (lent_in c.args.device.now) (lent_in c.all_groups.new.device) c.in_ok-crew-3.ensures.read
+
+pub all_groups-requires-clause-device : goal.all_groups-requires-clause-device
+all_groups-requires-clause-device g c κs within = subst (λ (x : Config). MayBeFed g.D.CacheDev x c.args.device.now) (sym c.in_ok-arcs.ensures.config) c.requires.device

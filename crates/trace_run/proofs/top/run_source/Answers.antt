@@ -5,9 +5,12 @@ use Rattle.trace_run.specs.CellEnds.{AreCellsOf}
 use Rattle.trace_run.specs.DeviceUse.{WasUsed}
 use Rattle.trace_run.specs.Devices.{Finds, IsHandedBack, WasLent, device_of, lent_in, usable}
 use Rattle.trace_run.specs.declared.device.Device.{Device}
+use Rattle.trace_run.specs.Feeds.{IsOpenedAt, MayBeFed}
 use Rattle.trace_run.specs.Outcome.{IsRun}
+use Rattle.trace_run.specs.Restores.{found_keys}
 use Rattle.trace_run.specs.RunWork.{only_ended, plain_work}
 use Rattle.trace_run.proofs.DeviceLemmas.{found-kept, lent-back, nothing-lost, usable-kept, usable-lent}
+use Rattle.trace_run.proofs.feeds.StartLemmas.{opened-fed}
 use Rattle.trace_run.proofs.callers.DeviceSteps.{was-used}
 use Rattle.trace_run.proofs.theorem.OutcomeLemmas.{reported-so}
 use Rattle.trace_run.proofs.theorem.WorkLemmas.{cells-plain, plain-work}
@@ -64,3 +67,12 @@ returns-in-Ok-ran-clause-does g c =
       sink = search rules;
       present = search rules;
     }
+
+pub run_trace-requires-clause-device : goal.run_trace-requires-clause-device
+run_trace-requires-clause-device g c =
+    let trace : Trace = c.in-Ok.trace in
+    let size = device_len g.D.CacheDev.size c.args.cache.now in
+    let bounded : c.with_bound-trace.result ≡ with_bound trace size = c.with_bound-trace.ensures.bounded ∙ ap (with_bound trace) c.device_len.ensures in
+    let begun : Device g.row.D.Denot = c.in-Ok-begin.begun.device in
+    let opened = subst (λ (o : Option g.row.D.Denot). IsOpenedAt g.D.CacheDev (device_len g.D.CacheDev.size o) begun (found_keys c.in-Ok-begin.begun.rebuilt)) c.take.ensures.value c.in-Ok-begin.ensures.opened in
+    subst (λ (t : Trace). MayBeFed g.D.CacheDev t.config begun) (sym bounded) (opened-fed g.D.CacheDev trace size begun (found_keys c.in-Ok-begin.begun.rebuilt) c.in-Ok-begin.ensures.kind opened)
