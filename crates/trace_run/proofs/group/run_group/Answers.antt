@@ -13,12 +13,12 @@ use Rattle.trace_run.proofs.callers.BesideLemmas.{lent-fed, tries-beside, tries-
 use Rattle.trace_run.proofs.callers.GroupLemmas.{enlisted-ready, have-asked, have-worked, start-length}
 use Rattle.trace_run.proofs.group.run_group.Goals as goal
 
-pub work_and_feed-requires-clause-ready : goal.work_and_feed-requires-clause-ready
-work_and_feed-requires-clause-ready g c κs within =
+pub work_and_feed-fed-requires-clause-ready : goal.work_and_feed-fed-requires-clause-ready
+work_and_feed-fed-requires-clause-ready g c κs within =
     enlisted-ready c.args.arcs.now g.P.Pool c.args.blocks.now c.args.ops.now c.args.pool.now c.args.parties.items c.args.kept.items c.args.forks.items c.in_ok-callers.callers.items c.requires.parties c.requires.forks c.in_ok-callers.ensures.enlisted
 
-pub work_and_feed-requires-clause-device : goal.work_and_feed-requires-clause-device
-work_and_feed-requires-clause-device g c κs within = lent-fed g.D.CacheDev c.args.arcs.now.config c.args.device.now c.device_forks.new.device c.in_ok-devices.ensures.device c.requires.device
+pub work_and_feed-fed-requires-clause-device : goal.work_and_feed-fed-requires-clause-device
+work_and_feed-fed-requires-clause-device g c κs within = lent-fed g.D.CacheDev c.args.arcs.now.config c.args.device.now c.device_forks.new.device c.in_ok-devices.ensures.device c.requires.device
 
 -- what the callers did
 pub returns-clause-worked : goal.returns-clause-worked
@@ -26,31 +26,31 @@ returns-clause-worked g c =
     let many : length c.args.parties.items ≡ c.args.parties.len = let o = c.args.parties.ok.0 in omega (arith, o) in
     let own : List (List Reply) = map (λ (v : Vec Reply Global). v.items) c.in_ok-worked.worked.replies.items in
     subst (λ (n : ℕ). HaveWorked c.args.arcs.now g.P.Pool c.args.blocks.now c.args.ops.now n c.args.pool.now c.take_all_back.new.pool own c.args.kept.items c.args.parties.items c.in_ok-worked.worked.kept.items c.in_ok-worked.worked.parties.items) many
-    (have-worked c.args.arcs.now g.P.Pool c.args.blocks.now c.args.ops.now c.args.pool.now c.take_all_back.new.pool c.args.parties.items c.args.kept.items c.args.forks.items c.in_ok-callers.callers.items c.work_and_feed.new.callers.items
-    own c.in_ok-worked.worked.kept.items c.in_ok-worked.worked.parties.items c.requires.parties c.requires.forks c.in_ok-callers.ensures.enlisted c.work_and_feed.ensures.worked c.take_all_back.ensures.absorbs c.in_ok-worked.ensures.came)
+    (have-worked c.args.arcs.now g.P.Pool c.args.blocks.now c.args.ops.now c.args.pool.now c.take_all_back.new.pool c.args.parties.items c.args.kept.items c.args.forks.items c.in_ok-callers.callers.items c.work_and_feed-fed.new.callers.items
+    own c.in_ok-worked.worked.kept.items c.in_ok-worked.worked.parties.items c.requires.parties c.requires.forks c.in_ok-callers.ensures.enlisted c.work_and_feed-fed.ensures.worked c.take_all_back.ensures.absorbs c.in_ok-worked.ensures.came)
 
 -- what the callers asked the device, which has their forks back, and the feeds meanwhile
 pub returns-clause-beside : goal.returns-clause-beside
 returns-clause-beside g c =
     let olds : List (Caller OnHeap g.row.P.Denot g.row.D.Denot) = c.in_ok-callers.callers.items in
-    let news : List (Caller OnHeap g.row.P.Denot g.row.D.Denot) = c.work_and_feed.new.callers.items in
+    let news : List (Caller OnHeap g.row.P.Denot g.row.D.Denot) = c.work_and_feed-fed.new.callers.items in
     let own : List (List Reply) = map (λ (v : Vec Reply Global). v.items) c.in_ok-worked.worked.replies.items in
     let given : List (Option g.row.D.Denot) = c.in_ok-devices.devices.items in
     let done : List (Option g.row.D.Denot) = map (λ (x : Caller OnHeap g.row.P.Denot g.row.D.Denot). x.device) news in
     let count : length given ≡ c.args.parties.len = let a = c.in_ok-devices.ensures.count in let b = c.in_ok-devices.devices.ok.0 in let l = c.len.ensures in let o = c.args.parties.ok.0 in omega (arith, a, b, l, o) in
-    let read : HaveRead g.D.CacheDev c.args.blocks.now c.args.ops.now c.args.parties.len own (lent_in c.args.device.now) (lent_in c.device_forks.new.device) (lent_in c.work_and_feed.new.device) (lent_in c.take_all_back.new.device) = record {
+    let read : HaveRead g.D.CacheDev c.args.blocks.now c.args.ops.now c.args.parties.len own (lent_in c.args.device.now) (lent_in c.device_forks.new.device) (lent_in c.work_and_feed-fed.new.device) (lent_in c.take_all_back.new.device) = record {
       forks = given;
       count = count;
       given = c.in_ok-devices.ensures.given;
       done = done;
       asked = subst (λ (l : List (Option g.row.D.Denot)). AllAsk g.D.CacheDev c.args.blocks.now c.args.ops.now 0 l done own) c.in_ok-callers.ensures.devices
           (have-asked c.args.arcs.now g.P.Pool c.args.blocks.now c.args.ops.now g.D.CacheDev c.args.pool.now c.args.parties.items c.args.kept.items c.args.forks.items olds news own c.requires.parties c.requires.forks c.in_ok-callers.ensures.enlisted
-          c.work_and_feed.ensures.asked c.in_ok-worked.ensures.came.replied);
+          c.work_and_feed-fed.ensures.asked c.in_ok-worked.ensures.came.replied);
       back = c.take_all_back.ensures.back;
     } in
-    works-beside dbuf_meanings g.D.CacheDev c.args.arcs.now c.args.blocks.now c.args.ops.now c.args.parties.len own c.in_ok-fed.fed.items c.args.device.now c.device_forks.new.device c.work_and_feed.new.device c.take_all_back.new.device c.args.feeder.now c.work_and_feed.new.feeder
+    works-beside dbuf_meanings g.D.CacheDev c.args.arcs.now c.args.blocks.now c.args.ops.now c.args.parties.len own c.in_ok-fed.fed.items c.args.device.now c.device_forks.new.device c.work_and_feed-fed.new.device c.take_all_back.new.device c.args.feeder.now c.work_and_feed-fed.new.feeder
     c.in_ok-devices.ensures.device
-    (subst (λ (r : Result (Vec Reply Global) NoMemory). IfOk r (λ replies. DoesFeeds dbuf_meanings g.D.CacheDev c.args.arcs.now (filter is_feed c.args.ops.now) replies.items c.device_forks.new.device c.work_and_feed.new.device c.args.feeder.now c.work_and_feed.new.feeder)) c.in_ok-fed.was c.work_and_feed.ensures.fed)
+    (subst (λ (r : Result (Vec Reply Global) NoMemory). IfOk r (λ replies. DoesFeeds dbuf_meanings g.D.CacheDev c.args.arcs.now (filter is_feed c.args.ops.now) replies.items c.device_forks.new.device c.work_and_feed-fed.new.device c.args.feeder.now c.work_and_feed-fed.new.feeder)) c.in_ok-fed.was c.work_and_feed-fed.ensures.fed)
     c.take_all_back.ensures.device read
 
 -- what was tried, whatever it came to
@@ -62,18 +62,18 @@ returns-in_err-callers-clause-tried g c = tries-none dbuf_meanings g.D.CacheDev 
 
 pub returns-in_err-worked-clause-tried : goal.returns-in_err-worked-clause-tried
 returns-in_err-worked-clause-tried g c =
-    tries-beside dbuf_meanings g.D.CacheDev c.args.arcs.now c.args.ops.now c.args.device.now c.device_forks.new.device c.work_and_feed.new.device c.take_all_back.new.device c.args.feeder.now c.work_and_feed.new.feeder
-    c.in_ok-devices.ensures.device c.work_and_feed.ensures.tried c.take_all_back.ensures.device
+    tries-beside dbuf_meanings g.D.CacheDev c.args.arcs.now c.args.ops.now c.args.device.now c.device_forks.new.device c.work_and_feed-fed.new.device c.take_all_back.new.device c.args.feeder.now c.work_and_feed-fed.new.feeder
+    c.in_ok-devices.ensures.device c.work_and_feed-fed.ensures.tried c.take_all_back.ensures.device
 
 pub returns-in_err-fed-clause-tried : goal.returns-in_err-fed-clause-tried
 returns-in_err-fed-clause-tried g c =
-    tries-beside dbuf_meanings g.D.CacheDev c.args.arcs.now c.args.ops.now c.args.device.now c.device_forks.new.device c.work_and_feed.new.device c.take_all_back.new.device c.args.feeder.now c.work_and_feed.new.feeder
-    c.in_ok-devices.ensures.device c.work_and_feed.ensures.tried c.take_all_back.ensures.device
+    tries-beside dbuf_meanings g.D.CacheDev c.args.arcs.now c.args.ops.now c.args.device.now c.device_forks.new.device c.work_and_feed-fed.new.device c.take_all_back.new.device c.args.feeder.now c.work_and_feed-fed.new.feeder
+    c.in_ok-devices.ensures.device c.work_and_feed-fed.ensures.tried c.take_all_back.ensures.device
 
 pub returns-clause-tried : goal.returns-clause-tried
 returns-clause-tried g c =
-    tries-beside dbuf_meanings g.D.CacheDev c.args.arcs.now c.args.ops.now c.args.device.now c.device_forks.new.device c.work_and_feed.new.device c.take_all_back.new.device c.args.feeder.now c.work_and_feed.new.feeder
-    c.in_ok-devices.ensures.device c.work_and_feed.ensures.tried c.take_all_back.ensures.device
+    tries-beside dbuf_meanings g.D.CacheDev c.args.arcs.now c.args.ops.now c.args.device.now c.device_forks.new.device c.work_and_feed-fed.new.device c.take_all_back.new.device c.args.feeder.now c.work_and_feed-fed.new.feeder
+    c.in_ok-devices.ensures.device c.work_and_feed-fed.ensures.tried c.take_all_back.ensures.device
 
 -- the device may be fed again
 pub returns-in_err-devices-clause-device : goal.returns-in_err-devices-clause-device
@@ -83,23 +83,23 @@ pub returns-in_err-callers-clause-device : goal.returns-in_err-callers-clause-de
 returns-in_err-callers-clause-device g c = lent-fed g.D.CacheDev c.args.arcs.now.config c.args.device.now c.device_forks.new.device c.in_ok-devices.ensures.device c.requires.device
 
 pub returns-in_err-worked-clause-device : goal.returns-in_err-worked-clause-device
-returns-in_err-worked-clause-device g c = lent-fed g.D.CacheDev c.args.arcs.now.config c.work_and_feed.new.device c.take_all_back.new.device c.take_all_back.ensures.device c.work_and_feed.ensures.device
+returns-in_err-worked-clause-device g c = lent-fed g.D.CacheDev c.args.arcs.now.config c.work_and_feed-fed.new.device c.take_all_back.new.device c.take_all_back.ensures.device c.work_and_feed-fed.ensures.device
 
 pub returns-in_err-fed-clause-device : goal.returns-in_err-fed-clause-device
-returns-in_err-fed-clause-device g c = lent-fed g.D.CacheDev c.args.arcs.now.config c.work_and_feed.new.device c.take_all_back.new.device c.take_all_back.ensures.device c.work_and_feed.ensures.device
+returns-in_err-fed-clause-device g c = lent-fed g.D.CacheDev c.args.arcs.now.config c.work_and_feed-fed.new.device c.take_all_back.new.device c.take_all_back.ensures.device c.work_and_feed-fed.ensures.device
 
 pub returns-clause-device : goal.returns-clause-device
-returns-clause-device g c = lent-fed g.D.CacheDev c.args.arcs.now.config c.work_and_feed.new.device c.take_all_back.new.device c.take_all_back.ensures.device c.work_and_feed.ensures.device
+returns-clause-device g c = lent-fed g.D.CacheDev c.args.arcs.now.config c.work_and_feed-fed.new.device c.take_all_back.new.device c.take_all_back.ensures.device c.work_and_feed-fed.ensures.device
 
 -- and the pool has what it had
 pub returns-in_err-worked-clause-pool : goal.returns-in_err-worked-clause-pool
-returns-in_err-worked-clause-pool g c = absorbed-leaves g.P.Pool (map (λ caller. caller.pool) c.work_and_feed.new.callers.items) c.args.pool.now c.take_all_back.new.pool c.take_all_back.ensures.absorbs
+returns-in_err-worked-clause-pool g c = absorbed-leaves g.P.Pool (map (λ caller. caller.pool) c.work_and_feed-fed.new.callers.items) c.args.pool.now c.take_all_back.new.pool c.take_all_back.ensures.absorbs
 
 pub returns-in_err-fed-clause-pool : goal.returns-in_err-fed-clause-pool
-returns-in_err-fed-clause-pool g c = absorbed-leaves g.P.Pool (map (λ caller. caller.pool) c.work_and_feed.new.callers.items) c.args.pool.now c.take_all_back.new.pool c.take_all_back.ensures.absorbs
+returns-in_err-fed-clause-pool g c = absorbed-leaves g.P.Pool (map (λ caller. caller.pool) c.work_and_feed-fed.new.callers.items) c.args.pool.now c.take_all_back.new.pool c.take_all_back.ensures.absorbs
 
 pub returns-clause-pool : goal.returns-clause-pool
-returns-clause-pool g c = absorbed-leaves g.P.Pool (map (λ caller. caller.pool) c.work_and_feed.new.callers.items) c.args.pool.now c.take_all_back.new.pool c.take_all_back.ensures.absorbs
+returns-clause-pool g c = absorbed-leaves g.P.Pool (map (λ caller. caller.pool) c.work_and_feed-fed.new.callers.items) c.args.pool.now c.take_all_back.new.pool c.take_all_back.ensures.absorbs
 
 pub enlist-requires-clause-kept : goal.enlist-requires-clause-kept
 enlist-requires-clause-kept g c κs within =

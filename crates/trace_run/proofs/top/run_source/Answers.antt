@@ -68,8 +68,8 @@ returns-in-Ok-ran-clause-does g c =
       present = search rules;
     }
 
-pub run_trace-requires-clause-device : goal.run_trace-requires-clause-device
-run_trace-requires-clause-device g c =
+pub run_trace-ran-requires-clause-device : goal.run_trace-ran-requires-clause-device
+run_trace-ran-requires-clause-device g c =
     let trace : Trace = c.in-Ok.trace in
     let size = device_len g.D.CacheDev.size c.args.cache.now in
     let bounded : c.with_bound-trace.result ≡ with_bound trace size = c.with_bound-trace.ensures.bounded ∙ ap (with_bound trace) c.device_len.ensures in
