@@ -69,7 +69,7 @@ returns-in-Ok-ran-clause-does g c =
     }
 
 pub run_trace-ran-requires-clause-device : goal.run_trace-ran-requires-clause-device
-run_trace-ran-requires-clause-device g c =
+run_trace-ran-requires-clause-device g c κs within =
     let trace : Trace = c.in-Ok.trace in
     let size = device_len g.D.CacheDev.size c.args.cache.now in
     let bounded : c.with_bound-trace.result ≡ with_bound trace size = c.with_bound-trace.ensures.bounded ∙ ap (with_bound trace) c.device_len.ensures in
