@@ -14,7 +14,6 @@ use Rattle.dbuf_state.specs.Objects.{Never, opening_cell}
 use Rattle.dbuf_state.specs.Outline.{Outline, OutlineDbuf, has_pin_at, is_cached_at, mapped_at, outline_after}
 use Rattle.dbuf_state.specs.Soundness.{IsSound, plain_cell}
 use Rattle.dbuf_state.specs.declared.event.CellEvent.{CellEvent}
-use Rattle.dbuf_state.specs.declared.event.CellEvent.TheVariants as events
 use Rattle.dbuf_state.specs.declared.oid.Oid.{Oid}
 use Rattle.dbuf_state.specs.declared.window.Window.{Window}
 use Rattle.trace_text.specs.declared.op.Op.{Op}
